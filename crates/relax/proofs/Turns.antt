@@ -9,7 +9,7 @@ use Rattle.std.proofs.lemmas.List.Folds.{sum_by-replicate}
 use Rattle.relax.specs.declared.shape.Statement.{Statement}
 use Rattle.relax.specs.declared.shape.Statement.TheVariants.{Jump}
 use Rattle.relax.specs.declared.relaxable.RelaxableJump.{RelaxableJump}
-use Rattle.relax.specs.Choice.{Choice, chosen, Fits, IsSettled}
+use Rattle.relax.specs.Choice.{Choice, chosen, IsAnyJump, Fits, IsSettled}
 use Rattle.relax.specs.Ruler.{IsLengthened}
 use Rattle.relax.specs.Growth.{after, Misses, IsForcing, TakesLowest, SettledBelow, IsLeastFirst}
 use Rattle.relax.specs.Probes.{IsProbeCount}
@@ -18,7 +18,7 @@ use Rattle.relax.proofs.Forcing.{after-push, count-set, each-push}
 use Rattle.relax.proofs.Window.{in_window, still_fits}
 
 -- what holds between two turns: the jumps that do not wait are long or fit
-pub record BetweenTurns (shape : List Statement) (jumps : List RelaxableJump) (c : Choice) (order : List ℕ) (long pending : List Bool) (next asked : ℕ) : Type 0 where
+pub record BetweenTurns (shape : List Statement) (jumps : List RelaxableJump) (c : Choice) (order : List ℕ) (long pending : List Bool) (asked : ℕ) : Type 0 where
   pub same_long : length long ≡ length jumps
   pub same_waiting : length pending ≡ length jumps
   pub follows : (k : ℕ) → c k ≡ after order k
@@ -27,7 +27,6 @@ pub record BetweenTurns (shape : List Statement) (jumps : List RelaxableJump) (c
   pub lowest : TakesLowest shape order
   pub waits : (p : ℕ) → chosen pending p ≡ true → chosen long p ≡ false
   pub fits : (p : ℕ) → p < length jumps → chosen pending p ≡ false → chosen long p ≡ false → Fits c shape (statement_of jumps p)
-  pub below : (p : ℕ) → p < next → chosen pending p ≡ false
   pub unset : count_by not long + length order ≡ length jumps
   pub least : length jumps ≤ asked + pending_count pending
   pub most : asked + pending_count pending ≤ length jumps + 126 * length order
@@ -73,15 +72,18 @@ cleared_set flags p q lt is =
     let ne : (q ≢ p) = λ e. (let there = get_or-set_same flags p false false lt in both_ways (chosen (set flags p false) p) there (rw e at is)) in
     (ne, sym (chosen-clear_other flags p q false ne) ∙ is)
 
-module _ (shape : List Statement) (jumps : List RelaxableJump) (are : AreRelaxable shape jumps) (c : Choice) (order : List ℕ) (long pending : List Bool) (next asked : ℕ) (was : BetweenTurns shape jumps c order long pending next asked) (p : ℕ) (found : IsLowestPending pending p) where
+module _ (shape : List Statement) (jumps : List RelaxableJump) (are : AreRelaxable shape jumps) (c : Choice) (order : List ℕ) (long pending : List Bool) (asked : ℕ) (was : BetweenTurns shape jumps c order long pending asked) (p : ℕ) (found : IsLowestPending pending p) where
   pub found_lt : p < length jumps
   found_lt = let lt = flag_lt pending p found.set in let same = was.same_waiting in omega arith
+
+  pub found_jump : IsAnyJump shape (statement_of jumps p)
+  found_jump = (target_of jumps p, are.each p found_lt)
 
   pub found_short : c (statement_of jumps p) ≡ false
   found_short = sym (was.flags p found_lt) ∙ was.waits p found.set
 
   -- the jump fits
-  pub turn_fits : Fits c shape (statement_of jumps p) → BetweenTurns shape jumps c order long (set pending p false) (p + 1) (asked + 1)
+  pub turn_fits : Fits c shape (statement_of jumps p) → BetweenTurns shape jumps c order long (set pending p false) (asked + 1)
   turn_fits fits =
       let lt : p < length pending = flag_lt pending p found.set in
       let count = pending_count-clear pending p lt found.set in
@@ -96,10 +98,6 @@ module _ (shape : List Statement) (jumps : List RelaxableJump) (are : AreRelaxab
         fits = λ q lq done short. elim (cases_eq q p) as (λ _. Fits c shape (statement_of jumps q)) [
           | inl same ↦ rw same fits
           | inr other ↦ was.fits q lq (sym (chosen-clear_other pending p q false other) ∙ done) short
-        ];
-        below = λ q lq. elim (cases_eq q p) [
-          | inl same ↦ rw same (get_or-set_same pending p false false lt)
-          | inr other ↦ chosen-clear_other pending p q false other ∙ found.below q (omega arith)
         ];
         unset = was.unset;
         least = (let before = was.least in omega arith);
@@ -134,8 +132,8 @@ module _ (shape : List Statement) (jumps : List RelaxableJump) (are : AreRelaxab
       fit_j t jump
 
   -- the jump is made long
-  pub turn_grows : (d : Choice) → IsLengthened c d (statement_of jumps p) → ¬ Fits c shape (statement_of jumps p) → (is : List Bool) (low : ℕ) → low ≤ p → Requeued jumps (set long p true) (set pending p false) is p (statement_of jumps p) low → BetweenTurns shape jumps d (order ++ statement_of jumps p ∷ []) (set long p true) is low (asked + 1)
-  turn_grows d longer misses is low le requeued =
+  pub turn_grows : (d : Choice) → IsLengthened c d (statement_of jumps p) → ¬ Fits c shape (statement_of jumps p) → (is : List Bool) → Requeued jumps (set long p true) (set pending p false) is p → BetweenTurns shape jumps d (order ++ statement_of jumps p ∷ []) (set long p true) is (asked + 1)
+  turn_grows d longer misses is requeued =
       let lt : p < length pending = flag_lt pending p found.set in
       let len_long = was.same_long in
       let k : ℕ = statement_of jumps p in
@@ -168,7 +166,6 @@ module _ (shape : List Statement) (jumps : List RelaxableJump) (are : AreRelaxab
             both_ways (chosen is q) off (requeued.requeued q lq ne near.1 near.0 short over)) in
             λ u jump. (let e : u ≡ target_of jumps q = (let both : Some (Jump u) ≡ Some (Jump (target_of jumps q)) = sym jump ∙ are.each q lq in cc) in
             rw e (still_fits c d shape k (target_of jumps p) (are.each p found_lt) found_short longer (statement_of jumps q) (target_of jumps q) (jumps-ne shape jumps are p q found_lt lq ne) not_over (fit (target_of jumps q) (are.each q lq)))));
-        below = λ q lq. requeued.below q lq ∙ (chosen-clear_other pending p q false (omega arith) ∙ found.below q (omega arith));
         unset = (let counts = count-set long p lt_long (was.waits p found.set) in let before = was.unset in omega arith);
         least = (let before = was.least in let more = requeued.least in omega arith);
         most = (let before = was.most in let more = requeued.most in omega arith);
@@ -184,8 +181,8 @@ pending_count-none (b ∷ flags) none =
     omega (arith, e, first, ih)
 
 -- nothing waits
-pub finished : (shape : List Statement) (jumps : List RelaxableJump) → AreRelaxable shape jumps → (c : Choice) (order : List ℕ) (long pending : List Bool) (next asked : ℕ) → BetweenTurns shape jumps c order long pending next asked → ((p : ℕ) → chosen pending p ≡ false) → IsLeastFirst shape order × IsProbeCount shape asked
-finished shape jumps are c order long pending next asked was none =
+pub finished : (shape : List Statement) (jumps : List RelaxableJump) → AreRelaxable shape jumps → (c : Choice) (order : List ℕ) (long pending : List Bool) (asked : ℕ) → BetweenTurns shape jumps c order long pending asked → ((p : ℕ) → chosen pending p ≡ false) → IsLeastFirst shape order × IsProbeCount shape asked
+finished shape jumps are c order long pending asked was none =
     let same : c ≡ after order = fun_ext was.follows in
     let settled : IsSettled c shape = λ k t jump short.
     (let there = are.complete k t jump in
@@ -208,7 +205,7 @@ flags_all : (n p : ℕ) → p < n → chosen (replicate n true) p ≡ true
 flags_all n p lt = get_or-replicate n p true false lt
 
 -- all jumps wait
-pub start : (shape : List Statement) (jumps : List RelaxableJump) (c : Choice) → ((k : ℕ) → c k ≡ false) → BetweenTurns shape jumps c [] (replicate (length jumps) false) (replicate (length jumps) true) 0 0
+pub start : (shape : List Statement) (jumps : List RelaxableJump) (c : Choice) → ((k : ℕ) → c k ≡ false) → BetweenTurns shape jumps c [] (replicate (length jumps) false) (replicate (length jumps) true) 0
 start shape jumps c short =
     let n : ℕ = length jumps in
     let unset = sum_by-replicate (λ b. cond (not b) 1 0) n false in
@@ -222,7 +219,6 @@ start shape jumps c short =
       lowest = λ i lt. absurd (omega arith);
       waits = λ p is. flags_start n p;
       fits = λ p lp off. absurd (both_ways (chosen (replicate n true) p) off (flags_all n p lp));
-      below = λ p lt. absurd (omega arith);
       unset = omega (arith, unset);
       least = omega (arith, pending);
       most = omega (arith, pending);

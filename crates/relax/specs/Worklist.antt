@@ -27,21 +27,29 @@ pub record AreRelaxable (shape : List Statement) (jumps : List RelaxableJump) : 
 abbrev pub PassesOver : ℕ → ℕ → ℕ → Type 0
 PassesOver from to k = ((from < k) × (k < to)) ⊎ ((to ≤ k) × (k < from))
 
+-- no jump waits for a test below number p
+abbrev pub NonePendingBelow : List Bool → ℕ → Type 0
+NonePendingBelow pending p = (q : ℕ) → q < p → chosen pending q ≡ false
+
+-- no jump waits for a test
+abbrev pub NonePending : List Bool → Type 0
+NonePending pending = (p : ℕ) → chosen pending p ≡ false
+
 -- jump number p waits for a test and none below it does
 pub record IsLowestPending (pending : List Bool) (p : ℕ) : Type 0 where
   pub set : chosen pending p ≡ true
-  pub below : (q : ℕ) → q < p → chosen pending q ≡ false
+  pub below : NonePendingBelow pending p
 
 -- how many jumps wait for a test
 abbrev pub pending_count : List Bool → ℕ
 pending_count pending = count_by (λ b. b) pending
 
--- the short jumps within 63 of jump p that pass over statement k wait again, and no flag is cleared or set below `low`
-pub record Requeued (jumps : List RelaxableJump) (long was is : List Bool) (p k low : ℕ) : Type 0 where
+-- the short jumps within 63 of jump p that pass over it wait again, and at most 126 that did not
+pub record Requeued (jumps : List RelaxableJump) (long was is : List Bool) (p : ℕ) : Type 0 where
   pub len : length is ≡ length was
   pub kept : (q : ℕ) → chosen was q ≡ true → chosen is q ≡ true
-  pub requeued : (q : ℕ) → q < length jumps → q ≢ p → q ≤ p + 63 → p ≤ q + 63 → chosen long q ≡ false → PassesOver (statement_of jumps q) (target_of jumps q) k → chosen is q ≡ true
+  pub requeued : (q : ℕ) → q < length jumps → q ≢ p → q ≤ p + 63 → p ≤ q + 63 → chosen long q ≡ false → PassesOver (statement_of jumps q) (target_of jumps q) (statement_of jumps p) → chosen is q ≡ true
   pub short : (q : ℕ) → chosen was q ≡ false → chosen is q ≡ true → chosen long q ≡ false
-  pub below : (q : ℕ) → q < low → chosen is q ≡ chosen was q
+  pub below : (q : ℕ) → q + 63 < p → chosen is q ≡ chosen was q
   pub least : pending_count was ≤ pending_count is
   pub most : pending_count is ≤ pending_count was + 126
