@@ -1,0 +1,3 @@
+pub use Rattle.z80_instr.specs.Table
+pub use Rattle.z80_instr.specs.Codes
+pub mod Writes

@@ -1,0 +1,31 @@
+//! The opcodes behind CB.
+ghost use Rattle.std.specs.Prelude.{◌≡◌, ◌/◌, ◌%◌, ℕ, List};
+ghost use Rattle.z80_instr.specs.Table.{octal_of};
+ghost use Rattle.z80_table.specs.Reading.{filled, bit_entry, bits_entry, read_page};
+
+use crate::field::{byte_of, operand_of, rotation_of};
+use crate::{DecodeFault, Decoded};
+use z80_instr::{Instr, Octal, Operand};
+
+pub fn bits(bytes: &[u8]) -> Decoded
+    ensures { result ≡ read_page bits_entry bytes.now }
+{
+    let opcode = byte_of(bytes)?;
+    bit(opcode, operand_of(Octal::from_number(opcode % 8)), 2)
+}
+
+pub fn bit(opcode: u8, operand: Operand, size: u8) -> Decoded
+    ensures { (rest : List ℕ) → result ≡ filled size (bit_entry (opcode / 64) (octal_of (opcode / 8 % 8)) operand) rest }
+{
+    let y = Octal::from_number(opcode / 8 % 8);
+    match opcode / 64 {
+        0 => match rotation_of(y) {
+            Some(rotation) => Ok((Instr::Rotate(rotation, operand), size)),
+            None => Err(DecodeFault::Undocumented),
+        },
+        1 => Ok((Instr::Bit(y, operand), size)),
+        2 => Ok((Instr::Res(y, operand), size)),
+        3 => Ok((Instr::Set(y, operand), size)),
+        _ => unreachable!(),
+    }
+}

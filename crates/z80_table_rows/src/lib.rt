@@ -1,0 +1,2 @@
+//! Tests of the opcode table.
+#![tactic(auto)]
