@@ -18,15 +18,6 @@ pub record JumpsBelow (shape : List Statement) (jumps : List RelaxableJump) (k :
   pub complete : (j t : ℕ) → j < k → IsJump shape j t → (p : ℕ) × (p < length jumps) × (statement_of jumps p ≡ j)
   pub count : length jumps ≡ count_by is_jump (take k shape)
 
-pub jumps-start : (shape : List Statement) → JumpsBelow shape [] 0
-jumps-start shape = record {
-  each = λ p lt. absurd (omega arith);
-  below = λ p lt. absurd (omega arith);
-  ascending = λ p lt. absurd (omega arith);
-  complete = λ j t lt. absurd (omega arith);
-  count = refl;
-}
-
 module _ (shape : List Statement) (jumps : List RelaxableJump) (k : ℕ) (was : JumpsBelow shape jumps k) where
   not_jump : (s : Statement) → ((t : ℕ) → ¬ (s ≡ Jump t)) → is_jump s ≡ false
   not_jump (Fixed n) none = refl

@@ -1,9 +1,9 @@
 use Rattle.std.proofs.Common.{◌≡◌, ◌≢◌, ℕ, zero, suc, ◌+◌, ◌-◌, ◌*◌, ◌/◌, ◌%◌, ◌^◌, ◌<◌, ◌≤◌, List, length, refl, ap, ◌∙◌, arith, inl, inr, get_or, take, drop, sum, length-drop, get_or-drop, get_or-set_same, get_or-set_other}
-use Rattle.std.specs.Prelude.{slice_set as set, replicate}
+use Rattle.std.specs.Prelude.{slice_set as set}
 use Rattle.std.proofs.Math.Nat.{pow-suc}
 use Rattle.std.proofs.lemmas.Nat.{pow_pos}
 use Rattle.std.proofs.lemmas.Bool.{cases_eq}
-use Rattle.std.proofs.lemmas.List.{take_all, length-replicate, get_or-replicate, length-set, drop-set-lt, drop-set-add}
+use Rattle.std.proofs.lemmas.List.{take_all, length-set, drop-set-lt, drop-set-add}
 use Rattle.std.proofs.lemmas.List.Sums.{sum_by_more}
 use Rattle.std.specs.Int.{IsPowerOfTwo}
 use Rattle.relax.specs.SumTree.{IsSumTree}
@@ -154,19 +154,3 @@ number_step leaves old cells i k by lt pos (before at same) =
     (ap (λ j. drop leaves (set cells j (get_or cells i 0 + by))) at
     ∙ (drop-set-add leaves cells k (get_or cells i 0 + by) ∙ (ap (λ (xs : List ℕ). set xs k (get_or cells i 0 + by)) same ∙ ap (λ n. set (drop leaves old) k (n + by)) read)))
 number_step leaves old cells i k by lt pos (after in_range same) = after (omega arith) (drop-set-lt leaves cells i (get_or cells i 0 + by) in_range ∙ same)
-
-pub rising-start : (leaves : ℕ) (cells : List ℕ) (k by : ℕ) → IsSumTree leaves cells → Rising leaves cells cells (leaves + k) by
-rising-start leaves cells k by tree = record { len = tree.len; untouched = λ j le. refl; others = λ j pos lt ne. tree.sums j pos lt; here = λ pos lt. absurd (omega arith) }
-
-pub rising-end : (leaves : ℕ) (old cells : List ℕ) (by : ℕ) → IsSumTree leaves old → Rising leaves old cells 0 by → IsSumTree leaves cells
-rising-end leaves old cells by tree up = record { power = tree.power; len = up.len; sums = λ i pos lt. up.others i pos lt (omega arith) }
-
--- all cells 0
-pub tree-zero : (leaves : ℕ) → IsPowerOfTwo leaves → IsSumTree leaves (replicate (2 * leaves) 0)
-tree-zero leaves power = record {
-  power = power;
-  len = length-replicate (2 * leaves) 0;
-  sums = λ i pos lt.
-      (let zero_at : ((j : ℕ) → j < 2 * leaves → ◌≡◌ {A = ℕ} (get_or (replicate {A = ℕ} (2 * leaves) 0) j 0) 0) = λ j l. get_or-replicate {A = ℕ} (2 * leaves) j 0 0 l in
-      let a = zero_at i (omega arith) in let b = zero_at (2 * i) (omega arith) in let c = zero_at (2 * i + 1) (omega arith) in omega arith);
-}

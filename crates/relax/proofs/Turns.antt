@@ -1,11 +1,10 @@
 use Rattle.std.proofs.Common.{◌≡◌, ◌≢◌, ℕ, zero, suc, ◌+◌, ◌*◌, ◌<◌, ◌≤◌, ◌||◌, ◌++◌, ◌∷◌, [], Bool, true, false, not, cond, List, length, Some, refl, sym, ap, ◌∙◌, subst, arith, inl, inr, eqb, count_by, get_or-set_same, get_or-set_other}
-use Rattle.std.specs.Prelude.{slice_set as set, replicate}
+use Rattle.std.specs.Prelude.{slice_set as set}
 use Rattle.std.proofs.lemmas.Bool.{cases_lt, cases_eq, cases_Bool, cases_order, eq-eqb, ne_eqb, false_from_ne_true, both_ways, false≢true}
 use Rattle.std.proofs.Math.Bool.{or-true, or-false}
 use Rattle.std.proofs.Math.Path.{fun_ext}
-use Rattle.std.proofs.lemmas.List.{length-set, length_push, length-replicate, get_or-replicate}
+use Rattle.std.proofs.lemmas.List.{length-set, length_push}
 use Rattle.std.proofs.lemmas.List.Sums.{sum_by-set, sum_by-cons}
-use Rattle.std.proofs.lemmas.List.Folds.{sum_by-replicate}
 use Rattle.relax.specs.declared.shape.Statement.{Statement}
 use Rattle.relax.specs.declared.shape.Statement.TheVariants.{Jump}
 use Rattle.relax.specs.declared.relaxable.RelaxableJump.{RelaxableJump}
@@ -195,31 +194,3 @@ finished shape jumps are c order long pending asked was none =
     let most = was.most in
     let unset = was.unset in
     (record { forcing = was.forcing; lowest = was.lowest; settled = subst (λ e. IsSettled e shape) same settled }, record { least = omega arith; most = omega arith })
-
-pub flags_start : (n p : ℕ) → chosen (replicate n false) p ≡ false
-flags_start zero p = refl
-flags_start (suc n) zero = refl
-flags_start (suc n) (suc p) = flags_start n p
-
-flags_all : (n p : ℕ) → p < n → chosen (replicate n true) p ≡ true
-flags_all n p lt = get_or-replicate n p true false lt
-
--- all jumps wait
-pub start : (shape : List Statement) (jumps : List RelaxableJump) (c : Choice) → ((k : ℕ) → c k ≡ false) → BetweenTurns shape jumps c [] (replicate (length jumps) false) (replicate (length jumps) true) 0
-start shape jumps c short =
-    let n : ℕ = length jumps in
-    let unset = sum_by-replicate (λ b. cond (not b) 1 0) n false in
-    let pending = sum_by-replicate (λ b. cond b 1 0) n true in
-    record {
-      same_long = length-replicate n false;
-      same_waiting = length-replicate n true;
-      follows = short;
-      flags = λ p lp. flags_start n p ∙ sym (short (statement_of jumps p));
-      forcing = λ i lt. absurd (omega arith);
-      lowest = λ i lt. absurd (omega arith);
-      waits = λ p is. flags_start n p;
-      fits = λ p lp off. absurd (both_ways (chosen (replicate n true) p) off (flags_all n p lp));
-      unset = omega (arith, unset);
-      least = omega (arith, pending);
-      most = omega (arith, pending);
-    }
