@@ -1,0 +1,5 @@
+use Rattle.asm_scan.proofs.Cuts.{spans}
+use Rattle.asm_scan.proofs.laws.spans.Goals as goal
+
+pub returns : goal.returns
+returns c = spans

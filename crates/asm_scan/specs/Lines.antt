@@ -1,0 +1,52 @@
+-- How a line is cut into tokens.
+use Rattle.std.specs.Prelude.{◌≡◌, ◌<◌, ◌≤◌, ◌+◌, ℕ, List, [], ◌∷◌, ◌++◌, Result, Ok, Err, length, take, drop}
+use Rattle.std.specs.List.{prefix_len}
+use Rattle.asm_scan.specs.declared.fault.ScanFault.{ScanFault}
+use Rattle.asm_scan.specs.declared.fault.ScanFault.TheVariants.{LineTooLong}
+use Rattle.asm_scan.specs.Classes.{is_blank}
+use Rattle.asm_scan.specs.Tokens.{Lexeme, IsToken, BeginsFault}
+
+abbrev pub without_blanks : List ℕ → List ℕ
+without_blanks bytes = drop (prefix_len is_blank bytes) bytes
+
+-- The line is blanks, this token, and what comes after it.
+pub record BeginsToken (line : List ℕ) (token : Lexeme) (after : List ℕ) : Type 0 where
+  pub bytes : without_blanks line ≡ token.text ++ after
+  pub kind : IsToken token.kind token.text after
+
+-- The line is these tokens, with blanks between, and then the rest.
+abbrev pub BeginsTokens : List ℕ → List Lexeme → List ℕ → Type 0
+BeginsTokens line [] rest = line ≡ rest
+BeginsTokens line (token ∷ tokens) rest = (after : List ℕ) × BeginsToken line token after × BeginsTokens after tokens rest
+
+-- nothing, or a comment
+abbrev pub IsEnd : List ℕ → Type 0
+IsEnd [] = Unit {0}
+IsEnd (b ∷ _) = b ≡ 0x3B
+
+-- The line is these tokens, with blanks between and at most one comment last.
+pub record Cut (line : List ℕ) (tokens : List Lexeme) : Type 0 where
+  pub rest : List ℕ
+  pub begins : BeginsTokens line tokens rest
+  pub ended : IsEnd (without_blanks rest)
+
+-- The line is tokens, with blanks between, and then begins what has this fault.
+pub record Stops (line : List ℕ) (fault : ScanFault) : Type 0 where
+  pub tokens : List Lexeme
+  pub rest : List ℕ
+  pub begins : BeginsTokens line tokens rest
+  pub stopped : BeginsFault fault (without_blanks rest)
+
+-- What a line comes to: its tokens, or its one fault. Above 255 bytes it is too long, whatever it holds.
+abbrev pub Scans : List ℕ → Result (List Lexeme) ScanFault → Type 0
+Scans line (Ok tokens) = (length line ≤ 255) × Cut line tokens
+Scans line (Err LineTooLong) = 255 < length line
+Scans line (Err fault) = (length line ≤ 255) × Stops line fault
+
+-- The texts are slices of the line, from left to right and apart, the first not before this offset.
+abbrev pub AreSpans : List ℕ → ℕ → List Lexeme → Type 0
+AreSpans line from [] = Unit {0}
+AreSpans line from (token ∷ tokens) =
+    (offset : ℕ) × (from ≤ offset) × (offset + length token.text ≤ length line)
+    × (take (length token.text) (drop offset line) ≡ token.text)
+    × AreSpans line (offset + length token.text) tokens

@@ -1,0 +1,133 @@
+-- What a token is, and what is wrong where there is none.
+use Rattle.std.specs.Prelude.{◌≡◌, ◌≢◌, ◌⊎◌, ℕ, List, [], ◌∷◌, ◌++◌, Some, None, Result, Ok, Err, Vec, Bool, true, false, ◌==◌, ◌&&◌, if◌then◌else◌, map, All}
+use Rattle.std.specs.Global.{Global}
+use Rattle.std.specs.List.{AllPass, flat_map}
+use Rattle.std.specs.Char.{is_ascii_digit, is_ascii_alphanumeric, to_ascii_uppercase}
+use Rattle.asm_scan.specs.declared.token.Mark.{Mark}
+use Rattle.asm_scan.specs.declared.token.Mark.TheVariants as mark
+use Rattle.asm_scan.specs.declared.token.Kind.{Kind}
+use Rattle.asm_scan.specs.declared.token.Kind.TheVariants as kind
+use Rattle.asm_scan.specs.declared.token.Token.{Token}
+use Rattle.asm_scan.specs.declared.fault.ScanFault.{ScanFault}
+use Rattle.asm_scan.specs.declared.fault.ScanFault.TheVariants.{BadByte, OpenString, LineTooLong, BadNumber, NoMemory}
+use Rattle.asm_scan.specs.Classes.{begins_name, continues_name, is_quote, is_control}
+use Rattle.asm_scan.specs.Numbers.{number_of}
+
+-- a token without where its bytes lie
+pub record Lexeme : Type 0 where
+  pub kind : Kind
+  pub text : List ℕ
+
+abbrev pub lexeme : Token → Lexeme
+lexeme t = record { kind = t.kind; text = t.text.now }
+
+abbrev pub lexemes : List Token → List Lexeme
+lexemes tokens = map lexeme tokens
+
+-- what a call answered, its tokens as lexemes
+abbrev pub answered : Result (Vec Token Global) ScanFault → Result (List Lexeme) ScanFault
+answered (Ok found) = Ok (lexemes found.items)
+answered (Err fault) = Err fault
+
+-- The bytes do not begin with one of the class.
+abbrev pub BeginsWithout : (ℕ → Bool) → List ℕ → Type 0
+BeginsWithout class [] = Unit {0}
+BeginsWithout class (b ∷ _) = class b ≡ false
+
+-- a letter, `_`, `?`, `@` or `.`, then these and digits
+abbrev pub IsName : List ℕ → Type 0
+IsName [] = ⊥
+IsName (b ∷ more) = (begins_name b ≡ true) × AllPass continues_name more
+
+-- AF, in either case
+abbrev pub is_af : List ℕ → Bool
+is_af (a ∷ f ∷ []) = (to_ascii_uppercase a == 0x41) && (to_ascii_uppercase f == 0x46)
+is_af _ = false
+
+-- a digit, then letters and digits
+abbrev pub IsNumber : List ℕ → Type 0
+IsNumber [] = ⊥
+IsNumber (b ∷ more) = (is_ascii_digit b ≡ true) × AllPass is_ascii_alphanumeric more
+
+-- the content of a string as it stands between quotes of this kind: each of them in it is doubled
+abbrev pub doubled : ℕ → List ℕ → List ℕ
+doubled quote content = flat_map (λ c. if c == quote then quote ∷ quote ∷ [] else c ∷ []) content
+
+-- no control byte is among them
+abbrev pub ArePlain : List ℕ → Type 0
+ArePlain content = All (λ c. is_control c ≡ false) content
+
+-- the content between its quotes, where the quote that ends it is not doubled
+pub record IsString (text after : List ℕ) : Type 0 where
+  pub quote : ℕ
+  pub content : List ℕ
+  pub quoted : is_quote quote ≡ true
+  pub plain : ArePlain content
+  pub bytes : text ≡ quote ∷ doubled quote content ++ quote ∷ []
+  pub ended : BeginsWithout (λ b. b == quote) after
+
+abbrev pub mark_byte : Mark → ℕ
+mark_byte mark.Comma = 0x2C
+mark_byte mark.Open = 0x28
+mark_byte mark.Close = 0x29
+mark_byte mark.Colon = 0x3A
+mark_byte mark.Plus = 0x2B
+mark_byte mark.Minus = 0x2D
+mark_byte mark.Star = 0x2A
+mark_byte mark.Slash = 0x2F
+mark_byte mark.Dollar = 0x24
+
+-- The text is a token of this kind, as long as its class allows before what comes after it.
+abbrev pub IsToken : Kind → List ℕ → List ℕ → Type 0
+IsToken kind.Name text after = IsName text × BeginsWithout continues_name after × (is_af text ≡ true → BeginsWithout (λ b. b == 0x27) after)
+IsToken kind.OtherAf text after = (name : List ℕ) × (is_af name ≡ true) × (text ≡ name ++ 0x27 ∷ [])
+IsToken (kind.Number n) text after = IsNumber text × BeginsWithout is_ascii_alphanumeric after × (number_of text ≡ Some n)
+IsToken kind.Quoted text after = IsString text after
+IsToken (kind.Mark m) text after = text ≡ mark_byte m ∷ []
+
+-- a number whose text stands for none
+pub record IsBadNumber (bytes : List ℕ) : Type 0 where
+  pub text : List ℕ
+  pub after : List ℕ
+  pub bytes_are : bytes ≡ text ++ after
+  pub number : IsNumber text
+  pub longest : BeginsWithout is_ascii_alphanumeric after
+  pub no_value : number_of text ≡ None
+
+-- a string without an end
+pub record IsOpenString (bytes : List ℕ) : Type 0 where
+  pub quote : ℕ
+  pub content : List ℕ
+  pub quoted : is_quote quote ≡ true
+  pub plain : ArePlain content
+  pub bytes_are : bytes ≡ quote ∷ doubled quote content
+
+-- a string with a control byte in it
+pub record IsBrokenString (bytes : List ℕ) : Type 0 where
+  pub quote : ℕ
+  pub content : List ℕ
+  pub byte : ℕ
+  pub more : List ℕ
+  pub quoted : is_quote quote ≡ true
+  pub plain : ArePlain content
+  pub bytes_are : bytes ≡ quote ∷ doubled quote content ++ byte ∷ more
+  pub control : is_control byte ≡ true
+
+-- a byte with which no token and no comment begins
+pub record IsStrayByte (bytes : List ℕ) : Type 0 where
+  pub byte : ℕ
+  pub more : List ℕ
+  pub bytes_are : bytes ≡ byte ∷ more
+  pub no_name : begins_name byte ≡ false
+  pub no_number : is_ascii_digit byte ≡ false
+  pub no_string : is_quote byte ≡ false
+  pub no_mark : (m : Mark) → byte ≢ mark_byte m
+  pub no_comment : byte ≢ 0x3B
+
+-- The bytes begin with what has this fault.
+abbrev pub BeginsFault : ScanFault → List ℕ → Type 0
+BeginsFault BadByte bytes = IsBrokenString bytes ⊎ IsStrayByte bytes
+BeginsFault OpenString bytes = IsOpenString bytes
+BeginsFault BadNumber bytes = IsBadNumber bytes
+BeginsFault LineTooLong bytes = ⊥
+BeginsFault NoMemory bytes = ⊥

@@ -1,0 +1,21 @@
+//! Laws about the cut of a line, as functions that do nothing.
+
+ghost use Rattle.std.specs.Prelude.{◌≡◌, ℕ, List, Result};
+ghost use Rattle.asm_scan.specs.Tokens.{Lexeme};
+ghost use Rattle.asm_scan.specs.Lines.{AreSpans, BeginsTokens, Scans};
+ghost use Rattle.asm_scan.specs.declared.fault.ScanFault.{ScanFault};
+
+/// A line comes to one thing at most: one list of tokens or one fault.
+pub fn one_answer()
+    ensures { (line : List ℕ) (a b : Result (List Lexeme) ScanFault) → Scans line a → Scans line b → a ≡ b }
+{}
+
+/// Every line comes to something.
+pub fn some_answer()
+    ensures { (line : List ℕ) → (answer : Result (List Lexeme) ScanFault) × Scans line answer }
+{}
+
+/// The tokens of a line are slices of it, from left to right and apart.
+pub fn spans()
+    ensures { (line rest : List ℕ) (tokens : List Lexeme) → BeginsTokens line tokens rest → AreSpans line 0 tokens }
+{}

@@ -1,0 +1,29 @@
+//! Strings.
+
+ghost use Rattle.std.specs.Prelude.{◌≡◌, ◌≤◌, length, IfOk};
+ghost use Rattle.asm_scan.specs.Reading.{string_len};
+
+use crate::classes::is_control;
+use crate::fault::ScanFault;
+
+/// How many bytes a string takes behind its first quote, its last quote included.
+pub(crate) fn string_len(quote: u8, bytes: &[u8]) -> Result<usize, ScanFault>
+    ensures len { result ≡ string_len quote bytes.now }
+    ensures within { IfOk result (λ len. len ≤ length bytes.now) }
+{
+    let mut len = 0;
+    while len < bytes.len() {
+        if bytes[len] == quote {
+            // Its own quote ends a string, but not where it is doubled.
+            if len + 1 == bytes.len() || bytes[len + 1] != quote {
+                return Ok(len + 1);
+            }
+            len += 2;
+        } else if is_control(bytes[len]) {
+            return Err(ScanFault::BadByte);
+        } else {
+            len += 1;
+        }
+    }
+    Err(ScanFault::OpenString)
+}
