@@ -5,6 +5,7 @@
 #![tactic(auto)]
 
 mod length;
+mod mnemonic;
 
 pub use length::size;
 
