@@ -3,7 +3,7 @@ use Rattle.std.proofs.Common.{◌≡◌, ◌≢◌, ℕ, ◌+◌, List, [], ◌�
 use Rattle.std.specs.List.{prefix_len, AllPass, starts_with}
 use Rattle.std.specs.Char.{is_ascii_digit, is_ascii_alphanumeric, to_ascii_uppercase}
 use Rattle.std.proofs.Math.Numerals.{one-add}
-use Rattle.std.proofs.lemmas.Bool.{cond-true, cond-false, eqb-true, eqb-false, ne_eqb, cases_Bool, and_left, and_right, and_parts, or_left, false≢true}
+use Rattle.std.proofs.lemmas.Bool.{cond-true, cond-false, eqb-true, eqb-false, ne_eqb, cases_Bool, and_left, and_right, and_parts, and_from, eq-eqb, or_left, false≢true}
 use Rattle.std.proofs.lemmas.Bool.Decides.{nat_tests}
 use Rattle.std.proofs.lemmas.List.{take_at, drop_at, append_assoc, length_push, append-nil}
 use Rattle.std.proofs.lemmas.List.Elements.{All-nil, All-cons, All-head, All-tail}
@@ -16,8 +16,8 @@ use Rattle.asm_scan.specs.declared.fault.ScanFault.{ScanFault}
 use Rattle.asm_scan.specs.declared.fault.ScanFault.TheVariants.{BadByte, OpenString, LineTooLong, BadNumber, NoMemory}
 use Rattle.asm_scan.specs.Classes.{begins_name, continues_name, is_quote, is_control}
 use Rattle.asm_scan.specs.Numbers.{number_of}
-use Rattle.asm_scan.specs.Tokens.{BeginsWithout, IsName, IsNumber, IsToken, IsString, IsOpenString, IsBrokenString, IsStrayByte, BeginsFault, ArePlain, doubled, is_af, mark_byte}
-use Rattle.asm_scan.specs.Reading.{front, every_mark, name_front, number_front, number_or_fault, quoted_or_fault, mark_or_fault, mark_of, string_len, longer_by}
+use Rattle.asm_scan.specs.Tokens.{BeginsWithout, IsName, IsNumber, IsToken, IsString, IsOpenString, IsBrokenString, IsStrayByte, BeginsFault, ArePlain, IsAf, doubled, mark_byte}
+use Rattle.asm_scan.specs.Reading.{is_af, first_token, every_mark, first_name, first_number, number_or_fault, quoted_or_fault, mark_or_fault, mark_of, string_len, longer_by}
 use Rattle.asm_scan.proofs.Strings.{len_after, len_at_end, len_at_control, EndsContent, divides}
 
 -- The longest run of a class at the front.
@@ -47,8 +47,8 @@ module _ (p : ℕ → Bool) where
 
 -- names
 
-name_front_at : (text after : List ℕ) → prefix_len continues_name (text ++ after) ≡ length text → name_front (text ++ after) ≡ cond (is_af text && starts_with nat_eq after (codes "'")) (kind.OtherAf, length text + 1) (kind.Name, length text)
-name_front_at text after len =
+first_name_at : (text after : List ℕ) → prefix_len continues_name (text ++ after) ≡ length text → first_name (text ++ after) ≡ cond (is_af text && starts_with nat_eq after (codes "'")) (kind.OtherAf, length text + 1) (kind.Name, length text)
+first_name_at text after len =
     let read : ℕ → List ℕ → List ℕ → Kind × ℕ = λ n name more. cond (is_af name && starts_with nat_eq more (codes "'")) (kind.OtherAf, n + 1) (kind.Name, n) in
     ap (λ n. read n (take n (text ++ after)) (drop n (text ++ after))) len
     ∙ ap (λ name. read (length text) name (drop (length text) (text ++ after))) (take_at text after (length text) refl)
@@ -58,55 +58,74 @@ no_apostrophe : (after : List ℕ) → BeginsWithout (λ b. b == 0x27) after →
 no_apostrophe [] ended = refl
 no_apostrophe (b ∷ after) ended = and_left (nat_eq 0x27 b) true (ne_eqb 0x27 b (λ same. eqb-false b 0x27 ended (sym same)))
 
-name_read : (text after : List ℕ) → IsName text → BeginsWithout continues_name after → (is_af text ≡ true → BeginsWithout (λ b. b == 0x27) after) → front (text ++ after) ≡ Ok (kind.Name, length text)
+IsAf-from_test : (name : List ℕ) → is_af name ≡ true → IsAf name
+IsAf-from_test [] af = absurd (false≢true af)
+IsAf-from_test (a ∷ []) af = absurd (false≢true af)
+IsAf-from_test (a ∷ f ∷ b ∷ bs) af = absurd (false≢true af)
+IsAf-from_test (a ∷ f ∷ []) af =
+    let letters = and_parts (to_ascii_uppercase a == 0x41) (to_ascii_uppercase f == 0x46) af in
+    ap (λ x. x ∷ to_ascii_uppercase f ∷ []) (eqb-true _ 0x41 letters.0) ∙ ap (λ x. 0x41 ∷ x ∷ []) (eqb-true _ 0x46 letters.1)
+
+-- the test answers yes of each AF
+test-from_IsAf : (name : List ℕ) → IsAf name → is_af name ≡ true
+test-from_IsAf [] af = absurd (cc)
+test-from_IsAf (a ∷ []) af = absurd (cc)
+test-from_IsAf (a ∷ f ∷ b ∷ bs) af = absurd (cc)
+test-from_IsAf (a ∷ f ∷ []) af =
+    let first : to_ascii_uppercase a ≡ 0x41 = cc in
+    let second : to_ascii_uppercase f ≡ 0x46 = cc in
+    and_from _ _ (eq-eqb _ 0x41 first) (eq-eqb _ 0x46 second)
+
+name_read : (text after : List ℕ) → IsName text → BeginsWithout continues_name after → (IsAf text → BeginsWithout (λ b. b == 0x27) after) → first_token (text ++ after) ≡ Ok (kind.Name, length text)
 name_read [] after name ended no_af = absurd name
 name_read (b ∷ more) after name ended no_af =
     let all : AllPass continues_name (b ∷ more) = All-cons (λ x. continues_name x ≡ true) b more (or_left (begins_name b) (is_ascii_digit b) name.0) name.1 in
     let plain : (is_af (b ∷ more) && starts_with nat_eq after (codes "'")) ≡ false =
     elim (cases_Bool (is_af (b ∷ more))) [
-      | inl af ↦ and_right (is_af (b ∷ more)) _ (no_apostrophe after (no_af af))
+      | inl af ↦ and_right (is_af (b ∷ more)) _ (no_apostrophe after (no_af (IsAf-from_test (b ∷ more) af)))
       | inr other ↦ and_left (is_af (b ∷ more)) _ other
     ] in
     cond-true (begins_name b) _ _ name.0
-    ∙ ap (λ x. Ok x) (name_front_at (b ∷ more) after (run_len continues_name (b ∷ more) after all ended) ∙ cond-false _ (kind.OtherAf, length (b ∷ more) + 1) (kind.Name, length (b ∷ more)) plain)
+    ∙ ap (λ x. Ok x) (first_name_at (b ∷ more) after (run_len continues_name (b ∷ more) after all ended) ∙ cond-false _ (kind.OtherAf, length (b ∷ more) + 1) (kind.Name, length (b ∷ more)) plain)
 
-letter_a : (a : ℕ) → (to_ascii_uppercase a == 0x41) ≡ true → (a ≡ 0x41) ⊎ (a ≡ 0x61)
+letter_a : (a : ℕ) → to_ascii_uppercase a ≡ 0x41 → (a ≡ 0x41) ⊎ (a ≡ 0x61)
 letter_a a e = grind (arith, nat_tests)
 
-letter_f : (f : ℕ) → (to_ascii_uppercase f == 0x46) ≡ true → (f ≡ 0x46) ⊎ (f ≡ 0x66)
+letter_f : (f : ℕ) → to_ascii_uppercase f ≡ 0x46 → (f ≡ 0x46) ⊎ (f ≡ 0x66)
 letter_f f e = grind (arith, nat_tests)
 
-af_read : (a f : ℕ) (after : List ℕ) → (a ≡ 0x41) ⊎ (a ≡ 0x61) → (f ≡ 0x46) ⊎ (f ≡ 0x66) → front (a ∷ f ∷ 0x27 ∷ after) ≡ Ok (kind.OtherAf, 3)
+af_read : (a f : ℕ) (after : List ℕ) → (a ≡ 0x41) ⊎ (a ≡ 0x61) → (f ≡ 0x46) ⊎ (f ≡ 0x66) → first_token (a ∷ f ∷ 0x27 ∷ after) ≡ Ok (kind.OtherAf, 3)
 af_read a f after (inl e) (inl g) = rw (e, g) refl
 af_read a f after (inl e) (inr g) = rw (e, g) refl
 af_read a f after (inr e) (inl g) = rw (e, g) refl
 af_read a f after (inr e) (inr g) = rw (e, g) refl
 
-other_af_read : (name after : List ℕ) → is_af name ≡ true → front ((name ++ 0x27 ∷ []) ++ after) ≡ Ok (kind.OtherAf, length (name ++ 0x27 ∷ []))
-other_af_read [] after af = absurd (false≢true af)
-other_af_read (a ∷ []) after af = absurd (false≢true af)
-other_af_read (a ∷ f ∷ b ∷ bs) after af = absurd (false≢true af)
+other_af_read : (name after : List ℕ) → IsAf name → first_token ((name ++ 0x27 ∷ []) ++ after) ≡ Ok (kind.OtherAf, length (name ++ 0x27 ∷ []))
+other_af_read [] after af = absurd (cc)
+other_af_read (a ∷ []) after af = absurd (cc)
+other_af_read (a ∷ f ∷ b ∷ bs) after af = absurd (cc)
 other_af_read (a ∷ f ∷ []) after af =
-    let letters = and_parts (to_ascii_uppercase a == 0x41) (to_ascii_uppercase f == 0x46) af in
-    af_read a f after (letter_a a letters.0) (letter_f f letters.1)
+    let first : to_ascii_uppercase a ≡ 0x41 = cc in
+    let second : to_ascii_uppercase f ≡ 0x46 = cc in
+    af_read a f after (letter_a a first) (letter_f f second)
 
 -- numbers
 
 digit_begins_no_name : (b : ℕ) → is_ascii_digit b ≡ true → begins_name b ≡ false
 digit_begins_no_name b digit = grind (arith, nat_tests)
 
-number_front_at : (text after : List ℕ) → prefix_len is_ascii_alphanumeric (text ++ after) ≡ length text → number_front (text ++ after) ≡ number_or_fault (number_of text) (length text)
-number_front_at text after len =
+first_number_at : (text after : List ℕ) → prefix_len is_ascii_alphanumeric (text ++ after) ≡ length text → first_number (text ++ after) ≡ number_or_fault (number_of text) (length text)
+first_number_at text after len =
     ap (λ n. number_or_fault (number_of (take n (text ++ after))) n) len
     ∙ ap (λ x. number_or_fault (number_of x) (length text)) (take_at text after (length text) refl)
 
-pub number_read : (text after : List ℕ) (o : Option ℕ) → IsNumber text → BeginsWithout is_ascii_alphanumeric after → number_of text ≡ o → front (text ++ after) ≡ number_or_fault o (length text)
+pub number_read : (text after : List ℕ) (o : Option ℕ) → IsNumber text → BeginsWithout is_ascii_alphanumeric after → number_of text ≡ o → first_token (text ++ after) ≡ number_or_fault o (length text)
 number_read [] after o number ended value = absurd number
 number_read (b ∷ more) after o number ended value =
     let all : AllPass is_ascii_alphanumeric (b ∷ more) = All-cons (λ x. is_ascii_alphanumeric x ≡ true) b more (or_left _ _ (or_left (is_ascii_digit b) _ number.0)) number.1 in
     cond-false (begins_name b) _ _ (digit_begins_no_name b number.0)
-    ∙ cond-true (is_ascii_digit b) (number_front (b ∷ (more ++ after))) _ number.0
-    ∙ number_front_at (b ∷ more) after (run_len is_ascii_alphanumeric (b ∷ more) after all ended)
+    ∙ cond-true (is_ascii_digit b) (first_number (b ∷ (more ++ after))) _ number.0
+    ∙ first_number_at (b ∷ more) after (run_len is_ascii_alphanumeric (b ∷ more) after all ended)
     ∙ ap (λ x. number_or_fault x (length (b ∷ more))) value
 
 -- strings
@@ -122,19 +141,19 @@ no_quote test single double q quoted =
       | inr e ↦ ap test e ∙ double
     ]
 
-string_read : (q : ℕ) (content rest : List ℕ) → is_quote q ≡ true → ArePlain content → front (q ∷ doubled q content ++ rest) ≡ quoted_or_fault (longer_by (length (doubled q content)) (string_len q rest))
+string_read : (q : ℕ) (content rest : List ℕ) → is_quote q ≡ true → ArePlain content → first_token (q ∷ doubled q content ++ rest) ≡ quoted_or_fault (longer_by (length (doubled q content)) (string_len q rest))
 string_read q content rest quoted plain =
     cond-false (begins_name q) _ _ (no_quote begins_name refl refl q quoted)
     ∙ cond-false (is_ascii_digit q) _ _ (no_quote is_ascii_digit refl refl q quoted)
     ∙ cond-true (is_quote q) (quoted_or_fault (string_len q (doubled q content ++ rest))) _ quoted
     ∙ ap (λ r. quoted_or_fault r) (len_after q content rest plain)
 
-quoted_read : (text after : List ℕ) → IsString text after → front (text ++ after) ≡ Ok (kind.Quoted, length text)
+quoted_read : (text after : List ℕ) → IsString text after → first_token (text ++ after) ≡ Ok (kind.Quoted, length text)
 quoted_read text after s =
     let inside = doubled s.quote s.content in
     let size : length inside + 1 + 1 ≡ length (s.quote ∷ inside ++ s.quote ∷ []) = omega (arith, length_push inside s.quote) in
-    rw s.bytes
-    (ap front (append_assoc (s.quote ∷ inside) (s.quote ∷ []) after)
+    rw s.text_is
+    (ap first_token (append_assoc (s.quote ∷ inside) (s.quote ∷ []) after)
     ∙ string_read s.quote s.content (s.quote ∷ after) s.quoted s.plain
     ∙ ap (λ r. quoted_or_fault (longer_by (length inside) r)) (len_at_end s.quote after s.ended)
     ∙ ap (λ n. Ok (kind.Quoted, n)) size)
@@ -142,15 +161,15 @@ quoted_read text after s =
 control_is_no_quote : (q b : ℕ) → is_quote q ≡ true → is_control b ≡ true → (b == q) ≡ false
 control_is_no_quote q b quoted control = ne_eqb b q (λ same. false≢true (sym (no_quote is_control refl refl q quoted) ∙ ap is_control (sym same) ∙ control))
 
-broken_read : (bs : List ℕ) → IsBrokenString bs → front bs ≡ Err BadByte
+broken_read : (bs : List ℕ) → IsBrokenString bs → first_token bs ≡ Err BadByte
 broken_read bs s =
     rw s.bytes_are
     (string_read s.quote s.content (s.byte ∷ s.more) s.quoted s.plain
     ∙ ap (λ r. quoted_or_fault (longer_by (length (doubled s.quote s.content)) r)) (len_at_control s.quote s.byte s.more (control_is_no_quote s.quote s.byte s.quoted s.control) s.control))
 
-open_read : (bs : List ℕ) → IsOpenString bs → front bs ≡ Err OpenString
+open_read : (bs : List ℕ) → IsOpenString bs → first_token bs ≡ Err OpenString
 open_read bs s =
-    rw s.bytes_are (ap (λ x. front (s.quote ∷ x)) (sym (append-nil (doubled s.quote s.content))) ∙ string_read s.quote s.content [] s.quoted s.plain)
+    rw s.bytes_are (ap (λ x. first_token (s.quote ∷ x)) (sym (append-nil (doubled s.quote s.content))) ∙ string_read s.quote s.content [] s.quoted s.plain)
 
 -- marks
 
@@ -165,7 +184,7 @@ mark_found mark.Star = refl
 mark_found mark.Slash = refl
 mark_found mark.Dollar = refl
 
-mark_read : (m : Mark) (after : List ℕ) → front (mark_byte m ∷ after) ≡ Ok (kind.Mark m, 1)
+mark_read : (m : Mark) (after : List ℕ) → first_token (mark_byte m ∷ after) ≡ Ok (kind.Mark m, 1)
 mark_read mark.Comma after = refl
 mark_read mark.Open after = refl
 mark_read mark.Close after = refl
@@ -188,7 +207,7 @@ find_none : {X : Type 0} (test : X → Bool) (xs : List X) → ((x : X) → test
 find_none test [] fails = refl
 find_none test (x ∷ xs) fails = cond-false (test x) _ _ (fails x) ∙ find_none test xs fails
 
-stray_read : (bs : List ℕ) → IsStrayByte bs → front bs ≡ Err BadByte
+stray_read : (bs : List ℕ) → IsStrayByte bs → first_token bs ≡ Err BadByte
 stray_read bs s =
     rw s.bytes_are
     (cond-false (begins_name s.byte) _ _ s.no_name ∙ cond-false (is_ascii_digit s.byte) _ _ s.no_number ∙ cond-false (is_quote s.byte) _ _ s.no_string
@@ -196,14 +215,14 @@ stray_read bs s =
 
 -- A token at a front is what is read there, and so is a fault.
 
-pub token_read : (k : Kind) (text after : List ℕ) → IsToken k text after → front (text ++ after) ≡ Ok (k, length text)
+pub token_read : (k : Kind) (text after : List ℕ) → IsToken k text after → first_token (text ++ after) ≡ Ok (k, length text)
 token_read kind.Name text after t = name_read text after t.0 t.1 t.2
 token_read kind.OtherAf text after t = rw t.2 (other_af_read t.0 after t.1)
 token_read (kind.Number n) text after t = number_read text after (Some n) t.0 t.1 t.2
 token_read kind.Quoted text after t = quoted_read text after t
 token_read (kind.Mark m) text after t = rw t (mark_read m after)
 
-pub fault_read : (f : ScanFault) (bs : List ℕ) → BeginsFault f bs → front bs ≡ Err f
+pub fault_read : (f : ScanFault) (bs : List ℕ) → BeginsFault f bs → first_token bs ≡ Err f
 fault_read BadByte bs (inl s) = broken_read bs s
 fault_read BadByte bs (inr s) = stray_read bs s
 fault_read OpenString bs s = open_read bs s
@@ -216,7 +235,7 @@ pub data AtFront (bs : List ℕ) : Type 0 where
   token : (k : Kind) (text after : List ℕ) → bs ≡ text ++ after → IsToken k text after → AtFront bs
   fault : (f : ScanFault) → BeginsFault f bs → AtFront bs
 
-at_af : (name after : List ℕ) → is_af name ≡ true → IsName name → BeginsWithout continues_name after → AtFront (name ++ after)
+at_af : (name after : List ℕ) → IsAf name → IsName name → BeginsWithout continues_name after → AtFront (name ++ after)
 at_af name [] af begun ended = token kind.Name name [] refl (begun, ended, λ _. tt)
 at_af name (b ∷ after) af begun ended =
     elim (cases_Bool (b == 0x27)) [
@@ -228,8 +247,8 @@ at_name : (b : ℕ) (more : List ℕ) → begins_name b ≡ true → AtFront (b 
 at_name b more begun =
     let run = runs continues_name more in
     elim (cases_Bool (is_af (b ∷ run.text))) [
-      | inl af ↦ subst AtFront (ap (λ x. b ∷ x) (sym run.bytes)) (at_af (b ∷ run.text) run.after af (begun, run.all) run.ended)
-      | inr other ↦ token kind.Name (b ∷ run.text) run.after (ap (λ x. b ∷ x) run.bytes) ((begun, run.all), run.ended, λ af. absurd (false≢true (sym other ∙ af)))
+      | inl af ↦ subst AtFront (ap (λ x. b ∷ x) (sym run.bytes)) (at_af (b ∷ run.text) run.after (IsAf-from_test (b ∷ run.text) af) (begun, run.all) run.ended)
+      | inr other ↦ token kind.Name (b ∷ run.text) run.after (ap (λ x. b ∷ x) run.bytes) ((begun, run.all), run.ended, λ af. absurd (false≢true (sym other ∙ test-from_IsAf (b ∷ run.text) af)))
     ]
 
 at_number_of : (b : ℕ) (more text after : List ℕ) (o : Option ℕ) → more ≡ text ++ after → IsNumber (b ∷ text) → BeginsWithout is_ascii_alphanumeric after → number_of (b ∷ text) ≡ o → AtFront (b ∷ more)
@@ -247,7 +266,7 @@ at_string_rest q more content [] bytes quoted plain ended =
 at_string_rest q more content (b ∷ after) bytes quoted plain (inl closed) =
     let text : List ℕ = q ∷ doubled q content ++ q ∷ [] in
     let whole : q ∷ more ≡ text ++ after = ap (λ x. q ∷ x) (bytes ∙ ap (λ x. doubled q content ++ x ∷ after) closed.0) ∙ sym (append_assoc (q ∷ doubled q content) (q ∷ []) after) in
-    token kind.Quoted text after whole (record { quote = q; content = content; quoted = quoted; plain = plain; bytes = refl; ended = closed.1 })
+    token kind.Quoted text after whole (record { quote = q; content = content; quoted = quoted; plain = plain; text_is = refl; ended = closed.1 })
 at_string_rest q more content (b ∷ after) bytes quoted plain (inr control) =
     fault BadByte (inl (record { quote = q; content = content; byte = b; more = after; quoted = quoted; plain = plain; bytes_are = ap (λ x. q ∷ x) bytes; control = control.1 }))
 

@@ -3,7 +3,7 @@ use Rattle.std.specs.Prelude.{◌≡◌, ◌<◌, ◌≤◌, ◌+◌, ℕ, List,
 use Rattle.std.specs.List.{prefix_len}
 use Rattle.asm_scan.specs.declared.fault.ScanFault.{ScanFault}
 use Rattle.asm_scan.specs.declared.fault.ScanFault.TheVariants.{LineTooLong}
-use Rattle.asm_scan.specs.Classes.{is_blank}
+use Rattle.asm_scan.specs.Classes.{is_blank, semicolon}
 use Rattle.asm_scan.specs.Tokens.{Lexeme, IsToken, BeginsFault}
 
 abbrev pub without_blanks : List ℕ → List ℕ
@@ -11,8 +11,8 @@ without_blanks bytes = drop (prefix_len is_blank bytes) bytes
 
 -- The line is blanks, this token, and what comes after it.
 pub record BeginsToken (line : List ℕ) (token : Lexeme) (after : List ℕ) : Type 0 where
-  pub bytes : without_blanks line ≡ token.text ++ after
-  pub kind : IsToken token.kind token.text after
+  pub bytes_are : without_blanks line ≡ token.text ++ after
+  pub token_is : IsToken token.kind token.text after
 
 -- The line is these tokens, with blanks between, and then the rest.
 abbrev pub BeginsTokens : List ℕ → List Lexeme → List ℕ → Type 0
@@ -22,7 +22,7 @@ BeginsTokens line (token ∷ tokens) rest = (after : List ℕ) × BeginsToken li
 -- nothing, or a comment
 abbrev pub IsEnd : List ℕ → Type 0
 IsEnd [] = Unit {0}
-IsEnd (b ∷ _) = b ≡ 0x3B
+IsEnd (b ∷ _) = b ≡ semicolon
 
 -- The line is these tokens, with blanks between and at most one comment last.
 pub record Cut (line : List ℕ) (tokens : List Lexeme) : Type 0 where
@@ -37,7 +37,8 @@ pub record Stops (line : List ℕ) (fault : ScanFault) : Type 0 where
   pub begins : BeginsTokens line tokens rest
   pub stopped : BeginsFault fault (without_blanks rest)
 
--- What a line comes to: its tokens, or its one fault. Above 255 bytes it is too long, whatever it holds.
+-- What a line comes to: its tokens, or its one fault, which is never NoMemory. Above 255 bytes it is too long, whatever
+-- it holds.
 abbrev pub Scans : List ℕ → Result (List Lexeme) ScanFault → Type 0
 Scans line (Ok tokens) = (length line ≤ 255) × Cut line tokens
 Scans line (Err LineTooLong) = 255 < length line

@@ -1,8 +1,8 @@
 -- How the code reads the front of a line, step by step. Private contracts alone cite this file: nobody need believe it,
 -- since proofs/ ties it to specs/Tokens.antt.
-use Rattle.std.specs.Prelude.{ℕ, ◌+◌, List, [], ◌∷◌, Option, Some, None, Result, Ok, Err, ◌==◌, ◌&&◌, if◌then◌else◌, nat_eq, take, drop, find, codes}
+use Rattle.std.specs.Prelude.{ℕ, ◌+◌, List, [], ◌∷◌, Option, Some, None, Result, Ok, Err, Bool, false, ◌==◌, ◌&&◌, if◌then◌else◌, nat_eq, take, drop, find, codes}
 use Rattle.std.specs.List.{prefix_len, starts_with}
-use Rattle.std.specs.Char.{is_ascii_digit, is_ascii_alphanumeric}
+use Rattle.std.specs.Char.{is_ascii_digit, is_ascii_alphanumeric, to_ascii_uppercase}
 use Rattle.asm_scan.specs.declared.token.Mark.{Mark}
 use Rattle.asm_scan.specs.declared.token.Mark.TheVariants as mark
 use Rattle.asm_scan.specs.declared.token.Kind.{Kind}
@@ -11,11 +11,11 @@ use Rattle.asm_scan.specs.declared.fault.ScanFault.{ScanFault}
 use Rattle.asm_scan.specs.declared.fault.ScanFault.TheVariants.{BadByte, OpenString, BadNumber}
 use Rattle.asm_scan.specs.Classes.{begins_name, continues_name, is_quote, is_control}
 use Rattle.asm_scan.specs.Numbers.{number_of}
-use Rattle.asm_scan.specs.Tokens.{is_af, mark_byte}
+use Rattle.asm_scan.specs.Tokens.{mark_byte}
 
--- a kind and a length, or a fault
-abbrev pub Front : Type 0
-Front = Result (Kind × ℕ) ScanFault
+-- a token's kind and length, or a fault
+abbrev pub Reading : Type 0
+Reading = Result (Kind × ℕ) ScanFault
 
 abbrev pub every_mark : List Mark
 every_mark = mark.Comma ∷ mark.Open ∷ mark.Close ∷ mark.Colon ∷ mark.Plus ∷ mark.Minus ∷ mark.Star ∷ mark.Slash ∷ mark.Dollar ∷ []
@@ -23,19 +23,23 @@ every_mark = mark.Comma ∷ mark.Open ∷ mark.Close ∷ mark.Colon ∷ mark.Plu
 abbrev pub mark_of : ℕ → Option Mark
 mark_of b = find (λ m. b == mark_byte m) every_mark
 
-abbrev pub name_front : List ℕ → Kind × ℕ
-name_front bytes =
+abbrev pub is_af : List ℕ → Bool
+is_af (a ∷ f ∷ []) = (to_ascii_uppercase a == 0x41) && (to_ascii_uppercase f == 0x46)
+is_af _ = false
+
+abbrev pub first_name : List ℕ → Kind × ℕ
+first_name bytes =
     let len = prefix_len continues_name bytes in
     if is_af (take len bytes) && starts_with nat_eq (drop len bytes) (codes "'")
     then (kind.OtherAf, len + 1)
     else (kind.Name, len)
 
-abbrev pub number_or_fault : Option ℕ → ℕ → Front
+abbrev pub number_or_fault : Option ℕ → ℕ → Reading
 number_or_fault (Some n) len = Ok (kind.Number n, len)
 number_or_fault None len = Err BadNumber
 
-abbrev pub number_front : List ℕ → Front
-number_front bytes =
+abbrev pub first_number : List ℕ → Reading
+first_number bytes =
     let len = prefix_len is_ascii_alphanumeric bytes in
     number_or_fault (number_of (take len bytes)) len
 
@@ -52,19 +56,19 @@ string_len quote (b ∷ c ∷ more) =
     else if is_control b then Err BadByte
     else longer_by 1 (string_len quote (c ∷ more))
 
-abbrev pub quoted_or_fault : Result ℕ ScanFault → Front
+abbrev pub quoted_or_fault : Result ℕ ScanFault → Reading
 quoted_or_fault (Ok len) = Ok (kind.Quoted, len + 1)
 quoted_or_fault (Err fault) = Err fault
 
-abbrev pub mark_or_fault : Option Mark → Front
+abbrev pub mark_or_fault : Option Mark → Reading
 mark_or_fault (Some m) = Ok (kind.Mark m, 1)
 mark_or_fault None = Err BadByte
 
 -- the token with which the bytes begin, or its fault
-abbrev pub front : List ℕ → Front
-front [] = Err BadByte
-front (b ∷ more) =
-    if begins_name b then Ok (name_front (b ∷ more))
-    else if is_ascii_digit b then number_front (b ∷ more)
+abbrev pub first_token : List ℕ → Reading
+first_token [] = Err BadByte
+first_token (b ∷ more) =
+    if begins_name b then Ok (first_name (b ∷ more))
+    else if is_ascii_digit b then first_number (b ∷ more)
     else if is_quote b then quoted_or_fault (string_len b more)
     else mark_or_fault (mark_of b)

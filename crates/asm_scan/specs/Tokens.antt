@@ -1,5 +1,5 @@
 -- What a token is, and what is wrong where there is none.
-use Rattle.std.specs.Prelude.{◌≡◌, ◌≢◌, ◌⊎◌, ℕ, List, [], ◌∷◌, ◌++◌, Some, None, Result, Ok, Err, Vec, Bool, true, false, ◌==◌, ◌&&◌, if◌then◌else◌, map, All}
+use Rattle.std.specs.Prelude.{◌≡◌, ◌≢◌, ◌⊎◌, ℕ, List, [], ◌∷◌, ◌++◌, Some, None, Result, Ok, Err, Vec, Bool, true, false, ◌==◌, if◌then◌else◌, map, codes, All}
 use Rattle.std.specs.Global.{Global}
 use Rattle.std.specs.List.{AllPass, flat_map}
 use Rattle.std.specs.Char.{is_ascii_digit, is_ascii_alphanumeric, to_ascii_uppercase}
@@ -10,7 +10,7 @@ use Rattle.asm_scan.specs.declared.token.Kind.TheVariants as kind
 use Rattle.asm_scan.specs.declared.token.Token.{Token}
 use Rattle.asm_scan.specs.declared.fault.ScanFault.{ScanFault}
 use Rattle.asm_scan.specs.declared.fault.ScanFault.TheVariants.{BadByte, OpenString, LineTooLong, BadNumber, NoMemory}
-use Rattle.asm_scan.specs.Classes.{begins_name, continues_name, is_quote, is_control}
+use Rattle.asm_scan.specs.Classes.{begins_name, continues_name, apostrophe, semicolon, is_quote, is_control}
 use Rattle.asm_scan.specs.Numbers.{number_of}
 
 -- a token without where its bytes lie
@@ -39,10 +39,9 @@ abbrev pub IsName : List ℕ → Type 0
 IsName [] = ⊥
 IsName (b ∷ more) = (begins_name b ≡ true) × AllPass continues_name more
 
--- AF, in either case
-abbrev pub is_af : List ℕ → Bool
-is_af (a ∷ f ∷ []) = (to_ascii_uppercase a == 0x41) && (to_ascii_uppercase f == 0x46)
-is_af _ = false
+-- the name AF, in either case
+abbrev pub IsAf : List ℕ → Type 0
+IsAf name = map to_ascii_uppercase name ≡ codes "AF"
 
 -- a digit, then letters and digits
 abbrev pub IsNumber : List ℕ → Type 0
@@ -63,9 +62,10 @@ pub record IsString (text after : List ℕ) : Type 0 where
   pub content : List ℕ
   pub quoted : is_quote quote ≡ true
   pub plain : ArePlain content
-  pub bytes : text ≡ quote ∷ doubled quote content ++ quote ∷ []
+  pub text_is : text ≡ quote ∷ doubled quote content ++ quote ∷ []
   pub ended : BeginsWithout (λ b. b == quote) after
 
+-- `,` `(` `)` `:` `+` `-` `*` `/` `$`
 abbrev pub mark_byte : Mark → ℕ
 mark_byte mark.Comma = 0x2C
 mark_byte mark.Open = 0x28
@@ -79,8 +79,8 @@ mark_byte mark.Dollar = 0x24
 
 -- The text is a token of this kind, as long as its class allows before what comes after it.
 abbrev pub IsToken : Kind → List ℕ → List ℕ → Type 0
-IsToken kind.Name text after = IsName text × BeginsWithout continues_name after × (is_af text ≡ true → BeginsWithout (λ b. b == 0x27) after)
-IsToken kind.OtherAf text after = (name : List ℕ) × (is_af name ≡ true) × (text ≡ name ++ 0x27 ∷ [])
+IsToken kind.Name text after = IsName text × BeginsWithout continues_name after × (IsAf text → BeginsWithout (λ b. b == apostrophe) after)
+IsToken kind.OtherAf text after = (name : List ℕ) × IsAf name × (text ≡ name ++ apostrophe ∷ [])
 IsToken (kind.Number n) text after = IsNumber text × BeginsWithout is_ascii_alphanumeric after × (number_of text ≡ Some n)
 IsToken kind.Quoted text after = IsString text after
 IsToken (kind.Mark m) text after = text ≡ mark_byte m ∷ []
@@ -122,7 +122,7 @@ pub record IsStrayByte (bytes : List ℕ) : Type 0 where
   pub no_number : is_ascii_digit byte ≡ false
   pub no_string : is_quote byte ≡ false
   pub no_mark : (m : Mark) → byte ≢ mark_byte m
-  pub no_comment : byte ≢ 0x3B
+  pub no_comment : byte ≢ semicolon
 
 -- The bytes begin with what has this fault.
 abbrev pub BeginsFault : ScanFault → List ℕ → Type 0

@@ -2,7 +2,7 @@
 
 ghost use Rattle.std.specs.Prelude.{◌≡◌, ℕ, List, Result};
 ghost use Rattle.asm_scan.specs.Tokens.{Lexeme};
-ghost use Rattle.asm_scan.specs.Lines.{AreSpans, BeginsTokens, Scans};
+ghost use Rattle.asm_scan.specs.Lines.{AreSpans, Cut, Scans};
 ghost use Rattle.asm_scan.specs.declared.fault.ScanFault.{ScanFault};
 
 /// A line comes to one thing at most: one list of tokens or one fault.
@@ -17,5 +17,5 @@ pub fn some_answer()
 
 /// The tokens of a line are slices of it, from left to right and apart.
 pub fn spans()
-    ensures { (line rest : List ℕ) (tokens : List Lexeme) → BeginsTokens line tokens rest → AreSpans line 0 tokens }
+    ensures { (line : List ℕ) (tokens : List Lexeme) → Cut line tokens → AreSpans line 0 tokens }
 {}
