@@ -1,6 +1,6 @@
-use Rattle.std.proofs.Common.{◌≡◌, ℕ, ◌+◌, ◌<◌, ◌≤◌, ◌++◌, ◌∷◌, [], true, false, List, length, Some, refl, sym, ap, ◌∙◌, arith, inl, inr, get_or, take, count_by}
+use Rattle.std.proofs.Common.{◌≡◌, ℕ, ◌+◌, ◌<◌, ◌++◌, ◌∷◌, [], true, false, List, length, Some, refl, sym, ap, ◌∙◌, arith, inl, inr, get_or, take, count_by}
 use Rattle.std.proofs.lemmas.Bool.{cases_lt}
-use Rattle.std.proofs.lemmas.List.{take_all, get_or_push, get_or_append_left, length_push}
+use Rattle.std.proofs.lemmas.List.{get_or_push, get_or_append_left, length_push}
 use Rattle.std.proofs.lemmas.List.Sums.{count_by_more_yes, count_by_more_no}
 use Rattle.std.proofs.lemmas.Option.{slice_get-get_or, slice_get_within, get_or_from_slice_get}
 use Rattle.relax.specs.declared.shape.Statement.{Statement}
@@ -8,7 +8,7 @@ use Rattle.relax.specs.declared.shape.Statement.TheVariants.{Fixed, Jump, Short}
 use Rattle.relax.specs.declared.relaxable.RelaxableJump.{RelaxableJump}
 use Rattle.relax.specs.Choice.{IsJump, IsAnyJump}
 use Rattle.relax.specs.Probes.{is_jump}
-use Rattle.relax.specs.Worklist.{statement_of, target_of, AreRelaxable}
+use Rattle.relax.specs.Worklist.{statement_of, target_of}
 
 -- the jumps below k, in order
 pub record JumpsBelow (shape : List Statement) (jumps : List RelaxableJump) (k : ℕ) : Type 0 where
@@ -61,11 +61,3 @@ module _ (shape : List Statement) (jumps : List RelaxableJump) (k : ℕ) (was : 
         count = (let yes : is_jump (get_or shape k (Fixed 0)) ≡ true = ap is_jump (get_or_from_slice_get shape k (Jump t) (Fixed 0) jump) in
             let more = count_by_more_yes is_jump shape k (Fixed 0) lt yes in omega (arith, was.count));
       }
-
-pub jumps-end : (shape : List Statement) (jumps : List RelaxableJump) (k : ℕ) → length shape ≤ k → JumpsBelow shape jumps k → AreRelaxable shape jumps
-jumps-end shape jumps k le was = record {
-  each = was.each;
-  ascending = was.ascending;
-  complete = λ j t jump. was.complete j t (let lt = slice_get_within shape j (Jump t) jump in omega arith) jump;
-  count = was.count ∙ ap (count_by is_jump) (take_all k shape le);
-}

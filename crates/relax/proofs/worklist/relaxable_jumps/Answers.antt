@@ -1,5 +1,5 @@
 use Rattle.std.proofs.Common.{arith}
-use Rattle.relax.proofs.Jumps.{jumps-skip, jumps-more, jumps-end}
+use Rattle.relax.proofs.Jumps.{jumps-skip, jumps-more}
 use Rattle.relax.proofs.worklist.relaxable_jumps.Goals as goal
 use Rattle.relax.proofs.worklist.relaxable_jumps.Goals.{in-Some+in_ok-push, in_default}
 
@@ -9,6 +9,3 @@ loop-statement-preserved g c =
       | in-Some+in_ok-push w ↦ rw (w.jumps-is, w.in_ok-push.ensures.items) (jumps-more _ _ _ c.loop-statement.invariant _ w.in-Some.ensures)
       | in_default w ↦ rw w.jumps-is (jumps-skip _ _ _ c.loop-statement.invariant (omega arith) w.in_default.ensures)
     ]
-
-pub returns : goal.returns
-returns g c = jumps-end _ _ c.loop-statement.statement (omega arith) c.loop-statement.invariant
