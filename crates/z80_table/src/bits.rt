@@ -3,21 +3,23 @@ ghost use Rattle.std.specs.Prelude.{◌≡◌, ◌/◌, ◌%◌, ℕ, List};
 ghost use Rattle.z80_instr.specs.Table.{octal_of};
 ghost use Rattle.z80_table.specs.Reading.{filled, bit_entry, bits_entry, read_page};
 
-use crate::field::{byte_of, operand_of, rotation_of};
+use crate::field::{byte_of, operand_of, rotation_of, y_of, z_of};
 use crate::{DecodeFault, Decoded};
-use z80_instr::{Instr, Octal, Operand};
+use z80_instr::{Instr, Operand};
 
+/// The instruction behind CB.
 pub fn bits(bytes: &[u8]) -> Decoded
     ensures { result ≡ read_page bits_entry bytes.now }
 {
     let opcode = byte_of(bytes)?;
-    bit(opcode, operand_of(Octal::from_number(opcode % 8)), 2)
+    bit(opcode, operand_of(z_of(opcode)), 2)
 }
 
+/// A rotation, BIT, RES or SET on the operand, in a spelling of this size.
 pub fn bit(opcode: u8, operand: Operand, size: u8) -> Decoded
     ensures { (rest : List ℕ) → result ≡ filled size (bit_entry (opcode / 64) (octal_of (opcode / 8 % 8)) operand) rest }
 {
-    let y = Octal::from_number(opcode / 8 % 8);
+    let y = y_of(opcode);
     match opcode / 64 {
         0 => match rotation_of(y) {
             Some(rotation) => Ok((Instr::Rotate(rotation, operand), size)),

@@ -2,18 +2,21 @@
 ghost use Rattle.std.specs.Prelude.{◌≡◌, ℕ, List};
 ghost use Rattle.z80_table.specs.Reading.{filled, interrupt_entry, special_entry, leave_entry, extended_middle, extended_quarter, extended_entry, read_page};
 
-use crate::field::{block_operation_of, is_odd, pair_of, register_of, step_of, word_of};
+use crate::field::{
+    block_operation_of, is_odd, pair_of, register_of, step_of, word_of, y_of, z_of,
+};
 use crate::{DecodeFault, Decoded};
 use z80_instr::{Instr, InterruptMode, Octal, WordRegister};
 
+/// The instruction behind ED. Only opcodes from 40H to 7FH and block instructions are documented.
 pub fn extended(bytes: &[u8]) -> Decoded
     ensures { result ≡ read_page extended_entry bytes.now }
 {
     let Some((opcode, rest)) = bytes.split_first() else {
         return Err(DecodeFault::Short);
     };
-    let y = Octal::from_number(*opcode / 8 % 8);
-    let z = Octal::from_number(*opcode % 8);
+    let y = y_of(*opcode);
+    let z = z_of(*opcode);
     match *opcode / 64 {
         1 => extended_low(y, z, rest),
         2 => block(y, z),
@@ -22,6 +25,7 @@ pub fn extended(bytes: &[u8]) -> Decoded
     }
 }
 
+/// Opcodes from 40H to 7FH: a column of the table for each z.
 fn extended_low(y: Octal, z: Octal, rest: &[u8]) -> Decoded
     ensures { result ≡ filled 2 (extended_middle y z) rest.now }
 {
@@ -59,6 +63,7 @@ fn extended_low(y: Octal, z: Octal, rest: &[u8]) -> Decoded
     }
 }
 
+/// LD of I and R, and the digit rotations.
 fn special(y: Octal) -> Decoded
     ensures { (rest : List ℕ) → result ≡ filled 2 (special_entry y) rest }
 {
@@ -73,6 +78,7 @@ fn special(y: Octal) -> Decoded
     }
 }
 
+/// RETN and RETI.
 fn leave(y: Octal) -> Decoded
     ensures { (rest : List ℕ) → result ≡ filled 2 (leave_entry y) rest }
 {
@@ -83,6 +89,7 @@ fn leave(y: Octal) -> Decoded
     }
 }
 
+/// IM.
 fn interrupt(y: Octal) -> Decoded
     ensures { (rest : List ℕ) → result ≡ filled 2 (interrupt_entry y) rest }
 {
@@ -94,6 +101,7 @@ fn interrupt(y: Octal) -> Decoded
     }
 }
 
+/// The block instructions.
 fn block(y: Octal, z: Octal) -> Decoded
     ensures { (rest : List ℕ) → result ≡ filled 2 (extended_quarter 2 y z) rest }
 {

@@ -1,7 +1,8 @@
 //! The fields of an opcode, and the numbers behind it.
 //!
 //! An opcode has three fields: x, its bits 7 and 6, y, bits 5 to 3, and z, bits 2 to 0.
-ghost use Rattle.std.specs.Prelude.{◌≡◌};
+ghost use Rattle.std.specs.Prelude.{◌≡◌, ◌/◌, ◌%◌};
+ghost use Rattle.z80_instr.specs.Table.{octal_of};
 ghost use Rattle.z80_table.specs.Reading.{byte_at, word_at, signed_at, both_at, is_odd, pair_at, operand_at, condition_at, operation_at, rotation_at, register_at, step_at, block_operation_at, addend_at};
 
 use crate::DecodeFault;
@@ -10,6 +11,19 @@ use z80_instr::{
     RegisterPair, Rotation,
 };
 
+pub fn y_of(opcode: u8) -> Octal
+    ensures { result ≡ octal_of (opcode / 8 % 8) }
+{
+    Octal::from_number(opcode / 8 % 8)
+}
+
+pub fn z_of(opcode: u8) -> Octal
+    ensures { result ≡ octal_of (opcode % 8) }
+{
+    Octal::from_number(opcode % 8)
+}
+
+/// A register pair, by the upper two bits of y.
 pub fn pair_of(y: Octal) -> RegisterPair
     ensures { result ≡ pair_at y }
 {
@@ -21,6 +35,7 @@ pub fn pair_of(y: Octal) -> RegisterPair
     }
 }
 
+/// An operand, by y or z.
 pub fn operand_of(y: Octal) -> Operand
     ensures { result ≡ operand_at y }
 {
@@ -36,6 +51,7 @@ pub fn operand_of(y: Octal) -> Operand
     }
 }
 
+/// A condition, by y.
 pub fn condition_of(y: Octal) -> Cond
     ensures { result ≡ condition_at y }
 {
@@ -51,6 +67,7 @@ pub fn condition_of(y: Octal) -> Cond
     }
 }
 
+/// An operation on A, by y.
 pub fn operation_of(y: Octal) -> AluOperation
     ensures { result ≡ operation_at y }
 {
@@ -66,6 +83,7 @@ pub fn operation_of(y: Octal) -> AluOperation
     }
 }
 
+/// A register, by y; 6 is none.
 pub fn register_of(y: Octal) -> Option<Register>
     ensures { result ≡ register_at y }
 {
@@ -81,6 +99,7 @@ pub fn register_of(y: Octal) -> Option<Register>
     }
 }
 
+/// A rotation or a shift, by y; 6 is none.
 pub fn rotation_of(y: Octal) -> Option<Rotation>
     ensures { result ≡ rotation_at y }
 {
@@ -96,6 +115,7 @@ pub fn rotation_of(y: Octal) -> Option<Rotation>
     }
 }
 
+/// What is added to an index register, by the upper two bits of y.
 pub fn addend_of(y: Octal) -> Addend
     ensures { result ≡ addend_at y }
 {
@@ -107,6 +127,7 @@ pub fn addend_of(y: Octal) -> Addend
     }
 }
 
+/// The step of a block instruction, by y.
 pub fn step_of(y: Octal) -> Option<BlockStep>
     ensures { result ≡ step_at y }
 {
@@ -119,6 +140,7 @@ pub fn step_of(y: Octal) -> Option<BlockStep>
     }
 }
 
+/// What a block instruction does, by z.
 pub fn block_operation_of(z: Octal) -> Option<BlockOperation>
     ensures { result ≡ block_operation_at z }
 {
@@ -131,12 +153,14 @@ pub fn block_operation_of(z: Octal) -> Option<BlockOperation>
     }
 }
 
+/// The lowest bit of y, which picks one of two operations on a pair.
 pub fn is_odd(y: Octal) -> bool
     ensures { result ≡ is_odd y }
 {
     matches!(y, Octal::One | Octal::Three | Octal::Five | Octal::Seven)
 }
 
+/// The number n.
 pub fn byte_of(rest: &[u8]) -> Result<u8, DecodeFault>
     ensures { result ≡ byte_at rest.now }
 {
@@ -146,6 +170,7 @@ pub fn byte_of(rest: &[u8]) -> Result<u8, DecodeFault>
     }
 }
 
+/// The word nn, its low byte first.
 pub fn word_of(rest: &[u8]) -> Result<u16, DecodeFault>
     ensures { result ≡ word_at rest.now }
 {
@@ -155,6 +180,7 @@ pub fn word_of(rest: &[u8]) -> Result<u16, DecodeFault>
     }
 }
 
+/// The displacement d or the distance e.
 pub fn signed_of(rest: &[u8]) -> Result<i8, DecodeFault>
     ensures { result ≡ signed_at rest.now }
 {
@@ -164,6 +190,7 @@ pub fn signed_of(rest: &[u8]) -> Result<i8, DecodeFault>
     }
 }
 
+/// The displacement d and then the number n.
 pub fn both_of(rest: &[u8]) -> Result<(i8, u8), DecodeFault>
     ensures { result ≡ both_at rest.now }
 {

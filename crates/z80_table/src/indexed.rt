@@ -5,12 +5,13 @@ ghost use Rattle.z80_instr.specs.declared.Operand.{Operand};
 ghost use Rattle.z80_table.specs.Reading.{filled, index_low, index_load, index_high, index_entry, read_index_bits, read_index};
 
 use crate::bits::bit;
-use crate::field::{addend_of, both_of, operand_of, operation_of, signed_of, word_of};
+use crate::field::{addend_of, both_of, operand_of, operation_of, signed_of, word_of, y_of, z_of};
 use crate::{DecodeFault, Decoded};
 use z80_instr::{
     HlOrIndex, IndexRegister, Instr, Memory, Octal, Operand, Register, StackOperand, WordRegister,
 };
 
+/// The instruction behind DD or FD: one of HL or (HL) with the index register in its place.
 pub fn indexed(index: IndexRegister, bytes: &[u8]) -> Decoded
     ensures { result ≡ read_index index bytes.now }
 {
@@ -21,11 +22,12 @@ pub fn indexed(index: IndexRegister, bytes: &[u8]) -> Decoded
     }
 }
 
+/// An instruction whose opcode follows the prefix.
 fn index_page(index: IndexRegister, opcode: u8, rest: &[u8]) -> Decoded
     ensures { result ≡ filled 2 (index_entry index opcode) rest.now }
 {
-    let y = Octal::from_number(opcode / 8 % 8);
-    let z = Octal::from_number(opcode % 8);
+    let y = y_of(opcode);
+    let z = z_of(opcode);
     match opcode / 64 {
         0 => index_words(index, y, z, rest),
         1 => index_loads(index, operand_of(y), operand_of(z), rest),
@@ -41,6 +43,7 @@ fn index_page(index: IndexRegister, opcode: u8, rest: &[u8]) -> Decoded
     }
 }
 
+/// Opcodes below 40H, by z and y.
 fn index_words(index: IndexRegister, y: Octal, z: Octal, rest: &[u8]) -> Decoded
     ensures { result ≡ filled 2 (index_low index y z) rest.now }
 {
@@ -65,6 +68,7 @@ fn index_words(index: IndexRegister, y: Octal, z: Octal, rest: &[u8]) -> Decoded
     }
 }
 
+/// LD between a register and the indexed byte, which stands in the place of (HL).
 fn index_loads(index: IndexRegister, to: Operand, from: Operand, rest: &[u8]) -> Decoded
     ensures { result ≡ filled 2 (index_load index to from) rest.now }
 {
@@ -81,6 +85,7 @@ fn index_loads(index: IndexRegister, to: Operand, from: Operand, rest: &[u8]) ->
     }
 }
 
+/// Opcodes from C0H, by z and y.
 fn index_rest(index: IndexRegister, y: Octal, z: Octal) -> Decoded
     ensures { (rest : List ℕ) → result ≡ filled 2 (index_high index y z) rest }
 {
@@ -94,11 +99,12 @@ fn index_rest(index: IndexRegister, y: Octal, z: Octal) -> Decoded
     }
 }
 
+/// The displacement and the opcode behind CB, which must be one on (HL).
 fn index_bits(index: IndexRegister, bytes: &[u8]) -> Decoded
     ensures { result ≡ read_index_bits index bytes.now }
 {
     match bytes {
-        [d, opcode, ..] => match Octal::from_number(*opcode % 8) {
+        [d, opcode, ..] => match z_of(*opcode) {
             Octal::Six => bit(*opcode, at_index(index, d.cast_signed()), 4),
             _ => Err(DecodeFault::Undocumented),
         },
@@ -106,6 +112,7 @@ fn index_bits(index: IndexRegister, bytes: &[u8]) -> Decoded
     }
 }
 
+/// The byte at an index register and a displacement.
 fn at_index(index: IndexRegister, d: i8) -> Operand
     ensures { result ≡ Operand.Memory (Memory.Indexed index d) }
 {

@@ -3,7 +3,8 @@ ghost use Rattle.std.specs.Prelude.{◌≡◌, ℕ, List};
 ghost use Rattle.z80_table.specs.Reading.{filled, relative_entry, indirect_entry, accumulator_at, low_entry, load_of, pop_entry, exchange_entry, push_entry, high_entry, plain_entry};
 
 use crate::field::{
-    byte_of, condition_of, is_odd, operand_of, operation_of, pair_of, signed_of, word_of,
+    byte_of, condition_of, is_odd, operand_of, operation_of, pair_of, signed_of, word_of, y_of,
+    z_of,
 };
 use crate::{DecodeFault, Decoded};
 use z80_instr::{
@@ -11,11 +12,12 @@ use z80_instr::{
     StackOperand, WordRegister,
 };
 
+/// The instruction of an opcode that has no prefix, with the numbers from the bytes behind it.
 pub fn plain(opcode: u8, rest: &[u8]) -> Decoded
     ensures { result ≡ filled 1 (plain_entry opcode) rest.now }
 {
-    let y = Octal::from_number(opcode / 8 % 8);
-    let z = Octal::from_number(opcode % 8);
+    let y = y_of(opcode);
+    let z = z_of(opcode);
     match opcode / 64 {
         0 => low(y, z, rest),
         1 => Ok((load(operand_of(y), operand_of(z)), 1)),
@@ -25,6 +27,7 @@ pub fn plain(opcode: u8, rest: &[u8]) -> Decoded
     }
 }
 
+/// Opcodes below 40H: a column of the table for each z.
 fn low(y: Octal, z: Octal, rest: &[u8]) -> Decoded
     ensures { result ≡ filled 1 (low_entry y z) rest.now }
 {
@@ -55,6 +58,7 @@ fn low(y: Octal, z: Octal, rest: &[u8]) -> Decoded
     }
 }
 
+/// NOP, EX AF,AF' and the relative jumps.
 fn relative(y: Octal, rest: &[u8]) -> Decoded
     ensures { result ≡ filled 1 (relative_entry y) rest.now }
 {
@@ -76,6 +80,7 @@ fn relative(y: Octal, rest: &[u8]) -> Decoded
     }
 }
 
+/// LD between A or HL and the byte or word at an address.
 fn indirect(y: Octal, rest: &[u8]) -> Decoded
     ensures { result ≡ filled 1 (indirect_entry y) rest.now }
 {
@@ -97,6 +102,7 @@ fn indirect(y: Octal, rest: &[u8]) -> Decoded
     }
 }
 
+/// LD of an operand to an operand. In the place of LD (HL),(HL) there is HALT.
 fn load(to: Operand, from: Operand) -> Instr
     ensures { result ≡ load_of to from }
 {
@@ -107,6 +113,7 @@ fn load(to: Operand, from: Operand) -> Instr
     }
 }
 
+/// What works on A and the flags alone.
 fn accumulator_of(y: Octal) -> Instr
     ensures { result ≡ accumulator_at y }
 {
@@ -122,6 +129,7 @@ fn accumulator_of(y: Octal) -> Instr
     }
 }
 
+/// Opcodes from C0H: a column of the table for each z.
 fn high(y: Octal, z: Octal, rest: &[u8]) -> Decoded
     ensures { result ≡ filled 1 (high_entry y z) rest.now }
 {
@@ -137,6 +145,7 @@ fn high(y: Octal, z: Octal, rest: &[u8]) -> Decoded
     }
 }
 
+/// POP, RET, EXX, JP (HL) and LD SP,HL.
 fn pops(y: Octal) -> Decoded
     ensures { (rest : List ℕ) → result ≡ filled 1 (pop_entry y) rest }
 {
@@ -153,6 +162,7 @@ fn pops(y: Octal) -> Decoded
     Ok((instr, 1))
 }
 
+/// JP nn, the ports, the exchanges, DI and EI. CB is a prefix.
 fn exchange(y: Octal, rest: &[u8]) -> Decoded
     ensures { result ≡ filled 1 (exchange_entry y) rest.now }
 {
@@ -168,6 +178,7 @@ fn exchange(y: Octal, rest: &[u8]) -> Decoded
     }
 }
 
+/// PUSH and CALL nn. DD, ED and FD are prefixes.
 fn push(y: Octal, rest: &[u8]) -> Decoded
     ensures { result ≡ filled 1 (push_entry y) rest.now }
 {

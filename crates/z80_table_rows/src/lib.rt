@@ -1,2 +1,9 @@
-//! Tests of the opcode table.
+//! Tests of the opcode table by its public calls.
 #![tactic(auto)]
+
+#[cfg(test)]
+mod rows;
+#[cfg(test)]
+mod tests;
+#[cfg(test)]
+mod text;
