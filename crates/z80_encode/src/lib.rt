@@ -1,8 +1,10 @@
 //! From instructions of the Z80 to bytes.
 #![tactic(auto)]
 
-ghost use Rattle.std.specs.Prelude.{◌≡◌, ◌++◌, length, drop};
+ghost use Rattle.std.specs.Prelude.{◌≡◌, ◌≤◌, ◌++◌, length, drop};
 ghost use Rattle.z80_instr.specs.Table.{canonical};
+ghost use Rattle.z80_instr.specs.Codes.{Codes};
+ghost use Rattle.z80_encode.specs.Writes.{Writes};
 
 mod code;
 mod put;
@@ -13,22 +15,31 @@ use code::{
 };
 use put::{
     put, put_bits, put_count, put_hl_or_index, put_load_byte, put_load_word, put_operand,
-    put_pointer, put_stack, put_word, put_word_at,
+    put_pointer, put_stack, put_store, put_word, put_word_at,
 };
-use z80_instr::{Instr, InterruptMode, Operand};
+use z80_instr::{Instr, InterruptMode};
 
 /// Writes the canonical spelling of an instruction at the front of the buffer, and answers its length.
 ///
 /// The other bytes of the buffer stay as they are.
 pub fn encode(instr: &Instr, out: &mut [u8; 4]) -> u8
+    ensures codes { Codes instr.now (canonical instr.now) }
     ensures written { out.new ≡ canonical instr.now ++ drop (length (canonical instr.now)) out.old }
     ensures count { result ≡ length (canonical instr.now) }
+    ensures most { result ≤ 4 }
 {
-    match *instr {
+    let instr = *instr;
+    put_instr(out, instr)
+}
+
+/// The same, by the groups of the manual.
+fn put_instr(out: &mut [u8; 4], instr: Instr) -> u8
+    ensures codes { Codes instr (canonical instr) }
+    ensures writes { Writes (canonical instr) out.old out.new result }
+{
+    match instr {
         Instr::Load(r, s) => put_operand(out, 0x40 + 8 * register_code(r) + operand_code(s), s),
-        Instr::Store(memory, r) => {
-            put_operand(out, 0x70 + register_code(r), Operand::Memory(memory))
-        }
+        Instr::Store(memory, r) => put_store(out, memory, r),
         Instr::LoadByte(operand, n) => put_load_byte(out, operand, n),
         Instr::LoadA(pointer) => put_pointer(out, 0x0A, pointer),
         Instr::StoreA(pointer) => put_pointer(out, 0x02, pointer),

@@ -2,8 +2,6 @@
 ghost use Rattle.std.specs.Prelude.{◌≡◌, ◌+◌, ◌*◌, ◌≤◌, ◌∷◌, length};
 ghost use Rattle.z80_instr.specs.declared.Instr.{Instr};
 ghost use Rattle.z80_instr.specs.declared.Register.{Register};
-ghost use Rattle.z80_instr.specs.declared.Memory.{Memory};
-ghost use Rattle.z80_instr.specs.declared.Operand.{Operand};
 ghost use Rattle.z80_instr.specs.declared.AluOperation.{AluOperation};
 ghost use Rattle.z80_instr.specs.declared.Rotation.{Rotation};
 ghost use Rattle.z80_instr.specs.declared.Octal.{Octal};
@@ -27,7 +25,6 @@ pub fn put(out: &mut [u8; 4], bytes: &[u8]) -> u8
 /// Writes an instruction of one opcode on an operand. The operand's code is in the opcode already.
 pub fn put_operand(out: &mut [u8; 4], opcode: u8, operand: Operand) -> u8
     ensures load { (r : Register) → opcode ≡ 0x40 + 8 * Table.register_code r + operand_code operand → Writes (Table.canonical (Instr.Load r operand)) out.old out.new result }
-    ensures store { (m : Memory) (r : Register) → operand ≡ Operand.Memory m → opcode ≡ 0x70 + Table.register_code r → Writes (Table.canonical (Instr.Store m r)) out.old out.new result }
     ensures alu { (a : AluOperation) → opcode ≡ 0x80 + 8 * Table.operation_code a + operand_code operand → Writes (Table.canonical (Instr.Alu a operand)) out.old out.new result }
     ensures inc { opcode ≡ 0x04 + 8 * operand_code operand → Writes (Table.canonical (Instr.Inc operand)) out.old out.new result }
     ensures dec { opcode ≡ 0x05 + 8 * operand_code operand → Writes (Table.canonical (Instr.Dec operand)) out.old out.new result }
@@ -52,6 +49,17 @@ pub fn put_bits(out: &mut [u8; 4], opcode: u8, operand: Operand) -> u8
         Operand::Memory(Memory::Indexed(index, d)) => {
             put(out, &[prefix(index), 0xCB, d.cast_unsigned(), opcode])
         }
+    }
+}
+
+/// Writes LD of a register to memory.
+pub fn put_store(out: &mut [u8; 4], memory: Memory, register: Register) -> u8
+    ensures { Writes (Table.canonical (Instr.Store memory register)) out.old out.new result }
+{
+    let opcode = 0x70 + register_code(register);
+    match memory {
+        Memory::Hl => put(out, &[opcode]),
+        Memory::Indexed(index, d) => put(out, &[prefix(index), opcode, d.cast_unsigned()]),
     }
 }
 

@@ -1,5 +1,5 @@
 //! How many bytes the canonical spelling of an instruction has.
-ghost use Rattle.std.specs.Prelude.{◌≡◌, ◌+◌, ℕ, length};
+ghost use Rattle.std.specs.Prelude.{◌≡◌, ◌+◌, ◌<◌, ◌≤◌, ℕ, length};
 ghost use Rattle.z80_instr.specs.Types.{Instr, Register, AluOperation, Rotation, Octal};
 ghost use Rattle.z80_instr.specs.Table.{canonical};
 
@@ -23,9 +23,11 @@ fn operand_size(operand: Operand) -> u8
     }
 }
 
-/// The length of the canonical spelling.
+/// The length of the canonical spelling, 1 to 4.
 pub fn size(instr: &Instr) -> u8
-    ensures { result ≡ length (canonical instr.now) }
+    ensures length { result ≡ length (canonical instr.now) }
+    ensures least { 0 < result }
+    ensures most { result ≤ 4 }
 {
     match *instr {
         Instr::Load(_, operand)
