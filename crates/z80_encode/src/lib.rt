@@ -4,7 +4,7 @@
 ghost use Rattle.std.specs.Prelude.{◌≡◌, ◌≤◌, ◌++◌, length, drop};
 ghost use Rattle.z80_instr.specs.Table.{canonical};
 ghost use Rattle.z80_instr.specs.Codes.{Codes};
-ghost use Rattle.z80_encode.specs.Writes.{Writes};
+ghost use Rattle.z80_encode.specs.Writes.{Spells};
 
 mod code;
 mod put;
@@ -35,7 +35,7 @@ pub fn encode(instr: &Instr, out: &mut [u8; 4]) -> u8
 /// The same, by the groups of the manual.
 fn put_instr(out: &mut [u8; 4], instr: Instr) -> u8
     ensures codes { Codes instr (canonical instr) }
-    ensures writes { Writes (canonical instr) out.old out.new result }
+    ensures spells { Spells instr out.old out.new result }
 {
     match instr {
         Instr::Load(r, s) => put_operand(out, 0x40 + 8 * register_code(r) + operand_code(s), s),

@@ -6,7 +6,7 @@ ghost use Rattle.z80_instr.specs.declared.AluOperation.{AluOperation};
 ghost use Rattle.z80_instr.specs.declared.Rotation.{Rotation};
 ghost use Rattle.z80_instr.specs.declared.Octal.{Octal};
 ghost use Rattle.z80_instr.specs.Table;
-ghost use Rattle.z80_encode.specs.Writes.{Writes, operand_code};
+ghost use Rattle.z80_encode.specs.Writes.{Writes, Spells, operand_code};
 
 use crate::code::{pair_code, prefix, register_code};
 use z80_instr::{
@@ -24,10 +24,14 @@ pub fn put(out: &mut [u8; 4], bytes: &[u8]) -> u8
 
 /// Writes an instruction of one opcode on an operand. The operand's code is in the opcode already.
 pub fn put_operand(out: &mut [u8; 4], opcode: u8, operand: Operand) -> u8
-    ensures load { (r : Register) → opcode ≡ 0x40 + 8 * Table.register_code r + operand_code operand → Writes (Table.canonical (Instr.Load r operand)) out.old out.new result }
-    ensures alu { (a : AluOperation) → opcode ≡ 0x80 + 8 * Table.operation_code a + operand_code operand → Writes (Table.canonical (Instr.Alu a operand)) out.old out.new result }
-    ensures inc { opcode ≡ 0x04 + 8 * operand_code operand → Writes (Table.canonical (Instr.Inc operand)) out.old out.new result }
-    ensures dec { opcode ≡ 0x05 + 8 * operand_code operand → Writes (Table.canonical (Instr.Dec operand)) out.old out.new result }
+    ensures load { (r : Register) → opcode ≡ 0x40 + 8 * Table.register_code r + operand_code operand →
+        Spells (Instr.Load r operand) out.old out.new result }
+    ensures alu { (a : AluOperation) → opcode ≡ 0x80 + 8 * Table.operation_code a + operand_code operand →
+        Spells (Instr.Alu a operand) out.old out.new result }
+    ensures inc { opcode ≡ 0x04 + 8 * operand_code operand →
+        Spells (Instr.Inc operand) out.old out.new result }
+    ensures dec { opcode ≡ 0x05 + 8 * operand_code operand →
+        Spells (Instr.Dec operand) out.old out.new result }
 {
     match operand {
         Operand::Register(_) | Operand::Memory(Memory::Hl) => put(out, &[opcode]),
@@ -39,10 +43,14 @@ pub fn put_operand(out: &mut [u8; 4], opcode: u8, operand: Operand) -> u8
 
 /// Writes an instruction with an opcode after CB. The operand's code is in the opcode already.
 pub fn put_bits(out: &mut [u8; 4], opcode: u8, operand: Operand) -> u8
-    ensures rotate { (t : Rotation) → opcode ≡ 8 * Table.rotation_code t + operand_code operand → Writes (Table.canonical (Instr.Rotate t operand)) out.old out.new result }
-    ensures bit { (b : Octal) → opcode ≡ 0x40 + 8 * Table.octal_code b + operand_code operand → Writes (Table.canonical (Instr.Bit b operand)) out.old out.new result }
-    ensures res { (b : Octal) → opcode ≡ 0x80 + 8 * Table.octal_code b + operand_code operand → Writes (Table.canonical (Instr.Res b operand)) out.old out.new result }
-    ensures set { (b : Octal) → opcode ≡ 0xC0 + 8 * Table.octal_code b + operand_code operand → Writes (Table.canonical (Instr.Set b operand)) out.old out.new result }
+    ensures rotate { (t : Rotation) → opcode ≡ 8 * Table.rotation_code t + operand_code operand →
+        Spells (Instr.Rotate t operand) out.old out.new result }
+    ensures bit { (b : Octal) → opcode ≡ 0x40 + 8 * Table.octal_code b + operand_code operand →
+        Spells (Instr.Bit b operand) out.old out.new result }
+    ensures res { (b : Octal) → opcode ≡ 0x80 + 8 * Table.octal_code b + operand_code operand →
+        Spells (Instr.Res b operand) out.old out.new result }
+    ensures set { (b : Octal) → opcode ≡ 0xC0 + 8 * Table.octal_code b + operand_code operand →
+        Spells (Instr.Set b operand) out.old out.new result }
 {
     match operand {
         Operand::Register(_) | Operand::Memory(Memory::Hl) => put(out, &[0xCB, opcode]),
@@ -54,7 +62,7 @@ pub fn put_bits(out: &mut [u8; 4], opcode: u8, operand: Operand) -> u8
 
 /// Writes LD of a register to memory.
 pub fn put_store(out: &mut [u8; 4], memory: Memory, register: Register) -> u8
-    ensures { Writes (Table.canonical (Instr.Store memory register)) out.old out.new result }
+    ensures { Spells (Instr.Store memory register) out.old out.new result }
 {
     let opcode = 0x70 + register_code(register);
     match memory {
@@ -65,7 +73,7 @@ pub fn put_store(out: &mut [u8; 4], memory: Memory, register: Register) -> u8
 
 /// Writes LD of a number to an operand.
 pub fn put_load_byte(out: &mut [u8; 4], operand: Operand, n: u8) -> u8
-    ensures { Writes (Table.canonical (Instr.LoadByte operand n)) out.old out.new result }
+    ensures { Spells (Instr.LoadByte operand n) out.old out.new result }
 {
     match operand {
         Operand::Register(register) => put(out, &[0x06 + 8 * register_code(register), n]),
@@ -79,8 +87,8 @@ pub fn put_load_byte(out: &mut [u8; 4], operand: Operand, n: u8) -> u8
 /// Writes LD between A and a byte that only A is moved from or to, by the opcode at (BC).
 pub fn put_pointer(out: &mut [u8; 4], opcode: u8, pointer: Pointer) -> u8
     requires { opcode ≤ 0x0A }
-    ensures load { opcode ≡ 0x0A → Writes (Table.canonical (Instr.LoadA pointer)) out.old out.new result }
-    ensures store { opcode ≡ 0x02 → Writes (Table.canonical (Instr.StoreA pointer)) out.old out.new result }
+    ensures load { opcode ≡ 0x0A → Spells (Instr.LoadA pointer) out.old out.new result }
+    ensures store { opcode ≡ 0x02 → Spells (Instr.StoreA pointer) out.old out.new result }
 {
     match pointer {
         Pointer::Bc => put(out, &[opcode]),
@@ -94,7 +102,7 @@ pub fn put_pointer(out: &mut [u8; 4], opcode: u8, pointer: Pointer) -> u8
 
 /// Writes LD of a word to a register.
 pub fn put_load_word(out: &mut [u8; 4], register: WordRegister, nn: u16) -> u8
-    ensures { Writes (Table.canonical (Instr.LoadWord register nn)) out.old out.new result }
+    ensures { Spells (Instr.LoadWord register nn) out.old out.new result }
 {
     let [low, high] = nn.to_le_bytes();
     match register {
@@ -112,8 +120,10 @@ pub fn put_word_at(
     nn: u16,
 ) -> u8
     requires { extended ≤ 0x4B }
-    ensures load { opcode ≡ 0x2A → extended ≡ 0x4B → Writes (Table.canonical (Instr.LoadWordFrom register nn)) out.old out.new result }
-    ensures store { opcode ≡ 0x22 → extended ≡ 0x43 → Writes (Table.canonical (Instr.StoreWord register nn)) out.old out.new result }
+    ensures load { opcode ≡ 0x2A → extended ≡ 0x4B →
+        Spells (Instr.LoadWordFrom register nn) out.old out.new result }
+    ensures store { opcode ≡ 0x22 → extended ≡ 0x43 →
+        Spells (Instr.StoreWord register nn) out.old out.new result }
 {
     let [low, high] = nn.to_le_bytes();
     match register {
@@ -125,9 +135,9 @@ pub fn put_word_at(
 
 /// Writes an instruction of HL or an index register.
 pub fn put_hl_or_index(out: &mut [u8; 4], opcode: u8, register: HlOrIndex) -> u8
-    ensures load { opcode ≡ 0xF9 → Writes (Table.canonical (Instr.LoadSp register)) out.old out.new result }
-    ensures exchange { opcode ≡ 0xE3 → Writes (Table.canonical (Instr.ExSp register)) out.old out.new result }
-    ensures jump { opcode ≡ 0xE9 → Writes (Table.canonical (Instr.JumpIndirect register)) out.old out.new result }
+    ensures load { opcode ≡ 0xF9 → Spells (Instr.LoadSp register) out.old out.new result }
+    ensures exchange { opcode ≡ 0xE3 → Spells (Instr.ExSp register) out.old out.new result }
+    ensures jump { opcode ≡ 0xE9 → Spells (Instr.JumpIndirect register) out.old out.new result }
 {
     match register {
         HlOrIndex::Hl => put(out, &[opcode]),
@@ -138,8 +148,8 @@ pub fn put_hl_or_index(out: &mut [u8; 4], opcode: u8, register: HlOrIndex) -> u8
 /// Writes PUSH or POP, by the opcode of BC.
 pub fn put_stack(out: &mut [u8; 4], opcode: u8, operand: StackOperand) -> u8
     requires { opcode ≤ 0xC5 }
-    ensures push { opcode ≡ 0xC5 → Writes (Table.canonical (Instr.Push operand)) out.old out.new result }
-    ensures pop { opcode ≡ 0xC1 → Writes (Table.canonical (Instr.Pop operand)) out.old out.new result }
+    ensures push { opcode ≡ 0xC5 → Spells (Instr.Push operand) out.old out.new result }
+    ensures pop { opcode ≡ 0xC1 → Spells (Instr.Pop operand) out.old out.new result }
 {
     match operand {
         StackOperand::Bc => put(out, &[opcode]),
@@ -153,8 +163,8 @@ pub fn put_stack(out: &mut [u8; 4], opcode: u8, operand: StackOperand) -> u8
 /// Writes INC or DEC of a 16-bit register, by the opcode of BC.
 pub fn put_count(out: &mut [u8; 4], opcode: u8, register: WordRegister) -> u8
     requires { opcode ≤ 0x0B }
-    ensures inc { opcode ≡ 0x03 → Writes (Table.canonical (Instr.IncWord register)) out.old out.new result }
-    ensures dec { opcode ≡ 0x0B → Writes (Table.canonical (Instr.DecWord register)) out.old out.new result }
+    ensures inc { opcode ≡ 0x03 → Spells (Instr.IncWord register) out.old out.new result }
+    ensures dec { opcode ≡ 0x0B → Spells (Instr.DecWord register) out.old out.new result }
 {
     match register {
         WordRegister::Pair(pair) => put(out, &[opcode + 16 * pair_code(pair)]),

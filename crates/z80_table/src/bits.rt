@@ -17,7 +17,8 @@ pub fn bits(bytes: &[u8]) -> Decoded
 
 /// A rotation, BIT, RES or SET on the operand, in a spelling of this size.
 pub fn bit(opcode: u8, operand: Operand, size: u8) -> Decoded
-    ensures { (rest : List ℕ) → result ≡ filled size (bit_entry (opcode / 64) (octal_of (opcode / 8 % 8)) operand) rest }
+    ensures { (rest : List ℕ) →
+        result ≡ filled size (bit_entry (opcode / 64) (octal_of (opcode / 8 % 8)) operand) rest }
 {
     let y = y_of(opcode);
     match opcode / 64 {
