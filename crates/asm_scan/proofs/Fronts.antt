@@ -8,12 +8,7 @@ use Rattle.std.proofs.lemmas.Bool.Decides.{nat_tests}
 use Rattle.std.proofs.lemmas.List.{take_at, drop_at, append_assoc, length_push, append-nil}
 use Rattle.std.proofs.lemmas.List.Elements.{All-nil, All-cons, All-head, All-tail}
 use Rattle.std.proofs.lemmas.Option.{same_Some, none-some}
-use Rattle.asm_scan.specs.declared.token.Mark.{Mark}
-use Rattle.asm_scan.specs.declared.token.Mark.TheVariants as mark
-use Rattle.asm_scan.specs.declared.token.Kind.{Kind}
-use Rattle.asm_scan.specs.declared.token.Kind.TheVariants as kind
-use Rattle.asm_scan.specs.declared.fault.ScanFault.{ScanFault}
-use Rattle.asm_scan.specs.declared.fault.ScanFault.TheVariants.{BadByte, OpenString, LineTooLong, BadNumber, NoMemory}
+use Rattle.asm_scan.specs.Types.{Kind, Mark, ScanFault}
 use Rattle.asm_scan.specs.Classes.{begins_name, continues_name, is_quote, is_control}
 use Rattle.asm_scan.specs.Numbers.{number_of}
 use Rattle.asm_scan.specs.Tokens.{BeginsWithout, IsName, IsNumber, IsToken, IsString, IsOpenString, IsBrokenString, IsStrayByte, BeginsFault, ArePlain, IsAf, doubled, mark_byte}
@@ -47,9 +42,9 @@ module _ (p : ℕ → Bool) where
 
 -- names
 
-first_name_at : (text after : List ℕ) → prefix_len continues_name (text ++ after) ≡ length text → first_name (text ++ after) ≡ cond (is_af text && starts_with nat_eq after (codes "'")) (kind.OtherAf, length text + 1) (kind.Name, length text)
+first_name_at : (text after : List ℕ) → prefix_len continues_name (text ++ after) ≡ length text → first_name (text ++ after) ≡ cond (is_af text && starts_with nat_eq after (codes "'")) (Kind.OtherAf, length text + 1) (Kind.Name, length text)
 first_name_at text after len =
-    let read : ℕ → List ℕ → List ℕ → Kind × ℕ = λ n name more. cond (is_af name && starts_with nat_eq more (codes "'")) (kind.OtherAf, n + 1) (kind.Name, n) in
+    let read : ℕ → List ℕ → List ℕ → Kind × ℕ = λ n name more. cond (is_af name && starts_with nat_eq more (codes "'")) (Kind.OtherAf, n + 1) (Kind.Name, n) in
     ap (λ n. read n (take n (text ++ after)) (drop n (text ++ after))) len
     ∙ ap (λ name. read (length text) name (drop (length text) (text ++ after))) (take_at text after (length text) refl)
     ∙ ap (λ more. read (length text) text more) (drop_at text after (length text) refl)
@@ -76,7 +71,7 @@ test-from_IsAf (a ∷ f ∷ []) af =
     let second : to_ascii_uppercase f ≡ 0x46 = cc in
     and_from _ _ (eq-eqb _ 0x41 first) (eq-eqb _ 0x46 second)
 
-name_read : (text after : List ℕ) → IsName text → BeginsWithout continues_name after → (IsAf text → BeginsWithout (λ b. b == 0x27) after) → first_token (text ++ after) ≡ Ok (kind.Name, length text)
+name_read : (text after : List ℕ) → IsName text → BeginsWithout continues_name after → (IsAf text → BeginsWithout (λ b. b == 0x27) after) → first_token (text ++ after) ≡ Ok (Kind.Name, length text)
 name_read [] after name ended no_af = absurd name
 name_read (b ∷ more) after name ended no_af =
     let all : AllPass continues_name (b ∷ more) = All-cons (λ x. continues_name x ≡ true) b more (or_left (begins_name b) (is_ascii_digit b) name.0) name.1 in
@@ -86,7 +81,7 @@ name_read (b ∷ more) after name ended no_af =
       | inr other ↦ and_left (is_af (b ∷ more)) _ other
     ] in
     cond-true (begins_name b) _ _ name.0
-    ∙ ap (λ x. Ok x) (first_name_at (b ∷ more) after (run_len continues_name (b ∷ more) after all ended) ∙ cond-false _ (kind.OtherAf, length (b ∷ more) + 1) (kind.Name, length (b ∷ more)) plain)
+    ∙ ap (λ x. Ok x) (first_name_at (b ∷ more) after (run_len continues_name (b ∷ more) after all ended) ∙ cond-false _ (Kind.OtherAf, length (b ∷ more) + 1) (Kind.Name, length (b ∷ more)) plain)
 
 letter_a : (a : ℕ) → to_ascii_uppercase a ≡ 0x41 → (a ≡ 0x41) ⊎ (a ≡ 0x61)
 letter_a a e = grind (arith, nat_tests)
@@ -94,13 +89,13 @@ letter_a a e = grind (arith, nat_tests)
 letter_f : (f : ℕ) → to_ascii_uppercase f ≡ 0x46 → (f ≡ 0x46) ⊎ (f ≡ 0x66)
 letter_f f e = grind (arith, nat_tests)
 
-af_read : (a f : ℕ) (after : List ℕ) → (a ≡ 0x41) ⊎ (a ≡ 0x61) → (f ≡ 0x46) ⊎ (f ≡ 0x66) → first_token (a ∷ f ∷ 0x27 ∷ after) ≡ Ok (kind.OtherAf, 3)
+af_read : (a f : ℕ) (after : List ℕ) → (a ≡ 0x41) ⊎ (a ≡ 0x61) → (f ≡ 0x46) ⊎ (f ≡ 0x66) → first_token (a ∷ f ∷ 0x27 ∷ after) ≡ Ok (Kind.OtherAf, 3)
 af_read a f after (inl e) (inl g) = rw (e, g) refl
 af_read a f after (inl e) (inr g) = rw (e, g) refl
 af_read a f after (inr e) (inl g) = rw (e, g) refl
 af_read a f after (inr e) (inr g) = rw (e, g) refl
 
-other_af_read : (name after : List ℕ) → IsAf name → first_token ((name ++ 0x27 ∷ []) ++ after) ≡ Ok (kind.OtherAf, length (name ++ 0x27 ∷ []))
+other_af_read : (name after : List ℕ) → IsAf name → first_token ((name ++ 0x27 ∷ []) ++ after) ≡ Ok (Kind.OtherAf, length (name ++ 0x27 ∷ []))
 other_af_read [] after af = absurd (cc)
 other_af_read (a ∷ []) after af = absurd (cc)
 other_af_read (a ∷ f ∷ b ∷ bs) after af = absurd (cc)
@@ -148,7 +143,7 @@ string_read q content rest quoted plain =
     ∙ cond-true (is_quote q) (quoted_or_fault (string_len q (doubled q content ++ rest))) _ quoted
     ∙ ap (λ r. quoted_or_fault r) (len_after q content rest plain)
 
-quoted_read : (text after : List ℕ) → IsString text after → first_token (text ++ after) ≡ Ok (kind.Quoted, length text)
+quoted_read : (text after : List ℕ) → IsString text after → first_token (text ++ after) ≡ Ok (Kind.Quoted, length text)
 quoted_read text after s =
     let inside = doubled s.quote s.content in
     let size : length inside + 1 + 1 ≡ length (s.quote ∷ inside ++ s.quote ∷ []) = omega (arith, length_push inside s.quote) in
@@ -156,44 +151,44 @@ quoted_read text after s =
     (ap first_token (append_assoc (s.quote ∷ inside) (s.quote ∷ []) after)
     ∙ string_read s.quote s.content (s.quote ∷ after) s.quoted s.plain
     ∙ ap (λ r. quoted_or_fault (longer_by (length inside) r)) (len_at_end s.quote after s.ended)
-    ∙ ap (λ n. Ok (kind.Quoted, n)) size)
+    ∙ ap (λ n. Ok (Kind.Quoted, n)) size)
 
 control_is_no_quote : (q b : ℕ) → is_quote q ≡ true → is_control b ≡ true → (b == q) ≡ false
 control_is_no_quote q b quoted control = ne_eqb b q (λ same. false≢true (sym (no_quote is_control refl refl q quoted) ∙ ap is_control (sym same) ∙ control))
 
-broken_read : (bs : List ℕ) → IsBrokenString bs → first_token bs ≡ Err BadByte
+broken_read : (bs : List ℕ) → IsBrokenString bs → first_token bs ≡ Err ScanFault.BadByte
 broken_read bs s =
     rw s.bytes_are
     (string_read s.quote s.content (s.byte ∷ s.more) s.quoted s.plain
     ∙ ap (λ r. quoted_or_fault (longer_by (length (doubled s.quote s.content)) r)) (len_at_control s.quote s.byte s.more (control_is_no_quote s.quote s.byte s.quoted s.control) s.control))
 
-open_read : (bs : List ℕ) → IsOpenString bs → first_token bs ≡ Err OpenString
+open_read : (bs : List ℕ) → IsOpenString bs → first_token bs ≡ Err ScanFault.OpenString
 open_read bs s =
     rw s.bytes_are (ap (λ x. first_token (s.quote ∷ x)) (sym (append-nil (doubled s.quote s.content))) ∙ string_read s.quote s.content [] s.quoted s.plain)
 
 -- marks
 
 mark_found : (m : Mark) → mark_of (mark_byte m) ≡ Some m
-mark_found mark.Comma = refl
-mark_found mark.Open = refl
-mark_found mark.Close = refl
-mark_found mark.Colon = refl
-mark_found mark.Plus = refl
-mark_found mark.Minus = refl
-mark_found mark.Star = refl
-mark_found mark.Slash = refl
-mark_found mark.Dollar = refl
+mark_found Mark.Comma = refl
+mark_found Mark.Open = refl
+mark_found Mark.Close = refl
+mark_found Mark.Colon = refl
+mark_found Mark.Plus = refl
+mark_found Mark.Minus = refl
+mark_found Mark.Star = refl
+mark_found Mark.Slash = refl
+mark_found Mark.Dollar = refl
 
-mark_read : (m : Mark) (after : List ℕ) → first_token (mark_byte m ∷ after) ≡ Ok (kind.Mark m, 1)
-mark_read mark.Comma after = refl
-mark_read mark.Open after = refl
-mark_read mark.Close after = refl
-mark_read mark.Colon after = refl
-mark_read mark.Plus after = refl
-mark_read mark.Minus after = refl
-mark_read mark.Star after = refl
-mark_read mark.Slash after = refl
-mark_read mark.Dollar after = refl
+mark_read : (m : Mark) (after : List ℕ) → first_token (mark_byte m ∷ after) ≡ Ok (Kind.Mark m, 1)
+mark_read Mark.Comma after = refl
+mark_read Mark.Open after = refl
+mark_read Mark.Close after = refl
+mark_read Mark.Colon after = refl
+mark_read Mark.Plus after = refl
+mark_read Mark.Minus after = refl
+mark_read Mark.Star after = refl
+mark_read Mark.Slash after = refl
+mark_read Mark.Dollar after = refl
 
 find_some : {X : Type 0} (test : X → Bool) (xs : List X) (x : X) → find test xs ≡ Some x → test x ≡ true
 find_some test [] x found = absurd (cc)
@@ -207,7 +202,7 @@ find_none : {X : Type 0} (test : X → Bool) (xs : List X) → ((x : X) → test
 find_none test [] fails = refl
 find_none test (x ∷ xs) fails = cond-false (test x) _ _ (fails x) ∙ find_none test xs fails
 
-stray_read : (bs : List ℕ) → IsStrayByte bs → first_token bs ≡ Err BadByte
+stray_read : (bs : List ℕ) → IsStrayByte bs → first_token bs ≡ Err ScanFault.BadByte
 stray_read bs s =
     rw s.bytes_are
     (cond-false (begins_name s.byte) _ _ s.no_name ∙ cond-false (is_ascii_digit s.byte) _ _ s.no_number ∙ cond-false (is_quote s.byte) _ _ s.no_string
@@ -216,19 +211,19 @@ stray_read bs s =
 -- A token at a front is what is read there, and so is a fault.
 
 pub token_read : (k : Kind) (text after : List ℕ) → IsToken k text after → first_token (text ++ after) ≡ Ok (k, length text)
-token_read kind.Name text after t = name_read text after t.0 t.1 t.2
-token_read kind.OtherAf text after t = rw t.2 (other_af_read t.0 after t.1)
-token_read (kind.Number n) text after t = number_read text after (Some n) t.0 t.1 t.2
-token_read kind.Quoted text after t = quoted_read text after t
-token_read (kind.Mark m) text after t = rw t (mark_read m after)
+token_read Kind.Name text after t = name_read text after t.0 t.1 t.2
+token_read Kind.OtherAf text after t = rw t.2 (other_af_read t.0 after t.1)
+token_read (Kind.Number n) text after t = number_read text after (Some n) t.0 t.1 t.2
+token_read Kind.Quoted text after t = quoted_read text after t
+token_read (Kind.Mark m) text after t = rw t (mark_read m after)
 
 pub fault_read : (f : ScanFault) (bs : List ℕ) → BeginsFault f bs → first_token bs ≡ Err f
-fault_read BadByte bs (inl s) = broken_read bs s
-fault_read BadByte bs (inr s) = stray_read bs s
-fault_read OpenString bs s = open_read bs s
-fault_read BadNumber bs s = rw s.bytes_are (number_read s.text s.after None s.number s.longest s.no_value)
-fault_read LineTooLong bs s = absurd s
-fault_read NoMemory bs s = absurd s
+fault_read ScanFault.BadByte bs (inl s) = broken_read bs s
+fault_read ScanFault.BadByte bs (inr s) = stray_read bs s
+fault_read ScanFault.OpenString bs s = open_read bs s
+fault_read ScanFault.BadNumber bs s = rw s.bytes_are (number_read s.text s.after None s.number s.longest s.no_value)
+fault_read ScanFault.LineTooLong bs s = absurd s
+fault_read ScanFault.NoMemory bs s = absurd s
 
 -- At each front that is no comment stands a token or a fault.
 pub data AtFront (bs : List ℕ) : Type 0 where
@@ -236,11 +231,11 @@ pub data AtFront (bs : List ℕ) : Type 0 where
   fault : (f : ScanFault) → BeginsFault f bs → AtFront bs
 
 at_af : (name after : List ℕ) → IsAf name → IsName name → BeginsWithout continues_name after → AtFront (name ++ after)
-at_af name [] af begun ended = token kind.Name name [] refl (begun, ended, λ _. tt)
+at_af name [] af begun ended = token Kind.Name name [] refl (begun, ended, λ _. tt)
 at_af name (b ∷ after) af begun ended =
     elim (cases_Bool (b == 0x27)) [
-      | inl quoted ↦ token kind.OtherAf (name ++ 0x27 ∷ []) after (ap (λ x. name ++ x ∷ after) (eqb-true b 0x27 quoted) ∙ sym (append_assoc name (0x27 ∷ []) after)) (name, af, refl)
-      | inr other ↦ token kind.Name name (b ∷ after) refl (begun, ended, λ _. other)
+      | inl quoted ↦ token Kind.OtherAf (name ++ 0x27 ∷ []) after (ap (λ x. name ++ x ∷ after) (eqb-true b 0x27 quoted) ∙ sym (append_assoc name (0x27 ∷ []) after)) (name, af, refl)
+      | inr other ↦ token Kind.Name name (b ∷ after) refl (begun, ended, λ _. other)
     ]
 
 at_name : (b : ℕ) (more : List ℕ) → begins_name b ≡ true → AtFront (b ∷ more)
@@ -248,12 +243,12 @@ at_name b more begun =
     let run = runs continues_name more in
     elim (cases_Bool (is_af (b ∷ run.text))) [
       | inl af ↦ subst AtFront (ap (λ x. b ∷ x) (sym run.bytes)) (at_af (b ∷ run.text) run.after (IsAf-from_test (b ∷ run.text) af) (begun, run.all) run.ended)
-      | inr other ↦ token kind.Name (b ∷ run.text) run.after (ap (λ x. b ∷ x) run.bytes) ((begun, run.all), run.ended, λ af. absurd (false≢true (sym other ∙ test-from_IsAf (b ∷ run.text) af)))
+      | inr other ↦ token Kind.Name (b ∷ run.text) run.after (ap (λ x. b ∷ x) run.bytes) ((begun, run.all), run.ended, λ af. absurd (false≢true (sym other ∙ test-from_IsAf (b ∷ run.text) af)))
     ]
 
 at_number_of : (b : ℕ) (more text after : List ℕ) (o : Option ℕ) → more ≡ text ++ after → IsNumber (b ∷ text) → BeginsWithout is_ascii_alphanumeric after → number_of (b ∷ text) ≡ o → AtFront (b ∷ more)
-at_number_of b more text after (Some n) bytes number ended value = token (kind.Number n) (b ∷ text) after (ap (λ x. b ∷ x) bytes) (number, ended, value)
-at_number_of b more text after None bytes number ended value = fault BadNumber (record { text = b ∷ text; after = after; bytes_are = ap (λ x. b ∷ x) bytes; number = number; longest = ended; no_value = value })
+at_number_of b more text after (Some n) bytes number ended value = token (Kind.Number n) (b ∷ text) after (ap (λ x. b ∷ x) bytes) (number, ended, value)
+at_number_of b more text after None bytes number ended value = fault ScanFault.BadNumber (record { text = b ∷ text; after = after; bytes_are = ap (λ x. b ∷ x) bytes; number = number; longest = ended; no_value = value })
 
 at_number : (b : ℕ) (more : List ℕ) → is_ascii_digit b ≡ true → AtFront (b ∷ more)
 at_number b more begun =
@@ -262,13 +257,13 @@ at_number b more begun =
 
 at_string_rest : (q : ℕ) (more content rest : List ℕ) → more ≡ doubled q content ++ rest → is_quote q ≡ true → ArePlain content → EndsContent q rest → AtFront (q ∷ more)
 at_string_rest q more content [] bytes quoted plain ended =
-    fault OpenString (record { quote = q; content = content; quoted = quoted; plain = plain; bytes_are = ap (λ x. q ∷ x) (bytes ∙ append-nil (doubled q content)) })
+    fault ScanFault.OpenString (record { quote = q; content = content; quoted = quoted; plain = plain; bytes_are = ap (λ x. q ∷ x) (bytes ∙ append-nil (doubled q content)) })
 at_string_rest q more content (b ∷ after) bytes quoted plain (inl closed) =
     let text : List ℕ = q ∷ doubled q content ++ q ∷ [] in
     let whole : q ∷ more ≡ text ++ after = ap (λ x. q ∷ x) (bytes ∙ ap (λ x. doubled q content ++ x ∷ after) closed.0) ∙ sym (append_assoc (q ∷ doubled q content) (q ∷ []) after) in
-    token kind.Quoted text after whole (record { quote = q; content = content; quoted = quoted; plain = plain; text_is = refl; ended = closed.1 })
+    token Kind.Quoted text after whole (record { quote = q; content = content; quoted = quoted; plain = plain; text_is = refl; ended = closed.1 })
 at_string_rest q more content (b ∷ after) bytes quoted plain (inr control) =
-    fault BadByte (inl (record { quote = q; content = content; byte = b; more = after; quoted = quoted; plain = plain; bytes_are = ap (λ x. q ∷ x) bytes; control = control.1 }))
+    fault ScanFault.BadByte (inl (record { quote = q; content = content; byte = b; more = after; quoted = quoted; plain = plain; bytes_are = ap (λ x. q ∷ x) bytes; control = control.1 }))
 
 at_string : (q : ℕ) (more : List ℕ) → is_quote q ≡ true → AtFront (q ∷ more)
 at_string q more quoted =
@@ -278,9 +273,9 @@ at_string q more quoted =
 at_mark : (b : ℕ) (more : List ℕ) (o : Option Mark) → begins_name b ≡ false → is_ascii_digit b ≡ false → is_quote b ≡ false → b ≢ 0x3B → mark_of b ≡ o → AtFront (b ∷ more)
 at_mark b more (Some m) no_name no_number no_string no_comment found =
     let same : b ≡ mark_byte m = eqb-true b (mark_byte m) (find_some (λ x. b == mark_byte x) every_mark m found) in
-    token (kind.Mark m) (b ∷ []) more refl (ap (λ x. x ∷ []) same)
+    token (Kind.Mark m) (b ∷ []) more refl (ap (λ x. x ∷ []) same)
 at_mark b more None no_name no_number no_string no_comment found =
-    fault BadByte (inr (record {
+    fault ScanFault.BadByte (inr (record {
       byte = b;
       more = more;
       bytes_are = refl;

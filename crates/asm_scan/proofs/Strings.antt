@@ -3,8 +3,7 @@ use Rattle.std.proofs.Common.{◌≡◌, ℕ, ◌+◌, ◌<◌, List, [], ◌∷
 use Rattle.std.proofs.lemmas.Bool.{cond-true, cond-false, eq-eqb, ne_eqb, eqb-true, cases_Bool}
 use Rattle.std.proofs.lemmas.List.{drop_more}
 use Rattle.std.proofs.lemmas.List.Elements.{All-nil, All-cons, All-head, All-tail}
-use Rattle.asm_scan.specs.declared.fault.ScanFault.{ScanFault}
-use Rattle.asm_scan.specs.declared.fault.ScanFault.TheVariants.{BadByte}
+use Rattle.asm_scan.specs.Types.{ScanFault}
 use Rattle.asm_scan.specs.Classes.{is_control}
 use Rattle.asm_scan.specs.Tokens.{BeginsWithout, ArePlain, doubled}
 use Rattle.asm_scan.specs.Reading.{string_len, longer_by}
@@ -16,13 +15,13 @@ len_at_end q (c ∷ more) ended = cond-true (q == q) (cond (c == q) (longer_by 2
 pub len_at_pair : (q : ℕ) (more : List ℕ) → string_len q (q ∷ q ∷ more) ≡ longer_by 2 (string_len q more)
 len_at_pair q more = cond-true (q == q) (cond (q == q) (longer_by 2 (string_len q more)) (Ok 1)) _ (eq-eqb q q refl) ∙ cond-true (q == q) _ (Ok 1) (eq-eqb q q refl)
 
-pub len_at_control : (q b : ℕ) (more : List ℕ) → (b == q) ≡ false → is_control b ≡ true → string_len q (b ∷ more) ≡ Err BadByte
-len_at_control q b [] other control = cond-false (b == q) (Ok 1) _ other ∙ cond-true (is_control b) (Err BadByte) _ control
-len_at_control q b (c ∷ more) other control = cond-false (b == q) _ _ other ∙ cond-true (is_control b) (Err BadByte) _ control
+pub len_at_control : (q b : ℕ) (more : List ℕ) → (b == q) ≡ false → is_control b ≡ true → string_len q (b ∷ more) ≡ Err ScanFault.BadByte
+len_at_control q b [] other control = cond-false (b == q) (Ok 1) _ other ∙ cond-true (is_control b) (Err ScanFault.BadByte) _ control
+len_at_control q b (c ∷ more) other control = cond-false (b == q) _ _ other ∙ cond-true (is_control b) (Err ScanFault.BadByte) _ control
 
 pub len_at_plain : (q b : ℕ) (more : List ℕ) → (b == q) ≡ false → is_control b ≡ false → string_len q (b ∷ more) ≡ longer_by 1 (string_len q more)
-len_at_plain q b [] other plain = cond-false (b == q) (Ok 1) _ other ∙ cond-false (is_control b) (Err BadByte) _ plain
-len_at_plain q b (c ∷ more) other plain = cond-false (b == q) _ _ other ∙ cond-false (is_control b) (Err BadByte) _ plain
+len_at_plain q b [] other plain = cond-false (b == q) (Ok 1) _ other ∙ cond-false (is_control b) (Err ScanFault.BadByte) _ plain
+len_at_plain q b (c ∷ more) other plain = cond-false (b == q) _ _ other ∙ cond-false (is_control b) (Err ScanFault.BadByte) _ plain
 
 longer_by_both : (m n : ℕ) (r : Result ℕ ScanFault) → longer_by m (longer_by n r) ≡ longer_by (m + n) r
 longer_by_both m n (Ok len) = let e : m + (n + len) ≡ m + n + len = omega arith in ap (λ k. Ok k) e
@@ -44,7 +43,7 @@ module _ (q : ℕ) (bs : List ℕ) (i : ℕ) (same : string_len q bs ≡ longer_
       let pair : drop i bs ≡ q ∷ q ∷ drop (i + 2) bs = drop_more bs i 0 (omega arith) ∙ ap (λ x. x ∷ drop (i + 1) bs) first ∙ ap (λ x. q ∷ x) (drop_more bs (i + 1) 0 lt ∙ ap (λ x. x ∷ drop (i + 1 + 1) bs) second ∙ ap (λ n. q ∷ drop n bs) after) in
       same ∙ ap (λ r. longer_by i r) (ap (λ x. string_len q x) pair ∙ len_at_pair q (drop (i + 2) bs)) ∙ longer_by_both i 2 _
 
-  pub at_control : i < length bs → (get_or bs i 0 ≡ q → ⊥) → is_control (get_or bs i 0) ≡ true → Err BadByte ≡ string_len q bs
+  pub at_control : i < length bs → (get_or bs i 0 ≡ q → ⊥) → is_control (get_or bs i 0) ≡ true → Err ScanFault.BadByte ≡ string_len q bs
   at_control lt other control = sym (same ∙ ap (λ r. longer_by i r) (ap (λ x. string_len q x) (drop_more bs i 0 lt) ∙ len_at_control q (get_or bs i 0) (drop (i + 1) bs) (ne_eqb (get_or bs i 0) q other) control))
 
 -- what the content takes, and then what is left

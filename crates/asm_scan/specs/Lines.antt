@@ -1,8 +1,7 @@
 -- How a line is cut into tokens.
 use Rattle.std.specs.Prelude.{◌≡◌, ◌<◌, ◌≤◌, ◌+◌, ℕ, List, [], ◌∷◌, ◌++◌, Result, Ok, Err, length, take, drop}
 use Rattle.std.specs.List.{prefix_len}
-use Rattle.asm_scan.specs.declared.fault.ScanFault.{ScanFault}
-use Rattle.asm_scan.specs.declared.fault.ScanFault.TheVariants.{LineTooLong}
+use Rattle.asm_scan.specs.Types.{ScanFault}
 use Rattle.asm_scan.specs.Classes.{is_blank, semicolon}
 use Rattle.asm_scan.specs.Tokens.{Lexeme, IsToken, BeginsFault}
 
@@ -41,7 +40,7 @@ pub record Stops (line : List ℕ) (fault : ScanFault) : Type 0 where
 -- it holds.
 abbrev pub Scans : List ℕ → Result (List Lexeme) ScanFault → Type 0
 Scans line (Ok tokens) = (length line ≤ 255) × Cut line tokens
-Scans line (Err LineTooLong) = 255 < length line
+Scans line (Err ScanFault.LineTooLong) = 255 < length line
 Scans line (Err fault) = (length line ≤ 255) × Stops line fault
 
 -- The texts are slices of the line, from left to right and apart, the first not before this offset.

@@ -3,12 +3,7 @@
 use Rattle.std.specs.Prelude.{ℕ, ◌+◌, List, [], ◌∷◌, Option, Some, None, Result, Ok, Err, Bool, false, ◌==◌, ◌&&◌, if◌then◌else◌, nat_eq, take, drop, find, codes}
 use Rattle.std.specs.List.{prefix_len, starts_with}
 use Rattle.std.specs.Char.{is_ascii_digit, is_ascii_alphanumeric, to_ascii_uppercase}
-use Rattle.asm_scan.specs.declared.token.Mark.{Mark}
-use Rattle.asm_scan.specs.declared.token.Mark.TheVariants as mark
-use Rattle.asm_scan.specs.declared.token.Kind.{Kind}
-use Rattle.asm_scan.specs.declared.token.Kind.TheVariants as kind
-use Rattle.asm_scan.specs.declared.fault.ScanFault.{ScanFault}
-use Rattle.asm_scan.specs.declared.fault.ScanFault.TheVariants.{BadByte, OpenString, BadNumber}
+use Rattle.asm_scan.specs.Types.{Kind, Mark, ScanFault}
 use Rattle.asm_scan.specs.Classes.{begins_name, continues_name, is_quote, is_control}
 use Rattle.asm_scan.specs.Numbers.{number_of}
 use Rattle.asm_scan.specs.Tokens.{mark_byte}
@@ -18,7 +13,7 @@ abbrev pub Reading : Type 0
 Reading = Result (Kind × ℕ) ScanFault
 
 abbrev pub every_mark : List Mark
-every_mark = mark.Comma ∷ mark.Open ∷ mark.Close ∷ mark.Colon ∷ mark.Plus ∷ mark.Minus ∷ mark.Star ∷ mark.Slash ∷ mark.Dollar ∷ []
+every_mark = Mark.Comma ∷ Mark.Open ∷ Mark.Close ∷ Mark.Colon ∷ Mark.Plus ∷ Mark.Minus ∷ Mark.Star ∷ Mark.Slash ∷ Mark.Dollar ∷ []
 
 abbrev pub mark_of : ℕ → Option Mark
 mark_of b = find (λ m. b == mark_byte m) every_mark
@@ -31,12 +26,12 @@ abbrev pub first_name : List ℕ → Kind × ℕ
 first_name bytes =
     let len = prefix_len continues_name bytes in
     if is_af (take len bytes) && starts_with nat_eq (drop len bytes) (codes "'")
-    then (kind.OtherAf, len + 1)
-    else (kind.Name, len)
+    then (Kind.OtherAf, len + 1)
+    else (Kind.Name, len)
 
 abbrev pub number_or_fault : Option ℕ → ℕ → Reading
-number_or_fault (Some n) len = Ok (kind.Number n, len)
-number_or_fault None len = Err BadNumber
+number_or_fault (Some n) len = Ok (Kind.Number n, len)
+number_or_fault None len = Err ScanFault.BadNumber
 
 abbrev pub first_number : List ℕ → Reading
 first_number bytes =
@@ -49,24 +44,24 @@ longer_by n (Err fault) = Err fault
 
 -- how long a string is behind its first quote
 abbrev pub string_len : ℕ → List ℕ → Result ℕ ScanFault
-string_len quote [] = Err OpenString
-string_len quote (b ∷ []) = if b == quote then Ok 1 else if is_control b then Err BadByte else Err OpenString
+string_len quote [] = Err ScanFault.OpenString
+string_len quote (b ∷ []) = if b == quote then Ok 1 else if is_control b then Err ScanFault.BadByte else Err ScanFault.OpenString
 string_len quote (b ∷ c ∷ more) =
     if b == quote then (if c == quote then longer_by 2 (string_len quote more) else Ok 1)
-    else if is_control b then Err BadByte
+    else if is_control b then Err ScanFault.BadByte
     else longer_by 1 (string_len quote (c ∷ more))
 
 abbrev pub quoted_or_fault : Result ℕ ScanFault → Reading
-quoted_or_fault (Ok len) = Ok (kind.Quoted, len + 1)
+quoted_or_fault (Ok len) = Ok (Kind.Quoted, len + 1)
 quoted_or_fault (Err fault) = Err fault
 
 abbrev pub mark_or_fault : Option Mark → Reading
-mark_or_fault (Some m) = Ok (kind.Mark m, 1)
-mark_or_fault None = Err BadByte
+mark_or_fault (Some m) = Ok (Kind.Mark m, 1)
+mark_or_fault None = Err ScanFault.BadByte
 
 -- the token with which the bytes begin, or its fault
 abbrev pub first_token : List ℕ → Reading
-first_token [] = Err BadByte
+first_token [] = Err ScanFault.BadByte
 first_token (b ∷ more) =
     if begins_name b then Ok (first_name (b ∷ more))
     else if is_ascii_digit b then first_number (b ∷ more)

@@ -3,13 +3,7 @@ use Rattle.std.specs.Prelude.{◌≡◌, ◌≢◌, ◌⊎◌, ℕ, List, [], �
 use Rattle.std.specs.Global.{Global}
 use Rattle.std.specs.List.{AllPass, flat_map}
 use Rattle.std.specs.Char.{is_ascii_digit, is_ascii_alphanumeric, to_ascii_uppercase}
-use Rattle.asm_scan.specs.declared.token.Mark.{Mark}
-use Rattle.asm_scan.specs.declared.token.Mark.TheVariants as mark
-use Rattle.asm_scan.specs.declared.token.Kind.{Kind}
-use Rattle.asm_scan.specs.declared.token.Kind.TheVariants as kind
-use Rattle.asm_scan.specs.declared.token.Token.{Token}
-use Rattle.asm_scan.specs.declared.fault.ScanFault.{ScanFault}
-use Rattle.asm_scan.specs.declared.fault.ScanFault.TheVariants.{BadByte, OpenString, LineTooLong, BadNumber, NoMemory}
+use Rattle.asm_scan.specs.Types.{Kind, Mark, ScanFault, Token}
 use Rattle.asm_scan.specs.Classes.{begins_name, continues_name, apostrophe, semicolon, is_quote, is_control}
 use Rattle.asm_scan.specs.Numbers.{number_of}
 
@@ -67,23 +61,23 @@ pub record IsString (text after : List ℕ) : Type 0 where
 
 -- `,` `(` `)` `:` `+` `-` `*` `/` `$`
 abbrev pub mark_byte : Mark → ℕ
-mark_byte mark.Comma = 0x2C
-mark_byte mark.Open = 0x28
-mark_byte mark.Close = 0x29
-mark_byte mark.Colon = 0x3A
-mark_byte mark.Plus = 0x2B
-mark_byte mark.Minus = 0x2D
-mark_byte mark.Star = 0x2A
-mark_byte mark.Slash = 0x2F
-mark_byte mark.Dollar = 0x24
+mark_byte Mark.Comma = 0x2C
+mark_byte Mark.Open = 0x28
+mark_byte Mark.Close = 0x29
+mark_byte Mark.Colon = 0x3A
+mark_byte Mark.Plus = 0x2B
+mark_byte Mark.Minus = 0x2D
+mark_byte Mark.Star = 0x2A
+mark_byte Mark.Slash = 0x2F
+mark_byte Mark.Dollar = 0x24
 
 -- The text is a token of this kind, as long as its class allows before what comes after it.
 abbrev pub IsToken : Kind → List ℕ → List ℕ → Type 0
-IsToken kind.Name text after = IsName text × BeginsWithout continues_name after × (IsAf text → BeginsWithout (λ b. b == apostrophe) after)
-IsToken kind.OtherAf text after = (name : List ℕ) × IsAf name × (text ≡ name ++ apostrophe ∷ [])
-IsToken (kind.Number n) text after = IsNumber text × BeginsWithout is_ascii_alphanumeric after × (number_of text ≡ Some n)
-IsToken kind.Quoted text after = IsString text after
-IsToken (kind.Mark m) text after = text ≡ mark_byte m ∷ []
+IsToken Kind.Name text after = IsName text × BeginsWithout continues_name after × (IsAf text → BeginsWithout (λ b. b == apostrophe) after)
+IsToken Kind.OtherAf text after = (name : List ℕ) × IsAf name × (text ≡ name ++ apostrophe ∷ [])
+IsToken (Kind.Number n) text after = IsNumber text × BeginsWithout is_ascii_alphanumeric after × (number_of text ≡ Some n)
+IsToken Kind.Quoted text after = IsString text after
+IsToken (Kind.Mark m) text after = text ≡ mark_byte m ∷ []
 
 -- a number whose text stands for none
 pub record IsBadNumber (bytes : List ℕ) : Type 0 where
@@ -126,8 +120,8 @@ pub record IsStrayByte (bytes : List ℕ) : Type 0 where
 
 -- The bytes begin with what has this fault.
 abbrev pub BeginsFault : ScanFault → List ℕ → Type 0
-BeginsFault BadByte bytes = IsBrokenString bytes ⊎ IsStrayByte bytes
-BeginsFault OpenString bytes = IsOpenString bytes
-BeginsFault BadNumber bytes = IsBadNumber bytes
-BeginsFault LineTooLong bytes = ⊥
-BeginsFault NoMemory bytes = ⊥
+BeginsFault ScanFault.BadByte bytes = IsBrokenString bytes ⊎ IsStrayByte bytes
+BeginsFault ScanFault.OpenString bytes = IsOpenString bytes
+BeginsFault ScanFault.BadNumber bytes = IsBadNumber bytes
+BeginsFault ScanFault.LineTooLong bytes = ⊥
+BeginsFault ScanFault.NoMemory bytes = ⊥

@@ -1,9 +1,9 @@
 //! Laws about the cut of a line, as functions that do nothing.
 
 ghost use Rattle.std.specs.Prelude.{◌≡◌, ℕ, List, Result};
+ghost use Rattle.asm_scan.specs.Types.{ScanFault};
 ghost use Rattle.asm_scan.specs.Tokens.{Lexeme};
 ghost use Rattle.asm_scan.specs.Lines.{AreSpans, Cut, Scans};
-ghost use Rattle.asm_scan.specs.declared.fault.ScanFault.{ScanFault};
 
 /// A line comes to one thing at most: one list of tokens or one fault.
 pub fn one_answer()
