@@ -166,6 +166,26 @@ fn refused_rows(rt: HostRuntime) -> Result<(), Fail> {
     Ok(())
 }
 
+/// Where memory is refused to it, `grow` leaves the ruler as it was: it grows as well the second time.
+#[test]
+fn grows_after_a_refusal(rt: HostRuntime) -> Result<(), Fail> {
+    let statements = [Jump(3), Fixed(125), Jump(4), Fixed(128), Fixed(1)];
+    let shape = shape_of(rt.alloc(), &statements)?;
+    let mut ruler = Counted::new(Sums::new(rt.alloc(), &shape)?);
+    let order = match grow(rt.alloc(), &mut ruler) {
+        Ok(order) => order,
+        Err(_) => {
+            assert_eq!(rt; ruler.tests, 0);
+            assert_eq!(rt; ruler.growths, 0);
+            grow(rt.alloc(), &mut ruler)?
+        }
+    };
+    assert_eq!(rt; order.as_slice(), [2, 0].as_slice());
+    assert_eq!(rt; ruler.tests, 3);
+    assert_eq!(rt; ruler.growths, 2);
+    Ok(())
+}
+
 #[test]
 fn no_shapes(rt: HostRuntime) -> Result<(), Fail> {
     assert!(rt; Shape::is_shape(&[Fixed(1), Jump(2), Short(0)]));
