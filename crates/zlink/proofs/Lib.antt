@@ -1,0 +1,9 @@
+pub mod Naming
+pub mod Reading
+pub mod Taking
+pub mod Reaching
+pub mod Settling
+pub mod Programs
+pub mod Places
+pub mod Writing
+pub mod Answering

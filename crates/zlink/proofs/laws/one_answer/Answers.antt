@@ -1,0 +1,6 @@
+use Rattle.std.proofs.Common.{◌≡◌, ℕ, List, Result}
+use Rattle.zlink.proofs.Answering.{one_assembly}
+use Rattle.zlink.proofs.laws.one_answer.Goals as goal
+
+pub returns : goal.returns
+returns c = one_assembly c.one_answer.ensures

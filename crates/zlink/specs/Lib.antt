@@ -1,0 +1,11 @@
+pub mod Lines
+pub mod Labels
+pub mod Faults
+pub mod Program
+pub mod Source
+pub mod FirstPass
+pub mod SecondPass
+pub mod Reads
+pub mod Layout
+pub mod Emit
+pub mod Built

@@ -1,0 +1,78 @@
+//! From sources to a file.
+
+ghost use Rattle.std.specs.Prelude.{◌≡◌, ◌≤◌, ◌⊎◌, [], ◌∷◌, All, length, map};
+ghost use Rattle.zlink.specs.declared.fault.AsmFault.{AsmFault};
+ghost use Rattle.zlink.specs.declared.source.Source.{Source};
+ghost use Rattle.zlink.specs.Source.{Assembles};
+ghost use Rattle.zlink.specs.Built.{IsAnswer, IsLinked};
+ghost use Rattle.zlink.specs.Program.{IsProgram};
+ghost use Rattle.zlink.specs.SecondPass.{statement_in};
+
+use crate::assemble::assemble;
+use crate::emit::emit;
+use crate::fault::{AsmStop, BuildFault, LinkFault};
+use crate::laws::one_answer;
+use crate::layout::{places_of, shape_of};
+use crate::source::{Built, Source};
+use asm_stmt::Body;
+use relax::{Verdict, least};
+use std::alloc::Global;
+
+/// The file of a program, or why there is none.
+fn link(alloc: Global, program: &[Body<u32>]) -> Result<Built, LinkFault>
+    requires { IsProgram (map statement_in program.now) }
+    ensures { IsLinked (map statement_in program.now) result }
+{
+    let shape = shape_of(alloc, program)?;
+    let growth = least(alloc, &shape)?;
+    if let Verdict::Range(_) | Verdict::TooLarge(_) = growth.verdict {
+        return Err(LinkFault::NoFit {
+            why: growth.verdict,
+            sizes: Vec::new(alloc),
+            cert: Vec::new(alloc),
+        });
+    }
+    let places = places_of(alloc, shape.statements(), &growth.long)?;
+    let com = emit(alloc, program, &places, &growth.long)?;
+    Ok(Built {
+        com,
+        sizes: Vec::new(alloc),
+        cert: Vec::new(alloc),
+    })
+}
+
+/// The file of one text, or its fault.
+fn build_text(alloc: Global, text: &[u8]) -> Result<Built, BuildFault>
+    requires { length text.now ≤ 16777216 }
+    ensures { IsAnswer text.now result }
+{
+    match assemble(alloc, text) {
+        Ok(program) => link(alloc, &program).map_err(BuildFault::Link),
+        Err(AsmStop::Fault(fault)) => Err(BuildFault::Asm { source: 0, fault }),
+        Err(AsmStop::NoMemory) => Err(BuildFault::Link(LinkFault::NoMemory)),
+    }
+}
+
+/// Builds the .COM file of the sources, with each jump as short as it can be.
+///
+/// The file begins with the first statement and is loaded at 0100H. One source is taken for now.
+///
+/// # Errors
+///
+/// [`BuildFault::Asm`] with the first fault of the source, exactly where it has one;
+/// [`LinkFault::NoFit`] only where no choice of short and long jumps fits, with the reason;
+/// [`LinkFault::NoMemory`] where memory ran out.
+pub fn build(alloc: Global, sources: &[Source<'_>]) -> Result<Built, BuildFault>
+    requires one { length sources.now ≡ 1 }
+    requires limit { All (λ source. length source.text.now ≤ 16777216) sources.now }
+
+    // What is answered holds of the text.
+    ensures answer { (source : Source) → sources.entry.now ≡ source ∷ [] → IsAnswer source.text.now result }
+
+    // A text that has a fault is refused with it.
+    ensures exact { (source : Source) (fault : AsmFault) → sources.entry.now ≡ source ∷ [] → Assembles source.text.now (Err fault) →
+        (result ≡ Err (BuildFault.Asm 0 fault)) ⊎ (result ≡ Err (BuildFault.Link LinkFault.NoMemory)) }
+{
+    one_answer();
+    build_text(alloc, sources[0].text)
+}

@@ -1,0 +1,13 @@
+//! Laws of the definitions, as functions that do nothing.
+
+ghost use Rattle.std.specs.Prelude.{◌≡◌, ℕ, List, Result};
+ghost use Rattle.asm_stmt.specs.Statement.{Statement};
+ghost use Rattle.zlink.specs.declared.fault.AsmFault.{AsmFault};
+ghost use Rattle.zlink.specs.Source.{Assembles};
+
+/// A text is one program, or has one first fault.
+pub fn one_answer()
+    ensures { (text : List ℕ) (a b : Result (List (Statement ℕ)) AsmFault) → Assembles text a → Assembles text b → a ≡ b }
+{
+    asm_scan::laws::one_answer();
+}

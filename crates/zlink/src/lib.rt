@@ -1,0 +1,18 @@
+//! From source texts to a .COM file whose jumps are as short as they can be.
+#![tactic(auto)]
+
+mod assemble;
+mod builder;
+mod emit;
+mod fault;
+mod first_pass;
+mod labels;
+pub mod laws;
+mod layout;
+mod lines;
+mod second_pass;
+mod source;
+
+pub use builder::build;
+pub use fault::{AsmFault, BuildFault, LinkFault, Why};
+pub use source::{Built, Source};

@@ -1,0 +1,20 @@
+//! What goes in, and what comes out.
+
+/// A source text, and the name under which its faults are reported.
+#[derive(Clone, Copy, Debug)]
+pub struct Source<'a> {
+    pub name: &'a [u8],
+    /// At most 16,777,216 bytes.
+    pub text: &'a [u8],
+}
+
+/// What is built of sources.
+#[derive(Debug, Drop, PartialEq, Eq)]
+pub struct Built {
+    /// The .COM file, which is loaded at 0100H.
+    pub com: Vec<u8>,
+    /// The sizes text, empty until there is a certificate.
+    pub sizes: Vec<u8>,
+    /// The certificate, empty until there is one.
+    pub cert: Vec<u8>,
+}
