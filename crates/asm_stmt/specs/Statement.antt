@@ -1,5 +1,5 @@
 -- Statements and lines, without where they lie in memory.
-use Rattle.std.specs.Prelude.{◌≡◌, ℕ, ◌≤◌, List, Option, Some, None, vec_len}
+use Rattle.std.specs.Prelude.{ℕ, ◌≤◌, List, Option, vec_len}
 use Rattle.std.specs.Option.{option_map}
 use Rattle.z80_table.specs.Types.{Instr}
 use Rattle.z80_table.specs.Types.{ShortCond}

@@ -26,14 +26,20 @@ pub enum Body<T> {
     /// Values, one after the other.
     Data(Vec<Field>),
     /// As many bytes of one value as `size` says; 0 of them make no statement.
-    Space { size: u16, fill: u8 },
+    Space {
+        size: u16,
+        fill: u8,
+    },
     /// A `JP`, with its condition if it has one, that may be coded as a `JR`.
     Jump {
         condition: Option<ShortCond>,
         target: T,
     },
     /// A jump that is always short.
-    Short { branch: Branch, target: T },
+    Short {
+        branch: Branch,
+        target: T,
+    },
 }
 
 /// A line: its label and its statement, each if it has one, with names in upper case.

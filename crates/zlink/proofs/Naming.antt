@@ -1,9 +1,9 @@
 -- The entries of the table of labels, and the names that they spell.
-use Rattle.std.proofs.Common.{◌≡◌, ℕ, Bool, List, [], ◌∷◌, ◌++◌, map, cond, Option, Some, None, refl, ap}
+use Rattle.std.proofs.Common.{◌≡◌, ℕ, List, [], ◌∷◌, ◌++◌, cond, Some, refl, ap}
 use Rattle.std.specs.Map.{lookup}
 use Rattle.std.specs.Str.{bytes_eq}
 use Rattle.std.specs.declared.vec.Vec.{Vec}
-use Rattle.zlink.specs.Labels.{Names, found, named}
+use Rattle.zlink.specs.Labels.{found, named}
 
 -- a name is found by its bytes
 pub found-named : {A : Type 0} (entries : List (Vec ℕ A × ℕ)) (name : List ℕ) → found (named entries) name ≡ lookup (λ k. bytes_eq name k.items) entries

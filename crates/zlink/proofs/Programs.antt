@@ -1,19 +1,16 @@
 -- The lines that were taken up are a program.
-use Rattle.std.proofs.Common.{◌≡◌, ℕ, ◌+◌, ◌≤◌, Bool, true, false, List, [], ◌∷◌, ◌++◌, Option, Some, None, Result, Ok, Err, cond, map, length, All, refl, sym, ap, subst, ◌∙◌, arith, length-append, if◌then◌else◌, Vec, Global}
+use Rattle.std.proofs.Common.{◌≡◌, ℕ, ◌+◌, ◌≤◌, Bool, true, false, List, [], ◌∷◌, Option, Some, None, Result, Ok, Err, cond, map, length, All, refl, sym, ap, subst, ◌∙◌, arith, length-append, if◌then◌else◌}
 use Rattle.std.specs.List.{list_all, AllByRecursion}
-use Rattle.std.specs.Map.{lookup}
 use Rattle.std.specs.Str.{bytes_eq}
 use Rattle.std.specs.Option.{option_map_or}
 use Rattle.std.proofs.lemmas.List.{length-map}
 use Rattle.std.proofs.lemmas.Bool.{leb-true}
-use Rattle.std.proofs.lemmas.List.Elements.{All-from_recursion, recursion_from_All, All-append, All-nil, All-cons, All-weaker}
+use Rattle.std.proofs.lemmas.List.Elements.{All-from_recursion, recursion_from_All, All-append, All-nil, All-cons}
 use Rattle.asm_stmt.specs.Statement.{Statement, Code, Data, Space, Jump, Short, Line}
-use Rattle.zlink.specs.declared.fault.Why.{Why}
 use Rattle.zlink.specs.declared.fault.Why.TheVariants as why
-use Rattle.zlink.specs.declared.fault.AsmFault.{AsmFault}
 use Rattle.zlink.specs.Labels.{Names, found}
 use Rattle.zlink.specs.Program.{IsStatement, IsProgram, field_fits}
-use Rattle.zlink.specs.Source.{placed, labelled, labels, labels_from, numbered, numbered_from, statement_count, settled, all_settled, target_of, program_of, takes_room, fault_map, ◌>>=◌}
+use Rattle.zlink.specs.Source.{placed, labelled, labels, labels_from, numbered, numbered_from, statement_count, settled, all_settled, target_of, program_of, fault_map, ◌>>=◌}
 use Rattle.zlink.specs.FirstPass.{IsPlaced}
 use Rattle.zlink.specs.SecondPass.{IsTyped}
 
@@ -36,7 +33,7 @@ labels_from-within b n most (l ∷ ls) h =
     let one : length (here n l) ≡ length (placed l.statement) = length-map (placed l.statement) (λ s. (n, s)) in
     let all = length-append (here n l) (numbered_from (n + 1) ls) in
     All-append (AtMost most) (labelled l.label b) (labels_from (b + length (placed l.statement)) ls)
-        (labelled-within l.label b most (omega (arith, one, all))) (labels_from-within (b + length (placed l.statement)) (n + 1) most ls (omega (arith, one, all)))
+    (labelled-within l.label b most (omega (arith, one, all))) (labels_from-within (b + length (placed l.statement)) (n + 1) most ls (omega (arith, one, all)))
 
 found-first : (n number first : ℕ) (b : Bool) (rest : Option ℕ) → first ≤ n → (rest ≡ Some number → number ≤ n) → cond b (Some first) rest ≡ Some number → number ≤ n
 found-first n number first true rest h later e = let same : first ≡ number = cc in omega (arith, h, same)

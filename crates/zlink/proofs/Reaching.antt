@@ -1,8 +1,7 @@
 -- How far the first pass has come in a text.
-use Rattle.std.proofs.Common.{◌≡◌, ℕ, ◌+◌, ◌<◌, ◌≤◌, List, [], ◌∷◌, ◌++◌, Result, Ok, Err, map, length, refl, sym, ap, subst, ◌∙◌, arith}
+use Rattle.std.proofs.Common.{◌≡◌, ℕ, ◌+◌, ◌≤◌, List, [], ◌∷◌, ◌++◌, Result, Ok, Err, length, refl, sym, ap, subst, arith}
 use Rattle.std.proofs.lemmas.List.{length_push}
 use Rattle.asm_stmt.specs.Statement.{Line}
-use Rattle.zlink.specs.declared.fault.Why.{Why}
 use Rattle.zlink.specs.declared.fault.AsmFault.{AsmFault}
 use Rattle.zlink.specs.declared.fault.AsmStop.{AsmStop}
 use Rattle.zlink.specs.declared.fault.AsmStop.TheVariants as asm
@@ -25,12 +24,12 @@ start text pass rest e few kept = record { lines = []; kept = kept; number_is = 
 pub step : (text line : List ℕ) (rest more : List (List ℕ)) (pass next : FirstPass) (number : ℕ) → (r : Reached text rest pass number) → rest ≡ line ∷ more
     → (l : Line) → Judges r.lines line (Ok l) → Keeps next (r.lines ++ l ∷ []) → Reached text more next (number + 1)
 step text line rest more pass next number r e l judged kept = record {
-    lines = r.lines ++ l ∷ [];
-    kept = kept;
-    number_is = omega (arith, length_push r.lines l, r.number_is);
-    left = omega (arith, ap length e, r.left);
-    goes_on = λ answer h. r.goes_on answer (subst (λ texts. TakesUp r.lines texts answer) (sym e) (Ok l, judged, h));
-  }
+  lines = r.lines ++ l ∷ [];
+  kept = kept;
+  number_is = omega (arith, length_push r.lines l, r.number_is);
+  left = omega (arith, ap length e, r.left);
+  goes_on = λ answer h. r.goes_on answer (subst (λ texts. TakesUp r.lines texts answer) (sym e) (Ok l, judged, h));
+}
 
 pub stopped : (text line : List ℕ) (rest more : List (List ℕ)) (pass : FirstPass) (number : ℕ) → (r : Reached text rest pass number) → rest ≡ line ∷ more
     → (fault : AsmFault) → fault.line ≡ length r.lines + 1 → Judges r.lines line (Err fault.why) → TakesUp [] (source_lines text) (Err fault)

@@ -1,5 +1,5 @@
 -- What the faults of a line's tokens and of its statement come to.
-use Rattle.std.proofs.Common.{◌≡◌, ◌≢◌, ℕ, ◌≤◌, Vec, Global, List, Option, Some, None, Result, Ok, Err, IfSome, refl, sym, ap, ◌∙◌, arith, length}
+use Rattle.std.proofs.Common.{◌≡◌, ◌≢◌, ℕ, ◌≤◌, Vec, Global, List, Option, Some, None, Result, Ok, Err, IfSome, refl, ap, arith}
 use Rattle.asm_scan.specs.declared.fault.ScanFault.{ScanFault}
 use Rattle.asm_scan.specs.declared.fault.ScanFault.TheVariants as scan
 use Rattle.std.specs.Option.{option_map}
@@ -10,11 +10,11 @@ use Rattle.asm_stmt.specs.declared.fault.StmtFault.TheVariants as statement
 use Rattle.asm_stmt.specs.declared.form.Stmt.{Stmt}
 use Rattle.asm_stmt.specs.declared.form.Body.{Body}
 use Rattle.asm_stmt.specs.declared.form.Body.TheVariants as body
-use Rattle.asm_stmt.specs.Statement.{Statement, HasFields, Line, line_of, statement_of}
+use Rattle.asm_stmt.specs.Statement.{HasFields, Line, line_of, statement_of}
 use Rattle.asm_stmt.specs.Spelling.{spells, Fails}
 use Rattle.zlink.specs.declared.fault.Why.TheVariants as why
 use Rattle.zlink.specs.Faults.{stop_of_scan, stop_of_statement}
-use Rattle.zlink.specs.Source.{Says, line_read, fault_map, ◌>>=◌}
+use Rattle.zlink.specs.Source.{Says, fault_map}
 use Rattle.zlink.specs.declared.fault.Stop.{Stop}
 use Rattle.zlink.specs.declared.fault.Stop.TheVariants as stop
 use Rattle.zlink.specs.declared.first_pass.FirstPass.{FirstPass}

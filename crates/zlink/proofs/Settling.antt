@@ -1,11 +1,10 @@
 -- How far the second pass has come.
-use Rattle.std.proofs.Common.{◌≡◌, ℕ, ◌+◌, ◌<◌, ◌≤◌, Vec, Global, List, [], ◌∷◌, ◌++◌, Result, Ok, Err, map, drop, length, All, refl, sym, ap, subst, ◌∙◌, arith, append_assoc}
+use Rattle.std.proofs.Common.{◌≡◌, ℕ, ◌+◌, ◌<◌, ◌≤◌, Vec, Global, List, [], ◌∷◌, ◌++◌, Result, Ok, Err, map, drop, length, All, refl, sym, ap, subst, ◌∙◌, append_assoc}
 use Rattle.std.proofs.Math.ListN.{get_or, drop_of_length-le}
 use Rattle.std.proofs.lemmas.List.{append-nil, drop_more, map-append}
 use Rattle.std.proofs.lemmas.List.Elements.{All-push, All-nil}
 use Rattle.asm_stmt.specs.Statement.{Statement}
 use Rattle.asm_stmt.specs.declared.form.Body.{Body}
-use Rattle.zlink.specs.declared.fault.Why.{Why}
 use Rattle.zlink.specs.declared.fault.AsmFault.{AsmFault}
 use Rattle.zlink.specs.declared.fault.AsmStop.{AsmStop}
 use Rattle.zlink.specs.declared.fault.AsmStop.TheVariants as asm
@@ -31,9 +30,9 @@ behind-nothing (Err fault) = refl
 
 pub start : (names : Names) (all : List Numbered) (program : List (Body ℕ)) → program ≡ [] → Settled names all 0 program
 start names all program e = record {
-    goes_on = ap (λ p. behind (map statement_in p) (all_settled names (map numbered_one all))) e ∙ behind-nothing (all_settled names (map numbered_one all));
-    typed = subst (λ p. All IsTyped (map statement_in p)) (sym e) (All-nil IsTyped);
-  }
+  goes_on = ap (λ p. behind (map statement_in p) (all_settled names (map numbered_one all))) e ∙ behind-nothing (all_settled names (map numbered_one all));
+  typed = subst (λ p. All IsTyped (map statement_in p)) (sym e) (All-nil IsTyped);
+}
 
 -- the rest from a statement on
 rest-at : (names : Names) (all : List Numbered) (at : ℕ) (s : Numbered) → at < length all → s ≡ get_or all at s
@@ -51,7 +50,7 @@ step names all at s body program next so within is line e =
     let rest = all_settled names (map numbered_one (drop (at + 1) all)) in
     let shown : map statement_in next ≡ map statement_in program ++ statement_in body ∷ [] = ap (map statement_in) e ∙ map-append statement_in program (body ∷ []) in
     let one : all_settled names (map numbered_one (drop at all)) ≡ (rest >>= λ more. Ok (statement_in body ∷ more)) =
-        rest-at names all at s within is ∙ ap (λ first. fault_map (λ fault. record { line = s.line; why = fault }) first >>= λ x. rest >>= λ more. Ok (x ∷ more)) line.0 in
+    rest-at names all at s within is ∙ ap (λ first. fault_map (λ fault. record { line = s.line; why = fault }) first >>= λ x. rest >>= λ more. Ok (x ∷ more)) line.0 in
     record {
       goes_on = ap (λ p. behind p rest) shown ∙ sym (behind-one (map statement_in program) (statement_in body) rest) ∙ ap (behind (map statement_in program)) (sym one) ∙ so.goes_on;
       typed = subst (All IsTyped) (sym shown) (All-push IsTyped (map statement_in program) (statement_in body) so.typed line.1);
@@ -65,7 +64,7 @@ refused names all at s program (asm.Fault fault) so within is line =
     let rest = all_settled names (map numbered_one (drop (at + 1) all)) in
     let here : ◌≡◌ {A = AsmFault} (record { line = s.line; why = fault.why }) fault = ap (λ n. record { line = n; why = fault.why }) (sym line.0) in
     let one : all_settled names (map numbered_one (drop at all)) ≡ Err fault =
-        rest-at names all at s within is ∙ ap (λ first. fault_map (λ f. record { line = s.line; why = f }) first >>= λ x. rest >>= λ more. Ok (x ∷ more)) line.1 ∙ ap Err here in
+    rest-at names all at s within is ∙ ap (λ first. fault_map (λ f. record { line = s.line; why = f }) first >>= λ x. rest >>= λ more. Ok (x ∷ more)) line.1 ∙ ap Err here in
     sym so.goes_on ∙ ap (behind (map statement_in program)) one
 
 pub finished : (names : Names) (all : List Numbered) (at : ℕ) (program : Vec (Body ℕ) Global) → Settled names all at program.items → length all ≤ at

@@ -1,13 +1,11 @@
 -- What is kept after one more line.
-use Rattle.std.proofs.Common.{◌≡◌, ℕ, ◌+◌, ◌≤◌, Bool, true, false, List, [], ◌∷◌, ◌++◌, Option, Some, None, Result, Ok, Err, if◌then◌else◌, cond, is_some, map, length, count_by, nat_le, refl, sym, ap, subst, ◌∙◌, arith, append_assoc, length-append, IfSome, true≢false, All, nat_lt}
-use Rattle.std.proofs.lemmas.List.{append-nil, length-map, map-append}
+use Rattle.std.proofs.Common.{◌≡◌, ℕ, ◌+◌, ◌≤◌, Bool, true, false, List, [], ◌∷◌, ◌++◌, Option, Some, None, Ok, if◌then◌else◌, is_some, map, length, nat_le, refl, sym, ap, ◌∙◌, arith, append_assoc, length-append, IfSome, All}
+use Rattle.std.proofs.lemmas.List.{append-nil, length-map}
 use Rattle.std.proofs.lemmas.Bool.{leb-false}
 use Rattle.std.proofs.lemmas.List.Sums.{sum_by_push}
 use Rattle.std.proofs.lemmas.List.Elements.{All-append, All-nil, All-cons}
 use Rattle.std.specs.Option.{option_map_or}
 use Rattle.asm_stmt.specs.Statement.{Statement, Line}
-use Rattle.zlink.specs.declared.fault.Why.{Why}
-use Rattle.zlink.specs.declared.fault.Why.TheVariants as why
 use Rattle.zlink.specs.Labels.{Names, found}
 use Rattle.zlink.specs.Source.{placed, labelled, labels, labels_from, numbered, numbered_from, statement_count, repeats, overfills, fits_after, takes_room}
 use Rattle.zlink.specs.FirstPass.{IsKept, IsSized, IsPlaced}
@@ -79,12 +77,14 @@ taken statements new_statements names new_names count new_count number before l 
     let not_many : overfills before l ≡ false = ap (λ m. if is_some l.statement then nat_le 20000 m else false) (sym kept.count_is) ∙ full in
     let few : statement_count before + one_if (is_some l.statement) ≤ 20000 = not_full (is_some l.statement) (statement_count before) kept.few not_many in
     let numbers = numbered-push before l number number_is in
-    let long : length statements ≡ length (numbered before) = ap length kept.statements_are in
-    (rw (new_label, not_many) refl, record {
-      statements_are = statements_are ∙ ap (λ s. s ++ here number l) kept.statements_are ∙ sym numbers;
-      labels_are = names_are ∙ ap (λ ns. ns ++ labelled l.label (length statements)) kept.labels_are ∙ sym (labels-push before l (length statements) long);
-      count_is = count_are ∙ ap (λ m. m + one_if (is_some l.statement)) kept.count_is ∙ sym (count-push before l);
-      few = rw (count-push before l) few;
-      within = omega (arith, ap length numbers, length-append (numbered before) (here number l), length-here number l, length-placed l.statement, kept.within, count-push before l);
-      sized = rw numbers (All-append IsPlaced (numbered before) (here number l) kept.sized (sized-here number l.statement sized));
-    })
+    let long : length statements ≡ length (numbered before) = ap length kept.statements_are in (
+      rw (new_label, not_many) refl,
+      record {
+        statements_are = statements_are ∙ ap (λ s. s ++ here number l) kept.statements_are ∙ sym numbers;
+        labels_are = names_are ∙ ap (λ ns. ns ++ labelled l.label (length statements)) kept.labels_are ∙ sym (labels-push before l (length statements) long);
+        count_is = count_are ∙ ap (λ m. m + one_if (is_some l.statement)) kept.count_is ∙ sym (count-push before l);
+        few = rw (count-push before l) few;
+        within = omega (arith, ap length numbers, length-append (numbered before) (here number l), length-here number l, length-placed l.statement, kept.within, count-push before l);
+        sized = rw numbers (All-append IsPlaced (numbered before) (here number l) kept.sized (sized-here number l.statement sized));
+      },
+    )

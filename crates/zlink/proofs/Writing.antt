@@ -1,17 +1,15 @@
 -- A file that is written statement by statement reads as its program.
-use Rattle.std.proofs.Common.{◌≡◌, inl, inr, ℕ, zero, suc, ◌+◌, ◌-◌, ◌<◌, ◌≤◌, ◌^◌, Bool, true, false, List, [], ◌∷◌, ◌++◌, Option, Some, None, All, length, take, drop, slice_index, refl, sym, ap, subst, ◌∙◌, arith, length-append, length-drop}
+use Rattle.std.proofs.Common.{◌≡◌, inl, inr, ℕ, ◌+◌, ◌-◌, ◌<◌, ◌≤◌, Bool, true, false, List, [], ◌++◌, Option, Some, All, length, take, drop, slice_index, sym, ap, subst, ◌∙◌, arith, length-append, length-drop}
 use Rattle.std.specs.List.{slice_get, slice_range}
 use Rattle.std.specs.Option.{option_map}
-use Rattle.std.specs.Bool.{MatchBool}
 use Rattle.std.proofs.lemmas.Bool.{cases_lt}
-use Rattle.std.proofs.lemmas.List.{take-append-le, drop-append-le, take_at, drop_at, take_all, append-nil, length-map}
+use Rattle.std.proofs.lemmas.List.{take-append-le, drop-append-le, drop_at, take_all, length-map}
 use Rattle.std.proofs.lemmas.Option.{slice_get-map, slice_get_within, get_or_from_slice_get}
-use Rattle.relax.specs.Choice.{Choice, IsNear, IsValid, size_of, size_at, bytes_before, place, total}
+use Rattle.relax.specs.Choice.{Choice, IsNear, IsValid, bytes_before, place}
 use Rattle.asm_stmt.specs.Statement.{Statement, Code, Data, Space, Jump, Short}
-use Rattle.asm_stmt.specs.declared.form.Branch.TheVariants.{Relative}
 use Rattle.z80_table.specs.Codes.{Codes}
 use Rattle.zlink.specs.Program.{IsProgram, IsStatement}
-use Rattle.zlink.specs.Reads.{shape, sized_as, IsPiece, LeadsTo, Reads, long_jump}
+use Rattle.zlink.specs.Reads.{shape, sized_as, IsPiece, Reads, long_jump}
 use Rattle.zlink.specs.Layout.{ArePlaces}
 use Rattle.zlink.specs.Emit.{IsReady, IsSizedPiece}
 use Rattle.zlink.proofs.Places.{bytes-zero, bytes-next, bytes-le, size-there}
@@ -35,17 +33,22 @@ ready c p places k s program valid places_are e = by s e (at-statement (IsStatem
   where
     same : length (shape p) ≡ length p
     same = length-map p sized_as
+
     at : (x : Statement ℕ) → slice_get p k ≡ Some x → slice_index places k ≡ place c (shape p) k
     at x e = places_are.each k (omega (arith, same, slice_get_within p k x e))
+
     by : (x : Statement ℕ) → slice_get p k ≡ Some x → IsStatement (length p) x → IsReady (slice_index places k) (c k) places x
     by (Code instr) e in_program = tt
     by (Data fields) e in_program = in_program.2
     by (Space size fill) e in_program = tt
     by (Jump condition target) e in_program =
         let to : slice_index places target ≡ place c (shape p) target = places_are.each target (omega (arith, same)) in
-        let reach : c k ≡ false → IsNear (place c (shape p) k) (place c (shape p) target) = λ short. valid.settled k target (shape-at p k (Jump condition target) e) short in
-        (omega (arith, at (Jump condition target) e, place-small c p k valid (omega (arith, slice_get_within p k (Jump condition target) e))), omega (arith, places_are.len, same), omega (arith, to, place-small c p target valid in_program),
-          λ short. rw (at (Jump condition target) e, to) (reach short))
+        let reach : c k ≡ false → IsNear (place c (shape p) k) (place c (shape p) target) = λ short. valid.settled k target (shape-at p k (Jump condition target) e) short in (
+          omega (arith, at (Jump condition target) e, place-small c p k valid (omega (arith, slice_get_within p k (Jump condition target) e))),
+          omega (arith, places_are.len, same),
+          omega (arith, to, place-small c p target valid in_program),
+          λ short. rw (at (Jump condition target) e, to) (reach short),
+        )
     by (Short branch target) e in_program =
         let to : slice_index places target ≡ place c (shape p) target = places_are.each target (omega (arith, same)) in
         (omega (arith, at (Short branch target) e, place-small c p k valid (omega (arith, slice_get_within p k (Short branch target) e))), omega (arith, places_are.len, same), rw (at (Short branch target) e, to) (valid.shorts k target (shape-at p k (Short branch target) e)))
@@ -89,26 +92,26 @@ step c p places k s file next bytes program places_are written at e piece =
     record {
       len = omega (arith, ap length e, length-append file bytes, written.len, size, there, piece.1);
       pieces = λ j x lt from.
-        elim (cases_lt j k) [
-          | inl before ↦
-              let range = ap (λ f. slice_range f (bytes_before c (shape p) j) (bytes_before c (shape p) (j + 1))) e
-                  ∙ range-front file bytes (bytes_before c (shape p) j) (bytes_before c (shape p) (j + 1)) (bytes-le c (shape p) j (j + 1) (omega arith)) (omega (arith, written.len, bytes-le c (shape p) (j + 1) k (omega arith))) in
-              rw range (written.pieces j x before from)
-          | inr after ↦
-              let here : j ≡ k = omega arith in
-              let one : ◌≡◌ {A = Option (Statement ℕ)} (Some s) (Some x) = sym at ∙ ap (slice_get p) (sym here) ∙ from in
-              let same_statement : s ≡ x = cc in
-              let range : slice_range next (bytes_before c (shape p) k) (bytes_before c (shape p) (k + 1)) ≡ bytes = ap (λ f. slice_range f (bytes_before c (shape p) k) (bytes_before c (shape p) (k + 1))) e
-                  ∙ range-end file bytes (bytes_before c (shape p) k) (bytes_before c (shape p) (k + 1)) (sym written.len) (omega (arith, written.len, size, there, piece.1)) in
-              let base : IsPiece (place c (shape p) k) (c k) (place c (shape p)) s bytes =
-                  moved (slice_index places k) (place c (shape p) k) (c k) (λ t. slice_index places t) (place c (shape p)) (length p) s bytes (places_are.each k (omega (arith, same, slice_get_within p k s at))) (λ t le. places_are.each t (omega (arith, same))) (at-statement (IsStatement (length p)) p k s program.each at) piece.0 in
-              subst (λ i. IsPiece (place c (shape p) i) (c i) (place c (shape p)) x (slice_range next (bytes_before c (shape p) i) (bytes_before c (shape p) (i + 1)))) (sym here)
-                  (rw range (subst (λ y. IsPiece (place c (shape p) k) (c k) (place c (shape p)) y bytes) same_statement base))
-        ];
+          elim (cases_lt j k) [
+            | inl before ↦
+                let range = ap (λ f. slice_range f (bytes_before c (shape p) j) (bytes_before c (shape p) (j + 1))) e
+                ∙ range-front file bytes (bytes_before c (shape p) j) (bytes_before c (shape p) (j + 1)) (bytes-le c (shape p) j (j + 1) (omega arith)) (omega (arith, written.len, bytes-le c (shape p) (j + 1) k (omega arith))) in
+                rw range (written.pieces j x before from)
+            | inr after ↦
+                let here : j ≡ k = omega arith in
+                let one : ◌≡◌ {A = Option (Statement ℕ)} (Some s) (Some x) = sym at ∙ ap (slice_get p) (sym here) ∙ from in
+                let same_statement : s ≡ x = cc in
+                let range : slice_range next (bytes_before c (shape p) k) (bytes_before c (shape p) (k + 1)) ≡ bytes = ap (λ f. slice_range f (bytes_before c (shape p) k) (bytes_before c (shape p) (k + 1))) e
+                ∙ range-end file bytes (bytes_before c (shape p) k) (bytes_before c (shape p) (k + 1)) (sym written.len) (omega (arith, written.len, size, there, piece.1)) in
+                let base : IsPiece (place c (shape p) k) (c k) (place c (shape p)) s bytes =
+                moved (slice_index places k) (place c (shape p) k) (c k) (λ t. slice_index places t) (place c (shape p)) (length p) s bytes (places_are.each k (omega (arith, same, slice_get_within p k s at))) (λ t le. places_are.each t (omega (arith, same))) (at-statement (IsStatement (length p)) p k s program.each at) piece.0 in
+                subst (λ i. IsPiece (place c (shape p) i) (c i) (place c (shape p)) x (slice_range next (bytes_before c (shape p) i) (bytes_before c (shape p) (i + 1)))) (sym here)
+                (rw range (subst (λ y. IsPiece (place c (shape p) k) (c k) (place c (shape p)) y bytes) same_statement base))
+          ];
     }
 
 pub finished : (c : Choice) (p : List (Statement ℕ)) (file : List ℕ) → Written c p (length p) file → Reads file p c
 finished c p file written = record {
-    length_is = written.len ∙ ap (bytes_before c (shape p)) (sym (length-map p sized_as));
-    pieces = λ k s at. written.pieces k s (slice_get_within p k s at) at;
-  }
+  length_is = written.len ∙ ap (bytes_before c (shape p)) (sym (length-map p sized_as));
+  pieces = λ k s at. written.pieces k s (slice_get_within p k s at) at;
+}

@@ -1,5 +1,5 @@
 -- What is written. Private contracts alone cite this.
-use Rattle.std.specs.Prelude.{◌≡◌, ℕ, ◌+◌, ◌^◌, ◌<◌, ◌≤◌, Bool, true, false, List, ◌++◌, length, slice_index}
+use Rattle.std.specs.Prelude.{◌≡◌, ℕ, ◌^◌, ◌<◌, Bool, true, false, List, ◌++◌, length, slice_index}
 use Rattle.std.specs.List.{list_all}
 use Rattle.relax.specs.Choice.{IsNear, size_of}
 use Rattle.asm_stmt.specs.Statement.{Statement, Code, Data, Space, Jump, Short}

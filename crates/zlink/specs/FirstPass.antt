@@ -1,11 +1,9 @@
 -- What the first pass keeps of the lines that it has taken up. Private contracts alone cite this.
-use Rattle.std.specs.Prelude.{◌≡◌, ℕ, ◌+◌, ◌≤◌, Bool, true, List, [], ◌∷◌, ◌++◌, Result, Ok, Err, length, map}
+use Rattle.std.specs.Prelude.{◌≡◌, ℕ, ◌+◌, ◌≤◌, true, List, [], ◌∷◌, ◌++◌, Result, Ok, Err, length, map}
 use Rattle.std.specs.List.{All}
-use Rattle.std.specs.Result.{MatchResult}
 use Rattle.std.specs.Prelude.{IfSome}
-use Rattle.asm_stmt.specs.Statement.{Statement, Code, Data, Space, Jump, Short, Line, line_of, statement_of}
+use Rattle.asm_stmt.specs.Statement.{Statement, Data, Line, line_of, statement_of}
 use Rattle.asm_stmt.specs.declared.form.Stmt.{Stmt}
-use Rattle.zlink.specs.declared.fault.Why.{Why}
 use Rattle.zlink.specs.declared.fault.Stop.{Stop}
 use Rattle.zlink.specs.declared.fault.Stop.TheVariants as stop
 use Rattle.zlink.specs.declared.fault.AsmStop.{AsmStop}

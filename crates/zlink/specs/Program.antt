@@ -1,5 +1,5 @@
 -- What a program is: statements whose jumps name statements by number, the end being the count.
-use Rattle.std.specs.Prelude.{◌≡◌, ℕ, ◌≤◌, Bool, true, false, List, All, length, nat_lt, nat_le}
+use Rattle.std.specs.Prelude.{◌≡◌, ℕ, ◌≤◌, Bool, true, List, All, length, nat_lt}
 use Rattle.std.specs.List.{list_all}
 use Rattle.asm_stmt.specs.declared.form.Field.{Field}
 use Rattle.asm_stmt.specs.declared.form.Field.TheVariants.{Byte}

@@ -1,5 +1,5 @@
 -- When a file reads as a program, statement by statement.
-use Rattle.std.specs.Prelude.{◌≡◌, ℕ, ◌+◌, ◌≤◌, Bool, true, false, List, Option, Some, None, length, map, replicate, slice_get, slice_range, ℤ, pos, ◌+ℤ◌}
+use Rattle.std.specs.Prelude.{◌≡◌, ℕ, ◌+◌, Bool, List, Option, Some, None, length, map, replicate, slice_get, slice_range, ℤ, pos, ◌+ℤ◌}
 use Rattle.std.specs.Bool.{MatchBool}
 use Rattle.z80_table.specs.Types.{Instr, Cond, ShortCond}
 use Rattle.z80_table.specs.Table.{canonical}

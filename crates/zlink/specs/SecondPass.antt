@@ -1,7 +1,7 @@
 -- What the second pass answers. Private contracts alone cite this.
 use Rattle.std.specs.Prelude.{◌≡◌, ℕ, ◌≤◌, ◌<◌, List, Result, Ok, Err, Vec, All, map}
 use Rattle.std.specs.Global.{Global}
-use Rattle.asm_stmt.specs.Statement.{Statement, Code, Data, Space, Jump, Short, statement_of}
+use Rattle.asm_stmt.specs.Statement.{Statement, Space, statement_of}
 use Rattle.asm_stmt.specs.declared.form.Body.{Body}
 use Rattle.zlink.specs.Program.{IsProgram}
 use Rattle.zlink.specs.Source.{Assembles}

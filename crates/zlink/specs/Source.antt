@@ -6,9 +6,7 @@ use Rattle.std.specs.Option.{option_map_or}
 use Rattle.asm_scan.specs.declared.fault.ScanFault.{ScanFault}
 use Rattle.asm_scan.specs.Tokens.{Lexeme}
 use Rattle.asm_scan.specs.Lines.{Scans}
-use Rattle.asm_stmt.specs.declared.fault.StmtFault.{StmtFault}
 use Rattle.asm_stmt.specs.declared.fault.StmtFault.TheVariants.{ByteRange}
-use Rattle.asm_stmt.specs.declared.form.Field.{Field}
 use Rattle.asm_stmt.specs.Statement.{Statement, Code, Data, Space, Jump, Short, Line}
 use Rattle.asm_stmt.specs.Spelling.{spells}
 use Rattle.zlink.specs.declared.fault.Why.{Why}

@@ -135,12 +135,7 @@ fn judge_line(alloc: Global, pass: &mut FirstPass, number: u32, line: &[u8]) -> 
 }
 
 /// The same, with the line's number in the fault.
-fn take_line(
-    alloc: Global,
-    pass: &mut FirstPass,
-    number: u32,
-    line: &[u8],
-) -> Result<(), AsmStop>
+fn take_line(alloc: Global, pass: &mut FirstPass, number: u32, line: &[u8]) -> Result<(), AsmStop>
     requires few { pass.old.count ≤ 20000 }
     requires within { vec_len pass.old.statements ≤ pass.old.count }
     ensures { (before : List Line) → Keeps pass.old before → number ≡ length before + 1 → IsPassed before line.now pass.new result }

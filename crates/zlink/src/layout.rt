@@ -46,13 +46,7 @@ fn size_of(statement: Statement, long: bool) -> u32
 {
     match statement {
         Statement::Fixed(size) => u32::from(size),
-        Statement::Jump(_) => {
-            if long {
-                3
-            } else {
-                2
-            }
-        }
+        Statement::Jump(_) => { if long { 3 } else { 2 } }
         Statement::Short(_) => 2,
     }
 }

@@ -57,14 +57,20 @@ fn settle(alloc: Global, labels: &Labels, body: &Body<Vec<u8>>) -> Result<Body<u
             size: *size,
             fill: *fill,
         }),
-        Body::Jump { condition, target: name } => match target(labels, name) {
+        Body::Jump {
+            condition,
+            target: name,
+        } => match target(labels, name) {
             Ok(target) => Ok(Body::Jump {
                 condition: *condition,
                 target,
             }),
             Err(why) => Err(Stop::Fault(why)),
         },
-        Body::Short { branch, target: name } => match target(labels, name) {
+        Body::Short {
+            branch,
+            target: name,
+        } => match target(labels, name) {
             Ok(target) => Ok(Body::Short {
                 branch: *branch,
                 target,
@@ -75,11 +81,7 @@ fn settle(alloc: Global, labels: &Labels, body: &Body<Vec<u8>>) -> Result<Body<u
 }
 
 /// The same of a line, with its number in the fault.
-fn settle_line(
-    alloc: Global,
-    labels: &Labels,
-    statement: &Numbered,
-) -> Result<Body<u32>, AsmStop>
+fn settle_line(alloc: Global, labels: &Labels, statement: &Numbered) -> Result<Body<u32>, AsmStop>
     ensures { IsSettledLine statement.now.line (settled (named labels.now.entries) (numbered_one statement.now).1) result }
 {
     match settle(alloc, labels, &statement.body) {

@@ -1,4 +1,4 @@
-use Rattle.std.proofs.Common.{◌≡◌, ◌≤◌, ℕ, Option, Some, None, IfSome, arith}
+use Rattle.std.proofs.Common.{◌≤◌, ℕ, Option, Some, None, IfSome, arith}
 use Rattle.asm_stmt.specs.declared.form.Body.{Body}
 use Rattle.asm_stmt.specs.declared.form.Body.TheVariants as body
 use Rattle.asm_stmt.specs.Statement.{HasFields}

@@ -11,5 +11,5 @@ returns c =
     let second = c.in_ok-program.ensures in
     let kept = first.2 in
     let settled : program_of first.0 ≡ Ok (map statement_in c.in_ok-program.program.items) =
-        sym (ap (λ names. all_settled names (map numbered_one c.in_ok-pass.pass.statements.items)) kept.labels_are ∙ ap (all_settled (labels first.0)) kept.statements_are) ∙ second.0 in
+    sym (ap (λ names. all_settled names (map numbered_one c.in_ok-pass.pass.statements.items)) kept.labels_are ∙ ap (all_settled (labels first.0)) kept.statements_are) ∙ second.0 in
     ((Ok first.0, first.1, sym settled), is_program first.0 _ kept.few kept.within kept.sized settled second.1)

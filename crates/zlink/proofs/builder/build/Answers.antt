@@ -1,4 +1,3 @@
-use Rattle.std.proofs.Common.{◌≡◌}
 use Rattle.zlink.proofs.Answering.{exactly}
 use Rattle.zlink.proofs.builder.build.Goals as goal
 

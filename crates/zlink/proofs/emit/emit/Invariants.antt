@@ -1,4 +1,4 @@
-use Rattle.std.proofs.Common.{◌≡◌, map}
+use Rattle.std.proofs.Common.{map}
 use Rattle.relax.specs.Choice.{chosen}
 use Rattle.zlink.specs.SecondPass.{statement_in}
 use Rattle.zlink.proofs.Writing.{Written}

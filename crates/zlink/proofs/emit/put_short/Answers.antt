@@ -1,6 +1,5 @@
-use Rattle.std.proofs.Common.{◌≡◌, ℕ, ℤ, List, Option, Some, None, refl, length, ap, sym, subst, ◌∙◌, ◌++◌, w8}
+use Rattle.std.proofs.Common.{◌≡◌, ℤ, Some, None, refl, length, ap, subst, ◌∙◌, w8}
 use Rattle.std.proofs.lemmas.Int.{to_z-of_z}
-use Rattle.z80_table.specs.Types.{Instr}
 use Rattle.z80_table.specs.Table.{canonical}
 use Rattle.z80_table.specs.Codes.{Codes}
 use Rattle.asm_stmt.specs.declared.form.Branch.{Branch}

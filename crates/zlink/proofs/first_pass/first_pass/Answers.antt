@@ -1,4 +1,4 @@
-use Rattle.std.proofs.Common.{◌≡◌, ◌≤◌, ◌∙◌, ℕ, List, [], map, length, take, not, ◌==◌, ap, refl, arith, length-take, Ok}
+use Rattle.std.proofs.Common.{◌≤◌, ◌∙◌, map, length, not, ◌==◌, ap, refl, arith, length-take}
 use Rattle.std.specs.List.{prefix_len}
 use Rattle.std.proofs.lemmas.List.{length-map}
 use Rattle.std.proofs.lemmas.Result.{err_from_is_err_and}
@@ -53,7 +53,7 @@ returns-in_err-take_line c =
     let reached = c.loop-line.invariant.reached in
     let p = err_from_is_err_and c.from_residual.result c.from_residual.ensures.1 in
     rw (p.1, p.2) (refused c.args.text.now c.in-Some.line.now c.loop-line.line-iterator c.next.new.self c.loop-line.pass c.take_line.new.pass c.loop-line.number reached c.in-Some.ensures.steps c.in_err-take_line.field-0.0
-        (c.in_err-take_line.ensures reached.lines reached.kept (omega (arith, reached.number_is))))
+    (c.in_err-take_line.ensures reached.lines reached.kept (omega (arith, reached.number_is))))
 
 pub returns : goal.returns
 returns c = finished c.args.text.now c.loop-line.line-iterator c.loop-line.pass c.loop-line.number c.loop-line.invariant.reached c.in-None.ensures.steps.0

@@ -1,4 +1,3 @@
-use Rattle.std.proofs.Common.{◌≡◌}
 use Rattle.std.proofs.lemmas.Result.{err_from_is_err_and}
 use Rattle.asm_stmt.specs.Statement.{line_of}
 use Rattle.zlink.proofs.Reading.{judged-unread, judged-read}

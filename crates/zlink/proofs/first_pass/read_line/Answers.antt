@@ -1,4 +1,4 @@
-use Rattle.std.proofs.Common.{◌≡◌, ◌≤◌, length, Ok, List, ap, ◌∙◌, arith}
+use Rattle.std.proofs.Common.{◌≤◌, length, Ok, ap, arith}
 use Rattle.std.proofs.lemmas.Result.{err_from_is_err_and}
 use Rattle.asm_scan.specs.Tokens.{lexemes}
 use Rattle.asm_scan.specs.Lines.{Scans}

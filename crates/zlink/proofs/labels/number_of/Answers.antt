@@ -1,4 +1,4 @@
-use Rattle.std.proofs.Common.{◌≡◌, sym, ◌∙◌, rules}
+use Rattle.std.proofs.Common.{sym, ◌∙◌}
 use Rattle.zlink.proofs.Naming.{found-named}
 use Rattle.zlink.proofs.labels.number_of.Goals as goal
 

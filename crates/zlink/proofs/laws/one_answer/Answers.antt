@@ -1,4 +1,3 @@
-use Rattle.std.proofs.Common.{◌≡◌, ℕ, List, Result}
 use Rattle.zlink.proofs.Answering.{one_assembly}
 use Rattle.zlink.proofs.laws.one_answer.Goals as goal
 

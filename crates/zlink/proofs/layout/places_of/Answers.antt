@@ -1,4 +1,4 @@
-use Rattle.std.proofs.Common.{◌≡◌, ℕ, ◌+◌, ◌≤◌, Some, length, slice_index, sym, ap, ◌∙◌, ◌++◌, ◌∷◌, [], refl, arith}
+use Rattle.std.proofs.Common.{◌≡◌, ◌+◌, slice_index, ap, ◌∙◌, ◌++◌, ◌∷◌, [], arith}
 use Rattle.std.proofs.lemmas.Option.{slice_get-get_or}
 use Rattle.relax.specs.declared.shape.Statement.TheVariants.{Fixed}
 use Rattle.relax.specs.Choice.{chosen, place}
