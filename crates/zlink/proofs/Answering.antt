@@ -42,6 +42,28 @@ one_taking one before (text ∷ texts) a b x y =
 pub one_assembly : OneScan → (text : List ℕ) (a b : Result (List (Statement ℕ)) AsmFault) → Assembles text a → Assembles text b → a ≡ b
 one_assembly one text a b x y = x.2 ∙ ap (λ taken. taken >>= program_of) (one_taking one [] (source_lines text) x.0 y.0 x.1 y.1) ∙ sym y.2
 
+-- a line comes to something
+abbrev pub SomeScan : Type 0
+SomeScan = (line : List ℕ) → (answer : Result (List Lexeme) ScanFault) × Scans line answer
+
+some_rest : (before : List Line) (texts : List (List ℕ)) (judgement : Result Line Why)
+    → ((line : Line) → (answer : Result (List Line) AsmFault) × TakesUp (before ++ line ∷ []) texts answer) → (answer : Result (List Line) AsmFault) × Rest before texts answer judgement
+some_rest before texts (Ok line) more = more line
+some_rest before texts (Err fault) more = (Err (record { line = length before + 1; why = fault }), refl)
+
+some_taking : SomeScan → (before : List Line) (texts : List (List ℕ)) → (answer : Result (List Line) AsmFault) × TakesUp before texts answer
+some_taking some before [] = (Ok before, refl)
+some_taking some before (text ∷ texts) =
+    let scanned = some text in
+    let judgement : Result Line Why = line_read scanned.0 >>= fits_after before in
+    let rest = some_rest before texts judgement (λ line. some_taking some (before ++ line ∷ []) texts) in
+    (rest.0, (judgement, (line_read scanned.0, (scanned.0, scanned.1, refl), refl), rest.1))
+
+pub some_assembly : SomeScan → (text : List ℕ) → (answer : Result (List (Statement ℕ)) AsmFault) × Assembles text answer
+some_assembly some text =
+    let taken = some_taking some [] (source_lines text) in
+    (taken.0 >>= program_of, (taken.0, taken.1, refl))
+
 -- a text has one answer alone
 abbrev pub OneAnswer : Type 0
 OneAnswer = (text : List ℕ) (a b : Result (List (Statement ℕ)) AsmFault) → Assembles text a → Assembles text b → a ≡ b

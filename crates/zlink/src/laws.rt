@@ -11,3 +11,10 @@ pub fn one_answer()
 {
     asm_scan::laws::one_answer();
 }
+
+/// Every text is a program, or has a first fault.
+pub fn some_answer()
+    ensures { (text : List ℕ) → (answer : Result (List (Statement ℕ)) AsmFault) × Assembles text answer }
+{
+    asm_scan::laws::some_answer();
+}

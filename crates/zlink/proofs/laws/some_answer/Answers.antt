@@ -1,0 +1,5 @@
+use Rattle.zlink.proofs.Answering.{some_assembly}
+use Rattle.zlink.proofs.laws.some_answer.Goals as goal
+
+pub returns : goal.returns
+returns c = some_assembly c.some_answer.ensures
