@@ -19,12 +19,12 @@ use Rattle.relax.proofs.Window.{in_window, still_fits}
 -- what holds between two turns: the jumps that do not wait are long or fit
 pub record BetweenTurns (shape : List Statement) (jumps : List RelaxableJump) (c : Choice) (order : List ℕ) (long pending : List Bool) (asked : ℕ) : Type 0 where
   pub same_long : length long ≡ length jumps
-  pub same_waiting : length pending ≡ length jumps
+  pub same_pending : length pending ≡ length jumps
   pub follows : (k : ℕ) → c k ≡ after order k
   pub flags : (p : ℕ) → p < length jumps → chosen long p ≡ c (statement_of jumps p)
   pub forcing : IsForcing shape order
   pub lowest : TakesLowest shape order
-  pub waits : (p : ℕ) → chosen pending p ≡ true → chosen long p ≡ false
+  pub short : (p : ℕ) → chosen pending p ≡ true → chosen long p ≡ false
   pub fits : (p : ℕ) → p < length jumps → chosen pending p ≡ false → chosen long p ≡ false → Fits c shape (statement_of jumps p)
   pub unset : count_by not long + length order ≡ length jumps
   pub least : length jumps ≤ asked + pending_count pending
@@ -73,13 +73,13 @@ cleared_set flags p q lt is =
 
 module _ (shape : List Statement) (jumps : List RelaxableJump) (are : AreRelaxable shape jumps) (c : Choice) (order : List ℕ) (long pending : List Bool) (asked : ℕ) (was : BetweenTurns shape jumps c order long pending asked) (p : ℕ) (found : IsLowestPending pending p) where
   pub found_lt : p < length jumps
-  found_lt = let lt = flag_lt pending p found.set in let same = was.same_waiting in omega arith
+  found_lt = let lt = flag_lt pending p found.set in let same = was.same_pending in omega arith
 
   pub found_jump : IsAnyJump shape (statement_of jumps p)
   found_jump = (target_of jumps p, are.each p found_lt)
 
   pub found_short : c (statement_of jumps p) ≡ false
-  found_short = sym (was.flags p found_lt) ∙ was.waits p found.set
+  found_short = sym (was.flags p found_lt) ∙ was.short p found.set
 
   -- the jump fits
   pub turn_fits : Fits c shape (statement_of jumps p) → BetweenTurns shape jumps c order long (set pending p false) (asked + 1)
@@ -88,12 +88,12 @@ module _ (shape : List Statement) (jumps : List RelaxableJump) (are : AreRelaxab
       let count = pending_count-clear pending p lt found.set in
       record {
         same_long = was.same_long;
-        same_waiting = length-set pending p false ∙ was.same_waiting;
+        same_pending = length-set pending p false ∙ was.same_pending;
         follows = was.follows;
         flags = was.flags;
         forcing = was.forcing;
         lowest = was.lowest;
-        waits = λ q is. was.waits q (cleared_set pending p q lt is).1;
+        short = λ q is. was.short q (cleared_set pending p q lt is).1;
         fits = λ q lq done short. elim (cases_eq q p) as (λ _. Fits c shape (statement_of jumps q)) [
           | inl same ↦ rw same fits
           | inr other ↦ was.fits q lq (sym (chosen-clear_other pending p q false other) ∙ done) short
@@ -144,7 +144,7 @@ module _ (shape : List Statement) (jumps : List RelaxableJump) (are : AreRelaxab
       let ne_of_short : ((q : ℕ) → chosen (set long p true) q ≡ false → q ≢ p) = λ q short e. both_ways (chosen (set long p true) q) short (rw e (get_or-set_same long p true false lt_long)) in
       record {
         same_long = length-set long p true ∙ was.same_long;
-        same_waiting = requeued.len ∙ (length-set pending p false ∙ was.same_waiting);
+        same_pending = requeued.len ∙ (length-set pending p false ∙ was.same_pending);
         follows = λ j. longer j ∙ (ap (λ b. b || eqb k j) (was.follows j) ∙ sym (after-push order k j));
         flags = λ q lq. elim (cases_eq q p) [
           | inl e ↦ rw e (get_or-set_same long p true false lt_long ∙ sym (longer k ∙ (ap (λ b. c k || b) (eq-eqb k k refl) ∙ or-true (c k))))
@@ -152,8 +152,8 @@ module _ (shape : List Statement) (jumps : List RelaxableJump) (are : AreRelaxab
         ];
         forcing = each-push (λ o n. Misses (after o) shape n) order k was.forcing (subst (λ e. Misses e shape k) same (misses_now misses));
         lowest = each-push (λ o n. SettledBelow (after o) shape n) order k was.lowest (subst (λ e. SettledBelow e shape k) same settled_below);
-        waits = λ q on. elim (cases_Bool (chosen (set pending p false) q)) [
-          | inl old ↦ (let there = cleared_set pending p q lt old in other_long q there.0 ∙ was.waits q there.1)
+        short = λ q on. elim (cases_Bool (chosen (set pending p false) q)) [
+          | inl old ↦ (let there = cleared_set pending p q lt old in other_long q there.0 ∙ was.short q there.1)
           | inr new ↦ requeued.short q new on
         ];
         fits = λ q lq off short.
@@ -165,7 +165,7 @@ module _ (shape : List Statement) (jumps : List RelaxableJump) (are : AreRelaxab
             both_ways (chosen is q) off (requeued.requeued q lq ne near.1 near.0 short over)) in
             λ u jump. (let e : u ≡ target_of jumps q = (let both : Some (Jump u) ≡ Some (Jump (target_of jumps q)) = sym jump ∙ are.each q lq in cc) in
             rw e (still_fits c d shape k (target_of jumps p) (are.each p found_lt) found_short longer (statement_of jumps q) (target_of jumps q) (jumps-ne shape jumps are p q found_lt lq ne) not_over (fit (target_of jumps q) (are.each q lq)))));
-        unset = (let counts = count-set long p lt_long (was.waits p found.set) in let before = was.unset in omega arith);
+        unset = (let counts = count-set long p lt_long (was.short p found.set) in let before = was.unset in omega arith);
         least = (let before = was.least in let more = requeued.least in omega arith);
         most = (let before = was.most in let more = requeued.most in omega arith);
       }
