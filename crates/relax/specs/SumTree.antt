@@ -7,4 +7,6 @@ use Rattle.std.specs.Int.{IsPowerOfTwo}
 pub record IsSumTree (leaves : ℕ) (cells : List ℕ) : Type 0 where
   pub power : IsPowerOfTwo leaves
   pub len : length cells ≡ 2 * leaves
-  pub sums : (i : ℕ) → 1 ≤ i → i < leaves → slice_index cells i ≡ slice_index cells (2 * i) + slice_index cells (2 * i + 1)
+  pub sums :
+      (i : ℕ) → 1 ≤ i → i < leaves
+      → slice_index cells i ≡ slice_index cells (2 * i) + slice_index cells (2 * i + 1)

@@ -48,7 +48,9 @@ pending_count pending = count_by (λ b. b) pending
 pub record Requeued (jumps : List RelaxableJump) (long was is : List Bool) (p : ℕ) : Type 0 where
   pub len : length is ≡ length was
   pub kept : (q : ℕ) → chosen was q ≡ true → chosen is q ≡ true
-  pub requeued : (q : ℕ) → q < length jumps → q ≢ p → q ≤ p + 63 → p ≤ q + 63 → chosen long q ≡ false → PassesOver (statement_of jumps q) (target_of jumps q) (statement_of jumps p) → chosen is q ≡ true
+  pub requeued :
+      (q : ℕ) → q < length jumps → q ≢ p → q ≤ p + 63 → p ≤ q + 63 → chosen long q ≡ false
+      → PassesOver (statement_of jumps q) (target_of jumps q) (statement_of jumps p) → chosen is q ≡ true
   pub short : (q : ℕ) → chosen was q ≡ false → chosen is q ≡ true → chosen long q ≡ false
   pub below : (q : ℕ) → q + 63 < p → chosen is q ≡ chosen was q
   pub least : pending_count was ≤ pending_count is
