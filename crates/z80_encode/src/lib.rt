@@ -1,4 +1,4 @@
-//! From instructions of the Z80 to bytes.
+//! From instructions of the Z80 to bytes: how many, and which.
 #![tactic(auto)]
 
 ghost use Rattle.std.specs.Prelude.{◌≡◌, ◌≤◌, ◌++◌, length, drop};
@@ -7,12 +7,14 @@ ghost use Rattle.z80_instr.specs.Codes.{Codes};
 ghost use Rattle.z80_encode.specs.Writes.{Spells};
 
 mod code;
+mod length;
 mod put;
 
 use code::{
     addend_code, block_operation_code, block_step_code, condition_code, operand_code,
     operation_code, pair_code, prefix, register_code, rotation_code, short_condition_code,
 };
+pub use length::size;
 use put::{
     put, put_bits, put_count, put_hl_or_index, put_load_byte, put_load_word, put_operand,
     put_pointer, put_stack, put_store, put_word, put_word_at,

@@ -4,11 +4,8 @@
 //! is a documented instruction: forms that the manual does not have cannot be written.
 #![tactic(auto)]
 
-mod length;
 mod mnemonic;
 mod number;
-
-pub use length::size;
 
 /// An 8-bit register: the manual's r.
 #[derive(Clone, Copy, Debug, PartialEq, Eq)]

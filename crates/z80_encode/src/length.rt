@@ -1,9 +1,15 @@
 //! How many bytes the canonical spelling of an instruction has.
 ghost use Rattle.std.specs.Prelude.{◌≡◌, ◌+◌, ◌<◌, ◌≤◌, ℕ, length};
-ghost use Rattle.z80_instr.specs.Types.{Instr, Register, AluOperation, Rotation, Octal};
+ghost use Rattle.z80_instr.specs.declared.Instr.{Instr};
+ghost use Rattle.z80_instr.specs.declared.Register.{Register};
+ghost use Rattle.z80_instr.specs.declared.AluOperation.{AluOperation};
+ghost use Rattle.z80_instr.specs.declared.Rotation.{Rotation};
+ghost use Rattle.z80_instr.specs.declared.Octal.{Octal};
 ghost use Rattle.z80_instr.specs.Table.{canonical};
 
-use crate::{HlOrIndex, Instr, Memory, Operand, Pointer, RegisterPair, StackOperand, WordRegister};
+use z80_instr::{
+    HlOrIndex, Instr, Memory, Operand, Pointer, RegisterPair, StackOperand, WordRegister,
+};
 
 /// The length of an instruction of one opcode on an operand; a second opcode or a number adds 1.
 fn operand_size(operand: Operand) -> u8
