@@ -1,0 +1,13 @@
+//! Tests of the crate `zlink` by its public call: source texts with their file, or with what is wrong with them.
+#![tactic(auto)]
+
+#[cfg(test)]
+mod asserts;
+#[cfg(test)]
+mod faults;
+#[cfg(test)]
+mod files;
+#[cfg(test)]
+mod large;
+#[cfg(test)]
+mod texts;
