@@ -1,0 +1,93 @@
+//! Why nothing is printed.
+
+ghost use Rattle.std.specs.Prelude.{◌≡◌};
+ghost use Rattle.z80dev.specs.Pipe.{status_of};
+ghost use Rattle.z80dev.specs.declared.fault.Fault.TheVariants as fault;
+ghost use Rattle.zlink.specs.declared.fault.LinkFault.TheVariants as link;
+ghost use Rattle.zlink.specs.declared.fault.BuildFault.TheVariants as build;
+
+use relax::Verdict;
+use std::alloc::AllocError;
+use std::fmt;
+use zlink::{AsmFault, BuildFault, LinkFault, Why};
+
+/// The exit status where a file is printed.
+pub const DONE: u8 = 0;
+
+/// The exit status where the text is refused, or memory runs out.
+pub const REFUSED: u8 = 1;
+
+/// The exit status where the words of the command are wrong.
+pub const USAGE: u8 = 2;
+
+/// The exit status where reading or writing fails.
+pub const FILE_FAULT: u8 = 3;
+
+/// The name of the one source.
+pub const SOURCE_NAME: &str = "MAIN";
+
+/// Why a source text is not printed as a file.
+#[derive(Debug, Drop)]
+pub enum Fault {
+    /// The text cannot be read, is above its limit, or the output cannot be written.
+    File,
+    /// No file is built of the text, or memory ran out.
+    Build(BuildFault),
+}
+
+impl From<BuildFault> for Fault {
+    ghost from_gives = { λ refusal e. e ≡ fault.Build refusal };
+
+    fn from(refusal: BuildFault) -> Fault {
+        Fault::Build(refusal)
+    }
+}
+
+impl From<AllocError> for Fault {
+    ghost from_gives = { λ _ e. e ≡ fault.Build (build.Link link.NoMemory) };
+
+    fn from(_: AllocError) -> Fault {
+        Fault::Build(BuildFault::Link(LinkFault::NoMemory))
+    }
+}
+
+impl Fault {
+    /// The exit status: 3 for a file, 1 for a text that is refused.
+    pub fn status(&self) -> u8
+        ensures { result ≡ status_of self.now }
+    {
+        match self {
+            Fault::File => FILE_FAULT,
+            Fault::Build(_) => REFUSED,
+        }
+    }
+}
+
+/// The line that is printed, after `error: `: a fault of the source as `MAIN(LINE): NAME`, any other by its name.
+/// A name is that of the innermost variant, with its number in parentheses.
+impl fmt::Display for Fault {
+    fn fmt<W: fmt::Write>(&self, f: &mut fmt::Formatter<W>) -> fmt::Result {
+        match self {
+            Fault::File => write!(f, "file {SOURCE_NAME}"),
+            Fault::Build(BuildFault::Asm { fault, .. }) => write_asm_fault(f, fault),
+            Fault::Build(BuildFault::Link(LinkFault::NoFit { why, .. })) => write_verdict(f, *why),
+            Fault::Build(BuildFault::Link(LinkFault::NoMemory)) => f.write_str("NoMemory"),
+        }
+    }
+}
+
+fn write_asm_fault<W: fmt::Write>(f: &mut fmt::Formatter<W>, fault: &AsmFault) -> fmt::Result {
+    write!(f, "{SOURCE_NAME}({}): ", fault.line)?;
+    match fault.why {
+        Why::Scan(why) => write!(f, "{why:?}"),
+        Why::Stmt(why) => write!(f, "{why:?}"),
+        why => write!(f, "{why:?}"),
+    }
+}
+
+fn write_verdict<W: fmt::Write>(f: &mut fmt::Formatter<W>, why: Verdict) -> fmt::Result {
+    match why {
+        Verdict::TooLarge(size) => write!(f, "Size({size})"),
+        Verdict::Best(_) | Verdict::Range(_) => write!(f, "{why:?}"),
+    }
+}

@@ -1,0 +1,40 @@
+//! Reading a source text, with a bound on how much and how often.
+
+ghost use Rattle.std.specs.Prelude.{◌≡◌, ◌≤◌, IfErr, IfOk, OnOk, length};
+ghost use Rattle.std.specs.Io.KnownBytes.{Consumes, IsAtEnd};
+ghost use Rattle.z80dev.specs.Pipe.{IsOfMedium};
+
+use crate::fault::Fault;
+use std::alloc::Global;
+use std::io::{ErrorKind, Read};
+
+/// How many bytes a source text has at most.
+const TEXT_LIMIT: usize = 16_777_216;
+
+/// How many bytes are asked for at once.
+const CHUNK: usize = 8192;
+
+/// Reads a text to its end, of at most 16,777,216 bytes, by at most 16,777,217 reads.
+///
+/// # Errors
+///
+/// [`Fault::File`] where a read fails, the text is longer, or its end is not met by then; want of memory.
+pub fn read_text<R: Read>(alloc: Global, reader: &mut R) -> Result<Vec<u8>, Fault>
+    ensures limit { IfOk result (λ text. length text.items ≤ 16777216) }
+    ensures text { IfOk result (λ text. Consumes (R.remaining reader.old) (R.remaining reader.new) text.items) }
+    ensures err { IfErr result IsOfMedium }
+    ensures end { OnOk result (IsAtEnd (R.remaining reader.new)) }
+{
+    let mut text = Vec::new(alloc);
+    let mut chunk = [0; CHUNK];
+    for _ in 0..=TEXT_LIMIT {
+        match reader.read(&mut chunk) {
+            Ok(0) => return Ok(text),
+            Ok(count) if count > TEXT_LIMIT - text.len() => return Err(Fault::File),
+            Ok(count) => text.extend_from_slice(&chunk[..count])?,
+            Err(error) if error.kind() == ErrorKind::Interrupted => {}
+            Err(_) => return Err(Fault::File),
+        }
+    }
+    Err(Fault::File)
+}
