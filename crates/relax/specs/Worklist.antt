@@ -1,8 +1,8 @@
 use Rattle.std.specs.Prelude.{◌≡◌, ℕ, ◌+◌, ◌<◌, ◌≤◌, ◌⊎◌, ◌≢◌, Bool, true, false, List, length, count_by}
 use Rattle.std.specs.List.{slice_index_or}
-use Rattle.relax.specs.declared.shape.Statement.{Statement}
+use Rattle.ruler.specs.declared.shape.Statement.{Statement}
 use Rattle.relax.specs.declared.relaxable.RelaxableJump.{RelaxableJump}
-use Rattle.relax.specs.Choice.{IsJump, chosen}
+use Rattle.ruler.specs.Choice.{IsJump, chosen}
 use Rattle.relax.specs.Probes.{jump_count}
 
 -- Private: words of the worklist's own functions. No public contract cites them.

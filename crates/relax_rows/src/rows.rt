@@ -1,7 +1,7 @@
 //! Worked rows, each by `least`, by `grow` over a counted ruler, and by the plain scan.
 
 ghost use Rattle.std.specs.Prelude.{◌≡◌, IfOk};
-ghost use Rattle.relax.specs.Choice.{IsShape};
+ghost use Rattle.ruler.specs.Choice.{IsShape};
 
 use crate::counted::Counted;
 use crate::scan::scan;

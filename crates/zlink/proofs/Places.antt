@@ -4,8 +4,8 @@ use Rattle.std.specs.List.{slice_get}
 use Rattle.std.specs.Option.{option_map_or}
 use Rattle.std.proofs.lemmas.Bool.{cases_lt}
 use Rattle.std.proofs.lemmas.List.{get_or_push, get_or_append_left}
-use Rattle.relax.specs.declared.shape.Statement.{Statement}
-use Rattle.relax.specs.Choice.{Choice, size_of, size_at, bytes_before, place}
+use Rattle.ruler.specs.declared.shape.Statement.{Statement}
+use Rattle.ruler.specs.Choice.{Choice, size_of, size_at, bytes_before, place}
 
 pub bytes-zero : (c : Choice) (shape : List Statement) → bytes_before c shape 0 ≡ 0
 unfolding bytes_before

@@ -5,7 +5,7 @@ use Rattle.std.specs.Option.{option_map}
 use Rattle.std.proofs.lemmas.Bool.{cases_lt}
 use Rattle.std.proofs.lemmas.List.{take-append-le, drop-append-le, drop_at, take_all, length-map}
 use Rattle.std.proofs.lemmas.Option.{slice_get-map, slice_get_within, get_or_from_slice_get}
-use Rattle.relax.specs.Choice.{Choice, IsNear, IsValid, bytes_before, place}
+use Rattle.ruler.specs.Choice.{Choice, IsNear, IsValid, bytes_before, place}
 use Rattle.asm_stmt.specs.Statement.{Statement, Code, Data, Space, Jump, Short}
 use Rattle.z80_table.specs.Codes.{Codes}
 use Rattle.zlink.specs.Program.{IsProgram, IsStatement}

@@ -2,7 +2,7 @@
 use Rattle.std.specs.Prelude.{◌≡◌, ℕ, ◌<◌, ◌≤◌, List, Result, Ok, Err}
 use Rattle.relax.specs.declared.growth.Verdict.{Verdict}
 use Rattle.relax.specs.declared.growth.Verdict.TheVariants as verdict
-use Rattle.relax.specs.Choice.{Choice, IsBest, IsValid, IsSettled, IsShort, Reaches, total}
+use Rattle.ruler.specs.Choice.{Choice, IsBest, IsValid, IsSettled, IsShort, Reaches, total}
 use Rattle.asm_stmt.specs.Statement.{Statement}
 use Rattle.zlink.specs.declared.fault.LinkFault.{LinkFault}
 use Rattle.zlink.specs.declared.fault.LinkFault.TheVariants as link

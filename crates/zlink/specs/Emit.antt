@@ -1,7 +1,7 @@
 -- What is written. Private contracts alone cite this.
 use Rattle.std.specs.Prelude.{◌≡◌, ℕ, ◌^◌, ◌<◌, Bool, true, false, List, ◌++◌, length, slice_index}
 use Rattle.std.specs.List.{list_all}
-use Rattle.relax.specs.Choice.{IsNear, size_of}
+use Rattle.ruler.specs.Choice.{IsNear, size_of}
 use Rattle.asm_stmt.specs.Statement.{Statement, Code, Data, Space, Jump, Short}
 use Rattle.zlink.specs.Program.{field_fits}
 use Rattle.zlink.specs.Reads.{IsPiece, sized_as}

@@ -1,7 +1,7 @@
 -- Where statements stand, as a list. Private contracts alone cite this.
 use Rattle.std.specs.Prelude.{◌≡◌, ℕ, ◌+◌, ◌≤◌, List, length, slice_index}
-use Rattle.relax.specs.declared.shape.Statement.{Statement}
-use Rattle.relax.specs.Choice.{Choice, place}
+use Rattle.ruler.specs.declared.shape.Statement.{Statement}
+use Rattle.ruler.specs.Choice.{Choice, place}
 
 -- the places of the statements and of their end
 pub record ArePlaces (c : Choice) (shape : List Statement) (places : List ℕ) : Type 0 where

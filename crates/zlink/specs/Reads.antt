@@ -4,9 +4,9 @@ use Rattle.std.specs.Bool.{MatchBool}
 use Rattle.z80_table.specs.Types.{Instr, Cond, ShortCond}
 use Rattle.z80_table.specs.Table.{canonical}
 use Rattle.z80_table.specs.Codes.{Codes}
-use Rattle.relax.specs.declared.shape.Statement.{Statement as Sized}
-use Rattle.relax.specs.declared.shape.Statement.TheVariants as sized
-use Rattle.relax.specs.Choice.{Choice, bytes_before, place, total}
+use Rattle.ruler.specs.declared.shape.Statement.{Statement as Sized}
+use Rattle.ruler.specs.declared.shape.Statement.TheVariants as sized
+use Rattle.ruler.specs.Choice.{Choice, bytes_before, place, total}
 use Rattle.asm_stmt.specs.declared.form.Field.{Field}
 use Rattle.asm_stmt.specs.declared.form.Field.TheVariants.{Byte}
 use Rattle.asm_stmt.specs.declared.form.Branch.{Branch}

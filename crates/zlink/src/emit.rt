@@ -2,7 +2,7 @@
 
 ghost use Rattle.std.specs.Prelude.{◌≡◌, ◌≤◌, ◌<◌, ◌+◌, ◌++◌, ℕ, ℤ, pos, FitsSigned, ◌+ℤ◌, ◌^◌, length, map, replicate, true, false, slice_index, IfOk, OnOk};
 ghost use Rattle.std.specs.Int.{w8};
-ghost use Rattle.relax.specs.Choice.{chosen, IsNear, IsValid};
+ghost use Rattle.ruler.specs.Choice.{chosen, IsNear, IsValid};
 ghost use Rattle.z80_table.specs.Table.{canonical};
 ghost use Rattle.z80_table.specs.Codes.{Codes};
 ghost use Rattle.zlink.specs.Reads.{field_byte, long_jump, shape, short_jump, widened, LeadsTo, Reads};

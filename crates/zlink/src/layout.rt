@@ -1,7 +1,7 @@
 //! Where the statements of a program stand.
 
 ghost use Rattle.std.specs.Prelude.{◌≡◌, ◌≤◌, ◌+◌, ℕ, length, map, IfOk};
-ghost use Rattle.relax.specs.Choice.{chosen, size_of, IsStatement};
+ghost use Rattle.ruler.specs.Choice.{chosen, size_of, IsStatement};
 ghost use Rattle.zlink.specs.Program.{IsProgram, IsStatement as IsInProgram};
 ghost use Rattle.zlink.specs.Reads.{shape, sized_as};
 ghost use Rattle.zlink.specs.SecondPass.{statement_in};

@@ -1,5 +1,5 @@
 use Rattle.std.proofs.Common.{map}
-use Rattle.relax.specs.Choice.{chosen}
+use Rattle.ruler.specs.Choice.{chosen}
 use Rattle.zlink.specs.SecondPass.{statement_in}
 use Rattle.zlink.proofs.Writing.{Written}
 use Rattle.zlink.proofs.emit.emit.Given as goal

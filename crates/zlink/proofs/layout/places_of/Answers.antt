@@ -1,7 +1,7 @@
 use Rattle.std.proofs.Common.{◌≡◌, ◌+◌, slice_index, ap, ◌∙◌, ◌++◌, ◌∷◌, [], arith}
 use Rattle.std.proofs.lemmas.Option.{slice_get-get_or}
-use Rattle.relax.specs.declared.shape.Statement.TheVariants.{Fixed}
-use Rattle.relax.specs.Choice.{chosen, place}
+use Rattle.ruler.specs.declared.shape.Statement.TheVariants.{Fixed}
+use Rattle.ruler.specs.Choice.{chosen, place}
 use Rattle.zlink.proofs.Places.{bytes-zero, place-next, table-push}
 use Rattle.zlink.proofs.layout.places_of.Goals as goal
 

@@ -1,5 +1,5 @@
 use Rattle.std.proofs.Common.{◌≡◌, ℕ, ◌+◌, ◌*◌, ◌≤◌, vec_len, slice_index}
-use Rattle.relax.specs.Choice.{chosen, place}
+use Rattle.ruler.specs.Choice.{chosen, place}
 use Rattle.zlink.proofs.layout.places_of.Given as goal
 
 -- the places up to statement k are there, and the next is known

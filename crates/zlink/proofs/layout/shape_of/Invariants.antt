@@ -1,5 +1,5 @@
 use Rattle.std.proofs.Common.{◌≡◌, All, length, map, take}
-use Rattle.relax.specs.Choice.{IsStatement}
+use Rattle.ruler.specs.Choice.{IsStatement}
 use Rattle.zlink.specs.Reads.{shape}
 use Rattle.zlink.specs.SecondPass.{statement_in}
 use Rattle.zlink.proofs.layout.shape_of.Given as goal

@@ -1,0 +1,18 @@
+//! Measures a Z80 program whose jumps are short or long: where its statements stand, and which jumps reach their targets.
+//!
+//! A [`Shape`] is what sizes depend on, a [`Ruler`] a shape with a choice of its long jumps that tells of sizes only
+//! whether a jump fits, and [`Sums`] the ruler over a tree of sums. The definitions of choices, places, reach, and of
+//! which choice is settled, valid and best stand here, in `specs/Choice.antt`.
+#![tactic(auto)]
+
+mod error;
+mod reach;
+mod ruler;
+mod shape;
+mod sum_tree;
+mod sums;
+
+pub use error::NoMemory;
+pub use ruler::Ruler;
+pub use shape::{Shape, Statement};
+pub use sums::Sums;
