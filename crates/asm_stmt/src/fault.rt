@@ -10,19 +10,19 @@ use thiserror::Error;
 #[derive(Clone, Copy, Debug, PartialEq, Eq, Error)]
 pub enum StmtFault {
     /// The word is no instruction and no directive.
-    #[error("UnknownWord")]
+    #[error("no such word")]
     UnknownWord,
     /// The word is known, but not with these operands.
-    #[error("BadOperands")]
+    #[error("a word with operands that it does not take")]
     BadOperands,
     /// A value does not fit into its byte.
-    #[error("ByteRange")]
+    #[error("a value that does not fit into its byte")]
     ByteRange,
     /// The label is a register, a condition or an operator.
-    #[error("ReservedName")]
+    #[error("a label that is a reserved name")]
     ReservedName,
     /// Memory ran out.
-    #[error("NoMemory")]
+    #[error("out of memory")]
     NoMemory,
 }
 

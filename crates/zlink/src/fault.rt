@@ -22,27 +22,29 @@ pub enum Why {
     #[error(transparent)]
     Stmt(StmtFault),
     /// The label is defined on an earlier line.
-    #[error("Duplicate")]
+    #[error("a label that an earlier line defines")]
     Duplicate,
     /// No line defines the name.
-    #[error("Undefined")]
+    #[error("a name that no line defines")]
     Undefined,
     /// There are 20,000 statements before.
-    #[error("TooManyStatements")]
+    #[error("more than 20,000 statements")]
     TooManyStatements,
 }
 
 /// The first fault of a source, with the number of its line from 1.
-#[derive(Clone, Copy, Debug, PartialEq, Eq)]
+#[derive(Clone, Copy, Debug, PartialEq, Eq, Error)]
+#[error("line {line}: {why}")]
 pub struct AsmFault {
     pub line: u32,
     pub why: Why,
 }
 
 /// Why the statements of a program make no file.
-#[derive(Debug, Drop, PartialEq, Eq)]
+#[derive(Debug, Drop, PartialEq, Eq, Error)]
 pub enum LinkFault {
     /// No choice of short and long jumps fits.
+    #[error("no choice of short and long jumps fits")]
     NoFit {
         why: Verdict,
         /// The sizes text.
@@ -51,15 +53,18 @@ pub enum LinkFault {
         cert: Vec<u8>,
     },
     /// Memory ran out.
+    #[error("out of memory")]
     NoMemory,
 }
 
 /// Why no file is built.
-#[derive(Debug, Drop, PartialEq, Eq)]
+#[derive(Debug, Drop, PartialEq, Eq, Error)]
 pub enum BuildFault {
     /// A source has a fault; sources are numbered from 0.
+    #[error("source {source}, {fault}")]
     Asm { source: u32, fault: AsmFault },
     /// The sources spell a program that makes no file.
+    #[error(transparent)]
     Link(LinkFault),
 }
 

@@ -5,6 +5,7 @@ use asm_scan::ScanFault::{BadByte, BadNumber, OpenString};
 use asm_stmt::StmtFault::{BadOperands, ByteRange, ReservedName, UnknownWord};
 use std::test::Fail;
 use zlink::Why::{self, Duplicate, Scan, Stmt, TooManyStatements, Undefined};
+use zlink::{AsmFault, BuildFault, LinkFault};
 
 #[test]
 fn of_one_line(rt: HostRuntime) -> Result<(), Fail> {
@@ -64,18 +65,25 @@ fn the_first_of_several(rt: HostRuntime) -> Result<(), Fail> {
 }
 
 #[test]
-fn names_of_faults(rt: HostRuntime) -> Result<(), Fail> {
+fn sentences_of_faults(rt: HostRuntime) -> Result<(), Fail> {
     let rows = [
-        (Stmt(UnknownWord), "UnknownWord"),
-        (Stmt(BadOperands), "BadOperands"),
-        (Stmt(ByteRange), "ByteRange"),
-        (Stmt(ReservedName), "ReservedName"),
-        (Duplicate, "Duplicate"),
-        (Undefined, "Undefined"),
-        (TooManyStatements, "TooManyStatements"),
+        (Scan(BadByte), "source 1, line 3: a byte that may not stand here"),
+        (Stmt(UnknownWord), "source 1, line 3: no such word"),
+        (Stmt(BadOperands), "source 1, line 3: a word with operands that it does not take"),
+        (Stmt(ByteRange), "source 1, line 3: a value that does not fit into its byte"),
+        (Stmt(ReservedName), "source 1, line 3: a label that is a reserved name"),
+        (Duplicate, "source 1, line 3: a label that an earlier line defines"),
+        (Undefined, "source 1, line 3: a name that no line defines"),
+        (TooManyStatements, "source 1, line 3: more than 20,000 statements"),
     ];
-    for (why, name) in rows {
-        assert_eq!(rt; format!(in rt.alloc(); "{why}")?.as_str(), name);
+    for (why, sentence) in rows {
+        let fault = BuildFault::Asm {
+            source: 1,
+            fault: AsmFault { line: 3, why },
+        };
+        assert_eq!(rt; format!(in rt.alloc(); "{fault}")?.as_str(), sentence);
     }
+    let refused = BuildFault::Link(LinkFault::NoMemory);
+    assert_eq!(rt; format!(in rt.alloc(); "{refused}")?.as_str(), "out of memory");
     Ok(())
 }
