@@ -1,17 +1,12 @@
 //! The command `z80dev`: prints the .COM file of the source text on standard input in hexadecimal.
 #![tactic(auto)]
 
-mod fault;
-mod pipe;
-mod text;
-
-use crate::fault::{REFUSED, USAGE};
-use crate::pipe::pipe;
 use clap::error::ErrorKind;
 use clap::{Command, Error};
 use std::alloc::Global;
 use std::process::ExitCode;
 use std::{env, io};
+use z80dev::{REFUSED, USAGE, Watched, pipe};
 
 /// Takes the program's name alone: any further word is a fault of usage.
 fn judge_words(alloc: Global, words: &[String]) -> Result<(), Error> {
@@ -49,5 +44,7 @@ fn main(rt: HostRuntime) -> ExitCode {
     if let Err(error) = judge_words(alloc, &words) {
         return ExitCode::from(refuse_words(&rt, &error));
     }
-    ExitCode::from(pipe(alloc, &mut rt.stdin(), &mut rt.stdout(), &mut rt.stderr()))
+    let mut input = Watched::new(rt.stdin());
+    let mut output = Watched::new(rt.stdout());
+    ExitCode::from(pipe(alloc, &mut input, &mut output, &mut rt.stderr()))
 }

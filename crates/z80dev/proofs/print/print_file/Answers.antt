@@ -3,17 +3,17 @@ use Rattle.std.proofs.lemmas.Result.{err_from_is_err_and}
 use Rattle.zlink.specs.Built.{IsAnswer, IsBuilt}
 use Rattle.z80dev.specs.Pipe.{Writes}
 use Rattle.z80dev.proofs.Ending.{refused, written}
-use Rattle.z80dev.proofs.pipe.print_file.Goals as goal
+use Rattle.z80dev.proofs.print.print_file.Goals as goal
 
 pub returns-in_err-built : goal.returns-in_err-built
 returns-in_err-built g c =
     let answer = subst (λ t. IsAnswer t (Err c.in_err-built.field-0.0)) c.deref.ensures.value (c.in_err-built.ensures.answer _ refl) in
-    let ends = refused _ _ (g.W.Write.contents c.args.writer.now) _ _ c.in_ok-text.ensures.text c.in_ok-text.ensures.end answer in
+    let ends = refused _ _ (g.W.Write.contents c.args.output.now.stream) (g.I.Input.failed c.read_text.new.input) c.args.output.now.failed _ _ c.in_ok-text.ensures.text c.in_ok-text.ensures.end answer in
     let p = err_from_is_err_and c.from_residual-in_err-built.result c.from_residual-in_err-built.ensures.1 in
     rw (p.1, p.2) ends
 
 pub returns : goal.returns
 returns g c =
     let built = subst (λ t. IsBuilt t c.in_ok-built.built.com.items) c.deref.ensures.value (c.in_ok-built.ensures.answer _ refl) in
-    let wrote = subst (λ f. Writes f (g.W.Write.contents c.args.writer.now) (g.W.Write.contents c.write_file.new.writer) c.write_file.result) c.deref-2.ensures.value c.write_file.ensures in
-    written _ _ _ _ _ _ _ c.in_ok-text.ensures.text c.in_ok-text.ensures.end c.in_ok-text.ensures.limit built wrote
+    let wrote = subst (λ f. Writes f (g.W.Write.contents c.args.output.now.stream) (g.W.Write.contents c.write_file.new.output.stream) c.write_file.new.output.failed c.write_file.result) c.deref-2.ensures.value c.write_file.ensures in
+    written _ _ _ _ _ _ _ _ _ c.in_ok-text.ensures.text c.in_ok-text.ensures.end c.in_ok-text.ensures.limit built wrote

@@ -1,0 +1,7 @@
+//! Tests of the crate `z80dev` by its public calls: what is printed of a source text, and the status.
+#![tactic(auto)]
+
+#[cfg(test)]
+mod rows;
+#[cfg(test)]
+mod streams;
