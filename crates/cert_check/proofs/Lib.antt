@@ -1,0 +1,5 @@
+pub mod Bytes
+pub mod Checking
+pub mod FirstFaults
+pub mod Following
+pub mod Judging

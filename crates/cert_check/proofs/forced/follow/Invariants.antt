@@ -1,0 +1,6 @@
+use Rattle.std.proofs.Common.{take}
+use Rattle.cert_check.specs.Walking.{Follows}
+use Rattle.cert_check.proofs.forced.follow.Given as goal
+
+abbrev pub invariant-loop-i : goal.invariant-loop-i
+invariant-loop-i l = Follows l.statements (take l.i l.order) l.long.items

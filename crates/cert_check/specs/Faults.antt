@@ -1,0 +1,66 @@
+use Rattle.std.specs.Prelude.{◌≡◌, ℕ, ◌+◌, ◌-◌, ◌<◌, ◌≤◌, ◌⊎◌, true, false, List, [], ◌∷◌, ◌++◌, length, slice_index, take, map}
+use Rattle.std.specs.List.{range_with_len}
+use Rattle.certificate.specs.declared.shape.Statement.{Statement}
+use Rattle.certificate.specs.declared.cert.Verdict.{Verdict}
+use Rattle.certificate.specs.declared.cert.Verdict.TheVariants.{Best, Range, TooLarge}
+use Rattle.certificate.specs.Choice.{Choice, IsAnyJump, IsJump, IsShort, Fits, Reaches, total}
+use Rattle.certificate.specs.Forcing.{after}
+use Rattle.certificate.specs.Accepts.{IsOutOfRange}
+use Rattle.cert_check.specs.Types.{CheckFault}
+use Rattle.cert_check.specs.declared.fault.CheckFault.TheVariants.{BadSizes, BadCertificate, NotForced, NotAJump, Repeated, StillShort, WrongTotal, NotOutOfRange, NoMemory}
+
+-- What may be wrong with a forcing order and its verdict. Each fault is said by itself, and then which comes first.
+
+-- The first line of a certificate is line 1, so line 2 names the first member of the order.
+
+-- the member that a line names
+abbrev pub member : List ℕ → ℕ → ℕ
+member order line = slice_index order (line - 2)
+
+-- the members that the lines before it name
+abbrev pub members_before : List ℕ → ℕ → List ℕ
+members_before order line = take (line - 2) order
+
+-- statement k is a jump that is short, always or in this choice, and does not reach its target
+pub record IsStillShort (c : Choice) (shape : List Statement) (k : ℕ) : Type 0 where
+  pub target : ℕ
+  pub jump : IsShort shape k target ⊎ (IsJump shape k target × (c k ≡ false))
+  pub misses : ¬ Reaches c shape k target
+
+-- the total is that of the verdict, and on the right side of the most bytes that there is room for
+abbrev pub HasTotal : ℕ → Verdict → Type 0
+HasTotal bytes (Best n) = (bytes ≡ n) × (bytes ≤ 64512)
+HasTotal bytes (Range k) = Unit {0}
+HasTotal bytes (TooLarge n) = (bytes ≡ n) × (64512 < bytes)
+
+-- what is so where there is a fault
+abbrev pub Stands : List Statement → List ℕ → Verdict → CheckFault → Type 0
+Stands shape order verdict (NotAJump line) = ¬ IsAnyJump shape (member order line)
+Stands shape order verdict (Repeated line) = after (members_before order line) (member order line) ≡ true
+Stands shape order verdict (NotForced line) = Fits (after (members_before order line)) shape (member order line)
+Stands shape order verdict (StillShort k) = IsStillShort (after order) shape k
+Stands shape order verdict WrongTotal = ¬ HasTotal (total (after order) shape) verdict
+Stands shape order verdict (NotOutOfRange k) = ¬ IsOutOfRange (after order) shape k
+Stands shape order verdict (BadSizes line) = ⊥
+Stands shape order verdict (BadCertificate line) = ⊥
+Stands shape order verdict NoMemory = ⊥
+
+-- the faults that lines of members may have, in order, from a line on
+abbrev pub line_faults : ℕ → List ℕ → List CheckFault
+line_faults line [] = []
+line_faults line (k ∷ order) = NotAJump line ∷ Repeated line ∷ NotForced line ∷ line_faults (line + 1) order
+
+-- the faults that the verdict may have, in order
+abbrev pub verdict_faults : ℕ → Verdict → List CheckFault
+verdict_faults count (Best n) = map StillShort (range_with_len 0 count) ++ WrongTotal ∷ []
+verdict_faults count (Range k) = NotOutOfRange k ∷ []
+verdict_faults count (TooLarge n) = WrongTotal ∷ []
+
+-- all of them, in order
+abbrev pub faults : List Statement → List ℕ → Verdict → List CheckFault
+faults shape order verdict = line_faults 2 order ++ verdict_faults (length shape) verdict
+
+-- the first of a list that is so
+abbrev pub FirstOf : (CheckFault → Type 0) → List CheckFault → CheckFault → Type 0
+FirstOf IsSo [] fault = ⊥
+FirstOf IsSo (f ∷ fs) fault = (IsSo f × (fault ≡ f)) ⊎ (¬ IsSo f × FirstOf IsSo fs fault)

@@ -1,0 +1,64 @@
+//! The check of two texts.
+
+ghost use Rattle.std.specs.Prelude.{◌≡◌, ◌⊎◌, List, Result, IfOk};
+ghost use Rattle.certificate.specs.declared.shape.Statement.{Statement};
+ghost use Rattle.certificate.specs.declared.cert.Verdict.{Verdict};
+ghost use Rattle.certificate.specs.Choice.{IsShape};
+ghost use Rattle.certificate.specs.Texts.{sizes_text};
+ghost use Rattle.certificate.specs.Accepts.{Holds};
+ghost use Rattle.cert_check.specs.Types.{CheckFault};
+ghost use Rattle.cert_check.specs.Checks.{Checks, IsChecked};
+
+use crate::fault::CheckFault;
+use crate::forced::follow;
+use crate::laws::one_answer;
+use crate::verdict::judge;
+use certificate::laws::accepted;
+use certificate::{TextFault, Verdict, read_cert, read_sizes};
+use std::alloc::Global;
+
+/// The verdict that the texts show, or their first fault.
+fn judged(alloc: Global, sizes: &[u8], cert: &[u8]) -> Result<Verdict, CheckFault>
+    ensures { IsChecked sizes.now cert.now result }
+{
+    let shape = match read_sizes(alloc, sizes) {
+        Ok(shape) => shape,
+        Err(TextFault::BadLine(line)) => return Err(CheckFault::BadSizes(line)),
+        Err(TextFault::NoMemory) => return Err(CheckFault::NoMemory),
+    };
+    let cert = match read_cert(alloc, cert) {
+        Ok(cert) => cert,
+        Err(TextFault::BadLine(line)) => return Err(CheckFault::BadCertificate(line)),
+        Err(TextFault::NoMemory) => return Err(CheckFault::NoMemory),
+    };
+    let statements = shape.statements();
+    let long = follow(alloc, statements, &cert.order)?;
+    judge(statements, &long, cert.verdict)?;
+    Ok(cert.verdict)
+}
+
+/// Checks a certificate against the sizes of a program, and answers what it shows. Each of its lines is tested in a time
+/// that depends on neither text: the whole takes one in the order of the lengths of the texts.
+///
+/// # Errors
+///
+/// The first of these that is found: a bad line of the sizes, then of the certificate; then, for each member of the
+/// order, that it is no jump whose size may be chosen, is named twice, or is not forced by those before it; then, for
+/// `BEST`, the lowest jump that is short and does not reach its target, and a wrong total; for `RANGE`, a statement that
+/// is not out of range; for `SIZE`, a wrong total. [`CheckFault::NoMemory`] where memory runs out, at whatever point.
+pub fn check(alloc: Global, sizes: &[u8], cert: &[u8]) -> Result<Verdict, CheckFault>
+    // What is answered is what the texts come to, but for memory: a verdict that the certificate shows, or the first fault.
+    ensures answer { IsChecked sizes.now cert.now result }
+
+    // The texts come to one thing alone, so no other is answered.
+    ensures only { (answer : Result Verdict CheckFault) → Checks sizes.now cert.now answer →
+        (result ≡ answer) ⊎ (result ≡ Err CheckFault.NoMemory) }
+
+    // Whoever made the texts, a verdict holds of every choice of the shape that the sizes spell.
+    ensures verdict { IfOk result (λ verdict. (shape : List Statement) → IsShape shape → sizes.now ≡ sizes_text shape →
+        Holds shape verdict) }
+{
+    one_answer();
+    accepted();
+    judged(alloc, sizes, cert)
+}

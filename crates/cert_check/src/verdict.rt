@@ -1,0 +1,60 @@
+//! The verdict after the whole order.
+
+ghost use Rattle.std.specs.Prelude.{MatchBool};
+ghost use Rattle.certificate.specs.Choice.{chosen, total};
+ghost use Rattle.certificate.specs.Accepts.{IsOutOfRange};
+ghost use Rattle.cert_check.specs.Walking.{IsJudged, IsLayout, IsTotalChecked};
+
+use crate::fault::CheckFault;
+use crate::layout::{first_miss, misses, total};
+use certificate::{Statement, Verdict};
+
+/// The bytes of the largest program, from 0100H to FCFFH.
+const MAX_TOTAL: u32 = 64_512;
+
+/// Whether a statement is a jump that is always short and does not reach its target.
+fn is_out_of_range(statements: &[Statement], long: &[bool], k: usize) -> bool
+    requires { IsLayout statements.now long.now }
+    ensures { MatchBool result (IsOutOfRange (chosen long.now) statements.now k)
+        (¬ IsOutOfRange (chosen long.now) statements.now k) }
+{
+    match statements.get(k) {
+        Some(Statement::Short(_)) => misses(statements, long, k),
+        _ => false,
+    }
+}
+
+/// Whether the program takes as many bytes as a verdict says, and they are few or too many, as it says.
+fn check_total(statements: &[Statement], long: &[bool], verdict: Verdict) -> Result<(), CheckFault>
+    requires { IsLayout statements.now long.now }
+    ensures { IsTotalChecked (total (chosen long.now) statements.now) verdict result }
+{
+    let bytes = total(statements, long);
+    let fits = bytes <= MAX_TOTAL;
+    match verdict {
+        Verdict::Best(n) if bytes == n && fits => Ok(()),
+        Verdict::TooLarge(n) if bytes == n && !fits => Ok(()),
+        Verdict::Range(_) => Ok(()),
+        _ => Err(CheckFault::WrongTotal),
+    }
+}
+
+/// Judges a verdict where these jumps are long.
+pub(crate) fn judge(
+    statements: &[Statement],
+    long: &[bool],
+    verdict: Verdict,
+) -> Result<(), CheckFault>
+    requires { IsLayout statements.now long.now }
+    ensures { IsJudged (chosen long.now) statements.now verdict result }
+{
+    match verdict {
+        Verdict::Best(_) => match first_miss(statements, long) {
+            Some(k) => Err(CheckFault::StillShort(k)),
+            None => check_total(statements, long, verdict),
+        },
+        Verdict::Range(k) if is_out_of_range(statements, long, k as usize) => Ok(()),
+        Verdict::Range(k) => Err(CheckFault::NotOutOfRange(k)),
+        Verdict::TooLarge(_) => check_total(statements, long, verdict),
+    }
+}

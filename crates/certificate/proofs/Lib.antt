@@ -1,0 +1,6 @@
+pub mod Breaks
+pub mod CertTexts
+pub mod ForcingLemmas
+pub mod Numbers
+pub mod SizesReading
+pub mod SizesTexts

@@ -1,0 +1,38 @@
+use Rattle.std.specs.Prelude.{◌≡◌, ℕ, ◌<◌, List}
+use Rattle.certificate.specs.Types.{Statement, Verdict}
+use Rattle.certificate.specs.declared.cert.Verdict.TheVariants.{Best, Range, TooLarge}
+use Rattle.certificate.specs.Choice.{Choice, IsShape, IsShort, Reaches, IsValid, IsBest, total}
+use Rattle.certificate.specs.Forcing.{after, IsForcing}
+use Rattle.certificate.specs.Texts.{sizes_text, cert_text, IsCert}
+
+-- When a certificate is good, and what a good one shows.
+
+-- jump k is always short and does not reach its target
+pub record IsOutOfRange (c : Choice) (shape : List Statement) (k : ℕ) : Type 0 where
+  pub target : ℕ
+  pub jump : IsShort shape k target
+  pub misses : ¬ Reaches c shape k target
+
+-- what a verdict says of one choice
+abbrev pub Shows : Choice → List Statement → Verdict → Type 0
+Shows c shape (Best n) = IsValid c shape × (total c shape ≡ n)
+Shows c shape (Range k) = IsOutOfRange c shape k
+Shows c shape (TooLarge n) = (total c shape ≡ n) × (64512 < n)
+
+-- The texts spell a shape, and a forcing order of it with this verdict, which holds of the choice after that order. The
+-- order need not be least-first.
+pub record Accepts (sizes cert : List ℕ) (verdict : Verdict) : Type 0 where
+  pub shape : List Statement
+  pub order : List ℕ
+  pub is_shape : IsShape shape
+  pub sizes_are : sizes ≡ sizes_text shape
+  pub is_cert : IsCert order verdict
+  pub cert_is : cert ≡ cert_text order verdict
+  pub forcing : IsForcing shape order
+  pub shown : Shows (after order) shape verdict
+
+-- what a verdict says of every choice
+abbrev pub Holds : List Statement → Verdict → Type 0
+Holds shape (Best n) = (c : Choice) × IsBest c shape × (total c shape ≡ n)
+Holds shape (Range k) = (c : Choice) → ¬ IsValid c shape
+Holds shape (TooLarge n) = (c : Choice) → ¬ IsValid c shape
