@@ -8,4 +8,5 @@ pub mod SecondPass
 pub mod Reads
 pub mod Layout
 pub mod Emit
+pub mod Certified
 pub mod Built

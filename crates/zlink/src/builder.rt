@@ -9,6 +9,7 @@ ghost use Rattle.zlink.specs.Program.{IsProgram};
 ghost use Rattle.zlink.specs.SecondPass.{statement_in};
 
 use crate::assemble::assemble;
+use crate::certify::{Texts, certify, tell_verdict};
 use crate::emit::emit;
 use crate::fault::{AsmStop, BuildFault, LinkFault};
 use crate::laws::one_answer;
@@ -25,20 +26,14 @@ fn link(alloc: Global, program: &[Body<u32>]) -> Result<Built, LinkFault>
 {
     let shape = shape_of(alloc, program)?;
     let growth = least(alloc, &shape)?;
+    let Texts { sizes, cert } = certify(alloc, &shape, &growth)?;
     if let Verdict::Range(_) | Verdict::TooLarge(_) = growth.verdict {
-        return Err(LinkFault::NoFit {
-            why: growth.verdict,
-            sizes: Vec::new(alloc),
-            cert: Vec::new(alloc),
-        });
+        let why = tell_verdict(growth.verdict);
+        return Err(LinkFault::NoFit { why, sizes, cert });
     }
     let places = places_of(alloc, shape.statements(), &growth.long)?;
     let com = emit(alloc, program, &places, &growth.long)?;
-    Ok(Built {
-        com,
-        sizes: Vec::new(alloc),
-        cert: Vec::new(alloc),
-    })
+    Ok(Built { com, sizes, cert })
 }
 
 /// The file of one text, or its fault.

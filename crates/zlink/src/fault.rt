@@ -8,7 +8,7 @@ ghost use Rattle.zlink.specs.declared.fault.LinkFault.TheVariants as link;
 
 use asm_scan::ScanFault;
 use asm_stmt::StmtFault;
-use relax::{NoMemory, Verdict};
+use certificate::Verdict;
 use std::alloc::{AllocError, AllocFailed};
 use thiserror::Error;
 
@@ -136,10 +136,18 @@ impl From<AllocError> for LinkFault {
     }
 }
 
-impl From<NoMemory> for LinkFault {
+impl From<relax::NoMemory> for LinkFault {
     ghost from_gives = { λ _ e. e ≡ link.NoMemory };
 
-    fn from(_: NoMemory) -> LinkFault {
+    fn from(_: relax::NoMemory) -> LinkFault {
+        LinkFault::NoMemory
+    }
+}
+
+impl From<certificate::NoMemory> for LinkFault {
+    ghost from_gives = { λ _ e. e ≡ link.NoMemory };
+
+    fn from(_: certificate::NoMemory) -> LinkFault {
         LinkFault::NoMemory
     }
 }

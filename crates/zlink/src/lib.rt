@@ -3,6 +3,7 @@
 
 mod assemble;
 mod builder;
+mod certify;
 mod emit;
 mod fault;
 mod first_pass;

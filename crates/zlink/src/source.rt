@@ -13,8 +13,8 @@ pub struct Source<'a> {
 pub struct Built {
     /// The .COM file, which is loaded at 0100H.
     pub com: Vec<u8>,
-    /// The sizes text, empty until there is a certificate.
+    /// The sizes text: what the program's size depends on.
     pub sizes: Vec<u8>,
-    /// The certificate, empty until there is one.
+    /// The certificate that no choice of short and long jumps that fits takes fewer bytes.
     pub cert: Vec<u8>,
 }

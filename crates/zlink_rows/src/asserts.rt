@@ -1,6 +1,7 @@
 //! What each row asserts.
 
-use relax::Verdict;
+use cert_check::check;
+use certificate::Verdict;
 use std::alloc::Global;
 use std::process::Abort;
 use std::test::Fail;
@@ -26,7 +27,7 @@ fn build_text(alloc: Global, text: &[u8]) -> Result<Result<Built, BuildFault>, F
     }
 }
 
-/// Asserts that a text makes a file of these bytes, with no sizes text and no certificate.
+/// Asserts that a text makes a file of these bytes, and that its certificate is a good one.
 pub(crate) fn assert_bytes(
     rt: &impl Abort,
     alloc: Global,
@@ -37,11 +38,55 @@ pub(crate) fn assert_bytes(
         Ok(built) => {
             assert_eq!(rt; built.com.len(), want.len());
             assert!(rt; built.com.as_slice() == want);
-            assert!(rt; built.sizes.is_empty() && built.cert.is_empty());
+            let Ok(total) = u32::try_from(want.len()) else {
+                return Err(Fail::from("the file is too long"));
+            };
+            assert_certified(rt, alloc, &built.sizes, &built.cert, Verdict::Best(total))
+        }
+        Err(fault) => panic!(rt; "{fault:?}"),
+    }
+}
+
+/// Asserts that the checker, which knows the two texts alone, proves this verdict.
+fn assert_certified(
+    rt: &impl Abort,
+    alloc: Global,
+    sizes: &[u8],
+    cert: &[u8],
+    want: Verdict,
+) -> Result<(), Fail> {
+    match check(alloc, sizes, cert) {
+        Ok(verdict) => {
+            assert_eq!(rt; verdict, want);
             Ok(())
         }
         Err(fault) => panic!(rt; "{fault:?}"),
     }
+}
+
+/// The sizes text and the certificate of a text.
+fn texts_of(alloc: Global, text: &[u8]) -> Result<(Vec<u8>, Vec<u8>), Fail> {
+    match build_text(alloc, text)? {
+        Ok(built) => Ok((built.sizes, built.cert)),
+        Err(BuildFault::Link(LinkFault::NoFit { sizes, cert, .. })) => Ok((sizes, cert)),
+        Err(_) => Err(Fail::from("a fault where two texts were wanted")),
+    }
+}
+
+/// Asserts the lines of a text's sizes and of its certificate, but for the first of each and `END`.
+pub(crate) fn assert_texts(
+    rt: &impl Abort,
+    alloc: Global,
+    text: &[u8],
+    sizes: &str,
+    cert: &str,
+) -> Result<(), Fail> {
+    let texts = texts_of(alloc, text)?;
+    let want = format!(in alloc; "Z80SIZES 1\n{sizes}END\n")?;
+    assert!(rt; texts.0.as_slice() == want.as_bytes());
+    let want = format!(in alloc; "Z80CERT 1\n{cert}")?;
+    assert!(rt; texts.1.as_slice() == want.as_bytes());
+    Ok(())
 }
 
 /// Asserts that a text makes a file of these pieces.
@@ -87,17 +132,18 @@ pub(crate) fn assert_fault(
     assert_refused(rt, alloc, text, &BuildFault::Asm { source: 0, fault })
 }
 
-/// Asserts that no choice of short and long jumps fits, with no sizes text and no certificate.
+/// Asserts that no choice of short and long jumps fits, and that the certificate of it is a good one.
 pub(crate) fn assert_no_fit(
     rt: &impl Abort,
     alloc: Global,
     text: &[u8],
-    why: Verdict,
+    want: Verdict,
 ) -> Result<(), Fail> {
-    let want = BuildFault::Link(LinkFault::NoFit {
-        why,
-        sizes: Vec::new(alloc),
-        cert: Vec::new(alloc),
-    });
-    assert_refused(rt, alloc, text, &want)
+    match build_text(alloc, text)? {
+        Err(BuildFault::Link(LinkFault::NoFit { why, sizes, cert })) => {
+            assert_eq!(rt; why, want);
+            assert_certified(rt, alloc, &sizes, &cert, want)
+        }
+        _ => Err(Fail::from("another answer where no choice fits")),
+    }
 }

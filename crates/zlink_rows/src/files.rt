@@ -1,7 +1,7 @@
 //! Which file a text makes.
 
 use crate::asserts::{Piece, assert_bytes, assert_file, assert_no_fit};
-use relax::Verdict::{self, Range, TooLarge};
+use certificate::Verdict::{self, Range, TooLarge};
 use std::test::Fail;
 
 #[test]

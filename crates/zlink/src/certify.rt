@@ -1,0 +1,71 @@
+//! The two texts that certify what is said of a program's choices.
+
+ghost use Rattle.std.specs.Prelude.{◌≡◌, IfOk, map};
+ghost use Rattle.ruler.specs.Choice.{IsShape};
+ghost use Rattle.relax.specs.Growth.{IsGrowth};
+ghost use Rattle.certificate.specs.Choice.{IsShape as IsToldShape};
+ghost use Rattle.zlink.specs.Certified.{IsCertificate, told, told_verdict};
+
+use certificate::{Cert, NoMemory, print_cert, print_sizes};
+use relax::Growth;
+use std::alloc::{AllocError, Global};
+
+/// A sizes text and its certificate.
+#[derive(Drop)]
+pub(crate) struct Texts {
+    pub(crate) sizes: Vec<u8>,
+    pub(crate) cert: Vec<u8>,
+}
+
+/// A statement's size, as a certificate tells it.
+fn tell(statement: relax::Statement) -> certificate::Statement
+    ensures { result ≡ told statement }
+{
+    match statement {
+        relax::Statement::Fixed(size) => certificate::Statement::Fixed(size),
+        relax::Statement::Jump(target) => certificate::Statement::Jump(target),
+        relax::Statement::Short(target) => certificate::Statement::Short(target),
+    }
+}
+
+/// A verdict, as a certificate tells it.
+pub(crate) fn tell_verdict(verdict: relax::Verdict) -> certificate::Verdict
+    ensures { result ≡ told_verdict verdict }
+{
+    match verdict {
+        relax::Verdict::Best(total) => certificate::Verdict::Best(total),
+        relax::Verdict::Range(statement) => certificate::Verdict::Range(statement),
+        relax::Verdict::TooLarge(total) => certificate::Verdict::TooLarge(total),
+    }
+}
+
+/// A shape, as a sizes text tells it.
+fn tell_shape(alloc: Global, shape: &relax::Shape) -> Result<certificate::Shape, AllocError>
+    ensures { IfOk result (λ s. s ≡ map told shape.now) }
+{
+    let mut statements = Vec::new(alloc);
+    for statement in shape.statements() {
+        statements.push(tell(*statement))?;
+    }
+    Ok(certificate::Shape::new(statements))
+}
+
+/// The sizes text of a shape, and the certificate of its growth.
+pub(crate) fn certify(
+    alloc: Global,
+    shape: &relax::Shape,
+    growth: &Growth,
+) -> Result<Texts, NoMemory>
+    requires { IsGrowth shape.now growth.now }
+    ensures { IfOk result (λ t. IsCertificate shape.now t.sizes.items t.cert.items (told_verdict growth.now.verdict)) }
+{
+    let told = tell_shape(alloc, shape)?;
+    let cert = Cert {
+        order: growth.order.to_vec(alloc)?,
+        verdict: tell_verdict(growth.verdict),
+    };
+    Ok(Texts {
+        sizes: print_sizes(alloc, &told)?,
+        cert: print_cert(alloc, &cert)?,
+    })
+}
