@@ -1,12 +1,12 @@
 -- How printing a file ends, from how its steps end.
-use Rattle.std.proofs.Common.{◌≡◌, ℕ, ◌≤◌, Bool, true, List, Option, None, Some, IfSome, Result, Ok, Err, length, sym, subst, inl, inr}
+use Rattle.std.proofs.Common.{ℕ, ◌≤◌, Bool, List, Option, None, Some, IfSome, Result, Ok, Err, length, sym, subst, inl, inr}
 use Rattle.std.specs.Io.KnownBytes.{Consumes, IsAtEnd}
 use Rattle.std.proofs.KnownBytes.{Consumes-whole, Keeps-refl}
-use Rattle.zlink.specs.Built.{IsAnswer, IsBuilt}
+use Rattle.zlink.specs.Built.{IsAnswer}
 use Rattle.zlink.specs.declared.fault.BuildFault.{BuildFault}
 use Rattle.z80dev.specs.declared.fault.Fault.{Fault}
 use Rattle.z80dev.specs.declared.fault.Fault.TheVariants as fault
-use Rattle.z80dev.specs.Pipe.{Ends, IsFileFault, IsTooLong, IsUnread, Writes}
+use Rattle.z80dev.specs.Pipe.{Ends, IsFileOf, IsUnread, Writes}
 
 -- without a text nothing is written
 pub unread : (left kept : Option (List ℕ)) (failed unwritten : Bool) (failure : Fault) → IsUnread left failed failure
@@ -22,7 +22,7 @@ pub refused : (left end kept : Option (List ℕ)) (unread unwritten : Bool) (tex
 refused left end kept unread unwritten text refusal taken at_end answer =
     Consumes-whole left end text (λ t. Ends t kept kept unread unwritten (Err (fault.Build refusal))) taken at_end (answer, Keeps-refl kept)
 
-writing : (text file : List ℕ) (old new : Option (List ℕ)) (unread unwritten : Bool) (r : Result Unit Fault) → length text ≤ 16777216 → IsBuilt text file
+writing : (text file : List ℕ) (old new : Option (List ℕ)) (unread unwritten : Bool) (r : Result Unit Fault) → length text ≤ 16777216 → IsFileOf text file
     → Writes file old new unwritten r → Ends text old new unread unwritten r
 writing text file old new unread unwritten (Ok done) limit built wrote = (limit, file, built, wrote)
 writing text file old new unread unwritten (Err fault.File) limit built wrote = (inr (inr wrote), inr (limit, file, built))
@@ -30,6 +30,6 @@ writing text file old new unread unwritten (Err (fault.Build refusal)) limit bui
 
 -- a text whose file is written
 pub written : (left end old new : Option (List ℕ)) (unread unwritten : Bool) (text file : List ℕ) (r : Result Unit Fault) → Consumes left end text → IsAtEnd end
-    → length text ≤ 16777216 → IsBuilt text file → Writes file old new unwritten r → IfSome left (λ t. Ends t old new unread unwritten r)
+    → length text ≤ 16777216 → IsFileOf text file → Writes file old new unwritten r → IfSome left (λ t. Ends t old new unread unwritten r)
 written left end old new unread unwritten text file r taken at_end limit built wrote =
     Consumes-whole left end text (λ t. Ends t old new unread unwritten r) taken at_end (writing text file old new unread unwritten r limit built wrote)

@@ -1,7 +1,6 @@
 -- A text that is read piece by piece.
-use Rattle.std.proofs.Common.{◌≡◌, ℕ, ◌+◌, ◌<◌, ◌≤◌, ◌⊎◌, Bool, true, List, ◌++◌, Option, None, Some, IfSome, length, inl, inr, arith}
+use Rattle.std.proofs.Common.{◌≡◌, ℕ, ◌≤◌, ◌⊎◌, Bool, true, List, Option, length}
 use Rattle.std.specs.Io.KnownBytes.{Consumes}
-use Rattle.z80dev.specs.Pipe.{IsTooLong}
 
 -- What was read is what the reader gave, and is within the limit; each turn it gave a byte at least, or failed.
 pub record Reading (old new : Option (List ℕ)) (text : List ℕ) (failed : Bool) (turns : ℕ) : Type 0 where

@@ -23,13 +23,17 @@ abbrev pub IsUnread : Option (List ℕ) → Bool → Fault → Type 0
 IsUnread text failed fault.File = (failed ≡ true) ⊎ IfSome text IsTooLong
 IsUnread text failed (fault.Build refusal) = refusal ≡ build.Link link.NoMemory
 
+-- the file is built of the text, with its sizes text and its certificate
+abbrev pub IsFileOf : List ℕ → List ℕ → Type 0
+IsFileOf text file = (sizes : List ℕ) × (cert : List ℕ) × IsBuilt text file sizes cert
+
 -- A file is built of the text, which is within the limit.
 abbrev pub HasFile : List ℕ → Type 0
-HasFile text = (length text ≤ 16777216) × (file : List ℕ) × IsBuilt text file
+HasFile text = (length text ≤ 16777216) × (file : List ℕ) × IsFileOf text file
 
 -- What was written is a file built of the text, in lower-case hexadecimal, and a line feed.
 abbrev pub Prints : List ℕ → Option (List ℕ) → Option (List ℕ) → Type 0
-Prints text old new = (length text ≤ 16777216) × (file : List ℕ) × IsBuilt text file × Appends old new (encode_lower file ++ 10 ∷ [])
+Prints text old new = (length text ≤ 16777216) × (file : List ℕ) × IsFileOf text file × Appends old new (encode_lower file ++ 10 ∷ [])
 
 -- Why a file fault is met: the text is too long, or reading or writing failed.
 abbrev pub IsFileFault : List ℕ → Bool → Bool → Type 0

@@ -6,7 +6,7 @@ ghost use Rattle.z80dev.specs.declared.fault.Fault.TheVariants as fault;
 ghost use Rattle.zlink.specs.declared.fault.LinkFault.TheVariants as link;
 ghost use Rattle.zlink.specs.declared.fault.BuildFault.TheVariants as build;
 
-use relax::Verdict;
+use certificate::Verdict;
 use std::alloc::AllocError;
 use std::fmt;
 use zlink::{AsmFault, BuildFault, LinkFault, Why};

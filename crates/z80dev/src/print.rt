@@ -32,7 +32,11 @@ fn write_file<W: Write>(alloc: Global, file: &[u8], output: &mut Watched<W>) -> 
 ///
 /// [`Fault::Build`] where `build` refuses the text, or memory runs out; nothing is written then. [`Fault::File`] where
 /// the text is above 16,777,216 bytes, reading fails or takes more than 16,777,217 reads, or writing fails.
-pub fn print_file<I: Input, W: Write>(alloc: Global, input: &mut I, output: &mut Watched<W>) -> Result<(), Fault>
+pub fn print_file<I: Input, W: Write>(
+    alloc: Global,
+    input: &mut I,
+    output: &mut Watched<W>,
+) -> Result<(), Fault>
     ensures { IfSome (I.remaining input.old) (λ text.
         Ends text (W.contents output.old.stream) (W.contents output.new.stream) (I.failed input.new) output.new.failed result) }
 {

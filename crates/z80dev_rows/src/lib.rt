@@ -2,6 +2,10 @@
 #![tactic(auto)]
 
 #[cfg(test)]
+mod certificates;
+#[cfg(test)]
 mod rows;
 #[cfg(test)]
 mod streams;
+#[cfg(test)]
+mod words;

@@ -50,7 +50,12 @@ fn of_a_text_that_is_refused(rt: HostRuntime) -> Result<(), Fail> {
             (b"JP X", 1, b"", b"error: MAIN(1): Undefined\n"),
             (b"NOP\nDB 'x", 1, b"", b"error: MAIN(2): OpenString\n"),
             (b"JR X\nDS 128\nX:", 1, b"", b"error: Range(0)\n"),
-            (b"JR X\nDS 125\nJP Y\nX: DS 128\nY: RET", 1, b"", b"error: Range(0)\n"),
+            (
+                b"JR X\nDS 125\nJP Y\nX: DS 128\nY: RET",
+                1,
+                b"",
+                b"error: Range(0)\n",
+            ),
             (b"DS 64511\nX: JP X", 1, b"", b"error: Size(64513)\n"),
         ],
     )

@@ -5,7 +5,9 @@ use std::test::Fail;
 use z80dev::{Watched, pipe};
 
 const TEXT: &[u8] = b"JP X\nNOP\nX: RET\n";
+
 const PRINTED: &[u8] = b"180100c9\n";
+
 const FILE_FAULT: &[u8] = b"error: file MAIN\n";
 
 /// Gives a text byte by byte, but for the reads that fail.
@@ -127,7 +129,10 @@ fn writers_that_fail(rt: HostRuntime) -> std::result::Result<(), Fail> {
     for (text, status) in rows {
         let mut input: &[u8] = text;
         let mut output = Watched::new(Vec::new(rt.alloc()));
-        assert_eq!(&rt; pipe(rt.alloc(), &mut input, &mut output, &mut Full), status);
+        assert_eq!(&rt;
+            pipe(rt.alloc(), &mut input, &mut output, &mut Full),
+            status
+        );
     }
     Ok(())
 }
@@ -136,7 +141,12 @@ fn writers_that_fail(rt: HostRuntime) -> std::result::Result<(), Fail> {
 fn a_reader_without_end(rt: HostRuntime) -> std::result::Result<(), Fail> {
     let mut output = Watched::new(Vec::new(rt.alloc()));
     let mut errors: Vec<u8> = Vec::new(rt.alloc());
-    let status = pipe(rt.alloc(), &mut Watched::new(Endless), &mut output, &mut errors);
+    let status = pipe(
+        rt.alloc(),
+        &mut Watched::new(Endless),
+        &mut output,
+        &mut errors,
+    );
     assert_eq!(&rt; status, 3);
     assert!(&rt; output.into_stream().is_empty());
     assert!(&rt; errors.as_slice() == FILE_FAULT);
@@ -147,7 +157,12 @@ fn a_reader_without_end(rt: HostRuntime) -> std::result::Result<(), Fail> {
 fn a_reader_that_is_interrupted_without_end(rt: HostRuntime) -> std::result::Result<(), Fail> {
     let mut output = Watched::new(Vec::new(rt.alloc()));
     let mut errors: Vec<u8> = Vec::new(rt.alloc());
-    let status = pipe(rt.alloc(), &mut Watched::new(Interrupted), &mut output, &mut errors);
+    let status = pipe(
+        rt.alloc(),
+        &mut Watched::new(Interrupted),
+        &mut output,
+        &mut errors,
+    );
     assert_eq!(&rt; status, 3);
     assert!(&rt; output.into_stream().is_empty());
     assert!(&rt; errors.as_slice() == FILE_FAULT);

@@ -1,7 +1,7 @@
 use Rattle.std.proofs.Common.{refl, subst, Err}
 use Rattle.std.proofs.lemmas.Result.{err_from_is_err_and}
-use Rattle.zlink.specs.Built.{IsAnswer, IsBuilt}
-use Rattle.z80dev.specs.Pipe.{Writes}
+use Rattle.zlink.specs.Built.{IsAnswer}
+use Rattle.z80dev.specs.Pipe.{IsFileOf, Writes}
 use Rattle.z80dev.proofs.Ending.{refused, written}
 use Rattle.z80dev.proofs.print.print_file.Goals as goal
 
@@ -14,6 +14,6 @@ returns-in_err-built g c =
 
 pub returns : goal.returns
 returns g c =
-    let built = subst (λ t. IsBuilt t c.in_ok-built.built.com.items) c.deref.ensures.value (c.in_ok-built.ensures.answer _ refl) in
+    let built = subst (λ t. IsFileOf t c.in_ok-built.built.com.items) c.deref.ensures.value (c.in_ok-built.built.sizes.items, c.in_ok-built.built.cert.items, c.in_ok-built.ensures.answer _ refl) in
     let wrote = subst (λ f. Writes f (g.W.Write.contents c.args.output.now.stream) (g.W.Write.contents c.write_file.new.output.stream) c.write_file.new.output.failed c.write_file.result) c.deref-2.ensures.value c.write_file.ensures in
     written _ _ _ _ _ _ _ _ _ c.in_ok-text.ensures.text c.in_ok-text.ensures.end c.in_ok-text.ensures.limit built wrote
