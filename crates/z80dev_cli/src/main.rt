@@ -54,7 +54,13 @@ fn check_files(rt: &HostRuntime, sizes: &str, cert: &str) -> u8 {
         Err(fault) => return refuse_file(rt, cert, &fault),
     };
     let mut output = Watched::new(rt.stdout());
-    check_texts(rt.alloc(), &sizes_text, &cert_text, &mut output, &mut rt.stderr())
+    check_texts(
+        rt.alloc(),
+        &sizes_text,
+        &cert_text,
+        &mut output,
+        &mut rt.stderr(),
+    )
 }
 
 /// Prints the file of the text on standard input.

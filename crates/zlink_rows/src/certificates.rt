@@ -8,7 +8,11 @@ fn of_a_file(rt: HostRuntime) -> Result<(), Fail> {
     let rows: [(&[u8], &str, &str); 6] = [
         (b"", "", "BEST 0\n"),
         (b"JP X\nDS 127\nX: RET", "J 2\nF 127\nF 1\n", "BEST 130\n"),
-        (b"JP X\nDS 128\nX: RET", "J 2\nF 128\nF 1\n", "L 0\nBEST 132\n"),
+        (
+            b"JP X\nDS 128\nX: RET",
+            "J 2\nF 128\nF 1\n",
+            "L 0\nBEST 132\n",
+        ),
         (
             b"JP X\nDS 125\nJP Y\nX: DS 128\nY: RET",
             "J 3\nF 125\nJ 4\nF 128\nF 1\n",

@@ -67,14 +67,32 @@ fn the_first_of_several(rt: HostRuntime) -> Result<(), Fail> {
 #[test]
 fn sentences_of_faults(rt: HostRuntime) -> Result<(), Fail> {
     let rows = [
-        (Scan(BadByte), "source 1, line 3: a byte that may not stand here"),
+        (
+            Scan(BadByte),
+            "source 1, line 3: a byte that may not stand here",
+        ),
         (Stmt(UnknownWord), "source 1, line 3: no such word"),
-        (Stmt(BadOperands), "source 1, line 3: a word with operands that it does not take"),
-        (Stmt(ByteRange), "source 1, line 3: a value that does not fit into its byte"),
-        (Stmt(ReservedName), "source 1, line 3: a label that is a reserved name"),
-        (Duplicate, "source 1, line 3: a label that an earlier line defines"),
+        (
+            Stmt(BadOperands),
+            "source 1, line 3: a word with operands that it does not take",
+        ),
+        (
+            Stmt(ByteRange),
+            "source 1, line 3: a value that does not fit into its byte",
+        ),
+        (
+            Stmt(ReservedName),
+            "source 1, line 3: a label that is a reserved name",
+        ),
+        (
+            Duplicate,
+            "source 1, line 3: a label that an earlier line defines",
+        ),
         (Undefined, "source 1, line 3: a name that no line defines"),
-        (TooManyStatements, "source 1, line 3: more than 20,000 statements"),
+        (
+            TooManyStatements,
+            "source 1, line 3: more than 20,000 statements",
+        ),
     ];
     for (why, sentence) in rows {
         let fault = BuildFault::Asm {
@@ -84,6 +102,9 @@ fn sentences_of_faults(rt: HostRuntime) -> Result<(), Fail> {
         assert_eq!(rt; format!(in rt.alloc(); "{fault}")?.as_str(), sentence);
     }
     let refused = BuildFault::Link(LinkFault::NoMemory);
-    assert_eq!(rt; format!(in rt.alloc(); "{refused}")?.as_str(), "out of memory");
+    assert_eq!(rt;
+        format!(in rt.alloc(); "{refused}")?.as_str(),
+        "out of memory"
+    );
     Ok(())
 }
