@@ -1,0 +1,4 @@
+mod Tests
+mod Carries
+mod Packed
+mod Tables

@@ -1,0 +1,5 @@
+pub mod Types
+pub mod Flags
+pub mod Bytes
+pub mod Words
+pub mod Rotations

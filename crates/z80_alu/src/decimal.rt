@@ -1,0 +1,75 @@
+//! Decimal adjustment, and the operations on A and C alone.
+
+use crate::bits::{has_even_parity, is_negative};
+use crate::flags::Flags;
+
+impl Flags {
+    ghost use Rattle.std.specs.Prelude.{◌≡◌, ◌-◌};
+    ghost use Rattle.z80_alu.specs.Bytes.{correction, adjusted, adjust_flags, complement_flags, set_carry_flags, complement_carry_flags};
+
+    /// DAA: A made the decimal result of the last operation.
+    pub fn adjust(&mut self, a: u8) -> u8
+        ensures value { result ≡ adjusted a self.old }
+        ensures flags { self.new ≡ adjust_flags a self.old }
+    {
+        let value = self.adjusted(a);
+        self.sign = is_negative(value);
+        self.zero = value == 0;
+        self.half_carry = (a ^ value) & 0x10 != 0;
+        self.parity_overflow = has_even_parity(value);
+        self.carry |= a > 0x99;
+        value
+    }
+
+    fn adjusted(&self, a: u8) -> u8
+        ensures { result ≡ adjusted a self.now }
+    {
+        let correction = self.correction(a);
+        if self.subtract {
+            a.wrapping_sub(correction)
+        } else {
+            a.wrapping_add(correction)
+        }
+    }
+
+    /// What is added to A, or taken away.
+    fn correction(&self, a: u8) -> u8
+        ensures { result ≡ correction a self.now }
+    {
+        let low = if self.half_carry || a & 0x0F > 9 {
+            0x06
+        } else {
+            0
+        };
+        let high = if self.carry || a > 0x99 { 0x60 } else { 0 };
+        low + high
+    }
+
+    /// CPL: every bit of A turned over.
+    pub fn complement(&mut self, a: u8) -> u8
+        ensures value { result ≡ 255 - a }
+        ensures flags { self.new ≡ complement_flags self.old }
+    {
+        self.half_carry = true;
+        self.subtract = true;
+        !a
+    }
+
+    /// SCF.
+    pub fn set_carry(&mut self)
+        ensures { self.new ≡ set_carry_flags self.old }
+    {
+        self.half_carry = false;
+        self.subtract = false;
+        self.carry = true;
+    }
+
+    /// CCF.
+    pub fn complement_carry(&mut self)
+        ensures { self.new ≡ complement_carry_flags self.old }
+    {
+        self.half_carry = self.carry;
+        self.subtract = false;
+        self.carry = !self.carry;
+    }
+}

@@ -1,0 +1,28 @@
+//! The Zilog Z80 with 64 KB of memory: one turn of each documented instruction.
+//!
+//! [`Cpu`] has the registers, [`Memory`] the bytes, and [`step`] carries out the instruction at PC, by the Z80 CPU User
+//! Manual (UM0080). Time, interrupts and ports are left out: `IN` gives FFH, `OUT` goes nowhere, and R is a plain byte.
+#![tactic(auto)]
+
+mod arithmetic;
+mod blocks;
+mod conditions;
+mod display;
+mod error;
+mod exchange;
+mod execute;
+mod jumps;
+mod memory;
+mod operands;
+pub mod outcome;
+mod registers;
+mod rotations;
+mod stack;
+mod turn;
+mod words;
+
+pub use error::NoMemory;
+pub use memory::Memory;
+pub use registers::{Cpu, Registers};
+pub use turn::step;
+pub use z80_alu::Flags;

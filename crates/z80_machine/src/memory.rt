@@ -1,0 +1,74 @@
+//! The memory.
+
+use crate::error::NoMemory;
+use std::alloc::Global;
+use std::marker::Model;
+
+const SIZE: usize = 65_536;
+
+/// 65,536 bytes. A contract sees their list.
+#[derive(Debug, Drop)]
+pub struct Memory {
+    bytes: Vec<u8>,
+}
+
+impl Model for Memory {
+    ghost use Rattle.std.specs.Prelude.{◌≡◌, List, ℕ, length};
+
+    ghost Value = { List ℕ };
+
+    ghost view = { λ m. m.bytes.items };
+
+    ghost invariant = { λ m. length m.bytes.items ≡ 65536 };
+}
+
+impl Memory {
+    ghost use Rattle.std.specs.Prelude.{◌≡◌, IfOk, replicate, slice_index, slice_set, length};
+    ghost use Rattle.z80_machine.specs.declared.memory.TheConstants.{SIZE};
+
+    /// Memory of zeros.
+    pub fn new(alloc: Global) -> Result<Memory, NoMemory>
+        ensures { IfOk result (λ memory. memory ≡ replicate SIZE 0) }
+    {
+        Ok(Memory {
+            bytes: vec![in alloc; 0; SIZE]?,
+        })
+    }
+
+    /// The byte at an address.
+    pub fn get(&self, address: u16) -> u8
+        ensures byte { result ≡ slice_index self.now address }
+        ensures size { length self.now ≡ SIZE }
+    {
+        self.bytes[address as usize]
+    }
+
+    /// Sets the byte at an address, and no other.
+    pub fn set(&mut self, address: u16, value: u8)
+        ensures byte { self.new ≡ slice_set self.old address value }
+        ensures size { length self.new ≡ SIZE }
+    {
+        self.bytes[address as usize] = value;
+    }
+}
+
+impl Memory {
+    ghost use Rattle.std.specs.Prelude.{◌≡◌};
+    ghost use Rattle.z80_machine.specs.State.{word_at, with_word_at};
+
+    /// The word at an address and the next, the low byte first.
+    pub fn word(&self, address: u16) -> u16
+        ensures { result ≡ word_at address self.now }
+    {
+        u16::from_le_bytes([self.get(address), self.get(address.wrapping_add(1))])
+    }
+
+    /// Sets them, and no other byte.
+    pub fn set_word(&mut self, address: u16, word: u16)
+        ensures { self.new ≡ with_word_at address word self.old }
+    {
+        let [low, high] = word.to_le_bytes();
+        self.set(address, low);
+        self.set(address.wrapping_add(1), high);
+    }
+}
