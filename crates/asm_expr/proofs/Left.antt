@@ -1,0 +1,11 @@
+-- How many values items leave.
+use Rattle.std.proofs.Common.{◌≡◌, ◌≤◌, ℕ, List, [], length, drop}
+use Rattle.asm_expr.specs.Types.{Item, Atom}
+use Rattle.asm_expr.specs.Expression.{Expression, run}
+
+-- Some items of a list are read, and this many values are left.
+pub record Leaves (items : List (Item Atom)) (read left : ℕ) : Type 0 where
+  pub values : List (Expression Atom)
+  pub runs : run (drop read items) values ≡ run items []
+  pub count : left ≡ length values
+  pub few : left ≤ read

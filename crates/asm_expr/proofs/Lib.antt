@@ -1,0 +1,17 @@
+pub mod Postfix
+pub mod Stack
+pub mod Judging
+pub mod Left
+pub mod Naming
+pub mod Fixed
+pub mod Folding
+pub mod Guards
+pub mod Spreading
+pub mod Settling
+pub mod Parsing
+pub mod Sounding
+pub mod Depths
+pub mod Stacking
+pub mod Steady
+pub mod Weighing
+pub mod Within

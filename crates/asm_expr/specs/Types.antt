@@ -1,0 +1,6 @@
+-- The public types, in one place for this crate and those above it.
+pub use Rattle.asm_expr.specs.declared.fault.ExprFault.{ExprFault}
+pub use Rattle.asm_expr.specs.declared.operator.Unary.{Unary}
+pub use Rattle.asm_expr.specs.declared.operator.Binary.{Binary}
+pub use Rattle.asm_expr.specs.declared.item.Item.{Item}
+pub use Rattle.asm_expr.specs.declared.item.Atom.{Atom}
