@@ -3,7 +3,7 @@ use Rattle.std.proofs.Common.{◌≡◌, ℕ, Option, Some, None, refl, sym, ap,
 use Rattle.std.specs.Option.{option_map}
 use Rattle.asm_expr.specs.Types.{Binary, Atom}
 use Rattle.asm_expr.specs.Arithmetic.{unary, binary}
-use Rattle.asm_expr.specs.Expression.{Expression, Leaf, Prefix, Infix}
+use Rattle.asm_parse.specs.Expression.{Expression, Leaf, Prefix, Infix}
 use Rattle.asm_expr.specs.Items.{value}
 use Rattle.asm_expr.specs.Names.{Table}
 use Rattle.asm_expr.specs.Settling.{difference, or_else, both, fixed, number_or, reduced, Agrees}

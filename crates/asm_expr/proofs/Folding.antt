@@ -2,9 +2,10 @@
 use Rattle.std.proofs.Common.{◌≡◌, ℕ, ◌+◌, List, [], ◌∷◌, ◌++◌, Option, Some, None, Result, Ok, if◌then◌else◌, refl, sym, ap, ◌∙◌, arith, append_assoc, append-nil}
 use Rattle.std.specs.Option.{option_map}
 use Rattle.asm_expr.specs.Types.{Unary, Binary, Item, Atom, ExprFault}
-use Rattle.asm_expr.specs.Arithmetic.{unary, binary, divides}
-use Rattle.asm_expr.specs.Expression.{Expression, Leaf, Prefix, Infix, postfix}
-use Rattle.asm_expr.specs.Source.{Operand}
+use Rattle.asm_parse.specs.Operators.{divides}
+use Rattle.asm_expr.specs.Arithmetic.{unary, binary}
+use Rattle.asm_parse.specs.Expression.{Expression, Leaf, Prefix, Infix, postfix}
+use Rattle.asm_parse.specs.Source.{Operand}
 use Rattle.asm_expr.specs.Names.{Table}
 use Rattle.asm_expr.specs.Settling.{stands_for, replaced, size, size_of, single_place, distance_of, difference, or_else, both, fixed, number_or, reduced, first, divisor_fault, division_fault, divisions_fault, too_large, fault_behind}
 use Rattle.asm_expr.specs.Folding.{root, number_of, ref_of, difference_of, prefixed, joined, item_fault, unless, ◌>>=◌, fold_one, fold_all, settling}

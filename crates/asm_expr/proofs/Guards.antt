@@ -3,10 +3,10 @@ use Rattle.std.proofs.Common.{◌≡◌, ℕ, zero, suc, ◌+◌, ◌≤◌, tru
 use Rattle.std.specs.Cmp.Derive.{both_true}
 use Rattle.std.proofs.lemmas.Bool.{ltb-false}
 use Rattle.asm_expr.specs.Types.{Binary, Item, Atom, ExprFault}
-use Rattle.asm_expr.specs.Arithmetic.{divides}
-use Rattle.asm_expr.specs.Expression.{Expression, Leaf, Prefix, Infix, postfix}
+use Rattle.asm_parse.specs.Operators.{divides}
+use Rattle.asm_parse.specs.Expression.{Expression, Leaf, Prefix, Infix, postfix}
 use Rattle.asm_expr.specs.Items.{is_divisor, is_guarded, is_guarded_behind}
-use Rattle.asm_expr.specs.Source.{Operand}
+use Rattle.asm_parse.specs.Source.{Operand}
 use Rattle.asm_expr.specs.Names.{Table}
 use Rattle.asm_expr.specs.Settling.{replaced, size, fixed, number_or, reduced, first, divisor_fault, division_fault, divisions_fault, too_large, fault_behind, fault}
 use Rattle.asm_expr.specs.Folding.{root}

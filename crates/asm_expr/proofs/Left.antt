@@ -1,7 +1,8 @@
 -- How many values items leave.
 use Rattle.std.proofs.Common.{◌≡◌, ◌≤◌, ℕ, List, [], length, drop}
 use Rattle.asm_expr.specs.Types.{Item, Atom}
-use Rattle.asm_expr.specs.Expression.{Expression, run}
+use Rattle.asm_parse.specs.Expression.{Expression}
+use Rattle.asm_expr.specs.Postfix.{run}
 
 -- Some items of a list are read, and this many values are left.
 pub record Leaves (items : List (Item Atom)) (read left : ℕ) : Type 0 where

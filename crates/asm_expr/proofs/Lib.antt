@@ -8,10 +8,5 @@ pub mod Folding
 pub mod Guards
 pub mod Spreading
 pub mod Settling
-pub mod Parsing
-pub mod Sounding
-pub mod Depths
-pub mod Stacking
-pub mod Steady
 pub mod Weighing
 pub mod Within

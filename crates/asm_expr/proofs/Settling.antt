@@ -3,13 +3,15 @@ use Rattle.std.proofs.Common.{◌≡◌, ℕ, ◌+◌, ◌≤◌, ◌<◌, List,
 use Rattle.std.proofs.lemmas.List.{at_drop_more, at_drop_all}
 use Rattle.std.proofs.lemmas.Bool.{lt-ltb, le-ltb}
 use Rattle.asm_expr.specs.Types.{Item, Atom, ExprFault}
-use Rattle.asm_expr.specs.Expression.{Expression, Leaf, Prefix, Infix, postfix, spread, put, run, only, tree}
+use Rattle.asm_parse.specs.Expression.{Expression, Leaf, Prefix, Infix, postfix}
+use Rattle.asm_expr.specs.Postfix.{spread, put, run, only, tree}
 use Rattle.asm_expr.specs.Names.{Table, found}
 use Rattle.asm_expr.specs.declared.meaning.Meaning.{Meaning}
-use Rattle.asm_expr.specs.declared.item.Term.{Term}
+use Rattle.asm_parse.specs.declared.item.Term.{Term}
 use Rattle.std.proofs.Math.ListN.{get_or-map}
 use Rattle.asm_expr.specs.Items.{is_guarded, value}
-use Rattle.asm_expr.specs.Source.{Operand, Number, Name, Here, IsSource, source, source_item}
+use Rattle.asm_parse.specs.Source.{Operand, Number, Name, Here, IsSource, source_item}
+use Rattle.asm_expr.specs.Postfix.{source}
 use Rattle.asm_expr.specs.Settling.{stands_for, meant, size_meant, size, replaced, reduced, divisions_fault, too_large, fault, IsSettled, IsWorth}
 use Rattle.asm_expr.specs.Folding.{root, number_of, item_fault, unless, ◌>>=◌, fold_one, fold_all, joined, prefixed, Folds, items_for, item_size, settling}
 use Rattle.asm_expr.specs.Steps.{arity}

@@ -4,7 +4,8 @@ use Rattle.std.proofs.Math.Seq.{take-append_seam}
 use Rattle.std.specs.Option.{option_map}
 use Rattle.asm_expr.specs.Types.{Unary, Binary, Item, Atom, ExprFault}
 use Rattle.asm_expr.specs.Arithmetic.{unary, binary}
-use Rattle.asm_expr.specs.Expression.{Expression, Leaf, Prefix, Infix, postfix, spread}
+use Rattle.asm_parse.specs.Expression.{Expression, Leaf, Prefix, Infix, postfix}
+use Rattle.asm_expr.specs.Postfix.{spread}
 use Rattle.asm_expr.specs.Names.{Table}
 use Rattle.asm_expr.specs.Settling.{distance_of, or_else, both, number_or}
 use Rattle.asm_expr.specs.Folding.{root, number_of, ref_of, folded_binary, prefixed, joined, Folds}

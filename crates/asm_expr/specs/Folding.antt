@@ -2,14 +2,16 @@
 -- proofs/ ties it to specs/Settling.antt.
 use Rattle.std.specs.Prelude.{◌≡◌, ℕ, ◌+◌, List, [], ◌∷◌, Option, Some, None, Result, Ok, Err, if◌then◌else◌}
 use Rattle.std.specs.Option.{option_map}
-use Rattle.asm_expr.specs.declared.fault.ExprFault.{ExprFault}
-use Rattle.asm_expr.specs.declared.operator.Unary.{Unary}
-use Rattle.asm_expr.specs.declared.operator.Binary.{Binary}
-use Rattle.asm_expr.specs.declared.item.Item.{Item}
-use Rattle.asm_expr.specs.declared.item.Atom.{Atom}
-use Rattle.asm_expr.specs.Arithmetic.{unary, binary, divides}
-use Rattle.asm_expr.specs.Expression.{Expression, Leaf, Prefix, Infix, postfix, spread}
-use Rattle.asm_expr.specs.Source.{Operand}
+use Rattle.asm_parse.specs.declared.fault.ExprFault.{ExprFault}
+use Rattle.asm_parse.specs.declared.operator.Unary.{Unary}
+use Rattle.asm_parse.specs.declared.operator.Binary.{Binary}
+use Rattle.asm_parse.specs.declared.item.Item.{Item}
+use Rattle.asm_expr.specs.declared.atom.Atom.{Atom}
+use Rattle.asm_parse.specs.Operators.{divides}
+use Rattle.asm_expr.specs.Arithmetic.{unary, binary}
+use Rattle.asm_parse.specs.Expression.{Expression, Leaf, Prefix, Infix, postfix}
+use Rattle.asm_expr.specs.Postfix.{spread}
+use Rattle.asm_parse.specs.Source.{Operand}
 use Rattle.asm_expr.specs.Names.{Table}
 use Rattle.asm_expr.specs.Settling.{stands_for, size_of, distance_of, or_else, both, number_or, divisor_fault, too_large}
 

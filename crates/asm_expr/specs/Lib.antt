@@ -1,14 +1,8 @@
 pub mod Types
+pub mod Postfix
 pub mod Arithmetic
-pub mod Expression
 pub mod Items
 pub mod Steps
-pub mod Source
 pub mod Names
 pub mod Settling
 pub mod Folding
-pub mod Words
-pub mod Grammar
-pub mod Parsing
-pub mod Stacks
-pub mod Readers

@@ -1,14 +1,16 @@
 -- What the names handed in make of an expression: its first fault, or its items with each fixed part as its number.
 use Rattle.std.specs.Prelude.{◌≡◌, ◌≤◌, ◌↔◌, length, [], ◌∷◌, ℕ, zero, suc, ◌+◌, Bool, true, false, List, Option, Some, None, Result, Ok, Err, if◌then◌else◌, nat_lt, is_some}
 use Rattle.std.specs.Option.{option_map}
-use Rattle.asm_expr.specs.declared.fault.ExprFault.{ExprFault}
-use Rattle.asm_expr.specs.declared.operator.Binary.{Binary}
-use Rattle.asm_expr.specs.declared.item.Item.{Item}
-use Rattle.asm_expr.specs.declared.item.Atom.{Atom}
+use Rattle.asm_parse.specs.declared.fault.ExprFault.{ExprFault}
+use Rattle.asm_parse.specs.declared.operator.Binary.{Binary}
+use Rattle.asm_parse.specs.declared.item.Item.{Item}
+use Rattle.asm_expr.specs.declared.atom.Atom.{Atom}
 use Rattle.asm_expr.specs.declared.meaning.Meaning.{Meaning}
-use Rattle.asm_expr.specs.Arithmetic.{unary, binary, divides}
-use Rattle.asm_expr.specs.Expression.{Expression, Leaf, Prefix, Infix, postfix, tree}
-use Rattle.asm_expr.specs.Source.{Operand, Number, Name, Here}
+use Rattle.asm_parse.specs.Operators.{divides}
+use Rattle.asm_expr.specs.Arithmetic.{unary, binary}
+use Rattle.asm_parse.specs.Expression.{Expression, Leaf, Prefix, Infix, postfix}
+use Rattle.asm_expr.specs.Postfix.{tree}
+use Rattle.asm_parse.specs.Source.{Operand, Number, Name, Here}
 use Rattle.asm_expr.specs.Items.{IsExpr, value}
 use Rattle.asm_expr.specs.Names.{Table, found, distance}
 

@@ -1,6 +1,7 @@
 -- The public types, in one place for this crate and those above it.
-pub use Rattle.asm_expr.specs.declared.fault.ExprFault.{ExprFault}
-pub use Rattle.asm_expr.specs.declared.operator.Unary.{Unary}
-pub use Rattle.asm_expr.specs.declared.operator.Binary.{Binary}
-pub use Rattle.asm_expr.specs.declared.item.Item.{Item}
-pub use Rattle.asm_expr.specs.declared.item.Atom.{Atom}
+pub use Rattle.asm_parse.specs.declared.fault.ExprFault.{ExprFault}
+pub use Rattle.asm_parse.specs.declared.operator.Unary.{Unary}
+pub use Rattle.asm_parse.specs.declared.operator.Binary.{Binary}
+pub use Rattle.asm_parse.specs.declared.item.Item.{Item}
+pub use Rattle.asm_parse.specs.declared.item.Term.{Term}
+pub use Rattle.asm_expr.specs.declared.atom.Atom.{Atom}

@@ -3,12 +3,15 @@
 ghost use Rattle.std.specs.Prelude.{◌≡◌, ◌<◌, ◌≤◌, ◌+◌, ℕ, List, Some, length, MatchOption, All, IsTrue, ◌↔◌, slice_index, []};
 ghost use Rattle.std.specs.List.{list_all, list_any};
 ghost use Rattle.std.specs.Option.{option_map};
-ghost use Rattle.asm_expr.specs.declared.item.Atom.{Atom};
-ghost use Rattle.asm_expr.specs.Expression.{Expression, put, run, tree};
+ghost use Rattle.asm_expr.specs.declared.atom.Atom.{Atom};
+ghost use Rattle.asm_parse.specs.Expression.{Expression};
+ghost use Rattle.asm_expr.specs.Postfix.{put, run, tree};
 ghost use Rattle.asm_expr.specs.Items.{IsConstant, IsExpr, is_division, is_divisor, is_guarded, is_ref, is_within, refs, refs_in, value};
 ghost use Rattle.asm_expr.specs.Steps.{Stacked, arity, is_expr};
 
-use crate::item::{Atom, Item};
+use crate::arithmetic::{apply_binary, apply_unary};
+use crate::atom::Atom;
+use asm_parse::Item;
 use std::marker::Model;
 
 /// The most items that an expression may have.
@@ -23,8 +26,8 @@ pub struct Expr {
 
 impl Model for Expr {
     ghost use Rattle.std.specs.Prelude.{List};
-    ghost use Rattle.asm_expr.specs.declared.item.Item.{Item};
-    ghost use Rattle.asm_expr.specs.declared.item.Atom.{Atom};
+    ghost use Rattle.asm_parse.specs.declared.item.Item.{Item};
+    ghost use Rattle.asm_expr.specs.declared.atom.Atom.{Atom};
 
     ghost Value = { List (Item Atom) };
 
@@ -150,11 +153,11 @@ fn take_item(stack: &mut [u16], len: usize, item: Item<Atom>, places: &[u16]) ->
             len + 1
         }
         Item::Unary(op) => {
-            stack[len - 1] = op.apply(stack[len - 1]);
+            stack[len - 1] = apply_unary(op, stack[len - 1]);
             len
         }
         Item::Binary(op) => {
-            stack[len - 2] = op.apply(stack[len - 2], stack[len - 1]);
+            stack[len - 2] = apply_binary(op, stack[len - 2], stack[len - 1]);
             len - 1
         }
     }

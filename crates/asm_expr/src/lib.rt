@@ -1,27 +1,19 @@
-//! Expressions of Z80 assembler source: trees, postfix items, and values at places.
+//! Expressions of Z80 assembler source: what names make of trees, postfix items, and values at places.
 #![tactic(auto)]
 
+mod arithmetic;
+mod atom;
 mod expr;
-mod fault;
-mod item;
 pub mod laws;
 mod meaning;
 mod names;
-mod operator;
-mod reader;
 mod reduction;
-mod sign;
-mod tree;
 mod weigh;
 
+pub use asm_parse::{Binary, ExprFault, Item, Term, Tree, Unary, is_reserved, parse};
+pub use atom::Atom;
 pub use expr::{Expr, constant, has_places, items, value};
-pub use fault::ExprFault;
-pub use item::{Atom, Item, Term};
 pub use meaning::{Equated, Meaning};
 pub use names::Names;
-pub use operator::{Binary, Unary};
-pub use reader::parse;
 pub use reduction::settle;
-pub use sign::is_reserved;
-pub use tree::Tree;
 pub use weigh::{is_constant, is_defined, size};

@@ -3,22 +3,22 @@
 ghost use Rattle.std.specs.Prelude.{◌≡◌, ◌≤◌, ◌+◌, ℕ, List, ◌∷◌, Ok, Err, true, length, vec_len, map, take, ◌-◌, ◌++◌, [], IfOk, IfErr, OnOk, Some, ◌↔◌};
 ghost use Rattle.std.specs.List.{AllPass};
 ghost use Rattle.asm_expr.specs.Types.{Atom, Item, ExprFault};
-ghost use Rattle.asm_expr.specs.Expression.{Expression, Leaf, postfix, spread, tree};
+ghost use Rattle.asm_parse.specs.Expression.{Expression, Leaf, postfix};
+ghost use Rattle.asm_expr.specs.Postfix.{source, spread, tree};
 ghost use Rattle.asm_expr.specs.Items.{IsExpr, value};
 ghost use Rattle.asm_expr.specs.Steps.{arity};
-ghost use Rattle.asm_expr.specs.Source.{operand, source, source_item};
+ghost use Rattle.asm_parse.specs.Source.{operand, source_item};
 ghost use Rattle.asm_expr.specs.Names.{found, table};
 ghost use Rattle.asm_expr.specs.Settling.{IsSettled, IsWorth, is_known, replaced, size, size_of, stands_for};
 ghost use Rattle.asm_expr.specs.Folding.{Folds, difference_of, fold_all, fold_one, folded_binary, item_fault, items_for, joined, number_of, prefixed, ref_of, unless};
 
+use crate::arithmetic::{apply_binary, apply_unary};
+use crate::atom::Atom;
 use crate::expr::{Expr, MOST_ITEMS, items};
-use crate::fault::ExprFault;
-use crate::item::{Atom, Item, Term};
 use crate::meaning::Meaning;
 use crate::names::Names;
-use crate::operator::{Binary, Unary};
-use crate::tree::Tree;
 use crate::weigh::item_size;
+use asm_parse::{Binary, ExprFault, Item, Term, Tree, Unary};
 use std::alloc::Global;
 
 fn number_of(item: &Item<Atom>) -> Option<u16>
@@ -56,7 +56,7 @@ fn folded_binary(names: &Names, op: Binary, x: &Item<Atom>, y: &Item<Atom>) -> O
     if let Some(n) = difference_of(names, op, x, y) {
         return Some(n);
     }
-    Some(op.apply(number_of(x)?, number_of(y)?))
+    Some(apply_binary(op, number_of(x)?, number_of(y)?))
 }
 
 /// The fault of a division by this item, the last of a divisor.
@@ -94,7 +94,7 @@ fn fold_unary(items: &mut Vec<Item<Atom>>, op: Unary) -> Result<(), ExprFault>
 {
     let last = items[items.len() - 1];
     match number_of(&last) {
-        Some(n) => put_number(items, 1, op.apply(n)),
+        Some(n) => put_number(items, 1, apply_unary(op, n)),
         None => {
             items.push(Item::Unary(op))?;
             Ok(())

@@ -2,15 +2,15 @@
 
 ghost use Rattle.std.specs.Prelude.{◌≡◌, ◌≤◌, ◌↔◌, IsTrue};
 ghost use Rattle.std.specs.List.{AllPass, list_all};
-ghost use Rattle.asm_expr.specs.Source.{source, source_item};
+ghost use Rattle.asm_parse.specs.Source.{source_item};
+ghost use Rattle.asm_expr.specs.Postfix.{source};
 ghost use Rattle.asm_expr.specs.Names.{table};
 ghost use Rattle.asm_expr.specs.Settling.{is_constant_item, is_known, size};
 ghost use Rattle.asm_expr.specs.Folding.{item_size};
 
-use crate::item::{Item, Term};
 use crate::meaning::Meaning;
 use crate::names::Names;
-use crate::tree::Tree;
+use asm_parse::{Item, Term, Tree};
 
 /// How many terms and operators an item of a source stands for.
 pub(crate) fn item_size(item: &Item<Term>, names: &Names) -> u16

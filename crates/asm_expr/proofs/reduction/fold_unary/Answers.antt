@@ -9,6 +9,6 @@ returns-in-Some-clause-folds c = λ a before is.
     let len : c.len.result ≡ length old = omega arith in
     folds _ c.put_number.result _ _ _ refl c.put_number.ensures.put
     (λ put. unary_number c.args.op a before _ _ c.index.result.now c.len.result c.in-Some.n is len c.index.ensures (sym c.in-Some.ensures)
-    (put ∙ ap (λ n. take (n - 1) old ++ Item.Leaf (Atom.Number c.apply.result) ∷ []) (sym c.len.ensures)
-    ∙ ap (λ v. take (c.len.result - 1) old ++ Item.Leaf (Atom.Number v) ∷ []) c.apply.ensures))
+    (put ∙ ap (λ n. take (n - 1) old ++ Item.Leaf (Atom.Number c.apply_unary.result) ∷ []) (sym c.len.ensures)
+    ∙ ap (λ v. take (c.len.result - 1) old ++ Item.Leaf (Atom.Number v) ∷ []) c.apply_unary.ensures))
     c.put_number.ensures.fault

@@ -2,9 +2,10 @@ use Rattle.std.proofs.Common.{◌≡◌, ◌≤◌, ◌<◌, ◌+◌, ℕ, true,
 use Rattle.std.proofs.lemmas.List.{length-map}
 use Rattle.std.proofs.lemmas.Result.{err_from_is_err_and}
 use Rattle.asm_expr.specs.Types.{Item}
-use Rattle.asm_expr.specs.Expression.{postfix}
+use Rattle.asm_parse.specs.Expression.{postfix}
 use Rattle.asm_expr.specs.Steps.{arity}
-use Rattle.asm_expr.specs.Source.{Operand, source, source_item}
+use Rattle.asm_parse.specs.Source.{Operand, source_item}
+use Rattle.asm_expr.specs.Postfix.{source}
 use Rattle.asm_expr.specs.Names.{table}
 use Rattle.asm_expr.specs.Settling.{IsSettled, IsWorth, is_known}
 use Rattle.asm_expr.specs.Folding.{Folds, fold_all, items_for, item_size}

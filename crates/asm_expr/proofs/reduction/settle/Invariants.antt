@@ -1,6 +1,6 @@
 use Rattle.std.proofs.Common.{map}
 use Rattle.asm_expr.specs.Names.{table}
-use Rattle.asm_expr.specs.Source.{source_item}
+use Rattle.asm_parse.specs.Source.{source_item}
 use Rattle.asm_expr.proofs.Settling.{Settles}
 use Rattle.asm_expr.proofs.reduction.settle.Given as goal
 

@@ -1,6 +1,7 @@
 use Rattle.std.proofs.Common.{◌≡◌, List, vec_len}
 use Rattle.asm_expr.specs.Types.{Atom}
-use Rattle.asm_expr.specs.Expression.{Expression, spread}
+use Rattle.asm_parse.specs.Expression.{Expression}
+use Rattle.asm_expr.specs.Postfix.{spread}
 use Rattle.asm_expr.specs.Names.{table}
 use Rattle.asm_expr.proofs.Settling.{Folded, Room}
 use Rattle.asm_expr.proofs.reduction.take_expr.Given as goal

@@ -1,7 +1,7 @@
 use Rattle.std.proofs.Common.{◌≡◌, Some, sym, ap, subst, ◌∙◌}
-use Rattle.asm_expr.specs.Source.{operand, Name}
+use Rattle.asm_parse.specs.Source.{operand, Name}
 use Rattle.asm_expr.specs.declared.meaning.Meaning.{Meaning}
-use Rattle.asm_expr.specs.Expression.{postfix}
+use Rattle.asm_parse.specs.Expression.{postfix}
 use Rattle.asm_expr.specs.Settling.{stands_for, meant}
 use Rattle.asm_expr.specs.Folding.{Folds, fold_all}
 use Rattle.asm_expr.specs.Names.{table, found}

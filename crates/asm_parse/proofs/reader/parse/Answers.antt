@@ -1,0 +1,32 @@
+use Rattle.std.proofs.Common.{false, Ok, Err, map, refl, sym, subst, arith}
+use Rattle.std.proofs.lemmas.List.{length-map}
+use Rattle.std.proofs.lemmas.Result.{err_from_is_err_and}
+use Rattle.asm_scan.specs.Tokens.{lexeme, lexemes}
+use Rattle.asm_parse.specs.Grammar.{symbol}
+use Rattle.asm_parse.specs.Parsing.{step}
+use Rattle.asm_parse.specs.Stacks.{part_symbol}
+use Rattle.asm_parse.specs.Readers.{Reads}
+use Rattle.asm_parse.proofs.Steady.{read_start, read_next, read_stops, symbol_at}
+use Rattle.asm_parse.proofs.reader.parse.Goals as goal
+
+pub loop-token-init : goal.loop-token-init
+loop-token-init c = read_start _ (record { pending = c.new.result; items = c.new-2.result; deepest = 0; complete = false }) c.new.ensures.items c.new-2.ensures.items refl refl
+
+pub loop-token-preserved : goal.loop-token-preserved
+loop-token-preserved c =
+    let tokens = c.args.tokens.now in
+    let x = part_symbol c.in_ok-part_of.field-0 in
+    let s = c.loop-token.invariant in
+    let at = symbol_at tokens c.loop-token.token-index _ x (omega arith) c.in_ok-part_of.ensures.part in
+    read_next (map symbol (lexemes tokens)) c.loop-token.token-index x c.loop-token.reader c.take.new.self (omega (arith, length-map tokens lexeme, length-map (lexemes tokens) symbol)) s
+    (subst (λ y. Reads (step y s.state) {A = Unit {0}} (Ok tt) c.take.new.self) (sym at) (c.in_ok-take.ensures s.state s.holds))
+
+pub returns-in_err-take : goal.returns-in_err-take
+returns-in_err-take c =
+    let tokens = c.args.tokens.now in
+    let x = part_symbol c.in_ok-part_of.field-0 in
+    let s = c.loop-token.invariant in
+    let at = symbol_at tokens c.loop-token.token-index _ x (omega arith) c.in_ok-part_of.ensures.part in
+    let p = err_from_is_err_and c.from_residual-in_err-take.result c.from_residual-in_err-take.ensures.1 in
+    rw (p.1, p.2) (read_stops (map symbol (lexemes tokens)) c.loop-token.token-index x c.loop-token.reader c.take.new.self c.in_err-take.field-0.0 (omega (arith, length-map tokens lexeme, length-map (lexemes tokens) symbol)) s
+    (subst (λ y. Reads (step y s.state) {A = Unit {0}} (Err c.in_err-take.field-0.0) c.take.new.self) (sym at) (c.in_err-take.ensures s.state s.holds)))

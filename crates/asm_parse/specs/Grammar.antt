@@ -1,0 +1,164 @@
+-- Which expression tokens spell, and how deep it is.
+use Rattle.std.specs.Prelude.{◌≡◌, ◌≤◌, ◌<◌, ℕ, ◌+◌, max, List, [], ◌∷◌, ◌++◌, Option, Some, None, Result, Ok, Err, if◌then◌else◌, ◌==◌, map}
+use Rattle.std.specs.Char.{to_ascii_uppercase}
+use Rattle.asm_scan.specs.declared.token.Kind.{Kind}
+use Rattle.asm_scan.specs.declared.token.Mark.{Mark}
+use Rattle.asm_scan.specs.Tokens.{Lexeme}
+use Rattle.asm_parse.specs.declared.fault.ExprFault.{ExprFault}
+use Rattle.asm_parse.specs.declared.operator.Unary.{Unary}
+use Rattle.asm_parse.specs.declared.operator.Binary.{Binary}
+use Rattle.asm_parse.specs.declared.item.Item.{Item}
+use Rattle.asm_parse.specs.declared.sign.Sign.{Sign}
+use Rattle.asm_parse.specs.declared.sign.Prefix.{Prefix}
+use Rattle.asm_parse.specs.Expression.{Expression, postfix}
+use Rattle.asm_parse.specs.Expression as tree
+use Rattle.asm_parse.specs.Source.{Operand, Number, Name, Here}
+use Rattle.asm_parse.specs.Words.{sign_of, is_reserved}
+
+-- A token as an expression reads it: a term, a sign, or what stands in no expression.
+pub data Symbol : Type 0 where
+  Term : Operand → Symbol
+  Marked : Sign → Symbol
+  Foreign : Symbol
+
+-- the byte of a string of one character, by the text of a string: a quote in it is doubled
+abbrev pub character : List ℕ → Option ℕ
+character (q ∷ c ∷ r ∷ []) = Some c
+character (q ∷ c ∷ d ∷ r ∷ []) = if c == q then Some c else None
+character _ = None
+
+abbrev pub symbol_of_name : Option Sign → List ℕ → Symbol
+symbol_of_name (Some sign) name = Marked sign
+symbol_of_name None name = if is_reserved name then Foreign else Term (Name name)
+
+abbrev pub symbol_of_string : Option ℕ → Symbol
+symbol_of_string (Some c) = Term (Number c)
+symbol_of_string None = Foreign
+
+-- names are read as upper case
+abbrev pub upper : List ℕ → List ℕ
+upper name = map to_ascii_uppercase name
+
+abbrev pub symbol_by : Kind → List ℕ → Symbol
+symbol_by Kind.Name text = symbol_of_name (sign_of (upper text)) (upper text)
+symbol_by (Kind.Number n) text = Term (Number n)
+symbol_by Kind.Quoted text = symbol_of_string (character text)
+symbol_by (Kind.Mark Mark.Dollar) text = Term Here
+symbol_by (Kind.Mark Mark.Open) text = Marked Sign.Open
+symbol_by (Kind.Mark Mark.Close) text = Marked Sign.Close
+symbol_by (Kind.Mark Mark.Plus) text = Marked Sign.Plus
+symbol_by (Kind.Mark Mark.Minus) text = Marked Sign.Minus
+symbol_by (Kind.Mark Mark.Star) text = Marked Sign.Star
+symbol_by (Kind.Mark Mark.Slash) text = Marked Sign.Slash
+symbol_by _ text = Foreign
+
+abbrev pub symbol : Lexeme → Symbol
+symbol token = symbol_by token.kind token.text
+
+-- What is spelled: a term, a phrase in parentheses, or an operator with its operands.
+pub data Phrase : Type 0 where
+  Single : Operand → Phrase
+  Enclosed : Phrase → Phrase
+  Prefixed : Prefix → Phrase → Phrase
+  Joined : Binary → Phrase → Phrase → Phrase
+
+-- how loosely each operator binds, the tightest first
+abbrev pub prefix_level : Prefix → ℕ
+prefix_level Prefix.Plus = 1
+prefix_level (Prefix.Operator Unary.Negate) = 1
+prefix_level (Prefix.Operator Unary.High) = 1
+prefix_level (Prefix.Operator Unary.Low) = 1
+prefix_level (Prefix.Operator Unary.Not) = 5
+
+abbrev pub infix_level : Binary → ℕ
+infix_level Binary.Multiply = 2
+infix_level Binary.Divide = 2
+infix_level Binary.Modulo = 2
+infix_level Binary.ShiftLeft = 2
+infix_level Binary.ShiftRight = 2
+infix_level Binary.Add = 3
+infix_level Binary.Subtract = 3
+infix_level Binary.Equal = 4
+infix_level Binary.NotEqual = 4
+infix_level Binary.Less = 4
+infix_level Binary.LessOrEqual = 4
+infix_level Binary.Greater = 4
+infix_level Binary.GreaterOrEqual = 4
+infix_level Binary.And = 6
+infix_level Binary.Or = 7
+infix_level Binary.Xor = 7
+
+abbrev pub looseness : Phrase → ℕ
+looseness (Single t) = 0
+looseness (Enclosed a) = 0
+looseness (Prefixed p a) = prefix_level p
+looseness (Joined o a b) = infix_level o
+
+-- The operands bind as tightly as their operator at least; the right one of two tighter, so that they group to the left.
+abbrev pub IsGrouped : Phrase → Type 0
+IsGrouped (Single t) = Unit {0}
+IsGrouped (Enclosed a) = IsGrouped a
+IsGrouped (Prefixed p a) = (looseness a ≤ prefix_level p) × IsGrouped a
+IsGrouped (Joined o a b) = (looseness a ≤ infix_level o) × (looseness b < infix_level o) × IsGrouped a × IsGrouped b
+
+abbrev pub prefix_sign : Prefix → Sign
+prefix_sign Prefix.Plus = Sign.Plus
+prefix_sign (Prefix.Operator Unary.Negate) = Sign.Minus
+prefix_sign (Prefix.Operator Unary.High) = Sign.High
+prefix_sign (Prefix.Operator Unary.Low) = Sign.Low
+prefix_sign (Prefix.Operator Unary.Not) = Sign.Not
+
+abbrev pub infix_sign : Binary → Sign
+infix_sign Binary.Add = Sign.Plus
+infix_sign Binary.Subtract = Sign.Minus
+infix_sign Binary.Multiply = Sign.Star
+infix_sign Binary.Divide = Sign.Slash
+infix_sign Binary.Modulo = Sign.Mod
+infix_sign Binary.ShiftLeft = Sign.Shl
+infix_sign Binary.ShiftRight = Sign.Shr
+infix_sign Binary.And = Sign.And
+infix_sign Binary.Or = Sign.Or
+infix_sign Binary.Xor = Sign.Xor
+infix_sign Binary.Equal = Sign.Eq
+infix_sign Binary.NotEqual = Sign.Ne
+infix_sign Binary.Less = Sign.Lt
+infix_sign Binary.LessOrEqual = Sign.Le
+infix_sign Binary.Greater = Sign.Gt
+infix_sign Binary.GreaterOrEqual = Sign.Ge
+
+abbrev pub spelling : Phrase → List Symbol
+spelling (Single t) = Term t ∷ []
+spelling (Enclosed a) = Marked Sign.Open ∷ spelling a ++ Marked Sign.Close ∷ []
+spelling (Prefixed p a) = Marked (prefix_sign p) ∷ spelling a
+spelling (Joined o a b) = spelling a ++ Marked (infix_sign o) ∷ spelling b
+
+-- how many parentheses and prefix operators are open at one point, at most
+abbrev pub depth : Phrase → ℕ
+depth (Single t) = 0
+depth (Enclosed a) = depth a + 1
+depth (Prefixed p a) = depth a + 1
+depth (Joined o a b) = max (depth a) (depth b)
+
+-- a prefix `+` leaves nothing behind
+abbrev pub under : Prefix → Expression Operand → Expression Operand
+under Prefix.Plus e = e
+under (Prefix.Operator op) e = tree.Prefix op e
+
+abbrev pub expression : Phrase → Expression Operand
+expression (Single t) = tree.Leaf t
+expression (Enclosed a) = expression a
+expression (Prefixed p a) = under p (expression a)
+expression (Joined o a b) = tree.Infix o (expression a) (expression b)
+
+-- The symbols spell this phrase.
+pub record Spells (symbols : List Symbol) (phrase : Phrase) : Type 0 where
+  pub grouped : IsGrouped phrase
+  pub spelled : symbols ≡ spelling phrase
+
+-- What is answered of symbols: the items of the expression that they spell, where it is not too deep; that it is; or that they spell none.
+abbrev pub IsParsed : List Symbol → Result (List (Item Operand)) ExprFault → Type 0
+IsParsed symbols (Ok items) = (phrase : Phrase) × Spells symbols phrase × (depth phrase ≤ 32) × (items ≡ postfix (expression phrase))
+IsParsed symbols (Err ExprFault.Syntax) = (phrase : Phrase) → Spells symbols phrase → ⊥
+IsParsed symbols (Err ExprFault.TooDeep) = (phrase : Phrase) × Spells symbols phrase × (32 < depth phrase)
+IsParsed symbols (Err ExprFault.NoMemory) = Unit {0}
+IsParsed symbols (Err _) = ⊥

@@ -1,0 +1,26 @@
+-- Expressions as a source has them.
+use Rattle.std.specs.Prelude.{◌≡◌, ℕ, List}
+use Rattle.asm_parse.specs.declared.item.Item.{Item}
+use Rattle.asm_parse.specs.declared.item.Term.{Term}
+use Rattle.asm_parse.specs.Expression.{Expression, postfix}
+
+-- A leaf: a number, a name in upper case, or `$`.
+pub data Operand : Type 0 where
+  Number : ℕ → Operand
+  Name : List ℕ → Operand
+  Here : Operand
+
+abbrev pub operand : Term → Operand
+operand (Term.Number n) = Number n
+operand (Term.Name name) = Name name.items
+operand Term.Here = Here
+
+abbrev pub source_item : Item Term → Item Operand
+source_item (Item.Leaf t) = Item.Leaf (operand t)
+source_item (Item.Unary op) = Item.Unary op
+source_item (Item.Binary op) = Item.Binary op
+
+-- The items of an expression.
+pub record IsSource (items : List (Item Operand)) : Type 0 where
+  pub expression : Expression Operand
+  pub spelled : postfix expression ≡ items

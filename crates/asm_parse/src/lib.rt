@@ -1,0 +1,17 @@
+//! Expressions of Z80 assembler source: the tree that tokens spell.
+#![tactic(auto)]
+
+mod fault;
+mod item;
+pub mod laws;
+mod operator;
+mod reader;
+mod sign;
+mod tree;
+
+pub use fault::ExprFault;
+pub use item::{Item, Term};
+pub use operator::{Binary, Unary};
+pub use reader::parse;
+pub use sign::is_reserved;
+pub use tree::Tree;

@@ -1,0 +1,130 @@
+//! The words and marks of the language that stand in expressions.
+
+ghost use Rattle.std.specs.Prelude.{◌≡◌};
+ghost use Rattle.std.specs.List.{list_any};
+ghost use Rattle.std.specs.Str.{bytes_eq};
+ghost use Rattle.asm_parse.specs.Words.{is_reserved, sign_of};
+
+use crate::operator::{Binary, Unary};
+
+/// A mark or a word of an expression that is no term.
+#[derive(Clone, Copy, Debug)]
+pub(crate) enum Sign {
+    Open,
+    Close,
+    Plus,
+    Minus,
+    Star,
+    Slash,
+    High,
+    Low,
+    Not,
+    Mod,
+    Shl,
+    Shr,
+    And,
+    Or,
+    Xor,
+    Eq,
+    Ne,
+    Lt,
+    Le,
+    Gt,
+    Ge,
+}
+
+/// An operator before its operand; a `+` leaves nothing behind.
+#[derive(Clone, Copy, Debug)]
+pub(crate) enum Prefix {
+    Plus,
+    Operator(Unary),
+}
+
+impl Sign {
+    ghost use Rattle.asm_parse.specs.Words.{infix_of, prefix_of};
+
+    /// The operator that it is before an operand.
+    pub(crate) fn prefix(self) -> Option<Prefix>
+        ensures { result ≡ prefix_of self }
+    {
+        match self {
+            Sign::Plus => Some(Prefix::Plus),
+            Sign::Minus => Some(Prefix::Operator(Unary::Negate)),
+            Sign::High => Some(Prefix::Operator(Unary::High)),
+            Sign::Low => Some(Prefix::Operator(Unary::Low)),
+            Sign::Not => Some(Prefix::Operator(Unary::Not)),
+            _ => None,
+        }
+    }
+
+    /// The operator that it is between operands.
+    pub(crate) fn infix(self) -> Option<Binary>
+        ensures { result ≡ infix_of self }
+    {
+        match self {
+            Sign::Plus => Some(Binary::Add),
+            Sign::Minus => Some(Binary::Subtract),
+            Sign::Star => Some(Binary::Multiply),
+            Sign::Slash => Some(Binary::Divide),
+            Sign::Mod => Some(Binary::Modulo),
+            Sign::Shl => Some(Binary::ShiftLeft),
+            Sign::Shr => Some(Binary::ShiftRight),
+            Sign::And => Some(Binary::And),
+            Sign::Or => Some(Binary::Or),
+            Sign::Xor => Some(Binary::Xor),
+            Sign::Eq => Some(Binary::Equal),
+            Sign::Ne => Some(Binary::NotEqual),
+            Sign::Lt => Some(Binary::Less),
+            Sign::Le => Some(Binary::LessOrEqual),
+            Sign::Gt => Some(Binary::Greater),
+            Sign::Ge => Some(Binary::GreaterOrEqual),
+            _ => None,
+        }
+    }
+}
+
+/// The operator that a word in upper case is.
+pub(crate) fn sign_of(word: &[u8]) -> Option<Sign>
+    ensures { result ≡ sign_of word.now }
+{
+    match word {
+        b"HIGH" => Some(Sign::High),
+        b"LOW" => Some(Sign::Low),
+        b"NOT" => Some(Sign::Not),
+        b"MOD" => Some(Sign::Mod),
+        b"SHL" => Some(Sign::Shl),
+        b"SHR" => Some(Sign::Shr),
+        b"AND" => Some(Sign::And),
+        b"OR" => Some(Sign::Or),
+        b"XOR" => Some(Sign::Xor),
+        b"EQ" => Some(Sign::Eq),
+        b"NE" => Some(Sign::Ne),
+        b"LT" => Some(Sign::Lt),
+        b"LE" => Some(Sign::Le),
+        b"GT" => Some(Sign::Gt),
+        b"GE" => Some(Sign::Ge),
+        _ => None,
+    }
+}
+
+/// Whether the word is one of these.
+fn is_among(word: &[u8], words: &[&[u8]]) -> bool
+    ensures { result ≡ list_any (λ other. bytes_eq word.now other.now) words.entry.now }
+{
+    words.iter().any(|other| word == *other)
+}
+
+/// Whether a name in upper case is a register, a condition or an operator, which no program defines.
+pub fn is_reserved(name: &[u8]) -> bool
+    ensures { result ≡ is_reserved name.now }
+{
+    is_among(
+        name,
+        &[
+            b"A", b"B", b"C", b"D", b"E", b"H", b"L", b"I", b"R", b"AF", b"BC", b"DE", b"HL",
+            b"IX", b"IY", b"SP", b"NZ", b"Z", b"NC", b"PO", b"PE", b"P", b"M", b"HIGH", b"LOW",
+            b"MOD", b"SHL", b"SHR", b"EQ", b"NE", b"LT", b"LE", b"GT", b"GE", b"NOT", b"AND",
+            b"OR", b"XOR",
+        ],
+    )
+}
