@@ -1,6 +1,5 @@
 -- Which expression tokens spell, and how deep it is.
-use Rattle.std.specs.Prelude.{◌≡◌, ◌≤◌, ◌<◌, ℕ, ◌+◌, max, List, [], ◌∷◌, ◌++◌, Option, Some, None, Result, Ok, Err, if◌then◌else◌, ◌==◌, map}
-use Rattle.std.specs.Char.{to_ascii_uppercase}
+use Rattle.std.specs.Prelude.{◌≡◌, ◌≤◌, ◌<◌, ℕ, ◌+◌, max, List, [], ◌∷◌, ◌++◌, Option, Some, None, Result, Ok, Err, if◌then◌else◌, ◌==◌}
 use Rattle.asm_scan.specs.declared.token.Kind.{Kind}
 use Rattle.asm_scan.specs.declared.token.Mark.{Mark}
 use Rattle.asm_scan.specs.Tokens.{Lexeme}
@@ -13,7 +12,7 @@ use Rattle.asm_parse.specs.declared.sign.Prefix.{Prefix}
 use Rattle.asm_parse.specs.Expression.{Expression, postfix}
 use Rattle.asm_parse.specs.Expression as tree
 use Rattle.asm_parse.specs.Source.{Operand, Number, Name, Here}
-use Rattle.asm_parse.specs.Words.{sign_of, is_reserved}
+use Rattle.asm_parse.specs.Words.{upper, sign_of, is_reserved}
 
 -- A token as an expression reads it: a term, a sign, or what stands in no expression.
 pub data Symbol : Type 0 where
@@ -34,10 +33,6 @@ symbol_of_name None name = if is_reserved name then Foreign else Term (Name name
 abbrev pub symbol_of_string : Option ℕ → Symbol
 symbol_of_string (Some c) = Term (Number c)
 symbol_of_string None = Foreign
-
--- names are read as upper case
-abbrev pub upper : List ℕ → List ℕ
-upper name = map to_ascii_uppercase name
 
 abbrev pub symbol_by : Kind → List ℕ → Symbol
 symbol_by Kind.Name text = symbol_of_name (sign_of (upper text)) (upper text)

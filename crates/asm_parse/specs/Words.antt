@@ -1,14 +1,19 @@
 -- The words and marks of the language that stand in expressions.
-use Rattle.std.specs.Prelude.{ℕ, Bool, List, [], ◌∷◌, Option, Some, None, if◌then◌else◌, codes}
+use Rattle.std.specs.Prelude.{ℕ, Bool, List, [], ◌∷◌, Option, Some, None, if◌then◌else◌, map, codes}
 use Rattle.std.specs.List.{list_any}
+use Rattle.std.specs.Char.{to_ascii_uppercase}
 use Rattle.std.specs.Str.{bytes_eq}
 use Rattle.asm_parse.specs.declared.operator.Unary.{Unary}
 use Rattle.asm_parse.specs.declared.operator.Binary.{Binary}
 use Rattle.asm_parse.specs.declared.sign.Sign.{Sign}
 use Rattle.asm_parse.specs.declared.sign.Prefix.{Prefix}
 
--- the first of these words that a name is
-abbrev pub first_word : List (List ℕ × Sign) → List ℕ → Option Sign
+-- names are read as upper case
+abbrev pub upper : List ℕ → List ℕ
+upper name = map to_ascii_uppercase name
+
+-- what stands beside the first of these words that a name is
+abbrev pub first_word : {A : Type 0} → List (List ℕ × A) → List ℕ → Option A
 first_word [] name = None
 first_word (w ∷ ws) name = if bytes_eq name w.0 then Some w.1 else first_word ws name
 

@@ -15,7 +15,8 @@ use Rattle.asm_stmt.specs.declared.form.Field.TheVariants.{Byte}
 use Rattle.asm_stmt.specs.declared.form.Branch.TheVariants.{Relative}
 use Rattle.asm_stmt.specs.declared.names.Word.{Word}
 use Rattle.asm_stmt.specs.declared.names.Word.TheVariants.{Nop, Ret, Db, Ds, Jp, Jr}
-use Rattle.asm_stmt.specs.Names.{upper, word_of, is_reserved}
+use Rattle.asm_parse.specs.Words.{upper, is_reserved}
+use Rattle.asm_stmt.specs.Names.{word_of}
 use Rattle.asm_stmt.specs.Statement.{Statement, Code, Data, Space, Jump, Short, Line}
 
 -- A token as a statement reads it: a name in upper case, a number, a single mark, or what no statement has yet.

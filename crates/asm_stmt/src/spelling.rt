@@ -3,14 +3,15 @@
 ghost use Rattle.std.specs.Prelude.{◌≡◌, ◌≤◌, length, vec_len, IfOk, IfSome};
 ghost use Rattle.std.specs.Option.{option_map};
 ghost use Rattle.asm_scan.specs.Tokens.{lexemes};
-ghost use Rattle.asm_stmt.specs.Names.{upper};
+ghost use Rattle.asm_parse.specs.Words.{upper};
 ghost use Rattle.asm_stmt.specs.Statement.{HasFields, line_of, statement_of};
 ghost use Rattle.asm_stmt.specs.Spelling.{Gives, before_colon, bytes_listed, label, number_given, spelled, spells, statement, symbols, target_named, value_or};
 ghost use Rattle.asm_stmt.specs.declared.fault.StmtFault.TheVariants.{BadOperands};
 
 use crate::fault::StmtFault;
 use crate::form::{Body, Branch, Field, Stmt};
-use crate::names::{Word, reserved, word_named};
+use crate::names::{Word, word_named};
+use asm_parse::is_reserved;
 use asm_scan::{Kind, Mark, Token};
 use std::alloc::Global;
 use z80_table::Instr;
@@ -66,7 +67,7 @@ fn target(alloc: Global, operands: &[Token<'_>]) -> Result<Vec<u8>, StmtFault>
         return Err(StmtFault::BadOperands);
     };
     let name = text.to_ascii_uppercase(alloc)?;
-    if reserved(&name) {
+    if is_reserved(&name) {
         return Err(StmtFault::BadOperands);
     }
     Ok(name)
@@ -150,7 +151,7 @@ fn label_of(alloc: Global, name: Option<&[u8]>) -> Result<Option<Vec<u8>>, StmtF
         return Ok(None);
     };
     let label = name.to_ascii_uppercase(alloc)?;
-    if reserved(&label) {
+    if is_reserved(&label) {
         return Err(StmtFault::ReservedName);
     }
     Ok(Some(label))
