@@ -1,0 +1,5 @@
+use Rattle.cpm_image.proofs.Places.{distinct}
+use Rattle.cpm_image.proofs.laws.distinct_sectors.Goals as goal
+
+pub returns : goal.returns
+returns c = distinct

@@ -1,0 +1,40 @@
+//! Devices of sectors.
+
+ghost use Rattle.std.specs.Prelude.{◌≡◌, ◌<◌, ◌⊎◌, ℕ, List, [], length, OnErr, OnOk, slice_index_or, slice_set};
+ghost use Rattle.cpm_image.specs.Device.{HasCause};
+
+use thiserror::Error;
+
+/// The device failed.
+#[derive(Clone, Copy, Debug, PartialEq, Eq, Error)]
+#[error("the device failed")]
+pub struct DeviceFault;
+
+/// A device of 128-byte sectors, numbered from 0, which counts its faults.
+///
+/// The count never falls. At the greatest count of 64 bits it stays, and a fault counts as a rise.
+pub trait Sectors {
+    /// The bytes of each sector.
+    ghost sectors: { Self → List (List ℕ) };
+
+    /// How often the device has failed.
+    ghost faults: { Self → ℕ };
+
+    /// How many sectors there are.
+    fn len(&self) -> u32
+        ensures { result ≡ length (sectors self.now) };
+
+    /// Reads a sector. After a fault the buffer may hold anything.
+    fn read(&mut self, n: u32, bytes: &mut [u8; 128]) -> Result<(), DeviceFault>
+        requires { n < length (sectors self.old) }
+        ensures read { OnOk result (bytes.new ≡ slice_index_or (sectors self.old) n []) }
+        ensures kept { sectors self.new ≡ sectors self.old }
+        ensures cause { HasCause (faults self.old) (faults self.new) result };
+
+    /// Writes a sector, and no other. After a fault the sector is as before or as written, whole.
+    fn write(&mut self, n: u32, bytes: &[u8; 128]) -> Result<(), DeviceFault>
+        requires { n < length (sectors self.old) }
+        ensures written { OnOk result (sectors self.new ≡ slice_set (sectors self.old) n bytes.now) }
+        ensures stopped { OnErr result ((sectors self.new ≡ sectors self.old) ⊎ (sectors self.new ≡ slice_set (sectors self.old) n bytes.now)) }
+        ensures cause { HasCause (faults self.old) (faults self.new) result };
+}

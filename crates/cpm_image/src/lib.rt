@@ -1,0 +1,14 @@
+//! Images of CP/M 2.2 disks, eight inch single density: devices of 128-byte sectors, an image in memory, and where the
+//! logical records of a disk lie in its image.
+#![tactic(auto)]
+
+mod device;
+mod fault;
+pub mod laws;
+mod memory;
+mod skew;
+
+pub use device::{DeviceFault, Sectors};
+pub use fault::ImageFault;
+pub use memory::MemoryImage;
+pub use skew::logical;

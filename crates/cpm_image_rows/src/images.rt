@@ -1,0 +1,97 @@
+//! What bytes are an image.
+
+use cpm_image::{DeviceFault, ImageFault, MemoryImage};
+use std::alloc::Global;
+use std::process::Abort;
+use std::test::Fail;
+
+/// Bytes that differ from their neighbours and from sector to sector.
+fn numbered(alloc: Global, count: usize) -> Result<Vec<u8>, Fail> {
+    let mut bytes = Vec::with_capacity(alloc, count)?;
+    for i in 0..count {
+        bytes.push((i % 251) as u8)?;
+    }
+    Ok(bytes)
+}
+
+/// Asserts that bytes are no image, and why.
+fn assert_refused(
+    rt: &impl Abort,
+    alloc: Global,
+    count: usize,
+    why: ImageFault,
+) -> Result<(), Fail> {
+    let bytes = numbered(alloc, count)?;
+    match MemoryImage::from_bytes(alloc, &bytes) {
+        Err(ImageFault::NoMemory) => Err(Fail::from("out of memory")),
+        Err(fault) => {
+            assert_eq!(rt; fault, why, "{count} bytes");
+            Ok(())
+        }
+        Ok(_) => panic!(rt; "an image of {count} bytes"),
+    }
+}
+
+/// Asserts that bytes are an image: they themselves, and then E5H.
+fn assert_image(rt: &impl Abort, alloc: Global, count: usize) -> Result<(), Fail> {
+    let bytes = numbered(alloc, count)?;
+    let image = MemoryImage::from_bytes(alloc, &bytes)?;
+    let sectors = image.sectors();
+    assert_eq!(rt; sectors.len(), 2_002, "{count} bytes");
+    let flat = sectors.as_flattened();
+    assert!(rt; count <= flat.len());
+    let (front, back) = flat.split_at(count);
+    assert!(rt; front == bytes.as_slice(), "{count} bytes");
+    assert!(rt;
+        back.iter().all(|byte| *byte == 0xE5),
+        "behind {count} bytes"
+    );
+    Ok(())
+}
+
+#[test]
+fn images(rt: HostRuntime) -> Result<(), Fail> {
+    for count in [0, 128, 256, 6_656, 256_128, 256_256] {
+        assert_image(&rt, rt.alloc(), count)?;
+    }
+    Ok(())
+}
+
+#[test]
+fn refused(rt: HostRuntime) -> Result<(), Fail> {
+    let rows = [
+        (1, ImageFault::NotSectors),
+        (100, ImageFault::NotSectors),
+        (127, ImageFault::NotSectors),
+        (129, ImageFault::NotSectors),
+        (256_255, ImageFault::NotSectors),
+        (256_257, ImageFault::NotSectors),
+        (256_384, ImageFault::TooLong),
+        (256_385, ImageFault::NotSectors),
+    ];
+    for (count, why) in rows {
+        assert_refused(&rt, rt.alloc(), count, why)?;
+    }
+    Ok(())
+}
+
+#[test]
+fn faults_in_print(rt: HostRuntime) -> Result<(), Fail> {
+    let rows = [
+        (
+            ImageFault::NotSectors,
+            "the image is not a whole number of 128-byte sectors",
+        ),
+        (ImageFault::TooLong, "the image is longer than 256256 bytes"),
+        (ImageFault::NoMemory, "out of memory"),
+    ];
+    for (fault, text) in rows {
+        assert_eq!(rt; format!(in rt.alloc(); "{fault}")?.as_str(), text);
+    }
+    let fault = DeviceFault;
+    assert_eq!(rt;
+        format!(in rt.alloc(); "{fault:?}: {fault}")?.as_str(),
+        "DeviceFault: the device failed"
+    );
+    Ok(())
+}
