@@ -1,0 +1,84 @@
+-- A directory is judged in one way.
+use Rattle.std.proofs.Common.{◌≡◌, ◌<◌, ℕ, List, true, take, refl, arith, sym, ap, subst, inl, inr, Result, Ok, Err}
+use Rattle.std.specs.Bool.{⊤}
+use Rattle.std.proofs.lemmas.Bool.{cases_order}
+use Rattle.std.proofs.lemmas.List.{length-take}
+use Rattle.cpm_directory.specs.Types.{Entry, DiskFault}
+use Rattle.cpm_directory.specs.declared.fault.DiskFault.TheVariants as fault
+use Rattle.cpm_directory.specs.Entries.{at, block, is_extent}
+use Rattle.cpm_directory.specs.Rules.{AreSameExtent, IsFaultOf, IsFirstFault, IsJudged, IsSound, KeepsRules}
+use Rattle.cpm_directory.proofs.Judging.{at_take}
+use Rattle.cpm_directory.proofs.Naming.{within_extents}
+
+-- an entry that comes before another
+comes_before : (entries : List Entry) (j k : ℕ) → is_extent (at (take k entries) j) ≡ true → j < k
+comes_before entries j k is = let within = within_extents (take k entries) j is in omega (arith, rw length-take at within)
+
+keeps_of_sound : (entries : List Entry) → IsSound entries → (k : ℕ) → is_extent (at entries k) ≡ true → KeepsRules (take k entries) (at entries k)
+keeps_of_sound entries s k second = (
+  s.good k second,
+  s.blocks k second,
+  (
+    λ a b positive same. (s.once k k a b second second positive same).1,
+    λ j a b is positive same.
+        let lt = comes_before entries j k is in
+        let itself = at_take entries j k lt in
+        let there : block (at entries j) b ≡ block (at entries k) a = subst (λ e. block e b ≡ block (at entries k) a) itself same in
+        let equal = (s.once j k b a (subst (λ e. is_extent e ≡ true) itself is) second (omega arith) there).0 in
+        omega arith,
+  ),
+  λ j is same.
+      let lt = comes_before entries j k is in
+      let itself = at_take entries j k lt in
+      let equal = s.named j k (subst (λ e. is_extent e ≡ true) itself is) second (subst (λ e. AreSameExtent e (at entries k)) itself same) in
+      omega arith,
+)
+
+no_fault : (before : List Entry) (e : Entry) (f : DiskFault) → KeepsRules before e → IsFaultOf before e f → ⊥
+no_fault before e fault.BadEntry keeps broken = broken keeps.0
+no_fault before e fault.BlockRange keeps broken = broken.1 keeps.1
+no_fault before e fault.BlockTwice keeps broken = broken.2 keeps.2
+no_fault before e fault.NameTwice keeps broken = broken.3 keeps.3
+no_fault before e _ keeps broken = broken
+
+one_fault : (before : List Entry) (e : Entry) (f g : DiskFault) → IsFaultOf before e f → IsFaultOf before e g → f ≡ g
+one_fault before e fault.BadEntry fault.BadEntry p q = refl
+one_fault before e fault.BadEntry fault.BlockRange p q = absurd (p q.0)
+one_fault before e fault.BadEntry fault.BlockTwice p q = absurd (p q.0)
+one_fault before e fault.BadEntry fault.NameTwice p q = absurd (p q.0)
+one_fault before e fault.BadEntry _ p q = absurd q
+one_fault before e fault.BlockRange fault.BadEntry p q = absurd (q p.0)
+one_fault before e fault.BlockRange fault.BlockRange p q = refl
+one_fault before e fault.BlockRange fault.BlockTwice p q = absurd (p.1 q.1)
+one_fault before e fault.BlockRange fault.NameTwice p q = absurd (p.1 q.1)
+one_fault before e fault.BlockRange _ p q = absurd q
+one_fault before e fault.BlockTwice fault.BadEntry p q = absurd (q p.0)
+one_fault before e fault.BlockTwice fault.BlockRange p q = absurd (q.1 p.1)
+one_fault before e fault.BlockTwice fault.BlockTwice p q = refl
+one_fault before e fault.BlockTwice fault.NameTwice p q = absurd (p.2 q.2)
+one_fault before e fault.BlockTwice _ p q = absurd q
+one_fault before e fault.NameTwice fault.BadEntry p q = absurd (q p.0)
+one_fault before e fault.NameTwice fault.BlockRange p q = absurd (q.1 p.1)
+one_fault before e fault.NameTwice fault.BlockTwice p q = absurd (q.2 p.2)
+one_fault before e fault.NameTwice fault.NameTwice p q = refl
+one_fault before e fault.NameTwice _ p q = absurd q
+one_fault before e _ g p q = absurd p
+
+sound_or_not : (entries : List Entry) (f : DiskFault) → IsSound entries → IsFirstFault entries f → ⊥
+sound_or_not entries f sound first =
+    no_fault (take first.number entries) (at entries first.number) f (keeps_of_sound entries sound first.number first.extent) first.fault_of
+
+one_first : (entries : List Entry) (f g : DiskFault) → IsFirstFault entries f → IsFirstFault entries g → f ≡ g
+one_first entries f g p q = elim (cases_order p.number q.number) [
+  | inl equal ↦ one_fault (take p.number entries) (at entries p.number) f g p.fault_of (subst (λ k. IsFaultOf (take k entries) (at entries k) g) (sym equal) q.fault_of)
+  | inr rest ↦ elim rest [
+    | inl lt ↦ absurd (no_fault (take p.number entries) (at entries p.number) f (q.before p.number lt p.extent) p.fault_of)
+    | inr gt ↦ absurd (no_fault (take q.number entries) (at entries q.number) g (p.before q.number gt q.extent) q.fault_of)
+  ]
+]
+
+pub one_judgement : (entries : List Entry) (a b : Result ⊤ DiskFault) → IsJudged entries a → IsJudged entries b → a ≡ b
+one_judgement entries (Ok x) (Ok y) p q = refl
+one_judgement entries (Ok x) (Err g) p q = absurd (sound_or_not entries g p q)
+one_judgement entries (Err f) (Ok y) p q = absurd (sound_or_not entries f q p)
+one_judgement entries (Err f) (Err g) p q = ap Err (one_first entries f g p q)

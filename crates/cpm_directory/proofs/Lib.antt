@@ -1,0 +1,11 @@
+pub mod Bytewise
+pub mod Sizes
+pub mod Marking
+pub mod Anywhere
+pub mod Taking
+pub mod Naming
+pub mod Owning
+pub mod Judging
+pub mod Arranging
+pub mod Filing
+pub mod Judgement

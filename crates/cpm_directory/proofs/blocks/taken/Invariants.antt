@@ -1,0 +1,5 @@
+use Rattle.cpm_directory.proofs.Taking.{AreTaken}
+use Rattle.cpm_directory.proofs.blocks.taken.Given as goal
+
+abbrev pub invariant-loop-entry : goal.invariant-loop-entry
+invariant-loop-entry l = AreTaken l.marks l.entries l.entry-index

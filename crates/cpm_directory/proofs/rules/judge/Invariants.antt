@@ -1,0 +1,5 @@
+use Rattle.cpm_directory.proofs.Judging.{AreJudged}
+use Rattle.cpm_directory.proofs.rules.judge.Given as goal
+
+abbrev pub invariant-loop-number : goal.invariant-loop-number
+invariant-loop-number l = AreJudged l.entries l.marks l.number

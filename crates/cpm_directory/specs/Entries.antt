@@ -1,0 +1,87 @@
+-- An entry of a CP/M 2.2 directory: 32 bytes, the user, eleven bytes of name and type, EX, S1, S2, RC and sixteen bytes of blocks.
+-- (CP/M 2.2 Interface Guide, file control blocks; Alteration Guide, the directory.)
+use Rattle.std.specs.Prelude.{ℕ, ◌+◌, ◌*◌, ◌/◌, ◌%◌, ◌==◌, Bool, ◌&&◌, ◌||◌, not, List, ◌∷◌, ◌++◌, take, drop, replicate, slice_index, slice_index_or, slice_set, nat_lt, nat_le, max}
+use Rattle.std.specs.Str.{bytes_eq}
+use Rattle.cpm_directory.specs.Types.{Entry, Pattern}
+use Rattle.cpm_directory.specs.Letters.{letters, name_matches, with_letters}
+
+-- the 32 bytes
+abbrev pub bytes_of : Entry → List ℕ
+bytes_of e = e.user ∷ e.name ++ e.extent ∷ e.s1 ∷ e.s2 ∷ e.records ∷ e.blocks
+
+-- the entry that 32 bytes spell
+abbrev pub entry_of : List ℕ → Entry
+entry_of bytes = record {
+  user = slice_index bytes 0;
+  name = take 11 (drop 1 bytes);
+  extent = slice_index bytes 12;
+  s1 = slice_index bytes 13;
+  s2 = slice_index bytes 14;
+  records = slice_index bytes 15;
+  blocks = drop 16 bytes;
+}
+
+-- 32 bytes of E5H
+abbrev pub blank : Entry
+blank = entry_of (replicate 32 0xE5)
+
+-- the entry of a number, a blank one past the end
+abbrev pub at : List Entry → ℕ → Entry
+at entries k = slice_index_or entries k blank
+
+-- users 0 to 31 have extents of files. E5H is free; any other byte is foreign, and names no file
+abbrev pub is_extent : Entry → Bool
+is_extent e = nat_lt e.user 32
+
+abbrev pub is_free : Entry → Bool
+is_free e = e.user == 0xE5
+
+-- whether an entry is one of a user's file
+abbrev pub is_of : ℕ → List ℕ → Entry → Bool
+is_of user name e = (e.user == user) && bytes_eq (letters e.name) name
+
+abbrev pub is_extent_of : ℕ → List ℕ → ℕ → Entry → Bool
+is_extent_of user name number e = is_of user name e && (e.extent == number)
+
+-- The high bit of the type's first byte is read-only, of its second system.
+abbrev pub is_read_only : Entry → Bool
+is_read_only e = nat_le 128 (slice_index e.name 8)
+
+abbrev pub is_system : Entry → Bool
+is_system e = nat_le 128 (slice_index e.name 9)
+
+-- whether an entry is of a user and its name matches a pattern's
+abbrev pub is_match : ℕ → List ℕ → Entry → Bool
+is_match user pattern e = (e.user == user) && name_matches pattern e.name
+
+-- with the extent heeded, where it is not `?`
+abbrev pub is_exact_match : ℕ → Pattern → Entry → Bool
+is_exact_match user pattern e = is_match user pattern.name e && ((pattern.extent == 0x3F) || (pattern.extent == e.extent))
+
+-- the block of a group of eight records, 0 for none
+abbrev pub block : Entry → ℕ → ℕ
+block e group = slice_index e.blocks group
+
+-- whether record i of the extent is there
+abbrev pub has_record : Entry → ℕ → Bool
+has_record e i = nat_lt i e.records && not (block e (i / 8) == 0)
+
+-- the logical record of the disk that holds record i of the extent, where its block is there
+abbrev pub record_number : Entry → ℕ → ℕ
+record_number e i = 8 * block e (i / 8) + i % 8
+
+-- the entry of a new extent
+abbrev pub new_extent : ℕ → List ℕ → ℕ → Entry
+new_extent user name number = record { user = user; name = name; extent = number; s1 = 0; s2 = 0; records = 0; blocks = replicate 16 0 }
+
+-- the entry once record i is written to a block
+abbrev pub with_record : Entry → ℕ → ℕ → Entry
+with_record e i b = record e { records = max e.records (i + 1); blocks = slice_set e.blocks (i / 8) b }
+
+-- erased: the user byte alone changes
+abbrev pub erased : Entry → Entry
+erased e = record e { user = 0xE5 }
+
+-- renamed: the name's letters change alone
+abbrev pub renamed : List ℕ → Entry → Entry
+renamed name e = record e { name = with_letters e.name name }

@@ -1,0 +1,7 @@
+pub mod Letters
+pub mod Types
+pub mod Entries
+pub mod Rules
+pub mod Searches
+pub mod Marks
+pub mod Files

@@ -1,0 +1,5 @@
+-- The public types, in one place for this crate and those above it.
+pub use Rattle.cpm_directory.specs.declared.entry.Entry.{Entry}
+pub use Rattle.cpm_directory.specs.declared.fault.DiskFault.{DiskFault}
+pub use Rattle.cpm_directory.specs.declared.pattern.Pattern.{Pattern}
+pub use Rattle.cpm_directory.specs.declared.listing.Listed.{Listed}

@@ -1,0 +1,232 @@
+//! Entries of a directory.
+
+ghost use Rattle.std.specs.Prelude.{◌≡◌};
+ghost use Rattle.cpm_directory.specs.Letters.{byte_matches, letters, name_matches, with_letters};
+
+use crate::{Name, Pattern};
+
+/// An entry: 32 bytes. Users 0 to 31 have extents of files, E5H is free, and any other byte is foreign.
+#[derive(Clone, Copy, Debug, PartialEq, Eq)]
+pub struct Entry {
+    pub user: u8,
+    /// Eight bytes and three of the type. The high bit of the type's first byte is read-only, of its second system.
+    pub name: [u8; 11],
+    /// EX, the number of the extent of 128 records.
+    pub extent: u8,
+    pub s1: u8,
+    pub s2: u8,
+    /// RC, how many records of the extent count.
+    pub records: u8,
+    /// The block of each eight records, 0 for none.
+    pub blocks: [u8; 16],
+}
+
+/// The user byte of an entry that is free.
+const FREE: u8 = 0xE5;
+/// How many users have files.
+const USERS: u8 = 32;
+/// The byte of a pattern that matches whatever stands there, `?`.
+const WILD: u8 = 0x3F;
+
+/// Whether a pattern's byte matches a name's.
+fn byte_matches(pattern: u8, byte: u8) -> bool
+    ensures { result ≡ byte_matches pattern byte }
+{
+    pattern == WILD || pattern % 128 == byte % 128
+}
+
+/// Whether a name matches a pattern's, byte for byte.
+fn name_matches(pattern: &[u8; 11], name: &[u8; 11]) -> bool
+    ensures { result ≡ name_matches pattern.now name.now }
+{
+    pattern
+        .iter()
+        .zip(name)
+        .all(|(pattern, byte)| byte_matches(*pattern, *byte))
+}
+
+/// A name with other letters, each byte with the high bit of the old one.
+fn with_letters(old: &[u8; 11], mut name: [u8; 11]) -> [u8; 11]
+    requires { letters name ≡ name }
+    ensures { result ≡ with_letters old.now name }
+{
+    for (i, byte) in name.iter_mut().enumerate() {
+        *byte += old[i] / 128 * 128;
+    }
+    name
+}
+
+impl Entry {
+    ghost use Rattle.std.specs.Prelude.{◌≡◌, ◌<◌};
+    ghost use Rattle.cpm_directory.specs.Entries.{blank, bytes_of, entry_of, erased, has_record, is_exact_match, is_extent, is_extent_of, is_free, is_match, is_of, is_read_only, is_system, new_extent, record_number, renamed, with_record};
+
+    /// An entry of 32 bytes of E5H.
+    pub fn blank() -> Entry
+        ensures { result ≡ blank }
+    {
+        Entry {
+            user: FREE,
+            name: [FREE; 11],
+            extent: FREE,
+            s1: FREE,
+            s2: FREE,
+            records: FREE,
+            blocks: [FREE; 16],
+        }
+    }
+
+    /// The entry that 32 bytes spell.
+    pub fn from_bytes(bytes: &[u8; 32]) -> Entry
+        ensures { result ≡ entry_of bytes.now }
+    {
+        let mut name = [0; 11];
+        name.copy_from_slice(&bytes[1..12]);
+        let mut blocks = [0; 16];
+        blocks.copy_from_slice(&bytes[16..]);
+        Entry {
+            user: bytes[0],
+            name,
+            extent: bytes[12],
+            s1: bytes[13],
+            s2: bytes[14],
+            records: bytes[15],
+            blocks,
+        }
+    }
+
+    /// The 32 bytes of the entry.
+    pub fn to_bytes(&self) -> [u8; 32]
+        ensures bytes { result ≡ bytes_of self.now }
+        ensures again { entry_of result ≡ self.now }
+    {
+        let mut bytes = [0; 32];
+        bytes[0] = self.user;
+        bytes[1..12].copy_from_slice(&self.name);
+        bytes[12] = self.extent;
+        bytes[13] = self.s1;
+        bytes[14] = self.s2;
+        bytes[15] = self.records;
+        bytes[16..].copy_from_slice(&self.blocks);
+        bytes
+    }
+
+    /// Whether the entry is an extent of a file, of users 0 to 31.
+    pub fn is_extent(&self) -> bool
+        ensures { result ≡ is_extent self.now }
+    {
+        self.user < USERS
+    }
+
+    /// Whether a new extent may take the entry.
+    pub fn is_free(&self) -> bool
+        ensures { result ≡ is_free self.now }
+    {
+        self.user == FREE
+    }
+
+    /// Whether the entry is one of a user's file.
+    pub fn is_of(&self, user: u8, name: &Name) -> bool
+        ensures { result ≡ is_of user name.now self.now }
+    {
+        self.user == user && Name::new(self.name) == *name
+    }
+
+    /// Whether the entry is the extent of a number of a user's file.
+    pub fn is_extent_of(&self, user: u8, name: &Name, number: u8) -> bool
+        ensures { result ≡ is_extent_of user name.now number self.now }
+    {
+        self.is_of(user, name) && self.extent == number
+    }
+
+    pub fn is_read_only(&self) -> bool
+        ensures { result ≡ is_read_only self.now }
+    {
+        self.name[8] >= 128
+    }
+
+    pub fn is_system(&self) -> bool
+        ensures { result ≡ is_system self.now }
+    {
+        self.name[9] >= 128
+    }
+
+    /// Whether the entry is of the user and its name matches a pattern's.
+    pub fn is_match(&self, user: u8, name: &[u8; 11]) -> bool
+        ensures { result ≡ is_match user name.now self.now }
+    {
+        self.user == user && name_matches(name, &self.name)
+    }
+
+    /// Whether the entry is of the user and matches a pattern, its extent included.
+    pub fn is_exact_match(&self, user: u8, pattern: &Pattern) -> bool
+        ensures { result ≡ is_exact_match user pattern.now self.now }
+    {
+        self.is_match(user, &pattern.name)
+            && (pattern.extent == WILD || pattern.extent == self.extent)
+    }
+
+    /// Whether record `i` of the extent is there.
+    pub fn has_record(&self, i: u8) -> bool
+        requires { i < 128 }
+        ensures { result ≡ has_record self.now i }
+    {
+        i < self.records && self.blocks[usize::from(i / 8)] != 0
+    }
+
+    /// The logical record of the disk that holds record `i` of the extent, where its block is there.
+    pub fn record_number(&self, i: u8) -> u32
+        requires { i < 128 }
+        ensures { result ≡ record_number self.now i }
+    {
+        8 * u32::from(self.blocks[usize::from(i / 8)]) + u32::from(i % 8)
+    }
+
+    /// The entry once it is erased: its user byte alone changes.
+    pub fn erased(&self) -> Entry
+        ensures { result ≡ erased self.now }
+    {
+        Entry {
+            user: FREE,
+            ..*self
+        }
+    }
+
+    /// The entry under another name. The high bit of each byte stays.
+    pub fn renamed(&self, name: &Name) -> Entry
+        ensures { result ≡ renamed name.now self.now }
+    {
+        Entry {
+            name: with_letters(&self.name, name.bytes()),
+            ..*self
+        }
+    }
+
+    /// The entry once its record `i` is written to a block.
+    pub fn with_record(&self, i: u8, block: u8) -> Entry
+        requires { i < 128 }
+        ensures { result ≡ with_record self.now i block }
+    {
+        let mut blocks = self.blocks;
+        blocks[usize::from(i / 8)] = block;
+        Entry {
+            records: self.records.max(i + 1),
+            blocks,
+            ..*self
+        }
+    }
+
+    /// The entry of a new extent, which has no records.
+    pub fn new_extent(user: u8, name: [u8; 11], number: u8) -> Entry
+        ensures { result ≡ new_extent user name number }
+    {
+        Entry {
+            user,
+            name,
+            extent: number,
+            s1: 0,
+            s2: 0,
+            records: 0,
+            blocks: [0; 16],
+        }
+    }
+}

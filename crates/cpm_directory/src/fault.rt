@@ -1,0 +1,65 @@
+//! Why a disk refuses.
+
+ghost use Rattle.std.specs.Prelude.{◌≡◌};
+ghost use Rattle.cpm_directory.specs.declared.fault.DiskFault.TheVariants.{NoMemory};
+
+use std::alloc::{AllocError, AllocFailed};
+use thiserror::Error;
+
+/// Why a disk is not mounted, or refuses a call.
+#[derive(Clone, Copy, Debug, PartialEq, Eq, Error)]
+pub enum DiskFault {
+    /// The device failed during the call.
+    #[error("the device failed")]
+    Fault,
+    #[error("a block stands twice in the directory")]
+    BlockTwice,
+    /// A block byte of 1 or above 242.
+    #[error("a directory entry names a block that holds no files")]
+    BlockRange,
+    /// RC above 128, EX above 31, or low six bits of S2 that are not 0.
+    #[error("a directory entry has a count out of range")]
+    BadEntry,
+    #[error("no such file")]
+    NotFound,
+    #[error("the file exists")]
+    Exists,
+    #[error("the directory is full")]
+    DirectoryFull,
+    #[error("the disk is full")]
+    DiskFull,
+    #[error("the file is read-only")]
+    ReadOnly,
+    /// The extent is there and the record is not.
+    #[error("the record was not written")]
+    Unwritten,
+    #[error("the extent of the record was not written")]
+    NoExtent,
+    /// Two entries of the same user, name and extent number.
+    #[error("two directory entries have the same name and extent")]
+    NameTwice,
+    /// The device failed in an earlier call since the disk was mounted.
+    #[error("the device has failed")]
+    Failed,
+    /// A record above 4,095.
+    #[error("the record is past the last that a file may have")]
+    TooFar,
+    #[error("out of memory")]
+    NoMemory,
+}
+
+impl From<AllocError> for DiskFault {
+    ghost from_gives = { λ _ e. e ≡ NoMemory };
+
+    fn from(_: AllocError) -> DiskFault {
+        DiskFault::NoMemory
+    }
+}
+
+impl<T: Drop> From<AllocFailed<T>> for DiskFault {
+    ghost from_gives = { λ _ e. e ≡ NoMemory };
+
+    fn from(_: AllocFailed<T>) -> DiskFault {
+        DiskFault::NoMemory
+    }
+}

@@ -1,0 +1,105 @@
+//! What is looked for in a directory.
+
+ghost use Rattle.std.specs.Prelude.{◌≡◌, ◌<◌, ◌≤◌, IfSome, length, position};
+ghost use Rattle.cpm_directory.specs.Entries.{is_exact_match, is_extent_of, is_of};
+ghost use Rattle.cpm_directory.specs.Searches.{file_is_read_only, file_is_system, found_from, free_entry, is_file, size};
+
+use crate::{Entry, Name, Pattern};
+
+/// Whether a user has a file of a name.
+pub fn is_file(entries: &[Entry], user: u8, name: &Name) -> bool
+    ensures { result ≡ is_file user name.now entries.now }
+{
+    entries.iter().any(|entry| entry.is_of(user, name))
+}
+
+/// Whether one of a file's entries is read-only.
+pub fn file_is_read_only(entries: &[Entry], user: u8, name: &Name) -> bool
+    ensures { result ≡ file_is_read_only user name.now entries.now }
+{
+    entries
+        .iter()
+        .any(|entry| entry.is_of(user, name) && entry.is_read_only())
+}
+
+/// Whether one of a file's entries is a system entry.
+pub fn file_is_system(entries: &[Entry], user: u8, name: &Name) -> bool
+    ensures { result ≡ file_is_system user name.now entries.now }
+{
+    entries
+        .iter()
+        .any(|entry| entry.is_of(user, name) && entry.is_system())
+}
+
+/// A position as the number of an entry, of which there are 65,536 at most.
+fn numbered(position: Option<usize>) -> Option<u16>
+    requires { IfSome position (λ k. k < 65536) }
+    ensures { result ≡ position }
+{
+    match position {
+        Some(k) => Some(k as u16),
+        None => None,
+    }
+}
+
+/// The number of the entry of a file's extent.
+pub fn position_of(entries: &[Entry], user: u8, name: &Name, number: u8) -> Option<u16>
+    requires { length entries.now ≤ 65536 }
+    ensures { result ≡ position (is_extent_of user name.now number) entries.now }
+{
+    numbered(
+        entries
+            .iter()
+            .position(|entry| entry.is_extent_of(user, name, number)),
+    )
+}
+
+/// The number of a file's lowest entry.
+pub fn first_of(entries: &[Entry], user: u8, name: &Name) -> Option<u16>
+    requires { length entries.now ≤ 65536 }
+    ensures { result ≡ position (is_of user name.now) entries.now }
+{
+    numbered(entries.iter().position(|entry| entry.is_of(user, name)))
+}
+
+/// The number of the lowest free entry.
+pub fn free_entry(entries: &[Entry]) -> Option<u16>
+    requires { length entries.now ≤ 65536 }
+    ensures { result ≡ free_entry entries.now }
+{
+    numbered(entries.iter().position(|entry| entry.is_free()))
+}
+
+/// The place of the first entry that is of the user and matches a pattern.
+fn first_match(entries: &[Entry], user: u8, pattern: &Pattern) -> Option<usize>
+    ensures first { result ≡ position (is_exact_match user pattern.now) entries.now }
+    ensures within { IfSome result (λ k. k < length entries.now) }
+{
+    entries
+        .iter()
+        .position(|entry| entry.is_exact_match(user, pattern))
+}
+
+/// The number of the first entry from `from` on that is of the user and matches a pattern.
+pub fn find(entries: &[Entry], user: u8, pattern: &Pattern, from: u16) -> Option<u16>
+    requires { length entries.now ≤ 65536 }
+    ensures { result ≡ found_from user pattern.now from entries.now }
+{
+    let start = usize::from(from).min(entries.len());
+    let (_, rest) = entries.split_at(start);
+    match first_match(rest, user, pattern) {
+        Some(k) => numbered(Some(start + k)),
+        None => None,
+    }
+}
+
+/// How many records a file has up to its last, written or not. `None` where there is no such file.
+pub fn size(entries: &[Entry], user: u8, name: &Name) -> Option<u32>
+    ensures { result ≡ size user name.now entries.now }
+{
+    entries
+        .iter()
+        .filter(|entry| entry.is_of(user, name))
+        .map(|entry| 128 * u32::from(entry.extent) + u32::from(entry.records))
+        .max()
+}

@@ -1,0 +1,94 @@
+//! Directories that keep the rules, and the first faults of some that do not.
+
+use cpm_directory::{DiskFault, Entry, judge};
+use std::test::Fail;
+
+/// An entry of this name with one block.
+fn entry(user: u8, name: [u8; 11], extent: u8, block: u8) -> Entry {
+    Entry::new_extent(user, name, extent).with_record(0, block)
+}
+
+#[test]
+fn one_byte(rt: HostRuntime) -> Result<(), Fail> {
+    // The place of a byte in an entry, the byte, and what is judged.
+    let rows: [(usize, u8, Option<DiskFault>); 15] = [
+        (15, 0x80, None),
+        (15, 0x81, Some(DiskFault::BadEntry)),
+        (12, 0x1F, None),
+        (12, 0x20, Some(DiskFault::BadEntry)),
+        (14, 0xC0, None),
+        (14, 0x01, Some(DiskFault::BadEntry)),
+        (14, 0x20, Some(DiskFault::BadEntry)),
+        (16, 0x00, None),
+        (16, 0x01, Some(DiskFault::BlockRange)),
+        (16, 0x02, None),
+        (31, 0xF2, None),
+        (31, 0xF3, Some(DiskFault::BlockRange)),
+        (31, 0xFF, Some(DiskFault::BlockRange)),
+        // A user of 31 has files, one of 32 is foreign.
+        (0, 0x1F, None),
+        (0, 0x20, None),
+    ];
+    for (place, byte, fault) in rows {
+        let mut bytes = Entry::new_extent(0, *b"A       COM", 0).to_bytes();
+        if let Some(at) = bytes.get_mut(place) {
+            *at = byte;
+        }
+        assert_eq!(rt;
+            judge(&[Entry::from_bytes(&bytes)]).err(),
+            fault,
+            "byte {place}"
+        );
+    }
+    Ok(())
+}
+
+#[test]
+fn two_entries(rt: HostRuntime) -> Result<(), Fail> {
+    let first = entry(0, *b"A       COM", 0, 2);
+    // An entry that comes after the first one, and what is judged.
+    let rows = [
+        (entry(0, *b"B       COM", 0, 3), None),
+        (entry(0, *b"B       COM", 0, 2), Some(DiskFault::BlockTwice)),
+        (entry(0, *b"A       COM", 1, 3), None),
+        (entry(1, *b"A       COM", 0, 3), None),
+        (entry(0, *b"A       COM", 0, 3), Some(DiskFault::NameTwice)),
+        // The high bits of a name are attributes.
+        (
+            entry(0, *b"A       \xC3OM", 0, 3),
+            Some(DiskFault::NameTwice),
+        ),
+        // The block is judged before the name.
+        (entry(0, *b"A       COM", 0, 2), Some(DiskFault::BlockTwice)),
+        // A block may not stand twice in one entry.
+        (
+            entry(0, *b"B       COM", 0, 3).with_record(8, 3),
+            Some(DiskFault::BlockTwice),
+        ),
+        // A foreign entry and a free one have no blocks.
+        (entry(32, *b"A       COM", 0, 2), None),
+        (entry(0, *b"A       COM", 0, 2).erased(), None),
+    ];
+    for (second, fault) in rows {
+        assert_eq!(rt; judge(&[first, second]).err(), fault, "{second:?}");
+    }
+    Ok(())
+}
+
+#[test]
+fn each_entry_wholly(rt: HostRuntime) -> Result<(), Fail> {
+    let first = entry(0, *b"A       COM", 0, 2);
+    let named_twice = entry(0, *b"A       COM", 0, 3);
+    let out_of_range = entry(0, *b"B       COM", 0, 1);
+    assert_eq!(rt;
+        judge(&[first, named_twice, out_of_range]).err(),
+        Some(DiskFault::NameTwice)
+    );
+    assert_eq!(rt;
+        judge(&[first, out_of_range, named_twice]).err(),
+        Some(DiskFault::BlockRange)
+    );
+    assert!(rt; judge(&[Entry::blank(); 64]).is_ok());
+    assert!(rt; judge(&[]).is_ok());
+    Ok(())
+}
