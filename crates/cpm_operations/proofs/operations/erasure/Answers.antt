@@ -1,0 +1,5 @@
+use Rattle.cpm_operations.proofs.Keeping.{erasure_keeps}
+use Rattle.cpm_operations.proofs.operations.erasure.Goals as goal
+
+pub returns-clause-kept : goal.returns-clause-kept
+returns-clause-kept c = erasure_keeps c.args.user c.args.pattern.now c.args.entries.now c.requires.user

@@ -1,0 +1,7 @@
+use Rattle.std.proofs.Common.{sym, ◌∙◌}
+use Rattle.cpm_operations.proofs.Worth.{renamed_soundly}
+use Rattle.cpm_operations.proofs.operations.renaming.Goals as goal
+
+pub returns-clause-kept : goal.returns-clause-kept
+returns-clause-kept c = renamed_soundly c.args.user c.args.old.now c.args.new.now c.args.entries.now c.may_rename.result c.requires
+    (c.bytes-old_letters.ensures.eleven ∙ sym c.bytes-new_letters.ensures.eleven) c.bytes-new_letters.ensures.seven c.may_rename.ensures

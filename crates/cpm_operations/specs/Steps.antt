@@ -1,0 +1,97 @@
+-- What each operation makes of a directory, or the first reason to refuse it.
+use Rattle.std.specs.Prelude.{ℕ, ◌/◌, ◌%◌, ◌==◌, Bool, true, false, ◌&&◌, not, List, Option, Some, None, Result, Ok, Err, if◌then◌else◌, count_by, find, position, map, nat_lt, ⊤}
+use Rattle.std.specs.List.{list_any}
+use Rattle.cpm_directory.specs.declared.entry.Entry.{Entry}
+use Rattle.cpm_directory.specs.declared.fault.DiskFault.{DiskFault}
+use Rattle.cpm_operations.specs.declared.placement.Placement.{Placement}
+use Rattle.cpm_directory.specs.declared.fault.DiskFault.TheVariants as fault
+use Rattle.cpm_directory.specs.Entries.{at, block, erased, has_record, is_extent_of, is_match, is_of, is_read_only, new_extent, record_number, renamed, with_record}
+use Rattle.cpm_directory.specs.Searches.{file_is_read_only, free_block, free_entry, is_file}
+
+infixl 10 ◌>>=◌
+abbrev pub ◌>>=◌ : {A B : Type 0} → Result A DiskFault → (A → Result B DiskFault) → Result B DiskFault
+(Ok x) >>= f = f x
+(Err e) >>= f = Err e
+
+-- goes on where a test holds, else refuses
+abbrev pub unless : {A : Type 0} → Bool → DiskFault → Result A DiskFault → Result A DiskFault
+unless test e rest = if test then Err e else rest
+
+-- an option's value, or else a refusal
+abbrev pub given : {A : Type 0} → Option A → DiskFault → Result A DiskFault
+given (Some x) e = Ok x
+given None e = Err e
+
+-- the number and the entry of a new file: the lowest free one
+abbrev pub creation : ℕ → List ℕ → List Entry → Result (ℕ × Entry) DiskFault
+creation user name entries =
+    unless (is_file user name entries) fault.Exists
+    (given (free_entry entries) fault.DirectoryFull >>= λ k.
+    Ok (k, new_extent user name 0))
+
+-- how many entries are erased: all that match
+abbrev pub erasure : ℕ → List ℕ → List Entry → Result ℕ DiskFault
+erasure user pattern entries =
+    unless (not (list_any (is_match user pattern) entries)) fault.NotFound
+    (unless (list_any (λ e. is_match user pattern e && is_read_only e) entries) fault.ReadOnly
+    (Ok (count_by (is_match user pattern) entries)))
+
+abbrev pub after_erasure : ℕ → List ℕ → List Entry → List Entry
+after_erasure user pattern entries = map (λ e. if is_match user pattern e then erased e else e) entries
+
+-- whether a file may be renamed
+abbrev pub renaming : ℕ → List ℕ → List ℕ → List Entry → Result ⊤ DiskFault
+renaming user old new entries =
+    unless (not (is_file user old entries)) fault.NotFound
+    (unless (is_file user new entries) fault.Exists
+    (unless (file_is_read_only user old entries) fault.ReadOnly
+    (Ok tt)))
+
+abbrev pub after_renaming : ℕ → List ℕ → List ℕ → List Entry → List Entry
+after_renaming user old new entries = map (λ e. if is_of user old e then renamed new e else e) entries
+
+-- The last record of a file. There are 32 extents of 128 records.
+abbrev pub last_record : ℕ
+last_record = 4095
+
+-- the logical record of the disk that holds record i of an extent
+abbrev pub recorded : ℕ → Entry → Result ℕ DiskFault
+recorded i e = unless (not (has_record e i)) fault.Unwritten (Ok (record_number e i))
+
+-- the logical record of the disk that holds a file's record
+abbrev pub reading : ℕ → List ℕ → ℕ → List Entry → Result ℕ DiskFault
+reading user name number entries =
+    unless (not (is_file user name entries)) fault.NotFound
+    (unless (nat_lt last_record number) fault.TooFar
+    (given (find (is_extent_of user name (number / 128)) entries) fault.NoExtent >>= recorded (number % 128)))
+
+-- the number and the entry of a file's extent, where it has one, else the lowest free entry, with the name of the file's lowest entry
+abbrev pub found_or_new : ℕ → List ℕ → ℕ → List Entry → Option ℕ → Result (ℕ × Entry) DiskFault
+found_or_new user name number entries (Some k) = Ok (k, at entries k)
+found_or_new user name number entries None =
+    given (free_entry entries) fault.DirectoryFull >>= λ k.
+    given (find (is_of user name) entries) fault.NotFound >>= λ e.
+    Ok (k, new_extent user e.name number)
+
+abbrev pub extent_place : ℕ → List ℕ → ℕ → List Entry → Result (ℕ × Entry) DiskFault
+extent_place user name number entries = found_or_new user name number entries (position (is_extent_of user name number) entries)
+
+-- The block of a group of an entry, and whether it is new: the one that it has, else the lowest free one.
+abbrev pub block_place : Entry → ℕ → List Entry → Result (ℕ × Bool) DiskFault
+block_place e group entries = if block e group == 0
+    then (given (free_block entries) fault.DiskFull >>= λ b. Ok (b, true))
+    else Ok (block e group, false)
+
+-- where a record of a file goes: the entry's number, the entry as it is to be, the block, and whether it is new
+abbrev pub placing : ℕ → List ℕ → ℕ → List Entry → Result Placement DiskFault
+placing user name number entries =
+    extent_place user name (number / 128) entries >>= λ place.
+    block_place place.1 (number % 128 / 8) entries >>= λ found.
+    Ok (record { number = place.0; entry = with_record place.1 (number % 128) found.0; block = found.0; is_new = found.1 })
+
+abbrev pub writing : ℕ → List ℕ → ℕ → List Entry → Result Placement DiskFault
+writing user name number entries =
+    unless (not (is_file user name entries)) fault.NotFound
+    (unless (file_is_read_only user name entries) fault.ReadOnly
+    (unless (nat_lt last_record number) fault.TooFar
+    (placing user name number entries)))
