@@ -1,0 +1,10 @@
+pub mod Chunks
+pub mod Places
+pub mod Outcomes
+pub mod Changing
+pub mod Ending
+pub mod Clearing
+pub mod Refusing
+pub mod Extending
+pub mod Files
+pub mod Others

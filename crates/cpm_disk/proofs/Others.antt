@@ -1,0 +1,159 @@
+-- Files that a call does not name are as before.
+use Rattle.std.proofs.Common.{◌≡◌, ◌≢◌, ◌<◌, ◌≤◌, ◌/◌, ◌%◌, ◌==◌, ℕ, true, false, ◌&&◌, ◌||◌, List, [], ◌∷◌, length, slice_set, get_or-set_same, get_or-set_other, refl, sym, ap, subst, ◌∙◌, inl, inr, arith, if◌then◌else◌, true≢false, eqb-true, nat_eq, Ok}
+use Rattle.std.proofs.lemmas.Bool.{and_parts, cases_Bool, cases_eq}
+use Rattle.cpm_directory.specs.declared.entry.Entry.{Entry}
+use Rattle.cpm_directory.specs.Entries.{at, blank, block, erased, is_free, is_match, is_of, new_extent, record_number, renamed}
+use Rattle.cpm_directory.specs.Letters.{byte_matches, letters, name_matches}
+use Rattle.cpm_directory.specs.Rules.{IsSound}
+use Rattle.cpm_directory.specs.Searches.{free_entry, is_file}
+use Rattle.cpm_directory.specs.declared.fault.DiskFault.TheVariants as fault
+use Rattle.cpm_operations.proofs.Facts.{below_extent, is_of_file, letters_with, of_file}
+use Rattle.cpm_operations.proofs.Keeping.{at_erasure, at_renaming, erasing, length_of_name, renaming_of}
+use Rattle.cpm_operations.specs.declared.placement.Placement.{Placement}
+use Rattle.cpm_operations.specs.Kept.{IsKeptBy, IsPut}
+use Rattle.cpm_operations.specs.Steps.{◌>>=◌, after_erasure, after_renaming, creation, given}
+use Rattle.cpm_operations.proofs.Results.{bind_ok, unless_ok}
+use Rattle.cpm_disk.specs.Calls.{Changed, PartlyChanged, PartlyWritten, Written}
+use Rattle.cpm_disk.specs.Files.{IsEither, IsFile, IsMatched, OthersAreSame, SameFile}
+use Rattle.cpm_disk.specs.Image.{Image, IsOfBlock, directory, record_at}
+use Rattle.cpm_disk.proofs.Ending.{write_between}
+use Rattle.cpm_disk.proofs.Files.{Alike, same_file}
+
+-- a call that changes the directory alone, in no entry of the file
+pub beside : (old new : Image) (entries : List Entry) (user : ℕ) (name : List ℕ) → user < 32 → IsSound (directory old) → PartlyChanged old new entries
+    → ((k : ℕ) → k < 64 → Alike (is_of user name) (at (directory old) k) (at entries k)) → SameFile old new user name
+beside old new entries user name low sound left alike = same_file old new user name
+    (λ k below. elim (left.between k) as (λ _. Alike (is_of user name) (at (directory old) k) (at (directory new) k)) [
+      | inl same ↦ inl same
+      | inr after ↦ subst (Alike (is_of user name) (at (directory old) k)) (sym after) (alike k below)
+    ])
+    (λ k i below low_i of some.
+    let ext = below_extent (at (directory old) k) (let user_is = (of_file user name (at (directory old) k) of).0 in omega arith) in
+    let range : (2 ≤ block (at (directory old) k) (i / 8)) × (block (at (directory old) k) (i / 8) ≤ 242) = elim (sound.blocks k ext (i / 8)) [ inl none ↦ absurd (some none) | inr files ↦ files ] in
+    left.rest.records (record_number (at (directory old) k) i) (omega (arith, range.0, range.1)) (λ in_directory. omega (arith, range.0)))
+
+pub whole_change : (old new : Image) (entries : List Entry) → Changed old new entries → PartlyChanged old new entries
+whole_change old new entries made = record { between = λ k. inr (ap (λ es. at es k) made.entries_are); rest = made.rest }
+
+-- an entry of another file, or of none, is not of the file
+not_free : (user : ℕ) (name : List ℕ) (e : Entry) → user < 32 → is_free e ≡ true → is_of user name e ≡ false
+not_free user name e low free = elim (cases_Bool (is_of user name e)) as (λ _. is_of user name e ≡ false) [
+  | inl of ↦ (let user_is = (of_file user name e of).0 in let free_is = eqb-true e.user 0xE5 free in absurd (omega arith))
+  | inr not_of ↦ not_of
+]
+
+pub apart_from : (user : ℕ) (name : List ℕ) (other : ℕ) (others : List ℕ) (e : Entry) → is_of user name e ≡ true → ((other ≡ user) → (others ≡ name) → ⊥) → is_of other others e ≡ false
+apart_from user name other others e of apart = elim (cases_Bool (is_of other others e)) as (λ _. is_of other others e ≡ false) [
+  | inl too ↦ (let one = of_file user name e of in let two = of_file other others e too in absurd (apart (sym two.0 ∙ one.0) (sym two.1 ∙ one.1)))
+  | inr not_of ↦ not_of
+]
+
+-- an entry that is put, over a free one or one of the file
+pub put_alike : (entries : List Entry) (number : ℕ) (e : Entry) (user : ℕ) (name : List ℕ) → number < length entries → is_of user name (at entries number) ≡ false → is_of user name e ≡ false → (k : ℕ) → Alike (is_of user name) (at entries k) (at (slice_set entries number e) k)
+put_alike entries number e user name within before after k = elim (cases_eq k number) as (λ _. Alike (is_of user name) (at entries k) (at (slice_set entries number e) k)) [
+  | inl here ↦ inr (
+    subst (λ n. is_of user name (at entries n) ≡ false) (sym here) before,
+    subst (λ n. is_of user name (at (slice_set entries number e) n) ≡ false) (sym here) (subst (λ x. is_of user name x ≡ false) (sym (get_or-set_same entries number e blank within)) after),
+  )
+  | inr other ↦ inl (get_or-set_other entries number k e blank other)
+]
+
+pub over_free : (entries : List Entry) (put : ℕ × Entry) (user : ℕ) (name : List ℕ) (other : ℕ) (others : List ℕ) → other < 32 → IsPut entries put → is_of user name put.1 ≡ true → ((other ≡ user) → (others ≡ name) → ⊥) → (k : ℕ) → Alike (is_of other others) (at entries k) (at (slice_set entries put.0 put.1) k)
+over_free entries put user name other others low is_put of apart = put_alike entries put.0 put.1 other others is_put.within (not_free other others (at entries put.0) low is_put.free) (apart_from user name other others put.1 of apart)
+
+-- entries that match a pattern are erased
+matches_letters : (pattern name : List ℕ) → name_matches pattern (letters name) ≡ name_matches pattern name
+matches_letters [] [] = refl
+matches_letters [] (b ∷ name) = refl
+matches_letters (p ∷ pattern) [] = refl
+matches_letters (p ∷ pattern) (b ∷ name) =
+    let byte : b % 128 % 128 ≡ b % 128 = omega arith in
+    ap (λ n. ((p == 0x3F) || (p % 128 == n)) && name_matches pattern (letters name)) byte ∙ ap (λ m. byte_matches p b && m) (matches_letters pattern name)
+
+pub erased_alike : (entries : List Entry) (user : ℕ) (pattern : List ℕ) (other : ℕ) (others : List ℕ) → user < 32 → other < 32 → ((other ≡ user) → (name_matches pattern others ≡ true) → ⊥) → (k : ℕ) → Alike (is_of other others) (at entries k) (at (after_erasure user pattern entries) k)
+erased_alike entries user pattern other others low low_other apart k =
+    let after : at (after_erasure user pattern entries) k ≡ erasing user pattern (at entries k) = at_erasure user pattern entries k low in
+    elim (cases_Bool (is_match user pattern (at entries k))) as (λ _. Alike (is_of other others) (at entries k) (at (after_erasure user pattern entries) k)) [
+      | inl matches ↦ (
+          let gone : at (after_erasure user pattern entries) k ≡ erased (at entries k) = after ∙ ap (λ b. if b then erased (at entries k) else at entries k) matches in
+          let parts = and_parts (nat_eq (at entries k).user user) (name_matches pattern (at entries k).name) matches in
+          let before : is_of other others (at entries k) ≡ false = elim (cases_Bool (is_of other others (at entries k))) as (λ _. is_of other others (at entries k) ≡ false) [
+            | inl of ↦ (let two = of_file other others (at entries k) of in
+                absurd (apart (sym two.0 ∙ eqb-true (at entries k).user user parts.0) (ap (name_matches pattern) (sym two.1) ∙ matches_letters pattern (at entries k).name ∙ parts.1)))
+            | inr not_of ↦ not_of
+          ] in
+          let now : is_of other others (erased (at entries k)) ≡ false = elim (cases_Bool (is_of other others (erased (at entries k)))) as (λ _. is_of other others (erased (at entries k)) ≡ false) [
+            | inl of ↦ (let user_is : 0xE5 ≡ other = (of_file other others (erased (at entries k)) of).0 in absurd (omega arith))
+            | inr not_of ↦ not_of
+          ] in
+          inr (before, subst (λ x. is_of other others x ≡ false) (sym gone) now))
+      | inr kept ↦ inl (after ∙ ap (λ b. if b then erased (at entries k) else at entries k) kept)
+    ]
+
+pub renamed_alike : (entries : List Entry) (user : ℕ) (old new : List ℕ) (other : ℕ) (others : List ℕ) → user < 32 → other < 32 → length old ≡ length new → letters new ≡ new → ((other ≡ user) → (others ≡ old) → ⊥) → ((other ≡ user) → (others ≡ new) → ⊥) → (k : ℕ) → Alike (is_of other others) (at entries k) (at (after_renaming user old new entries) k)
+renamed_alike entries user old new other others low low_other long seven apart_old apart_new k =
+    let after : at (after_renaming user old new entries) k ≡ renaming_of user old new (at entries k) = at_renaming user old new entries k low in
+    elim (cases_Bool (is_of user old (at entries k))) as (λ _. Alike (is_of other others) (at entries k) (at (after_renaming user old new entries) k)) [
+      | inl of ↦ (
+          let changed : at (after_renaming user old new entries) k ≡ renamed new (at entries k) = after ∙ ap (λ b. if b then renamed new (at entries k) else at entries k) of in
+          let letters_are : letters (renamed new (at entries k)).name ≡ new = letters_with (at entries k).name new (length_of_name user old (at entries k) of ∙ long) seven in
+          let now_of : is_of user new (renamed new (at entries k)) ≡ true = is_of_file user new (renamed new (at entries k)) (of_file user old (at entries k) of).0 letters_are in
+          inr (
+            apart_from user old other others (at entries k) of apart_old,
+            subst (λ x. is_of other others x ≡ false) (sym changed) (apart_from user new other others (renamed new (at entries k)) now_of apart_new),
+          ))
+      | inr kept ↦ inl (after ∙ ap (λ b. if b then renamed new (at entries k) else at entries k) kept)
+    ]
+
+-- a stopped write leaves the records outside the directory and its block
+untouched : (old new : Image) (p : Placement) (i : ℕ) (bytes : List ℕ) → PartlyWritten old new p i bytes → (n : ℕ) → n < 1944 → 16 ≤ n → (IsOfBlock p.block n → ⊥) → record_at new n ≡ record_at old n
+untouched old new p i bytes (inl put) n below files beside_it = put.0.rest.records n below (λ of. elim of [ inl in_directory ↦ omega arith | inr in_block ↦ beside_it in_block ])
+untouched old new p i bytes (inr none) n below files beside_it = none.1.records n below beside_it
+
+-- a record that is written, in a file's entry and in a block that no other has
+pub beside_write : (old new : Image) (p : Placement) (i : ℕ) (bytes : List ℕ) (user : ℕ) (name : List ℕ) (other : ℕ) (others : List ℕ) → other < 32 → IsSound (directory old) → IsKeptBy user name (directory old) p → ((other ≡ user) → (others ≡ name) → ⊥) → PartlyWritten old new p i bytes → SameFile old new other others
+beside_write old new p i bytes user name other others low sound kept apart left = same_file old new other others
+    (λ k below. elim (write_between old new p i bytes left k) as (λ _. Alike (is_of other others) (at (directory old) k) (at (directory new) k)) [
+      | inl same ↦ inl same
+      | inr after ↦ subst (Alike (is_of other others) (at (directory old) k)) (sym after) (put_alike (directory old) p.number p.entry other others kept.within before (apart_from user name other others p.entry kept.of_file apart) k)
+    ])
+    (λ k j below low_j of some.
+    let ext = below_extent (at (directory old) k) (let user_is = (of_file other others (at (directory old) k) of).0 in omega arith) in
+    let range : (2 ≤ block (at (directory old) k) (j / 8)) × (block (at (directory old) k) (j / 8) ≤ 242) = elim (sound.blocks k ext (j / 8)) [ inl none ↦ absurd (some none) | inr files ↦ files ] in
+    let elsewhere : k ≢ p.number = λ here. true≢false (sym of ∙ subst (λ n. is_of other others (at (directory old) n) ≡ false) (sym here) before) in
+    let other_block : block (at (directory old) k) (j / 8) ≢ p.block = λ same. kept.apart k (j / 8) elsewhere ext same in
+    untouched old new p i bytes left (record_number (at (directory old) k) j) (omega (arith, range.0, range.1)) (omega (arith, range.0)) (λ in_block. omega (arith, in_block.0, in_block.1)))
+  where
+    before : is_of other others (at (directory old) p.number) ≡ false
+    before = elim kept.was as (λ _. is_of other others (at (directory old) p.number) ≡ false) [
+      | inl of ↦ apart_from user name other others (at (directory old) p.number) of apart
+      | inr free ↦ not_free other others (at (directory old) p.number) low free
+    ]
+
+created_entry : (user : ℕ) (name : List ℕ) (entries : List Entry) (put : ℕ × Entry) → creation user name entries ≡ Ok put → put.1 ≡ new_extent user name 0
+created_entry user name entries put is =
+    let (new_file, is_1) = unless_ok (is_file user name entries) fault.Exists (given (free_entry entries) fault.DirectoryFull >>= λ k. Ok (k, new_extent user name 0)) put is in
+    let (k, free, last) = bind_ok (given (free_entry entries) fault.DirectoryFull) (λ k. Ok (k, new_extent user name 0)) put is_1 in
+    let same : ◌≡◌ {A = ℕ × Entry} (k, new_extent user name 0) put = cc in
+    sym (ap (λ (p : ℕ × Entry). p.1) same)
+
+pub create_others : (old new : Image) (user : ℕ) (name : List ℕ) (put : ℕ × Entry) → letters name ≡ name → IsSound (directory old) → IsPut (directory old) put → creation user name (directory old) ≡ Ok put → PartlyChanged old new (slice_set (directory old) put.0 put.1) → OthersAreSame old new (IsFile user name)
+create_others old new user name put seven sound is_put asked left other others low apart =
+    let of : is_of user name put.1 ≡ true = subst (λ e. is_of user name e ≡ true) (sym (created_entry user name (directory old) put asked)) (is_of_file user name (new_extent user name 0) refl seven) in
+    beside old new (slice_set (directory old) put.0 put.1) other others low sound left (λ k _. over_free (directory old) put user name other others low is_put of (λ same_user same_name. apart (same_user, same_name)) k)
+
+pub erase_others : (old new : Image) (user : ℕ) (pattern : List ℕ) → user < 32 → IsSound (directory old) → PartlyChanged old new (after_erasure user pattern (directory old)) → OthersAreSame old new (IsMatched user pattern)
+erase_others old new user pattern low_user sound left other others low apart =
+    beside old new (after_erasure user pattern (directory old)) other others low sound left (λ k _. erased_alike (directory old) user pattern other others low_user low (λ same_user matches. apart (same_user, matches)) k)
+
+pub rename_others : (old new : Image) (user : ℕ) (from to : List ℕ) → user < 32 → length from ≡ length to → letters to ≡ to → IsSound (directory old) → PartlyChanged old new (after_renaming user from to (directory old)) → OthersAreSame old new (IsEither user from to)
+rename_others old new user from to low_user long seven sound left other others low apart =
+    beside old new (after_renaming user from to (directory old)) other others low sound left
+    (λ k _. renamed_alike (directory old) user from to other others low_user low long seven (λ same_user same_name. apart (same_user, inl same_name)) (λ same_user same_name. apart (same_user, inr same_name)) k)
+
+pub write_others : (old new : Image) (p : Placement) (i : ℕ) (bytes : List ℕ) (user : ℕ) (name : List ℕ) → IsSound (directory old) → IsKeptBy user name (directory old) p → PartlyWritten old new p i bytes → OthersAreSame old new (IsFile user name)
+write_others old new p i bytes user name sound kept left other others low apart =
+    beside_write old new p i bytes user name other others low sound kept (λ same_user same_name. apart (same_user, same_name)) left
+
+pub whole_write : (old new : Image) (p : Placement) (i : ℕ) (bytes : List ℕ) → Written old new p i bytes → PartlyWritten old new p i bytes
+whole_write old new p i bytes made = inl (made.data_are, λ k. inr (ap (λ es. at es k) made.entries_are))

@@ -1,0 +1,53 @@
+-- What the calls of a mounted disk answer, and what they leave.
+use Rattle.std.specs.Prelude.{◌≡◌, ◌≢◌, ◌<◌, ◌⊎◌, ◌*◌, ◌+◌, ℕ, Bool, true, false, List, Result, Ok, Err, replicate, slice_set, if◌then◌else◌}
+use Rattle.cpm_image.specs.Device.{HasRisen}
+use Rattle.cpm_directory.specs.declared.entry.Entry.{Entry}
+use Rattle.cpm_directory.specs.declared.fault.DiskFault.{DiskFault}
+use Rattle.cpm_directory.specs.declared.fault.DiskFault.TheVariants as fault
+use Rattle.cpm_operations.specs.declared.placement.Placement.{Placement}
+use Rattle.cpm_operations.specs.Kept.{IsBetween}
+use Rattle.cpm_disk.specs.Image.{Image, IsOfBlock, IsOfDirectory, SameBut, directory, record_at}
+
+-- A mounted disk: its device, and whether that has failed since.
+pub record Mounted (S : Type 0) : Type 0 where
+  pub device : S
+  pub failed : Bool
+
+-- The answer of a call. What its definition says stands in expected, the first refusal or what is to be done; finished is what
+-- a call has done, by that and its answer, and stopped what it leaves where the device failed. Any other refusal changes nothing.
+abbrev pub Outcome : {S X Y : Type 0} → (S → ℕ) → Mounted S → Mounted S → Result X DiskFault → (X → Y → Type 0) → (X → Type 0) → Result Y DiskFault → Type 0
+Outcome {X = X} faults old new expected finished stopped (Ok y) =
+    (old.failed ≡ false) × (new.failed ≡ false) × (x : X) × (expected ≡ Ok x) × finished x y
+Outcome {X = X} faults old new expected finished stopped (Err fault.Fault) =
+    (old.failed ≡ false) × (new.failed ≡ true) × HasRisen (faults old.device) (faults new.device) × (x : X) × (expected ≡ Ok x) × stopped x
+Outcome faults old new expected finished stopped (Err fault.Failed) = (old.failed ≡ true) × (new ≡ old)
+Outcome faults old new expected finished stopped (Err refusal) = (old.failed ≡ false) × (expected ≡ Err refusal) × (new ≡ old)
+
+-- the directory changed, and nothing else
+pub record Changed (old new : Image) (entries : List Entry) : Type 0 where
+  pub entries_are : directory new ≡ entries
+  pub rest : SameBut IsOfDirectory old new
+
+-- stopped on the way: each entry is as before or as it was to be
+pub record PartlyChanged (old new : Image) (entries : List Entry) : Type 0 where
+  pub between : IsBetween (directory old) entries (directory new)
+  pub rest : SameBut IsOfDirectory old new
+
+-- Record i of a block was written. The other records of a new block are zeros.
+pub record HasWritten (old new : Image) (block i : ℕ) (is_new : Bool) (bytes : List ℕ) : Type 0 where
+  pub here : record_at new (8 * block + i) ≡ bytes
+  pub beside : (j : ℕ) → j < 8 → j ≢ i → record_at new (8 * block + j) ≡ (if is_new then replicate 128 0 else record_at old (8 * block + j))
+  pub rest : SameBut (λ n. IsOfDirectory n ⊎ IsOfBlock block n) old new
+
+-- a record was written, and then its entry
+pub record Written (old new : Image) (p : Placement) (i : ℕ) (bytes : List ℕ) : Type 0 where
+  pub data_are : HasWritten old new p.block i p.is_new bytes
+  pub entries_are : directory new ≡ slice_set (directory old) p.number p.entry
+
+-- Stopped on the way: the record is written and its entry is as before or as it was to be; or the directory is as before, and of a
+-- block that was there the record alone may be written.
+abbrev pub PartlyWritten : Image → Image → Placement → ℕ → List ℕ → Type 0
+PartlyWritten old new p i bytes =
+    (HasWritten old new p.block i p.is_new bytes × IsBetween (directory old) (slice_set (directory old) p.number p.entry) (directory new))
+    ⊎ ((directory new ≡ directory old) × SameBut (λ n. IsOfBlock p.block n) old new
+    × (p.is_new ≡ false → (j : ℕ) → j < 8 → (record_at new (8 * p.block + j) ≡ record_at old (8 * p.block + j)) ⊎ ((j ≡ i) × (record_at new (8 * p.block + j) ≡ bytes))))

@@ -1,0 +1,42 @@
+-- The files of an image, as a map from user and name: of each extent the count of its records and the bytes of those in its blocks, and
+-- two attributes. Record i of an extent is there where i is below the count and its block is. (CP/M 2.2 Alteration Guide, the directory.)
+use Rattle.std.specs.Prelude.{◌≡◌, ◌<◌, ◌⊎◌, ◌/◌, ◌==◌, ℕ, true, List, Option, Some, None, find, if◌then◌else◌, option_and_then, option_map}
+use Rattle.cpm_directory.specs.declared.entry.Entry.{Entry}
+use Rattle.cpm_directory.specs.Entries.{block, is_extent_of, record_number}
+use Rattle.cpm_directory.specs.Letters.{name_matches}
+use Rattle.cpm_directory.specs.Searches.{file_is_read_only, file_is_system}
+use Rattle.cpm_disk.specs.Image.{Image, directory, record_at}
+
+-- the count of the records of a file's extent
+abbrev pub count_of : Image → ℕ → List ℕ → ℕ → Option ℕ
+count_of image user name number = option_map (λ e. e.records) (find (is_extent_of user name number) (directory image))
+
+-- record i of an extent, where its block is there
+abbrev pub stored_in : Image → ℕ → Entry → Option (List ℕ)
+stored_in image i e = if block e (i / 8) == 0 then None else Some (record_at image (record_number e i))
+
+abbrev pub stored : Image → ℕ → List ℕ → ℕ → ℕ → Option (List ℕ)
+stored image user name number i = option_and_then (stored_in image i) (find (is_extent_of user name number) (directory image))
+
+-- a file is as before: its extents, their counts and records, and its attributes
+pub record SameFile (old new : Image) (user : ℕ) (name : List ℕ) : Type 0 where
+  pub counts : (number : ℕ) → count_of new user name number ≡ count_of old user name number
+  pub records : (number i : ℕ) → i < 128 → stored new user name number i ≡ stored old user name number i
+  pub read_only : file_is_read_only user name (directory new) ≡ file_is_read_only user name (directory old)
+  pub system : file_is_system user name (directory new) ≡ file_is_system user name (directory old)
+
+-- every file is as before, but for some
+abbrev pub OthersAreSame : Image → Image → (ℕ → List ℕ → Type 0) → Type 0
+OthersAreSame old new named = (user : ℕ) (name : List ℕ) → user < 32 → (named user name → ⊥) → SameFile old new user name
+
+-- the file of a user and a name
+abbrev pub IsFile : ℕ → List ℕ → ℕ → List ℕ → Type 0
+IsFile user name other others = (other ≡ user) × (others ≡ name)
+
+-- one of two of a user's files
+abbrev pub IsEither : ℕ → List ℕ → List ℕ → ℕ → List ℕ → Type 0
+IsEither user one two other others = (other ≡ user) × ((others ≡ one) ⊎ (others ≡ two))
+
+-- a user's files that match a pattern
+abbrev pub IsMatched : ℕ → List ℕ → ℕ → List ℕ → Type 0
+IsMatched user pattern other others = (other ≡ user) × (name_matches pattern others ≡ true)

@@ -1,0 +1,54 @@
+-- Each call of a mounted disk that changes or reads records: what it answers and what it leaves.
+use Rattle.std.specs.Prelude.{◌≡◌, ◌%◌, ℕ, List, Result, slice_set}
+use Rattle.cpm_directory.specs.declared.fault.DiskFault.{DiskFault}
+use Rattle.cpm_operations.specs.Steps.{after_erasure, after_renaming, creation, erasure, reading, renaming, writing}
+use Rattle.cpm_disk.specs.Calls.{Changed, Mounted, Outcome, PartlyChanged, PartlyWritten, Written}
+use Rattle.cpm_disk.specs.Image.{Image, directory, record_at}
+
+-- a new file: its entry is put, and its number answered
+abbrev pub IsCreated : {S : Type 0} → (S → Image) → (S → ℕ) → Mounted S → Mounted S → ℕ → List ℕ → Result ℕ DiskFault → Type 0
+IsCreated sectors faults old new user name result =
+    let before = sectors old.device in
+    let now = sectors new.device in
+    Outcome faults old new (creation user name (directory before))
+    (λ put number. (number ≡ put.0) × Changed before now (slice_set (directory before) put.0 put.1))
+    (λ put. PartlyChanged before now (slice_set (directory before) put.0 put.1))
+    result
+
+-- the entries that match are erased, and their count answered
+abbrev pub IsErased : {S : Type 0} → (S → Image) → (S → ℕ) → Mounted S → Mounted S → ℕ → List ℕ → Result ℕ DiskFault → Type 0
+IsErased sectors faults old new user pattern result =
+    let before = sectors old.device in
+    let now = sectors new.device in
+    Outcome faults old new (erasure user pattern (directory before))
+    (λ count number. (number ≡ count) × Changed before now (after_erasure user pattern (directory before)))
+    (λ count. PartlyChanged before now (after_erasure user pattern (directory before)))
+    result
+
+-- the entries of a file are renamed
+abbrev pub IsRenamed : {S : Type 0} → (S → Image) → (S → ℕ) → Mounted S → Mounted S → ℕ → List ℕ → List ℕ → Result (Unit {0}) DiskFault → Type 0
+IsRenamed sectors faults old new user from to result =
+    let before = sectors old.device in
+    let now = sectors new.device in
+    Outcome faults old new (renaming user from to (directory before))
+    (λ _ _. Changed before now (after_renaming user from to (directory before)))
+    (λ _. PartlyChanged before now (after_renaming user from to (directory before)))
+    result
+
+-- a record is answered, and nothing changes
+abbrev pub IsRead : {S : Type 0} → (S → Image) → (S → ℕ) → Mounted S → Mounted S → ℕ → List ℕ → ℕ → Result (List ℕ) DiskFault → Type 0
+IsRead sectors faults old new user name number result =
+    Outcome faults old new (reading user name number (directory (sectors old.device)))
+    (λ place bytes. (bytes ≡ record_at (sectors old.device) place) × (sectors new.device ≡ sectors old.device))
+    (λ _. sectors new.device ≡ sectors old.device)
+    result
+
+-- a record is written
+abbrev pub IsWritten : {S : Type 0} → (S → Image) → (S → ℕ) → Mounted S → Mounted S → ℕ → List ℕ → ℕ → List ℕ → Result (Unit {0}) DiskFault → Type 0
+IsWritten sectors faults old new user name number bytes result =
+    let before = sectors old.device in
+    let now = sectors new.device in
+    Outcome faults old new (writing user name number (directory before))
+    (λ p _. Written before now p (number % 8) bytes)
+    (λ p. PartlyWritten before now p (number % 8) bytes)
+    result

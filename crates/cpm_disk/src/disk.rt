@@ -1,0 +1,254 @@
+//! Mounted disks.
+
+ghost use Rattle.std.specs.Prelude.{◌≡◌, Bool};
+ghost use Rattle.cpm_disk.specs.State.{IsMounted};
+ghost use Rattle.cpm_disk.specs.Calls.{Mounted};
+
+use crate::block::write_all;
+use crate::change::{Change, change_all};
+use crate::reader::read_entries;
+use crate::records::{read_record, store};
+use cpm_directory::{DiskFault, Entry, Listed, Name, Pattern, find, judge, list, size};
+use cpm_image::Sectors;
+use cpm_operations::{creation, erasure, reading, renaming, writing};
+use std::alloc::Global;
+use std::marker::Model;
+
+/// A mounted disk, eight inch single density: 64 entries, blocks 2 to 242 for files.
+///
+/// Users are 0 to 31. A call that the device fails in answers Fault; then the device has, sector by sector, what it had
+/// before or what the call was to leave, the rules of a directory are kept, and every call but `unmount` answers Failed
+/// until the disk is mounted again.
+#[derive(Drop)]
+pub struct Disk<S: Sectors> {
+    device: S,
+    entries: Vec<Entry>,
+    failed: bool,
+}
+
+impl<S: Sectors> Model for Disk<S> {
+    ghost Value = { Mounted S };
+
+    ghost view = { λ d. record { device = d.device; failed = d.failed } };
+
+    ghost invariant = { λ d. IsMounted (S.sectors d.device) d.entries.items d.failed };
+}
+
+impl<S: Sectors> Disk<S> {
+    ghost use Rattle.std.specs.Prelude.{◌≡◌, ◌<◌, ◌*◌, ◌+◌, ◌%◌, Option, None, Result, replicate, length, if◌then◌else◌, slice_set};
+    ghost use Rattle.cpm_directory.specs.Entries.{at, bytes_of};
+    ghost use Rattle.cpm_directory.specs.Rules.{IsSound};
+    ghost use Rattle.cpm_directory.specs.Searches.{found_from, size};
+    ghost use Rattle.cpm_disk.specs.Files.{IsEither, IsFile, IsMatched, OthersAreSame};
+    ghost use Rattle.cpm_disk.specs.Image.{directory};
+    ghost use Rattle.cpm_disk.specs.Mounting.{IsListedBy, IsMountedFrom};
+    ghost use Rattle.cpm_disk.specs.Operations.{IsCreated, IsErased, IsRead, IsRenamed, IsWritten};
+
+    /// Mounts a device of 2,002 sectors.
+    ///
+    /// Fault, or of the directory's entries in their order the first that is no good: BadEntry, BlockRange, BlockTwice,
+    /// NameTwice. The device comes back with its fault.
+    pub fn mount(alloc: Global, mut device: S) -> Result<Disk<S>, (DiskFault, S)>
+        requires { length (S.sectors device) ≡ 2002 }
+        ensures { IsMountedFrom S.sectors S.faults device result }
+    {
+        match read_entries(alloc, &mut device) {
+            Ok(entries) => match judge(&entries) {
+                Ok(()) => Ok(Disk {
+                    device,
+                    entries,
+                    failed: false,
+                }),
+                Err(fault) => Err((fault, device)),
+            },
+            Err(fault) => Err((fault, device)),
+        }
+    }
+
+    /// Gives the device back, as it stands.
+    pub fn unmount(self) -> S
+        ensures { result ≡ self.device }
+    {
+        self.device
+    }
+
+    /// The number of the first entry from `from` on that is of the user and matches a pattern, its extent included.
+    /// `None` also after a failure.
+    pub fn find(&self, user: u8, pattern: &Pattern, from: u16) -> Option<u16>
+        ensures { result ≡ (if self.now.failed then None else found_from user pattern.now from (directory (S.sectors self.now.device))) }
+    {
+        if self.failed {
+            return None;
+        }
+        find(&self.entries, user, pattern, from)
+    }
+
+    /// The 32 bytes of an entry. After a failure each is E5H.
+    pub fn entry(&self, number: u16) -> [u8; 32]
+        requires { number < 64 }
+        ensures { result ≡ (if self.now.failed then replicate 32 0xE5 else bytes_of (at (directory (S.sectors self.now.device)) number)) }
+    {
+        if self.failed {
+            return [0xE5; 32];
+        }
+        self.entries[usize::from(number)].to_bytes()
+    }
+
+    /// The count of records up to the file's last, written or not. `None` where there is no such file, and after a failure.
+    pub fn size(&self, user: u8, name: &Name) -> Option<u32>
+        ensures { result ≡ (if self.now.failed then None else size user name.now (directory (S.sectors self.now.device))) }
+    {
+        if self.failed {
+            return None;
+        }
+        size(&self.entries, user, name)
+    }
+
+    /// Makes a file without records, and answers the number of its entry, the lowest free one.
+    ///
+    /// Exists, DirectoryFull.
+    pub fn create(&mut self, user: u8, name: &Name) -> Result<u16, DiskFault>
+        requires { user < 32 }
+        ensures done { IsCreated S.sectors S.faults self.old self.new user name.now result }
+        ensures others { OthersAreSame (S.sectors self.old.device) (S.sectors self.new.device) (IsFile user name.now) }
+        ensures sound { IsSound (directory (S.sectors self.new.device)) }
+    {
+        if self.failed {
+            return Err(DiskFault::Failed);
+        }
+        let (number, entry) = creation(&self.entries, user, name)?;
+        match store(&mut self.device, &mut self.entries, number, entry) {
+            Ok(()) => Ok(number),
+            Err(_) => {
+                self.failed = true;
+                Err(DiskFault::Fault)
+            }
+        }
+    }
+
+    /// Erases the entries of a user that match a pattern, whatever their extents, and answers how many they were.
+    ///
+    /// NotFound, ReadOnly where a file that matches is read-only.
+    pub fn erase(&mut self, user: u8, pattern: &Pattern) -> Result<u16, DiskFault>
+        requires { user < 32 }
+        ensures done { IsErased S.sectors S.faults self.old self.new user pattern.now.name result }
+        ensures others { OthersAreSame (S.sectors self.old.device) (S.sectors self.new.device) (IsMatched user pattern.now.name) }
+        ensures sound { IsSound (directory (S.sectors self.new.device)) }
+    {
+        if self.failed {
+            return Err(DiskFault::Failed);
+        }
+        let count = erasure(&self.entries, user, &pattern.name)?;
+        let change = Change::Erase {
+            user,
+            pattern: pattern.name,
+        };
+        match change_all(&mut self.device, &mut self.entries, &change) {
+            Ok(()) => Ok(count),
+            Err(_) => {
+                self.failed = true;
+                Err(DiskFault::Fault)
+            }
+        }
+    }
+
+    /// Renames a file. The high bit of each byte of its entries' names stays.
+    ///
+    /// NotFound, Exists, ReadOnly.
+    pub fn rename(&mut self, user: u8, old: &Name, new: &Name) -> Result<(), DiskFault>
+        requires { user < 32 }
+        ensures done { IsRenamed S.sectors S.faults self.old self.new user old.now new.now result }
+        ensures others { OthersAreSame (S.sectors self.old.device) (S.sectors self.new.device) (IsEither user old.now new.now) }
+        ensures sound { IsSound (directory (S.sectors self.new.device)) }
+    {
+        if self.failed {
+            return Err(DiskFault::Failed);
+        }
+        renaming(&self.entries, user, old, new)?;
+        let change = Change::Rename {
+            user,
+            old: *old,
+            new: *new,
+        };
+        match change_all(&mut self.device, &mut self.entries, &change) {
+            Ok(()) => Ok(()),
+            Err(_) => {
+                self.failed = true;
+                Err(DiskFault::Fault)
+            }
+        }
+    }
+
+    /// The bytes of a file's record, counted from 0.
+    ///
+    /// NotFound, TooFar above 4,095, NoExtent, Unwritten.
+    pub fn read_block_of(
+        &mut self,
+        user: u8,
+        name: &Name,
+        number: u32,
+    ) -> Result<[u8; 128], DiskFault>
+        requires { user < 32 }
+        ensures done { IsRead S.sectors S.faults self.old self.new user name.now number result }
+        ensures sound { IsSound (directory (S.sectors self.new.device)) }
+    {
+        if self.failed {
+            return Err(DiskFault::Failed);
+        }
+        let place = reading(&self.entries, user, name, number)?;
+        let mut bytes = [0; 128];
+        match read_record(&mut self.device, place, &mut bytes) {
+            Ok(()) => Ok(bytes),
+            Err(_) => {
+                self.failed = true;
+                Err(DiskFault::Fault)
+            }
+        }
+    }
+
+    /// Writes a file's record, counted from 0. The other records of a block that is new are zeros.
+    ///
+    /// NotFound, ReadOnly, TooFar above 4,095, DirectoryFull where it needs an extent, DiskFull where it needs a block.
+    pub fn write_block_of(
+        &mut self,
+        user: u8,
+        name: &Name,
+        number: u32,
+        bytes: &[u8; 128],
+    ) -> Result<(), DiskFault>
+        requires { user < 32 }
+        ensures done { IsWritten S.sectors S.faults self.old self.new user name.now number bytes.now result }
+        ensures others { OthersAreSame (S.sectors self.old.device) (S.sectors self.new.device) (IsFile user name.now) }
+        ensures sound { IsSound (directory (S.sectors self.new.device)) }
+    {
+        if self.failed {
+            return Err(DiskFault::Failed);
+        }
+        let place = writing(&self.entries, user, name, number)?;
+        match write_all(
+            &mut self.device,
+            &mut self.entries,
+            &place,
+            number % 8,
+            bytes,
+        ) {
+            Ok(()) => Ok(()),
+            Err(_) => {
+                self.failed = true;
+                Err(DiskFault::Fault)
+            }
+        }
+    }
+
+    /// The files, by user and then by name.
+    ///
+    /// NoMemory.
+    pub fn list(&self, alloc: Global) -> Result<Vec<Listed>, DiskFault>
+        ensures { IsListedBy S.sectors (λ listed. listed.items) self.now result }
+    {
+        if self.failed {
+            return Err(DiskFault::Failed);
+        }
+        list(alloc, &self.entries)
+    }
+}

@@ -1,0 +1,77 @@
+//! Logical records of a device, and the directory among them.
+
+ghost use Rattle.std.specs.Prelude.{◌≡◌, ◌⊎◌, ◌<◌, ◌≤◌, ◌+◌, ◌*◌, ◌/◌, ℕ, drop, length, OnErr, OnOk, slice_set, take};
+ghost use Rattle.cpm_image.specs.Device.{HasCause};
+ghost use Rattle.cpm_directory.specs.Entries.{at, entry_of};
+ghost use Rattle.cpm_disk.specs.Image.{SameBut, Wrote, directory, record_at};
+ghost use Rattle.cpm_disk.specs.Calls.{Changed};
+
+use cpm_directory::Entry;
+use cpm_image::{DeviceFault, Sectors, logical};
+
+/// Entries in a record of the directory.
+const ENTRIES_IN_RECORD: usize = 4;
+
+/// Reads a logical record.
+pub fn read_record<S: Sectors>(
+    device: &mut S,
+    number: u32,
+    bytes: &mut [u8; 128],
+) -> Result<(), DeviceFault>
+    requires count { length (S.sectors device.old) ≡ 2002 }
+    requires number { number < 1944 }
+    ensures read { OnOk result (bytes.new ≡ record_at (S.sectors device.old) number) }
+    ensures kept { S.sectors device.new ≡ S.sectors device.old }
+    ensures cause { HasCause (S.faults device.old) (S.faults device.new) result }
+{
+    device.read(logical(number), bytes)
+}
+
+/// Writes a logical record.
+pub fn write_record<S: Sectors>(
+    device: &mut S,
+    number: u32,
+    bytes: &[u8; 128],
+) -> Result<(), DeviceFault>
+    requires count { length (S.sectors device.old) ≡ 2002 }
+    requires number { number < 1944 }
+    ensures written { OnOk result (Wrote (S.sectors device.old) (S.sectors device.new) number bytes.now) }
+    ensures stopped { OnErr result ((S.sectors device.new ≡ S.sectors device.old) ⊎ Wrote (S.sectors device.old) (S.sectors device.new) number bytes.now) }
+    ensures cause { HasCause (S.faults device.old) (S.faults device.new) result }
+{
+    device.write(logical(number), bytes)
+}
+
+/// The bytes of a record of the directory.
+fn directory_record(entries: &[Entry], record: usize) -> [u8; 128]
+    requires { 4 * «record» + 4 ≤ length entries.now }
+    ensures { (i : ℕ) → i < 4 → entry_of (take 32 (drop (32 * i) result)) ≡ at entries.now (4 * «record» + i) }
+{
+    let mut bytes = [0; 128];
+    for i in 0..ENTRIES_IN_RECORD {
+        let entry = entries[ENTRIES_IN_RECORD * record + i].to_bytes();
+        bytes[32 * i..32 * i + 32].copy_from_slice(&entry);
+    }
+    bytes
+}
+
+/// Puts an entry into the directory, here and on the device.
+pub fn store<S: Sectors>(
+    device: &mut S,
+    entries: &mut [Entry],
+    number: u16,
+    entry: Entry,
+) -> Result<(), DeviceFault>
+    requires count { length (S.sectors device.old) ≡ 2002 }
+    requires size { length entries.old ≡ 64 }
+    requires number { number < 64 }
+    requires entries { directory (S.sectors device.old) ≡ entries.old }
+    ensures entries { entries.new ≡ slice_set entries.old number entry }
+    ensures stored { OnOk result (Changed (S.sectors device.old) (S.sectors device.new) entries.new) }
+    ensures stopped { OnErr result ((S.sectors device.new ≡ S.sectors device.old) ⊎ Changed (S.sectors device.old) (S.sectors device.new) entries.new) }
+    ensures cause { HasCause (S.faults device.old) (S.faults device.new) result }
+{
+    entries[usize::from(number)] = entry;
+    let bytes = directory_record(entries, usize::from(number / 4));
+    write_record(device, u32::from(number / 4), &bytes)
+}

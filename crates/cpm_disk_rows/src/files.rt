@@ -1,0 +1,337 @@
+//! What the calls make of a directory.
+
+use crate::support::{BLANK, Row, assert_entries, disk_of, image_of, mounted};
+use cpm_disk::{Disk, DiskFault, Name, Pattern};
+use cpm_image::{MemoryImage, Sectors, logical};
+use std::process::Abort;
+use std::test::Fail;
+
+const BIG: [u8; 11] = *b"BIG     DAT";
+
+const FILE: [u8; 11] = *b"FILE    TXT";
+
+const OTHER: [u8; 11] = *b"OTHER   TXT";
+
+#[test]
+fn big_file(rt: HostRuntime) -> Result<(), Fail> {
+    let mut disk = disk_of(&rt, rt.alloc(), &[])?;
+    let name = Name::new(BIG);
+    assert_eq!(rt; disk.create(0, &name), Ok(0));
+    for number in 0..129u8 {
+        disk.write_block_of(0, &name, u32::from(number), &[number; 128])?;
+    }
+    for number in 0..129u8 {
+        let bytes = disk.read_block_of(0, &name, u32::from(number))?;
+        assert_eq!(rt; bytes, [number; 128]);
+    }
+    assert_eq!(rt; disk.size(0, &name), Some(129));
+    let disk = mounted(&rt, rt.alloc(), disk.unmount())?;
+    let rows = [
+        (
+            0,
+            *b"\x00BIG     DAT\x00\x00\x00\x80\x02\x03\x04\x05\x06\x07\x08\x09\x0A\x0B\x0C\x0D\x0E\x0F\x10\x11",
+        ),
+        (
+            1,
+            *b"\x00BIG     DAT\x01\x00\x00\x01\x12\x00\x00\x00\x00\x00\x00\x00\x00\x00\x00\x00\x00\x00\x00\x00",
+        ),
+        (2, BLANK),
+    ];
+    for (at, entry) in rows {
+        assert!(rt; at < 64);
+        assert_eq!(rt; disk.entry(at), entry, "entry {at}");
+    }
+    Ok(())
+}
+
+/// Asserts what a logical record of an image holds.
+fn assert_record(
+    rt: &impl Abort,
+    image: &mut MemoryImage,
+    record: u32,
+    wanted: &[u8; 128],
+) -> Result<(), Fail> {
+    assert!(rt; record < 1_944);
+    let sector = logical(record);
+    assert!(rt; sector < image.len());
+    let mut bytes = [0; 128];
+    image.read(sector, &mut bytes)?;
+    assert_eq!(rt; bytes, *wanted, "record {record}");
+    Ok(())
+}
+
+#[test]
+fn new_block(rt: HostRuntime) -> Result<(), Fail> {
+    let rows = [
+        (0, 0, FILE, 0, 3, [2, 0, 0, 0]),
+        (1, 0, OTHER, 0, 0, [0; 4]),
+    ];
+    let mut disk = disk_of(&rt, rt.alloc(), &rows)?;
+    // The records of a new block are zeros but for the one that is written. A record before the last leaves the count. In a
+    // block that was there a record between is what the disk holds.
+    for (name, number) in [(OTHER, 10u8), (OTHER, 8), (FILE, 5)] {
+        disk.write_block_of(0, &Name::new(name), u32::from(number), &[number; 128])?;
+    }
+    assert_entries(
+        &rt,
+        &disk,
+        &[
+            (0, 0, FILE, 0, 6, [2, 0, 0, 0]),
+            (1, 0, OTHER, 0, 11, [0, 3, 0, 0]),
+        ],
+    );
+    let rows = [
+        (7, Err(DiskFault::Unwritten)),
+        (8, Ok([8; 128])),
+        (9, Ok([0; 128])),
+        (10, Ok([10; 128])),
+        (11, Err(DiskFault::Unwritten)),
+    ];
+    for (number, wanted) in rows {
+        let read = disk.read_block_of(0, &Name::new(OTHER), number);
+        assert_eq!(rt; read, wanted, "record {number}");
+    }
+    let mut image = disk.unmount();
+    let rows = [
+        (15, 0xE5),
+        (16, 0xE5),
+        (20, 0xE5),
+        (21, 5),
+        (22, 0xE5),
+        (24, 8),
+        (25, 0),
+        (26, 10),
+        (27, 0),
+        (31, 0),
+        (32, 0xE5),
+    ];
+    for (record, byte) in rows {
+        assert_record(&rt, &mut image, record, &[byte; 128])?;
+    }
+    Ok(())
+}
+
+#[test]
+fn new_extent(rt: HostRuntime) -> Result<(), Fail> {
+    // The lowest entry, and not the first extent, gives a new extent its name with all high bits.
+    let attributed = *b"\xC6ILE    T\xD8T";
+    let rows = [
+        (3, 0, attributed, 1, 2, [5, 0, 0, 0]),
+        (7, 0, FILE, 0, 2, [2, 0, 0, 0]),
+    ];
+    let mut disk = disk_of(&rt, rt.alloc(), &rows)?;
+    let name = Name::new(FILE);
+    for number in [256 + 17, 31 * 128 + 24] {
+        disk.write_block_of(0, &name, number, &[1; 128])?;
+    }
+    assert_entries(&rt, &disk, &rows);
+    assert_entries(
+        &rt,
+        &disk,
+        &[
+            (0, 0, attributed, 2, 18, [0, 0, 3, 0]),
+            (1, 0, attributed, 31, 25, [0, 0, 0, 4]),
+        ],
+    );
+    // The last record that a file may have.
+    disk.write_block_of(0, &name, 4_095, &[2; 128])?;
+    assert_eq!(rt; disk.read_block_of(0, &name, 4_095), Ok([2; 128]));
+    assert_eq!(rt; disk.size(0, &name), Some(4_096));
+    Ok(())
+}
+
+#[test]
+fn erase_by_user(rt: HostRuntime) -> Result<(), Fail> {
+    let rows = [
+        (0, 0, FILE, 0, 1, [2, 0, 0, 0]),
+        (1, 1, FILE, 0, 1, [3, 0, 0, 0]),
+        (2, 1, FILE, 1, 1, [4, 0, 0, 0]),
+    ];
+    let mut disk = disk_of(&rt, rt.alloc(), &rows)?;
+    let name = Name::new(FILE);
+    let pattern = Pattern {
+        name: FILE,
+        extent: 9,
+    };
+    disk.write_block_of(0, &name, 0, &[10; 128])?;
+    assert_eq!(rt; disk.erase(1, &pattern), Ok(2));
+    assert_entries(
+        &rt,
+        &disk,
+        &[
+            (0, 0, FILE, 0, 1, [2, 0, 0, 0]),
+            (1, 0xE5, FILE, 0, 1, [3, 0, 0, 0]),
+            (2, 0xE5, FILE, 1, 1, [4, 0, 0, 0]),
+        ],
+    );
+    assert_eq!(rt; disk.read_block_of(0, &name, 0), Ok([10; 128]));
+    assert_eq!(rt; disk.erase(1, &pattern), Err(DiskFault::NotFound));
+    // The lowest free entry and the lowest free block are taken again.
+    assert_eq!(rt; disk.create(2, &name), Ok(1));
+    disk.write_block_of(2, &name, 0, &[13; 128])?;
+    assert_entries(&rt, &disk, &[(1, 2, FILE, 0, 1, [3, 0, 0, 0])]);
+    Ok(())
+}
+
+#[test]
+fn erase_by_pattern(rt: HostRuntime) -> Result<(), Fail> {
+    let attributed = *b"\xC1\xB4      TX\xD4";
+    let rows = [
+        (0, 0, *b"A1      TXT", 0, 0, [0; 4]),
+        (1, 0, *b"A2      TXT", 3, 0, [0; 4]),
+        (2, 0, *b"A2      ASM", 0, 0, [0; 4]),
+        (3, 1, *b"A3      TXT", 0, 0, [0; 4]),
+        (4, 0, attributed, 0, 0, [0; 4]),
+        (5, 0x20, *b"A5      TXT", 0, 0, [0; 4]),
+    ];
+    let mut disk = disk_of(&rt, rt.alloc(), &rows)?;
+    let pattern = Pattern {
+        name: *b"A?      TXT",
+        extent: 0,
+    };
+    assert_eq!(rt; disk.erase(0, &pattern), Ok(3));
+    assert_entries(
+        &rt,
+        &disk,
+        &[
+            (0, 0xE5, *b"A1      TXT", 0, 0, [0; 4]),
+            (1, 0xE5, *b"A2      TXT", 3, 0, [0; 4]),
+            (2, 0, *b"A2      ASM", 0, 0, [0; 4]),
+            (3, 1, *b"A3      TXT", 0, 0, [0; 4]),
+            (4, 0xE5, attributed, 0, 0, [0; 4]),
+            (5, 0x20, *b"A5      TXT", 0, 0, [0; 4]),
+        ],
+    );
+    Ok(())
+}
+
+#[test]
+fn rename_keeps_attributes(rt: HostRuntime) -> Result<(), Fail> {
+    // The read-only bit alone would have the rename refused.
+    let all_bits = *b"\xC6\xC9\xCC\xC5\xA0\xA0\xA0\xA0T\xD8\xD4";
+    let rows = [
+        (2, 0, all_bits, 1, 4, [6, 0, 0, 0]),
+        (5, 0, FILE, 0, 128, [7, 8, 0, 0]),
+        (6, 1, FILE, 0, 0, [0; 4]),
+        (7, 0x21, FILE, 0, 0, [0; 4]),
+    ];
+    let mut disk = disk_of(&rt, rt.alloc(), &rows)?;
+    disk.rename(0, &Name::new(FILE), &Name::new(*b"NEWNAME\xC1COM"))?;
+    let renamed = *b"\xCE\xC5\xD7\xCE\xC1\xCD\xC5\xC1C\xCF\xCD";
+    assert_entries(
+        &rt,
+        &disk,
+        &[
+            (2, 0, renamed, 1, 4, [6, 0, 0, 0]),
+            (5, 0, *b"NEWNAMEACOM", 0, 128, [7, 8, 0, 0]),
+            (6, 1, FILE, 0, 0, [0; 4]),
+            (7, 0x21, FILE, 0, 0, [0; 4]),
+        ],
+    );
+    Ok(())
+}
+
+/// Calls of user 0 that change, rename and erase a file.
+fn work(disk: &mut Disk<MemoryImage>) -> Result<(), DiskFault> {
+    let name = Name::new(OTHER);
+    let renamed = Name::new(BIG);
+    let pattern = Pattern {
+        name: *b"B??????????",
+        extent: 0,
+    };
+    disk.create(0, &name)?;
+    for number in [0, 9, 200] {
+        disk.write_block_of(0, &name, number, &[3; 128])?;
+    }
+    disk.rename(0, &name, &renamed)?;
+    disk.read_block_of(0, &renamed, 9)?;
+    disk.erase(0, &pattern)?;
+    disk.create(0, &name)?;
+    Ok(())
+}
+
+#[test]
+fn others_stay(rt: HostRuntime) -> Result<(), Fail> {
+    let rows: [Row; 4] = [
+        (0, 0x20, OTHER, 0x20, 0x81, [1, 2, 2, 0xF3]),
+        (1, 1, OTHER, 0, 1, [3, 0, 0, 0]),
+        (2, 0xE4, BIG, 0xFF, 0xFF, [4, 0, 0, 0]),
+        (3, 0, FILE, 0, 8, [5, 0, 0, 0]),
+    ];
+    let before = image_of(&rt, rt.alloc(), &rows)?;
+    let mut disk = disk_of(&rt, rt.alloc(), &rows)?;
+    work(&mut disk)?;
+    assert_entries(&rt, &disk, &rows);
+    let after = disk.unmount();
+    // The system's tracks, and the sectors behind the last record.
+    for (n, (old, new)) in before.sectors().iter().zip(after.sectors()).enumerate() {
+        if n < 52 || n >= 1_996 {
+            assert!(rt; old == new, "sector {n}");
+        }
+    }
+    Ok(())
+}
+
+#[test]
+fn sizes(rt: HostRuntime) -> Result<(), Fail> {
+    let rows = [
+        (0, 0, FILE, 5, 0, [0; 4]),
+        (1, 0, FILE, 0, 128, [2, 0, 0, 0]),
+        (2, 0, FILE, 2, 77, [0; 4]),
+        (3, 0, OTHER, 0, 9, [3, 4, 0, 0]),
+        (4, 1, *b"USERS   ONE", 0, 9, [0; 4]),
+        (5, 0x20, BIG, 0, 9, [0; 4]),
+        (6, 0xE5, BIG, 0, 9, [0; 4]),
+    ];
+    let disk = disk_of(&rt, rt.alloc(), &rows)?;
+    let rows = [
+        (FILE, Some(640)),
+        (OTHER, Some(9)),
+        (*b"USERS   ONE", None),
+        (BIG, None),
+    ];
+    for (name, wanted) in rows {
+        assert_eq!(rt; disk.size(0, &Name::new(name)), wanted, "{name:?}");
+    }
+    Ok(())
+}
+
+#[test]
+fn listing(rt: HostRuntime) -> Result<(), Fail> {
+    let rows = [
+        (0, 2, FILE, 0, 1, [2, 0, 0, 0]),
+        (1, 0, OTHER, 1, 3, [0; 4]),
+        (2, 0x20, *b"FOREIGN    ", 0, 1, [0; 4]),
+        (3, 0, *b"OTHER   \xD4XT", 0, 128, [3, 0, 0, 0]),
+        (4, 0xE5, *b"ERASED     ", 0, 1, [4, 0, 0, 0]),
+        (5, 0, *b"FILE    T\xD8T", 0, 5, [5, 0, 0, 0]),
+        (6, 31, *b"\xC6ILE    TX\xD4", 3, 0, [0; 4]),
+    ];
+    let disk = disk_of(&rt, rt.alloc(), &rows)?;
+    let listed = disk.list(rt.alloc())?;
+    let rows = [
+        (0, *b"FILE    TXT", 5, false, true),
+        (0, OTHER, 131, true, false),
+        (2, FILE, 1, false, false),
+        (31, FILE, 384, false, false),
+    ];
+    assert_eq!(rt; listed.len(), rows.len());
+    for (file, (user, name, records, read_only, system)) in listed.iter().zip(rows) {
+        assert_eq!(rt; (file.user, file.name), (user, Name::new(name)));
+        assert_eq!(rt; file.records, records, "records of {name:?}");
+        assert_eq!(rt;
+            (file.read_only, file.system),
+            (read_only, system),
+            "bits of {name:?}"
+        );
+    }
+    Ok(())
+}
+
+#[test]
+fn blank_disk(rt: HostRuntime) -> Result<(), Fail> {
+    let disk = disk_of(&rt, rt.alloc(), &[])?;
+    assert_eq!(rt; disk.list(rt.alloc())?.len(), 0);
+    assert_eq!(rt; disk.size(0, &Name::new(FILE)), None);
+    Ok(())
+}

@@ -1,0 +1,22 @@
+//! Tests of the crate `cpm_disk` by its public calls: the rules of a directory, the calls with their refusals in order, full
+//! disks, and devices that fail.
+#![tactic(auto)]
+
+#[cfg(test)]
+mod calls;
+#[cfg(test)]
+mod failing;
+#[cfg(test)]
+mod failures;
+#[cfg(test)]
+mod files;
+#[cfg(test)]
+mod full;
+#[cfg(test)]
+mod refusals;
+#[cfg(test)]
+mod rules;
+#[cfg(test)]
+mod searches;
+#[cfg(test)]
+mod support;

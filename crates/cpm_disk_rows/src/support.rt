@@ -1,0 +1,95 @@
+//! Images, entries and mounted disks for the tests.
+
+use cpm_disk::{Disk, DiskFault};
+use cpm_image::{MemoryImage, Sectors, logical};
+use std::alloc::Global;
+use std::process::Abort;
+use std::test::Fail;
+
+/// An entry as a blank disk has it, free.
+pub const BLANK: [u8; 32] = [0xE5; 32];
+
+/// An entry of a file, in short: its place in the directory, the user, the name, the number of the extent, how many records
+/// count, and the first four blocks. All else is 0.
+pub type Row = (u16, u8, [u8; 11], u8, u8, [u8; 4]);
+
+/// The bytes of an entry.
+pub fn bytes_of_row(row: &Row) -> [u8; 32] {
+    let (_, user, name, number, records, blocks) = *row;
+    let mut bytes = [0; 32];
+    bytes[0] = user;
+    bytes[1..12].copy_from_slice(&name);
+    bytes[12] = number;
+    bytes[15] = records;
+    bytes[16..20].copy_from_slice(&blocks);
+    bytes
+}
+
+/// Puts an entry into the directory of an image.
+pub fn put_entry(
+    rt: &impl Abort,
+    image: &mut MemoryImage,
+    at: u16,
+    entry: &[u8; 32],
+) -> Result<(), Fail> {
+    assert!(rt; at < 64);
+    let sector = logical(u32::from(at / 4));
+    assert!(rt; sector < image.len());
+    let mut bytes = [0; 128];
+    image.read(sector, &mut bytes)?;
+    let from = 32 * usize::from(at % 4);
+    bytes[from..from + 32].copy_from_slice(entry);
+    image.write(sector, &bytes)?;
+    Ok(())
+}
+
+/// A blank image but for some entries of its directory.
+pub fn image_of(rt: &impl Abort, alloc: Global, rows: &[Row]) -> Result<MemoryImage, Fail> {
+    let mut image = MemoryImage::from_bytes(alloc, &[])?;
+    for row in rows {
+        put_entry(rt, &mut image, row.0, &bytes_of_row(row))?;
+    }
+    Ok(image)
+}
+
+/// The disk of a device.
+pub fn mount<S: Sectors>(
+    rt: &impl Abort,
+    alloc: Global,
+    device: S,
+) -> Result<Disk<S>, (DiskFault, S)> {
+    assert!(rt; device.len() == 2_002);
+    Disk::mount(alloc, device)
+}
+
+/// The disk of an image that keeps the rules.
+pub fn mounted(
+    rt: &impl Abort,
+    alloc: Global,
+    image: MemoryImage,
+) -> Result<Disk<MemoryImage>, Fail> {
+    match mount(rt, alloc, image) {
+        Ok(disk) => Ok(disk),
+        Err((fault, _)) => Err(Fail::from(fault)),
+    }
+}
+
+/// The disk of a blank image but for some entries.
+pub fn disk_of(rt: &impl Abort, alloc: Global, rows: &[Row]) -> Result<Disk<MemoryImage>, Fail> {
+    let image = image_of(rt, alloc, rows)?;
+    mounted(rt, alloc, image)
+}
+
+/// A copy of an image.
+pub fn copy_of(alloc: Global, image: &MemoryImage) -> Result<MemoryImage, Fail> {
+    Ok(MemoryImage::from_bytes(alloc, image.sectors().as_flattened())?)
+}
+
+/// Asserts what some entries of a disk are.
+pub fn assert_entries(rt: &impl Abort, disk: &Disk<MemoryImage>, rows: &[Row]) {
+    for row in rows {
+        let at = row.0;
+        assert!(rt; at < 64);
+        assert_eq!(rt; disk.entry(at), bytes_of_row(row), "entry {at}");
+    }
+}
