@@ -1,5 +1,5 @@
-//! Tests of the crate `cpm_disk` by its public calls: the rules of a directory, the calls with their refusals in order, full
-//! disks, and devices that fail.
+//! Tests of the crate `cpm_disk` by its public calls: the rules of a directory, the calls with their refusals in order,
+//! and devices that fail.
 #![tactic(auto)]
 
 #[cfg(test)]
@@ -10,8 +10,6 @@ mod failing;
 mod failures;
 #[cfg(test)]
 mod files;
-#[cfg(test)]
-mod full;
 #[cfg(test)]
 mod refusals;
 #[cfg(test)]

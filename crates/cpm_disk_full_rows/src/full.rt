@@ -1,11 +1,19 @@
 //! Disks that are filled, half emptied and filled again, beside a plain map of records.
 
-use crate::support::disk_of;
 use cpm_disk::{Disk, DiskFault, Name, Pattern};
 use cpm_image::MemoryImage;
 use std::alloc::Global;
 use std::process::Abort;
 use std::test::Fail;
+
+/// A blank disk.
+fn blank_disk(alloc: Global) -> Result<Disk<MemoryImage>, Fail> {
+    let image = MemoryImage::from_bytes(alloc, &[])?;
+    match Disk::mount(alloc, image) {
+        Ok(disk) => Ok(disk),
+        Err((fault, _)) => Err(Fail::from(fault)),
+    }
+}
 
 /// A record that a disk is to hold: the number of its file, its own, and what was written there last.
 #[derive(Clone, Copy, Debug, PartialEq, Eq)]
@@ -96,7 +104,7 @@ fn assert_holds(rt: &impl Abort, disk: &mut Disk<MemoryImage>, map: &[Kept]) -> 
 
 #[test]
 fn full_of_records(rt: HostRuntime) -> Result<(), Fail> {
-    let mut disk = disk_of(&rt, rt.alloc(), &[])?;
+    let mut disk = blank_disk(rt.alloc())?;
     let mut map = Vec::new(rt.alloc());
     // 241 blocks of eight records: nine files of 200 records, and 128 of a tenth.
     let last = fill(&mut disk, &mut map, 0)?;
@@ -148,7 +156,7 @@ fn fill_directory(
 
 #[test]
 fn full_of_files(rt: HostRuntime) -> Result<(), Fail> {
-    let mut disk = disk_of(&rt, rt.alloc(), &[])?;
+    let mut disk = blank_disk(rt.alloc())?;
     let mut map = Vec::new(rt.alloc());
     assert_eq!(rt; fill_directory(&mut disk, &mut map, 0)?, 64);
     let odd = Name::new(name_of(7));
