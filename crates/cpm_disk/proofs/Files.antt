@@ -40,12 +40,21 @@ narrower user name q x y (inl same) = inl same
 narrower user name q x y (inr (fails, too)) = inr (ap (λ b. b && q x) fails, ap (λ b. b && q y) too)
 
 -- what is found in a list stands in it
-found_at : (p : Entry → Bool) (xs : List Entry) (e : Entry) → find p xs ≡ Some e → (k : ℕ) × (k < length xs) × (e ≡ at xs k) × (p e ≡ true)
+pub found_at : (p : Entry → Bool) (xs : List Entry) (e : Entry) → find p xs ≡ Some e → (k : ℕ) × (k < length xs) × (e ≡ at xs k) × (p e ≡ true)
 found_at p [] e is = absurd cc
 found_at p (x ∷ xs) e is = elim (cases_Bool (p x)) as (λ _. (k : ℕ) × (k < length (x ∷ xs)) × (e ≡ at (x ∷ xs) k) × (p e ≡ true)) [
   | inl passes ↦ (let found = rw passes at is in let here : x ≡ e = cc in (0, omega arith, sym here, subst (λ z. p z ≡ true) here passes))
   | inr fails ↦ (let (k, below, is_at, passes) = found_at p xs e (rw fails at is) in (suc k, omega (arith, below), is_at, passes))
 ]
+
+-- what an entry stores, where the record that it names is as before
+pub same_stored : (old new : Image) (e : Entry) (i : ℕ) → ((block e (i / 8) ≡ 0 → ⊥) → record_at new (record_number e i) ≡ record_at old (record_number e i)) → stored_in new i e ≡ stored_in old i e
+same_stored old new e i kept = elim (cases_Bool (block e (i / 8) == 0)) as (λ _. stored_in new i e ≡ stored_in old i e) [
+      inl none ↦ ap (λ b. if b then None else Some (record_at new (record_number e i))) none ∙ sym (ap (λ b. if b then None else Some (record_at old (record_number e i))) none)
+    | inr some ↦ ap (λ b. if b then None else Some (record_at new (record_number e i))) some
+        ∙ ap (λ bytes. Some bytes) (kept (eqb-false (block e (i / 8)) 0 some))
+        ∙ sym (ap (λ b. if b then None else Some (record_at old (record_number e i))) some)
+    ]
 
 -- a file whose entries and records are as before
 pub same_file : (old new : Image) (user : ℕ) (name : List ℕ)
@@ -73,9 +82,4 @@ same_file old new user name alike kept = record {
     by_entry number i below (Some e) is =
         let (k, below_k, is_at, passes) = found_at (is_extent_of user name number) (directory old) e is in
         let of : is_of user name (at (directory old) k) ≡ true = subst (λ x. is_of user name x ≡ true) is_at (and_parts (is_of user name e) (e.extent == number) passes).0 in
-        elim (cases_Bool (block e (i / 8) == 0)) as (λ _. stored_in new i e ≡ stored_in old i e) [
-          | inl none ↦ ap (λ b. if b then None else Some (record_at new (record_number e i))) none ∙ sym (ap (λ b. if b then None else Some (record_at old (record_number e i))) none)
-          | inr some ↦ ap (λ b. if b then None else Some (record_at new (record_number e i))) some
-              ∙ ap (λ bytes. Some bytes) (subst (λ x. record_at new (record_number x i) ≡ record_at old (record_number x i)) (sym is_at) (kept k i (within k below_k) below of (λ zero_block. eqb-false (block e (i / 8)) 0 some (ap (λ x. block x (i / 8)) is_at ∙ zero_block))))
-              ∙ sym (ap (λ b. if b then None else Some (record_at old (record_number e i))) some)
-        ]
+        same_stored old new e i (λ some. subst (λ x. record_at new (record_number x i) ≡ record_at old (record_number x i)) (sym is_at) (kept k i (within k below_k) below of (λ zero_block. some (ap (λ x. block x (i / 8)) is_at ∙ zero_block))))

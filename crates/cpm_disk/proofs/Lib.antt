@@ -8,3 +8,4 @@ pub mod Refusing
 pub mod Extending
 pub mod Files
 pub mod Others
+pub mod Maps

@@ -62,7 +62,7 @@ pub over_free : (entries : List Entry) (put : ℕ × Entry) (user : ℕ) (name :
 over_free entries put user name other others low is_put of apart = put_alike entries put.0 put.1 other others is_put.within (not_free other others (at entries put.0) low is_put.free) (apart_from user name other others put.1 of apart)
 
 -- entries that match a pattern are erased
-matches_letters : (pattern name : List ℕ) → name_matches pattern (letters name) ≡ name_matches pattern name
+pub matches_letters : (pattern name : List ℕ) → name_matches pattern (letters name) ≡ name_matches pattern name
 matches_letters [] [] = refl
 matches_letters [] (b ∷ name) = refl
 matches_letters (p ∷ pattern) [] = refl
@@ -130,7 +130,7 @@ beside_write old new p i bytes user name other others low sound kept apart left 
       | inr free ↦ not_free other others (at (directory old) p.number) low free
     ]
 
-created_entry : (user : ℕ) (name : List ℕ) (entries : List Entry) (put : ℕ × Entry) → creation user name entries ≡ Ok put → put.1 ≡ new_extent user name 0
+pub created_entry : (user : ℕ) (name : List ℕ) (entries : List Entry) (put : ℕ × Entry) → creation user name entries ≡ Ok put → put.1 ≡ new_extent user name 0
 created_entry user name entries put is =
     let (new_file, is_1) = unless_ok (is_file user name entries) fault.Exists (given (free_entry entries) fault.DirectoryFull >>= λ k. Ok (k, new_extent user name 0)) put is in
     let (k, free, last) = bind_ok (given (free_entry entries) fault.DirectoryFull) (λ k. Ok (k, new_extent user name 0)) put is_1 in

@@ -1,8 +1,8 @@
 -- The files of an image, as a map from user and name: of each extent the count of its records and the bytes of those in its blocks, and
 -- two attributes. Record i of an extent is there where i is below the count and its block is. (CP/M 2.2 Alteration Guide, the directory.)
-use Rattle.std.specs.Prelude.{◌≡◌, ◌<◌, ◌⊎◌, ◌/◌, ◌==◌, ℕ, true, List, Option, Some, None, find, if◌then◌else◌, option_and_then, option_map}
+use Rattle.std.specs.Prelude.{◌≡◌, ◌<◌, ◌⊎◌, ◌/◌, ◌%◌, ◌==◌, ℕ, true, List, Option, Some, None, find, if◌then◌else◌, option_and_then, option_map}
 use Rattle.cpm_directory.specs.declared.entry.Entry.{Entry}
-use Rattle.cpm_directory.specs.Entries.{block, is_extent_of, record_number}
+use Rattle.cpm_directory.specs.Entries.{block, has_record, is_extent_of, record_number}
 use Rattle.cpm_directory.specs.Letters.{name_matches}
 use Rattle.cpm_directory.specs.Searches.{file_is_read_only, file_is_system}
 use Rattle.cpm_disk.specs.Image.{Image, directory, record_at}
@@ -17,6 +17,10 @@ stored_in image i e = if block e (i / 8) == 0 then None else Some (record_at ima
 
 abbrev pub stored : Image → ℕ → List ℕ → ℕ → ℕ → Option (List ℕ)
 stored image user name number i = option_and_then (stored_in image i) (find (is_extent_of user name number) (directory image))
+
+-- the bytes of a file's record, where it is there
+abbrev pub record_of : Image → ℕ → List ℕ → ℕ → Option (List ℕ)
+record_of image user name number = option_and_then (λ e. if has_record e (number % 128) then stored_in image (number % 128) e else None) (find (is_extent_of user name (number / 128)) (directory image))
 
 -- a file is as before: its extents, their counts and records, and its attributes
 pub record SameFile (old new : Image) (user : ℕ) (name : List ℕ) : Type 0 where
@@ -40,3 +44,21 @@ IsEither user one two other others = (other ≡ user) × ((others ≡ one) ⊎ (
 -- a user's files that match a pattern
 abbrev pub IsMatched : ℕ → List ℕ → ℕ → List ℕ → Type 0
 IsMatched user pattern other others = (other ≡ user) × (name_matches pattern others ≡ true)
+
+-- a user has no file of a name
+abbrev pub IsNoFile : Image → ℕ → List ℕ → Type 0
+IsNoFile image user name = (number : ℕ) → find (is_extent_of user name number) (directory image) ≡ None
+
+-- a file that was made: one extent without records, and no attributes
+pub record IsNewFile (image : Image) (user : ℕ) (name : List ℕ) : Type 0 where
+  pub first : count_of image user name 0 ≡ Some 0
+  pub records : (i : ℕ) → stored image user name 0 i ≡ None
+  pub others : (number : ℕ) → 0 < number → count_of image user name number ≡ None
+
+-- a file under another name: its extents, their counts and records, and its attributes; and no file under the old one
+pub record IsMoved (old new : Image) (user : ℕ) (from to : List ℕ) : Type 0 where
+  pub counts : (number : ℕ) → count_of new user to number ≡ count_of old user from number
+  pub records : (number i : ℕ) → i < 128 → stored new user to number i ≡ stored old user from number i
+  pub read_only : file_is_read_only user to (directory new) ≡ file_is_read_only user from (directory old)
+  pub system : file_is_system user to (directory new) ≡ file_is_system user from (directory old)
+  pub gone : IsNoFile new user from

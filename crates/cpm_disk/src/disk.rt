@@ -35,11 +35,12 @@ impl<S: Sectors> Model for Disk<S> {
 }
 
 impl<S: Sectors> Disk<S> {
-    ghost use Rattle.std.specs.Prelude.{◌≡◌, ◌<◌, ◌*◌, ◌+◌, ◌%◌, Option, None, Result, replicate, length, if◌then◌else◌, slice_set};
+    ghost use Rattle.std.specs.Prelude.{◌≡◌, ◌<◌, ◌*◌, ◌+◌, ◌%◌, Option, None, Result, replicate, length, if◌then◌else◌, slice_set, ℕ, List, Some, true, IfOk, OnOk};
     ghost use Rattle.cpm_directory.specs.Entries.{at, bytes_of};
+    ghost use Rattle.cpm_directory.specs.Letters.{name_matches};
     ghost use Rattle.cpm_directory.specs.Rules.{IsSound};
     ghost use Rattle.cpm_directory.specs.Searches.{found_from, size};
-    ghost use Rattle.cpm_disk.specs.Files.{IsEither, IsFile, IsMatched, OthersAreSame};
+    ghost use Rattle.cpm_disk.specs.Files.{IsEither, IsFile, IsMatched, IsMoved, IsNewFile, IsNoFile, OthersAreSame, record_of};
     ghost use Rattle.cpm_disk.specs.Image.{directory};
     ghost use Rattle.cpm_disk.specs.Mounting.{IsListedBy, IsMountedFrom};
     ghost use Rattle.cpm_disk.specs.Operations.{IsCreated, IsErased, IsRead, IsRenamed, IsWritten};
@@ -110,6 +111,7 @@ impl<S: Sectors> Disk<S> {
     pub fn create(&mut self, user: u8, name: &Name) -> Result<u16, DiskFault>
         requires { user < 32 }
         ensures done { IsCreated S.sectors S.faults self.old self.new user name.now result }
+        ensures made { OnOk result (IsNewFile (S.sectors self.new.device) user name.now) }
         ensures others { OthersAreSame (S.sectors self.old.device) (S.sectors self.new.device) (IsFile user name.now) }
         ensures sound { IsSound (directory (S.sectors self.new.device)) }
     {
@@ -132,6 +134,7 @@ impl<S: Sectors> Disk<S> {
     pub fn erase(&mut self, user: u8, pattern: &Pattern) -> Result<u16, DiskFault>
         requires { user < 32 }
         ensures done { IsErased S.sectors S.faults self.old self.new user pattern.now.name result }
+        ensures gone { OnOk result ((name : List ℕ) → name_matches pattern.now.name name ≡ true → IsNoFile (S.sectors self.new.device) user name) }
         ensures others { OthersAreSame (S.sectors self.old.device) (S.sectors self.new.device) (IsMatched user pattern.now.name) }
         ensures sound { IsSound (directory (S.sectors self.new.device)) }
     {
@@ -158,6 +161,7 @@ impl<S: Sectors> Disk<S> {
     pub fn rename(&mut self, user: u8, old: &Name, new: &Name) -> Result<(), DiskFault>
         requires { user < 32 }
         ensures done { IsRenamed S.sectors S.faults self.old self.new user old.now new.now result }
+        ensures moved { OnOk result (IsMoved (S.sectors self.old.device) (S.sectors self.new.device) user old.now new.now) }
         ensures others { OthersAreSame (S.sectors self.old.device) (S.sectors self.new.device) (IsEither user old.now new.now) }
         ensures sound { IsSound (directory (S.sectors self.new.device)) }
     {
@@ -190,6 +194,7 @@ impl<S: Sectors> Disk<S> {
     ) -> Result<[u8; 128], DiskFault>
         requires { user < 32 }
         ensures done { IsRead S.sectors S.faults self.old self.new user name.now number result }
+        ensures found { IfOk result (λ bytes. record_of (S.sectors self.old.device) user name.now number ≡ Some bytes) }
         ensures sound { IsSound (directory (S.sectors self.new.device)) }
     {
         if self.failed {

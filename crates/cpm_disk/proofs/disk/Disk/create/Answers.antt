@@ -8,6 +8,7 @@ use Rattle.cpm_disk.specs.Files.{IsFile, OthersAreSame}
 use Rattle.cpm_disk.specs.Image.{directory}
 use Rattle.cpm_disk.specs.Operations.{IsCreated}
 use Rattle.cpm_disk.proofs.Ending.{partly}
+use Rattle.cpm_disk.proofs.Maps.{made_file}
 use Rattle.cpm_disk.proofs.Others.{create_others, whole_change}
 use Rattle.cpm_disk.proofs.Outcomes.{second}
 use Rattle.cpm_disk.proofs.disk.Disk.create.Goals as goal
@@ -58,3 +59,12 @@ returns-in-Err-clause-others g c =
     subst (λ old. OthersAreSame (g.S.Sectors.sectors old.device) (g.S.Sectors.sectors c.store.new.device) (IsFile c.args.user c.args.name.now)) c.self.view_is
     (create_others _ _ c.args.user c.args.name.now (c.in_ok-number.number, c.in_ok-number.entry) c.creation.ensures.seven c.self.invariant.sound put asked
     (partly _ _ _ (second _ _ _ (subst (Changed (g.S.Sectors.sectors c.self.inside.device) (g.S.Sectors.sectors c.store.new.device)) (c.in-Err.ensures.entries ∙ ap (λ es. slice_set es c.in_ok-number.number c.in_ok-number.entry) lent)) c.in-Err.ensures.stopped)))
+
+pub returns-in-Ok-clause-made : goal.returns-in-Ok-clause-made
+returns-in-Ok-clause-made g c =
+    let entries = c.deref.ensures.value ∙ c.self.invariant.entries_are c.if-self.false in
+    let lent = c.deref_mut.ensures.value ∙ c.self.invariant.entries_are c.if-self.false in
+    let asked = ap (creation c.args.user c.args.name.now) (sym entries) ∙ sym c.creation.ensures.step ∙ c.in_ok-number.was in
+    let put = subst (λ es. IsSound es → IsPut es (c.in_ok-number.number, c.in_ok-number.entry)) entries c.in_ok-number.ensures.kept c.self.invariant.sound in
+    made_file _ _ c.args.user c.args.name.now (c.in_ok-number.number, c.in_ok-number.entry) c.requires c.creation.ensures.seven put asked
+        (subst (Changed (g.S.Sectors.sectors c.self.inside.device) (g.S.Sectors.sectors c.store.new.device)) (c.in-Ok.ensures.entries ∙ ap (λ es. slice_set es c.in_ok-number.number c.in_ok-number.entry) lent) c.in-Ok.ensures.stored)

@@ -8,6 +8,7 @@ use Rattle.cpm_disk.specs.Files.{IsMatched, OthersAreSame}
 use Rattle.cpm_disk.specs.Image.{directory}
 use Rattle.cpm_disk.specs.Operations.{IsErased}
 use Rattle.cpm_disk.proofs.Ending.{mounted_changed, whole}
+use Rattle.cpm_disk.proofs.Maps.{erased_file}
 use Rattle.cpm_disk.proofs.Others.{erase_others, whole_change}
 use Rattle.cpm_disk.proofs.disk.Disk.erase.Goals as goal
 
@@ -55,3 +56,10 @@ returns-in-Err-clause-others g c =
     subst (λ old. OthersAreSame (g.S.Sectors.sectors old.device) (g.S.Sectors.sectors c.change_all.new.device) (IsMatched c.args.user c.args.pattern.now.name)) c.self.view_is
     (erase_others _ _ c.args.user c.args.pattern.now.name c.requires c.self.invariant.sound
     (subst (λ es. PartlyChanged (g.S.Sectors.sectors c.self.inside.device) (g.S.Sectors.sectors c.change_all.new.device) (after_erasure c.args.user c.args.pattern.now.name es)) entries c.in-Err.ensures.stopped))
+
+pub returns-in-Ok-clause-gone : goal.returns-in-Ok-clause-gone
+returns-in-Ok-clause-gone g c = λ name matches.
+    let entries = c.deref_mut.ensures.value ∙ c.self.invariant.entries_are c.if-self.false in
+    let now : directory (g.S.Sectors.sectors c.change_all.new.device) ≡ after_erasure c.args.user c.args.pattern.now.name (directory (g.S.Sectors.sectors c.self.inside.device)) =
+        c.in-Ok.ensures.changed.entries_are ∙ c.in-Ok.ensures.entries ∙ ap (after_erasure c.args.user c.args.pattern.now.name) entries in
+    erased_file _ (directory (g.S.Sectors.sectors c.self.inside.device)) c.args.user c.args.pattern.now.name name c.requires matches now
