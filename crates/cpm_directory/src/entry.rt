@@ -57,7 +57,7 @@ fn with_letters(old: &[u8; 11], mut name: [u8; 11]) -> [u8; 11]
 }
 
 impl Entry {
-    ghost use Rattle.std.specs.Prelude.{◌≡◌, ◌<◌};
+    ghost use Rattle.std.specs.Prelude.{◌≡◌, ◌<◌, ◌/◌, slice_index};
     ghost use Rattle.cpm_directory.specs.Entries.{blank, bytes_of, entry_of, erased, has_record, is_exact_match, is_extent, is_extent_of, is_free, is_match, is_of, is_read_only, is_system, new_extent, record_number, renamed, with_record};
 
     /// An entry of 32 bytes of E5H.
@@ -204,7 +204,8 @@ impl Entry {
     /// The entry once its record `i` is written to a block.
     pub fn with_record(&self, i: u8, block: u8) -> Entry
         requires { i < 128 }
-        ensures { result ≡ with_record self.now i block }
+        ensures entry { result ≡ with_record self.now i block }
+        ensures placed { slice_index result.blocks (i / 8) ≡ block }
     {
         let mut blocks = self.blocks;
         blocks[usize::from(i / 8)] = block;

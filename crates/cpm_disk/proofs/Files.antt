@@ -4,6 +4,7 @@ use Rattle.std.proofs.lemmas.Bool.{and_parts, cases_Bool, eqb-false}
 use Rattle.std.specs.List.{list_any}
 use Rattle.cpm_directory.specs.declared.entry.Entry.{Entry}
 use Rattle.cpm_directory.specs.Entries.{at, block, is_extent_of, is_of, is_read_only, is_system, record_number}
+use Rattle.cpm_operations.proofs.Facts.{found_at}
 use Rattle.cpm_disk.specs.Files.{SameFile, stored_in}
 use Rattle.cpm_disk.specs.Image.{Image, directory, record_at}
 use Rattle.cpm_disk.proofs.Places.{length_directory}
@@ -12,7 +13,7 @@ use Rattle.cpm_disk.proofs.Places.{length_directory}
 abbrev pub Alike : (Entry → Bool) → Entry → Entry → Type 0
 Alike p x y = (y ≡ x) ⊎ ((p x ≡ false) × (p y ≡ false))
 
-find_alike : (p : Entry → Bool) (xs ys : List Entry) → length ys ≡ length xs → ((k : ℕ) → k < length xs → Alike p (at xs k) (at ys k)) → find p ys ≡ find p xs
+pub find_alike : (p : Entry → Bool) (xs ys : List Entry) → length ys ≡ length xs → ((k : ℕ) → k < length xs → Alike p (at xs k) (at ys k)) → find p ys ≡ find p xs
 find_alike p [] [] long alike = refl
 find_alike p [] (y ∷ ys) long alike = absurd (omega arith)
 find_alike p (x ∷ xs) [] long alike = absurd (omega arith)
@@ -39,22 +40,14 @@ narrower : (user : ℕ) (name : List ℕ) (q : Entry → Bool) (x y : Entry) →
 narrower user name q x y (inl same) = inl same
 narrower user name q x y (inr (fails, too)) = inr (ap (λ b. b && q x) fails, ap (λ b. b && q y) too)
 
--- what is found in a list stands in it
-pub found_at : (p : Entry → Bool) (xs : List Entry) (e : Entry) → find p xs ≡ Some e → (k : ℕ) × (k < length xs) × (e ≡ at xs k) × (p e ≡ true)
-found_at p [] e is = absurd cc
-found_at p (x ∷ xs) e is = elim (cases_Bool (p x)) as (λ _. (k : ℕ) × (k < length (x ∷ xs)) × (e ≡ at (x ∷ xs) k) × (p e ≡ true)) [
-  | inl passes ↦ (let found = rw passes at is in let here : x ≡ e = cc in (0, omega arith, sym here, subst (λ z. p z ≡ true) here passes))
-  | inr fails ↦ (let (k, below, is_at, passes) = found_at p xs e (rw fails at is) in (suc k, omega (arith, below), is_at, passes))
-]
-
 -- what an entry stores, where the record that it names is as before
 pub same_stored : (old new : Image) (e : Entry) (i : ℕ) → ((block e (i / 8) ≡ 0 → ⊥) → record_at new (record_number e i) ≡ record_at old (record_number e i)) → stored_in new i e ≡ stored_in old i e
 same_stored old new e i kept = elim (cases_Bool (block e (i / 8) == 0)) as (λ _. stored_in new i e ≡ stored_in old i e) [
-      inl none ↦ ap (λ b. if b then None else Some (record_at new (record_number e i))) none ∙ sym (ap (λ b. if b then None else Some (record_at old (record_number e i))) none)
-    | inr some ↦ ap (λ b. if b then None else Some (record_at new (record_number e i))) some
-        ∙ ap (λ bytes. Some bytes) (kept (eqb-false (block e (i / 8)) 0 some))
-        ∙ sym (ap (λ b. if b then None else Some (record_at old (record_number e i))) some)
-    ]
+  | inl none ↦ ap (λ b. if b then None else Some (record_at new (record_number e i))) none ∙ sym (ap (λ b. if b then None else Some (record_at old (record_number e i))) none)
+  | inr some ↦ ap (λ b. if b then None else Some (record_at new (record_number e i))) some
+      ∙ ap (λ bytes. Some bytes) (kept (eqb-false (block e (i / 8)) 0 some))
+      ∙ sym (ap (λ b. if b then None else Some (record_at old (record_number e i))) some)
+]
 
 -- a file whose entries and records are as before
 pub same_file : (old new : Image) (user : ℕ) (name : List ℕ)

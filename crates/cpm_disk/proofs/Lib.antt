@@ -9,3 +9,4 @@ pub mod Extending
 pub mod Files
 pub mod Others
 pub mod Maps
+pub mod Written

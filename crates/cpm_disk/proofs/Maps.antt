@@ -1,33 +1,32 @@
 -- What becomes of the files that a call names.
-use Rattle.std.proofs.Common.{◌≡◌, ◌≢◌, ◌⊎◌, ◌<◌, ◌≤◌, ◌+◌, ◌*◌, ◌/◌, ◌%◌, ◌==◌, ℕ, zero, suc, Bool, true, false, ◌&&◌, ◌||◌, List, [], ◌∷◌, bytes_eq, drop, length, map, find, slice_index, slice_set, get_or, get_or-set_same, get_or-set_other, zip, nat_eq, nat_le, not, Option, Some, None, Ok, option_map, option_and_then, refl, sym, ap, subst, ◌∙◌, inl, inr, arith, if◌then◌else◌, cond, true≢false, eqb-true, eq-eqb, ne_eqb, le-leb, length-set}
-use Rattle.std.proofs.lemmas.Bool.{and_from, and_parts, cases_Bool, cases_eq, cases_lt, eqb-false, lt-leb, not-false}
+use Rattle.std.proofs.Common.{◌≡◌, ◌<◌, ◌≤◌, ◌+◌, ◌*◌, ◌/◌, ◌%◌, ◌==◌, ℕ, zero, suc, Bool, true, false, ◌&&◌, ◌||◌, List, [], ◌∷◌, bytes_eq, drop, length, map, find, slice_index, slice_set, get_or, get_or-set_same, get_or-set_other, nat_eq, nat_le, not, Option, Some, None, Ok, option_map, option_and_then, refl, sym, ap, subst, ◌∙◌, inl, inr, arith, if◌then◌else◌, true≢false, eqb-true, eq-eqb, ne_eqb, le-leb, length-set}
+use Rattle.std.proofs.lemmas.Bool.{and_from, and_parts, cases_Bool, cases_eq, cases_lt, lt-leb, not-false}
 use Rattle.std.specs.List.{list_any}
 use Rattle.cpm_directory.specs.declared.entry.Entry.{Entry}
 use Rattle.cpm_directory.specs.Entries.{at, blank, block, erased, is_extent, is_extent_of, is_match, is_of, is_read_only, is_system, new_extent, record_number, renamed}
 use Rattle.cpm_directory.specs.Letters.{letters, name_matches, with_letters}
 use Rattle.cpm_directory.specs.Rules.{IsBlock, IsSound}
-use Rattle.cpm_directory.specs.Searches.{file_is_read_only, file_is_system, free_entry, is_file}
-use Rattle.cpm_operations.proofs.Facts.{at_map, below_extent, blank_is_no_match, blank_is_not_of, is_of_file, letters_with, none_at, of_file, zeros_at}
+use Rattle.cpm_directory.specs.Searches.{file_is_read_only, free_entry, is_file}
+use Rattle.cpm_operations.proofs.Facts.{found_at, below_extent, blank_is_not_of, is_of_file, letters_with, none_at, of_file, zeros_at}
 use Rattle.cpm_operations.proofs.Keeping.{at_erasure, at_renaming, erasing, length_of_name, renaming_of}
 use Rattle.cpm_operations.specs.Kept.{IsPut}
 use Rattle.cpm_operations.specs.Steps.{◌>>=◌, after_erasure, after_renaming, creation, given, renaming, unless}
 use Rattle.cpm_operations.proofs.Results.{unless_ok}
 use Rattle.cpm_directory.specs.declared.fault.DiskFault.TheVariants as fault
 use Rattle.cpm_disk.specs.Calls.{Changed}
-use Rattle.cpm_disk.specs.Files.{IsMoved, IsNewFile, IsNoFile, count_of, stored, stored_in}
-use Rattle.cpm_disk.specs.Image.{Image, IsOfDirectory, SameBut, directory, record_at, record_count}
-use Rattle.cpm_disk.proofs.Files.{found_at, same_stored}
+use Rattle.cpm_disk.specs.Files.{IsMoved, IsNewFile, IsNoFile, stored_in}
+use Rattle.cpm_disk.specs.Image.{Image, IsOfDirectory, SameBut, directory, record_at}
+use Rattle.cpm_disk.proofs.Files.{same_stored}
 use Rattle.cpm_disk.proofs.Others.{apart_from, created_entry, matches_letters}
-use Rattle.cpm_disk.proofs.Places.{length_directory}
 
 -- what passes at one place alone is found there
 pub find_unique : (p : Entry → Bool) (xs : List Entry) (k : ℕ) → k < length xs → p (at xs k) ≡ true → ((j : ℕ) → j < length xs → p (at xs j) ≡ true → j ≡ k) → find p xs ≡ Some (at xs k)
 find_unique p [] k below passes one = absurd (omega arith)
 find_unique p (x ∷ xs) zero below passes one = ap (λ b. if b then Some x else find p xs) passes
 find_unique p (x ∷ xs) (suc k) below passes one = elim (cases_Bool (p x)) as (λ _. find p (x ∷ xs) ≡ Some (at (x ∷ xs) (suc k))) [
-      inl first ↦ (let same = one 0 (omega arith) first in absurd (omega arith))
-    | inr not_first ↦ ap (λ b. if b then Some x else find p xs) not_first ∙ find_unique p xs k (omega arith) passes (λ j low at_j. let same = one (suc j) (omega arith) at_j in omega arith)
-    ]
+  | inl first ↦ (let same = one 0 (omega arith) first in absurd (omega arith))
+  | inr not_first ↦ ap (λ b. if b then Some x else find p xs) not_first ∙ find_unique p xs k (omega arith) passes (λ j low at_j. let same = one (suc j) (omega arith) at_j in omega arith)
+]
 
 pub find_none : (p : Entry → Bool) (xs : List Entry) → ((j : ℕ) → j < length xs → p (at xs j) ≡ false) → find p xs ≡ None
 find_none p [] none = refl
@@ -41,33 +40,38 @@ extent_found entries user name number k low sound below is = find_unique (is_ext
     let a = of_file user name (at entries k) one.0 in
     let b = of_file user name (at entries j) two.0 in
     sound.named j k (below_extent (at entries j) (omega (arith, b.0))) (below_extent (at entries k) (omega (arith, a.0)))
-        (b.0 ∙ sym a.0, b.1 ∙ sym a.1, eqb-true (at entries j).extent number two.1 ∙ sym (eqb-true (at entries k).extent number one.1)))
+    (b.0 ∙ sym a.0, b.1 ∙ sym a.1, eqb-true (at entries j).extent number two.1 ∙ sym (eqb-true (at entries k).extent number one.1)))
 
 -- a new file
 pub new_file : (image : Image) (entries : List Entry) (user : ℕ) (name : List ℕ) (k : ℕ) → user < 32 → letters name ≡ name → k < length entries → is_file user name entries ≡ false → directory image ≡ slice_set entries k (new_extent user name 0) → IsSound (directory image) → IsNewFile image user name
 new_file image entries user name k low seven below none is sound = record {
-    first = ap (option_map (λ e. e.records)) found;
-    records = λ i. ap (option_and_then (stored_in image i)) found ∙ ap (λ b. if b == 0 then None else Some (record_at image (record_number e i))) (zeros_at 16 (i / 8));
-    others = λ number some. ap (option_map (λ x. x.records)) (find_none (is_extent_of user name number) (directory image) (absent number some));
-  }
+  first = ap (option_map (λ e. e.records)) found;
+  records = λ i. ap (option_and_then (stored_in image i)) found ∙ ap (λ b. if b == 0 then None else Some (record_at image (record_number e i))) (zeros_at 16 (i / 8));
+  others = λ number some. ap (option_map (λ x. x.records)) (find_none (is_extent_of user name number) (directory image) (absent number some));
+}
   where
     e : Entry
     e = new_extent user name 0
+
     here : at (directory image) k ≡ new_extent user name 0
     here = ap (λ es. at es k) is ∙ get_or-set_same entries k (new_extent user name 0) blank below
+
     within : k < length (directory image)
     within = (let long = ap length is ∙ length-set entries k (new_extent user name 0) in omega arith)
+
     of : is_of user name (new_extent user name 0) ≡ true
     of = is_of_file user name (new_extent user name 0) refl seven
+
     found : find (is_extent_of user name 0) (directory image) ≡ Some (new_extent user name 0)
     found = extent_found (directory image) user name 0 k low sound within (subst (λ x. is_extent_of user name 0 x ≡ true) (sym here) (and_from (is_of user name (new_extent user name 0)) (0 == 0) of refl)) ∙ ap Some here
+
     absent : (number : ℕ) → 0 < number → (j : ℕ) → j < length (directory image) → is_extent_of user name number (at (directory image) j) ≡ false
     absent number some j low_j = elim (cases_eq j k) as (λ _. is_extent_of user name number (at (directory image) j) ≡ false) [
-        inl same ↦ subst (λ n. is_extent_of user name number (at (directory image) n) ≡ false) (sym same) (subst (λ x. is_extent_of user name number x ≡ false) (sym here)
-            (ap (λ b. is_of user name (new_extent user name 0) && b) (ne_eqb 0 number (λ zero_is. omega arith)) ∙ ap (λ b. b && false) of))
+      | inl same ↦ subst (λ n. is_extent_of user name number (at (directory image) n) ≡ false) (sym same) (subst (λ x. is_extent_of user name number x ≡ false) (sym here)
+          (ap (λ b. is_of user name (new_extent user name 0) && b) (ne_eqb 0 number (λ zero_is. omega arith)) ∙ ap (λ b. b && false) of))
       | inr other ↦ ap (λ x. is_extent_of user name number x) (ap (λ es. at es j) is ∙ get_or-set_other entries k j (new_extent user name 0) blank other)
           ∙ ap (λ b. b && ((at entries j).extent == number)) (none_at (is_of user name) entries j (blank_is_not_of user name low) none)
-      ]
+    ]
 
 -- no entry of a file that matched is left
 pub erased_file : (image : Image) (entries : List Entry) (user : ℕ) (pattern : List ℕ) (name : List ℕ) → user < 32 → name_matches pattern name ≡ true → directory image ≡ after_erasure user pattern entries → IsNoFile image user name
@@ -77,13 +81,13 @@ erased_file image entries user pattern name low matches is number = find_none (i
   where
     not_of : (e : Entry) → is_of user name (erasing user pattern e) ≡ false
     not_of e = elim (cases_Bool (is_match user pattern e)) as (λ _. is_of user name (erasing user pattern e) ≡ false) [
-        inl match ↦ subst (λ x. is_of user name x ≡ false) (sym (ap (λ b. if b then erased e else e) match)) (ap (λ b. b && bytes_eq (letters e.name) name) (ne_eqb 0xE5 user (λ same. omega arith)))
+      | inl match ↦ subst (λ x. is_of user name x ≡ false) (sym (ap (λ b. if b then erased e else e) match)) (ap (λ b. b && bytes_eq (letters e.name) name) (ne_eqb 0xE5 user (λ same. omega arith)))
       | inr other ↦ subst (λ x. is_of user name x ≡ false) (sym (ap (λ b. if b then erased e else e) other)) (elim (cases_Bool (is_of user name e)) as (λ _. is_of user name e ≡ false) [
-          inl of ↦ (let one = of_file user name e of in
+        | inl of ↦ (let one = of_file user name e of in
             absurd (true≢false (sym (and_from (nat_eq e.user user) (name_matches pattern e.name) (eq-eqb e.user user one.0) (sym (matches_letters pattern e.name) ∙ ap (name_matches pattern) one.1 ∙ matches)) ∙ other)))
         | inr no_file ↦ no_file
-        ])
-      ]
+      ])
+    ]
 
 -- the high bit of a byte of a renamed name
 high_bit : (old new : List ℕ) (i : ℕ) → length old ≡ length new → letters new ≡ new → nat_le 128 (get_or (with_letters old new) i 0) ≡ nat_le 128 (get_or old i 0)
@@ -94,8 +98,8 @@ high_bit (x ∷ old) (y ∷ new) (suc i) same seven = high_bit old new i (omega 
 high_bit (x ∷ old) (y ∷ new) zero same seven =
     let low : y % 128 ≡ y = ap (λ ys. get_or ys 0 0) seven in
     elim (cases_lt x 128) as (λ _. nat_le 128 (128 * (x / 128) + y) ≡ nat_le 128 x) [
-      inl small ↦ lt-leb 128 (128 * (x / 128) + y) (omega arith) ∙ sym (lt-leb 128 x small)
-    | inr large ↦ le-leb 128 (128 * (x / 128) + y) (omega arith) ∙ sym (le-leb 128 x large)
+      | inl small ↦ lt-leb 128 (128 * (x / 128) + y) (omega arith) ∙ sym (lt-leb 128 x small)
+      | inr large ↦ le-leb 128 (128 * (x / 128) + y) (omega arith) ∙ sym (le-leb 128 x large)
     ]
 
 -- a search in changed entries finds what another found before
@@ -104,8 +108,8 @@ find_changed p q f [] same = refl
 find_changed p q f (x ∷ xs) same =
     let rest = find_changed p q f xs (λ j low. same (suc j) (omega arith)) in
     elim (cases_Bool (q x)) as (λ _. find p (map f (x ∷ xs)) ≡ option_map f (find q (x ∷ xs))) [
-      inl passes ↦ ap (λ b. if b then Some (f x) else find p (map f xs)) (same 0 (omega arith) ∙ passes) ∙ sym (ap (λ b. option_map f (if b then Some x else find q xs)) passes)
-    | inr fails ↦ ap (λ b. if b then Some (f x) else find p (map f xs)) (same 0 (omega arith) ∙ fails) ∙ rest ∙ sym (ap (λ b. option_map f (if b then Some x else find q xs)) fails)
+      | inl passes ↦ ap (λ b. if b then Some (f x) else find p (map f xs)) (same 0 (omega arith) ∙ passes) ∙ sym (ap (λ b. option_map f (if b then Some x else find q xs)) passes)
+      | inr fails ↦ ap (λ b. if b then Some (f x) else find p (map f xs)) (same 0 (omega arith) ∙ fails) ∙ rest ∙ sym (ap (λ b. option_map f (if b then Some x else find q xs)) fails)
     ]
 
 any_changed : (p q : Entry → Bool) (f : Entry → Entry) (xs : List Entry) → ((j : ℕ) → j < length xs → p (f (at xs j)) ≡ q (at xs j)) → list_any p (map f xs) ≡ list_any q xs
@@ -116,50 +120,56 @@ any_changed p q f (x ∷ xs) same = ap (λ b. b || list_any p (map f xs)) (same 
 renamed_test : (user : ℕ) (from to : List ℕ) (q r : Entry → Bool) (e : Entry) → length from ≡ length to → letters to ≡ to → is_of user to e ≡ false → (length e.name ≡ length to → r (renamed to e) ≡ q e)
     → (is_of user to (renaming_of user from to e) && r (renaming_of user from to e)) ≡ (is_of user from e && q e)
 renamed_test user from to q r e long seven not_to kept = elim (cases_Bool (is_of user from e)) as (λ _. (is_of user to (renaming_of user from to e) && r (renaming_of user from to e)) ≡ (is_of user from e && q e)) [
-      inl of ↦ (
-        let same_length = length_of_name user from e of ∙ long in
-        let now : is_of user to (renamed to e) ≡ true = is_of_file user to (renamed to e) (of_file user from e of).0 (letters_with e.name to same_length seven) in
-        ap (λ x. is_of user to x && r x) (ap (λ b. if b then renamed to e else e) of) ∙ ap (λ b. b && r (renamed to e)) now ∙ kept same_length ∙ sym (ap (λ b. b && q e) of))
-    | inr not_from ↦ ap (λ x. is_of user to x && r x) (ap (λ b. if b then renamed to e else e) not_from) ∙ ap (λ b. b && r e) not_to ∙ sym (ap (λ b. b && q e) not_from)
-    ]
+  | inl of ↦ (
+      let same_length = length_of_name user from e of ∙ long in
+      let now : is_of user to (renamed to e) ≡ true = is_of_file user to (renamed to e) (of_file user from e of).0 (letters_with e.name to same_length seven) in
+      ap (λ x. is_of user to x && r x) (ap (λ b. if b then renamed to e else e) of) ∙ ap (λ b. b && r (renamed to e)) now ∙ kept same_length ∙ sym (ap (λ b. b && q e) of))
+  | inr not_from ↦ ap (λ x. is_of user to x && r x) (ap (λ b. if b then renamed to e else e) not_from) ∙ ap (λ b. b && r e) not_to ∙ sym (ap (λ b. b && q e) not_from)
+]
 
 -- a block that an entry of a directory names, but 0, is one of files
-range_of : (entries : List Entry) (k : ℕ) (e : Entry) → IsSound entries → e ≡ at entries k → e.user < 32 → (group : ℕ) → (block e group ≡ 0 → ⊥) → (2 ≤ block e group) × (block e group ≤ 242)
+pub range_of : (entries : List Entry) (k : ℕ) (e : Entry) → IsSound entries → e ≡ at entries k → e.user < 32 → (group : ℕ) → (block e group ≡ 0 → ⊥) → (2 ≤ block e group) × (block e group ≤ 242)
 range_of entries k e sound is_at low group some =
     let ext = subst (λ x. is_extent x ≡ true) is_at (below_extent e low) in
     elim (subst (λ x. IsBlock (block x group)) (sym is_at) (sound.blocks k ext group)) as (λ _. (2 ≤ block e group) × (block e group ≤ 242)) [ inl none ↦ absurd (some none) | inr files ↦ files ]
 
 pub moved_file : (old new : Image) (user : ℕ) (from to : List ℕ) → user < 32 → length from ≡ length to → letters to ≡ to → (from ≡ to → ⊥) → IsSound (directory old) → is_file user to (directory old) ≡ false → directory new ≡ after_renaming user from to (directory old) → SameBut IsOfDirectory old new → IsMoved old new user from to
 moved_file old new user from to low long seven apart sound none is rest = record {
-    counts = λ number. ap (option_map (λ e. e.records)) (found number) ∙ same_count (find (is_extent_of user from number) (directory old));
-    records = λ number i below. ap (option_and_then (stored_in new i)) (found number) ∙ same_bytes number i below (find (is_extent_of user from number) (directory old)) refl;
-    read_only = ap (list_any (λ e. is_of user to e && is_read_only e)) is ∙ any_changed (λ e. is_of user to e && is_read_only e) (λ e. is_of user from e && is_read_only e) (renaming_of user from to) (directory old)
-        (λ j _. renamed_test user from to is_read_only is_read_only (at (directory old) j) long seven (not_to j) (λ same. high_bit (at (directory old) j).name to 8 same seven));
-    system = ap (list_any (λ e. is_of user to e && is_system e)) is ∙ any_changed (λ e. is_of user to e && is_system e) (λ e. is_of user from e && is_system e) (renaming_of user from to) (directory old)
-        (λ j _. renamed_test user from to is_system is_system (at (directory old) j) long seven (not_to j) (λ same. high_bit (at (directory old) j).name to 9 same seven));
-    gone = λ number. find_none (is_extent_of user from number) (directory new) (λ j _. ap (λ b. b && ((at (directory new) j).extent == number)) (subst (λ x. is_of user from x ≡ false) (sym (ap (λ es. at es j) is ∙ at_renaming user from to (directory old) j low)) (not_from (at (directory old) j))));
-  }
+  counts = λ number. ap (option_map (λ e. e.records)) (found number) ∙ same_count (find (is_extent_of user from number) (directory old));
+  records = λ number i below. ap (option_and_then (stored_in new i)) (found number) ∙ same_bytes number i below (find (is_extent_of user from number) (directory old)) refl;
+  read_only = ap (list_any (λ e. is_of user to e && is_read_only e)) is ∙ any_changed (λ e. is_of user to e && is_read_only e) (λ e. is_of user from e && is_read_only e) (renaming_of user from to) (directory old)
+      (λ j _. renamed_test user from to is_read_only is_read_only (at (directory old) j) long seven (not_to j) (λ same. high_bit (at (directory old) j).name to 8 same seven));
+  system = ap (list_any (λ e. is_of user to e && is_system e)) is ∙ any_changed (λ e. is_of user to e && is_system e) (λ e. is_of user from e && is_system e) (renaming_of user from to) (directory old)
+      (λ j _. renamed_test user from to is_system is_system (at (directory old) j) long seven (not_to j) (λ same. high_bit (at (directory old) j).name to 9 same seven));
+  gone = λ number. find_none (is_extent_of user from number) (directory new) (λ j _. ap (λ b. b && ((at (directory new) j).extent == number)) (subst (λ x. is_of user from x ≡ false) (sym (ap (λ es. at es j) is ∙ at_renaming user from to (directory old) j low)) (not_from (at (directory old) j))));
+}
   where
     not_to : (j : ℕ) → is_of user to (at (directory old) j) ≡ false
     not_to j = none_at (is_of user to) (directory old) j (blank_is_not_of user to low) none
+
     found : (number : ℕ) → find (is_extent_of user to number) (directory new) ≡ option_map (renaming_of user from to) (find (is_extent_of user from number) (directory old))
     found number = ap (find (is_extent_of user to number)) is ∙ find_changed (is_extent_of user to number) (is_extent_of user from number) (renaming_of user from to) (directory old)
         (λ j _. renamed_test user from to (λ e. e.extent == number) (λ e. e.extent == number) (at (directory old) j) long seven (not_to j) (λ _. refl))
+
     kept_records : (e : Entry) → (renaming_of user from to e).records ≡ e.records
     kept_records e = elim (cases_Bool (is_of user from e)) as (λ _. (renaming_of user from to e).records ≡ e.records) [
-        inl of ↦ ap (λ b. (if b then renamed to e else e).records) of
+      | inl of ↦ ap (λ b. (if b then renamed to e else e).records) of
       | inr not_of ↦ ap (λ b. (if b then renamed to e else e).records) not_of
-      ]
+    ]
+
     kept_blocks : (e : Entry) → (renaming_of user from to e).blocks ≡ e.blocks
     kept_blocks e = elim (cases_Bool (is_of user from e)) as (λ _. (renaming_of user from to e).blocks ≡ e.blocks) [
-        inl of ↦ ap (λ b. (if b then renamed to e else e).blocks) of
+      | inl of ↦ ap (λ b. (if b then renamed to e else e).blocks) of
       | inr not_of ↦ ap (λ b. (if b then renamed to e else e).blocks) not_of
-      ]
+    ]
+
     same_count : (o : Option Entry) → option_map (λ e. e.records) (option_map (renaming_of user from to) o) ≡ option_map (λ e. e.records) o
     same_count None = refl
     same_count (Some e) = ap (λ n. Some n) (kept_records e)
+
     stored_by : Image → List ℕ → ℕ → Option (List ℕ)
     stored_by image blocks i = if slice_index blocks (i / 8) == 0 then None else Some (record_at image (8 * slice_index blocks (i / 8) + i % 8))
+
     same_bytes : (number i : ℕ) → i < 128 → (o : Option Entry) → find (is_extent_of user from number) (directory old) ≡ o → option_and_then (stored_in new i) (option_map (renaming_of user from to) o) ≡ option_and_then (stored_in old i) o
     same_bytes number i below None is_none = refl
     same_bytes number i below (Some e) is_e = ap (λ blocks. stored_by new blocks i) (kept_blocks e) ∙ same_stored old new e i (λ some.
@@ -167,19 +177,20 @@ moved_file old new user from to low long seven apart sound none is rest = record
         let user_is = (of_file user from e (and_parts (is_of user from e) (e.extent == number) passes).0).0 in
         let range = range_of (directory old) k e sound is_at (omega arith) (i / 8) some in
         rest.records (record_number e i) (omega (arith, range.0, range.1)) (λ of. omega (arith, range.0)))
+
     not_from : (e : Entry) → is_of user from (renaming_of user from to e) ≡ false
     not_from e = elim (cases_Bool (is_of user from e)) as (λ _. is_of user from (renaming_of user from to e) ≡ false) [
-        inl of ↦ subst (λ x. is_of user from x ≡ false) (sym (ap (λ b. if b then renamed to e else e) of))
-            (apart_from user to user from (renamed to e) (is_of_file user to (renamed to e) (of_file user from e of).0 (letters_with e.name to (length_of_name user from e of ∙ long) seven)) (λ _ same. apart same))
+      | inl of ↦ subst (λ x. is_of user from x ≡ false) (sym (ap (λ b. if b then renamed to e else e) of))
+          (apart_from user to user from (renamed to e) (is_of_file user to (renamed to e) (of_file user from e of).0 (letters_with e.name to (length_of_name user from e of ∙ long) seven)) (λ _ same. apart same))
       | inr not_of ↦ subst (λ x. is_of user from x ≡ false) (sym (ap (λ b. if b then renamed to e else e) not_of)) not_of
-      ]
+    ]
 
 -- a call that made a file
 pub made_file : (old new : Image) (user : ℕ) (name : List ℕ) (put : ℕ × Entry) → user < 32 → letters name ≡ name → IsPut (directory old) put → creation user name (directory old) ≡ Ok put → Changed old new (slice_set (directory old) put.0 put.1) → IsNewFile new user name
 made_file old new user name put low seven is_put asked made =
     let (none, is_1) = unless_ok (is_file user name (directory old)) fault.Exists (given (free_entry (directory old)) fault.DirectoryFull >>= λ k. Ok (k, new_extent user name 0)) put asked in
     new_file new (directory old) user name put.0 low seven is_put.within none (made.entries_are ∙ ap (slice_set (directory old) put.0) (created_entry user name (directory old) put asked))
-        (is_put.sound (directory new) (λ k. inr (ap (λ es. at es k) made.entries_are)))
+    (is_put.sound (directory new) (λ k. inr (ap (λ es. at es k) made.entries_are)))
 
 -- a call that moved one
 pub renamed_file : (old new : Image) (user : ℕ) (from to : List ℕ) → user < 32 → length from ≡ length to → letters to ≡ to → IsSound (directory old) → renaming user from to (directory old) ≡ Ok tt → Changed old new (after_renaming user from to (directory old)) → IsMoved old new user from to

@@ -36,7 +36,7 @@ pub whole_change : (old new : Image) (entries : List Entry) → Changed old new 
 whole_change old new entries made = record { between = λ k. inr (ap (λ es. at es k) made.entries_are); rest = made.rest }
 
 -- an entry of another file, or of none, is not of the file
-not_free : (user : ℕ) (name : List ℕ) (e : Entry) → user < 32 → is_free e ≡ true → is_of user name e ≡ false
+pub not_free : (user : ℕ) (name : List ℕ) (e : Entry) → user < 32 → is_free e ≡ true → is_of user name e ≡ false
 not_free user name e low free = elim (cases_Bool (is_of user name e)) as (λ _. is_of user name e ≡ false) [
   | inl of ↦ (let user_is = (of_file user name e of).0 in let free_is = eqb-true e.user 0xE5 free in absurd (omega arith))
   | inr not_of ↦ not_of

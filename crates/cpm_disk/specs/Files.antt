@@ -1,6 +1,6 @@
 -- The files of an image, as a map from user and name: of each extent the count of its records and the bytes of those in its blocks, and
 -- two attributes. Record i of an extent is there where i is below the count and its block is. (CP/M 2.2 Alteration Guide, the directory.)
-use Rattle.std.specs.Prelude.{◌≡◌, ◌<◌, ◌⊎◌, ◌/◌, ◌%◌, ◌==◌, ℕ, true, List, Option, Some, None, find, if◌then◌else◌, option_and_then, option_map}
+use Rattle.std.specs.Prelude.{◌≡◌, ◌≢◌, ◌<◌, ◌⊎◌, ◌+◌, ◌/◌, ◌%◌, ◌==◌, max, replicate, unwrap_or, ℕ, true, List, Option, Some, None, find, if◌then◌else◌, option_and_then, option_map}
 use Rattle.cpm_directory.specs.declared.entry.Entry.{Entry}
 use Rattle.cpm_directory.specs.Entries.{block, has_record, is_extent_of, record_number}
 use Rattle.cpm_directory.specs.Letters.{name_matches}
@@ -62,3 +62,13 @@ pub record IsMoved (old new : Image) (user : ℕ) (from to : List ℕ) : Type 0 
   pub read_only : file_is_read_only user to (directory new) ≡ file_is_read_only user from (directory old)
   pub system : file_is_system user to (directory new) ≡ file_is_system user from (directory old)
   pub gone : IsNoFile new user from
+
+-- A record of a file was written. The other records of its block are as before, or zeros where the block is new; the rest of the file
+-- is as before.
+pub record HasRecord (old new : Image) (user : ℕ) (name : List ℕ) (number : ℕ) (bytes : List ℕ) : Type 0 where
+  pub count : count_of new user name (number / 128) ≡ Some (max (unwrap_or (count_of old user name (number / 128)) 0) (number % 128 + 1))
+  pub here : stored new user name (number / 128) (number % 128) ≡ Some bytes
+  pub block : (i : ℕ) → i < 128 → i ≢ number % 128 → i / 8 ≡ number % 128 / 8 → stored new user name (number / 128) i ≡ Some (unwrap_or (stored old user name (number / 128) i) (replicate 128 0))
+  pub extent : (i : ℕ) → i < 128 → i / 8 ≢ number % 128 / 8 → stored new user name (number / 128) i ≡ stored old user name (number / 128) i
+  pub counts : (other : ℕ) → other ≢ number / 128 → count_of new user name other ≡ count_of old user name other
+  pub records : (other i : ℕ) → other ≢ number / 128 → i < 128 → stored new user name other i ≡ stored old user name other i

@@ -40,7 +40,7 @@ impl<S: Sectors> Disk<S> {
     ghost use Rattle.cpm_directory.specs.Letters.{name_matches};
     ghost use Rattle.cpm_directory.specs.Rules.{IsSound};
     ghost use Rattle.cpm_directory.specs.Searches.{found_from, size};
-    ghost use Rattle.cpm_disk.specs.Files.{IsEither, IsFile, IsMatched, IsMoved, IsNewFile, IsNoFile, OthersAreSame, record_of};
+    ghost use Rattle.cpm_disk.specs.Files.{HasRecord, IsEither, IsFile, IsMatched, IsMoved, IsNewFile, IsNoFile, OthersAreSame, record_of};
     ghost use Rattle.cpm_disk.specs.Image.{directory};
     ghost use Rattle.cpm_disk.specs.Mounting.{IsListedBy, IsMountedFrom};
     ghost use Rattle.cpm_disk.specs.Operations.{IsCreated, IsErased, IsRead, IsRenamed, IsWritten};
@@ -223,6 +223,7 @@ impl<S: Sectors> Disk<S> {
     ) -> Result<(), DiskFault>
         requires { user < 32 }
         ensures done { IsWritten S.sectors S.faults self.old self.new user name.now number bytes.now result }
+        ensures written { OnOk result (HasRecord (S.sectors self.old.device) (S.sectors self.new.device) user name.now number bytes.now) }
         ensures others { OthersAreSame (S.sectors self.old.device) (S.sectors self.new.device) (IsFile user name.now) }
         ensures sound { IsSound (directory (S.sectors self.new.device)) }
     {

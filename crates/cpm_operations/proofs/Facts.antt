@@ -1,5 +1,5 @@
 -- What tests on entries and lists of entries say.
-use Rattle.std.proofs.Common.{◌≡◌, ◌⊎◌, ◌<◌, ◌≤◌, ◌/◌, ◌%◌, ◌*◌, ◌+◌, ℕ, zero, suc, Bool, true, false, List, [], ◌∷◌, length, map, drop, ap₂, replicate, refl, sym, ap, ◌∙◌, inl, inr, arith, nat_eq, get_or, set, Some, find, bytes_eq, true≢false, eqb-true, eq-eqb, ne_eqb, ltb-true, lt-ltb}
+use Rattle.std.proofs.Common.{◌≡◌, ◌⊎◌, ◌<◌, ◌≤◌, ◌/◌, ◌%◌, ◌*◌, ◌+◌, ℕ, zero, suc, Bool, true, false, List, [], ◌∷◌, length, map, subst, drop, ap₂, replicate, refl, sym, ap, ◌∙◌, inl, inr, arith, nat_eq, get_or, set, Some, find, bytes_eq, true≢false, eqb-true, eq-eqb, ne_eqb, ltb-true, lt-ltb}
 use Rattle.std.proofs.lemmas.Bool.{and_parts, cases_Bool, and_from, cases_lt}
 use Rattle.std.proofs.lemmas.Option.{none-some}
 use Rattle.std.proofs.lemmas.List.{length-replicate, get_or_past, get_or-replicate}
@@ -81,6 +81,14 @@ found_in_range p from zero b is = absurd (none-some b is)
 found_in_range p from (suc n) b is = elim (cases_Bool (p from)) as (λ _. (from ≤ b) × (b < from + suc n) × (p b ≡ true)) [
   | inl passes ↦ (let found = rw passes at is in let here : from ≡ b = cc in (omega arith, omega arith, rw (← here) passes))
   | inr fails ↦ (let rest = found_in_range p (from + 1) n b (rw fails at is) in (omega (arith, rest.0), omega (arith, rest.1), rest.2))
+]
+
+-- what is found in a list stands in it
+pub found_at : (p : Entry → Bool) (xs : List Entry) (e : Entry) → find p xs ≡ Some e → (k : ℕ) × (k < length xs) × (e ≡ at xs k) × (p e ≡ true)
+found_at p [] e is = absurd cc
+found_at p (x ∷ xs) e is = elim (cases_Bool (p x)) as (λ _. (k : ℕ) × (k < length (x ∷ xs)) × (e ≡ at (x ∷ xs) k) × (p e ≡ true)) [
+  | inl passes ↦ (let found = rw passes at is in let here : x ≡ e = cc in (0, omega arith, sym here, subst (λ z. p z ≡ true) here passes))
+  | inr fails ↦ (let (k, below, is_at, passes) = found_at p xs e (rw fails at is) in (suc k, omega (arith, below), is_at, passes))
 ]
 
 -- the name that a renamed entry has

@@ -1,22 +1,15 @@
 -- A record that is there lies in the blocks of files.
-use Rattle.std.proofs.Common.{◌≡◌, ◌<◌, ◌≤◌, ◌/◌, ◌%◌, ◌==◌, ℕ, suc, Bool, true, not, List, [], ◌∷◌, subst, sym, inl, inr, arith, nat_lt, Some, Ok, find}
-use Rattle.std.proofs.lemmas.Bool.{and_parts, cases_Bool, eqb-false, not-true, not-false}
+use Rattle.std.proofs.Common.{◌≡◌, ◌<◌, ◌≤◌, ◌/◌, ◌%◌, ◌==◌, ℕ, true, not, List, subst, sym, inl, inr, arith, nat_lt, Ok, find}
+use Rattle.std.proofs.lemmas.Bool.{and_parts, eqb-false, not-true, not-false}
 use Rattle.cpm_directory.specs.declared.entry.Entry.{Entry}
 use Rattle.cpm_directory.specs.declared.fault.DiskFault.TheVariants as fault
-use Rattle.cpm_directory.specs.Entries.{at, block, has_record, is_extent, is_extent_of, record_number}
+use Rattle.cpm_directory.specs.Entries.{block, has_record, is_extent, is_extent_of, record_number}
 use Rattle.cpm_directory.specs.Rules.{IsBlock, IsSound}
 use Rattle.cpm_directory.specs.Searches.{is_file}
 use Rattle.cpm_operations.specs.Steps.{◌>>=◌, given, reading, recorded, unless}
 use Rattle.cpm_operations.proofs.Results.{bind_ok, given_ok, unless_ok}
-use Rattle.cpm_operations.proofs.Placing.{extent_of_file, found_passes}
-
--- what is found stands in the list
-found_at : (p : Entry → Bool) (entries : List Entry) (e : Entry) → find p entries ≡ Some e → (k : ℕ) × (e ≡ at entries k)
-found_at p [] e is = absurd cc
-found_at p (x ∷ entries) e is = elim (cases_Bool (p x)) as (λ _. (k : ℕ) × (e ≡ at (x ∷ entries) k)) [
-  | inl passes ↦ (let found = rw passes at is in let here : e ≡ x = cc in (0, here))
-  | inr fails ↦ (let (k, is_at) = found_at p entries e (rw fails at is) in (suc k, is_at))
-]
+use Rattle.cpm_operations.proofs.Facts.{found_at}
+use Rattle.cpm_operations.proofs.Placing.{extent_of_file}
 
 pub reading_within : (user : ℕ) (name : List ℕ) (number : ℕ) (entries : List Entry) (n : ℕ) → user < 32 → IsSound entries → reading user name number entries ≡ Ok n → (16 ≤ n) × (n < 1944)
 reading_within user name number entries n low sound is =
@@ -25,8 +18,8 @@ reading_within user name number entries n low sound is =
     let (e, found, is_3) = bind_ok (given (find (is_extent_of user name (number / 128)) entries) fault.NoExtent) (recorded (number % 128)) n is_2 in
     let (written, is_4) = unless_ok (not (has_record e (number % 128))) fault.Unwritten (Ok (record_number e (number % 128))) n is_3 in
     let is_found = given_ok (find (is_extent_of user name (number / 128)) entries) fault.NoExtent e found in
-    let (k, is_at) = found_at (is_extent_of user name (number / 128)) entries e is_found in
-    let ext = extent_of_file user name (number / 128) e low (found_passes (is_extent_of user name (number / 128)) entries e is_found) in
+    let (k, below_k, is_at, passes) = found_at (is_extent_of user name (number / 128)) entries e is_found in
+    let ext = extent_of_file user name (number / 128) e low passes in
     let parts = and_parts (nat_lt (number % 128) e.records) (not (block e (number % 128 / 8) == 0)) (not-false (has_record e (number % 128)) written) in
     let present = eqb-false (block e (number % 128 / 8)) 0 (not-true (block e (number % 128 / 8) == 0) parts.1) in
     let rules = sound.blocks k (subst (λ x. is_extent x ≡ true) is_at ext) (number % 128 / 8) in

@@ -1,5 +1,5 @@
 -- A record is written where it keeps the rules.
-use Rattle.std.proofs.Common.{◌≡◌, ◌≢◌, ◌⊎◌, ◌<◌, ◌≤◌, ◌/◌, ◌%◌, ◌==◌, ℕ, Bool, true, false, ◌&&◌, not, List, [], ◌∷◌, length, refl, sym, ap, subst, ◌∙◌, inl, inr, arith, nat_lt, nat_eq, Option, Some, None, Ok, position, find, true≢false, eq-eqb, ltb-false}
+use Rattle.std.proofs.Common.{◌≡◌, ◌≢◌, ◌⊎◌, ◌<◌, ◌≤◌, ◌/◌, ◌%◌, ◌==◌, ℕ, Bool, true, false, ◌&&◌, not, List, length, refl, sym, ap, subst, ◌∙◌, inl, inr, arith, nat_lt, nat_eq, Option, Some, None, Ok, position, find, true≢false, eq-eqb, ltb-false}
 use Rattle.std.proofs.lemmas.Bool.{eqb-false, not-true, and_parts, and_from, cases_Bool, cases_lt}
 use Rattle.std.proofs.lemmas.List.{get_or_past}
 use Rattle.std.proofs.lemmas.List.Quantifiers.{position-Some}
@@ -13,26 +13,19 @@ use Rattle.cpm_directory.specs.Searches.{free_block, free_entry, file_is_read_on
 use Rattle.cpm_operations.specs.declared.placement.Placement.{Placement}
 use Rattle.cpm_operations.specs.Kept.{IsKeptBy}
 use Rattle.cpm_operations.specs.Steps.{block_place, extent_place, found_or_new, given, placing, unless, writing}
-use Rattle.cpm_operations.proofs.Facts.{blank_is_not_of, below_extent, found_in_range, is_of_file, none_at, of_file, set_cases, stands_in, zeros_at}
+use Rattle.cpm_operations.proofs.Facts.{blank_is_not_of, below_extent, found_at, found_in_range, is_of_file, none_at, of_file, set_cases, stands_in, zeros_at}
 use Rattle.cpm_operations.proofs.Results.{bind_ok, given_ok, unless_ok}
 use Rattle.cpm_operations.proofs.Sound.{FitsAt}
 use Rattle.cpm_operations.proofs.Keeping.{keeps_by_one, new_extent_fits}
 
 -- what is not found at all passes nowhere
-none_placed : (p : Entry → Bool) (entries : List Entry) (k : ℕ) → p blank ≡ false → position p entries ≡ None → p (at entries k) ≡ false
+pub none_placed : (p : Entry → Bool) (entries : List Entry) (k : ℕ) → p blank ≡ false → position p entries ≡ None → p (at entries k) ≡ false
 none_placed p entries k blank_not none = elim (cases_lt k (length entries)) as (λ _. p (at entries k) ≡ false) [
   | inl below ↦ elim (cases_Bool (nat_lt (position_or_len p entries) (length entries))) as (λ _. p (at entries k) ≡ false) [
     | inl found ↦ (let some = rw found at none in absurd cc)
     | inr past ↦ (let far = ltb-false (position_or_len p entries) (length entries) past in fails_before_first p entries k blank (omega arith))
   ]
   | inr past ↦ rw (get_or_past entries k blank past) blank_not
-]
-
-pub found_passes : (p : Entry → Bool) (entries : List Entry) (e : Entry) → find p entries ≡ Some e → p e ≡ true
-found_passes p [] e is = absurd cc
-found_passes p (x ∷ entries) e is = elim (cases_Bool (p x)) as (λ _. p e ≡ true) [
-  | inl passes ↦ (let found = rw passes at is in let here : x ≡ e = cc in subst (λ y. p y ≡ true) here passes)
-  | inr fails ↦ found_passes p entries e (rw fails at is)
 ]
 
 -- an entry that stands in a sound directory fits where it stands
@@ -46,7 +39,7 @@ present_fits entries k sound ext = record {
 }
 
 -- the block of a record: the one that the entry has, or one that stands nowhere
-abbrev IsBlockFor : List Entry → Entry → ℕ → ℕ → Type 0
+abbrev pub IsBlockFor : List Entry → Entry → ℕ → ℕ → Type 0
 IsBlockFor entries e group b = ((0 < b) × (block e group ≡ b))
     ⊎ ((2 ≤ b) × (b ≤ 242) × ((a : ℕ) → block e a ≡ b → ⊥) × ((k a : ℕ) → is_extent (at entries k) ≡ true → block (at entries k) a ≡ b → ⊥))
 
@@ -96,25 +89,25 @@ record_fits entries k e i b low fits place = record {
     ]
 
 -- a block that stands nowhere stands in no entry of a file
-not_taken : (entries : List Entry) (b : ℕ) → 2 ≤ b → is_taken entries b ≡ false → (k a : ℕ) → is_extent (at entries k) ≡ true → block (at entries k) a ≡ b → ⊥
+pub not_taken : (entries : List Entry) (b : ℕ) → 2 ≤ b → is_taken entries b ≡ false → (k a : ℕ) → is_extent (at entries k) ≡ true → block (at entries k) a ≡ b → ⊥
 not_taken entries b some free k a ext here =
     let p : Entry → Bool = λ e. is_extent e && list_any (λ c. nat_eq c b) e.blocks in
     true≢false (sym (and_from (is_extent (at entries k)) (list_any (λ c. nat_eq c b) (at entries k).blocks) ext (stands_in (at entries k).blocks a b (omega arith) here)) ∙ none_at p entries k refl free)
 
 -- where an extent's entry stands: it fits there, is the file's, and has no free block
-record IsPlace (user : ℕ) (name : List ℕ) (entries : List Entry) (place : ℕ × Entry) : Type 0 where
-  within : place.0 < length entries
-  fits : FitsAt entries place.0 place.1
-  full : (b a : ℕ) → 2 ≤ b → is_taken entries b ≡ false → block place.1 a ≡ b → ⊥
-  was : (is_of user name (at entries place.0) ≡ true) ⊎ (is_free (at entries place.0) ≡ true)
-  of_file : is_of user name place.1 ≡ true
+pub record IsPlace (user : ℕ) (name : List ℕ) (entries : List Entry) (place : ℕ × Entry) : Type 0 where
+  pub within : place.0 < length entries
+  pub fits : FitsAt entries place.0 place.1
+  pub full : (b a : ℕ) → 2 ≤ b → is_taken entries b ≡ false → block place.1 a ≡ b → ⊥
+  pub was : (is_of user name (at entries place.0) ≡ true) ⊎ (is_free (at entries place.0) ≡ true)
+  pub of_file : is_of user name place.1 ≡ true
 
 pub extent_of_file : (user : ℕ) (name : List ℕ) (number : ℕ) (e : Entry) → user < 32 → is_extent_of user name number e ≡ true → is_extent e ≡ true
 extent_of_file user name number e low is =
     let user_is = (of_file user name e (and_parts (is_of user name e) (e.extent == number) is).0).0 in
     below_extent e (omega arith)
 
-place_found : (user : ℕ) (name : List ℕ) (number : ℕ) (entries : List Entry) (o : Option ℕ) (place : ℕ × Entry) → user < 32 → number ≤ 31 → IsSound entries → position (is_extent_of user name number) entries ≡ o → found_or_new user name number entries o ≡ Ok place → IsPlace user name entries place
+pub place_found : (user : ℕ) (name : List ℕ) (number : ℕ) (entries : List Entry) (o : Option ℕ) (place : ℕ × Entry) → user < 32 → number ≤ 31 → IsSound entries → position (is_extent_of user name number) entries ≡ o → found_or_new user name number entries o ≡ Ok place → IsPlace user name entries place
 place_found user name number entries (Some k) place low small sound found is =
     let here = position-Some (is_extent_of user name number) entries k blank found in
     let same : ◌≡◌ {A = ℕ × Entry} (k, at entries k) place = cc in
@@ -125,7 +118,7 @@ place_found user name number entries None place low small sound none is =
     let (k, free, rest) = bind_ok (given (free_entry entries) fault.DirectoryFull) _ place is in
     let (e, first, last) = bind_ok (given (find (is_of user name) entries) fault.NotFound) _ place rest in
     let here = position-Some is_free entries k blank (given_ok (free_entry entries) fault.DirectoryFull k free) in
-    let named = (of_file user name e (found_passes (is_of user name) entries e (given_ok (find (is_of user name) entries) fault.NotFound e first))).1 in
+    let named = (of_file user name e (found_at (is_of user name) entries e (given_ok (find (is_of user name) entries) fault.NotFound e first)).3).1 in
     let same : ◌≡◌ {A = ℕ × Entry} (k, new_extent user e.name number) place = cc in
     let apart : (j : ℕ) → j ≢ k → is_extent (at entries j) ≡ true → AreSameExtent (at entries j) (new_extent user e.name number) → ⊥ =
     λ j other ext (same_user, same_name, same_number). true≢false (
@@ -139,7 +132,7 @@ place_found user name number entries None place low small sound none is =
       of_file = is_of_file user name (new_extent user e.name number) refl named;
     })
 
-block_found : (user : ℕ) (name : List ℕ) (entries : List Entry) (place : ℕ × Entry) (group : ℕ) (found : ℕ × Bool) → IsPlace user name entries place → block_place place.1 group entries ≡ Ok found → (2 ≤ found.0) × (found.0 ≤ 242) × IsBlockFor entries place.1 group found.0
+pub block_found : (user : ℕ) (name : List ℕ) (entries : List Entry) (place : ℕ × Entry) (group : ℕ) (found : ℕ × Bool) → IsPlace user name entries place → block_place place.1 group entries ≡ Ok found → (2 ≤ found.0) × (found.0 ≤ 242) × IsBlockFor entries place.1 group found.0
 unfolding free_block
 block_found user name entries place group found fits is = elim (cases_Bool (block place.1 group == 0)) as (λ _. (2 ≤ found.0) × (found.0 ≤ 242) × IsBlockFor entries place.1 group found.0) [
   | inl none ↦ (let (b, given_b, last) = bind_ok (given (free_block entries) fault.DiskFull) _ found (rw none at is) in

@@ -1,8 +1,8 @@
 //! What each operation makes of a directory.
 
-ghost use Rattle.std.specs.Prelude.{◌≡◌, ◌<◌, ◌≤◌, ◌&&◌, IfOk, OnOk, count_by, find, length};
+ghost use Rattle.std.specs.Prelude.{◌≡◌, ◌<◌, ◌≤◌, ◌/◌, ◌%◌, ◌&&◌, IfOk, OnOk, count_by, find, length};
 ghost use Rattle.std.specs.List.{list_any};
-ghost use Rattle.cpm_directory.specs.Entries.{is_extent_of, is_match, is_of, is_read_only};
+ghost use Rattle.cpm_directory.specs.Entries.{block, is_extent_of, is_match, is_of, is_read_only};
 ghost use Rattle.cpm_directory.specs.Letters.{letters};
 ghost use Rattle.cpm_directory.specs.Rules.{IsSound};
 ghost use Rattle.cpm_operations.specs.Kept.{IsKeptBy, IsPut, StaysSound};
@@ -168,7 +168,8 @@ fn block_of(entries: &[Entry], entry: &Entry, group: u8) -> Result<(u8, bool), D
 fn place(entries: &[Entry], user: u8, name: &Name, number: u32) -> Result<Placement, DiskFault>
     requires number { number ≤ 4095 }
     requires size { length entries.now ≤ 65536 }
-    ensures { result ≡ placing user name.now number entries.now }
+    ensures step { result ≡ placing user name.now number entries.now }
+    ensures placed { IfOk result (λ p. block p.entry (number % 128 / 8) ≡ p.block) }
 {
     let i = (number % 128) as u8;
     let (at, entry) = extent_of(entries, user, name, (number / 128) as u8)?;
@@ -189,7 +190,8 @@ fn write_place(
     number: u32,
 ) -> Result<Placement, DiskFault>
     requires { length entries.now ≤ 65536 }
-    ensures { result ≡ writing user name.now number entries.now }
+    ensures step { result ≡ writing user name.now number entries.now }
+    ensures placed { IfOk result (λ p. block p.entry (number % 128 / 8) ≡ p.block) }
 {
     if !is_file(entries, user, name) {
         return Err(DiskFault::NotFound);
@@ -267,6 +269,7 @@ pub fn writing(
     requires user { user < 32 }
     requires size { length entries.now ≤ 65535 }
     ensures step { result ≡ writing user name.now number entries.now }
+    ensures placed { IfOk result (λ p. block p.entry (number % 128 / 8) ≡ p.block) }
     ensures kept { IsSound entries.now → IfOk result (IsKeptBy user name.now entries.now) }
 {
     write_place(entries, user, name, number)

@@ -67,4 +67,4 @@ returns-in-Ok-clause-made g c =
     let asked = ap (creation c.args.user c.args.name.now) (sym entries) ∙ sym c.creation.ensures.step ∙ c.in_ok-number.was in
     let put = subst (λ es. IsSound es → IsPut es (c.in_ok-number.number, c.in_ok-number.entry)) entries c.in_ok-number.ensures.kept c.self.invariant.sound in
     made_file _ _ c.args.user c.args.name.now (c.in_ok-number.number, c.in_ok-number.entry) c.requires c.creation.ensures.seven put asked
-        (subst (Changed (g.S.Sectors.sectors c.self.inside.device) (g.S.Sectors.sectors c.store.new.device)) (c.in-Ok.ensures.entries ∙ ap (λ es. slice_set es c.in_ok-number.number c.in_ok-number.entry) lent) c.in-Ok.ensures.stored)
+    (subst (Changed (g.S.Sectors.sectors c.self.inside.device) (g.S.Sectors.sectors c.store.new.device)) (c.in-Ok.ensures.entries ∙ ap (λ es. slice_set es c.in_ok-number.number c.in_ok-number.entry) lent) c.in-Ok.ensures.stored)

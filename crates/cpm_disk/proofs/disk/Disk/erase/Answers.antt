@@ -61,5 +61,5 @@ pub returns-in-Ok-clause-gone : goal.returns-in-Ok-clause-gone
 returns-in-Ok-clause-gone g c = λ name matches.
     let entries = c.deref_mut.ensures.value ∙ c.self.invariant.entries_are c.if-self.false in
     let now : directory (g.S.Sectors.sectors c.change_all.new.device) ≡ after_erasure c.args.user c.args.pattern.now.name (directory (g.S.Sectors.sectors c.self.inside.device)) =
-        c.in-Ok.ensures.changed.entries_are ∙ c.in-Ok.ensures.entries ∙ ap (after_erasure c.args.user c.args.pattern.now.name) entries in
+    c.in-Ok.ensures.changed.entries_are ∙ c.in-Ok.ensures.entries ∙ ap (after_erasure c.args.user c.args.pattern.now.name) entries in
     erased_file _ (directory (g.S.Sectors.sectors c.self.inside.device)) c.args.user c.args.pattern.now.name name c.requires matches now

@@ -61,7 +61,7 @@ pub returns-in-Ok-clause-moved : goal.returns-in-Ok-clause-moved
 returns-in-Ok-clause-moved g c =
     let entries = c.deref_mut.ensures.value ∙ c.self.invariant.entries_are c.if-self.false in
     let asked : renaming c.args.user c.args.old.now c.args.new.now (directory (g.S.Sectors.sectors c.self.inside.device)) ≡ Ok tt =
-        ap (renaming c.args.user c.args.old.now c.args.new.now) (sym (c.deref.ensures.value ∙ c.self.invariant.entries_are c.if-self.false)) ∙ sym c.renaming.ensures.step ∙ c.in_ok-renaming.was in
+    ap (renaming c.args.user c.args.old.now c.args.new.now) (sym (c.deref.ensures.value ∙ c.self.invariant.entries_are c.if-self.false)) ∙ sym c.renaming.ensures.step ∙ c.in_ok-renaming.was in
     subst (λ old. IsMoved (g.S.Sectors.sectors old.device) (g.S.Sectors.sectors c.change_all.new.device) c.args.user c.args.old.now c.args.new.now) c.self.view_is
-        (renamed_file _ _ c.args.user c.args.old.now c.args.new.now c.requires c.renaming.ensures.as_long c.renaming.ensures.seven c.self.invariant.sound asked
-          (subst (Changed (g.S.Sectors.sectors c.self.inside.device) (g.S.Sectors.sectors c.change_all.new.device)) (c.in-Ok.ensures.entries ∙ ap (after_renaming c.args.user c.args.old.now c.args.new.now) entries) c.in-Ok.ensures.changed))
+    (renamed_file _ _ c.args.user c.args.old.now c.args.new.now c.requires c.renaming.ensures.as_long c.renaming.ensures.seven c.self.invariant.sound asked
+    (subst (Changed (g.S.Sectors.sectors c.self.inside.device) (g.S.Sectors.sectors c.change_all.new.device)) (c.in-Ok.ensures.entries ∙ ap (after_renaming c.args.user c.args.old.now c.args.new.now) entries) c.in-Ok.ensures.changed))

@@ -4,12 +4,13 @@ use Rattle.cpm_directory.specs.declared.fault.DiskFault.TheVariants.{Fault}
 use Rattle.cpm_directory.specs.Rules.{IsSound}
 use Rattle.cpm_operations.specs.Kept.{IsKeptBy}
 use Rattle.cpm_operations.specs.Steps.{writing}
-use Rattle.cpm_disk.specs.Files.{IsFile, OthersAreSame}
+use Rattle.cpm_disk.specs.Files.{HasRecord, IsFile, OthersAreSame}
 use Rattle.cpm_disk.specs.Image.{directory}
 use Rattle.cpm_disk.specs.Operations.{IsWritten}
 use Rattle.cpm_disk.proofs.Ending.{mounted_partly_written, mounted_written, whole, write_between}
 use Rattle.cpm_disk.proofs.Others.{whole_write, write_others}
 use Rattle.cpm_disk.proofs.Refusing.{write_refused}
+use Rattle.cpm_disk.proofs.Written.{record_written}
 use Rattle.cpm_disk.proofs.disk.Disk.write_block_of.Goals as goal
 
 pub returns-in_err-place-clause-done : goal.returns-in_err-place-clause-done
@@ -73,3 +74,13 @@ returns-in-Err-clause-others g c =
     let kept : IsKeptBy c.args.user c.args.name.now (directory (g.S.Sectors.sectors c.self.inside.device)) c.in_ok-place.place = subst (λ es. IsSound es → IsKeptBy c.args.user c.args.name.now es c.in_ok-place.place) (c.deref.ensures.value ∙ entries) c.in_ok-place.ensures.kept c.self.invariant.sound in
     subst (λ old. OthersAreSame (g.S.Sectors.sectors old.device) (g.S.Sectors.sectors c.write_all.new.device) (IsFile c.args.user c.args.name.now)) c.self.view_is
     (write_others _ _ c.in_ok-place.place _ _ c.args.user c.args.name.now c.self.invariant.sound kept c.in-Err.ensures.stopped)
+
+pub returns-in-Ok-clause-written : goal.returns-in-Ok-clause-written
+returns-in-Ok-clause-written g c =
+    let entries = c.self.invariant.entries_are c.if-self.false in
+    let asked : writing c.args.user c.args.name.now c.args.number (directory (g.S.Sectors.sectors c.self.inside.device)) ≡ Ok c.in_ok-place.place =
+    ap (writing c.args.user c.args.name.now c.args.number) (sym (c.deref.ensures.value ∙ entries)) ∙ sym c.writing.ensures.step ∙ c.in_ok-place.was in
+    let kept : IsKeptBy c.args.user c.args.name.now (directory (g.S.Sectors.sectors c.self.inside.device)) c.in_ok-place.place = subst (λ es. IsSound es → IsKeptBy c.args.user c.args.name.now es c.in_ok-place.place) (c.deref.ensures.value ∙ entries) c.in_ok-place.ensures.kept c.self.invariant.sound in
+    let sound = kept.sound _ (write_between _ _ c.in_ok-place.place _ _ (whole_write _ _ c.in_ok-place.place _ _ c.in-Ok.ensures.written)) in
+    subst (λ old. HasRecord (g.S.Sectors.sectors old.device) (g.S.Sectors.sectors c.write_all.new.device) c.args.user c.args.name.now c.args.number c.args.bytes.now) c.self.view_is
+    (record_written _ _ c.args.user c.args.name.now c.args.number c.args.bytes.now c.in_ok-place.place c.requires c.self.invariant.sound sound kept c.in_ok-place.ensures.placed asked c.in-Ok.ensures.written)

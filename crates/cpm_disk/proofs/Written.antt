@@ -1,0 +1,190 @@
+-- What becomes of a file of which a record is written.
+use Rattle.std.proofs.Common.{◌≡◌, ◌≢◌, ◌⊎◌, ◌<◌, ◌≤◌, ◌+◌, ◌*◌, ◌/◌, ◌%◌, ◌==◌, ℕ, max, Bool, true, false, ◌&&◌, not, List, find, position, replicate, slice_set, get_or-set_same, get_or-set_other, nat_lt, Option, Some, None, Ok, option_map, option_and_then, unwrap_or, refl, sym, ap, subst, ◌∙◌, inl, inr, arith, if◌then◌else◌, true≢false, eqb-true, eq-eqb, ne_eqb, ltb-false}
+use Rattle.std.proofs.lemmas.Bool.{and_from, and_parts, cases_Bool, cases_eq, eqb-false}
+use Rattle.std.proofs.lemmas.List.Quantifiers.{position-Some}
+use Rattle.cpm_directory.specs.declared.entry.Entry.{Entry}
+use Rattle.cpm_directory.specs.declared.fault.DiskFault.TheVariants as fault
+use Rattle.cpm_directory.specs.Entries.{at, blank, block, is_extent, is_extent_of, is_free, is_of, new_extent, record_number, with_record}
+use Rattle.cpm_directory.specs.Rules.{IsSound}
+use Rattle.cpm_directory.specs.Searches.{file_is_read_only, free_block, free_entry, is_file}
+use Rattle.cpm_operations.proofs.Facts.{found_at, below_extent, blank_is_not_of, of_file, zeros_at}
+use Rattle.cpm_operations.proofs.Placing.{IsBlockFor, IsPlace, block_found, none_placed, place_found}
+use Rattle.cpm_operations.proofs.Results.{bind_ok, given_ok, unless_ok}
+use Rattle.cpm_operations.specs.declared.placement.Placement.{Placement}
+use Rattle.cpm_operations.specs.Kept.{IsKeptBy}
+use Rattle.cpm_operations.specs.Steps.{block_place, extent_place, found_or_new, given, placing, unless, writing}
+use Rattle.cpm_disk.specs.Calls.{HasWritten, Written}
+use Rattle.cpm_disk.specs.Files.{HasRecord, count_of, stored, stored_in}
+use Rattle.cpm_disk.specs.Image.{Image, IsOfBlock, IsOfDirectory, SameBut, directory, record_at}
+use Rattle.cpm_disk.proofs.Files.{Alike, find_alike, same_stored}
+use Rattle.cpm_disk.proofs.Maps.{extent_found, find_none, range_of}
+use Rattle.cpm_disk.proofs.Others.{not_free}
+use Rattle.cpm_disk.proofs.Places.{length_directory}
+
+-- the entry of an extent before a write: the one that it has, or, in place of a free one, that of a new one
+abbrev Was : List Entry → ℕ → List ℕ → ℕ → ℕ × Entry → Type 0
+Was entries user name number place = ((at entries place.0 ≡ place.1) × (is_extent_of user name number place.1 ≡ true) × (find (is_extent_of user name number) entries ≡ Some place.1))
+    ⊎ ((is_free (at entries place.0) ≡ true) × (find (is_extent_of user name number) entries ≡ None) × (place.1.records ≡ 0) × ((group : ℕ) → block place.1 group ≡ 0) × (place.1.extent ≡ number))
+
+was : (user : ℕ) (name : List ℕ) (number : ℕ) (entries : List Entry) (o : Option ℕ) (place : ℕ × Entry) → user < 32 → IsSound entries → position (is_extent_of user name number) entries ≡ o → found_or_new user name number entries o ≡ Ok place → Was entries user name number place
+was user name number entries (Some k) place low sound found is =
+    let here = position-Some (is_extent_of user name number) entries k blank found in
+    let same : ◌≡◌ {A = ℕ × Entry} (k, at entries k) place = cc in
+    subst (λ (p : ℕ × Entry). Was entries user name number p) same (inl (refl, here.1, extent_found entries user name number k low sound here.0 here.1))
+was user name number entries None place low sound none is =
+    let (k, free, rest) = bind_ok (given (free_entry entries) fault.DirectoryFull) _ place is in
+    let (e, first, last) = bind_ok (given (find (is_of user name) entries) fault.NotFound) _ place rest in
+    let same : ◌≡◌ {A = ℕ × Entry} (k, new_extent user e.name number) place = cc in
+    let here = position-Some is_free entries k blank (given_ok (free_entry entries) fault.DirectoryFull k free) in
+    subst (λ (p : ℕ × Entry). Was entries user name number p) same
+    (inr (here.1, find_none (is_extent_of user name number) entries (λ j _. none_placed (is_extent_of user name number) entries j (ap (λ b. b && (0xE5 == number)) (blank_is_not_of user name low)) none), refl, (λ group. zeros_at 16 group), refl))
+
+-- the block of the record: new, or the one that the entry had
+abbrev Had : Entry → ℕ → ℕ × Bool → Type 0
+Had e group found = ((found.1 ≡ true) × (block e group ≡ 0)) ⊎ ((found.1 ≡ false) × (block e group ≡ found.0) × (0 < found.0))
+
+had : (e : Entry) (group : ℕ) (entries : List Entry) (found : ℕ × Bool) → block_place e group entries ≡ Ok found → Had e group found
+had e group entries found is = elim (cases_Bool (block e group == 0)) as (λ _. Had e group found) [
+  | inl none ↦ (let (b, given_b, last) = bind_ok (given (free_block entries) fault.DiskFull) (λ b. Ok (b, true)) found (rw none at is) in
+      let same : ◌≡◌ {A = ℕ × Bool} (b, true) found = cc in
+      subst (λ (f : ℕ × Bool). Had e group f) same (inl (refl, eqb-true (block e group) 0 none)))
+  | inr some ↦ (let same : ◌≡◌ {A = ℕ × Bool} (block e group, false) found = (let found_is = rw some at is in cc) in
+      let present = eqb-false (block e group) 0 some in
+      subst (λ (f : ℕ × Bool). Had e group f) same (inr (refl, refl, omega arith)))
+]
+
+-- no other group of the entry has the block
+alone : (user : ℕ) (name : List ℕ) (entries : List Entry) (place : ℕ × Entry) (group b : ℕ) → IsPlace user name entries place → IsBlockFor entries place.1 group b → (other : ℕ) → other ≢ group → block place.1 other ≡ b → ⊥
+alone user name entries place group b fits (inl old) other apart same = apart (sym (fits.fits.own group other (subst (λ n. 0 < n) (sym old.1) old.0) (old.1 ∙ sym same)))
+alone user name entries place group b fits (inr new) other apart same = new.2 other same
+
+-- the extent's number
+extent_is : (entries : List Entry) (user : ℕ) (name : List ℕ) (number : ℕ) (place : ℕ × Entry) → Was entries user name number place → place.1.extent ≡ number
+extent_is entries user name number place (inl old) = eqb-true place.1.extent number (and_parts (is_of user name place.1) (place.1.extent == number) old.1).1
+extent_is entries user name number place (inr new) = new.4
+
+-- what the extent counted and stored before
+count_was : (image : Image) (user : ℕ) (name : List ℕ) (number : ℕ) (place : ℕ × Entry) → Was (directory image) user name number place → unwrap_or (count_of image user name number) 0 ≡ place.1.records
+count_was image user name number place (inl old) = ap (λ o. unwrap_or (option_map (λ e. e.records) o) 0) old.2
+count_was image user name number place (inr new) = ap (λ o. unwrap_or (option_map (λ e. e.records) o) 0) new.1 ∙ sym new.2
+
+stored_was : (image : Image) (user : ℕ) (name : List ℕ) (number i : ℕ) (place : ℕ × Entry) → Was (directory image) user name number place → stored image user name number i ≡ stored_in image i place.1
+stored_was image user name number i place (inl old) = ap (option_and_then (stored_in image i)) old.2
+stored_was image user name number i place (inr new) = ap (option_and_then (stored_in image i)) new.1 ∙ sym (ap (λ b. if b == 0 then None else Some (record_at image (record_number place.1 i))) (new.3 (i / 8)))
+
+-- what an entry stores in a block that it names
+stored_there : (image : Image) (e : Entry) (i b : ℕ) → block e (i / 8) ≡ b → 0 < b → stored_in image i e ≡ Some (record_at image (8 * b + i % 8))
+stored_there image e i b is some =
+    ap (λ n. if n == 0 then None else Some (record_at image (8 * n + i % 8))) is
+    ∙ ap (λ t. if t then None else Some (record_at image (8 * b + i % 8))) (ne_eqb b 0 (λ none. omega arith))
+
+stored_not : (image : Image) (e : Entry) (i : ℕ) → block e (i / 8) ≡ 0 → stored_in image i e ≡ None
+stored_not image e i none = ap (λ n. if n == 0 then None else Some (record_at image (8 * n + i % 8))) none
+
+-- the records of the block beside the one that is written
+beside_it : (old new : Image) (user : ℕ) (name : List ℕ) (number i j b : ℕ) (is_new : Bool) (bytes : List ℕ) (place : ℕ × Entry) → Was (directory old) user name number place → Had place.1 (j / 8) (b, is_new) → j % 8 ≢ i → HasWritten old new b i is_new bytes
+    → record_at new (8 * b + j % 8) ≡ unwrap_or (stored old user name number j) (replicate 128 0)
+beside_it old new user name number i j b is_new bytes place before (inl had_none) apart made =
+    made.beside (j % 8) (omega arith) apart ∙ ap (λ t. if t then replicate 128 0 else record_at old (8 * b + j % 8)) had_none.0
+    ∙ sym (ap (λ o. unwrap_or o (replicate 128 0)) (stored_was old user name number j place before ∙ stored_not old place.1 j had_none.1))
+beside_it old new user name number i j b is_new bytes place before (inr had_it) apart made =
+    made.beside (j % 8) (omega arith) apart ∙ ap (λ t. if t then replicate 128 0 else record_at old (8 * b + j % 8)) had_it.0
+    ∙ sym (ap (λ o. unwrap_or o (replicate 128 0)) (stored_was old user name number j place before ∙ stored_there old place.1 j b had_it.1 had_it.2))
+
+-- an entry's record outside the block that is written
+other_block : (old new : Image) (e : Entry) (i b : ℕ) → ((block e (i / 8) ≡ 0 → ⊥) → (2 ≤ block e (i / 8)) × (block e (i / 8) ≤ 242)) → (block e (i / 8) ≡ b → ⊥) → SameBut (λ n. IsOfDirectory n ⊎ IsOfBlock b n) old new → stored_in new i e ≡ stored_in old i e
+other_block old new e i b range apart rest = same_stored old new e i (λ some.
+    let within = range some in
+    rest.records (record_number e i) (omega (arith, within.0, within.1)) (λ of. elim of [ inl in_directory ↦ omega (arith, within.0) | inr in_block ↦ apart (omega (arith, in_block.0, in_block.1)) ]))
+
+-- another number is another extent
+not_extent : (user : ℕ) (name : List ℕ) (number other : ℕ) (e : Entry) → e.extent ≡ number → other ≢ number → is_extent_of user name other e ≡ false
+not_extent user name number other e is apart = elim (cases_Bool (is_extent_of user name other e)) as (λ _. is_extent_of user name other e ≡ false) [
+  | inl of ↦ absurd (apart (sym (eqb-true e.extent other (and_parts (is_of user name e) (e.extent == other) of).1) ∙ is))
+  | inr not_of ↦ not_of
+]
+
+record_put : (old new : Image) (user : ℕ) (name : List ℕ) (number : ℕ) (bytes : List ℕ) (place : ℕ × Entry) (b : ℕ) (is_new : Bool) → user < 32 → IsSound (directory old) → IsSound (directory new)
+    → IsPlace user name (directory old) place → Was (directory old) user name (number / 128) place → Had place.1 (number % 128 / 8) (b, is_new) → ((other : ℕ) → other ≢ number % 128 / 8 → block place.1 other ≡ b → ⊥) → 2 ≤ b → b ≤ 242
+    → ((k group : ℕ) → k ≢ place.0 → is_extent (at (directory old) k) ≡ true → block (at (directory old) k) group ≡ b → ⊥)
+    → block (with_record place.1 (number % 128) b) (number % 128 / 8) ≡ b
+    → directory new ≡ slice_set (directory old) place.0 (with_record place.1 (number % 128) b) → HasWritten old new b (number % 8) is_new bytes → HasRecord old new user name number bytes
+record_put old new user name number bytes place b is_new low sound sound_new fits before had_block lone files small elsewhere placed is made = record {
+  count = ap (option_map (λ e. e.records)) found ∙ ap (λ n. Some (max n (number % 128 + 1))) (sym (count_was old user name (number / 128) place before));
+  here = stored_here (number % 128) ∙ stored_there new entry (number % 128) b placed (omega arith) ∙ ap (λ bs. Some bs) (ap (λ n. record_at new (8 * b + n)) (let e : number % 128 % 8 ≡ number % 8 = omega arith in e) ∙ made.here);
+  block = λ i below apart same_group. stored_here i ∙ stored_there new entry i b (ap (block entry) same_group ∙ placed) (omega arith)
+      ∙ ap (λ bs. Some bs) (beside_it old new user name (number / 128) (number % 8) i b is_new bytes place before (subst (λ g. Had place.1 g (b, is_new)) (sym same_group) had_block) (λ same. apart (omega arith)) made);
+  extent = λ i below other_group. stored_here i ∙ same_slot i other_group
+      ∙ other_block old new place.1 i b (λ some. range i some) (lone (i / 8) other_group) made.rest
+      ∙ sym (stored_was old user name (number / 128) i place before);
+  counts = λ other apart. ap (option_map (λ e. e.records)) (found_other other apart);
+  records = λ other i apart below. ap (option_and_then (stored_in new i)) (found_other other apart) ∙ by_entry other i apart (find (is_extent_of user name other) (directory old)) refl;
+}
+  where
+    entry : Entry
+    entry = with_record place.1 (number % 128) b
+
+    at_place : at (directory new) place.0 ≡ with_record place.1 (number % 128) b
+    at_place = ap (λ es. at es place.0) is ∙ get_or-set_same (directory old) place.0 (with_record place.1 (number % 128) b) blank fits.within
+
+    number_is : place.1.extent ≡ number / 128
+    number_is = extent_is (directory old) user name (number / 128) place before
+
+    is_extent_here : is_extent_of user name (number / 128) (with_record place.1 (number % 128) b) ≡ true
+    is_extent_here = and_from (is_of user name place.1) (place.1.extent == number / 128) fits.of_file (eq-eqb place.1.extent (number / 128) number_is)
+
+    found : find (is_extent_of user name (number / 128)) (directory new) ≡ Some (with_record place.1 (number % 128) b)
+    found = extent_found (directory new) user name (number / 128) place.0 low sound_new (let long = length_directory old in let long_too = length_directory new in let within = fits.within in omega arith) (subst (λ x. is_extent_of user name (number / 128) x ≡ true) (sym at_place) is_extent_here) ∙ ap (λ e. Some e) at_place
+
+    stored_here : (i : ℕ) → stored new user name (number / 128) i ≡ stored_in new i (with_record place.1 (number % 128) b)
+    stored_here i = ap (option_and_then (stored_in new i)) found
+
+    same_slot : (i : ℕ) → i / 8 ≢ number % 128 / 8 → stored_in new i (with_record place.1 (number % 128) b) ≡ stored_in new i place.1
+    same_slot i other_group = ap (λ n. if n == 0 then None else Some (record_at new (8 * n + i % 8))) (get_or-set_other place.1.blocks (number % 128 / 8) (i / 8) b 0 other_group)
+
+    range : (i : ℕ) → (block place.1 (i / 8) ≡ 0 → ⊥) → (2 ≤ block place.1 (i / 8)) × (block place.1 (i / 8) ≤ 242)
+    range i some = elim (fits.fits.blocks (i / 8)) as (λ _. (2 ≤ block place.1 (i / 8)) × (block place.1 (i / 8) ≤ 242)) [ inl none ↦ absurd (some none) | inr within ↦ within ]
+
+    not_there : (other : ℕ) → other ≢ number / 128 → is_extent_of user name other (at (directory old) place.0) ≡ false
+    not_there other apart = elim before as (λ _. is_extent_of user name other (at (directory old) place.0) ≡ false) [
+      | inl had_it ↦ subst (λ x. is_extent_of user name other x ≡ false) (sym had_it.0) (not_extent user name (number / 128) other place.1 number_is apart)
+      | inr free ↦ ap (λ t. t && ((at (directory old) place.0).extent == other)) (not_free user name (at (directory old) place.0) low free.0)
+    ]
+
+    found_other : (other : ℕ) → other ≢ number / 128 → find (is_extent_of user name other) (directory new) ≡ find (is_extent_of user name other) (directory old)
+    found_other other apart = find_alike (is_extent_of user name other) (directory old) (directory new) (length_directory new ∙ sym (length_directory old)) (λ j _. elim (cases_eq j place.0) as (λ _. Alike (is_extent_of user name other) (at (directory old) j) (at (directory new) j)) [
+      | inl here ↦ inr (
+        subst (λ n. is_extent_of user name other (at (directory old) n) ≡ false) (sym here) (not_there other apart),
+        subst (λ n. is_extent_of user name other (at (directory new) n) ≡ false) (sym here) (subst (λ x. is_extent_of user name other x ≡ false) (sym at_place) (not_extent user name (number / 128) other (with_record place.1 (number % 128) b) number_is apart)),
+      )
+      | inr away ↦ inl (ap (λ es. at es j) is ∙ get_or-set_other (directory old) place.0 j (with_record place.1 (number % 128) b) blank away)
+    ])
+
+    by_entry : (other i : ℕ) → other ≢ number / 128 → (o : Option Entry) → find (is_extent_of user name other) (directory old) ≡ o → option_and_then (stored_in new i) o ≡ option_and_then (stored_in old i) o
+    by_entry other i apart None is_none = refl
+    by_entry other i apart (Some e) is_e =
+        let (k, below_k, is_at, passes) = found_at (is_extent_of user name other) (directory old) e is_e in
+        let user_is = (of_file user name e (and_parts (is_of user name e) (e.extent == other) passes).0).0 in
+        let ext : is_extent (at (directory old) k) ≡ true = subst (λ x. is_extent x ≡ true) is_at (below_extent e (omega arith)) in
+        let away : k ≢ place.0 = λ here. true≢false (sym (subst (λ x. is_extent_of user name other x ≡ true) is_at passes) ∙ subst (λ n. is_extent_of user name other (at (directory old) n) ≡ false) (sym here) (not_there other apart)) in
+        other_block old new e i b (λ some. range_of (directory old) k e sound is_at (omega arith) (i / 8) some) (λ same. elsewhere k (i / 8) away ext (ap (λ x. block x (i / 8)) (sym is_at) ∙ same)) made.rest
+
+pub record_written : (old new : Image) (user : ℕ) (name : List ℕ) (number : ℕ) (bytes : List ℕ) (p : Placement) → user < 32 → IsSound (directory old) → IsSound (directory new) → IsKeptBy user name (directory old) p
+    → block p.entry (number % 128 / 8) ≡ p.block → writing user name number (directory old) ≡ Ok p → Written old new p (number % 8) bytes → HasRecord old new user name number bytes
+record_written old new user name number bytes p low sound sound_new kept placed asked made =
+    let (there, is_1) = unless_ok (not (is_file user name (directory old))) fault.NotFound (unless (file_is_read_only user name (directory old)) fault.ReadOnly (unless (nat_lt 4095 number) fault.TooFar (placing user name number (directory old)))) p asked in
+    let (open_to, is_2) = unless_ok (file_is_read_only user name (directory old)) fault.ReadOnly (unless (nat_lt 4095 number) fault.TooFar (placing user name number (directory old))) p is_1 in
+    let (near, is_3) = unless_ok (nat_lt 4095 number) fault.TooFar (placing user name number (directory old)) p is_2 in
+    let (place, is_place, is_4) = bind_ok (extent_place user name (number / 128) (directory old)) _ p is_3 in
+    let (found, in_block, is_5) = bind_ok (block_place place.1 (number % 128 / 8) (directory old)) _ p is_4 in
+    let below = ltb-false 4095 number near in
+    let fits = place_found user name (number / 128) (directory old) (position (is_extent_of user name (number / 128)) (directory old)) place low (omega arith) sound refl is_place in
+    let blocks = block_found user name (directory old) place (number % 128 / 8) found fits in_block in
+    let same : ◌≡◌ {A = Placement} p (record { number = place.0; entry = with_record place.1 (number % 128) found.0; block = found.0; is_new = found.1 }) = cc in
+    record_put old new user name number bytes place found.0 found.1 low sound sound_new fits
+    (was user name (number / 128) (directory old) (position (is_extent_of user name (number / 128)) (directory old)) place low sound refl is_place)
+    (had place.1 (number % 128 / 8) (directory old) found in_block) (alone user name (directory old) place (number % 128 / 8) found.0 fits blocks.2) blocks.0 blocks.1
+    (subst (λ (q : Placement). (k group : ℕ) → k ≢ q.number → is_extent (at (directory old) k) ≡ true → block (at (directory old) k) group ≡ q.block → ⊥) same kept.apart)
+    (subst (λ (q : Placement). block q.entry (number % 128 / 8) ≡ q.block) same placed)
+    (made.entries_are ∙ ap (λ (q : Placement). slice_set (directory old) q.number q.entry) same)
+    (subst (λ (q : Placement). HasWritten old new q.block (number % 8) q.is_new bytes) same made.data_are)
