@@ -7,7 +7,7 @@ use Rattle.asm_scan.specs.declared.token.Mark.{Mark}
 use Rattle.asm_scan.specs.declared.token.Mark.TheVariants.{Comma, Colon}
 use Rattle.asm_scan.specs.declared.token.Token.{Token}
 use Rattle.asm_scan.specs.Tokens.{Lexeme, lexemes}
-use Rattle.z80_table.specs.Types.{Instr}
+use Rattle.z80_instr.specs.declared.Instr.{Instr}
 use Rattle.asm_stmt.specs.declared.fault.StmtFault.{StmtFault}
 use Rattle.asm_stmt.specs.declared.fault.StmtFault.TheVariants.{UnknownWord, BadOperands, ReservedName, NoMemory}
 use Rattle.asm_stmt.specs.declared.form.Field.{Field}

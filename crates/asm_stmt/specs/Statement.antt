@@ -1,8 +1,8 @@
 -- Statements and lines, without where they lie in memory.
 use Rattle.std.specs.Prelude.{ℕ, ◌≤◌, List, Option, vec_len}
 use Rattle.std.specs.Option.{option_map}
-use Rattle.z80_table.specs.Types.{Instr}
-use Rattle.z80_table.specs.Types.{ShortCond}
+use Rattle.z80_instr.specs.declared.Instr.{Instr}
+use Rattle.z80_instr.specs.declared.ShortCond.{ShortCond}
 use Rattle.asm_stmt.specs.declared.form.Field.{Field}
 use Rattle.asm_stmt.specs.declared.form.Branch.{Branch}
 use Rattle.asm_stmt.specs.declared.form.Body.{Body}

@@ -1,6 +1,6 @@
 //! The forms of a line.
 
-use z80_table::{Instr, ShortCond};
+use z80_instr::{Instr, ShortCond};
 
 /// How a jump that is always short branches.
 #[derive(Clone, Copy, Debug, PartialEq, Eq)]

@@ -14,7 +14,7 @@ use crate::names::{Word, word_named};
 use asm_parse::is_reserved;
 use asm_scan::{Kind, Mark, Token};
 use std::alloc::Global;
-use z80_table::Instr;
+use z80_instr::Instr;
 
 /// The numbers of a `DB`, which commas divide.
 fn bytes_of(alloc: Global, operands: &[Token<'_>]) -> Result<Vec<Field>, StmtFault>

@@ -1,2 +1,5 @@
+pub mod Streams
+pub mod Names
 pub mod Pipe
 pub mod Verdict
+pub mod Private

@@ -1,20 +1,20 @@
 //! Why nothing is printed.
 
-ghost use Rattle.std.specs.Prelude.{◌≡◌};
+ghost use Rattle.std.specs.Prelude.{◌≡◌, Ok, Err};
 ghost use Rattle.z80dev.specs.Pipe.{status_of};
 ghost use Rattle.z80dev.specs.declared.fault.Fault.TheVariants as fault;
 ghost use Rattle.zlink.specs.declared.fault.LinkFault.TheVariants as link;
 ghost use Rattle.zlink.specs.declared.fault.BuildFault.TheVariants as build;
 
-use certificate::Verdict;
+use crate::names::why_name;
 use std::alloc::AllocError;
 use std::fmt;
-use zlink::{AsmFault, BuildFault, LinkFault, Why};
+use zlink::{BuildFault, LinkFault, Misfit};
 
-/// The exit status where a file is printed.
+/// The exit status where all is done.
 pub const DONE: u8 = 0;
 
-/// The exit status where the text is refused, or memory runs out.
+/// The exit status where what was read is refused, or memory runs out.
 pub const REFUSED: u8 = 1;
 
 /// The exit status where the words of the command are wrong.
@@ -63,31 +63,27 @@ impl Fault {
     }
 }
 
-/// The line that is printed, after `error: `: a fault of the source as `MAIN(LINE): NAME`, any other by its name.
-/// A name is that of the innermost variant, with its number in parentheses.
+/// What is printed after `error: `: a fault of the source as `MAIN(LINE): NAME`, any other by its name. A name is that of
+/// the innermost variant, with its number in parentheses.
 impl fmt::Display for Fault {
+    ghost use Rattle.std.specs.Prelude.{Some};
+    ghost use Rattle.z80dev.specs.Names.{fault_text};
+
+    ghost output = { λ fault. Some (fault_text fault) };
+
     fn fmt<W: fmt::Write>(&self, f: &mut fmt::Formatter<W>) -> fmt::Result {
         match self {
-            Fault::File => write!(f, "file {SOURCE_NAME}"),
-            Fault::Build(BuildFault::Asm { fault, .. }) => write_asm_fault(f, fault),
-            Fault::Build(BuildFault::Link(LinkFault::NoFit { why, .. })) => write_verdict(f, *why),
+            Fault::File => f.write_str("file MAIN"),
+            Fault::Build(BuildFault::Asm { fault, .. }) => {
+                let line = fault.line;
+                let name = why_name(fault.why);
+                write!(f, "MAIN({line}): {name}")
+            }
+            Fault::Build(BuildFault::Link(LinkFault::NoFit { why, .. })) => match why {
+                Misfit::Range(statement) => write!(f, "Range({statement})"),
+                Misfit::TooLarge(total) => write!(f, "Size({total})"),
+            },
             Fault::Build(BuildFault::Link(LinkFault::NoMemory)) => f.write_str("NoMemory"),
         }
-    }
-}
-
-fn write_asm_fault<W: fmt::Write>(f: &mut fmt::Formatter<W>, fault: &AsmFault) -> fmt::Result {
-    write!(f, "{SOURCE_NAME}({}): ", fault.line)?;
-    match fault.why {
-        Why::Scan(why) => write!(f, "{why:?}"),
-        Why::Stmt(why) => write!(f, "{why:?}"),
-        why => write!(f, "{why:?}"),
-    }
-}
-
-fn write_verdict<W: fmt::Write>(f: &mut fmt::Formatter<W>, why: Verdict) -> fmt::Result {
-    match why {
-        Verdict::TooLarge(size) => write!(f, "Size({size})"),
-        Verdict::Best(_) | Verdict::Range(_) => write!(f, "{why:?}"),
     }
 }

@@ -3,15 +3,16 @@
 
 mod fault;
 mod input;
+mod names;
+mod output;
 mod print;
 mod text;
 mod verdict;
-mod watched;
 
 pub use fault::{DONE, FILE_FAULT, Fault, REFUSED, USAGE};
-pub use input::Input;
+pub use input::{Bytes, Input, ReadFault, Watched};
+pub use output::{Output, WriteFailed};
 pub use print::{pipe, print_file};
-pub use text::read_text;
+pub use text::{READ_LIMIT, TEXT_LIMIT, read_text};
 pub use verdict::{VerdictFault, check_texts};
-pub use watched::Watched;
 pub use z80dev_commands::{Job, commands};

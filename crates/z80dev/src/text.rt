@@ -1,33 +1,40 @@
 //! Reading a source text, with a bound on how much and how often.
 
-ghost use Rattle.std.specs.Prelude.{◌≡◌, ◌≤◌, IfErr, IfOk, OnOk, length};
+ghost use Rattle.std.specs.Prelude.{◌≡◌, ◌≤◌, false, IfErr, IfOk, OnOk, length};
 ghost use Rattle.std.specs.Io.KnownBytes.{Consumes, IsAtEnd};
-ghost use Rattle.z80dev.specs.Pipe.{IsUnread};
+ghost use Rattle.z80dev.specs.Pipe.{IsWithin};
+ghost use Rattle.z80dev.specs.declared.text.TheConstants.{READ_LIMIT};
+ghost use Rattle.z80dev.specs.Private.Steps.{IsUnread};
 
 use crate::fault::Fault;
-use crate::input::Input;
+use crate::input::{Input, ReadFault};
 use std::alloc::Global;
-use std::io::ErrorKind;
 
 /// How many bytes a source text has at most.
-const TEXT_LIMIT: usize = 16_777_216;
+pub const TEXT_LIMIT: usize = 16_777_216;
 
 /// How often a reader is asked at most.
-const READ_LIMIT: usize = TEXT_LIMIT + 1;
+pub const READ_LIMIT: usize = 16_777_217;
 
 /// How many bytes are asked for at once.
 const CHUNK: usize = 8192;
 
-/// Reads a text to its end, of at most 16,777,216 bytes, by at most 16,777,217 reads.
+/// Reads a text to its end, of at most [`TEXT_LIMIT`] bytes, by at most [`READ_LIMIT`] reads.
+///
+/// A read that a signal interrupts is tried again; one that fails is not.
 ///
 /// # Errors
 ///
-/// [`Fault::File`] where a read fails, the text is longer, or its end is not met by then; want of memory.
+/// [`Fault::File`] where a read fails, the text is longer, or its end is not met by then; [`Fault::Build`] where memory runs
+/// out.
 pub fn read_text<I: Input>(alloc: Global, input: &mut I) -> Result<Vec<u8>, Fault>
-    ensures limit { IfOk result (λ text. length text.items ≤ 16777216) }
+    requires sound { I.failed input.old ≡ false }
+    requires unread { I.reads input.old ≡ 0 }
+    ensures limit { IfOk result (λ text. IsWithin text.items) }
     ensures text { IfOk result (λ text. Consumes (I.remaining input.old) (I.remaining input.new) text.items) }
     ensures end { OnOk result (IsAtEnd (I.remaining input.new)) }
-    ensures err { IfErr result (IsUnread (I.remaining input.old) (I.failed input.new)) }
+    ensures err { IfErr result (IsUnread (I.remaining input.old) (I.failed input.new) (I.reads input.new)) }
+    ensures reads { I.reads input.new ≤ READ_LIMIT }
 {
     let mut text = Vec::new(alloc);
     let mut chunk = [0; CHUNK];
@@ -36,8 +43,8 @@ pub fn read_text<I: Input>(alloc: Global, input: &mut I) -> Result<Vec<u8>, Faul
             Ok(0) => return Ok(text),
             Ok(count) if count > TEXT_LIMIT - text.len() => return Err(Fault::File),
             Ok(count) => text.extend_from_slice(&chunk[..count])?,
-            Err(error) if error.kind() == ErrorKind::Interrupted => {}
-            Err(_) => return Err(Fault::File),
+            Err(ReadFault::Interrupted) => {}
+            Err(ReadFault::Failed) => return Err(Fault::File),
         }
     }
     Err(Fault::File)

@@ -5,7 +5,9 @@ use clap::Error;
 use clap::error::ErrorKind;
 use std::process::ExitCode;
 use std::{env, fs, io};
-use z80dev::{DONE, Fault, Job, REFUSED, USAGE, Watched, check_texts, commands, pipe, read_text};
+use z80dev::{
+    DONE, Fault, Job, Output, REFUSED, USAGE, Watched, check_texts, commands, pipe, read_text,
+};
 
 /// The words that the program was called with, its name first.
 fn words_of(rt: &HostRuntime) -> io::Result<Vec<String>> {
@@ -53,21 +55,23 @@ fn check_files(rt: &HostRuntime, sizes: &str, cert: &str) -> u8 {
         Ok(text) => text,
         Err(fault) => return refuse_file(rt, cert, &fault),
     };
-    let mut output = Watched::new(rt.stdout());
+    let mut output = Output::new(rt.stdout());
+    let mut errors = Output::new(rt.stderr());
     check_texts(
         rt.alloc(),
         &sizes_text,
         &cert_text,
         &mut output,
-        &mut rt.stderr(),
+        &mut errors,
     )
 }
 
 /// Prints the file of the text on standard input.
 fn print_file(rt: &HostRuntime) -> u8 {
     let mut input = Watched::new(rt.stdin());
-    let mut output = Watched::new(rt.stdout());
-    pipe(rt.alloc(), &mut input, &mut output, &mut rt.stderr())
+    let mut output = Output::new(rt.stdout());
+    let mut errors = Output::new(rt.stderr());
+    pipe(rt.alloc(), &mut input, &mut output, &mut errors)
 }
 
 fn main(rt: HostRuntime) -> ExitCode {

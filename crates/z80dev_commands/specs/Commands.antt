@@ -1,8 +1,10 @@
 -- The words that the command takes, and which job they ask for.
-use Rattle.std.specs.Prelude.{◌≡◌, true, List, [], ◌∷◌, None, Some, codes, unwrap_or}
-use Rattle.clap.specs.Words.{App, Row, Rule, Shape, Text, first_of, new_rule, subcommand_of, with_subcommand}
+use Rattle.std.specs.Prelude.{◌≡◌, ◌⊎◌, true, List, [], ◌∷◌, None, Some, codes}
+use Rattle.clap.specs.Words.{App, IsAmong, Row, Rule, Shape, Text, fault_of, first_of, new_rule, subcommand_of, with_subcommand}
 use Rattle.clap.specs.Simple.{new_shape}
 use Rattle.clap.specs.declared.builder.action.ArgAction.TheVariants.{Set}
+use Rattle.clap.specs.declared.error.kind.ErrorKind.{ErrorKind}
+use Rattle.clap.specs.declared.error.kind.ErrorKind.TheVariants as kind
 use Rattle.z80dev_commands.specs.declared.Job.{Job}
 use Rattle.z80dev_commands.specs.declared.Job.TheVariants.{Pipe, Check}
 
@@ -14,21 +16,33 @@ path_rule name = record (new_rule name) { required = true; action = Some Set }
 abbrev pub check_shape : Shape
 check_shape = record (new_shape (codes "check")) { rules = path_rule (codes "SIZES") ∷ path_rule (codes "CERT") ∷ [] }
 
--- the command's own words: none
+-- the command's own words: its help and its version
 abbrev pub bare : App
-bare = record { top = record (new_shape (codes "z80dev")) { disable_help_subcommand = true }; subs = [] }
+bare = record { top = record (new_shape (codes "z80dev")) { disable_help_subcommand = true; has_version = true }; subs = [] }
 
 -- the command
 abbrev pub z80dev : App
 z80dev = with_subcommand bare check_shape
 
--- the value that a parse found for a name
-abbrev pub found : List Row → Text → Text
-found rows name = unwrap_or (first_of name rows) []
+-- a parse of the words succeeds
+abbrev pub IsParsed : List Text → Type 0
+IsParsed words = fault_of z80dev words ≡ []
 
--- The job is that of the command which the words name, with the values that the parse found.
+-- the words name the command `check`, and these are the values that the parse finds
+abbrev pub Checks : List Text → List Row → Type 0
+Checks words rows = subcommand_of z80dev words ≡ Some (codes "check", rows)
+
+-- The parse succeeds, and the job is that of the command which the words name, with the values that the parse finds.
 abbrev pub IsJob : List Text → Job → Type 0
-IsJob words Pipe = subcommand_of z80dev words ≡ None
-IsJob words (Check sizes cert) =
-    (rows : List Row) × (subcommand_of z80dev words ≡ Some (codes "check", rows))
-    × (sizes.now ≡ found rows (codes "SIZES")) × (cert.now ≡ found rows (codes "CERT"))
+IsJob words Pipe = IsParsed words × (subcommand_of z80dev words ≡ None)
+IsJob words (Check sizes cert) = IsParsed words
+    × ((rows : List Row) × Checks words rows × (first_of (codes "SIZES") rows ≡ Some sizes.now) × (first_of (codes "CERT") rows ≡ Some cert.now))
+
+-- The words name `check`, and the parse finds no value for one of its paths.
+abbrev pub LacksPath : List Text → Type 0
+LacksPath words = (rows : List Row) × Checks words rows × ((first_of (codes "SIZES") rows ≡ None) ⊎ (first_of (codes "CERT") rows ≡ None))
+
+-- Why there is no job: memory ran out; or the parse fails, by a fault of this kind; or a path lacks, which is a fault of usage.
+abbrev pub IsRefusal : List Text → ErrorKind → Type 0
+IsRefusal words why =
+    (why ≡ kind.OutOfMemory) ⊎ (IsAmong why (fault_of z80dev words) ⊎ (IsParsed words × LacksPath words × (why ≡ kind.MissingRequiredArgument)))

@@ -1,9 +1,12 @@
 -- What `build` answers, of one source.
-use Rattle.std.specs.Prelude.{◌≡◌, ℕ, ◌<◌, ◌≤◌, List, Result, Ok, Err}
-use Rattle.certificate.specs.declared.cert.Verdict.{Verdict}
-use Rattle.certificate.specs.declared.cert.Verdict.TheVariants as verdict
-use Rattle.ruler.specs.Choice.{Choice, IsBest, IsValid, IsSettled, IsShort, Reaches, total}
+use Rattle.std.specs.Prelude.{◌≡◌, ℕ, List, Result, Ok, Err}
+use Rattle.relax.specs.declared.growth.Verdict.{Verdict}
+use Rattle.relax.specs.declared.growth.Verdict.TheVariants.{Best, Range, TooLarge}
+use Rattle.ruler.specs.Choice.{Choice, IsValid, total}
+use Rattle.relax.specs.Growth.{Holds, IsLeastFirst, after}
 use Rattle.asm_stmt.specs.Statement.{Statement}
+use Rattle.zlink.specs.declared.fault.Misfit.{Misfit}
+use Rattle.zlink.specs.declared.fault.Misfit.TheVariants as misfit
 use Rattle.zlink.specs.declared.fault.LinkFault.{LinkFault}
 use Rattle.zlink.specs.declared.fault.LinkFault.TheVariants as link
 use Rattle.zlink.specs.declared.fault.BuildFault.{BuildFault}
@@ -13,42 +16,46 @@ use Rattle.zlink.specs.Source.{Assembles}
 use Rattle.zlink.specs.Reads.{Reads, shape}
 use Rattle.zlink.specs.Certified.{IsCertified}
 
--- The file reads as the text's program, under a choice that is best over all choices; and the two texts certify that no
--- choice of the program's jumps that fits takes fewer bytes than the file.
-pub record IsBuilt (text file sizes cert : List ℕ) : Type 0 where
-  pub program : List (Statement ℕ)
-  pub assembles : Assembles text (Ok program)
-  pub choice : Choice
-  pub reads : Reads file program choice
-  pub best : IsBest choice (shape program)
-  pub certified : IsCertified program sizes cert (verdict.Best (total choice (shape program)))
+-- How a program's jumps are chosen, and what is said of it. Jumps are made long in the least-first order: the lowest short
+-- jump that does not reach its target each time, until none is left. The verdict holds of the choice after that order, over
+-- all choices. And the two texts certify that order and that verdict.
+pub record IsJudged (program : List (Statement ℕ)) (order : List ℕ) (v : Verdict) (sizes cert : List ℕ) : Type 0 where
+  pub least_first : IsLeastFirst (shape program) order
+  pub verdict : Holds (after order) (shape program) v
+  pub certified : IsCertified (shape program) order v sizes cert
 
--- A statement that is always short is out of range in every settled choice, or every settled choice has this many bytes at least, too many.
-abbrev pub IsWhy : List (Statement ℕ) → Verdict → Type 0
-IsWhy program (verdict.Best n) = ⊥
-IsWhy program (verdict.Range k) = (target : ℕ) × IsShort (shape program) k target × ((c : Choice) → IsSettled c (shape program) → ¬ Reaches c (shape program) k target)
-IsWhy program (verdict.TooLarge n) = (64512 < n) × ((c : Choice) → IsSettled c (shape program) → n ≤ total c (shape program))
+-- The file reads as the program under the choice after the least-first order, than which no choice that fits takes fewer
+-- bytes; and the two texts certify that.
+pub record IsFile (program : List (Statement ℕ)) (file sizes cert : List ℕ) : Type 0 where
+  pub order : List ℕ
+  pub judged : IsJudged program order (Best (total (after order) (shape program))) sizes cert
+  pub reads : Reads file program (after order)
 
--- No choice makes a file of the text's program, and why; and the two texts certify it.
-pub record IsUnfit (text : List ℕ) (why : Verdict) (sizes cert : List ℕ) : Type 0 where
-  pub program : List (Statement ℕ)
-  pub assembles : Assembles text (Ok program)
+-- why no choice fits, as a verdict
+abbrev pub verdict_of : Misfit → Verdict
+verdict_of (misfit.Range k) = Range k
+verdict_of (misfit.TooLarge n) = TooLarge n
+
+-- No choice makes a file of the program: a jump that is always short, the lowest, reaches its target in none, or all reach
+-- theirs and every choice takes too many bytes; and the two texts certify that.
+pub record IsUnfit (program : List (Statement ℕ)) (why : Misfit) (sizes cert : List ℕ) : Type 0 where
+  pub order : List ℕ
+  pub judged : IsJudged program order (verdict_of why) sizes cert
   pub none : (c : Choice) → ¬ IsValid c (shape program)
-  pub because : IsWhy program why
-  pub certified : IsCertified program sizes cert why
 
 -- what linking a program answers, but for memory
 abbrev pub IsLinked : List (Statement ℕ) → Result Built LinkFault → Type 0
-IsLinked program (Ok built) =
-    (c : Choice) × Reads built.com.items program c × IsBest c (shape program)
-    × IsCertified program built.sizes.items built.cert.items (verdict.Best (total c (shape program)))
-IsLinked program (Err (link.NoFit why sizes cert)) =
-    ((c : Choice) → ¬ IsValid c (shape program)) × IsWhy program why × IsCertified program sizes.items cert.items why
+IsLinked program (Ok built) = IsFile program built.com.items built.sizes.items built.cert.items
+IsLinked program (Err (link.NoFit why sizes cert)) = IsUnfit program why sizes.items cert.items
 IsLinked program (Err link.NoMemory) = Unit {0}
+
+-- the text's program is linked so
+abbrev pub Links : List ℕ → (List (Statement ℕ) → Type 0) → Type 0
+Links text P = (program : List (Statement ℕ)) × Assembles text (Ok program) × P program
 
 -- the answer for one text, but for memory
 abbrev pub IsAnswer : List ℕ → Result Built BuildFault → Type 0
-IsAnswer text (Ok built) = IsBuilt text built.com.items built.sizes.items built.cert.items
+IsAnswer text (Ok built) = Links text (λ program. IsFile program built.com.items built.sizes.items built.cert.items)
 IsAnswer text (Err (fault.Asm source fault)) = (source ≡ 0) × Assembles text (Err fault)
-IsAnswer text (Err (fault.Link (link.NoFit why sizes cert))) = IsUnfit text why sizes.items cert.items
+IsAnswer text (Err (fault.Link (link.NoFit why sizes cert))) = Links text (λ program. IsUnfit program why sizes.items cert.items)
 IsAnswer text (Err (fault.Link link.NoMemory)) = Unit {0}

@@ -8,10 +8,8 @@ use Rattle.certificate.specs.declared.shape.Statement.{Statement as Told}
 use Rattle.certificate.specs.declared.shape.Statement.TheVariants as telling
 use Rattle.certificate.specs.declared.cert.Verdict.{Verdict}
 use Rattle.certificate.specs.declared.cert.Verdict.TheVariants as verdict
-use Rattle.certificate.specs.Texts.{sizes_text}
+use Rattle.certificate.specs.Texts.{cert_text, sizes_text}
 use Rattle.certificate.specs.Accepts.{Accepts}
-use Rattle.asm_stmt.specs.Statement.{Statement}
-use Rattle.zlink.specs.Reads.{shape}
 
 -- The linker and the checker share no types, so what is said of sizes is told again in the checker's.
 
@@ -27,16 +25,9 @@ told_verdict (growing.Best n) = verdict.Best n
 told_verdict (growing.Range k) = verdict.Range k
 told_verdict (growing.TooLarge n) = verdict.TooLarge n
 
--- the program's own shape, as its sizes text tells it
-abbrev pub told_shape : List (Statement ℕ) → List Told
-told_shape program = map told (shape program)
-
--- The first text is the one text of the program's own shape, and the checker's rule accepts both with this verdict.
-pub record IsCertified (program : List (Statement ℕ)) (sizes cert : List ℕ) (v : Verdict) : Type 0 where
-  pub own : sizes ≡ sizes_text (told_shape program)
-  pub accepted : Accepts sizes cert v
-
--- Private: the same of a shape.
-pub record IsCertificate (shape : List Sized) (sizes cert : List ℕ) (v : Verdict) : Type 0 where
+-- The first text is the one text of the shape, the second is that of the order with its verdict, and the checker's rule
+-- accepts both with this verdict.
+pub record IsCertified (shape : List Sized) (order : List ℕ) (v : Growing) (sizes cert : List ℕ) : Type 0 where
   pub own : sizes ≡ sizes_text (map told shape)
-  pub accepted : Accepts sizes cert v
+  pub spelled : cert ≡ cert_text order (told_verdict v)
+  pub accepted : Accepts sizes cert (told_verdict v)

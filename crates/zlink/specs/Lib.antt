@@ -1,12 +1,8 @@
 pub mod Lines
 pub mod Labels
-pub mod Faults
 pub mod Program
 pub mod Source
-pub mod FirstPass
-pub mod SecondPass
 pub mod Reads
-pub mod Layout
-pub mod Emit
 pub mod Certified
 pub mod Built
+pub mod Private

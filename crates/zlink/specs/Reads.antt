@@ -1,9 +1,11 @@
 -- When a file reads as a program, statement by statement.
 use Rattle.std.specs.Prelude.{◌≡◌, ℕ, ◌+◌, Bool, List, Option, Some, None, length, map, replicate, slice_get, slice_range, ℤ, pos, ◌+ℤ◌}
 use Rattle.std.specs.Bool.{MatchBool}
-use Rattle.z80_table.specs.Types.{Instr, Cond, ShortCond}
-use Rattle.z80_table.specs.Table.{canonical}
-use Rattle.z80_table.specs.Codes.{Codes}
+use Rattle.z80_instr.specs.declared.Instr.{Instr}
+use Rattle.z80_instr.specs.declared.Cond.{Cond}
+use Rattle.z80_instr.specs.declared.ShortCond.{ShortCond}
+use Rattle.z80_instr.specs.Table.{canonical}
+use Rattle.z80_instr.specs.Codes.{Codes}
 use Rattle.ruler.specs.declared.shape.Statement.{Statement as Sized}
 use Rattle.ruler.specs.declared.shape.Statement.TheVariants as sized
 use Rattle.ruler.specs.Choice.{Choice, bytes_before, place, total}

@@ -1,7 +1,7 @@
 //! From one source text to a program.
 
 ghost use Rattle.std.specs.Prelude.{◌≤◌, length};
-ghost use Rattle.zlink.specs.SecondPass.{IsAssembled};
+ghost use Rattle.zlink.specs.Private.SecondPass.{IsAssembled};
 
 use crate::fault::AsmStop;
 use crate::first_pass::first_pass;

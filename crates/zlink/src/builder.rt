@@ -6,12 +6,12 @@ ghost use Rattle.zlink.specs.declared.source.Source.{Source};
 ghost use Rattle.zlink.specs.Source.{Assembles};
 ghost use Rattle.zlink.specs.Built.{IsAnswer, IsLinked};
 ghost use Rattle.zlink.specs.Program.{IsProgram};
-ghost use Rattle.zlink.specs.SecondPass.{statement_in};
+ghost use Rattle.zlink.specs.Private.SecondPass.{statement_in};
 
 use crate::assemble::assemble;
-use crate::certify::{Texts, certify, tell_verdict};
+use crate::certify::{Texts, certify};
 use crate::emit::emit;
-use crate::fault::{AsmStop, BuildFault, LinkFault};
+use crate::fault::{AsmStop, BuildFault, LinkFault, Misfit};
 use crate::laws::one_answer;
 use crate::layout::{places_of, shape_of};
 use crate::source::{Built, Source};
@@ -27,13 +27,23 @@ fn link(alloc: Global, program: &[Body<u32>]) -> Result<Built, LinkFault>
     let shape = shape_of(alloc, program)?;
     let growth = least(alloc, &shape)?;
     let Texts { sizes, cert } = certify(alloc, &shape, &growth)?;
-    if let Verdict::Range(_) | Verdict::TooLarge(_) = growth.verdict {
-        let why = tell_verdict(growth.verdict);
-        return Err(LinkFault::NoFit { why, sizes, cert });
+    match growth.verdict {
+        Verdict::Best(_) => {
+            let places = places_of(alloc, shape.statements(), &growth.long)?;
+            let com = emit(alloc, program, &places, &growth.long)?;
+            Ok(Built { com, sizes, cert })
+        }
+        Verdict::Range(statement) => Err(LinkFault::NoFit {
+            why: Misfit::Range(statement),
+            sizes,
+            cert,
+        }),
+        Verdict::TooLarge(total) => Err(LinkFault::NoFit {
+            why: Misfit::TooLarge(total),
+            sizes,
+            cert,
+        }),
     }
-    let places = places_of(alloc, shape.statements(), &growth.long)?;
-    let com = emit(alloc, program, &places, &growth.long)?;
-    Ok(Built { com, sizes, cert })
 }
 
 /// The file of one text, or its fault.

@@ -4,7 +4,7 @@ ghost use Rattle.std.specs.Prelude.{◌≡◌, IfOk, map};
 ghost use Rattle.ruler.specs.Choice.{IsShape};
 ghost use Rattle.relax.specs.Growth.{IsGrowth};
 ghost use Rattle.certificate.specs.Choice.{IsShape as IsToldShape};
-ghost use Rattle.zlink.specs.Certified.{IsCertificate, told, told_verdict};
+ghost use Rattle.zlink.specs.Certified.{IsCertified, told, told_verdict};
 
 use certificate::{Cert, NoMemory, print_cert, print_sizes};
 use relax::Growth;
@@ -29,7 +29,7 @@ fn tell(statement: relax::Statement) -> certificate::Statement
 }
 
 /// A verdict, as a certificate tells it.
-pub(crate) fn tell_verdict(verdict: relax::Verdict) -> certificate::Verdict
+fn tell_verdict(verdict: relax::Verdict) -> certificate::Verdict
     ensures { result ≡ told_verdict verdict }
 {
     match verdict {
@@ -57,7 +57,7 @@ pub(crate) fn certify(
     growth: &Growth,
 ) -> Result<Texts, NoMemory>
     requires { IsGrowth shape.now growth.now }
-    ensures { IfOk result (λ t. IsCertificate shape.now t.sizes.items t.cert.items (told_verdict growth.now.verdict)) }
+    ensures { IfOk result (λ t. IsCertified shape.now growth.now.order.items growth.now.verdict t.sizes.items t.cert.items) }
 {
     let told = tell_shape(alloc, shape)?;
     let cert = Cert {

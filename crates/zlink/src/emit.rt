@@ -3,18 +3,19 @@
 ghost use Rattle.std.specs.Prelude.{◌≡◌, ◌≤◌, ◌<◌, ◌+◌, ◌++◌, ℕ, ℤ, pos, FitsSigned, ◌+ℤ◌, ◌^◌, length, map, replicate, true, false, slice_index, IfOk, OnOk};
 ghost use Rattle.std.specs.Int.{w8};
 ghost use Rattle.ruler.specs.Choice.{chosen, IsNear, IsValid};
-ghost use Rattle.z80_table.specs.Table.{canonical};
-ghost use Rattle.z80_table.specs.Codes.{Codes};
+ghost use Rattle.z80_instr.specs.Table.{canonical};
+ghost use Rattle.z80_instr.specs.Codes.{Codes};
 ghost use Rattle.zlink.specs.Reads.{field_byte, long_jump, shape, short_jump, widened, LeadsTo, Reads};
-ghost use Rattle.zlink.specs.SecondPass.{statement_in};
+ghost use Rattle.zlink.specs.Private.SecondPass.{statement_in};
 ghost use Rattle.std.specs.List.{list_all};
 ghost use Rattle.zlink.specs.Program.{field_fits, IsProgram};
-ghost use Rattle.zlink.specs.Layout.{ArePlaces};
-ghost use Rattle.zlink.specs.Emit.{Appends, IsReady, IsSizedPiece};
+ghost use Rattle.zlink.specs.Private.Layout.{ArePlaces};
+ghost use Rattle.zlink.specs.Private.Emit.{Appends, IsReady, IsSizedPiece};
 
 use asm_stmt::{Body, Branch, Field};
 use std::alloc::{AllocError, Global};
-use z80_table::{Cond, Instr, ShortCond, encode};
+use z80_encode::encode;
+use z80_instr::{Cond, Instr, ShortCond};
 
 /// The condition of a short jump as one of a long jump.
 fn widened(condition: ShortCond) -> Cond

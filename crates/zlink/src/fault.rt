@@ -1,14 +1,13 @@
 //! Why no file is built.
 
 ghost use Rattle.std.specs.Prelude.{◌≡◌};
-ghost use Rattle.zlink.specs.Faults.{stop_of_scan, stop_of_statement};
+ghost use Rattle.zlink.specs.Private.Faults.{stop_of_scan, stop_of_statement};
 ghost use Rattle.zlink.specs.declared.fault.Stop.TheVariants.{NoMemory};
 ghost use Rattle.zlink.specs.declared.fault.AsmStop.TheVariants as asm;
 ghost use Rattle.zlink.specs.declared.fault.LinkFault.TheVariants as link;
 
 use asm_scan::ScanFault;
 use asm_stmt::StmtFault;
-use certificate::Verdict;
 use std::alloc::{AllocError, AllocFailed};
 use thiserror::Error;
 
@@ -40,13 +39,26 @@ pub struct AsmFault {
     pub why: Why,
 }
 
+/// Why no choice of short and long jumps fits.
+#[derive(Clone, Copy, Debug, PartialEq, Eq, Error)]
+pub enum Misfit {
+    /// This statement, counted from 0, is the lowest jump that is always short and does not reach its target. It does so
+    /// in no choice.
+    #[error("statement {0} reaches its target in no choice")]
+    Range(u32),
+    /// Each jump that is always short reaches its target, but every choice takes at least this many bytes, more than
+    /// 64,512.
+    #[error("every choice takes {0} bytes or more")]
+    TooLarge(u32),
+}
+
 /// Why the statements of a program make no file.
 #[derive(Debug, Drop, PartialEq, Eq, Error)]
 pub enum LinkFault {
     /// No choice of short and long jumps fits.
     #[error("no choice of short and long jumps fits")]
     NoFit {
-        why: Verdict,
+        why: Misfit,
         /// The sizes text.
         sizes: Vec<u8>,
         /// The certificate.

@@ -5,7 +5,7 @@ ghost use Rattle.std.specs.Option.{option_map, option_map_or};
 ghost use Rattle.zlink.specs.declared.fault.Stop.TheVariants.{NoMemory};
 ghost use Rattle.zlink.specs.Labels.{found, named};
 ghost use Rattle.zlink.specs.Source.{labelled, placed, takes_room};
-ghost use Rattle.zlink.specs.FirstPass.{IsFirstPass, IsJudged, IsPassed, IsRead, IsSized, IsTaken, Keeps, numbered_one};
+ghost use Rattle.zlink.specs.Private.FirstPass.{IsFirstPass, IsJudged, IsPassed, IsRead, IsSized, IsTaken, Keeps, numbered_one};
 ghost use Rattle.asm_stmt.specs.Statement.{Line, line_of, statement_of};
 
 use crate::fault::{AsmFault, AsmStop, Stop, Why};

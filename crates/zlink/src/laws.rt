@@ -5,8 +5,10 @@ ghost use Rattle.asm_stmt.specs.Statement.{Statement};
 ghost use Rattle.zlink.specs.declared.fault.AsmFault.{AsmFault};
 ghost use Rattle.zlink.specs.Source.{Assembles};
 ghost use Rattle.ruler.specs.declared.shape.Statement.{Statement as Sized};
-ghost use Rattle.ruler.specs.Choice.{Choice, IsValid, total};
-ghost use Rattle.certificate.specs.Choice.{IsValid as IsToldValid, total as told_total};
+ghost use Rattle.ruler.specs.Choice.{Choice, Fits, IsBest, IsSettled, IsValid, place, total};
+ghost use Rattle.relax.specs.Growth.{IsForcing};
+ghost use Rattle.certificate.specs.Choice.{Fits as ToldFits, IsBest as IsToldBest, IsSettled as IsToldSettled, IsValid as IsToldValid, place as told_place, total as told_total};
+ghost use Rattle.certificate.specs.Forcing.{IsForcing as IsToldForcing};
 ghost use Rattle.zlink.specs.Certified.{told};
 
 /// A text is one program, or has one first fault.
@@ -23,9 +25,14 @@ pub fn some_answer()
     asm_scan::laws::some_answer();
 }
 
-/// The linker and the checker share no definition, and say the same of each shape: which choices fit, and how many bytes
-/// they take.
+/// The linker and the checker share no definition, and say the same of each shape: where its statements stand, which jumps
+/// fit, which choices are settled, valid and best, how many bytes they take, and which orders force their members.
 pub fn shapes_agree()
-    ensures valid { (shape : List Sized) (c : Choice) → IsValid c shape ↔ IsToldValid c (map told shape) }
+    ensures places { (shape : List Sized) (c : Choice) (k : ℕ) → told_place c (map told shape) k ≡ place c shape k }
     ensures total { (shape : List Sized) (c : Choice) → told_total c (map told shape) ≡ total c shape }
+    ensures fits { (shape : List Sized) (c : Choice) (k : ℕ) → Fits c shape k ↔ ToldFits c (map told shape) k }
+    ensures settled { (shape : List Sized) (c : Choice) → IsSettled c shape ↔ IsToldSettled c (map told shape) }
+    ensures valid { (shape : List Sized) (c : Choice) → IsValid c shape ↔ IsToldValid c (map told shape) }
+    ensures best { (shape : List Sized) (c : Choice) → IsBest c shape ↔ IsToldBest c (map told shape) }
+    ensures forcing { (shape : List Sized) (order : List ℕ) → IsForcing shape order ↔ IsToldForcing (map told shape) order }
 {}

@@ -4,13 +4,13 @@ ghost use Rattle.std.specs.Prelude.{◌≡◌, ◌≤◌, ◌+◌, ℕ, length, 
 ghost use Rattle.ruler.specs.Choice.{chosen, size_of, IsStatement};
 ghost use Rattle.zlink.specs.Program.{IsProgram, IsStatement as IsInProgram};
 ghost use Rattle.zlink.specs.Reads.{shape, sized_as};
-ghost use Rattle.zlink.specs.SecondPass.{statement_in};
-ghost use Rattle.zlink.specs.Layout.{ArePlaces};
+ghost use Rattle.zlink.specs.Private.SecondPass.{statement_in};
+ghost use Rattle.zlink.specs.Private.Layout.{ArePlaces};
 
 use asm_stmt::Body;
 use relax::{Shape, Statement};
 use std::alloc::{AllocError, Global};
-use z80_table::size;
+use z80_encode::size;
 
 /// A statement as far as its size matters.
 fn sized(body: &Body<u32>, count: usize) -> Statement

@@ -15,5 +15,5 @@ mod second_pass;
 mod source;
 
 pub use builder::build;
-pub use fault::{AsmFault, BuildFault, LinkFault, Why};
+pub use fault::{AsmFault, BuildFault, LinkFault, Misfit, Why};
 pub use source::{Built, Source};

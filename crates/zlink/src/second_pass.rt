@@ -5,8 +5,8 @@ ghost use Rattle.std.specs.List.{list_all};
 ghost use Rattle.zlink.specs.Labels.{named};
 ghost use Rattle.zlink.specs.Program.{field_fits};
 ghost use Rattle.zlink.specs.Source.{all_settled, settled, target_of};
-ghost use Rattle.zlink.specs.FirstPass.{numbered_one};
-ghost use Rattle.zlink.specs.SecondPass.{IsSecondPass, IsSettled, IsSettledLine};
+ghost use Rattle.zlink.specs.Private.FirstPass.{numbered_one};
+ghost use Rattle.zlink.specs.Private.SecondPass.{IsSecondPass, IsSettled, IsSettledLine};
 ghost use Rattle.asm_stmt.specs.Statement.{statement_of};
 
 use crate::fault::{AsmFault, AsmStop, Stop, Why};

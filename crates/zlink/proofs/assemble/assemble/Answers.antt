@@ -1,7 +1,7 @@
 use Rattle.std.proofs.Common.{◌≡◌, Ok, sym, ap, ◌∙◌, map}
 use Rattle.zlink.specs.Source.{program_of, all_settled, labels}
-use Rattle.zlink.specs.FirstPass.{numbered_one}
-use Rattle.zlink.specs.SecondPass.{statement_in}
+use Rattle.zlink.specs.Private.FirstPass.{numbered_one}
+use Rattle.zlink.specs.Private.SecondPass.{statement_in}
 use Rattle.zlink.proofs.Programs.{is_program}
 use Rattle.zlink.proofs.assemble.assemble.Goals as goal
 

@@ -1,4 +1,4 @@
-use Rattle.zlink.proofs.Answering.{exactly}
+use Rattle.zlink.proofs.Assemblies.{exactly}
 use Rattle.zlink.proofs.builder.build.Goals as goal
 
 pub returns-clause-exact : goal.returns-clause-exact

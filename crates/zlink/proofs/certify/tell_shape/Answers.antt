@@ -1,6 +1,6 @@
 use Rattle.std.proofs.Common.{◌≡◌, take, length, ap, arith}
 use Rattle.std.proofs.lemmas.List.{take_all}
-use Rattle.zlink.proofs.Agreeing.{shape-there}
+use Rattle.zlink.proofs.Agreement.{shape-there}
 use Rattle.zlink.proofs.certify.tell_shape.Goals as goal
 
 pub new-requires : goal.new-requires

@@ -4,8 +4,8 @@ use Rattle.std.proofs.lemmas.List.{length-map}
 use Rattle.std.specs.Option.{option_map}
 use Rattle.std.proofs.lemmas.Option.{slice_get-map, slice_get-get_or}
 use Rattle.ruler.specs.Choice.{chosen}
-use Rattle.zlink.specs.SecondPass.{statement_in}
-use Rattle.zlink.proofs.Writing.{start, ready, step, finished}
+use Rattle.zlink.specs.Private.SecondPass.{statement_in}
+use Rattle.zlink.proofs.FileSoFar.{start, ready, step, finished}
 use Rattle.zlink.proofs.emit.emit.Goals as goal
 
 pub loop-k-init : goal.loop-k-init

@@ -1,7 +1,7 @@
 use Rattle.std.proofs.Common.{map}
 use Rattle.ruler.specs.Choice.{chosen}
-use Rattle.zlink.specs.SecondPass.{statement_in}
-use Rattle.zlink.proofs.Writing.{Written}
+use Rattle.zlink.specs.Private.SecondPass.{statement_in}
+use Rattle.zlink.proofs.FileSoFar.{Written}
 use Rattle.zlink.proofs.emit.emit.Given as goal
 
 abbrev pub invariant-loop-k : goal.invariant-loop-k

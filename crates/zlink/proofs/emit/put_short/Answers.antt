@@ -1,7 +1,7 @@
 use Rattle.std.proofs.Common.{◌≡◌, ℤ, Some, None, refl, length, ap, subst, ◌∙◌, w8}
 use Rattle.std.proofs.lemmas.Int.{to_z-of_z}
-use Rattle.z80_table.specs.Table.{canonical}
-use Rattle.z80_table.specs.Codes.{Codes}
+use Rattle.z80_instr.specs.Table.{canonical}
+use Rattle.z80_instr.specs.Codes.{Codes}
 use Rattle.asm_stmt.specs.declared.form.Branch.{Branch}
 use Rattle.asm_stmt.specs.declared.form.Branch.TheVariants.{Relative, CountDown}
 use Rattle.zlink.specs.Reads.{short_jump}

@@ -5,8 +5,8 @@ use Rattle.std.proofs.lemmas.Result.{err_from_is_err_and}
 use Rattle.std.proofs.lemmas.List.Elements.{All-nil}
 use Rattle.bstr.specs.Text.{lines_of, without_terminator}
 use Rattle.zlink.specs.Labels.{named}
-use Rattle.zlink.specs.FirstPass.{numbered_one, IsPlaced}
-use Rattle.zlink.proofs.Reaching.{start, step, refused, finished}
+use Rattle.zlink.specs.Private.FirstPass.{numbered_one, IsPlaced}
+use Rattle.zlink.proofs.LinesSoFar.{start, step, refused, finished}
 use Rattle.zlink.proofs.first_pass.first_pass.Goals as goal
 
 pub loop-line-init : goal.loop-line-init

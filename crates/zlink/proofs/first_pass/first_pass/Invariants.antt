@@ -1,4 +1,4 @@
-use Rattle.zlink.proofs.Reaching.{Reached}
+use Rattle.zlink.proofs.LinesSoFar.{Reached}
 use Rattle.zlink.proofs.first_pass.first_pass.Given as goal
 
 abbrev pub invariant-loop-line : goal.invariant-loop-line

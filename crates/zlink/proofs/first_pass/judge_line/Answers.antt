@@ -1,6 +1,6 @@
 use Rattle.std.proofs.lemmas.Result.{err_from_is_err_and}
 use Rattle.asm_stmt.specs.Statement.{line_of}
-use Rattle.zlink.proofs.Reading.{judged-unread, judged-read}
+use Rattle.zlink.proofs.Spelled.{judged-unread, judged-read}
 use Rattle.zlink.proofs.first_pass.judge_line.Goals as goal
 
 pub returns-in_err-stmt : goal.returns-in_err-stmt

@@ -2,7 +2,7 @@ use Rattle.std.proofs.Common.{◌≤◌, length, Ok, ap, arith}
 use Rattle.std.proofs.lemmas.Result.{err_from_is_err_and}
 use Rattle.asm_scan.specs.Tokens.{lexemes}
 use Rattle.asm_scan.specs.Lines.{Scans}
-use Rattle.zlink.proofs.Reading.{unscanned, unspelled, read_by, sized-line}
+use Rattle.zlink.proofs.Spelled.{unscanned, unspelled, read_by, sized-line}
 use Rattle.zlink.proofs.first_pass.read_line.Goals as goal
 
 pub returns-in_err-tokens : goal.returns-in_err-tokens

@@ -3,8 +3,8 @@ use Rattle.std.proofs.lemmas.List.{length-map}
 use Rattle.asm_stmt.specs.Statement.{line_of}
 use Rattle.zlink.specs.Labels.{named}
 use Rattle.zlink.specs.Source.{labelled}
-use Rattle.zlink.specs.FirstPass.{numbered_one}
-use Rattle.zlink.proofs.Taking.{taken}
+use Rattle.zlink.specs.Private.FirstPass.{numbered_one}
+use Rattle.zlink.proofs.TakenLines.{taken}
 use Rattle.zlink.proofs.first_pass.take_up.Goals as goal
 
 pub returns : goal.returns

@@ -1,7 +1,7 @@
 use Rattle.std.proofs.Common.{sym, ap, ◌∙◌}
 use Rattle.indexmap.proofs.CallerLemmas.{insert_entry-new}
 use Rattle.zlink.specs.Labels.{named}
-use Rattle.zlink.proofs.Naming.{found-named, named-append}
+use Rattle.zlink.proofs.LabelTables.{found-named, named-append}
 use Rattle.zlink.proofs.labels.add_label.Goals as goal
 
 pub returns : goal.returns

@@ -1,5 +1,5 @@
 use Rattle.std.proofs.Common.{sym, ◌∙◌}
-use Rattle.zlink.proofs.Naming.{found-named}
+use Rattle.zlink.proofs.LabelTables.{found-named}
 use Rattle.zlink.proofs.labels.number_of.Goals as goal
 
 pub returns : goal.returns

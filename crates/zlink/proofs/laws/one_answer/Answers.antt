@@ -1,4 +1,4 @@
-use Rattle.zlink.proofs.Answering.{one_assembly}
+use Rattle.zlink.proofs.Assemblies.{one_assembly}
 use Rattle.zlink.proofs.laws.one_answer.Goals as goal
 
 pub returns : goal.returns

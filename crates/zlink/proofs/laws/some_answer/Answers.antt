@@ -1,4 +1,4 @@
-use Rattle.zlink.proofs.Answering.{some_assembly}
+use Rattle.zlink.proofs.Assemblies.{some_assembly}
 use Rattle.zlink.proofs.laws.some_answer.Goals as goal
 
 pub returns : goal.returns

@@ -4,8 +4,8 @@ use Rattle.std.specs.Option.{option_map}
 use Rattle.std.proofs.lemmas.List.{length-map}
 use Rattle.std.proofs.lemmas.Option.{slice_get-map, slice_get-get_or}
 use Rattle.zlink.specs.Program.{IsStatement}
-use Rattle.zlink.specs.SecondPass.{statement_in}
-use Rattle.zlink.proofs.Writing.{at-statement}
+use Rattle.zlink.specs.Private.SecondPass.{statement_in}
+use Rattle.zlink.proofs.FileSoFar.{at-statement}
 use Rattle.zlink.proofs.layout.shape_of.Goals as goal
 
 pub sized-requires : goal.sized-requires

@@ -1,7 +1,7 @@
 use Rattle.std.proofs.Common.{◌≤◌, ◌<◌, length, ap, arith}
 use Rattle.std.proofs.lemmas.Result.{err_from_is_err_and}
 use Rattle.zlink.specs.Labels.{named}
-use Rattle.zlink.proofs.Settling.{start, step, refused, finished}
+use Rattle.zlink.proofs.Settled.{start, step, refused, finished}
 use Rattle.zlink.proofs.second_pass.second_pass.Goals as goal
 
 pub loop-statement-init : goal.loop-statement-init

@@ -1,5 +1,5 @@
 use Rattle.zlink.specs.Labels.{named}
-use Rattle.zlink.proofs.Settling.{Settled}
+use Rattle.zlink.proofs.Settled.{Settled}
 use Rattle.zlink.proofs.second_pass.second_pass.Given as goal
 
 abbrev pub invariant-loop-statement : goal.invariant-loop-statement

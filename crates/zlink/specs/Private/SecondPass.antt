@@ -1,4 +1,4 @@
--- What the second pass answers. Private contracts alone cite this.
+-- What the second pass answers.
 use Rattle.std.specs.Prelude.{◌≡◌, ℕ, ◌≤◌, ◌<◌, List, Result, Ok, Err, Vec, All, map}
 use Rattle.std.specs.Global.{Global}
 use Rattle.asm_stmt.specs.Statement.{Statement, Space, statement_of}

@@ -3,7 +3,7 @@
 use std::alloc::Global;
 use std::process::Abort;
 use std::test::Fail;
-use z80dev::{Watched, pipe};
+use z80dev::{Bytes, Output, pipe};
 
 /// What is printed of a text: its status, and the two streams.
 type Row<'a> = (&'a [u8], u8, &'a [u8], &'a [u8]);
@@ -11,14 +11,15 @@ type Row<'a> = (&'a [u8], u8, &'a [u8], &'a [u8]);
 /// Asserts what is printed of texts.
 fn assert_rows(rt: &impl Abort, alloc: Global, rows: &[Row]) -> Result<(), Fail> {
     for (text, status, printed, said) in rows {
-        let mut input: &[u8] = text;
-        let mut output = Watched::new(Vec::new(alloc));
-        let mut errors: Vec<u8> = Vec::new(alloc);
+        let mut input = Bytes::new(text);
+        let mut output = Output::new(Vec::new(alloc));
+        let mut errors = Output::new(Vec::new(alloc));
         let answer = pipe(alloc, &mut input, &mut output, &mut errors);
         assert_eq!(rt; answer, *status);
         assert!(rt; !output.has_failed());
         assert!(rt; output.into_stream().as_slice() == *printed);
-        assert!(rt; errors.as_slice() == *said);
+        assert!(rt; !errors.has_failed());
+        assert!(rt; errors.into_stream().as_slice() == *said);
     }
     Ok(())
 }

@@ -71,10 +71,10 @@ OneAnswer = (text : List ℕ) (a b : Result (List (Statement ℕ)) AsmFault) →
 -- a text with a fault is answered by that fault
 pub exactly : OneAnswer → (text : List ℕ) (answer : Result Built BuildFault) → IsAnswer text answer → (fault : AsmFault) → Assembles text (Err fault)
     → (answer ≡ Err (build.Asm 0 fault)) ⊎ (answer ≡ Err (build.Link link.NoMemory))
-exactly one text (Ok built) h fault faulty = let both = one text _ _ h.assembles faulty in let no : ⊥ = cc in absurd no
+exactly one text (Ok built) h fault faulty = let both = one text _ _ h.1 faulty in let no : ⊥ = cc in absurd no
 exactly one text (Err (build.Asm source found)) h fault faulty =
     let both : ◌≡◌ {A = Result (List (Statement ℕ)) AsmFault} (Err found) (Err fault) = one text (Err found) (Err fault) h.1 faulty in
     let same : found ≡ fault = cc in
     inl (ap (λ n. Err (build.Asm n found)) h.0 ∙ ap (λ f. Err (build.Asm 0 f)) same)
-exactly one text (Err (build.Link (link.NoFit why sizes cert))) h fault faulty = let both = one text _ _ h.assembles faulty in let no : ⊥ = cc in absurd no
+exactly one text (Err (build.Link (link.NoFit why sizes cert))) h fault faulty = let both = one text _ _ h.1 faulty in let no : ⊥ = cc in absurd no
 exactly one text (Err (build.Link link.NoMemory)) h fault faulty = inr refl

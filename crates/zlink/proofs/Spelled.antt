@@ -13,12 +13,12 @@ use Rattle.asm_stmt.specs.declared.form.Body.TheVariants as body
 use Rattle.asm_stmt.specs.Statement.{HasFields, Line, line_of, statement_of}
 use Rattle.asm_stmt.specs.Spelling.{spells, Fails}
 use Rattle.zlink.specs.declared.fault.Why.TheVariants as why
-use Rattle.zlink.specs.Faults.{stop_of_scan, stop_of_statement}
+use Rattle.zlink.specs.Private.Faults.{stop_of_scan, stop_of_statement}
 use Rattle.zlink.specs.Source.{Says, fault_map}
 use Rattle.zlink.specs.declared.fault.Stop.{Stop}
 use Rattle.zlink.specs.declared.fault.Stop.TheVariants as stop
 use Rattle.zlink.specs.declared.first_pass.FirstPass.{FirstPass}
-use Rattle.zlink.specs.FirstPass.{IsRead, IsSized, IsTaken, IsJudged}
+use Rattle.zlink.specs.Private.FirstPass.{IsRead, IsSized, IsTaken, IsJudged}
 
 -- a line without tokens
 pub unscanned : (text : List ℕ) (fault : ScanFault) → (fault ≢ scan.NoMemory → Scans text (Err fault)) → IsRead text (Err (stop_of_scan fault))

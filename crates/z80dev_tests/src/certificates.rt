@@ -4,7 +4,7 @@ use std::alloc::Global;
 use std::io::{Error, ErrorKind, Result as IoResult, Write};
 use std::process::Abort;
 use std::test::Fail;
-use z80dev::{Watched, check_texts};
+use z80dev::{Output, check_texts};
 
 /// The lines of a sizes text but for its first and its last, those of a certificate but for its first, the status, and
 /// what is printed and said.
@@ -14,8 +14,8 @@ fn assert_row(rt: &impl Abort, alloc: Global, row: &Row) -> Result<(), Fail> {
     let (sizes, cert, status, printed, said) = *row;
     let sizes = format!(in alloc; "Z80SIZES 1\n{sizes}END\n")?;
     let cert = format!(in alloc; "Z80CERT 1\n{cert}")?;
-    let mut output = Watched::new(Vec::new(alloc));
-    let mut errors: Vec<u8> = Vec::new(alloc);
+    let mut output = Output::new(Vec::new(alloc));
+    let mut errors = Output::new(Vec::new(alloc));
     let answer = check_texts(
         alloc,
         sizes.as_bytes(),
@@ -25,7 +25,7 @@ fn assert_row(rt: &impl Abort, alloc: Global, row: &Row) -> Result<(), Fail> {
     );
     assert_eq!(rt; answer, status);
     assert!(rt; output.into_stream().as_slice() == printed.as_bytes());
-    assert!(rt; errors.as_slice() == said.as_bytes());
+    assert!(rt; errors.into_stream().as_slice() == said.as_bytes());
     Ok(())
 }
 
@@ -83,19 +83,19 @@ impl Write for Full {
 #[test]
 fn writers_that_fail(rt: HostRuntime) -> Result<(), Fail> {
     let sizes = b"Z80SIZES 1\nEND\n";
-    let mut errors: Vec<u8> = Vec::new(rt.alloc());
+    let mut errors = Output::new(Vec::new(rt.alloc()));
     let status = check_texts(
         rt.alloc(),
         sizes,
         b"Z80CERT 1\nBEST 0\n",
-        &mut Watched::new(Full),
+        &mut Output::new(Full),
         &mut errors,
     );
     assert_eq!(&rt; status, 3);
-    assert!(&rt; errors.as_slice() == b"error: file -\n".as_slice());
+    assert!(&rt; errors.into_stream().as_slice() == b"error: file -\n".as_slice());
 
     // A fault of standard error changes no status.
-    let mut output = Watched::new(Vec::new(rt.alloc()));
+    let mut output = Output::new(Vec::new(rt.alloc()));
     assert_eq!(&rt;
         check_texts(rt.alloc(), sizes, b"Z80CERT 1\n", &mut output, &mut Full),
         1

@@ -7,11 +7,11 @@ use Rattle.std.proofs.lemmas.List.{take-append-le, drop-append-le, drop_at, take
 use Rattle.std.proofs.lemmas.Option.{slice_get-map, slice_get_within, get_or_from_slice_get}
 use Rattle.ruler.specs.Choice.{Choice, IsNear, IsValid, bytes_before, place}
 use Rattle.asm_stmt.specs.Statement.{Statement, Code, Data, Space, Jump, Short}
-use Rattle.z80_table.specs.Codes.{Codes}
+use Rattle.z80_instr.specs.Codes.{Codes}
 use Rattle.zlink.specs.Program.{IsProgram, IsStatement}
 use Rattle.zlink.specs.Reads.{shape, sized_as, IsPiece, Reads, long_jump}
-use Rattle.zlink.specs.Layout.{ArePlaces}
-use Rattle.zlink.specs.Emit.{IsReady, IsSizedPiece}
+use Rattle.zlink.specs.Private.Layout.{ArePlaces}
+use Rattle.zlink.specs.Private.Emit.{IsReady, IsSizedPiece}
 use Rattle.zlink.proofs.Places.{bytes-zero, bytes-next, bytes-le, size-there}
 
 -- a statement of a program is one of its shape

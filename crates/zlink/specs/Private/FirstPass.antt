@@ -1,4 +1,4 @@
--- What the first pass keeps of the lines that it has taken up. Private contracts alone cite this.
+-- What the first pass keeps of the lines that it has taken up.
 use Rattle.std.specs.Prelude.{◌≡◌, ℕ, ◌+◌, ◌≤◌, true, List, [], ◌∷◌, ◌++◌, Result, Ok, Err, length, map}
 use Rattle.std.specs.List.{All}
 use Rattle.std.specs.Prelude.{IfSome}

@@ -19,7 +19,7 @@ use Rattle.std.proofs.Math.Path.{fun_ext}
 use Rattle.std.proofs.lemmas.List.Elements.{All-map, All-weaker}
 use Rattle.relax.specs.declared.growth.Growth.{Growth}
 use Rattle.certificate.specs.Texts.{ReadsSizes, ReadsCert}
-use Rattle.zlink.specs.Certified.{IsCertificate, told, told_verdict}
+use Rattle.zlink.specs.Certified.{IsCertified, told, told_verdict}
 
 size_of-same : (long : Bool) (s : Sized) → cert.size_of long (told s) ≡ ruler.size_of long s
 size_of-same long (sized.Fixed n) = refl
@@ -38,7 +38,7 @@ unfolding cert.bytes_before ruler.bytes_before
 bytes-same c shape zero = refl
 bytes-same c shape (suc k) = omega (arith, bytes-same c shape k, size_at-same c shape k)
 
-place-same : (c : Choice) (shape : List Sized) (k : ℕ) → cert.place c (map told shape) k ≡ ruler.place c shape k
+pub place-same : (c : Choice) (shape : List Sized) (k : ℕ) → cert.place c (map told shape) k ≡ ruler.place c shape k
 place-same c shape k = ap (λ n. 256 + n) (bytes-same c shape k)
 
 pub total-same : (c : Choice) (shape : List Sized) → cert.total c (map told shape) ≡ ruler.total c shape
@@ -72,10 +72,10 @@ reaches-there c shape k t reaches = rw (place-same c shape k, place-same c shape
 reaches-back : (c : Choice) (shape : List Sized) (k t : ℕ) → cert.Reaches c (map told shape) k t → ruler.Reaches c shape k t
 reaches-back c shape k t reaches = rw (← place-same c shape k, ← place-same c shape t) reaches
 
-settled-there : (c : Choice) (shape : List Sized) → ruler.IsSettled c shape → cert.IsSettled c (map told shape)
+pub settled-there : (c : Choice) (shape : List Sized) → ruler.IsSettled c shape → cert.IsSettled c (map told shape)
 settled-there c shape settled k t jump short = reaches-there c shape k t (settled k t (jump-back shape k t jump) short)
 
-settled-back : (c : Choice) (shape : List Sized) → cert.IsSettled c (map told shape) → ruler.IsSettled c shape
+pub settled-back : (c : Choice) (shape : List Sized) → cert.IsSettled c (map told shape) → ruler.IsSettled c shape
 settled-back c shape settled k t jump short = reaches-back c shape k t (settled k t (at-same shape k (sized.Jump t) jump) short)
 
 pub valid-there : (c : Choice) (shape : List Sized) → ruler.IsValid c shape → cert.IsValid c (map told shape)
@@ -92,12 +92,38 @@ valid-back c shape valid = record {
   fits = rw (← total-same c shape) valid.fits;
 }
 
-forcing-there : (shape : List Sized) (order : List ℕ) → growth.IsForcing shape order → forcing.IsForcing (map told shape) order
+pub forcing-there : (shape : List Sized) (order : List ℕ) → growth.IsForcing shape order → forcing.IsForcing (map told shape) order
 forcing-there shape order is i lt = let miss = is i lt in record {
   target = miss.target;
   jump = at-same shape _ (sized.Jump miss.target) miss.jump;
   short = miss.short;
   misses = λ reaches. miss.misses (reaches-back _ shape _ miss.target reaches);
+}
+
+pub forcing-back : (shape : List Sized) (order : List ℕ) → forcing.IsForcing (map told shape) order → growth.IsForcing shape order
+forcing-back shape order is i lt = let miss = is i lt in record {
+  target = miss.target;
+  jump = jump-back shape _ miss.target miss.jump;
+  short = miss.short;
+  misses = λ reaches. miss.misses (reaches-there _ shape _ miss.target reaches);
+}
+
+pub fits-there : (c : Choice) (shape : List Sized) (k : ℕ) → ruler.Fits c shape k → cert.Fits c (map told shape) k
+fits-there c shape k fits t jump = reaches-there c shape k t (fits t (jump-back shape k t jump))
+
+pub fits-back : (c : Choice) (shape : List Sized) (k : ℕ) → cert.Fits c (map told shape) k → ruler.Fits c shape k
+fits-back c shape k fits t jump = reaches-back c shape k t (fits t (at-same shape k (sized.Jump t) jump))
+
+pub best-there : (c : Choice) (shape : List Sized) → ruler.IsBest c shape → cert.IsBest c (map told shape)
+best-there c shape best = record {
+  valid = valid-there c shape best.valid;
+  least = λ other valid. rw (total-same c shape, total-same other shape) (best.least other (valid-back other shape valid));
+}
+
+pub best-back : (c : Choice) (shape : List Sized) → cert.IsBest c (map told shape) → ruler.IsBest c shape
+best-back c shape best = record {
+  valid = valid-back c shape best.valid;
+  least = λ other valid. rw (← total-same c shape, ← total-same other shape) (best.least other (valid-there other shape valid));
 }
 
 -- what the least choice's verdict says, said by the checker's rule
@@ -127,9 +153,10 @@ shape-there shape is = record {
 
 -- the texts of a growth certify its verdict
 pub certified : (shape : List Sized) (grown : Growth) (sizes text : List ℕ) → growth.IsGrowth shape grown
-    → ReadsSizes sizes (Ok (map told shape)) → ReadsCert text (Ok (grown.order.items, told_verdict grown.verdict)) → IsCertificate shape sizes text (told_verdict grown.verdict)
+    → ReadsSizes sizes (Ok (map told shape)) → ReadsCert text (Ok (grown.order.items, told_verdict grown.verdict)) → IsCertified shape grown.order.items grown.verdict sizes text
 certified shape grown sizes text is sizes_are text_is = record {
   own = sizes_are.1;
+  spelled = text_is.1;
   accepted = record {
     shape = map told shape;
     order = grown.order.items;

@@ -8,7 +8,7 @@ use Rattle.std.specs.Option.{option_map_or}
 use Rattle.asm_stmt.specs.Statement.{Statement, Line}
 use Rattle.zlink.specs.Labels.{Names, found}
 use Rattle.zlink.specs.Source.{placed, labelled, labels, labels_from, numbered, numbered_from, statement_count, repeats, overfills, fits_after, takes_room}
-use Rattle.zlink.specs.FirstPass.{IsKept, IsSized, IsPlaced}
+use Rattle.zlink.specs.Private.FirstPass.{IsKept, IsSized, IsPlaced}
 
 -- a statement with its line's number, if the line has one that takes room
 abbrev pub here : ℕ → Line → List (ℕ × Statement (List ℕ))

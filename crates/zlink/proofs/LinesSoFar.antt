@@ -8,7 +8,7 @@ use Rattle.zlink.specs.declared.fault.AsmStop.TheVariants as asm
 use Rattle.zlink.specs.declared.first_pass.FirstPass.{FirstPass}
 use Rattle.zlink.specs.Lines.{source_lines}
 use Rattle.zlink.specs.Source.{Judges, TakesUp}
-use Rattle.zlink.specs.FirstPass.{Keeps, IsPassed, IsFirstPass}
+use Rattle.zlink.specs.Private.FirstPass.{Keeps, IsPassed, IsFirstPass}
 
 -- the lines so far are kept, and what the rest comes to after them the whole comes to
 pub record Reached (text : List ℕ) (rest : List (List ℕ)) (pass : FirstPass) (number : ℕ) : Type 0 where

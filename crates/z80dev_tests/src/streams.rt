@@ -2,7 +2,7 @@
 
 use std::io::{Error, ErrorKind, Read, Result, Write};
 use std::test::Fail;
-use z80dev::{Watched, pipe};
+use z80dev::{Bytes, Output, Watched, pipe};
 
 const TEXT: &[u8] = b"JP X\nNOP\nX: RET\n";
 
@@ -89,14 +89,14 @@ fn failing_at(fails_at: usize, kind: ErrorKind) -> Watched<Bytewise> {
 fn a_reader_that_fails(rt: HostRuntime) -> std::result::Result<(), Fail> {
     // It is asked once for each byte, and once for the end.
     for fails_at in 1..=TEXT.len() + 1 {
-        let mut output = Watched::new(Vec::new(rt.alloc()));
-        let mut errors: Vec<u8> = Vec::new(rt.alloc());
+        let mut output = Output::new(Vec::new(rt.alloc()));
+        let mut errors = Output::new(Vec::new(rt.alloc()));
         let mut input = failing_at(fails_at, ErrorKind::UnexpectedEof);
         let status = pipe(rt.alloc(), &mut input, &mut output, &mut errors);
         assert_eq!(&rt; status, 3);
         assert!(&rt; input.has_failed());
         assert!(&rt; output.into_stream().is_empty());
-        assert!(&rt; errors.as_slice() == FILE_FAULT);
+        assert!(&rt; errors.into_stream().as_slice() == FILE_FAULT);
     }
     Ok(())
 }
@@ -104,33 +104,33 @@ fn a_reader_that_fails(rt: HostRuntime) -> std::result::Result<(), Fail> {
 #[test]
 fn a_reader_that_is_interrupted(rt: HostRuntime) -> std::result::Result<(), Fail> {
     for fails_at in 0..=TEXT.len() + 2 {
-        let mut output = Watched::new(Vec::new(rt.alloc()));
-        let mut errors: Vec<u8> = Vec::new(rt.alloc());
+        let mut output = Output::new(Vec::new(rt.alloc()));
+        let mut errors = Output::new(Vec::new(rt.alloc()));
         let mut input = failing_at(fails_at, ErrorKind::Interrupted);
         let status = pipe(rt.alloc(), &mut input, &mut output, &mut errors);
         assert_eq!(&rt; status, 0);
         assert!(&rt; output.into_stream().as_slice() == PRINTED);
-        assert!(&rt; errors.is_empty());
+        assert!(&rt; errors.into_stream().is_empty());
     }
     Ok(())
 }
 
 #[test]
 fn writers_that_fail(rt: HostRuntime) -> std::result::Result<(), Fail> {
-    let mut input: &[u8] = TEXT;
-    let mut output = Watched::new(Full);
-    let mut errors: Vec<u8> = Vec::new(rt.alloc());
+    let mut input = Bytes::new(TEXT);
+    let mut output = Output::new(Full);
+    let mut errors = Output::new(Vec::new(rt.alloc()));
     assert_eq!(&rt; pipe(rt.alloc(), &mut input, &mut output, &mut errors), 3);
     assert!(&rt; output.has_failed());
-    assert!(&rt; errors.as_slice() == FILE_FAULT);
+    assert!(&rt; errors.into_stream().as_slice() == FILE_FAULT);
 
     // A fault of standard error changes no status.
     let rows: [(&[u8], u8); 3] = [(TEXT, 0), (b"FOO", 1), (b"JR X\nDS 128\nX:", 1)];
     for (text, status) in rows {
-        let mut input: &[u8] = text;
-        let mut output = Watched::new(Vec::new(rt.alloc()));
+        let mut input = Bytes::new(text);
+        let mut output = Output::new(Vec::new(rt.alloc()));
         assert_eq!(&rt;
-            pipe(rt.alloc(), &mut input, &mut output, &mut Full),
+            pipe(rt.alloc(), &mut input, &mut output, &mut Output::new(Full)),
             status
         );
     }
@@ -139,8 +139,8 @@ fn writers_that_fail(rt: HostRuntime) -> std::result::Result<(), Fail> {
 
 #[test]
 fn a_reader_without_end(rt: HostRuntime) -> std::result::Result<(), Fail> {
-    let mut output = Watched::new(Vec::new(rt.alloc()));
-    let mut errors: Vec<u8> = Vec::new(rt.alloc());
+    let mut output = Output::new(Vec::new(rt.alloc()));
+    let mut errors = Output::new(Vec::new(rt.alloc()));
     let status = pipe(
         rt.alloc(),
         &mut Watched::new(Endless),
@@ -149,14 +149,14 @@ fn a_reader_without_end(rt: HostRuntime) -> std::result::Result<(), Fail> {
     );
     assert_eq!(&rt; status, 3);
     assert!(&rt; output.into_stream().is_empty());
-    assert!(&rt; errors.as_slice() == FILE_FAULT);
+    assert!(&rt; errors.into_stream().as_slice() == FILE_FAULT);
     Ok(())
 }
 
 #[test]
 fn a_reader_that_is_interrupted_without_end(rt: HostRuntime) -> std::result::Result<(), Fail> {
-    let mut output = Watched::new(Vec::new(rt.alloc()));
-    let mut errors: Vec<u8> = Vec::new(rt.alloc());
+    let mut output = Output::new(Vec::new(rt.alloc()));
+    let mut errors = Output::new(Vec::new(rt.alloc()));
     let status = pipe(
         rt.alloc(),
         &mut Watched::new(Interrupted),
@@ -165,6 +165,6 @@ fn a_reader_that_is_interrupted_without_end(rt: HostRuntime) -> std::result::Res
     );
     assert_eq!(&rt; status, 3);
     assert!(&rt; output.into_stream().is_empty());
-    assert!(&rt; errors.as_slice() == FILE_FAULT);
+    assert!(&rt; errors.into_stream().as_slice() == FILE_FAULT);
     Ok(())
 }

@@ -11,8 +11,8 @@ use Rattle.zlink.specs.declared.fault.AsmStop.TheVariants as asm
 use Rattle.zlink.specs.declared.first_pass.Numbered.{Numbered}
 use Rattle.zlink.specs.Labels.{Names}
 use Rattle.zlink.specs.Source.{settled, all_settled, fault_map, ◌>>=◌}
-use Rattle.zlink.specs.FirstPass.{numbered_one}
-use Rattle.zlink.specs.SecondPass.{statement_in, IsTyped, IsSettledLine, IsSecondPass}
+use Rattle.zlink.specs.Private.FirstPass.{numbered_one}
+use Rattle.zlink.specs.Private.SecondPass.{statement_in, IsTyped, IsSettledLine, IsSecondPass}
 
 -- statements before those of an answer
 abbrev pub behind : List (Statement ℕ) → Result (List (Statement ℕ)) AsmFault → Result (List (Statement ℕ)) AsmFault

@@ -1,4 +1,4 @@
--- Where statements stand, as a list. Private contracts alone cite this.
+-- Where statements stand, as a list.
 use Rattle.std.specs.Prelude.{◌≡◌, ℕ, ◌+◌, ◌≤◌, List, length, slice_index}
 use Rattle.ruler.specs.declared.shape.Statement.{Statement}
 use Rattle.ruler.specs.Choice.{Choice, place}

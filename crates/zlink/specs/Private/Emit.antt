@@ -1,4 +1,4 @@
--- What is written. Private contracts alone cite this.
+-- What is written.
 use Rattle.std.specs.Prelude.{◌≡◌, ℕ, ◌^◌, ◌<◌, Bool, true, false, List, ◌++◌, length, slice_index}
 use Rattle.std.specs.List.{list_all}
 use Rattle.ruler.specs.Choice.{IsNear, size_of}

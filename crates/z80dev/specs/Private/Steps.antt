@@ -1,0 +1,27 @@
+-- How the steps of printing end.
+use Rattle.std.specs.Prelude.{◌≡◌, ℕ, ◌<◌, ◌≤◌, ◌⊎◌, Bool, true, false, List, Option, None, Some, IfSome, Result, Ok, Err, length, take}
+use Rattle.std.specs.Io.KnownBytes.{Appends, Keeps}
+use Rattle.zlink.specs.declared.fault.LinkFault.TheVariants as link
+use Rattle.zlink.specs.declared.fault.BuildFault.TheVariants as build
+use Rattle.z80dev.specs.declared.fault.Fault.{Fault}
+use Rattle.z80dev.specs.declared.fault.Fault.TheVariants as fault
+use Rattle.z80dev.specs.declared.text.TheConstants.{TEXT_LIMIT}
+use Rattle.z80dev.specs.Streams.{AppendsFront}
+use Rattle.z80dev.specs.Pipe.{IsCutShort, file_line}
+
+-- Why a text was not read: reading came to no end, or the text is too long where it is known; or memory ran out.
+abbrev pub IsUnread : Option (List ℕ) → Bool → ℕ → Fault → Type 0
+IsUnread text failed reads fault.File = IsCutShort failed reads ⊎ IfSome text (λ t. TEXT_LIMIT < length t)
+IsUnread text failed reads (fault.Build refusal) = refusal ≡ build.Link link.NoMemory
+
+-- How writing a file ends: its line stands behind what the writer held; or memory for it ran out and nothing is written; or
+-- the writer failed on it.
+abbrev pub Writes : List ℕ → Option (List ℕ) → Option (List ℕ) → Bool → Result Unit Fault → Type 0
+Writes file old new failed (Ok _) = Appends old new (file_line file)
+Writes file old new failed (Err (fault.Build refusal)) = (refusal ≡ build.Link link.NoMemory) × Keeps old new
+Writes file old new failed (Err fault.File) = (failed ≡ true) × AppendsFront old new (file_line file)
+
+-- a front of some bytes was put, or the writer failed and nothing was
+abbrev pub PutsSome : Option (List ℕ) → Option (List ℕ) → Bool → List ℕ → Option ℕ → Type 0
+PutsSome old new failed bytes (Some n) = (n ≤ length bytes) × Appends old new (take n bytes) × (failed ≡ false)
+PutsSome old new failed bytes None = Keeps old new × (failed ≡ true)
