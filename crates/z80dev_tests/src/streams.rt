@@ -76,6 +76,29 @@ impl Write for Full {
     }
 }
 
+/// Takes as many bytes as it says, one at a time, and then none.
+#[derive(Drop)]
+struct Narrow {
+    taken: Vec<u8>,
+    room: usize,
+}
+
+impl Write for Narrow {
+    fn write(&mut self, bytes: &[u8]) -> Result<usize> {
+        match bytes.first() {
+            Some(byte) if self.taken.len() < self.room => {
+                self.taken.push(*byte)?;
+                Ok(1)
+            }
+            _ => Ok(0),
+        }
+    }
+
+    fn flush(&mut self) -> Result<()> {
+        Ok(())
+    }
+}
+
 fn failing_at(fails_at: usize, kind: ErrorKind) -> Watched<Bytewise> {
     Watched::new(Bytewise {
         given: 0,
@@ -95,6 +118,8 @@ fn a_reader_that_fails(rt: HostRuntime) -> std::result::Result<(), Fail> {
         let status = pipe(rt.alloc(), &mut input, &mut output, &mut errors);
         assert_eq!(&rt; status, 3);
         assert!(&rt; input.has_failed());
+        // A failed read is not tried again.
+        assert!(&rt; input.reads() == fails_at as u64);
         assert!(&rt; output.into_stream().is_empty());
         assert!(&rt; errors.into_stream().as_slice() == FILE_FAULT);
     }
@@ -133,6 +158,26 @@ fn writers_that_fail(rt: HostRuntime) -> std::result::Result<(), Fail> {
             pipe(rt.alloc(), &mut input, &mut output, &mut Output::new(Full)),
             status
         );
+    }
+    Ok(())
+}
+
+#[test]
+fn a_writer_that_fills_up(rt: HostRuntime) -> std::result::Result<(), Fail> {
+    for room in 0..=PRINTED.len() {
+        let mut input = Bytes::new(TEXT);
+        let mut output = Output::new(Narrow {
+            taken: Vec::new(rt.alloc()),
+            room,
+        });
+        let mut errors = Output::new(Vec::new(rt.alloc()));
+        let status = pipe(rt.alloc(), &mut input, &mut output, &mut errors);
+        let full = room == PRINTED.len();
+        assert_eq!(&rt; status, if full { 0 } else { 3 });
+        let said = errors.into_stream();
+        assert!(&rt; said.as_slice() == if full { b"".as_slice() } else { FILE_FAULT });
+        let narrow = output.into_stream();
+        assert!(&rt; narrow.taken.as_slice() == &PRINTED[..room]);
     }
     Ok(())
 }

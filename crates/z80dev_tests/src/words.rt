@@ -74,5 +74,8 @@ fn faults(rt: HostRuntime) -> Result<(), Fail> {
     )?;
     assert_fault(&rt, alloc, &["x"], ErrorKind::InvalidSubcommand)?;
     assert_fault(&rt, alloc, &["--x"], ErrorKind::UnknownArgument)?;
+    assert_fault(&rt, alloc, &["--frob"], ErrorKind::UnknownArgument)?;
+    assert_fault(&rt, alloc, &["chekc"], ErrorKind::InvalidSubcommand)?;
+    assert_fault(&rt, alloc, &["--version"], ErrorKind::DisplayVersion)?;
     assert_fault(&rt, alloc, &["--help"], ErrorKind::DisplayHelp)
 }

@@ -5,7 +5,7 @@ use certificate::Verdict;
 use std::alloc::Global;
 use std::process::Abort;
 use std::test::Fail;
-use zlink::{AsmFault, BuildFault, Built, LinkFault, Source, Why, build};
+use zlink::{AsmFault, BuildFault, Built, LinkFault, Misfit, Source, Why, build};
 
 /// So many zeros, and then these bytes.
 pub(crate) type Piece<'a> = (usize, &'a [u8]);
@@ -137,12 +137,16 @@ pub(crate) fn assert_no_fit(
     rt: &impl Abort,
     alloc: Global,
     text: &[u8],
-    want: Verdict,
+    want: Misfit,
 ) -> Result<(), Fail> {
+    let verdict = match want {
+        Misfit::Range(statement) => Verdict::Range(statement),
+        Misfit::TooLarge(total) => Verdict::TooLarge(total),
+    };
     match build_text(alloc, text)? {
         Err(BuildFault::Link(LinkFault::NoFit { why, sizes, cert })) => {
             assert_eq!(rt; why, want);
-            assert_certified(rt, alloc, &sizes, &cert, want)
+            assert_certified(rt, alloc, &sizes, &cert, verdict)
         }
         _ => Err(Fail::from("another answer where no choice fits")),
     }

@@ -1,7 +1,6 @@
 //! Which file a text makes.
 
 use crate::asserts::{Piece, assert_bytes, assert_file, assert_no_fit};
-use certificate::Verdict::{self, Range, TooLarge};
 use std::test::Fail;
 
 #[test]
@@ -96,7 +95,7 @@ fn jumps(rt: HostRuntime) -> Result<(), Fail> {
 
 #[test]
 fn no_fit(rt: HostRuntime) -> Result<(), Fail> {
-    let rows: [(&[u8], Verdict); 7] = [
+    let rows: [(&[u8], Misfit); 7] = [
         (b"JR X\nDS 125\nJP Y\nX: DS 128\nY: RET", Range(0)),
         (b"JR X\nDS 128\nX:", Range(0)),
         (b"X: DS 127\nJR X", Range(1)),
