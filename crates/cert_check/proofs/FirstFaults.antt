@@ -12,7 +12,7 @@ use Rattle.certificate.specs.Accepts.{Shows}
 use Rattle.cert_check.specs.Types.{CheckFault}
 use Rattle.cert_check.specs.declared.fault.CheckFault.TheVariants.{NotForced, NotAJump, Repeated, StillShort, WrongTotal, NotOutOfRange}
 use Rattle.cert_check.specs.Faults.{IsStillShort, Stands, line_faults, verdict_faults, faults, FirstOf}
-use Rattle.cert_check.specs.Walking.{FailsAt, IsJudged}
+use Rattle.cert_check.specs.Private.Following.{FailsAt, IsJudged}
 
 -- none of a list is so
 abbrev pub NoneOf : (CheckFault → Type 0) → List CheckFault → Type 0

@@ -1,5 +1,5 @@
 pub mod Bytes
-pub mod Checking
+pub mod Checked
 pub mod FirstFaults
-pub mod Following
-pub mod Judging
+pub mod Followed
+pub mod Judged

@@ -1,4 +1,4 @@
 pub mod Types
 pub mod Faults
 pub mod Checks
-pub mod Walking
+pub mod Private

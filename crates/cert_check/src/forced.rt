@@ -2,7 +2,7 @@
 
 ghost use Rattle.std.specs.Prelude.{◌≡◌, ◌<◌, ◌≤◌, length, MatchBool};
 ghost use Rattle.certificate.specs.Choice.{IsShape, Reaches, chosen, size_at};
-ghost use Rattle.cert_check.specs.Walking.{IsFollowed, IsLayout};
+ghost use Rattle.cert_check.specs.Private.Following.{IsFollowed, IsLayout};
 
 use crate::fault::CheckFault;
 use crate::layout::reaches;

@@ -3,7 +3,7 @@
 ghost use Rattle.std.specs.Prelude.{◌≡◌, ◌+◌, ◌<◌, ◌≤◌, length, MatchBool};
 ghost use Rattle.certificate.specs.Choice.{Reaches, bytes_before, chosen, size_at, size_of, total};
 ghost use Rattle.cert_check.specs.Faults.{IsStillShort};
-ghost use Rattle.cert_check.specs.Walking.{IsFirstMiss, IsLayout};
+ghost use Rattle.cert_check.specs.Private.Following.{IsFirstMiss, IsLayout};
 
 use certificate::Statement;
 

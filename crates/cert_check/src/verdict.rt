@@ -3,14 +3,11 @@
 ghost use Rattle.std.specs.Prelude.{MatchBool};
 ghost use Rattle.certificate.specs.Choice.{chosen, total};
 ghost use Rattle.certificate.specs.Accepts.{IsOutOfRange};
-ghost use Rattle.cert_check.specs.Walking.{IsJudged, IsLayout, IsTotalChecked};
+ghost use Rattle.cert_check.specs.Private.Following.{IsJudged, IsLayout, IsTotalChecked};
 
 use crate::fault::CheckFault;
 use crate::layout::{first_miss, misses, total};
-use certificate::{Statement, Verdict};
-
-/// The bytes of the largest program, from 0100H to FCFFH.
-const MAX_TOTAL: u32 = 64_512;
+use certificate::{MAX_TOTAL, Statement, Verdict};
 
 /// Whether a statement is a jump that is always short and does not reach its target.
 fn is_out_of_range(statements: &[Statement], long: &[bool], k: usize) -> bool

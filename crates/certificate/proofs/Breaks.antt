@@ -7,7 +7,7 @@ use Rattle.certificate.specs.Lines.{line_feed, text_of, AreFramed, BreaksAt}
 use Rattle.certificate.specs.Types.{TextFault}
 use Rattle.certificate.specs.declared.fault.TextFault.TheVariants.{BadLine, NoMemory}
 use Rattle.certificate.specs.Texts.{OrNoMemory}
-use Rattle.certificate.specs.Reading.{IsPlain}
+use Rattle.certificate.specs.Private.Reading.{IsPlain}
 
 abbrev pub ArePlain : List (List ℕ) → Type 0
 ArePlain lines = AllByRecursion IsPlain lines

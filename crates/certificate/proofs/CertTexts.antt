@@ -11,7 +11,7 @@ use Rattle.certificate.specs.declared.cert.Verdict.TheVariants.{Best, Range, Too
 use Rattle.certificate.specs.declared.fault.TextFault.TheVariants.{BadLine, NoMemory}
 use Rattle.certificate.specs.Lines.{line_feed}
 use Rattle.certificate.specs.Texts.{forced_line, verdict_line, verdict_number, cert_header, IsCert, IsForcedLine, IsVerdictLine, AreCertLines, ReadsCert}
-use Rattle.certificate.specs.Reading.{IsPlain}
+use Rattle.certificate.specs.Private.Reading.{IsPlain}
 use Rattle.certificate.proofs.Breaks.{IsGrammar, one_break, framed_plain, same_lines}
 
 pub digits_plain : (ds : List ℕ) → AllDigits 10 ds → IsPlain ds

@@ -2,5 +2,5 @@ pub mod Breaks
 pub mod CertTexts
 pub mod ForcingLemmas
 pub mod Numbers
-pub mod SizesReading
+pub mod SizesRead
 pub mod SizesTexts

@@ -13,7 +13,7 @@ use Rattle.std.proofs.lemmas.Bool.{and_parts, and_from, cases_lt, eq-eqb, eqb-tr
 use Rattle.std.specs.Option.{unwrap_or}
 use Rattle.certificate.proofs.CertTexts.{same_rest}
 use Rattle.certificate.specs.Texts.{IsNumber, IsJumpLine}
-use Rattle.certificate.specs.Reading.{is_number, IsNumbered, IsTarget}
+use Rattle.certificate.specs.Private.Reading.{is_number, IsNumbered, IsTarget}
 
 digit_range : (d : ℕ) → is_ascii_digit d ≡ true → IsInRange 48 57 d
 digit_range d h = let parts = and_parts (nat_le 48 d) (nat_le d 57) h in (leb-true 48 d parts.0, leb-true d 57 parts.1)

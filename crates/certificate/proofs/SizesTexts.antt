@@ -13,7 +13,7 @@ use Rattle.certificate.specs.declared.fault.TextFault.TheVariants.{BadLine, NoMe
 use Rattle.certificate.specs.Choice.{IsShape, IsStatement}
 use Rattle.certificate.specs.Lines.{text_of, BreaksAt}
 use Rattle.certificate.specs.Texts.{statement_line, sizes_header, end_line, sizes_lines, sizes_text, IsJumpLine, IsStatementLine, AreSizesLines, IsFarLine, IsFarAt, ReadsSizes}
-use Rattle.certificate.specs.Reading.{IsPlain}
+use Rattle.certificate.specs.Private.Reading.{IsPlain}
 use Rattle.certificate.proofs.Breaks.{IsGrammar, one_break, framed_plain, same_lines}
 use Rattle.certificate.proofs.CertTexts.{digits_plain, decimal_plain, unlike, same_rest, same_number}
 

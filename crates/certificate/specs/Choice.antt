@@ -1,6 +1,7 @@
 use Rattle.std.specs.Prelude.{◌≡◌, ℕ, zero, suc, ◌+◌, ◌≤◌, All, Bool, false, if◌then◌else◌, List, length, Some, slice_get}
 use Rattle.std.specs.List.{slice_index_or}
 use Rattle.std.specs.Option.{option_map_or}
+use Rattle.certificate.specs.declared.limits.TheConstants.{FIRST_PLACE, MAX_STATEMENTS, MAX_TOTAL}
 use Rattle.certificate.specs.Types.{Statement}
 use Rattle.certificate.specs.declared.shape.Statement.TheVariants.{Fixed, Jump, Short}
 
@@ -19,7 +20,7 @@ IsStatement count (Short t) = t ≤ count
 
 -- a program is short enough, and its jumps name its statements or its end
 pub record IsShape (shape : List Statement) : Type 0 where
-  pub few : length shape ≤ 20000
+  pub few : length shape ≤ MAX_STATEMENTS
   pub each : All (IsStatement (length shape)) shape
 
 -- statement k is a jump to t whose size may be chosen
@@ -57,9 +58,9 @@ unfoldable pub bytes_before : Choice → List Statement → ℕ → ℕ
 bytes_before c shape zero = 0
 bytes_before c shape (suc k) = bytes_before c shape k + size_at c shape k
 
--- where statement k stands: a CP/M program begins at 0100H
+-- where statement k stands
 abbrev pub place : Choice → List Statement → ℕ → ℕ
-place c shape k = 256 + bytes_before c shape k
+place c shape k = FIRST_PLACE + bytes_before c shape k
 
 -- the bytes of all statements
 abbrev pub total : Choice → List Statement → ℕ
@@ -86,11 +87,11 @@ IsSettled c shape = (k t : ℕ) → IsJump shape k t → c k ≡ false → Reach
 abbrev pub ShortsReach : Choice → List Statement → Type 0
 ShortsReach c shape = (k t : ℕ) → IsShort shape k t → Reaches c shape k t
 
--- a choice that can be laid out: 64,512 bytes are 0100H to FCFFH
+-- a choice that can be laid out
 pub record IsValid (c : Choice) (shape : List Statement) : Type 0 where
   pub settled : IsSettled c shape
   pub shorts : ShortsReach c shape
-  pub fits : total c shape ≤ 64512
+  pub fits : total c shape ≤ MAX_TOTAL
 
 -- no choice that can be laid out takes fewer bytes
 pub record IsBest (c : Choice) (shape : List Statement) : Type 0 where

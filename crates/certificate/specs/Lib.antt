@@ -4,4 +4,4 @@ pub mod Forcing
 pub mod Lines
 pub mod Texts
 pub mod Accepts
-pub mod Reading
+pub mod Private

@@ -1,5 +1,6 @@
 use Rattle.std.specs.Prelude.{◌≡◌, ℕ, ◌+◌, ◌^◌, ◌<◌, ◌≤◌, ◌⊎◌, All, List, [], ◌∷◌, ◌++◌, length, map, codes, decimal, slice_index, slice_get, Some, Result, Ok, Err}
 use Rattle.std.specs.Str.Parse.{IsNumeral, digits_value}
+use Rattle.certificate.specs.declared.limits.TheConstants.{MAX_STATEMENTS}
 use Rattle.certificate.specs.Types.{Statement, Verdict, Cert, TextFault}
 use Rattle.certificate.specs.declared.shape.Statement.TheVariants.{Fixed, Jump, Short}
 use Rattle.certificate.specs.declared.cert.Verdict.TheVariants.{Best, Range, TooLarge}
@@ -111,7 +112,7 @@ IsStatementLine line = IsFixedLine line ⊎ ((target : ℕ) × IsAnyJumpLine lin
 -- The grammar of a sizes text, but for how great a target may be. That depends on the count of statements, so targets
 -- are judged where the whole text has kept this grammar.
 abbrev pub AreSizesLines : List (List ℕ) → Type 0
-AreSizesLines = AreFramed sizes_header IsStatementLine (λ line. line ≡ end_line) (λ count. count ≤ 20000)
+AreSizesLines = AreFramed sizes_header IsStatementLine (λ line. line ≡ end_line) (λ count. count ≤ MAX_STATEMENTS)
 
 -- the line of a jump to what is no statement and not the end
 abbrev pub IsFarLine : ℕ → List ℕ → Type 0

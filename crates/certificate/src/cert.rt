@@ -3,11 +3,11 @@
 ghost use Rattle.std.specs.Prelude.{◌≡◌, ◌⊎◌, ◌<◌, ◌^◌, ℕ, All, List, Result, IfOk};
 ghost use Rattle.certificate.specs.Types.{TextFault, Verdict};
 ghost use Rattle.certificate.specs.Texts.{OrNoMemory, IsCert, ReadsCert, answered, cert_text};
-ghost use Rattle.certificate.specs.Reading.{IsCertLine};
+ghost use Rattle.certificate.specs.Private.Reading.{IsCertLine};
 
-use crate::fault::{NoMemory, TextFault};
+use crate::fault::TextFault;
 use crate::lines::{behind, first_line, numbered, push_line};
-use std::alloc::Global;
+use std::alloc::{AllocError, Global};
 
 /// What is shown of a shape.
 #[derive(Clone, Copy, Debug, PartialEq, Eq)]
@@ -99,7 +99,7 @@ fn numbers_fit(order: &[u32], number: u32)
 {}
 
 /// The certificate text of a forcing order and a verdict.
-pub fn print_cert(alloc: Global, cert: &Cert) -> Result<Vec<u8>, NoMemory>
+pub fn print_cert(alloc: Global, cert: &Cert) -> Result<Vec<u8>, AllocError>
     ensures text { IfOk result (λ text. text.items ≡ cert_text cert.now.order.items cert.now.verdict) }
     ensures numbers { IfOk result (λ _. IsCert cert.now.order.items cert.now.verdict) }
 {

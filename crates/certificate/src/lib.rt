@@ -9,11 +9,13 @@
 mod cert;
 mod fault;
 pub mod laws;
+mod limits;
 mod lines;
 mod shape;
 mod sizes;
 
 pub use cert::{Cert, Verdict, print_cert, read_cert};
-pub use fault::{NoMemory, TextFault};
+pub use fault::TextFault;
+pub use limits::{FIRST_PLACE, MAX_STATEMENTS, MAX_TOTAL};
 pub use shape::{Shape, Statement};
 pub use sizes::{print_sizes, read_sizes};

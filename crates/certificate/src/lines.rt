@@ -4,7 +4,7 @@ ghost use Rattle.std.specs.Prelude.{◌≡◌, ◌≢◌, ◌<◌, ◌∷◌, �
 ghost use Rattle.std.specs.List.{list_all};
 ghost use Rattle.std.specs.Char.{is_ascii_digit};
 ghost use Rattle.certificate.specs.Lines.{line_feed};
-ghost use Rattle.certificate.specs.Reading.{IsNumbered, IsPlain, IsTarget, is_number};
+ghost use Rattle.certificate.specs.Private.Reading.{IsNumbered, IsPlain, IsTarget, is_number};
 
 use itoa::Buffer;
 use std::alloc::AllocError;

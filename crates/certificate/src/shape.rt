@@ -1,9 +1,7 @@
 //! What the sizes of a program depend on.
 
+use crate::limits::MAX_STATEMENTS;
 use std::marker::Model;
-
-/// The most statements of a program.
-pub(crate) const MAX_STATEMENTS: usize = 20_000;
 
 /// One statement of a program, as far as sizes go. Targets are numbers of statements, counted from 0; the count of all
 /// statements stands for the end.

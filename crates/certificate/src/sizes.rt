@@ -3,15 +3,16 @@
 ghost use Rattle.std.specs.Prelude.{◌≡◌, ◌≢◌, ◌⊎◌, ◌≤◌, ℕ, List, Result, Ok, IfOk, MatchBool, MatchOption};
 ghost use Rattle.certificate.specs.Types.{Statement, TextFault};
 ghost use Rattle.certificate.specs.Texts.{OrNoMemory, ReadsSizes, end_line};
-ghost use Rattle.certificate.specs.Reading.{AreLinesRead, IsFirstFar, IsStatementRead};
+ghost use Rattle.certificate.specs.Private.Reading.{AreLinesRead, IsFirstFar, IsStatementRead};
 
-use crate::fault::{NoMemory, TextFault};
+use crate::fault::TextFault;
+use crate::limits::MAX_STATEMENTS;
 use crate::lines::{behind, first_line, numbered, push_line, target};
-use crate::shape::{MAX_STATEMENTS, Shape, Statement};
-use std::alloc::Global;
+use crate::shape::{Shape, Statement};
+use std::alloc::{AllocError, Global};
 
 /// The sizes text of a shape.
-pub fn print_sizes(alloc: Global, shape: &Shape) -> Result<Vec<u8>, NoMemory>
+pub fn print_sizes(alloc: Global, shape: &Shape) -> Result<Vec<u8>, AllocError>
     ensures { IfOk result (λ text. ReadsSizes text.items (Ok shape.now)) }
 {
     let mut text = Vec::from_slice(alloc, b"Z80SIZES 1\n")?;

@@ -8,7 +8,7 @@ use Rattle.ruler.specs.declared.shape.Statement.TheVariants.{Fixed, Jump, Short}
 use Rattle.relax.specs.declared.relaxable.RelaxableJump.{RelaxableJump}
 use Rattle.ruler.specs.Choice.{IsJump, IsAnyJump}
 use Rattle.relax.specs.Probes.{is_jump}
-use Rattle.relax.specs.Worklist.{statement_of, target_of}
+use Rattle.relax.specs.Private.Worklist.{statement_of, target_of}
 
 -- the jumps below k, in order
 pub record JumpsBelow (shape : List Statement) (jumps : List RelaxableJump) (k : ℕ) : Type 0 where

@@ -12,7 +12,7 @@ use Rattle.ruler.specs.Choice.{Choice, chosen, IsAnyJump, Fits, IsSettled}
 use Rattle.ruler.specs.Ruler.{IsLengthened}
 use Rattle.relax.specs.Growth.{after, Misses, IsForcing, TakesLowest, SettledBelow, IsLeastFirst}
 use Rattle.relax.specs.Probes.{IsProbeCount}
-use Rattle.relax.specs.Worklist.{statement_of, target_of, AreRelaxable, PassesOver, IsLowestPending, pending_count, Requeued}
+use Rattle.relax.specs.Private.Worklist.{statement_of, target_of, AreRelaxable, PassesOver, IsLowestPending, pending_count, Requeued}
 use Rattle.relax.proofs.Forcing.{after-push, count-set, each-push}
 use Rattle.relax.proofs.Window.{in_window, still_fits}
 

@@ -9,7 +9,7 @@ pub(crate) struct RelaxableJump {
 
 impl RelaxableJump {
     ghost use Rattle.std.specs.Prelude.{◌↔◌, IsTrue};
-    ghost use Rattle.relax.specs.Worklist.{PassesOver};
+    ghost use Rattle.relax.specs.Private.Worklist.{PassesOver};
 
     /// Whether its displacement spans statement `k`, so that the size of `k` counts.
     pub(crate) fn passes_over(self, k: u32) -> bool

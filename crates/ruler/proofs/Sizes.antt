@@ -9,7 +9,7 @@ use Rattle.std.proofs.lemmas.List.Elements.{All-get_or}
 use Rattle.ruler.specs.declared.shape.Statement.{Statement}
 use Rattle.ruler.specs.declared.shape.Statement.TheVariants.{Fixed, Jump, Short}
 use Rattle.ruler.specs.Choice.{Choice, size_of, size_at, bytes_before, chosen, IsShape, IsStatement}
-use Rattle.ruler.specs.Sums.{HoldsSizes}
+use Rattle.ruler.specs.Private.SumTree.{HoldsSizes}
 
 size_of-le : (b : Bool) (n : ℕ) (s : Statement) → IsStatement n s → size_of b s ≤ 65535
 size_of-le b n (Fixed m) is = is.1

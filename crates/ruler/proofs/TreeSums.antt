@@ -6,7 +6,7 @@ use Rattle.std.proofs.lemmas.Bool.{cases_eq}
 use Rattle.std.proofs.lemmas.List.{take_all, length-set, drop-set-lt, drop-set-add}
 use Rattle.std.proofs.lemmas.List.Sums.{sum_by_more}
 use Rattle.std.specs.Int.{IsPowerOfTwo}
-use Rattle.ruler.specs.SumTree.{IsSumTree}
+use Rattle.ruler.specs.Private.SumTree.{IsSumTree}
 
 -- the sum of the first n cells from a base on
 abbrev pub row : List ℕ → ℕ → ℕ → ℕ

@@ -1,4 +1,4 @@
 pub mod Choice
 pub mod Ruler
 pub mod Sums
-pub mod SumTree
+pub mod Private

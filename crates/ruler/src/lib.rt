@@ -5,14 +5,14 @@
 //! which choice is settled, valid and best stand here, in `specs/Choice.antt`.
 #![tactic(auto)]
 
-mod error;
+mod limits;
 mod reach;
 mod ruler;
 mod shape;
 mod sum_tree;
 mod sums;
 
-pub use error::NoMemory;
+pub use limits::{FIRST_PLACE, MAX_STATEMENTS, MAX_TOTAL};
 pub use ruler::Ruler;
 pub use shape::{Shape, Statement};
 pub use sums::Sums;

@@ -1,9 +1,7 @@
 //! What the sizes of a program depend on.
 
+use crate::limits::MAX_STATEMENTS;
 use std::marker::Model;
-
-/// The most statements of a program.
-const MAX_STATEMENTS: usize = 20_000;
 
 /// One statement of a program, as far as sizes go. Targets are numbers of statements, counted from 0; the count of all
 /// statements stands for the end.
@@ -32,7 +30,7 @@ impl Statement {
     }
 
     /// How many bytes it takes, as a long jump or not.
-    pub(crate) fn size(self, long: bool) -> u32
+    pub fn size(self, long: bool) -> u32
         ensures value { result ≡ size_of long self }
         ensures bound { result ≤ 65535 }
     {

@@ -13,7 +13,7 @@ pub(crate) struct SumTree {
 
 impl Model for SumTree {
     ghost use Rattle.std.specs.Prelude.{ℕ, List, drop};
-    ghost use Rattle.ruler.specs.SumTree.{IsSumTree};
+    ghost use Rattle.ruler.specs.Private.SumTree.{IsSumTree};
 
     ghost Value = { List ℕ };
 
@@ -23,11 +23,12 @@ impl Model for SumTree {
 }
 
 impl SumTree {
+    ghost use Rattle.ruler.specs.declared.limits.TheConstants.{MAX_STATEMENTS};
     ghost use Rattle.std.specs.Prelude.{◌≡◌, ◌+◌, ◌<◌, ◌≤◌, ◌^◌, length, sum, take, replicate, slice_index, slice_set, IfOk};
 
     /// More than `count` numbers, all 0.
     pub(crate) fn new(alloc: Global, count: usize) -> Result<SumTree, AllocError>
-        requires { count ≤ 20000 }
+        requires { count ≤ MAX_STATEMENTS }
         ensures len { IfOk result (λ t. count < length t) }
         ensures zero { IfOk result (λ t. t ≡ replicate (length t) 0) }
     {

@@ -1,15 +1,12 @@
 //! A ruler over a tree of sums.
 
-use crate::error::NoMemory;
+use crate::limits::FIRST_PLACE;
 use crate::reach::is_near;
 use crate::ruler::Ruler;
 use crate::shape::{Shape, Statement};
 use crate::sum_tree::SumTree;
-use std::alloc::Global;
+use std::alloc::{AllocError, Global};
 use std::marker::Model;
-
-/// Where a program begins: 0100H.
-const FIRST_PLACE: u32 = 0x100;
 
 /// A program and the sizes of its statements, in a tree that gives each place and takes each change in a time in the
 /// order of the logarithm of their count.
@@ -22,7 +19,8 @@ pub struct Sums {
 }
 
 impl Model for Sums {
-    ghost use Rattle.ruler.specs.Sums.{Layout, HoldsSizes};
+    ghost use Rattle.ruler.specs.Sums.{Layout};
+    ghost use Rattle.ruler.specs.Private.SumTree.{HoldsSizes};
 
     ghost Value = { Layout };
 
@@ -35,9 +33,9 @@ impl Sums {
     ghost use Rattle.std.specs.Prelude.{◌≡◌, ◌≤◌, ℕ, false, length, vec_len, IfOk, MatchOption};
     ghost use Rattle.ruler.specs.Choice.{chosen, place, total, ShortsReach, IsLowestShortMiss};
 
-    /// The program with every jump short, and no test counted. Its only error is want of memory; no other method
+    /// The program with every jump short, and no test counted. Its only error is that memory runs out; no other method
     /// takes any.
-    pub fn new(alloc: Global, shape: &Shape) -> Result<Sums, NoMemory>
+    pub fn new(alloc: Global, shape: &Shape) -> Result<Sums, AllocError>
         ensures shape { IfOk result (λ s. s.shape ≡ shape.now) }
         ensures short { IfOk result (λ s. (k : ℕ) → chosen s.long k ≡ false) }
         ensures asked { IfOk result (λ s. s.asked ≡ 0) }

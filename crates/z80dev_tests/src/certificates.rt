@@ -97,7 +97,13 @@ fn writers_that_fail(rt: HostRuntime) -> Result<(), Fail> {
     // A fault of standard error changes no status.
     let mut output = Output::new(Vec::new(rt.alloc()));
     assert_eq!(&rt;
-        check_texts(rt.alloc(), sizes, b"Z80CERT 1\n", &mut output, &mut Output::new(Full)),
+        check_texts(
+            rt.alloc(),
+            sizes,
+            b"Z80CERT 1\n",
+            &mut output,
+            &mut Output::new(Full)
+        ),
         1
     );
     Ok(())

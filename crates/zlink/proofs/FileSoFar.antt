@@ -12,7 +12,7 @@ use Rattle.zlink.specs.Program.{IsProgram, IsStatement}
 use Rattle.zlink.specs.Reads.{shape, sized_as, IsPiece, Reads, long_jump}
 use Rattle.zlink.specs.Private.Layout.{ArePlaces}
 use Rattle.zlink.specs.Private.Emit.{IsReady, IsSizedPiece}
-use Rattle.zlink.proofs.Places.{bytes-zero, bytes-next, bytes-le, size-there}
+use Rattle.ruler.proofs.Places.{bytes-zero, bytes-next, bytes-le, size-there}
 
 -- a statement of a program is one of its shape
 pub shape-at : (p : List (Statement ℕ)) (k : ℕ) (s : Statement ℕ) → slice_get p k ≡ Some s → slice_get (shape p) k ≡ Some (sized_as s)

@@ -4,8 +4,8 @@ pub mod FileSoFar
 pub mod LabelTables
 pub mod LinesSoFar
 pub mod Linked
-pub mod Places
 pub mod Programs
 pub mod Settled
 pub mod Spelled
+pub mod Tables
 pub mod TakenLines

@@ -1,4 +1,5 @@
 -- The lines that were taken up are a program.
+use Rattle.ruler.specs.declared.limits.TheConstants.{MAX_STATEMENTS}
 use Rattle.std.proofs.Common.{◌≡◌, ℕ, ◌+◌, ◌≤◌, Bool, true, false, List, [], ◌∷◌, Option, Some, None, Result, Ok, Err, cond, map, length, All, refl, sym, ap, subst, ◌∙◌, arith, length-append, if◌then◌else◌}
 use Rattle.std.specs.List.{list_all, AllByRecursion}
 use Rattle.std.specs.Str.{bytes_eq}
@@ -95,7 +96,7 @@ settled-all n names (s ∷ ss) p h placed e typed =
     subst (λ q. (length q ≡ length (s ∷ ss)) × AllByRecursion (IsStatement n) q) same (omega (arith, more.0), (one, more.1))
 
 -- what the second pass makes of lines that were taken up is a program
-pub is_program : (lines : List Line) (p : List (Statement ℕ)) → statement_count lines ≤ 20000 → length (numbered lines) ≤ statement_count lines → All IsPlaced (numbered lines)
+pub is_program : (lines : List Line) (p : List (Statement ℕ)) → statement_count lines ≤ MAX_STATEMENTS → length (numbered lines) ≤ statement_count lines → All IsPlaced (numbered lines)
     → program_of lines ≡ Ok p → All IsTyped p → IsProgram p
 is_program lines p few within placed e typed =
     let names = recursion_from_All (AtMost (length (numbered lines))) (labels lines) (labels_from-within 0 1 (length (numbered lines)) lines (omega arith)) in

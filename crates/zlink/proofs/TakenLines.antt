@@ -1,4 +1,5 @@
 -- What is kept after one more line.
+use Rattle.ruler.specs.declared.limits.TheConstants.{MAX_STATEMENTS}
 use Rattle.std.proofs.Common.{◌≡◌, ℕ, ◌+◌, ◌≤◌, Bool, true, false, List, [], ◌∷◌, ◌++◌, Option, Some, None, Ok, if◌then◌else◌, is_some, map, length, nat_le, refl, sym, ap, ◌∙◌, arith, append_assoc, length-append, IfSome, All}
 use Rattle.std.proofs.lemmas.List.{append-nil, length-map}
 use Rattle.std.proofs.lemmas.Bool.{leb-false}
@@ -62,20 +63,20 @@ sized-here number (Some s) h = by (takes_room s) refl
     by false e = All-nil IsPlaced
 
 -- there is room for one more statement, if the line has one
-not_full : (some : Bool) (count : ℕ) → count ≤ 20000 → (if some then nat_le 20000 count else false) ≡ false → count + one_if some ≤ 20000
+not_full : (some : Bool) (count : ℕ) → count ≤ MAX_STATEMENTS → (if some then nat_le MAX_STATEMENTS count else false) ≡ false → count + one_if some ≤ MAX_STATEMENTS
 not_full false count few full = omega arith
-not_full true count few full = omega (arith, leb-false 20000 count full)
+not_full true count few full = omega (arith, leb-false MAX_STATEMENTS count full)
 
 pub taken : (statements new_statements : List (ℕ × Statement (List ℕ))) (names new_names : Names) (count new_count number : ℕ) (before : List Line) (l : Line)
     → IsKept statements names count before → number ≡ length before + 1 → IfSome l.statement IsSized
     → option_map_or (λ name. is_some (found names name)) l.label false ≡ false
-    → (if is_some l.statement then nat_le 20000 count else false) ≡ false
+    → (if is_some l.statement then nat_le MAX_STATEMENTS count else false) ≡ false
     → new_statements ≡ statements ++ here number l → new_names ≡ names ++ labelled l.label (length statements) → new_count ≡ count + one_if (is_some l.statement)
     → (fits_after before l ≡ Ok l) × IsKept new_statements new_names new_count (before ++ l ∷ [])
 taken statements new_statements names new_names count new_count number before l kept number_is sized new full statements_are names_are count_are =
     let new_label : repeats before l ≡ false = ap (λ ns. option_map_or (λ name. is_some (found ns name)) l.label false) (sym kept.labels_are) ∙ new in
-    let not_many : overfills before l ≡ false = ap (λ m. if is_some l.statement then nat_le 20000 m else false) (sym kept.count_is) ∙ full in
-    let few : statement_count before + one_if (is_some l.statement) ≤ 20000 = not_full (is_some l.statement) (statement_count before) kept.few not_many in
+    let not_many : overfills before l ≡ false = ap (λ m. if is_some l.statement then nat_le MAX_STATEMENTS m else false) (sym kept.count_is) ∙ full in
+    let few : statement_count before + one_if (is_some l.statement) ≤ MAX_STATEMENTS = not_full (is_some l.statement) (statement_count before) kept.few not_many in
     let numbers = numbered-push before l number number_is in
     let long : length statements ≡ length (numbered before) = ap length kept.statements_are in (
       rw (new_label, not_many) refl,

@@ -1,4 +1,5 @@
 -- What a program is: statements whose jumps name statements by number, the end being the count.
+use Rattle.ruler.specs.declared.limits.TheConstants.{MAX_STATEMENTS}
 use Rattle.std.specs.Prelude.{◌≡◌, ℕ, ◌≤◌, Bool, true, List, All, length, nat_lt}
 use Rattle.std.specs.List.{list_all}
 use Rattle.asm_stmt.specs.declared.form.Field.{Field}
@@ -19,5 +20,5 @@ IsStatement count (Short branch target) = target ≤ count
 
 -- a program is short enough, and its jumps name its statements or its end
 pub record IsProgram (program : List (Statement ℕ)) : Type 0 where
-  pub few : length program ≤ 20000
+  pub few : length program ≤ MAX_STATEMENTS
   pub each : All (IsStatement (length program)) program

@@ -1,4 +1,5 @@
 -- Which program a source text is, or its first fault.
+use Rattle.ruler.specs.declared.limits.TheConstants.{MAX_STATEMENTS}
 use Rattle.std.specs.Prelude.{◌≡◌, ℕ, ◌+◌, Bool, true, false, List, [], ◌∷◌, ◌++◌, Option, Some, None, Result, Ok, Err, if◌then◌else◌, is_some, length, map, count_by, nat_le}
 use Rattle.std.specs.Result.{MatchResult}
 use Rattle.std.specs.List.{list_all}
@@ -68,7 +69,7 @@ repeats before line = option_map_or (λ name. is_some (found (labels before) nam
 
 -- whether a line has a statement too many
 abbrev pub overfills : List Line → Line → Bool
-overfills before line = if is_some line.statement then nat_le 20000 (statement_count before) else false
+overfills before line = if is_some line.statement then nat_le MAX_STATEMENTS (statement_count before) else false
 
 -- The first pass judges a line by those before it: it is scanned, spelled, and its label is new.
 abbrev pub fits_after : List Line → Line → Result Line Why

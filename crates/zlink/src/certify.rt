@@ -6,7 +6,7 @@ ghost use Rattle.relax.specs.Growth.{IsGrowth};
 ghost use Rattle.certificate.specs.Choice.{IsShape as IsToldShape};
 ghost use Rattle.zlink.specs.Certified.{IsCertified, told, told_verdict};
 
-use certificate::{Cert, NoMemory, print_cert, print_sizes};
+use certificate::{Cert, print_cert, print_sizes};
 use relax::Growth;
 use std::alloc::{AllocError, Global};
 
@@ -55,7 +55,7 @@ pub(crate) fn certify(
     alloc: Global,
     shape: &relax::Shape,
     growth: &Growth,
-) -> Result<Texts, NoMemory>
+) -> Result<Texts, AllocError>
     requires { IsGrowth shape.now growth.now }
     ensures { IfOk result (λ t. IsCertified shape.now growth.now.order.items growth.now.verdict t.sizes.items t.cert.items) }
 {

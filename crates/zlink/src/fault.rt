@@ -147,19 +147,3 @@ impl From<AllocError> for LinkFault {
         LinkFault::NoMemory
     }
 }
-
-impl From<relax::NoMemory> for LinkFault {
-    ghost from_gives = { λ _ e. e ≡ link.NoMemory };
-
-    fn from(_: relax::NoMemory) -> LinkFault {
-        LinkFault::NoMemory
-    }
-}
-
-impl From<certificate::NoMemory> for LinkFault {
-    ghost from_gives = { λ _ e. e ≡ link.NoMemory };
-
-    fn from(_: certificate::NoMemory) -> LinkFault {
-        LinkFault::NoMemory
-    }
-}

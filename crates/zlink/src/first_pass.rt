@@ -1,5 +1,6 @@
 //! The first pass over the lines: each is scanned and spelled, and its label is new.
 
+ghost use Rattle.ruler.specs.declared.limits.TheConstants.{MAX_STATEMENTS};
 ghost use Rattle.std.specs.Prelude.{◌≡◌, ◌+◌, ◌≤◌, ◌++◌, List, ℕ, length, map, vec_len, false, if◌then◌else◌, is_some, nat_le, IfSome, IfErr, OnOk};
 ghost use Rattle.std.specs.Option.{option_map, option_map_or};
 ghost use Rattle.zlink.specs.declared.fault.Stop.TheVariants.{NoMemory};
@@ -14,10 +15,11 @@ use crate::lines::before_end;
 use asm_scan::tokens;
 use asm_stmt::{Body, Stmt, statement};
 use bstr::ByteSlice;
+use ruler::MAX_STATEMENTS;
 use std::alloc::Global;
 
 /// The most statements that a program may have.
-const MOST_STATEMENTS: u32 = 20_000;
+const MOST_STATEMENTS: u32 = MAX_STATEMENTS as u32;
 
 /// A statement, and the number of its line.
 #[derive(Drop)]
@@ -68,7 +70,7 @@ fn is_defined(labels: &Labels, label: &Option<Vec<u8>>) -> bool
 
 /// Whether there is a statement too many.
 fn is_full(count: u32, body: &Option<Body<Vec<u8>>>) -> bool
-    ensures { result ≡ (if is_some (option_map (statement_of (λ name. name.items)) body.now) then nat_le 20000 count else false) }
+    ensures { result ≡ (if is_some (option_map (statement_of (λ name. name.items)) body.now) then nat_le MAX_STATEMENTS count else false) }
 {
     body.is_some() && count >= MOST_STATEMENTS
 }
@@ -107,7 +109,7 @@ fn keep(statements: &mut Vec<Numbered>, line: u32, body: Option<Body<Vec<u8>>>) 
 
 /// Takes up a line after those before it.
 fn take_up(pass: &mut FirstPass, number: u32, stmt: Stmt) -> Result<(), Stop>
-    requires few { pass.old.count ≤ 20000 }
+    requires few { pass.old.count ≤ MAX_STATEMENTS }
     requires within { vec_len pass.old.statements ≤ pass.old.count }
     ensures { (before : List Line) → Keeps pass.old before → number ≡ length before + 1 → IfSome (line_of stmt).statement IsSized → IsTaken before (line_of stmt) pass.new result }
 {
@@ -126,7 +128,7 @@ fn take_up(pass: &mut FirstPass, number: u32, stmt: Stmt) -> Result<(), Stop>
 
 /// Reads a line and takes it up.
 fn judge_line(alloc: Global, pass: &mut FirstPass, number: u32, line: &[u8]) -> Result<(), Stop>
-    requires few { pass.old.count ≤ 20000 }
+    requires few { pass.old.count ≤ MAX_STATEMENTS }
     requires within { vec_len pass.old.statements ≤ pass.old.count }
     ensures { (before : List Line) → Keeps pass.old before → number ≡ length before + 1 → IsJudged before line.now pass.new result }
 {
@@ -136,7 +138,7 @@ fn judge_line(alloc: Global, pass: &mut FirstPass, number: u32, line: &[u8]) -> 
 
 /// The same, with the line's number in the fault.
 fn take_line(alloc: Global, pass: &mut FirstPass, number: u32, line: &[u8]) -> Result<(), AsmStop>
-    requires few { pass.old.count ≤ 20000 }
+    requires few { pass.old.count ≤ MAX_STATEMENTS }
     requires within { vec_len pass.old.statements ≤ pass.old.count }
     ensures { (before : List Line) → Keeps pass.old before → number ≡ length before + 1 → IsPassed before line.now pass.new result }
 {

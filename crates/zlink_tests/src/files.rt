@@ -2,6 +2,7 @@
 
 use crate::asserts::{Piece, assert_bytes, assert_file, assert_no_fit};
 use std::test::Fail;
+use zlink::Misfit::{self, Range, TooLarge};
 
 #[test]
 fn statements(rt: HostRuntime) -> Result<(), Fail> {

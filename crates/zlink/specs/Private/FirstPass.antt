@@ -1,4 +1,5 @@
 -- What the first pass keeps of the lines that it has taken up.
+use Rattle.ruler.specs.declared.limits.TheConstants.{MAX_STATEMENTS}
 use Rattle.std.specs.Prelude.{◌≡◌, ℕ, ◌+◌, ◌≤◌, true, List, [], ◌∷◌, ◌++◌, Result, Ok, Err, length, map}
 use Rattle.std.specs.List.{All}
 use Rattle.std.specs.Prelude.{IfSome}
@@ -32,7 +33,7 @@ pub record IsKept (statements : List (ℕ × Statement (List ℕ))) (names : Nam
   pub statements_are : statements ≡ numbered lines
   pub labels_are : names ≡ labels lines
   pub count_is : count ≡ statement_count lines
-  pub few : statement_count lines ≤ 20000
+  pub few : statement_count lines ≤ MAX_STATEMENTS
   pub within : length (numbered lines) ≤ statement_count lines
   pub sized : All IsPlaced (numbered lines)
 

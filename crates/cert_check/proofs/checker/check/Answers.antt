@@ -1,4 +1,4 @@
-use Rattle.cert_check.proofs.Checking.{only}
+use Rattle.cert_check.proofs.Checked.{only}
 use Rattle.cert_check.proofs.checker.check.Goals as goal
 
 pub returns-clause-only : goal.returns-clause-only

@@ -2,7 +2,7 @@ use Rattle.std.proofs.Common.{◌≡◌, Bool, sym, subst, refl, get_or, length}
 use Rattle.std.proofs.lemmas.Bool.{ltb-true}
 use Rattle.std.proofs.lemmas.Option.{slice_get_read}
 use Rattle.certificate.specs.declared.shape.Statement.TheVariants.{Jump}
-use Rattle.cert_check.proofs.Following.{more}
+use Rattle.cert_check.proofs.Followed.{more}
 use Rattle.cert_check.proofs.forced.follow.Goals as goal
 
 pub loop-i-preserved : goal.loop-i-preserved

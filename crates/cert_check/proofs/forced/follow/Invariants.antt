@@ -1,5 +1,5 @@
 use Rattle.std.proofs.Common.{take}
-use Rattle.cert_check.specs.Walking.{Follows}
+use Rattle.cert_check.specs.Private.Following.{Follows}
 use Rattle.cert_check.proofs.forced.follow.Given as goal
 
 abbrev pub invariant-loop-i : goal.invariant-loop-i

@@ -1,4 +1,4 @@
-use Rattle.cert_check.proofs.Checking.{one_answer}
+use Rattle.cert_check.proofs.Checked.{one_answer}
 use Rattle.cert_check.proofs.laws.one_answer.Goals as goal
 
 pub returns : goal.returns

@@ -1,5 +1,5 @@
 use Rattle.certificate.specs.Choice.{chosen}
-use Rattle.cert_check.proofs.Judging.{none_misses}
+use Rattle.cert_check.proofs.Judged.{none_misses}
 use Rattle.cert_check.proofs.layout.first_miss.Goals as goal
 
 pub returns : goal.returns

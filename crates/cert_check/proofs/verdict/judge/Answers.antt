@@ -1,5 +1,5 @@
 use Rattle.certificate.specs.Choice.{chosen}
-use Rattle.cert_check.proofs.Judging.{best_judged}
+use Rattle.cert_check.proofs.Judged.{best_judged}
 use Rattle.cert_check.proofs.verdict.judge.Goals as goal
 
 pub returns-in-None : goal.returns-in-None

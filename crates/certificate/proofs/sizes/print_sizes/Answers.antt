@@ -1,6 +1,6 @@
 use Rattle.std.proofs.Common.{ap, length, subst, arith}
 use Rattle.certificate.specs.Choice.{IsShape}
-use Rattle.certificate.proofs.SizesReading.{printed}
+use Rattle.certificate.proofs.SizesRead.{printed}
 use Rattle.certificate.proofs.sizes.print_sizes.Goals as goal
 
 pub returns : goal.returns

@@ -1,5 +1,5 @@
 use Rattle.std.proofs.Common.{inr}
-use Rattle.certificate.proofs.SizesReading.{far, spelled}
+use Rattle.certificate.proofs.SizesRead.{far, spelled}
 use Rattle.certificate.proofs.sizes.shape_of.Goals as goal
 
 pub returns-in-Some : goal.returns-in-Some

@@ -1,4 +1,4 @@
-use Rattle.certificate.proofs.SizesReading.{fixed_read, none_read}
+use Rattle.certificate.proofs.SizesRead.{fixed_read, none_read}
 use Rattle.certificate.proofs.sizes.statement.Goals as goal
 
 pub returns-in-Some : goal.returns-in-Some

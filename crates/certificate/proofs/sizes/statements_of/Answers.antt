@@ -1,6 +1,6 @@
 use Rattle.std.proofs.Common.{◌≢◌, ◌+◌, length, arith, sym}
 use Rattle.std.proofs.lemmas.Bool.{eqb-false, eqb-true}
-use Rattle.certificate.proofs.SizesReading.{one_more, ended, broken_header, broken_missing, broken_line, broken_end}
+use Rattle.certificate.proofs.SizesRead.{one_more, ended, broken_header, broken_missing, broken_line, broken_end}
 use Rattle.certificate.proofs.sizes.statements_of.Goals as goal
 
 pub returns-in_default : goal.returns-in_default

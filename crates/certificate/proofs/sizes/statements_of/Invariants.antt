@@ -1,5 +1,5 @@
 use Rattle.std.proofs.Common.{length}
-use Rattle.certificate.specs.Reading.{ReadsSoFar}
+use Rattle.certificate.specs.Private.Reading.{ReadsSoFar}
 use Rattle.certificate.proofs.sizes.statements_of.Given as goal
 
 abbrev pub invariant-loop-line : goal.invariant-loop-line

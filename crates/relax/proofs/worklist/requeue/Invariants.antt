@@ -1,6 +1,6 @@
 use Rattle.std.proofs.Common.{◌≡◌, ℕ, ◌+◌, ◌<◌, ◌≤◌, true, false}
 use Rattle.ruler.specs.Choice.{chosen}
-use Rattle.relax.specs.Worklist.{statement_of, target_of, PassesOver, pending_count}
+use Rattle.relax.specs.Private.Worklist.{statement_of, target_of, PassesOver, pending_count}
 use Rattle.relax.proofs.worklist.requeue.Given as goal
 
 abbrev pub invariant-loop-p : goal.invariant-loop-p

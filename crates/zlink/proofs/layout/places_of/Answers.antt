@@ -2,7 +2,8 @@ use Rattle.std.proofs.Common.{◌≡◌, ◌+◌, slice_index, ap, ◌∙◌, �
 use Rattle.std.proofs.lemmas.Option.{slice_get-get_or}
 use Rattle.ruler.specs.declared.shape.Statement.TheVariants.{Fixed}
 use Rattle.ruler.specs.Choice.{chosen, place}
-use Rattle.zlink.proofs.Places.{bytes-zero, place-next, table-push}
+use Rattle.ruler.proofs.Places.{bytes-zero, place-next}
+use Rattle.zlink.proofs.Tables.{table-push}
 use Rattle.zlink.proofs.layout.places_of.Goals as goal
 
 pub loop-k-init : goal.loop-k-init

@@ -1,0 +1,83 @@
+use Rattle.std.specs.Prelude.{◌≡◌, ◌≢◌, ℕ, ◌-◌, ◌^◌, ◌<◌, ◌≤◌, ◌⊎◌, ◌==◌, Bool, false, if◌then◌else◌, List, [], ◌∷◌, ◌++◌, length, slice_index, slice_get, All, codes, decimal, Option, Some, None, Result, Ok, Err, Vec}
+use Rattle.std.specs.Global.{Global}
+use Rattle.std.specs.List.{AllByRecursion, list_all}
+use Rattle.std.specs.Char.{is_ascii_digit}
+use Rattle.certificate.specs.declared.limits.TheConstants.{MAX_STATEMENTS}
+use Rattle.certificate.specs.Types.{Statement, TextFault}
+use Rattle.certificate.specs.declared.shape.Statement.TheVariants.{Fixed, Jump, Short}
+use Rattle.certificate.specs.declared.cert.CertLine.{CertLine}
+use Rattle.certificate.specs.declared.cert.CertLine.TheVariants.{Forced, Last}
+use Rattle.certificate.specs.declared.fault.TextFault.TheVariants.{BadLine, NoMemory}
+use Rattle.certificate.specs.Choice.{IsStatement}
+use Rattle.certificate.specs.Lines.{line_feed, text_of, BreaksAt}
+use Rattle.certificate.specs.Texts.{statement_line, forced_line, verdict_line, verdict_number, sizes_header, sizes_lines, IsForcedLine, IsVerdictLine, IsJumpLine, IsStatementLine, AreSizesLines}
+
+-- What is read line by line.
+
+-- no line feed is in it
+abbrev pub IsPlain : List ℕ → Type 0
+IsPlain line = AllByRecursion (λ b. (b == line_feed) ≡ false) line
+
+-- whether these are the digits of a number
+abbrev pub is_number : List ℕ → Bool
+is_number digits =
+    if length digits == 0 then false
+    else if slice_index digits 0 == 0x30 then length digits == 1
+    else list_all is_ascii_digit digits
+
+-- a line read as a word and a number below 4,294,967,296
+abbrev pub IsNumbered : List ℕ → List ℕ → Option ℕ → Type 0
+IsNumbered word line (Some n) = (n < 2 ^ 32) × (line ≡ word ++ decimal n)
+IsNumbered word line None = (n : ℕ) → n < 2 ^ 32 → line ≢ word ++ decimal n
+
+-- a line of a certificate but for its first
+abbrev pub IsCertLine : List ℕ → Option CertLine → Type 0
+IsCertLine line (Some (Forced k)) = (k < 2 ^ 32) × (line ≡ forced_line k)
+IsCertLine line (Some (Last verdict)) = (verdict_number verdict < 2 ^ 32) × (line ≡ verdict_line verdict)
+IsCertLine line None = ¬ IsForcedLine line × ¬ IsVerdictLine line
+
+-- a target read as a number, or as the greatest that there is room for
+abbrev pub IsCapped : ℕ → ℕ → Type 0
+IsCapped target t = (t ≡ target) ⊎ ((t ≡ 2 ^ 32 - 1) × (2 ^ 32 - 1 ≤ target))
+
+-- a line read as a jump's by its word
+abbrev pub IsTarget : List ℕ → List ℕ → Option ℕ → Type 0
+IsTarget word line (Some t) = (target : ℕ) × IsJumpLine word line target × IsCapped target t
+IsTarget word line None = (target : ℕ) → ¬ IsJumpLine word line target
+
+-- a line read as a statement's
+abbrev pub IsRead : List ℕ → Statement → Type 0
+IsRead line (Fixed n) = (1 ≤ n) × (n ≤ 65535) × (line ≡ statement_line (Fixed n))
+IsRead line (Jump t) = IsTarget (codes "J ") line (Some t)
+IsRead line (Short t) = IsTarget (codes "S ") line (Some t)
+
+abbrev pub IsStatementRead : List ℕ → Option Statement → Type 0
+IsStatementRead line (Some s) = IsRead line s
+IsStatementRead line None = ¬ IsStatementLine line
+
+-- lines read as statements
+abbrev pub AreRead : List (List ℕ) → List Statement → Type 0
+AreRead [] [] = Unit {0}
+AreRead [] (_ ∷ _) = ⊥
+AreRead (_ ∷ _) [] = ⊥
+AreRead (line ∷ lines) (s ∷ statements) = IsRead line s × AreRead lines statements
+
+-- a sizes text read but for how great its targets may be
+abbrev pub AreLinesRead : List ℕ → Result (Vec Statement Global) TextFault → Type 0
+AreLinesRead text (Ok found) = (lines : List (List ℕ)) × AreRead lines found.items × (length found.items ≤ MAX_STATEMENTS) × (text ≡ text_of (sizes_lines lines))
+AreLinesRead text (Err (BadLine n)) = BreaksAt AreSizesLines text n
+AreLinesRead text (Err NoMemory) = Unit {0}
+
+-- what has been read of a sizes text, line by line, and what is left
+pub record ReadsSoFar (text rest : List ℕ) (statements : List Statement) : Type 0 where
+  pub lines : List (List ℕ)
+  pub text_is : text ≡ text_of (sizes_header ∷ lines) ++ rest
+  pub read : AreRead lines statements
+  pub few : length statements ≤ MAX_STATEMENTS
+
+-- the lowest of some statements that may not stand among so many
+abbrev pub IsFirstFar : List Statement → Option ℕ → Type 0
+IsFirstFar statements (Some k) =
+    (s : Statement) × (slice_get statements k ≡ Some s) × ¬ IsStatement (length statements) s
+    × ((j : ℕ) (other : Statement) → j < k → slice_get statements j ≡ Some other → IsStatement (length statements) other)
+IsFirstFar statements None = All (IsStatement (length statements)) statements

@@ -1,0 +1,120 @@
+-- What the definitions say against the classical wrong ways to choose: leaving every jump long, starting long and making short what fits,
+-- and judging ranges or the total with every jump long. Each is an answer that is no growth of the shape named here.
+use Rattle.std.proofs.Common.{◌≡◌, ◌≢◌, ℕ, zero, suc, Bool, true, false, List, [], ◌∷◌, Some, refl, sym, ap, subst, ◌∙◌, arith}
+use Rattle.std.specs.List.{slice_get}
+use Rattle.ruler.specs.declared.shape.Statement.{Statement}
+use Rattle.ruler.specs.declared.shape.Statement.TheVariants.{Fixed, Jump, Short}
+use Rattle.ruler.specs.declared.limits.TheConstants.{MAX_TOTAL}
+use Rattle.ruler.specs.Choice.{Choice, bytes_before, chosen, place, total, IsJump, IsShort, IsSettled, Reaches}
+use Rattle.relax.specs.declared.growth.Growth.{Growth}
+use Rattle.relax.specs.declared.growth.Verdict.TheVariants.{Range, TooLarge}
+use Rattle.relax.specs.Growth.{Holds, IsGrowth}
+
+abbrev all_short : Choice
+all_short k = false
+
+false_from_not : (b : Bool) → (b ≡ true → ⊥) → b ≡ false
+false_from_not true no_way = absurd (no_way refl)
+false_from_not false no_way = refl
+
+-- a jump that is short in some settled choice is short in the answer
+short_if_it_may_be : (shape : List Statement) (g : Growth) (k t : ℕ) → IsGrowth shape g → IsSettled all_short shape → IsJump shape k t → chosen g.long.items k ≡ false
+short_if_it_may_be shape g k t is settled jump =
+    false_from_not (chosen g.long.items k) (λ long. let both : true ≡ false = sym ((is.needed k t jump).0 long all_short settled) in absurd (cc both))
+
+-- a jump over 127 bytes, which reaches
+abbrev over_127 : List Statement
+over_127 = Jump 2 ∷ Fixed 127 ∷ Fixed 1 ∷ []
+
+over_127_settled : IsSettled all_short over_127
+unfolding bytes_before
+over_127_settled zero t jump short =
+    let there : 2 ≡ t = cc jump in
+    let from : place all_short over_127 0 ≡ 256 = refl in
+    let to : place all_short over_127 2 ≡ 385 = refl in
+    subst (Reaches all_short over_127 0) there (rw (from, to) (omega arith, omega arith))
+over_127_settled (suc zero) t jump short = absurd (cc jump)
+over_127_settled (suc (suc zero)) t jump short = absurd (cc jump)
+over_127_settled (suc (suc (suc k))) t jump short = absurd (cc jump)
+
+-- so it is not left long
+pub not_left_long : (g : Growth) → IsGrowth over_127 g → chosen g.long.items 0 ≡ false
+not_left_long g is = short_if_it_may_be over_127 g 0 2 is over_127_settled refl
+
+-- two jumps that reach while both are short, and neither while the other is long
+abbrev both_or_none : List Statement
+both_or_none = Jump 4 ∷ Fixed 124 ∷ Jump 0 ∷ Fixed 1 ∷ []
+
+both_or_none_settled : IsSettled all_short both_or_none
+unfolding bytes_before
+both_or_none_settled zero t jump short =
+    let there : 4 ≡ t = cc jump in
+    let from : place all_short both_or_none 0 ≡ 256 = refl in
+    let to : place all_short both_or_none 4 ≡ 385 = refl in
+    subst (Reaches all_short both_or_none 0) there (rw (from, to) (omega arith, omega arith))
+both_or_none_settled (suc zero) t jump short = absurd (cc jump)
+both_or_none_settled (suc (suc zero)) t jump short =
+    let there : 0 ≡ t = cc jump in
+    let from : place all_short both_or_none 2 ≡ 382 = refl in
+    let to : place all_short both_or_none 0 ≡ 256 = refl in
+    subst (Reaches all_short both_or_none 2) there (rw (from, to) (omega arith, omega arith))
+both_or_none_settled (suc (suc (suc zero))) t jump short = absurd (cc jump)
+both_or_none_settled (suc (suc (suc (suc k)))) t jump short = absurd (cc jump)
+
+-- so neither stays long, as both do where one starts long and makes short what fits
+pub not_shrunk_from_long : (g : Growth) → IsGrowth both_or_none g → (chosen g.long.items 0 ≡ false) × (chosen g.long.items 2 ≡ false)
+not_shrunk_from_long g is = (short_if_it_may_be both_or_none g 0 4 is both_or_none_settled refl, short_if_it_may_be both_or_none g 2 0 is both_or_none_settled refl)
+
+-- a jump that is always short and reaches only while the jump behind it is short
+abbrev just_in_range : List Statement
+just_in_range = Short 3 ∷ Jump 2 ∷ Fixed 125 ∷ Fixed 1 ∷ []
+
+just_in_range_settled : IsSettled all_short just_in_range
+unfolding bytes_before
+just_in_range_settled zero t jump short = absurd (cc jump)
+just_in_range_settled (suc zero) t jump short =
+    let there : 2 ≡ t = cc jump in
+    let from : place all_short just_in_range 1 ≡ 258 = refl in
+    let to : place all_short just_in_range 2 ≡ 260 = refl in
+    subst (Reaches all_short just_in_range 1) there (rw (from, to) (omega arith, omega arith))
+just_in_range_settled (suc (suc zero)) t jump short = absurd (cc jump)
+just_in_range_settled (suc (suc (suc zero))) t jump short = absurd (cc jump)
+just_in_range_settled (suc (suc (suc (suc k)))) t jump short = absurd (cc jump)
+
+just_in_range_reaches : (t : ℕ) → IsShort just_in_range 0 t → Reaches all_short just_in_range 0 t
+unfolding bytes_before
+just_in_range_reaches t short =
+    let there : 3 ≡ t = cc short in
+    let from : place all_short just_in_range 0 ≡ 256 = refl in
+    let to : place all_short just_in_range 3 ≡ 385 = refl in
+    subst (Reaches all_short just_in_range 0) there (rw (from, to) (omega arith, omega arith))
+
+-- so it is not out of range, as it is where ranges are judged with every jump long
+pub not_judged_all_long : (g : Growth) → IsGrowth just_in_range g → g.verdict ≢ Range 0
+not_judged_all_long g is e =
+    let out = subst (Holds (chosen g.long.items) just_in_range) e is.verdict in
+    out.always all_short just_in_range_settled (just_in_range_reaches out.lowest.target out.lowest.jump)
+
+-- a program that has room only while its jump is short
+abbrev just_enough : List Statement
+just_enough = Fixed 64510 ∷ Jump 1 ∷ []
+
+just_enough_settled : IsSettled all_short just_enough
+unfolding bytes_before
+just_enough_settled zero t jump short = absurd (cc jump)
+just_enough_settled (suc zero) t jump short =
+    let there : 1 ≡ t = cc jump in
+    let from : place all_short just_enough 1 ≡ 64766 = refl in
+    subst (Reaches all_short just_enough 1) there (rw from (omega arith, omega arith))
+just_enough_settled (suc (suc k)) t jump short = absurd (cc jump)
+
+just_enough_total : total all_short just_enough ≡ 64512
+unfolding bytes_before
+just_enough_total = refl
+
+-- so it is not too large, as it is where the total is judged with every jump long
+pub not_measured_all_long : (g : Growth) (n : ℕ) → IsGrowth just_enough g → g.verdict ≢ TooLarge n
+not_measured_all_long g n is e =
+    let large = subst (Holds (chosen g.long.items) just_enough) e is.verdict in
+    let least = large.least all_short just_enough_settled in
+    omega (arith, large.above, least, just_enough_total)
