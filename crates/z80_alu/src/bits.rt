@@ -5,20 +5,20 @@ ghost use Rattle.z80_alu.specs.Flags.{is_negative_byte, is_negative_word, has_ev
 ghost use Rattle.z80_alu.specs.Bytes.{sum_of, difference_of};
 ghost use Rattle.z80_alu.specs.Words.{word_sum_of, word_difference_of};
 
-pub fn is_negative(value: u8) -> bool
+pub(crate) fn is_negative(value: u8) -> bool
     ensures { result ≡ is_negative_byte value }
 {
     value & 0x80 != 0
 }
 
-pub fn has_even_parity(value: u8) -> bool
+pub(crate) fn has_even_parity(value: u8) -> bool
     ensures { result ≡ has_even_parity value }
 {
     value.count_ones() & 1 == 0
 }
 
 /// Whether the low digit carried or borrowed: bit 4 of the result is not that of a without carries.
-pub fn half_carries(a: u8, b: u8, value: u8) -> bool
+pub(crate) fn half_carries(a: u8, b: u8, value: u8) -> bool
     ensures adding { (carry : Bool) → value ≡ sum_of a b carry →
         result ≡ nat_le 16 (a % 16 + b % 16 + from_bool carry) }
     ensures subtracting { (borrow : Bool) → value ≡ difference_of a b borrow →
@@ -28,7 +28,7 @@ pub fn half_carries(a: u8, b: u8, value: u8) -> bool
 }
 
 /// Whether a sum left the signed bytes: it has the sign of neither a nor b.
-pub fn add_overflows(a: u8, b: u8, sum: u8) -> bool
+pub(crate) fn add_overflows(a: u8, b: u8, sum: u8) -> bool
     ensures { (carry : Bool) → sum ≡ sum_of a b carry →
         result ≡ overflows 128 (cast_signed w8 a +ℤ cast_signed w8 b +ℤ pos (from_bool carry)) }
 {
@@ -36,21 +36,21 @@ pub fn add_overflows(a: u8, b: u8, sum: u8) -> bool
 }
 
 /// Whether a difference left the signed bytes: a has the sign of neither b nor the difference.
-pub fn subtract_overflows(a: u8, b: u8, difference: u8) -> bool
+pub(crate) fn subtract_overflows(a: u8, b: u8, difference: u8) -> bool
     ensures { (borrow : Bool) → difference ≡ difference_of a b borrow →
         result ≡ overflows 128 (cast_signed w8 a -ℤ cast_signed w8 b -ℤ pos (from_bool borrow)) }
 {
     (a ^ b) & (a ^ difference) & 0x80 != 0
 }
 
-pub fn is_negative_word(value: u16) -> bool
+pub(crate) fn is_negative_word(value: u16) -> bool
     ensures { result ≡ is_negative_word value }
 {
     value & 0x8000 != 0
 }
 
 /// Whether bit 11 carried or borrowed.
-pub fn half_carries_word(a: u16, b: u16, value: u16) -> bool
+pub(crate) fn half_carries_word(a: u16, b: u16, value: u16) -> bool
     ensures adding { (carry : Bool) → value ≡ word_sum_of a b carry →
         result ≡ nat_le 4096 (a % 4096 + b % 4096 + from_bool carry) }
     ensures subtracting { (borrow : Bool) → value ≡ word_difference_of a b borrow →
@@ -59,14 +59,14 @@ pub fn half_carries_word(a: u16, b: u16, value: u16) -> bool
     (a ^ b ^ value) & 0x1000 != 0
 }
 
-pub fn add_overflows_word(a: u16, b: u16, sum: u16) -> bool
+pub(crate) fn add_overflows_word(a: u16, b: u16, sum: u16) -> bool
     ensures { (carry : Bool) → sum ≡ word_sum_of a b carry →
         result ≡ overflows 32768 (cast_signed w16 a +ℤ cast_signed w16 b +ℤ pos (from_bool carry)) }
 {
     (a ^ sum) & (b ^ sum) & 0x8000 != 0
 }
 
-pub fn subtract_overflows_word(a: u16, b: u16, difference: u16) -> bool
+pub(crate) fn subtract_overflows_word(a: u16, b: u16, difference: u16) -> bool
     ensures { (borrow : Bool) → difference ≡ word_difference_of a b borrow →
         result ≡ overflows 32768 (cast_signed w16 a -ℤ cast_signed w16 b -ℤ pos (from_bool borrow)) }
 {

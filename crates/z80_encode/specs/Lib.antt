@@ -1,3 +1,3 @@
 pub use Rattle.z80_instr.specs.Table
 pub use Rattle.z80_instr.specs.Codes
-pub mod Writes
+pub mod Private

@@ -1,14 +1,14 @@
 //! The codes of the fields of an opcode.
 ghost use Rattle.std.specs.Prelude.{◌≡◌, ◌<◌};
 ghost use Rattle.z80_instr.specs.Table;
-ghost use Rattle.z80_encode.specs.Writes.{operand_code};
+ghost use Rattle.z80_encode.specs.Private.Writes.{operand_code};
 
 use z80_instr::{
     Addend, AluOperation, BlockOperation, BlockStep, Cond, IndexRegister, Operand, Register,
     RegisterPair, Rotation, ShortCond,
 };
 
-pub fn register_code(register: Register) -> u8
+pub(crate) fn register_code(register: Register) -> u8
     ensures code { result ≡ Table.register_code register }
     ensures small { result < 8 }
 {
@@ -24,7 +24,7 @@ pub fn register_code(register: Register) -> u8
 }
 
 /// A register's code; 6 for a byte in memory.
-pub fn operand_code(operand: Operand) -> u8
+pub(crate) fn operand_code(operand: Operand) -> u8
     ensures code { result ≡ operand_code operand }
     ensures small { result < 8 }
 {
@@ -34,7 +34,7 @@ pub fn operand_code(operand: Operand) -> u8
     }
 }
 
-pub fn pair_code(pair: RegisterPair) -> u8
+pub(crate) fn pair_code(pair: RegisterPair) -> u8
     ensures code { result ≡ Table.pair_code pair }
     ensures small { result < 4 }
 {
@@ -46,7 +46,7 @@ pub fn pair_code(pair: RegisterPair) -> u8
     }
 }
 
-pub fn addend_code(addend: Addend) -> u8
+pub(crate) fn addend_code(addend: Addend) -> u8
     ensures code { result ≡ Table.addend_code addend }
     ensures small { result < 4 }
 {
@@ -58,7 +58,7 @@ pub fn addend_code(addend: Addend) -> u8
     }
 }
 
-pub fn condition_code(condition: Cond) -> u8
+pub(crate) fn condition_code(condition: Cond) -> u8
     ensures code { result ≡ Table.condition_code condition }
     ensures small { result < 8 }
 {
@@ -74,7 +74,7 @@ pub fn condition_code(condition: Cond) -> u8
     }
 }
 
-pub fn short_condition_code(condition: ShortCond) -> u8
+pub(crate) fn short_condition_code(condition: ShortCond) -> u8
     ensures code { result ≡ Table.short_condition_code condition }
     ensures small { result < 4 }
 {
@@ -86,7 +86,7 @@ pub fn short_condition_code(condition: ShortCond) -> u8
     }
 }
 
-pub fn operation_code(operation: AluOperation) -> u8
+pub(crate) fn operation_code(operation: AluOperation) -> u8
     ensures code { result ≡ Table.operation_code operation }
     ensures small { result < 8 }
 {
@@ -102,7 +102,7 @@ pub fn operation_code(operation: AluOperation) -> u8
     }
 }
 
-pub fn rotation_code(rotation: Rotation) -> u8
+pub(crate) fn rotation_code(rotation: Rotation) -> u8
     ensures code { result ≡ Table.rotation_code rotation }
     ensures small { result < 8 }
 {
@@ -117,7 +117,7 @@ pub fn rotation_code(rotation: Rotation) -> u8
     }
 }
 
-pub fn block_operation_code(operation: BlockOperation) -> u8
+pub(crate) fn block_operation_code(operation: BlockOperation) -> u8
     ensures code { result ≡ Table.block_operation_code operation }
     ensures small { result < 4 }
 {
@@ -129,7 +129,7 @@ pub fn block_operation_code(operation: BlockOperation) -> u8
     }
 }
 
-pub fn block_step_code(step: BlockStep) -> u8
+pub(crate) fn block_step_code(step: BlockStep) -> u8
     ensures code { result ≡ Table.block_step_code step }
     ensures small { result < 4 }
 {
@@ -142,7 +142,7 @@ pub fn block_step_code(step: BlockStep) -> u8
 }
 
 /// The first byte of an instruction that has an index register.
-pub fn prefix(index: IndexRegister) -> u8
+pub(crate) fn prefix(index: IndexRegister) -> u8
     ensures { result ≡ Table.prefix index }
 {
     match index {

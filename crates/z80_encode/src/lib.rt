@@ -4,9 +4,10 @@
 ghost use Rattle.std.specs.Prelude.{◌≡◌, ◌≤◌, ◌++◌, length, drop};
 ghost use Rattle.z80_instr.specs.Table.{canonical};
 ghost use Rattle.z80_instr.specs.Codes.{Codes};
-ghost use Rattle.z80_encode.specs.Writes.{Spells};
+ghost use Rattle.z80_encode.specs.Private.Writes.{Spells};
 
 mod code;
+pub mod laws;
 mod length;
 mod put;
 

@@ -6,7 +6,7 @@ ghost use Rattle.z80_instr.specs.declared.AluOperation.{AluOperation};
 ghost use Rattle.z80_instr.specs.declared.Rotation.{Rotation};
 ghost use Rattle.z80_instr.specs.declared.Octal.{Octal};
 ghost use Rattle.z80_instr.specs.Table;
-ghost use Rattle.z80_encode.specs.Writes.{Writes, Spells, operand_code};
+ghost use Rattle.z80_encode.specs.Private.Writes.{Writes, Spells, operand_code};
 
 use crate::code::{pair_code, prefix, register_code};
 use z80_instr::{
@@ -14,7 +14,7 @@ use z80_instr::{
 };
 
 /// Writes the bytes at the front of the buffer, and answers how many they are.
-pub fn put(out: &mut [u8; 4], bytes: &[u8]) -> u8
+pub(crate) fn put(out: &mut [u8; 4], bytes: &[u8]) -> u8
     requires { length bytes.now ≤ 4 }
     ensures { Writes bytes.now out.old out.new result }
 {
@@ -23,7 +23,7 @@ pub fn put(out: &mut [u8; 4], bytes: &[u8]) -> u8
 }
 
 /// Writes an instruction of one opcode on an operand. The operand's code is in the opcode already.
-pub fn put_operand(out: &mut [u8; 4], opcode: u8, operand: Operand) -> u8
+pub(crate) fn put_operand(out: &mut [u8; 4], opcode: u8, operand: Operand) -> u8
     ensures load { (r : Register) → opcode ≡ 0x40 + 8 * Table.register_code r + operand_code operand →
         Spells (Instr.Load r operand) out.old out.new result }
     ensures alu { (a : AluOperation) → opcode ≡ 0x80 + 8 * Table.operation_code a + operand_code operand →
@@ -42,7 +42,7 @@ pub fn put_operand(out: &mut [u8; 4], opcode: u8, operand: Operand) -> u8
 }
 
 /// Writes an instruction with an opcode after CB. The operand's code is in the opcode already.
-pub fn put_bits(out: &mut [u8; 4], opcode: u8, operand: Operand) -> u8
+pub(crate) fn put_bits(out: &mut [u8; 4], opcode: u8, operand: Operand) -> u8
     ensures rotate { (t : Rotation) → opcode ≡ 8 * Table.rotation_code t + operand_code operand →
         Spells (Instr.Rotate t operand) out.old out.new result }
     ensures bit { (b : Octal) → opcode ≡ 0x40 + 8 * Table.octal_code b + operand_code operand →
@@ -61,7 +61,7 @@ pub fn put_bits(out: &mut [u8; 4], opcode: u8, operand: Operand) -> u8
 }
 
 /// Writes LD of a register to memory.
-pub fn put_store(out: &mut [u8; 4], memory: Memory, register: Register) -> u8
+pub(crate) fn put_store(out: &mut [u8; 4], memory: Memory, register: Register) -> u8
     ensures { Spells (Instr.Store memory register) out.old out.new result }
 {
     let opcode = 0x70 + register_code(register);
@@ -72,7 +72,7 @@ pub fn put_store(out: &mut [u8; 4], memory: Memory, register: Register) -> u8
 }
 
 /// Writes LD of a number to an operand.
-pub fn put_load_byte(out: &mut [u8; 4], operand: Operand, n: u8) -> u8
+pub(crate) fn put_load_byte(out: &mut [u8; 4], operand: Operand, n: u8) -> u8
     ensures { Spells (Instr.LoadByte operand n) out.old out.new result }
 {
     match operand {
@@ -85,7 +85,7 @@ pub fn put_load_byte(out: &mut [u8; 4], operand: Operand, n: u8) -> u8
 }
 
 /// Writes LD between A and a byte that only A is moved from or to, by the opcode at (BC).
-pub fn put_pointer(out: &mut [u8; 4], opcode: u8, pointer: Pointer) -> u8
+pub(crate) fn put_pointer(out: &mut [u8; 4], opcode: u8, pointer: Pointer) -> u8
     requires { opcode ≤ 0x0A }
     ensures load { opcode ≡ 0x0A → Spells (Instr.LoadA pointer) out.old out.new result }
     ensures store { opcode ≡ 0x02 → Spells (Instr.StoreA pointer) out.old out.new result }
@@ -101,7 +101,7 @@ pub fn put_pointer(out: &mut [u8; 4], opcode: u8, pointer: Pointer) -> u8
 }
 
 /// Writes LD of a word to a register.
-pub fn put_load_word(out: &mut [u8; 4], register: WordRegister, nn: u16) -> u8
+pub(crate) fn put_load_word(out: &mut [u8; 4], register: WordRegister, nn: u16) -> u8
     ensures { Spells (Instr.LoadWord register nn) out.old out.new result }
 {
     let [low, high] = nn.to_le_bytes();
@@ -112,7 +112,7 @@ pub fn put_load_word(out: &mut [u8; 4], register: WordRegister, nn: u16) -> u8
 }
 
 /// Writes LD between a register and the word at an address, by the opcode of HL and, after ED, of BC.
-pub fn put_word_at(
+pub(crate) fn put_word_at(
     out: &mut [u8; 4],
     opcode: u8,
     extended: u8,
@@ -134,7 +134,7 @@ pub fn put_word_at(
 }
 
 /// Writes an instruction of HL or an index register.
-pub fn put_hl_or_index(out: &mut [u8; 4], opcode: u8, register: HlOrIndex) -> u8
+pub(crate) fn put_hl_or_index(out: &mut [u8; 4], opcode: u8, register: HlOrIndex) -> u8
     ensures load { opcode ≡ 0xF9 → Spells (Instr.LoadSp register) out.old out.new result }
     ensures exchange { opcode ≡ 0xE3 → Spells (Instr.ExSp register) out.old out.new result }
     ensures jump { opcode ≡ 0xE9 → Spells (Instr.JumpIndirect register) out.old out.new result }
@@ -146,7 +146,7 @@ pub fn put_hl_or_index(out: &mut [u8; 4], opcode: u8, register: HlOrIndex) -> u8
 }
 
 /// Writes PUSH or POP, by the opcode of BC.
-pub fn put_stack(out: &mut [u8; 4], opcode: u8, operand: StackOperand) -> u8
+pub(crate) fn put_stack(out: &mut [u8; 4], opcode: u8, operand: StackOperand) -> u8
     requires { opcode ≤ 0xC5 }
     ensures push { opcode ≡ 0xC5 → Spells (Instr.Push operand) out.old out.new result }
     ensures pop { opcode ≡ 0xC1 → Spells (Instr.Pop operand) out.old out.new result }
@@ -161,7 +161,7 @@ pub fn put_stack(out: &mut [u8; 4], opcode: u8, operand: StackOperand) -> u8
 }
 
 /// Writes INC or DEC of a 16-bit register, by the opcode of BC.
-pub fn put_count(out: &mut [u8; 4], opcode: u8, register: WordRegister) -> u8
+pub(crate) fn put_count(out: &mut [u8; 4], opcode: u8, register: WordRegister) -> u8
     requires { opcode ≤ 0x0B }
     ensures inc { opcode ≡ 0x03 → Spells (Instr.IncWord register) out.old out.new result }
     ensures dec { opcode ≡ 0x0B → Spells (Instr.DecWord register) out.old out.new result }
@@ -173,7 +173,7 @@ pub fn put_count(out: &mut [u8; 4], opcode: u8, register: WordRegister) -> u8
 }
 
 /// Writes an opcode and a word, its low byte first.
-pub fn put_word(out: &mut [u8; 4], opcode: u8, nn: u16) -> u8
+pub(crate) fn put_word(out: &mut [u8; 4], opcode: u8, nn: u16) -> u8
     ensures { Writes (opcode ∷ Table.word nn) out.old out.new result }
 {
     let [low, high] = nn.to_le_bytes();

@@ -7,7 +7,7 @@ ghost use Rattle.z80_machine.specs.Arithmetic.{loaded_from_control, operated, ad
 
 use crate::memory::Memory;
 use crate::registers::Cpu;
-use z80_table::{Addend, AluOperation, IndexRegister, Operand, RegisterPair, WordRegister};
+use z80_instr::{Addend, AluOperation, IndexRegister, Operand, RegisterPair, WordRegister};
 
 impl Cpu {
     /// LD A,I and LD A,R, of the register's value.

@@ -3,9 +3,9 @@ ghost use Rattle.std.specs.Prelude.{◌≡◌};
 ghost use Rattle.z80_machine.specs.Operands.{condition_holds, short_condition_holds};
 
 use z80_alu::Flags;
-use z80_table::{Cond, ShortCond};
+use z80_instr::{Cond, ShortCond};
 
-pub fn condition_holds(condition: Cond, flags: &Flags) -> bool
+pub(crate) fn condition_holds(condition: Cond, flags: &Flags) -> bool
     ensures { result ≡ condition_holds condition flags.now }
 {
     match condition {
@@ -20,7 +20,7 @@ pub fn condition_holds(condition: Cond, flags: &Flags) -> bool
     }
 }
 
-pub fn short_condition_holds(condition: ShortCond, flags: &Flags) -> bool
+pub(crate) fn short_condition_holds(condition: ShortCond, flags: &Flags) -> bool
     ensures { result ≡ short_condition_holds condition flags.now }
 {
     match condition {

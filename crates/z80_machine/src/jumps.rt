@@ -10,7 +10,7 @@ use crate::conditions::{condition_holds, short_condition_holds};
 use crate::memory::Memory;
 use crate::operands::displaced;
 use crate::registers::Cpu;
-use z80_table::{Cond, ShortCond};
+use z80_instr::{Cond, ShortCond};
 
 impl Cpu {
     /// JP cc.

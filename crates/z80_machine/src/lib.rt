@@ -12,6 +12,7 @@ mod error;
 mod exchange;
 mod execute;
 mod jumps;
+pub mod laws;
 mod memory;
 mod operands;
 pub mod outcome;
@@ -22,7 +23,7 @@ mod turn;
 mod words;
 
 pub use error::NoMemory;
-pub use memory::Memory;
+pub use memory::{MEMORY_SIZE, Memory};
 pub use registers::{Cpu, Registers};
 pub use turn::step;
 pub use z80_alu::Flags;

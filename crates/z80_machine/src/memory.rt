@@ -4,7 +4,8 @@ use crate::error::NoMemory;
 use std::alloc::Global;
 use std::marker::Model;
 
-const SIZE: usize = 65_536;
+/// How many bytes there are: one for each address of 16 bits.
+pub const MEMORY_SIZE: usize = 65_536;
 
 /// 65,536 bytes. A contract sees their list.
 #[derive(Debug, Drop)]
@@ -14,31 +15,32 @@ pub struct Memory {
 
 impl Model for Memory {
     ghost use Rattle.std.specs.Prelude.{◌≡◌, List, ℕ, length};
+    ghost use Rattle.z80_machine.specs.declared.memory.TheConstants.{MEMORY_SIZE};
 
     ghost Value = { List ℕ };
 
     ghost view = { λ m. m.bytes.items };
 
-    ghost invariant = { λ m. length m.bytes.items ≡ 65536 };
+    ghost invariant = { λ m. length m.bytes.items ≡ MEMORY_SIZE };
 }
 
 impl Memory {
     ghost use Rattle.std.specs.Prelude.{◌≡◌, IfOk, replicate, slice_index, slice_set, length};
-    ghost use Rattle.z80_machine.specs.declared.memory.TheConstants.{SIZE};
+    ghost use Rattle.z80_machine.specs.declared.memory.TheConstants.{MEMORY_SIZE};
 
     /// Memory of zeros.
     pub fn new(alloc: Global) -> Result<Memory, NoMemory>
-        ensures { IfOk result (λ memory. memory ≡ replicate SIZE 0) }
+        ensures { IfOk result (λ memory. memory ≡ replicate MEMORY_SIZE 0) }
     {
         Ok(Memory {
-            bytes: vec![in alloc; 0; SIZE]?,
+            bytes: vec![in alloc; 0; MEMORY_SIZE]?,
         })
     }
 
     /// The byte at an address.
     pub fn get(&self, address: u16) -> u8
         ensures byte { result ≡ slice_index self.now address }
-        ensures size { length self.now ≡ SIZE }
+        ensures size { length self.now ≡ MEMORY_SIZE }
     {
         self.bytes[address as usize]
     }
@@ -46,7 +48,7 @@ impl Memory {
     /// Sets the byte at an address, and no other.
     pub fn set(&mut self, address: u16, value: u8)
         ensures byte { self.new ≡ slice_set self.old address value }
-        ensures size { length self.new ≡ SIZE }
+        ensures size { length self.new ≡ MEMORY_SIZE }
     {
         self.bytes[address as usize] = value;
     }

@@ -5,10 +5,10 @@ ghost use Rattle.z80_machine.specs.Operands.{address_of, pointer_address, operan
 
 use crate::memory::Memory;
 use crate::registers::Cpu;
-use z80_table::{Memory as MemoryOperand, Operand, Pointer};
+use z80_instr::{Memory as MemoryOperand, Operand, Pointer};
 
 /// The address that is a signed distance away.
-pub fn displaced(address: u16, distance: i8) -> u16
+pub(crate) fn displaced(address: u16, distance: i8) -> u16
     ensures { result ≡ displaced address distance }
 {
     address.wrapping_add_signed(distance as i16)

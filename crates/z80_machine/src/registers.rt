@@ -1,7 +1,7 @@
 //! The registers.
 
 use z80_alu::Flags;
-use z80_table::{InterruptMode, Register};
+use z80_instr::{InterruptMode, Register};
 
 /// One of the two sets of registers.
 #[derive(Clone, Copy, Debug, Default, PartialEq, Eq)]
@@ -153,7 +153,13 @@ impl Cpu {
 }
 
 impl Default for Cpu {
-    fn default() -> Cpu {
+    ghost use Rattle.std.specs.Prelude.{◌≡◌};
+    ghost use Rattle.z80_machine.specs.Cleared.{cleared};
+
+    /// The same as [`Cpu::new`].
+    fn default() -> Cpu
+        ensures { result ≡ cleared }
+    {
         Cpu::new()
     }
 }

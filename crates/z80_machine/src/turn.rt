@@ -7,7 +7,8 @@ ghost use Rattle.z80_machine.specs.Types.{Instr};
 use crate::memory::Memory;
 use crate::outcome::Step;
 use crate::registers::Cpu;
-use z80_table::{Instr, decode};
+use z80_instr::Instr;
+use z80_table::decode;
 
 /// Carries out the instruction at PC.
 pub fn step(cpu: &mut Cpu, memory: &mut Memory) -> Step

@@ -3,7 +3,7 @@ ghost use Rattle.std.specs.Prelude.{◌≡◌};
 ghost use Rattle.z80_machine.specs.State.{index_value, with_index, pair_value, with_pair, word_value, with_word, hl_or_index_value, with_hl_or_index, addend_value, stack_operand_value, with_stack_operand};
 
 use crate::registers::Cpu;
-use z80_table::{Addend, HlOrIndex, IndexRegister, RegisterPair, StackOperand, WordRegister};
+use z80_instr::{Addend, HlOrIndex, IndexRegister, RegisterPair, StackOperand, WordRegister};
 
 impl Cpu {
     pub(crate) fn index(&self, index: IndexRegister) -> u16

@@ -1,14 +1,14 @@
 //! The opcodes behind CB.
 ghost use Rattle.std.specs.Prelude.{◌≡◌, ◌/◌, ◌%◌, ℕ, List};
 ghost use Rattle.z80_instr.specs.Table.{octal_of};
-ghost use Rattle.z80_table.specs.Reading.{filled, bit_entry, bits_entry, read_page};
+ghost use Rattle.z80_table.specs.Private.Reading.{filled, bit_entry, bits_entry, read_page};
 
 use crate::field::{byte_of, operand_of, rotation_of, y_of, z_of};
 use crate::{DecodeFault, Decoded};
 use z80_instr::{Instr, Operand};
 
 /// The instruction behind CB.
-pub fn bits(bytes: &[u8]) -> Decoded
+pub(crate) fn bits(bytes: &[u8]) -> Decoded
     ensures { result ≡ read_page bits_entry bytes.now }
 {
     let opcode = byte_of(bytes)?;
@@ -16,7 +16,7 @@ pub fn bits(bytes: &[u8]) -> Decoded
 }
 
 /// A rotation, BIT, RES or SET on the operand, in a spelling of this size.
-pub fn bit(opcode: u8, operand: Operand, size: u8) -> Decoded
+pub(crate) fn bit(opcode: u8, operand: Operand, size: u8) -> Decoded
     ensures { (rest : List ℕ) →
         result ≡ filled size (bit_entry (opcode / 64) (octal_of (opcode / 8 % 8)) operand) rest }
 {

@@ -3,7 +3,7 @@
 //! An opcode has three fields: x, its bits 7 and 6, y, bits 5 to 3, and z, bits 2 to 0.
 ghost use Rattle.std.specs.Prelude.{◌≡◌, ◌/◌, ◌%◌};
 ghost use Rattle.z80_instr.specs.Table.{octal_of};
-ghost use Rattle.z80_table.specs.Reading.{byte_at, word_at, signed_at, both_at, is_odd, pair_at, operand_at, condition_at, operation_at, rotation_at, register_at, step_at, block_operation_at, addend_at};
+ghost use Rattle.z80_table.specs.Private.Reading.{byte_at, word_at, signed_at, both_at, is_odd, pair_at, operand_at, condition_at, operation_at, rotation_at, register_at, step_at, block_operation_at, addend_at};
 
 use crate::DecodeFault;
 use z80_instr::{
@@ -11,20 +11,20 @@ use z80_instr::{
     RegisterPair, Rotation,
 };
 
-pub fn y_of(opcode: u8) -> Octal
+pub(crate) fn y_of(opcode: u8) -> Octal
     ensures { result ≡ octal_of (opcode / 8 % 8) }
 {
     Octal::from_number(opcode / 8 % 8)
 }
 
-pub fn z_of(opcode: u8) -> Octal
+pub(crate) fn z_of(opcode: u8) -> Octal
     ensures { result ≡ octal_of (opcode % 8) }
 {
     Octal::from_number(opcode % 8)
 }
 
 /// A register pair, by the upper two bits of y.
-pub fn pair_of(y: Octal) -> RegisterPair
+pub(crate) fn pair_of(y: Octal) -> RegisterPair
     ensures { result ≡ pair_at y }
 {
     match y {
@@ -36,7 +36,7 @@ pub fn pair_of(y: Octal) -> RegisterPair
 }
 
 /// An operand, by y or z.
-pub fn operand_of(y: Octal) -> Operand
+pub(crate) fn operand_of(y: Octal) -> Operand
     ensures { result ≡ operand_at y }
 {
     match y {
@@ -52,7 +52,7 @@ pub fn operand_of(y: Octal) -> Operand
 }
 
 /// A condition, by y.
-pub fn condition_of(y: Octal) -> Cond
+pub(crate) fn condition_of(y: Octal) -> Cond
     ensures { result ≡ condition_at y }
 {
     match y {
@@ -68,7 +68,7 @@ pub fn condition_of(y: Octal) -> Cond
 }
 
 /// An operation on A, by y.
-pub fn operation_of(y: Octal) -> AluOperation
+pub(crate) fn operation_of(y: Octal) -> AluOperation
     ensures { result ≡ operation_at y }
 {
     match y {
@@ -84,7 +84,7 @@ pub fn operation_of(y: Octal) -> AluOperation
 }
 
 /// A register, by y; 6 is none.
-pub fn register_of(y: Octal) -> Option<Register>
+pub(crate) fn register_of(y: Octal) -> Option<Register>
     ensures { result ≡ register_at y }
 {
     match y {
@@ -100,7 +100,7 @@ pub fn register_of(y: Octal) -> Option<Register>
 }
 
 /// A rotation or a shift, by y; 6 is none.
-pub fn rotation_of(y: Octal) -> Option<Rotation>
+pub(crate) fn rotation_of(y: Octal) -> Option<Rotation>
     ensures { result ≡ rotation_at y }
 {
     match y {
@@ -116,7 +116,7 @@ pub fn rotation_of(y: Octal) -> Option<Rotation>
 }
 
 /// What is added to an index register, by the upper two bits of y.
-pub fn addend_of(y: Octal) -> Addend
+pub(crate) fn addend_of(y: Octal) -> Addend
     ensures { result ≡ addend_at y }
 {
     match y {
@@ -128,7 +128,7 @@ pub fn addend_of(y: Octal) -> Addend
 }
 
 /// The step of a block instruction, by y.
-pub fn step_of(y: Octal) -> Option<BlockStep>
+pub(crate) fn step_of(y: Octal) -> Option<BlockStep>
     ensures { result ≡ step_at y }
 {
     match y {
@@ -141,7 +141,7 @@ pub fn step_of(y: Octal) -> Option<BlockStep>
 }
 
 /// What a block instruction does, by z.
-pub fn block_operation_of(z: Octal) -> Option<BlockOperation>
+pub(crate) fn block_operation_of(z: Octal) -> Option<BlockOperation>
     ensures { result ≡ block_operation_at z }
 {
     match z {
@@ -154,14 +154,14 @@ pub fn block_operation_of(z: Octal) -> Option<BlockOperation>
 }
 
 /// The lowest bit of y, which picks one of two operations on a pair.
-pub fn is_odd(y: Octal) -> bool
+pub(crate) fn is_odd(y: Octal) -> bool
     ensures { result ≡ is_odd y }
 {
     matches!(y, Octal::One | Octal::Three | Octal::Five | Octal::Seven)
 }
 
 /// The number n.
-pub fn byte_of(rest: &[u8]) -> Result<u8, DecodeFault>
+pub(crate) fn byte_of(rest: &[u8]) -> Result<u8, DecodeFault>
     ensures { result ≡ byte_at rest.now }
 {
     match rest {
@@ -171,7 +171,7 @@ pub fn byte_of(rest: &[u8]) -> Result<u8, DecodeFault>
 }
 
 /// The word nn, its low byte first.
-pub fn word_of(rest: &[u8]) -> Result<u16, DecodeFault>
+pub(crate) fn word_of(rest: &[u8]) -> Result<u16, DecodeFault>
     ensures { result ≡ word_at rest.now }
 {
     match rest {
@@ -181,7 +181,7 @@ pub fn word_of(rest: &[u8]) -> Result<u16, DecodeFault>
 }
 
 /// The displacement d or the distance e.
-pub fn signed_of(rest: &[u8]) -> Result<i8, DecodeFault>
+pub(crate) fn signed_of(rest: &[u8]) -> Result<i8, DecodeFault>
     ensures { result ≡ signed_at rest.now }
 {
     match rest {
@@ -191,7 +191,7 @@ pub fn signed_of(rest: &[u8]) -> Result<i8, DecodeFault>
 }
 
 /// The displacement d and then the number n.
-pub fn both_of(rest: &[u8]) -> Result<(i8, u8), DecodeFault>
+pub(crate) fn both_of(rest: &[u8]) -> Result<(i8, u8), DecodeFault>
     ensures { result ≡ both_at rest.now }
 {
     match rest {

@@ -1,6 +1,6 @@
 //! The opcodes without a prefix.
 ghost use Rattle.std.specs.Prelude.{◌≡◌, ℕ, List};
-ghost use Rattle.z80_table.specs.Reading.{filled, relative_entry, indirect_entry, accumulator_at, low_entry, load_of, pop_entry, exchange_entry, push_entry, high_entry, plain_entry};
+ghost use Rattle.z80_table.specs.Private.Reading.{filled, relative_entry, indirect_entry, accumulator_at, low_entry, load_of, pop_entry, exchange_entry, push_entry, high_entry, plain_entry};
 
 use crate::field::{
     byte_of, condition_of, is_odd, operand_of, operation_of, pair_of, signed_of, word_of, y_of,
@@ -13,7 +13,7 @@ use z80_instr::{
 };
 
 /// The instruction of an opcode that has no prefix, with the numbers from the bytes behind it.
-pub fn plain(opcode: u8, rest: &[u8]) -> Decoded
+pub(crate) fn plain(opcode: u8, rest: &[u8]) -> Decoded
     ensures { result ≡ filled 1 (plain_entry opcode) rest.now }
 {
     let y = y_of(opcode);

@@ -1,0 +1,10 @@
+//! Laws of the spellings.
+ghost use Rattle.std.specs.Prelude.{◌≤◌, length};
+ghost use Rattle.z80_instr.specs.declared.Instr.{Instr};
+ghost use Rattle.z80_instr.specs.Table.{canonical};
+
+/// A canonical spelling has one byte to four, whatever the instruction's numbers are.
+pub fn length()
+    ensures least { (instr : Instr) → 1 ≤ length (canonical instr) }
+    ensures most { (instr : Instr) → length (canonical instr) ≤ 4 }
+{}

@@ -1,0 +1,6 @@
+mod Finite
+mod Rows
+mod Texts
+mod Numbers
+mod Kept
+mod Places

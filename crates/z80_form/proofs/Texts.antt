@@ -1,0 +1,113 @@
+-- What is read has the row that was read: a test for each mnemonic over the forms.
+use Rattle.std.proofs.Common.{◌≡◌, inl, inr, ◌⊎◌, ◌↔◌, List, [], ◌∷◌, Option, Some, None, Bool, true, false, ◌||◌, refl, ap, sym, ◌∙◌, map, cond, length}
+use Rattle.std.specs.Option.{option_map}
+use Rattle.std.proofs.lemmas.Bool.{cases_Bool}
+use Rattle.z80_instr.proofs.Finite.{Finite, ◌⊗◌, operations}
+use Rattle.z80_form.specs.Types.{AluOperation, Instr, Form, Mnemonic}
+use Rattle.z80_form.specs.Rows.{row, without_displacement, Spells}
+use Rattle.z80_instr.specs.Table.{canonical}
+use Rattle.z80_form.specs.Numbers.{zeros, blank}
+use Rattle.z80_form.specs.Private.Reading.{instruction_read, two_read}
+use Rattle.z80_words.proofs.Finite.{mnemonics}
+use Rattle.z80_form.proofs.Finite.{operand_forms}
+use Rattle.z80_form.proofs.Rows.{found}
+use Rattle.z80_form.proofs.Kept.{sizes_steady}
+
+-- whether (IX) or (IY) stands among the operands
+abbrev has_index : List Form → Bool
+has_index [] = false
+has_index (Form.AtIndex x ∷ forms) = true
+has_index (form ∷ forms) = has_index forms
+
+-- the operands of an instruction, without the displacement where the operands that were read have none
+abbrev written : List Form → Instr → List Form
+written forms instr = cond (has_index forms) (map without_displacement (row instr).operands) (row instr).operands
+
+abbrev Seen : Type 0
+Seen = Mnemonic × List Form × Instr
+
+abbrev seen : List Form → Instr → Seen
+seen forms instr = ((row instr).mnemonic, written forms instr, blank instr)
+
+abbrev wanted : Mnemonic → List Form → Instr → Seen
+wanted m forms instr = (m, forms, instr)
+
+abbrev IsSound : Mnemonic → List Form → Option Instr → Type 0
+IsSound m forms read = option_map (seen forms) read ≡ option_map (wanted m forms) read
+
+two_sound_by : (m : Mnemonic)
+    → (operand_forms ⊗ operand_forms).values _ (λ p. option_map (seen (p.0 ∷ p.1 ∷ [])) (two_read m p.0 p.1)) ≡ (operand_forms ⊗ operand_forms).values _ (λ p. option_map (wanted m (p.0 ∷ p.1 ∷ [])) (two_read m p.0 p.1))
+    → (left right : Form) → IsSound m (left ∷ right ∷ []) (two_read m left right)
+two_sound_by m e left right = (operand_forms ⊗ operand_forms).agree _ (λ p. option_map (seen (p.0 ∷ p.1 ∷ [])) (two_read m p.0 p.1)) (λ p. option_map (wanted m (p.0 ∷ p.1 ∷ [])) (two_read m p.0 p.1)) e (left, right)
+
+two_sound : (m : Mnemonic) (left right : Form) → IsSound m (left ∷ right ∷ []) (two_read m left right)
+two_sound Mnemonic.Ld left right = two_sound_by Mnemonic.Ld refl left right
+two_sound Mnemonic.Ex left right = two_sound_by Mnemonic.Ex refl left right
+two_sound Mnemonic.Bit left right = two_sound_by Mnemonic.Bit refl left right
+two_sound Mnemonic.Set left right = two_sound_by Mnemonic.Set refl left right
+two_sound Mnemonic.Res left right = two_sound_by Mnemonic.Res refl left right
+two_sound Mnemonic.Jp left right = two_sound_by Mnemonic.Jp refl left right
+two_sound Mnemonic.Jr left right = two_sound_by Mnemonic.Jr refl left right
+two_sound Mnemonic.Call left right = two_sound_by Mnemonic.Call refl left right
+two_sound Mnemonic.In left right = two_sound_by Mnemonic.In refl left right
+two_sound Mnemonic.Out left right = two_sound_by Mnemonic.Out refl left right
+two_sound (Mnemonic.Alu AluOperation.Add) left right = two_sound_by (Mnemonic.Alu AluOperation.Add) refl left right
+two_sound (Mnemonic.Alu AluOperation.Adc) left right = two_sound_by (Mnemonic.Alu AluOperation.Adc) refl left right
+two_sound (Mnemonic.Alu AluOperation.Sub) left right = two_sound_by (Mnemonic.Alu AluOperation.Sub) refl left right
+two_sound (Mnemonic.Alu AluOperation.Sbc) left right = two_sound_by (Mnemonic.Alu AluOperation.Sbc) refl left right
+two_sound (Mnemonic.Alu AluOperation.And) left right = two_sound_by (Mnemonic.Alu AluOperation.And) refl left right
+two_sound (Mnemonic.Alu AluOperation.Xor) left right = two_sound_by (Mnemonic.Alu AluOperation.Xor) refl left right
+two_sound (Mnemonic.Alu AluOperation.Or) left right = two_sound_by (Mnemonic.Alu AluOperation.Or) refl left right
+two_sound (Mnemonic.Alu AluOperation.Cp) left right = two_sound_by (Mnemonic.Alu AluOperation.Cp) refl left right
+two_sound _ left right = refl
+
+sound : (m : Mnemonic) (forms : List Form) → IsSound m forms (instruction_read m forms)
+sound m [] = mnemonics.agree _ (λ m. option_map (seen []) (instruction_read m [])) (λ m. option_map (wanted m []) (instruction_read m [])) refl m
+sound m (form ∷ []) = (mnemonics ⊗ operand_forms).agree _ (λ p. option_map (seen (p.1 ∷ [])) (instruction_read p.0 (p.1 ∷ []))) (λ p. option_map (wanted p.0 (p.1 ∷ [])) (instruction_read p.0 (p.1 ∷ []))) refl (m, form)
+sound m (left ∷ right ∷ []) = two_sound m left right
+sound m (a ∷ b ∷ c ∷ forms) = refl
+
+spelled : (m : Mnemonic) (forms : List Form) (instr : Instr) → seen forms instr ≡ wanted m forms instr → Spells m forms instr × (blank instr ≡ instr)
+spelled m forms instr e =
+    let operands : written forms instr ≡ forms = ap (λ (s : Seen). s.1) e in
+    let split : (forms ≡ (row instr).operands) ⊎ (forms ≡ map without_displacement (row instr).operands) =
+    elim (cases_Bool (has_index forms)) [
+      | inl short ↦ inr (sym (rw short at operands))
+      | inr long ↦ inl (sym (rw long at operands))
+    ] in
+    (record { mnemonic_is = ap (λ (s : Seen). s.0) e; operands_are = split }, ap (λ (s : Seen). s.2) e)
+
+is_spelled : (m : Mnemonic) (forms : List Form) (instr : Instr) (read : Option Instr) → IsSound m forms read → read ≡ Some instr → Spells m forms instr × (blank instr ≡ instr)
+is_spelled m forms instr None e is = absurd cc
+is_spelled m forms instr (Some found) e is =
+    let same : found ≡ instr = cc in
+    let whole : ◌≡◌ {A = Seen} (seen forms found) (wanted m forms found) = cc in
+    spelled m forms instr (rw same at whole)
+
+-- What is read of a mnemonic and operands is the one instruction that they spell.
+pub instruction_is : (m : Mnemonic) (forms : List Form) (instr : Instr) → (instruction_read m forms ≡ Some instr) ↔ (Spells m forms instr × (blank instr ≡ instr))
+instruction_is m forms instr = (
+  λ is. is_spelled m forms instr (instruction_read m forms) (sound m forms) is,
+  λ spells. found m forms instr spells.0 ∙ ap Some spells.1,
+)
+
+-- Nothing is read exactly where no instruction is spelled.
+none_by : (m : Mnemonic) (forms : List Form) (read : Option Instr) → instruction_read m forms ≡ read → ((instr : Instr) → Spells m forms instr → ⊥) → read ≡ None
+none_by m forms None e never = refl
+none_by m forms (Some instr) e never = absurd (never instr ((instruction_is m forms instr).0 e).0)
+
+pub none_is : (m : Mnemonic) (forms : List Form) → (instruction_read m forms ≡ None) ↔ ((instr : Instr) → Spells m forms instr → ⊥)
+none_is m forms = (
+  λ none instr spells. let some = sym none ∙ found m forms instr spells in absurd cc,
+  λ never. none_by m forms (instruction_read m forms) refl never,
+)
+
+-- What a text spells is one instruction but for its numbers: it is read as both.
+pub one_blank : (m : Mnemonic) (forms : List Form) (a b : Instr) → Spells m forms a → Spells m forms b → blank a ≡ blank b
+one_blank m forms a b first second =
+    let same : ◌≡◌ {A = Option Instr} (Some (blank a)) (Some (blank b)) = sym (found m forms a first) ∙ found m forms b second in
+    cc
+
+pub one_size : (m : Mnemonic) (forms : List Form) (a b : Instr) → Spells m forms a → Spells m forms b → length (canonical a) ≡ length (canonical b)
+one_size m forms a b first second =
+    sym (sizes_steady zeros a) ∙ ap (λ i. length (canonical i)) (one_blank m forms a b first second) ∙ sizes_steady zeros b

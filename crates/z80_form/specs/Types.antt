@@ -1,0 +1,25 @@
+-- The types of an instruction, of its words and of its operands' forms, in one place for the files of this crate.
+pub use Rattle.z80_instr.specs.declared.Register.{Register}
+pub use Rattle.z80_instr.specs.declared.IndexRegister.{IndexRegister}
+pub use Rattle.z80_instr.specs.declared.Memory.{Memory}
+pub use Rattle.z80_instr.specs.declared.Operand.{Operand}
+pub use Rattle.z80_instr.specs.declared.Pointer.{Pointer}
+pub use Rattle.z80_instr.specs.declared.RegisterPair.{RegisterPair}
+pub use Rattle.z80_instr.specs.declared.WordRegister.{WordRegister}
+pub use Rattle.z80_instr.specs.declared.HlOrIndex.{HlOrIndex}
+pub use Rattle.z80_instr.specs.declared.Addend.{Addend}
+pub use Rattle.z80_instr.specs.declared.StackOperand.{StackOperand}
+pub use Rattle.z80_instr.specs.declared.Cond.{Cond}
+pub use Rattle.z80_instr.specs.declared.ShortCond.{ShortCond}
+pub use Rattle.z80_instr.specs.declared.AluOperation.{AluOperation}
+pub use Rattle.z80_instr.specs.declared.Rotation.{Rotation}
+pub use Rattle.z80_instr.specs.declared.Octal.{Octal}
+pub use Rattle.z80_instr.specs.declared.InterruptMode.{InterruptMode}
+pub use Rattle.z80_instr.specs.declared.BlockOperation.{BlockOperation}
+pub use Rattle.z80_instr.specs.declared.BlockStep.{BlockStep}
+pub use Rattle.z80_instr.specs.declared.Instr.{Instr}
+pub use Rattle.z80_words.specs.declared.name.Name.{Name}
+pub use Rattle.z80_words.specs.declared.mnemonic.Mnemonic.{Mnemonic}
+pub use Rattle.z80_form.specs.declared.form.Pointed.{Pointed}
+pub use Rattle.z80_form.specs.declared.form.Form.{Form}
+pub use Rattle.z80_form.specs.declared.field.Field.{Field}

@@ -1,0 +1,31 @@
+//! The forms of an operand.
+
+use z80_instr::IndexRegister;
+use z80_words::Name;
+
+/// A register that stands in parentheses by itself; `(C)` is the port that C names.
+#[derive(Clone, Copy, Debug, PartialEq, Eq)]
+pub enum Pointed {
+    Hl,
+    Bc,
+    De,
+    Sp,
+    C,
+}
+
+/// An operand as it is written, its expression left out.
+#[derive(Clone, Copy, Debug, PartialEq, Eq)]
+pub enum Form {
+    /// `A`, `HL`, `NZ`
+    Name(Name),
+    /// `(HL)`, `(BC)`, `(DE)`, `(SP)`, `(C)`
+    At(Pointed),
+    /// `(IX)`
+    AtIndex(IndexRegister),
+    /// `(IX+d)`
+    Displaced(IndexRegister),
+    /// `(n)`, `(nn)`: an expression in parentheses.
+    AtNumber,
+    /// `n`, `nn`, `e`, `b`, `p`: an expression.
+    Number,
+}

@@ -1,0 +1,41 @@
+//! Laws of the rows, as functions that do nothing: their calls bring the clauses.
+ghost use Rattle.std.specs.Prelude.{◌≡◌, ◌%◌, ℕ, List, [], ◌∷◌, ◌++◌, Some, true, length, slice_set};
+ghost use Rattle.z80_instr.specs.Table.{canonical, word};
+ghost use Rattle.z80_instr.specs.Codes.{in_range};
+ghost use Rattle.z80_form.specs.Types.{Instr, Mnemonic, Form, Field};
+ghost use Rattle.z80_form.specs.Rows.{row, Spells};
+ghost use Rattle.z80_form.specs.Numbers.{blank, number_field, with_number, but_last, has_displacement, HasNumbers};
+
+/// Every instruction is that of its row with its numbers put in.
+pub fn complete()
+    ensures { (instr : Instr) → in_range instr ≡ true → (numbers : List (Field × ℕ)) × HasNumbers instr numbers }
+{}
+
+/// What a text spells is one instruction but for its numbers, and so is as many bytes whatever they are.
+pub fn one_instruction()
+    ensures instr { (mnemonic : Mnemonic) (operands : List Form) (first second : Instr) →
+        Spells mnemonic operands first → Spells mnemonic operands second → blank first ≡ blank second }
+    ensures size { (mnemonic : Mnemonic) (operands : List Form) (first second : Instr) →
+        Spells mnemonic operands first → Spells mnemonic operands second →
+        length (canonical first) ≡ length (canonical second) }
+{}
+
+/// A number put in leaves the text but for that number, and the count of bytes.
+pub fn kept()
+    ensures row { (field : Field) (value : ℕ) (instr : Instr) → row (with_number field value instr) ≡ row instr }
+    ensures size { (field : Field) (value : ℕ) (instr : Instr) →
+        length (canonical (with_number field value instr)) ≡ length (canonical instr) }
+    ensures zeros { (instr : Instr) → row (blank instr) ≡ row instr }
+{}
+
+/// Where a number stands: a byte, a word and a distance last in the bytes, a displacement third.
+pub fn places()
+    ensures byte { (instr : Instr) (value : ℕ) → number_field instr ≡ Some Field.Byte →
+        canonical (with_number Field.Byte value instr) ≡ but_last 1 (canonical instr) ++ value % 256 ∷ [] }
+    ensures word { (instr : Instr) (value : ℕ) → number_field instr ≡ Some Field.Word →
+        canonical (with_number Field.Word value instr) ≡ but_last 2 (canonical instr) ++ word value }
+    ensures distance { (instr : Instr) (value : ℕ) → number_field instr ≡ Some Field.Distance →
+        canonical (with_number Field.Distance value instr) ≡ but_last 1 (canonical instr) ++ value % 256 ∷ [] }
+    ensures displacement { (instr : Instr) (value : ℕ) → has_displacement instr ≡ true →
+        canonical (with_number Field.Displacement value instr) ≡ slice_set (canonical instr) 2 (value % 256) }
+{}

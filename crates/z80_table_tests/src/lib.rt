@@ -1,0 +1,9 @@
+//! Tests of the opcode table by its public calls.
+#![tactic(auto)]
+
+#[cfg(test)]
+mod rows;
+#[cfg(test)]
+mod table;
+#[cfg(test)]
+mod text;
