@@ -34,7 +34,7 @@ fn records(rt: HostRuntime) -> Result<(), Fail> {
     ];
     for (record, there, number) in rows {
         assert_eq!(rt; entry.has_record(record), there, "record {record}");
-        assert_eq!(rt; entry.record_number(record), number, "record {record}");
+        assert_eq!(rt; entry.place_on_disk(record), number, "record {record}");
     }
     // Record 15 counts as well then, since its block is there.
     let more = entry.with_record(20, 9);

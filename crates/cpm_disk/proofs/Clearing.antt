@@ -6,7 +6,7 @@ use Rattle.cpm_directory.specs.Entries.{at}
 use Rattle.cpm_operations.specs.declared.placement.Placement.{Placement}
 use Rattle.cpm_disk.specs.Blocks.{Cleared, Prepared}
 use Rattle.cpm_disk.specs.Calls.{Changed, HasWritten, PartlyWritten, Written}
-use Rattle.cpm_disk.specs.Image.{Image, IsOfBlock, IsOfDirectory, SameBut, Wrote, directory, record_at}
+use Rattle.cpm_disk.specs.Image.{Image, IsOfBlock, IsOfDirectory, SameBut, Wrote, directory, disk_record}
 use Rattle.cpm_disk.proofs.Places.{directory_kept, same_all, then_same, widened}
 
 -- a write of a record of the block leaves the others
@@ -22,7 +22,7 @@ after_all first old new block so_far more = then_same (IsOfBlock block) (IsOfBlo
 
 -- the record is written over a block whose others are as they are to be
 pub written_over : (first old new : Image) (block i : ℕ) (is_new : Bool) (bytes : List ℕ) → block ≤ 242 → i < 8
-    → ((j : ℕ) → j < 8 → j ≢ i → record_at old (8 * block + j) ≡ (if is_new then replicate 128 0 else record_at first (8 * block + j)))
+    → ((j : ℕ) → j < 8 → j ≢ i → disk_record old (8 * block + j) ≡ (if is_new then replicate 128 0 else disk_record first (8 * block + j)))
     → SameBut (IsOfBlock block) first old → Wrote old new (8 * block + i) bytes → HasWritten first new block i is_new bytes
 written_over first old new block i is_new bytes small low others so_far made = record {
   here = made.here;
@@ -32,10 +32,10 @@ written_over first old new block i is_new bytes small low others so_far made = r
 
 -- stopped, the record alone may be written
 pub stopped_over : (old new : Image) (block i : ℕ) (bytes : List ℕ) → block ≤ 242 → i < 8 → (new ≡ old) ⊎ Wrote old new (8 * block + i) bytes
-    → (j : ℕ) → j < 8 → (record_at new (8 * block + j) ≡ record_at old (8 * block + j)) ⊎ ((j ≡ i) × (record_at new (8 * block + j) ≡ bytes))
-stopped_over old new block i bytes small low (inl same) j below = inl (ap (λ image. record_at image (8 * block + j)) same)
-stopped_over old new block i bytes small low (inr made) j below = elim (cases_eq j i) as (λ _. (record_at new (8 * block + j) ≡ record_at old (8 * block + j)) ⊎ ((j ≡ i) × (record_at new (8 * block + j) ≡ bytes))) [
-  | inl here ↦ inr (here, ap (λ n. record_at new (8 * block + n)) here ∙ made.here)
+    → (j : ℕ) → j < 8 → (disk_record new (8 * block + j) ≡ disk_record old (8 * block + j)) ⊎ ((j ≡ i) × (disk_record new (8 * block + j) ≡ bytes))
+stopped_over old new block i bytes small low (inl same) j below = inl (ap (λ image. disk_record image (8 * block + j)) same)
+stopped_over old new block i bytes small low (inr made) j below = elim (cases_eq j i) as (λ _. (disk_record new (8 * block + j) ≡ disk_record old (8 * block + j)) ⊎ ((j ≡ i) × (disk_record new (8 * block + j) ≡ bytes))) [
+  | inl here ↦ inr (here, ap (λ n. disk_record new (8 * block + n)) here ∙ made.here)
   | inr apart ↦ inl (made.rest.records (8 * block + j) (omega arith) (λ same. apart (omega arith)))
 ]
 
@@ -53,14 +53,14 @@ then_entry first old new block i is_new bytes entries files small low put made =
 
 pub prepared_new : (old new : Image) (p : Placement) (i : ℕ) → p.is_new ≡ true → Cleared old new p.block i 8 → Prepared old new p i
 prepared_new old new p i new_is cleared = record {
-  others = λ j below apart. cleared.zeros j below apart ∙ ap (λ b. if b then replicate 128 0 else record_at old (8 * p.block + j)) (sym new_is);
+  others = λ j below apart. cleared.zeros j below apart ∙ ap (λ b. if b then replicate 128 0 else disk_record old (8 * p.block + j)) (sym new_is);
   rest = cleared.rest;
   kept = λ not_new. absurd (true≢false (sym new_is ∙ not_new));
 }
 
 pub prepared_old : (image : Image) (p : Placement) (i : ℕ) → p.is_new ≡ false → Prepared image image p i
 prepared_old image p i old_is = record {
-  others = λ j below apart. ap (λ b. if b then replicate 128 0 else record_at image (8 * p.block + j)) (sym old_is);
+  others = λ j below apart. ap (λ b. if b then replicate 128 0 else disk_record image (8 * p.block + j)) (sym old_is);
   rest = same_all (IsOfBlock p.block) image;
   kept = λ _. refl;
 }
@@ -75,9 +75,9 @@ filled_rest first old new p i b bytes same low prepared made =
     after_all first old new p.block prepared.rest (one_of old new p.block i bytes low (subst (λ n. (new ≡ old) ⊎ Wrote old new (8 * n + i) bytes) same made))
 
 pub filled_partly : (first old new : Image) (p : Placement) (i b : ℕ) (bytes : List ℕ) → b ≡ p.block → p.block ≤ 242 → i < 8 → Prepared first old p i → (new ≡ old) ⊎ Wrote old new (8 * b + i) bytes → p.is_new ≡ false
-    → (j : ℕ) → j < 8 → (record_at new (8 * p.block + j) ≡ record_at first (8 * p.block + j)) ⊎ ((j ≡ i) × (record_at new (8 * p.block + j) ≡ bytes))
+    → (j : ℕ) → j < 8 → (disk_record new (8 * p.block + j) ≡ disk_record first (8 * p.block + j)) ⊎ ((j ≡ i) × (disk_record new (8 * p.block + j) ≡ bytes))
 filled_partly first old new p i b bytes same small low prepared made old_is j below =
-    subst (λ image. (record_at new (8 * p.block + j) ≡ record_at image (8 * p.block + j)) ⊎ ((j ≡ i) × (record_at new (8 * p.block + j) ≡ bytes))) (prepared.kept old_is)
+    subst (λ image. (disk_record new (8 * p.block + j) ≡ disk_record image (8 * p.block + j)) ⊎ ((j ≡ i) × (disk_record new (8 * p.block + j) ≡ bytes))) (prepared.kept old_is)
     (stopped_over old new p.block i bytes small low (subst (λ n. (new ≡ old) ⊎ Wrote old new (8 * n + i) bytes) same made) j below)
 
 -- and then the entry is put, or is not

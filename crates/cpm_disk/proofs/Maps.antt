@@ -3,19 +3,19 @@ use Rattle.std.proofs.Common.{◌≡◌, ◌<◌, ◌≤◌, ◌+◌, ◌*◌, �
 use Rattle.std.proofs.lemmas.Bool.{and_from, and_parts, cases_Bool, cases_eq, cases_lt, lt-leb, not-false}
 use Rattle.std.specs.List.{list_any}
 use Rattle.cpm_directory.specs.declared.entry.Entry.{Entry}
-use Rattle.cpm_directory.specs.Entries.{at, blank, block, erased, is_extent, is_extent_of, is_match, is_of, is_read_only, is_system, new_extent, record_number, renamed}
+use Rattle.cpm_directory.specs.Entries.{at, blank, block, erased, is_extent, is_extent_of, is_match, is_of, is_read_only, is_system, new_extent, place_on_disk, renamed}
 use Rattle.cpm_directory.specs.Letters.{letters, name_matches, with_letters}
 use Rattle.cpm_directory.specs.Rules.{IsBlock, IsSound}
 use Rattle.cpm_directory.specs.Searches.{file_is_read_only, free_entry, is_file}
-use Rattle.cpm_operations.proofs.Facts.{found_at, below_extent, blank_is_not_of, is_of_file, letters_with, none_at, of_file, zeros_at}
-use Rattle.cpm_operations.proofs.Keeping.{at_erasure, at_renaming, erasing, length_of_name, renaming_of}
+use Rattle.cpm_operations.proofs.Entries.{found_at, below_extent, blank_is_not_of, is_of_file, letters_with, none_at, of_file, zeros_at}
+use Rattle.cpm_operations.proofs.Kept.{at_erasure, at_renaming, erasing, length_of_name, renaming_of}
 use Rattle.cpm_operations.specs.Kept.{IsPut}
 use Rattle.cpm_operations.specs.Steps.{◌>>=◌, after_erasure, after_renaming, creation, given, renaming, unless}
 use Rattle.cpm_operations.proofs.Results.{unless_ok}
 use Rattle.cpm_directory.specs.declared.fault.DiskFault.TheVariants as fault
 use Rattle.cpm_disk.specs.Calls.{Changed}
-use Rattle.cpm_disk.specs.Files.{IsMoved, IsNewFile, IsNoFile, stored_in}
-use Rattle.cpm_disk.specs.Image.{Image, IsOfDirectory, SameBut, directory, record_at}
+use Rattle.cpm_disk.specs.Files.{IsMoved, IsNewFile, IsNoFile, in_block}
+use Rattle.cpm_disk.specs.Image.{Image, IsOfDirectory, SameBut, directory, disk_record}
 use Rattle.cpm_disk.proofs.Files.{same_stored}
 use Rattle.cpm_disk.proofs.Others.{apart_from, created_entry, matches_letters}
 
@@ -46,7 +46,7 @@ extent_found entries user name number k low sound below is = find_unique (is_ext
 pub new_file : (image : Image) (entries : List Entry) (user : ℕ) (name : List ℕ) (k : ℕ) → user < 32 → letters name ≡ name → k < length entries → is_file user name entries ≡ false → directory image ≡ slice_set entries k (new_extent user name 0) → IsSound (directory image) → IsNewFile image user name
 new_file image entries user name k low seven below none is sound = record {
   first = ap (option_map (λ e. e.records)) found;
-  records = λ i. ap (option_and_then (stored_in image i)) found ∙ ap (λ b. if b == 0 then None else Some (record_at image (record_number e i))) (zeros_at 16 (i / 8));
+  records = λ i. ap (option_and_then (in_block image i)) found ∙ ap (λ b. if b == 0 then None else Some (disk_record image (place_on_disk e i))) (zeros_at 16 (i / 8));
   others = λ number some. ap (option_map (λ x. x.records)) (find_none (is_extent_of user name number) (directory image) (absent number some));
 }
   where
@@ -136,7 +136,7 @@ range_of entries k e sound is_at low group some =
 pub moved_file : (old new : Image) (user : ℕ) (from to : List ℕ) → user < 32 → length from ≡ length to → letters to ≡ to → (from ≡ to → ⊥) → IsSound (directory old) → is_file user to (directory old) ≡ false → directory new ≡ after_renaming user from to (directory old) → SameBut IsOfDirectory old new → IsMoved old new user from to
 moved_file old new user from to low long seven apart sound none is rest = record {
   counts = λ number. ap (option_map (λ e. e.records)) (found number) ∙ same_count (find (is_extent_of user from number) (directory old));
-  records = λ number i below. ap (option_and_then (stored_in new i)) (found number) ∙ same_bytes number i below (find (is_extent_of user from number) (directory old)) refl;
+  records = λ number i below. ap (option_and_then (in_block new i)) (found number) ∙ same_bytes number i below (find (is_extent_of user from number) (directory old)) refl;
   read_only = ap (list_any (λ e. is_of user to e && is_read_only e)) is ∙ any_changed (λ e. is_of user to e && is_read_only e) (λ e. is_of user from e && is_read_only e) (renaming_of user from to) (directory old)
       (λ j _. renamed_test user from to is_read_only is_read_only (at (directory old) j) long seven (not_to j) (λ same. high_bit (at (directory old) j).name to 8 same seven));
   system = ap (list_any (λ e. is_of user to e && is_system e)) is ∙ any_changed (λ e. is_of user to e && is_system e) (λ e. is_of user from e && is_system e) (renaming_of user from to) (directory old)
@@ -168,15 +168,15 @@ moved_file old new user from to low long seven apart sound none is rest = record
     same_count (Some e) = ap (λ n. Some n) (kept_records e)
 
     stored_by : Image → List ℕ → ℕ → Option (List ℕ)
-    stored_by image blocks i = if slice_index blocks (i / 8) == 0 then None else Some (record_at image (8 * slice_index blocks (i / 8) + i % 8))
+    stored_by image blocks i = if slice_index blocks (i / 8) == 0 then None else Some (disk_record image (8 * slice_index blocks (i / 8) + i % 8))
 
-    same_bytes : (number i : ℕ) → i < 128 → (o : Option Entry) → find (is_extent_of user from number) (directory old) ≡ o → option_and_then (stored_in new i) (option_map (renaming_of user from to) o) ≡ option_and_then (stored_in old i) o
+    same_bytes : (number i : ℕ) → i < 128 → (o : Option Entry) → find (is_extent_of user from number) (directory old) ≡ o → option_and_then (in_block new i) (option_map (renaming_of user from to) o) ≡ option_and_then (in_block old i) o
     same_bytes number i below None is_none = refl
     same_bytes number i below (Some e) is_e = ap (λ blocks. stored_by new blocks i) (kept_blocks e) ∙ same_stored old new e i (λ some.
         let (k, below_k, is_at, passes) = found_at (is_extent_of user from number) (directory old) e is_e in
         let user_is = (of_file user from e (and_parts (is_of user from e) (e.extent == number) passes).0).0 in
         let range = range_of (directory old) k e sound is_at (omega arith) (i / 8) some in
-        rest.records (record_number e i) (omega (arith, range.0, range.1)) (λ of. omega (arith, range.0)))
+        rest.records (place_on_disk e i) (omega (arith, range.0, range.1)) (λ of. omega (arith, range.0)))
 
     not_from : (e : Entry) → is_of user from (renaming_of user from to e) ≡ false
     not_from e = elim (cases_Bool (is_of user from e)) as (λ _. is_of user from (renaming_of user from to e) ≡ false) [

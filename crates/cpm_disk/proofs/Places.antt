@@ -6,7 +6,7 @@ use Rattle.cpm_image.specs.Skew.{sector}
 use Rattle.cpm_directory.specs.declared.entry.Entry.{Entry}
 use Rattle.cpm_directory.specs.Entries.{at, blank, entry_of}
 use Rattle.cpm_disk.specs.Calls.{Changed}
-use Rattle.cpm_disk.specs.Image.{Image, IsOfDirectory, SameBut, Wrote, directory, entry_at, record_at, record_count}
+use Rattle.cpm_disk.specs.Image.{Image, IsOfDirectory, SameBut, Wrote, directory, entry_at, disk_record, record_count}
 
 pub at_directory : (image : Image) (k : ℕ) → k < 64 → at (directory image) k ≡ entry_at image k
 unfolding directory
@@ -20,7 +20,7 @@ length_directory image = length-map-range_with_len (entry_at image) 0 64
 pub same_entries : (xs ys : List Entry) → length xs ≡ 64 → length ys ≡ 64 → ((k : ℕ) → k < 64 → at xs k ≡ at ys k) → xs ≡ ys
 same_entries xs ys long too each = ext_get_or blank xs ys (long ∙ sym too) (λ k below. each k (omega arith))
 
-pub same_directory : (old new : Image) → ((n : ℕ) → n < 16 → record_at new n ≡ record_at old n) → directory new ≡ directory old
+pub same_directory : (old new : Image) → ((n : ℕ) → n < 16 → disk_record new n ≡ disk_record old n) → directory new ≡ directory old
 same_directory old new same = same_entries (directory new) (directory old) (length_directory new) (length_directory old)
     (λ k below. at_directory new k below ∙ ap (λ bytes. entry_of (take 32 (drop (32 * (k % 4)) bytes))) (same (k / 4) (omega arith)) ∙ sym (at_directory old k below))
 
@@ -65,7 +65,7 @@ stored old new entries number e bytes was below wrote_it holds = same_entries (d
     each : (k : ℕ) → k < 64 → at (directory new) k ≡ at (slice_set entries number e) k
     each k below_k = elim (cases_eq (k / 4) (number / 4)) as (λ _. at (directory new) k ≡ at (slice_set entries number e) k) [
       | inl here ↦ (let place : 4 * (number / 4) + k % 4 ≡ k = omega arith in
-          at_directory new k below_k ∙ ap (λ b. entry_of (take 32 (drop (32 * (k % 4)) b))) (ap (record_at new) here ∙ wrote_it.here)
+          at_directory new k below_k ∙ ap (λ b. entry_of (take 32 (drop (32 * (k % 4)) b))) (ap (disk_record new) here ∙ wrote_it.here)
           ∙ holds (k % 4) (omega arith) ∙ ap (at (slice_set entries number e)) place)
       | inr other ↦ at_directory new k below_k ∙ ap (λ b. entry_of (take 32 (drop (32 * (k % 4)) b))) (wrote_it.rest.records (k / 4) (omega arith) other)
           ∙ sym (at_directory old k below_k) ∙ ap (λ es. at es k) was ∙ sym (get_or-set_other entries number k e blank (λ same. other (ap (λ n. n / 4) same)))

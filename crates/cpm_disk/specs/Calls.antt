@@ -6,7 +6,7 @@ use Rattle.cpm_directory.specs.declared.fault.DiskFault.{DiskFault}
 use Rattle.cpm_directory.specs.declared.fault.DiskFault.TheVariants as fault
 use Rattle.cpm_operations.specs.declared.placement.Placement.{Placement}
 use Rattle.cpm_operations.specs.Kept.{IsBetween}
-use Rattle.cpm_disk.specs.Image.{Image, IsOfBlock, IsOfDirectory, SameBut, directory, record_at}
+use Rattle.cpm_disk.specs.Image.{Image, IsOfBlock, IsOfDirectory, SameBut, directory, disk_record}
 
 -- A mounted disk: its device, and whether that has failed since.
 pub record Mounted (S : Type 0) : Type 0 where
@@ -35,8 +35,8 @@ pub record PartlyChanged (old new : Image) (entries : List Entry) : Type 0 where
 
 -- Record i of a block was written. The other records of a new block are zeros.
 pub record HasWritten (old new : Image) (block i : ℕ) (is_new : Bool) (bytes : List ℕ) : Type 0 where
-  pub here : record_at new (8 * block + i) ≡ bytes
-  pub beside : (j : ℕ) → j < 8 → j ≢ i → record_at new (8 * block + j) ≡ (if is_new then replicate 128 0 else record_at old (8 * block + j))
+  pub here : disk_record new (8 * block + i) ≡ bytes
+  pub beside : (j : ℕ) → j < 8 → j ≢ i → disk_record new (8 * block + j) ≡ (if is_new then replicate 128 0 else disk_record old (8 * block + j))
   pub rest : SameBut (λ n. IsOfDirectory n ⊎ IsOfBlock block n) old new
 
 -- a record was written, and then its entry
@@ -50,4 +50,4 @@ abbrev pub PartlyWritten : Image → Image → Placement → ℕ → List ℕ �
 PartlyWritten old new p i bytes =
     (HasWritten old new p.block i p.is_new bytes × IsBetween (directory old) (slice_set (directory old) p.number p.entry) (directory new))
     ⊎ ((directory new ≡ directory old) × SameBut (λ n. IsOfBlock p.block n) old new
-    × (p.is_new ≡ false → (j : ℕ) → j < 8 → (record_at new (8 * p.block + j) ≡ record_at old (8 * p.block + j)) ⊎ ((j ≡ i) × (record_at new (8 * p.block + j) ≡ bytes))))
+    × (p.is_new ≡ false → (j : ℕ) → j < 8 → (disk_record new (8 * p.block + j) ≡ disk_record old (8 * p.block + j)) ⊎ ((j ≡ i) × (disk_record new (8 * p.block + j) ≡ bytes))))

@@ -2,25 +2,25 @@
 -- two attributes. Record i of an extent is there where i is below the count and its block is. (CP/M 2.2 Alteration Guide, the directory.)
 use Rattle.std.specs.Prelude.{◌≡◌, ◌≢◌, ◌<◌, ◌⊎◌, ◌+◌, ◌/◌, ◌%◌, ◌==◌, max, replicate, unwrap_or, ℕ, true, List, Option, Some, None, find, if◌then◌else◌, option_and_then, option_map}
 use Rattle.cpm_directory.specs.declared.entry.Entry.{Entry}
-use Rattle.cpm_directory.specs.Entries.{block, has_record, is_extent_of, record_number}
+use Rattle.cpm_directory.specs.Entries.{block, has_record, is_extent_of, place_on_disk}
 use Rattle.cpm_directory.specs.Letters.{name_matches}
 use Rattle.cpm_directory.specs.Searches.{file_is_read_only, file_is_system}
-use Rattle.cpm_disk.specs.Image.{Image, directory, record_at}
+use Rattle.cpm_disk.specs.Image.{Image, directory, disk_record}
 
 -- the count of the records of a file's extent
 abbrev pub count_of : Image → ℕ → List ℕ → ℕ → Option ℕ
 count_of image user name number = option_map (λ e. e.records) (find (is_extent_of user name number) (directory image))
 
 -- record i of an extent, where its block is there
-abbrev pub stored_in : Image → ℕ → Entry → Option (List ℕ)
-stored_in image i e = if block e (i / 8) == 0 then None else Some (record_at image (record_number e i))
+abbrev pub in_block : Image → ℕ → Entry → Option (List ℕ)
+in_block image i e = if block e (i / 8) == 0 then None else Some (disk_record image (place_on_disk e i))
 
 abbrev pub stored : Image → ℕ → List ℕ → ℕ → ℕ → Option (List ℕ)
-stored image user name number i = option_and_then (stored_in image i) (find (is_extent_of user name number) (directory image))
+stored image user name number i = option_and_then (in_block image i) (find (is_extent_of user name number) (directory image))
 
 -- the bytes of a file's record, where it is there
-abbrev pub record_of : Image → ℕ → List ℕ → ℕ → Option (List ℕ)
-record_of image user name number = option_and_then (λ e. if has_record e (number % 128) then stored_in image (number % 128) e else None) (find (is_extent_of user name (number / 128)) (directory image))
+abbrev pub file_record : Image → ℕ → List ℕ → ℕ → Option (List ℕ)
+file_record image user name number = option_and_then (λ e. if has_record e (number % 128) then in_block image (number % 128) e else None) (find (is_extent_of user name (number / 128)) (directory image))
 
 -- a file is as before: its extents, their counts and records, and its attributes
 pub record SameFile (old new : Image) (user : ℕ) (name : List ℕ) : Type 0 where

@@ -13,12 +13,12 @@ Image = List (List ℕ)
 abbrev pub record_count : ℕ
 record_count = 1944
 
-abbrev pub record_at : Image → ℕ → List ℕ
-record_at image n = slice_index_or image (sector n) []
+abbrev pub disk_record : Image → ℕ → List ℕ
+disk_record image n = slice_index_or image (sector n) []
 
 -- Blocks 0 and 1 are the directory, of 64 entries, four in each record.
 abbrev pub entry_at : Image → ℕ → Entry
-entry_at image k = entry_of (take 32 (drop (32 * (k % 4)) (record_at image (k / 4))))
+entry_at image k = entry_of (take 32 (drop (32 * (k % 4)) (disk_record image (k / 4))))
 
 unfoldable pub directory : Image → List Entry
 directory image = map (entry_at image) (range_with_len 0 64)
@@ -38,10 +38,10 @@ HoldsNoRecord s = (n : ℕ) → n < record_count → sector n ≢ s
 -- every sector is as before, but for some logical records
 pub record SameBut (P : ℕ → Type 0) (old new : Image) : Type 0 where
   pub count : length new ≡ length old
-  pub records : (n : ℕ) → n < record_count → (P n → ⊥) → record_at new n ≡ record_at old n
+  pub records : (n : ℕ) → n < record_count → (P n → ⊥) → disk_record new n ≡ disk_record old n
   pub system : (s : ℕ) → HoldsNoRecord s → slice_index_or new s [] ≡ slice_index_or old s []
 
 -- a write of one logical record
 pub record Wrote (old new : Image) (number : ℕ) (bytes : List ℕ) : Type 0 where
-  pub here : record_at new number ≡ bytes
+  pub here : disk_record new number ≡ bytes
   pub rest : SameBut (λ n. n ≡ number) old new

@@ -4,7 +4,7 @@ ghost use Rattle.std.specs.Prelude.{◌≡◌, ◌⊎◌, ◌<◌, ◌≤◌, �
 ghost use Rattle.cpm_image.specs.Device.{HasCause};
 ghost use Rattle.cpm_disk.specs.Blocks.{Cleared, Prepared};
 ghost use Rattle.cpm_disk.specs.Calls.{HasWritten, PartlyWritten, Written};
-ghost use Rattle.cpm_disk.specs.Image.{IsOfBlock, SameBut, directory, record_at};
+ghost use Rattle.cpm_disk.specs.Image.{IsOfBlock, SameBut, directory, disk_record};
 
 use crate::records::{store, write_record};
 use cpm_directory::Entry;
@@ -59,8 +59,8 @@ fn write_block<S: Sectors>(
     ensures written { OnOk result (HasWritten (S.sectors device.old) (S.sectors device.new) place.now.block i place.now.is_new bytes.now) }
     ensures rest { SameBut (IsOfBlock place.now.block) (S.sectors device.old) (S.sectors device.new) }
     ensures stopped { OnErr result (place.now.is_new ≡ false → (j : ℕ) → j < 8 →
-        (record_at (S.sectors device.new) (8 * place.now.block + j) ≡ record_at (S.sectors device.old) (8 * place.now.block + j))
-        ⊎ ((j ≡ i) × (record_at (S.sectors device.new) (8 * place.now.block + j) ≡ bytes.now))) }
+        (disk_record (S.sectors device.new) (8 * place.now.block + j) ≡ disk_record (S.sectors device.old) (8 * place.now.block + j))
+        ⊎ ((j ≡ i) × (disk_record (S.sectors device.new) (8 * place.now.block + j) ≡ bytes.now))) }
     ensures cause { HasCause (S.faults device.old) (S.faults device.new) result }
 {
     prepare(device, place, i)?;

@@ -40,7 +40,7 @@ impl<S: Sectors> Disk<S> {
     ghost use Rattle.cpm_directory.specs.Letters.{name_matches};
     ghost use Rattle.cpm_directory.specs.Rules.{IsSound};
     ghost use Rattle.cpm_directory.specs.Searches.{found_from, size};
-    ghost use Rattle.cpm_disk.specs.Files.{HasRecord, IsEither, IsFile, IsMatched, IsMoved, IsNewFile, IsNoFile, OthersAreSame, record_of};
+    ghost use Rattle.cpm_disk.specs.Files.{HasRecord, IsEither, IsFile, IsMatched, IsMoved, IsNewFile, IsNoFile, OthersAreSame, file_record};
     ghost use Rattle.cpm_disk.specs.Image.{directory};
     ghost use Rattle.cpm_disk.specs.Mounting.{IsListedBy, IsMountedFrom};
     ghost use Rattle.cpm_disk.specs.Operations.{IsCreated, IsErased, IsRead, IsRenamed, IsWritten};
@@ -194,7 +194,7 @@ impl<S: Sectors> Disk<S> {
     ) -> Result<[u8; 128], DiskFault>
         requires { user < 32 }
         ensures done { IsRead S.sectors S.faults self.old self.new user name.now number result }
-        ensures found { IfOk result (λ bytes. record_of (S.sectors self.old.device) user name.now number ≡ Some bytes) }
+        ensures found { IfOk result (λ bytes. file_record (S.sectors self.old.device) user name.now number ≡ Some bytes) }
         ensures sound { IsSound (directory (S.sectors self.new.device)) }
     {
         if self.failed {

@@ -3,7 +3,7 @@
 ghost use Rattle.std.specs.Prelude.{◌≡◌, ◌⊎◌, ◌<◌, ◌≤◌, ◌+◌, ◌*◌, ◌/◌, ℕ, drop, length, OnErr, OnOk, slice_set, take};
 ghost use Rattle.cpm_image.specs.Device.{HasCause};
 ghost use Rattle.cpm_directory.specs.Entries.{at, entry_of};
-ghost use Rattle.cpm_disk.specs.Image.{SameBut, Wrote, directory, record_at};
+ghost use Rattle.cpm_disk.specs.Image.{SameBut, Wrote, directory, disk_record};
 ghost use Rattle.cpm_disk.specs.Calls.{Changed};
 
 use cpm_directory::Entry;
@@ -20,7 +20,7 @@ pub fn read_record<S: Sectors>(
 ) -> Result<(), DeviceFault>
     requires count { length (S.sectors device.old) ≡ 2002 }
     requires number { number < 1944 }
-    ensures read { OnOk result (bytes.new ≡ record_at (S.sectors device.old) number) }
+    ensures read { OnOk result (bytes.new ≡ disk_record (S.sectors device.old) number) }
     ensures kept { S.sectors device.new ≡ S.sectors device.old }
     ensures cause { HasCause (S.faults device.old) (S.faults device.new) result }
 {

@@ -5,8 +5,8 @@ use Rattle.std.proofs.lemmas.Bool.{cases_eq, cases_lt, cases_order, eq-eqb, ne_e
 use Rattle.std.proofs.Math.ListN.{length-set}
 use Rattle.std.proofs.lemmas.List.{length-take, get_or_past, get_or-set_same, get_or-set_other, get_or-take}
 use Rattle.std.proofs.lemmas.List.Folds.{list_any_more}
-use Rattle.cpm_directory.specs.Marks.{AreOwn}
-use Rattle.cpm_directory.proofs.Anywhere.{where_any, nowhere}
+use Rattle.cpm_directory.specs.Private.Marks.{AreOwn}
+use Rattle.cpm_directory.proofs.Elements.{where_any, nowhere}
 
 -- the first i blocks stand once each, and were not marked
 pub record AreOwnBelow (marks : List Bool) (blocks : List ℕ) (i : ℕ) : Type 0 where

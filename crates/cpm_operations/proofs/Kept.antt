@@ -9,8 +9,8 @@ use Rattle.cpm_directory.specs.Letters.{letters}
 use Rattle.cpm_directory.specs.Rules.{AreBlocks, AreSameExtent, IsGood, IsSound}
 use Rattle.cpm_directory.specs.Searches.{free_entry, is_file}
 use Rattle.cpm_operations.specs.Kept.{IsBetween, StaysSound}
-use Rattle.cpm_operations.specs.Steps.{after_erasure, after_renaming}
-use Rattle.cpm_operations.proofs.Facts.{at_map, blank_is_not_of, is_of_file, letters_with, none_at, of_file, zeros_at, blank_is_no_match}
+use Rattle.cpm_operations.specs.Steps.{after_erasure, after_renaming, erased_by, renamed_by}
+use Rattle.cpm_operations.proofs.Entries.{at_map, blank_is_not_of, is_of_file, letters_with, none_at, of_file, zeros_at, blank_is_no_match}
 use Rattle.cpm_operations.proofs.Sound.{FitsAt, Stands, fewer, one_more}
 
 -- what a failing device leaves of one put entry
@@ -42,12 +42,8 @@ creation_keeps user name entries k low seven sound new_file free =
     (new_extent_fits entries k user name 0 (omega arith)
     (λ j _ ext same. true≢false (sym (is_of_file user name (at entries j) same.0 (same.1 ∙ seven)) ∙ none_at (is_of user name) entries j (blank_is_not_of user name low) new_file)))
 
--- an entry that matches, erased; any other as it is
-abbrev pub erasing : ℕ → List ℕ → Entry → Entry
-erasing user pattern e = if is_match user pattern e then erased e else e
-
-pub at_erasure : (user : ℕ) (pattern : List ℕ) (entries : List Entry) (k : ℕ) → user < 32 → at (after_erasure user pattern entries) k ≡ erasing user pattern (at entries k)
-at_erasure user pattern entries k low = at_map (erasing user pattern) entries k (rw (blank_is_no_match user pattern low) refl)
+pub at_erasure : (user : ℕ) (pattern : List ℕ) (entries : List Entry) (k : ℕ) → user < 32 → at (after_erasure user pattern entries) k ≡ erased_by user pattern (at entries k)
+at_erasure user pattern entries k low = at_map (erased_by user pattern) entries k (rw (blank_is_no_match user pattern low) refl)
 
 pub erasure_keeps : (user : ℕ) (pattern : List ℕ) (entries : List Entry) → user < 32 → IsSound entries → StaysSound entries (after_erasure user pattern entries)
 erasure_keeps user pattern entries low sound mixed between = fewer entries mixed sound same
@@ -55,7 +51,7 @@ erasure_keeps user pattern entries low sound mixed between = fewer entries mixed
     same : (k : ℕ) → is_extent (at mixed k) ≡ true → at mixed k ≡ at entries k
     same k ext = elim (between k) as (λ _. at mixed k ≡ at entries k) [
       | inl kept ↦ kept
-      | inr after ↦ (let changed : at mixed k ≡ erasing user pattern (at entries k) = after ∙ at_erasure user pattern entries k low in
+      | inr after ↦ (let changed : at mixed k ≡ erased_by user pattern (at entries k) = after ∙ at_erasure user pattern entries k low in
           elim (cases_Bool (is_match user pattern (at entries k))) as (λ _. at mixed k ≡ at entries k) [
             | inl matches ↦ (let gone : at mixed k ≡ erased (at entries k) = changed ∙ ap (λ b. if b then erased (at entries k) else at entries k) matches in
                 absurd (true≢false (sym (subst (λ x. is_extent x ≡ true) gone ext))))
@@ -63,12 +59,8 @@ erasure_keeps user pattern entries low sound mixed between = fewer entries mixed
           ])
     ]
 
--- a file's entry, renamed; any other as it is
-abbrev pub renaming_of : ℕ → List ℕ → List ℕ → Entry → Entry
-renaming_of user old new e = if is_of user old e then renamed new e else e
-
-pub at_renaming : (user : ℕ) (old new : List ℕ) (entries : List Entry) (k : ℕ) → user < 32 → at (after_renaming user old new entries) k ≡ renaming_of user old new (at entries k)
-at_renaming user old new entries k low = at_map (renaming_of user old new) entries k (rw (blank_is_not_of user old low) refl)
+pub at_renaming : (user : ℕ) (old new : List ℕ) (entries : List Entry) (k : ℕ) → user < 32 → at (after_renaming user old new entries) k ≡ renamed_by user old new (at entries k)
+at_renaming user old new entries k low = at_map (renamed_by user old new) entries k (rw (blank_is_not_of user old low) refl)
 
 -- what a failing device leaves of a file's entries
 abbrev IsRenamed : ℕ → List ℕ → List ℕ → Entry → Entry → Type 0
@@ -77,7 +69,7 @@ IsRenamed user old new e m = (m ≡ e) ⊎ ((is_of user old e ≡ true) × (m �
 renamed_at : (user : ℕ) (old new : List ℕ) (entries mixed : List Entry) → user < 32 → IsBetween entries (after_renaming user old new entries) mixed → (k : ℕ) → IsRenamed user old new (at entries k) (at mixed k)
 renamed_at user old new entries mixed low between k = elim (between k) as (λ _. IsRenamed user old new (at entries k) (at mixed k)) [
   | inl kept ↦ inl kept
-  | inr after ↦ (let changed : at mixed k ≡ renaming_of user old new (at entries k) = after ∙ at_renaming user old new entries k low in
+  | inr after ↦ (let changed : at mixed k ≡ renamed_by user old new (at entries k) = after ∙ at_renaming user old new entries k low in
       elim (cases_Bool (is_of user old (at entries k))) as (λ _. IsRenamed user old new (at entries k) (at mixed k)) [
         | inl of ↦ inr (of, changed ∙ ap (λ b. if b then renamed new (at entries k) else at entries k) of)
         | inr other ↦ inl (changed ∙ ap (λ b. if b then renamed new (at entries k) else at entries k) other)

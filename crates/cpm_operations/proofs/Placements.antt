@@ -13,10 +13,10 @@ use Rattle.cpm_directory.specs.Searches.{free_block, free_entry, file_is_read_on
 use Rattle.cpm_operations.specs.declared.placement.Placement.{Placement}
 use Rattle.cpm_operations.specs.Kept.{IsKeptBy}
 use Rattle.cpm_operations.specs.Steps.{block_place, extent_place, found_or_new, given, placing, unless, writing}
-use Rattle.cpm_operations.proofs.Facts.{blank_is_not_of, below_extent, found_at, found_in_range, is_of_file, none_at, of_file, set_cases, stands_in, zeros_at}
+use Rattle.cpm_operations.proofs.Entries.{blank_is_not_of, below_extent, found_at, found_in_range, is_of_file, none_at, of_file, set_cases, stands_in, zeros_at}
 use Rattle.cpm_operations.proofs.Results.{bind_ok, given_ok, unless_ok}
 use Rattle.cpm_operations.proofs.Sound.{FitsAt}
-use Rattle.cpm_operations.proofs.Keeping.{keeps_by_one, new_extent_fits}
+use Rattle.cpm_operations.proofs.Kept.{keeps_by_one, new_extent_fits}
 
 -- what is not found at all passes nowhere
 pub none_placed : (p : Entry → Bool) (entries : List Entry) (k : ℕ) → p blank ≡ false → position p entries ≡ None → p (at entries k) ≡ false
@@ -41,7 +41,7 @@ present_fits entries k sound ext = record {
 -- the block of a record: the one that the entry has, or one that stands nowhere
 abbrev pub IsBlockFor : List Entry → Entry → ℕ → ℕ → Type 0
 IsBlockFor entries e group b = ((0 < b) × (block e group ≡ b))
-    ⊎ ((2 ≤ b) × (b ≤ 242) × ((a : ℕ) → block e a ≡ b → ⊥) × ((k a : ℕ) → is_extent (at entries k) ≡ true → block (at entries k) a ≡ b → ⊥))
+    ⊎ ((2 ≤ b) × (b < 243) × ((a : ℕ) → block e a ≡ b → ⊥) × ((k a : ℕ) → is_extent (at entries k) ≡ true → block (at entries k) a ≡ b → ⊥))
 
 record_fits : (entries : List Entry) (k : ℕ) (e : Entry) (i b : ℕ) → i < 128 → FitsAt entries k e → IsBlockFor entries e (i / 8) b → FitsAt entries k (with_record e i b)
 record_fits entries k e i b low fits place = record {
@@ -132,20 +132,20 @@ place_found user name number entries None place low small sound none is =
       of_file = is_of_file user name (new_extent user e.name number) refl named;
     })
 
-pub block_found : (user : ℕ) (name : List ℕ) (entries : List Entry) (place : ℕ × Entry) (group : ℕ) (found : ℕ × Bool) → IsPlace user name entries place → block_place place.1 group entries ≡ Ok found → (2 ≤ found.0) × (found.0 ≤ 242) × IsBlockFor entries place.1 group found.0
+pub block_found : (user : ℕ) (name : List ℕ) (entries : List Entry) (place : ℕ × Entry) (group : ℕ) (found : ℕ × Bool) → IsPlace user name entries place → block_place place.1 group entries ≡ Ok found → (2 ≤ found.0) × (found.0 < 243) × IsBlockFor entries place.1 group found.0
 unfolding free_block
-block_found user name entries place group found fits is = elim (cases_Bool (block place.1 group == 0)) as (λ _. (2 ≤ found.0) × (found.0 ≤ 242) × IsBlockFor entries place.1 group found.0) [
+block_found user name entries place group found fits is = elim (cases_Bool (block place.1 group == 0)) as (λ _. (2 ≤ found.0) × (found.0 < 243) × IsBlockFor entries place.1 group found.0) [
   | inl none ↦ (let (b, given_b, last) = bind_ok (given (free_block entries) fault.DiskFull) _ found (rw none at is) in
       let same : b ≡ found.0 = ap (λ (p : ℕ × Bool). p.0) (let e : ◌≡◌ {A = ℕ × Bool} (b, true) found = cc in e) in
       let range = found_in_range (λ n. not (is_taken entries n)) 2 241 b (given_ok (free_block entries) fault.DiskFull b given_b) in
       let free = not-true (is_taken entries b) range.2 in
-      subst (λ n. (2 ≤ n) × (n ≤ 242) × IsBlockFor entries place.1 group n) same
+      subst (λ n. (2 ≤ n) × (n < 243) × IsBlockFor entries place.1 group n) same
       (range.0, omega (arith, range.1), inr (range.0, omega (arith, range.1), (λ a here. fits.full b a range.0 free here), not_taken entries b range.0 free)))
   | inr some ↦ (let e : ◌≡◌ {A = ℕ × Bool} (block place.1 group, false) found = (let found_is = rw some at is in cc) in
       let same : block place.1 group ≡ found.0 = ap (λ (p : ℕ × Bool). p.0) e in
       let present : block place.1 group ≡ 0 → ⊥ = eqb-false (block place.1 group) 0 some in
-      let range : (2 ≤ block place.1 group) × (block place.1 group ≤ 242) = elim (fits.fits.blocks group) as (λ _. (2 ≤ block place.1 group) × (block place.1 group ≤ 242)) [ inl zero_block ↦ absurd (present zero_block) | inr within ↦ within ] in
-      subst (λ n. (2 ≤ n) × (n ≤ 242) × IsBlockFor entries place.1 group n) same (range.0, range.1, inl (omega (arith, range.0), refl)))
+      let range : (2 ≤ block place.1 group) × (block place.1 group < 243) = elim (fits.fits.blocks group) as (λ _. (2 ≤ block place.1 group) × (block place.1 group < 243)) [ inl zero_block ↦ absurd (present zero_block) | inr within ↦ within ] in
+      subst (λ n. (2 ≤ n) × (n < 243) × IsBlockFor entries place.1 group n) same (range.0, range.1, inl (omega (arith, range.0), refl)))
 ]
 
 -- no other entry has the block

@@ -6,12 +6,12 @@ use Rattle.std.proofs.lemmas.Bool.{cases_lt, eq-eqb, eqb-true}
 use Rattle.std.proofs.lemmas.List.Folds.{list_any_at}
 use Rattle.cpm_directory.specs.Types.{Entry}
 use Rattle.cpm_directory.specs.Entries.{at, blank, block, is_extent}
-use Rattle.cpm_directory.specs.Marks.{AreMarks, AreOwn}
+use Rattle.cpm_directory.specs.Private.Marks.{AreMarks, AreOwn}
 use Rattle.cpm_directory.specs.Rules.{AreBlocks, HasOwnBlocks, IsBlock}
 use Rattle.cpm_directory.specs.Searches.{is_taken}
-use Rattle.cpm_directory.proofs.Anywhere.{where_any}
-use Rattle.cpm_directory.proofs.Marking.{within}
-use Rattle.cpm_directory.proofs.Naming.{both_true, true_both, within_extents}
+use Rattle.cpm_directory.proofs.Elements.{where_any}
+use Rattle.cpm_directory.proofs.Marks.{within}
+use Rattle.cpm_directory.proofs.Names.{both_true, true_both, within_extents}
 
 -- a block that stands in an extent is taken
 pub taken_at : (entries : List Entry) (k a b : ℕ) → is_extent (at entries k) ≡ true → 0 < b → block (at entries k) a ≡ b → is_taken entries b ≡ true

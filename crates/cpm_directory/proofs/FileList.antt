@@ -1,19 +1,18 @@
 -- The listing of the files of a directory.
-use Rattle.std.proofs.Common.{◌≡◌, ◌<◌, ℕ, zero, suc, List, [], ◌∷◌, Bool, true, false, cond, length, get_or, map, refl, arith, ◌∙◌, ap, Some}
+use Rattle.std.proofs.Common.{◌≡◌, ◌<◌, ℕ, zero, suc, List, [], ◌∷◌, Bool, true, false, cond, length, get_or, map, refl, arith, ◌∙◌, ap}
 use Rattle.std.specs.List.{All, Contains, filter}
 use Rattle.std.proofs.lemmas.List.{get_or-map, length-map}
 use Rattle.std.proofs.lemmas.List.Elements.{All-map, All-cons, All-tail, All-contains, All-contains_itself, All-nil, Contains-get_or}
 use Rattle.std.proofs.lemmas.List.Folds.{list_any_at}
 use Rattle.cpm_directory.specs.declared.file.File.{File}
-use Rattle.cpm_directory.specs.Types.{Entry}
+use Rattle.cpm_directory.specs.Types.{Entry, Listed}
 use Rattle.cpm_directory.specs.Entries.{at, is_extent, is_of}
 use Rattle.cpm_directory.specs.Letters.{letters}
-use Rattle.std.specs.Option.{unwrap_or}
 use Rattle.std.proofs.lemmas.Bool.{eq-eqb, ltb-true}
 use Rattle.std.proofs.lemmas.Slice.Eq.{bytes_eq-Decides}
-use Rattle.cpm_directory.proofs.Naming.{true_both}
-use Rattle.cpm_directory.specs.Files.{AreInOrder, file_of, files_of, listed_of}
-use Rattle.cpm_directory.specs.Searches.{IsListed, IsListing, is_file, size}
+use Rattle.cpm_directory.proofs.Names.{true_both}
+use Rattle.cpm_directory.specs.Private.Files.{AreInOrder, file_of, files_of}
+use Rattle.cpm_directory.specs.Searches.{IsListing, is_file, listed_of}
 
 -- a file of users 0 to 31
 record IsFileOf (entries : List Entry) (f : File) : Type 0 where
@@ -47,21 +46,22 @@ are_files : (entries es : List Entry) → All (Contains entries) es → All (IsF
 are_files entries [] all = All-nil (IsFileOf entries)
 are_files entries (e ∷ es) all = are_files_by entries e es (is_extent e) refl (is_its_file entries e (all 0 e (omega arith))) (are_files entries es (All-tail (Contains entries) e es all))
 
-size_is : (user : ℕ) (name : List ℕ) (entries : List Entry) → is_file user name entries ≡ true → size user name entries ≡ Some (unwrap_or (size user name entries) 0)
-size_is user name entries is = rw is refl
+-- what a listing says of a file
+abbrev said : List Entry → File → Listed
+said entries f = listed_of f.user f.name entries
 
-pub listing : (entries : List Entry) (sorted : List File) → AreInOrder (files_of entries) sorted → IsListing entries (map (listed_of entries) sorted)
+pub listing : (entries : List Entry) (sorted : List File) → AreInOrder (files_of entries) sorted → IsListing entries (map (said entries) sorted)
 listing entries sorted are = record {
-  each = All-map (λ l. (l.user < 32) × IsListed entries l) (listed_of entries) sorted (λ k d h.
+  each = All-map (λ l. (l.user < 32) × (is_file l.user l.name entries ≡ true) × (l ≡ listed_of l.user l.name entries)) (said entries) sorted (λ k d h.
       let f = get_or sorted k d in
       let is = All-contains (IsFileOf entries) (files_of entries) f (are_files entries entries (All-contains_itself entries)) (are.each f (Contains-get_or sorted k d h)) in
-      (is.user, (is.is, size_is f.user f.name entries is.is, refl, refl)));
+      (is.user, is.is, refl));
   every = λ k extent.
       let place = are.every (file_of (at entries k)) (file_at entries k extent) in
       let f = file_of (at entries k) in
-      (place.0, listed_of entries f, rw length-map place.1, get_or-map (listed_of entries) sorted place.0 f (listed_of entries f) place.1 ∙ ap (listed_of entries) place.2, (refl, refl));
+      (place.0, said entries f, rw length-map place.1, get_or-map (said entries) sorted place.0 f (said entries f) place.1 ∙ ap (said entries) place.2, (refl, refl));
   ordered = λ i j d lt h.
       let itself : File = record { user = d.user; name = d.name } in
       let below : j < length sorted = rw length-map at h in
-      rw (get_or-map (listed_of entries) sorted i itself d (omega arith), get_or-map (listed_of entries) sorted j itself d below) (are.ordered i j itself lt below);
+      rw (get_or-map (said entries) sorted i itself d (omega arith), get_or-map (said entries) sorted j itself d below) (are.ordered i j itself lt below);
 }

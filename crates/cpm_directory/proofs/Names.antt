@@ -8,7 +8,7 @@ use Rattle.cpm_directory.specs.Types.{Entry}
 use Rattle.cpm_directory.specs.Letters.{letters}
 use Rattle.cpm_directory.specs.Entries.{at, blank, is_extent, is_extent_of}
 use Rattle.cpm_directory.specs.Rules.{HasOwnName}
-use Rattle.cpm_directory.proofs.Anywhere.{where_any, nowhere}
+use Rattle.cpm_directory.proofs.Elements.{where_any, nowhere}
 
 pub both_true : (a b : Bool) → (a && b) ≡ true → (a ≡ true) × (b ≡ true)
 both_true true b h = (refl, h)

@@ -6,9 +6,9 @@ use Rattle.std.specs.List.{list_any}
 use Rattle.cpm_directory.specs.Types.{Entry, DiskFault}
 use Rattle.cpm_directory.specs.Entries.{at, blank, block, is_extent}
 use Rattle.cpm_directory.specs.Rules.{AreSameExtent, IsFaultOf, IsFirstFault, IsSound, KeepsRules}
-use Rattle.cpm_directory.specs.Marks.{AreMarks}
-use Rattle.cpm_directory.proofs.Naming.{within_extents}
-use Rattle.cpm_directory.proofs.Taking.{AreTaken, entry_marked, entry_passed, none_taken}
+use Rattle.cpm_directory.specs.Private.Marks.{AreMarks}
+use Rattle.cpm_directory.proofs.Names.{within_extents}
+use Rattle.cpm_directory.proofs.TakenBlocks.{AreTaken, entry_marked, entry_passed, none_taken}
 
 -- each of the first i entries keeps the rules after those before it, and their blocks are marked
 pub record AreJudged (entries : List Entry) (marks : List Bool) (i : ℕ) : Type 0 where

@@ -14,8 +14,9 @@ use Rattle.std.proofs.lemmas.List.Sorted.{Contains-permutation, IsPermutation-sy
 use Rattle.std.proofs.lemmas.Map.Text.{is_eq-slice_cmp}
 use Rattle.std.proofs.lemmas.Slice.Eq.{bytes_eq-Decides}
 use Rattle.cpm_directory.specs.declared.file.File.{File}
-use Rattle.cpm_directory.specs.Files.{AreInOrder, Precedes}
-use Rattle.cpm_directory.proofs.Naming.{both_true}
+use Rattle.cpm_directory.specs.Private.Files.{AreInOrder}
+use Rattle.cpm_directory.specs.Searches.{ComesBefore}
+use Rattle.cpm_directory.proofs.Names.{both_true}
 
 abbrev pub file_cmp : File → File → Ordering
 file_cmp a b = ordering_then (nat_cmp a.user b.user) (slice_cmp nat_cmp a.name b.name)
@@ -48,12 +49,12 @@ file_eq-same a b h =
     let parts = both_true (a.user == b.user) _ h in
     same_file a b (eqb-true _ _ parts.0) ((bytes_eq-Decides a.name b.name).0 parts.1)
 
-precedes_by : (a b : File) (o : Ordering) → o ≡ nat_cmp a.user b.user → ordering_then o (slice_cmp nat_cmp a.name b.name) ≡ Less → MatchOrdering o (a.user < b.user) (a.user ≡ b.user) (b.user < a.user) → Precedes a b
+precedes_by : (a b : File) (o : Ordering) → o ≡ nat_cmp a.user b.user → ordering_then o (slice_cmp nat_cmp a.name b.name) ≡ Less → MatchOrdering o (a.user < b.user) (a.user ≡ b.user) (b.user < a.user) → ComesBefore a.user a.name b.user b.name
 precedes_by a b Less e h lt = inl lt
 precedes_by a b Equal e h same = inr (same, h)
 precedes_by a b Greater e h gt = absurd (let f : Greater ≡ Less = h in cc)
 
-pub precedes : (a b : File) → file_cmp a b ≡ Less → Precedes a b
+pub precedes : (a b : File) → file_cmp a b ≡ Less → ComesBefore a.user a.name b.user b.name
 precedes a b h = precedes_by a b (nat_cmp a.user b.user) refl h (ranked a.user b.user _ refl)
 
 each_of : {X : Type 0} (P : X → Type 0) (xs : List X) → AllByRecursion P xs → (k : ℕ) (d : X) → k < length xs → P (get_or xs k d)
