@@ -2,11 +2,12 @@
 use Rattle.std.proofs.Common.{◌≡◌, ◌<◌, ◌/◌, ◌%◌, ◌*◌, ◌+◌, ℕ, List, [], length, take, drop, refl, sym, ap, subst, ◌∙◌, inl, inr, arith, slice_set, get_or-set_same, get_or-set_other, ext_get_or, length-set}
 use Rattle.std.proofs.lemmas.Bool.{cases_eq}
 use Rattle.std.proofs.lemmas.List.FromFn.{get_or-map-range_with_len, length-map-range_with_len}
+use Rattle.cpm_image.specs.declared.format.TheConstants.{RECORD_COUNT}
 use Rattle.cpm_image.specs.Skew.{sector}
 use Rattle.cpm_directory.specs.declared.entry.Entry.{Entry}
 use Rattle.cpm_directory.specs.Entries.{at, blank, entry_of}
 use Rattle.cpm_disk.specs.Calls.{Changed}
-use Rattle.cpm_disk.specs.Image.{Image, IsOfDirectory, SameBut, Wrote, directory, entry_at, disk_record, record_count}
+use Rattle.cpm_disk.specs.Image.{Image, IsOfDirectory, SameBut, Wrote, directory, entry_at, disk_record}
 
 pub at_directory : (image : Image) (k : ℕ) → k < 64 → at (directory image) k ≡ entry_at image k
 unfolding directory
@@ -46,7 +47,7 @@ widened P Q a b within same = record {
 pub directory_kept : (P : ℕ → Type 0) (old new : Image) → ((n : ℕ) → n < 16 → P n → ⊥) → SameBut P old new → directory new ≡ directory old
 directory_kept P old new apart same = same_directory old new (λ n below. same.records n (omega arith) (apart n below))
 
-pub wrote : (old : Image) (n : ℕ) (bytes : List ℕ) → sector n < length old → ((m : ℕ) → m < record_count → sector m ≡ sector n → m ≡ n) → n < record_count → Wrote old (slice_set old (sector n) bytes) n bytes
+pub wrote : (old : Image) (n : ℕ) (bytes : List ℕ) → sector n < length old → ((m : ℕ) → m < RECORD_COUNT → sector m ≡ sector n → m ≡ n) → n < RECORD_COUNT → Wrote old (slice_set old (sector n) bytes) n bytes
 wrote old n bytes within distinct below = record {
   here = get_or-set_same old (sector n) bytes [] within;
   rest = record {
@@ -57,10 +58,10 @@ wrote old n bytes within distinct below = record {
 }
 
 -- a record of the directory with one entry changed
-pub stored : (old new : Image) (entries : List Entry) (number : ℕ) (e : Entry) (bytes : List ℕ) → directory old ≡ entries → number < 64 → Wrote old new (number / 4) bytes
+pub entry_put : (old new : Image) (entries : List Entry) (number : ℕ) (e : Entry) (bytes : List ℕ) → directory old ≡ entries → number < 64 → Wrote old new (number / 4) bytes
     → ((i : ℕ) → i < 4 → entry_of (take 32 (drop (32 * i) bytes)) ≡ at (slice_set entries number e) (4 * (number / 4) + i))
     → directory new ≡ slice_set entries number e
-stored old new entries number e bytes was below wrote_it holds = same_entries (directory new) (slice_set entries number e) (length_directory new) (length-set entries number e ∙ ap length (sym was) ∙ length_directory old) each
+entry_put old new entries number e bytes was below wrote_it holds = same_entries (directory new) (slice_set entries number e) (length_directory new) (length-set entries number e ∙ ap length (sym was) ∙ length_directory old) each
   where
     each : (k : ℕ) → k < 64 → at (directory new) k ≡ at (slice_set entries number e) k
     each k below_k = elim (cases_eq (k / 4) (number / 4)) as (λ _. at (directory new) k ≡ at (slice_set entries number e) k) [
@@ -75,7 +76,7 @@ pub changed_by : (old new : Image) (entries : List Entry) (number : ℕ) (e : En
     → ((i : ℕ) → i < 4 → entry_of (take 32 (drop (32 * i) bytes)) ≡ at (slice_set entries number e) (4 * (number / 4) + i))
     → Changed old new (slice_set entries number e)
 changed_by old new entries number e bytes was below wrote_it holds = record {
-  entries_are = stored old new entries number e bytes was below wrote_it holds;
+  entries_are = entry_put old new entries number e bytes was below wrote_it holds;
   rest = widened (λ n. n ≡ number / 4) IsOfDirectory old new (λ n same. omega arith) wrote_it.rest;
 }
 

@@ -14,7 +14,7 @@ use Rattle.cpm_operations.specs.declared.placement.Placement.{Placement}
 use Rattle.cpm_operations.specs.Kept.{IsKeptBy}
 use Rattle.cpm_operations.specs.Steps.{block_place, extent_place, found_or_new, given, placing, unless, writing}
 use Rattle.cpm_disk.specs.Calls.{HasWritten, Written}
-use Rattle.cpm_disk.specs.Files.{HasRecord, count_of, stored, in_block}
+use Rattle.cpm_disk.specs.Files.{HasRecord, count_of, block_record, in_block}
 use Rattle.cpm_disk.specs.Image.{Image, IsOfBlock, IsOfDirectory, SameBut, directory, disk_record}
 use Rattle.cpm_disk.proofs.Files.{Alike, find_alike, same_stored}
 use Rattle.cpm_disk.proofs.Maps.{extent_found, find_none, range_of}
@@ -63,12 +63,12 @@ extent_is : (entries : List Entry) (user : ℕ) (name : List ℕ) (number : ℕ)
 extent_is entries user name number place (inl old) = eqb-true place.1.extent number (and_parts (is_of user name place.1) (place.1.extent == number) old.1).1
 extent_is entries user name number place (inr new) = new.4
 
--- what the extent counted and stored before
+-- what the extent counted and block_record before
 count_was : (image : Image) (user : ℕ) (name : List ℕ) (number : ℕ) (place : ℕ × Entry) → Was (directory image) user name number place → unwrap_or (count_of image user name number) 0 ≡ place.1.records
 count_was image user name number place (inl old) = ap (λ o. unwrap_or (option_map (λ e. e.records) o) 0) old.2
 count_was image user name number place (inr new) = ap (λ o. unwrap_or (option_map (λ e. e.records) o) 0) new.1 ∙ sym new.2
 
-stored_was : (image : Image) (user : ℕ) (name : List ℕ) (number i : ℕ) (place : ℕ × Entry) → Was (directory image) user name number place → stored image user name number i ≡ in_block image i place.1
+stored_was : (image : Image) (user : ℕ) (name : List ℕ) (number i : ℕ) (place : ℕ × Entry) → Was (directory image) user name number place → block_record image user name number i ≡ in_block image i place.1
 stored_was image user name number i place (inl old) = ap (option_and_then (in_block image i)) old.2
 stored_was image user name number i place (inr new) = ap (option_and_then (in_block image i)) new.1 ∙ sym (ap (λ b. if b == 0 then None else Some (disk_record image (place_on_disk place.1 i))) (new.3 (i / 8)))
 
@@ -83,7 +83,7 @@ stored_not image e i none = ap (λ n. if n == 0 then None else Some (disk_record
 
 -- the records of the block beside the one that is written
 beside_it : (old new : Image) (user : ℕ) (name : List ℕ) (number i j b : ℕ) (is_new : Bool) (bytes : List ℕ) (place : ℕ × Entry) → Was (directory old) user name number place → Had place.1 (j / 8) (b, is_new) → j % 8 ≢ i → HasWritten old new b i is_new bytes
-    → disk_record new (8 * b + j % 8) ≡ unwrap_or (stored old user name number j) (replicate 128 0)
+    → disk_record new (8 * b + j % 8) ≡ unwrap_or (block_record old user name number j) (replicate 128 0)
 beside_it old new user name number i j b is_new bytes place before (inl had_none) apart made =
     made.beside (j % 8) (omega arith) apart ∙ ap (λ t. if t then replicate 128 0 else disk_record old (8 * b + j % 8)) had_none.0
     ∙ sym (ap (λ o. unwrap_or o (replicate 128 0)) (stored_was old user name number j place before ∙ stored_not old place.1 j had_none.1))
@@ -92,7 +92,7 @@ beside_it old new user name number i j b is_new bytes place before (inr had_it) 
     ∙ sym (ap (λ o. unwrap_or o (replicate 128 0)) (stored_was old user name number j place before ∙ stored_there old place.1 j b had_it.1 had_it.2))
 
 -- an entry's record outside the block that is written
-other_block : (old new : Image) (e : Entry) (i b : ℕ) → ((block e (i / 8) ≡ 0 → ⊥) → (2 ≤ block e (i / 8)) × (block e (i / 8) ≤ 242)) → (block e (i / 8) ≡ b → ⊥) → SameBut (λ n. IsOfDirectory n ⊎ IsOfBlock b n) old new → in_block new i e ≡ in_block old i e
+other_block : (old new : Image) (e : Entry) (i b : ℕ) → ((block e (i / 8) ≡ 0 → ⊥) → (2 ≤ block e (i / 8)) × (block e (i / 8) < 243)) → (block e (i / 8) ≡ b → ⊥) → SameBut (λ n. IsOfDirectory n ⊎ IsOfBlock b n) old new → in_block new i e ≡ in_block old i e
 other_block old new e i b range apart rest = same_stored old new e i (λ some.
     let within = range some in
     rest.records (place_on_disk e i) (omega (arith, within.0, within.1)) (λ of. elim of [ inl in_directory ↦ omega (arith, within.0) | inr in_block ↦ apart (omega (arith, in_block.0, in_block.1)) ]))
@@ -105,7 +105,7 @@ not_extent user name number other e is apart = elim (cases_Bool (is_extent_of us
 ]
 
 record_put : (old new : Image) (user : ℕ) (name : List ℕ) (number : ℕ) (bytes : List ℕ) (place : ℕ × Entry) (b : ℕ) (is_new : Bool) → user < 32 → IsSound (directory old) → IsSound (directory new)
-    → IsPlace user name (directory old) place → Was (directory old) user name (number / 128) place → Had place.1 (number % 128 / 8) (b, is_new) → ((other : ℕ) → other ≢ number % 128 / 8 → block place.1 other ≡ b → ⊥) → 2 ≤ b → b ≤ 242
+    → IsPlace user name (directory old) place → Was (directory old) user name (number / 128) place → Had place.1 (number % 128 / 8) (b, is_new) → ((other : ℕ) → other ≢ number % 128 / 8 → block place.1 other ≡ b → ⊥) → 2 ≤ b → b < 243
     → ((k group : ℕ) → k ≢ place.0 → is_extent (at (directory old) k) ≡ true → block (at (directory old) k) group ≡ b → ⊥)
     → block (with_record place.1 (number % 128) b) (number % 128 / 8) ≡ b
     → directory new ≡ slice_set (directory old) place.0 (with_record place.1 (number % 128) b) → HasWritten old new b (number % 8) is_new bytes → HasRecord old new user name number bytes
@@ -136,14 +136,14 @@ record_put old new user name number bytes place b is_new low sound sound_new fit
     found : find (is_extent_of user name (number / 128)) (directory new) ≡ Some (with_record place.1 (number % 128) b)
     found = extent_found (directory new) user name (number / 128) place.0 low sound_new (let long = length_directory old in let long_too = length_directory new in let within = fits.within in omega arith) (subst (λ x. is_extent_of user name (number / 128) x ≡ true) (sym at_place) is_extent_here) ∙ ap (λ e. Some e) at_place
 
-    stored_here : (i : ℕ) → stored new user name (number / 128) i ≡ in_block new i (with_record place.1 (number % 128) b)
+    stored_here : (i : ℕ) → block_record new user name (number / 128) i ≡ in_block new i (with_record place.1 (number % 128) b)
     stored_here i = ap (option_and_then (in_block new i)) found
 
     same_slot : (i : ℕ) → i / 8 ≢ number % 128 / 8 → in_block new i (with_record place.1 (number % 128) b) ≡ in_block new i place.1
     same_slot i other_group = ap (λ n. if n == 0 then None else Some (disk_record new (8 * n + i % 8))) (get_or-set_other place.1.blocks (number % 128 / 8) (i / 8) b 0 other_group)
 
-    range : (i : ℕ) → (block place.1 (i / 8) ≡ 0 → ⊥) → (2 ≤ block place.1 (i / 8)) × (block place.1 (i / 8) ≤ 242)
-    range i some = elim (fits.fits.blocks (i / 8)) as (λ _. (2 ≤ block place.1 (i / 8)) × (block place.1 (i / 8) ≤ 242)) [ inl none ↦ absurd (some none) | inr within ↦ within ]
+    range : (i : ℕ) → (block place.1 (i / 8) ≡ 0 → ⊥) → (2 ≤ block place.1 (i / 8)) × (block place.1 (i / 8) < 243)
+    range i some = elim (fits.fits.blocks (i / 8)) as (λ _. (2 ≤ block place.1 (i / 8)) × (block place.1 (i / 8) < 243)) [ inl none ↦ absurd (some none) | inr within ↦ within ]
 
     not_there : (other : ℕ) → other ≢ number / 128 → is_extent_of user name other (at (directory old) place.0) ≡ false
     not_there other apart = elim before as (λ _. is_extent_of user name other (at (directory old) place.0) ≡ false) [

@@ -1,4 +1,4 @@
--- A block on the way to a written record. Private contracts alone cite this.
+-- A block on the way to a written record.
 use Rattle.std.specs.Prelude.{◌≡◌, ◌≢◌, ◌<◌, ◌*◌, ◌+◌, ℕ, false, replicate, if◌then◌else◌}
 use Rattle.cpm_operations.specs.declared.placement.Placement.{Placement}
 use Rattle.cpm_disk.specs.Image.{Image, IsOfBlock, SameBut, disk_record}

@@ -7,7 +7,7 @@ use Rattle.cpm_directory.specs.Entries.{at, blank}
 use Rattle.cpm_operations.specs.Kept.{IsBetween}
 use Rattle.cpm_disk.specs.declared.change.Change.{Change}
 use Rattle.cpm_disk.specs.Calls.{Changed, PartlyChanged}
-use Rattle.cpm_disk.specs.Changes.{after, applies, changed}
+use Rattle.cpm_disk.specs.Private.Changes.{after}
 use Rattle.cpm_disk.specs.Image.{Image, IsOfDirectory, SameBut, directory}
 use Rattle.cpm_disk.proofs.Places.{same_all, then_same}
 
@@ -43,22 +43,22 @@ more f first entries number e below part is within = map_over_more f first entri
 kept : (entries : List Entry) (number : ℕ) (e : Entry) → e ≡ at entries number → slice_set entries number e ≡ entries
 kept entries number e is = ap (slice_set entries number) is ∙ set-get_or entries number blank
 
-pub passed : (change : Change) (before image : Image) (first entries : List Entry) (number : ℕ) (e : Entry) → length first ≡ 64 → number < 64 → e ≡ at entries number → applies change e ≡ false → Changing change before image first entries number → Changing change before image first entries (number + 1)
+pub passed : (change : Change) (before image : Image) (first entries : List Entry) (number : ℕ) (e : Entry) → length first ≡ 64 → number < 64 → e ≡ at entries number → after change e ≡ e → Changing change before image first entries number → Changing change before image first entries (number + 1)
 passed change before image first entries number e long below is not_it so_far = record {
   count = so_far.count;
   size = so_far.size;
-  part = (let same : after change e ≡ e = ap (λ b. if b then changed change e else e) not_it in
-      sym (ap (slice_set entries number) same ∙ kept entries number e is) ∙ more (after change) first entries number e (let long_too = so_far.size in omega arith) so_far.part is (let long_too = so_far.size in omega arith));
+  part = (
+      sym (ap (slice_set entries number) not_it ∙ kept entries number e is) ∙ more (after change) first entries number e (let long_too = so_far.size in omega arith) so_far.part is (let long_too = so_far.size in omega arith));
   directory_is = so_far.directory_is;
   rest = so_far.rest;
 }
 
-pub stepped : (change : Change) (before image new : Image) (first entries : List Entry) (number : ℕ) (e : Entry) → length first ≡ 64 → number < 64 → e ≡ at entries number → applies change e ≡ true → Changing change before image first entries number → Changed image new (slice_set entries number (changed change e)) → Changing change before new first (slice_set entries number (changed change e)) (number + 1)
-stepped change before image new first entries number e long below is it so_far made = record {
+pub stepped : (change : Change) (before image new : Image) (first entries : List Entry) (number : ℕ) (e x : Entry) → length first ≡ 64 → number < 64 → e ≡ at entries number → after change e ≡ x → Changing change before image first entries number → Changed image new (slice_set entries number (x)) → Changing change before new first (slice_set entries number (x)) (number + 1)
+stepped change before image new first entries number e x long below is it so_far made = record {
   count = made.rest.count ∙ so_far.count;
-  size = length-set entries number (changed change e) ∙ so_far.size;
-  part = (let same : after change e ≡ changed change e = ap (λ b. if b then changed change e else e) it in
-      sym (ap (slice_set entries number) same) ∙ more (after change) first entries number e (let long_too = so_far.size in omega arith) so_far.part is (let long_too = so_far.size in omega arith));
+  size = length-set entries number (x) ∙ so_far.size;
+  part = (
+      sym (ap (slice_set entries number) it) ∙ more (after change) first entries number e (let long_too = so_far.size in omega arith) so_far.part is (let long_too = so_far.size in omega arith));
   directory_is = made.entries_are;
   rest = then_same IsOfDirectory IsOfDirectory before image new (λ n of. of) so_far.rest made.rest;
 }
@@ -70,10 +70,10 @@ stopped_at change before image first entries number was so_far = record {
 }
 
 -- a device that failed left this entry as before or as it was to be
-pub halted : (change : Change) (before image new : Image) (first entries : List Entry) (number : ℕ) (e : Entry) → length first ≡ 64 → number < 64 → directory before ≡ first → e ≡ at entries number → applies change e ≡ true → Changing change before image first entries number
-    → (new ≡ image) ⊎ Changed image new (slice_set entries number (changed change e)) → PartlyChanged before new (map (after change) first)
-halted change before image new first entries number e long below was is it so_far (inl same) = subst (λ i. PartlyChanged before i (map (after change) first)) (sym same) (stopped_at change before image first entries number was so_far)
-halted change before image new first entries number e long below was is it so_far (inr made) = stopped_at change before new first (slice_set entries number (changed change e)) (number + 1) was (stepped change before image new first entries number e long below is it so_far made)
+pub halted : (change : Change) (before image new : Image) (first entries : List Entry) (number : ℕ) (e x : Entry) → length first ≡ 64 → number < 64 → directory before ≡ first → e ≡ at entries number → after change e ≡ x → Changing change before image first entries number
+    → (new ≡ image) ⊎ Changed image new (slice_set entries number (x)) → PartlyChanged before new (map (after change) first)
+halted change before image new first entries number e x long below was is it so_far (inl same) = subst (λ i. PartlyChanged before i (map (after change) first)) (sym same) (stopped_at change before image first entries number was so_far)
+halted change before image new first entries number e x long below was is it so_far (inr made) = stopped_at change before new first (slice_set entries number (x)) (number + 1) was (stepped change before image new first entries number e x long below is it so_far made)
 
 pub finished : (change : Change) (before image : Image) (first entries : List Entry) (number : ℕ) → length first ≡ 64 → 64 ≤ number → Changing change before image first entries number → entries ≡ map (after change) first
 finished change before image first entries number long far so_far =
@@ -83,10 +83,6 @@ finished change before image first entries number long far so_far =
 abbrev unread : Entry
 unread = record { user = 0; name = []; extent = 0; s1 = 0; s2 = 0; records = 0; blocks = [] }
 
-pub tested : (change : Change) (entries : List Entry) (index number : ℕ) (r b : Bool) → index ≡ number → number < length entries → r ≡ applies change (get_or entries index unread) → r ≡ b → applies change (at entries number) ≡ b
-tested change entries index number r b same below is found =
-    ap (applies change) (get_or_default entries number blank unread below ∙ ap (λ i. get_or entries i unread) (sym same)) ∙ sym is ∙ found
-
-pub made_of : (change : Change) (entries : List Entry) (index number : ℕ) (e : Entry) → index ≡ number → number < length entries → e ≡ changed change (get_or entries index unread) → e ≡ changed change (at entries number)
-made_of change entries index number e same below is =
-    is ∙ ap (changed change) (ap (λ i. get_or entries i unread) same ∙ get_or_default entries number unread blank below)
+-- the entry that the code reads
+pub read_at : (entries : List Entry) (index number : ℕ) → index ≡ number → number < length entries → get_or entries index unread ≡ at entries number
+read_at entries index number same below = ap (λ i. get_or entries i unread) same ∙ get_or_default entries number unread blank below

@@ -6,7 +6,7 @@ use Rattle.cpm_operations.specs.declared.placement.Placement.{Placement}
 use Rattle.cpm_operations.specs.Kept.{IsBetween, IsKeptBy, StaysSound}
 use Rattle.cpm_disk.specs.Calls.{Changed, PartlyChanged, PartlyWritten, Written}
 use Rattle.cpm_disk.specs.Image.{Image, IsOfDirectory, SameBut, directory}
-use Rattle.cpm_disk.specs.State.{IsMounted}
+use Rattle.cpm_disk.specs.Private.State.{IsMounted}
 use Rattle.cpm_disk.proofs.Places.{same_all}
 
 pub partly : (old new : Image) (entries : List Entry) → (new ≡ old) ⊎ Changed old new entries → PartlyChanged old new entries

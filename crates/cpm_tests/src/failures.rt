@@ -72,6 +72,7 @@ fn assert_failed(rt: &impl Abort, alloc: Global, disk: &mut Disk<Failing>) -> Re
     assert_eq!(rt; disk.find(0, &any, 0), None);
     assert_eq!(rt; disk.entry(0), [0xE5; 32]);
     assert_eq!(rt; disk.entry(63), [0xE5; 32]);
+    assert_eq!(rt; disk.find_extent(0, &Name::new(FILE), 0), None);
     assert_eq!(rt; disk.size(0, &Name::new(FILE)), None);
     assert!(rt; matches!(disk.list(alloc), Err(DiskFault::Failed)));
     for call in [
