@@ -61,4 +61,4 @@ pub record IsListing (entries : List Entry) (listed : List Listed) : Type 0 wher
   pub each : All (λ l. (l.user < 32) × (is_file l.user l.name entries ≡ true) × (l ≡ listed_of l.user l.name entries)) listed
   pub every : (k : ℕ) → is_extent (at entries k) ≡ true → Any (λ l. (l.user ≡ (at entries k).user) × (l.name ≡ letters (at entries k).name)) listed
   pub ordered : (i j : ℕ) (d : Listed) → i < j → j < length listed →
-    ComesBefore (slice_index_or listed i d).user (slice_index_or listed i d).name (slice_index_or listed j d).user (slice_index_or listed j d).name
+      ComesBefore (slice_index_or listed i d).user (slice_index_or listed i d).name (slice_index_or listed j d).user (slice_index_or listed j d).name

@@ -4,8 +4,8 @@ ghost use Rattle.std.specs.Prelude.{◌≡◌, ◌||◌, ◌==◌, false, not, t
 ghost use Rattle.cpm_directory.specs.Private.Marks.{AddsMarks, AreMarks, AreOwn};
 ghost use Rattle.cpm_directory.specs.Searches.{free_block};
 
-use crate::format::{BLOCK_COUNT, FIRST_BLOCK};
 use crate::Entry;
+use crate::format::{BLOCK_COUNT, FIRST_BLOCK};
 
 /// A flag for each number that a block byte can have.
 pub(crate) type Marks = [bool; 256];

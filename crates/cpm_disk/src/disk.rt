@@ -9,7 +9,9 @@ use crate::change::{Change, change_all};
 use crate::reader::read_entries;
 use crate::records::{read_record, store};
 use cpm_directory::laws::is_name;
-use cpm_directory::{DiskFault, Entry, Listed, Name, Pattern, find, judge, list, position_of, size};
+use cpm_directory::{
+    DiskFault, Entry, Listed, Name, Pattern, find, judge, list, position_of, size,
+};
 use cpm_image::Sectors;
 use cpm_operations::{creation, erasure, reading, renaming, writing};
 use std::alloc::Global;

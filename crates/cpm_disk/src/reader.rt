@@ -27,7 +27,10 @@ fn add_entries(entries: &mut Vec<Entry>, bytes: &[u8; 128]) -> Result<(), DiskFa
 }
 
 /// The entries of a device's directory.
-pub(crate) fn read_entries<S: Sectors>(alloc: Global, device: &mut S) -> Result<Vec<Entry>, DiskFault>
+pub(crate) fn read_entries<S: Sectors>(
+    alloc: Global,
+    device: &mut S,
+) -> Result<Vec<Entry>, DiskFault>
     requires { length (S.sectors device.old) ≡ SECTOR_COUNT }
     ensures entries { IfOk result (λ entries. entries.items ≡ directory (S.sectors device.old)) }
     ensures kept { S.sectors device.new ≡ S.sectors device.old }
