@@ -7,8 +7,8 @@ use Rattle.cpm_directory.specs.Types.{Entry, DiskFault}
 use Rattle.cpm_directory.specs.declared.fault.DiskFault.TheVariants as fault
 use Rattle.cpm_directory.specs.Entries.{at, block, is_extent}
 use Rattle.cpm_directory.specs.Rules.{AreSameExtent, IsFaultOf, IsFirstFault, IsJudged, IsSound, KeepsRules}
-use Rattle.cpm_directory.proofs.Judging.{at_take}
-use Rattle.cpm_directory.proofs.Naming.{within_extents}
+use Rattle.cpm_directory.proofs.FirstFault.{at_take}
+use Rattle.cpm_directory.proofs.Names.{within_extents}
 
 -- an entry that comes before another
 comes_before : (entries : List Entry) (j k : ℕ) → is_extent (at (take k entries) j) ≡ true → j < k

@@ -67,8 +67,8 @@ abbrev pub has_record : Entry → ℕ → Bool
 has_record e i = nat_lt i e.records && not (block e (i / 8) == 0)
 
 -- the logical record of the disk that holds record i of the extent, where its block is there
-abbrev pub record_number : Entry → ℕ → ℕ
-record_number e i = 8 * block e (i / 8) + i % 8
+abbrev pub place_on_disk : Entry → ℕ → ℕ
+place_on_disk e i = 8 * block e (i / 8) + i % 8
 
 -- the entry of a new extent
 abbrev pub new_extent : ℕ → List ℕ → ℕ → Entry

@@ -3,5 +3,4 @@ pub mod Types
 pub mod Entries
 pub mod Rules
 pub mod Searches
-pub mod Marks
-pub mod Files
+pub mod Private

@@ -1,6 +1,7 @@
 -- The rules that a directory keeps, and the first fault of one that does not.
 use Rattle.std.specs.Prelude.{◌≡◌, ◌<◌, ◌≤◌, ◌⊎◌, ℕ, ◌%◌, true, List, length, take, Result, Ok, Err, ⊤}
 use Rattle.cpm_directory.specs.Types.{Entry, DiskFault}
+use Rattle.cpm_directory.specs.declared.format.TheConstants.{BLOCK_COUNT, FIRST_BLOCK}
 use Rattle.cpm_directory.specs.declared.fault.DiskFault.TheVariants as fault
 use Rattle.cpm_directory.specs.Entries.{at, is_extent, block}
 use Rattle.cpm_directory.specs.Letters.{letters}
@@ -11,7 +12,7 @@ IsGood e = (e.records ≤ 128) × (e.extent ≤ 31) × (e.s2 % 64 ≡ 0)
 
 -- a block of files, or 0 for none. Blocks 0 and 1 are the directory
 abbrev pub IsBlock : ℕ → Type 0
-IsBlock b = (b ≡ 0) ⊎ ((2 ≤ b) × (b ≤ 242))
+IsBlock b = (b ≡ 0) ⊎ ((FIRST_BLOCK ≤ b) × (b < BLOCK_COUNT))
 
 abbrev pub AreBlocks : Entry → Type 0
 AreBlocks e = (i : ℕ) → IsBlock (block e i)

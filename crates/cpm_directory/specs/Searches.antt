@@ -1,9 +1,10 @@
 -- What is looked for in a directory.
-use Rattle.std.specs.Prelude.{◌≡◌, ◌<◌, ℕ, ◌+◌, ◌*◌, Bool, true, ◌&&◌, not, List, Option, Some, None, map, filter, drop, max, fold, find, position, length, if◌then◌else◌, option_map, slice_index_or, nat_eq, ◌⊎◌, All, Any}
+use Rattle.std.specs.Prelude.{◌≡◌, ◌<◌, ℕ, ◌+◌, ◌-◌, ◌*◌, Bool, true, ◌&&◌, not, List, Option, Some, None, map, filter, drop, max, fold, find, position, length, if◌then◌else◌, option_map, slice_index_or, nat_eq, unwrap_or, ◌⊎◌, All, Any}
 use Rattle.std.specs.List.{list_any, range_with_len}
 use Rattle.std.specs.Cmp.Lexicographic.{slice_cmp}
 use Rattle.std.specs.Ordering.{nat_cmp}
 use Rattle.std.specs.declared.cmp.Ordering.TheVariants.{Less}
+use Rattle.cpm_directory.specs.declared.format.TheConstants.{BLOCK_COUNT, FIRST_BLOCK}
 use Rattle.cpm_directory.specs.Types.{Entry, Pattern, Listed}
 use Rattle.cpm_directory.specs.Entries.{at, is_extent, is_free, is_of, is_exact_match, is_read_only, is_system}
 use Rattle.cpm_directory.specs.Letters.{letters}
@@ -33,27 +34,31 @@ is_taken entries b = list_any (λ e. is_extent e && list_any (λ c. nat_eq c b) 
 
 -- the lowest free block
 unfoldable pub free_block : List Entry → Option ℕ
-free_block entries = find (λ b. not (is_taken entries b)) (range_with_len 2 241)
+free_block entries = find (λ b. not (is_taken entries b)) (range_with_len FIRST_BLOCK (BLOCK_COUNT - FIRST_BLOCK))
 
--- how many records a file has up to its last: the greatest of 128 EX + RC
+-- how many records a file has up to its last, written or not: the greatest of 128 EX + RC
 abbrev pub size : ℕ → List ℕ → List Entry → Option ℕ
 size user name entries = if is_file user name entries
     then Some (fold max 0 (map (λ e. 128 * e.extent + e.records) (filter (is_of user name) entries)))
     else None
 
 -- what a listing says of one file
-abbrev pub IsListed : List Entry → Listed → Type 0
-IsListed entries l = (is_file l.user l.name entries ≡ true)
-    × (size l.user l.name entries ≡ Some l.records)
-    × (l.read_only ≡ file_is_read_only l.user l.name entries)
-    × (l.system ≡ file_is_system l.user l.name entries)
+abbrev pub listed_of : ℕ → List ℕ → List Entry → Listed
+listed_of user name entries = record {
+  user = user;
+  name = name;
+  records = unwrap_or (size user name entries) 0;
+  read_only = file_is_read_only user name entries;
+  system = file_is_system user name entries;
+}
 
 -- by user, then by name
-abbrev pub ComesBefore : Listed → Listed → Type 0
-ComesBefore a b = (a.user < b.user) ⊎ ((a.user ≡ b.user) × (slice_cmp nat_cmp a.name b.name ≡ Less))
+abbrev pub ComesBefore : ℕ → List ℕ → ℕ → List ℕ → Type 0
+ComesBefore user name other others = (user < other) ⊎ ((user ≡ other) × (slice_cmp nat_cmp name others ≡ Less))
 
 -- The files of a directory, each once, by user and then by name.
 pub record IsListing (entries : List Entry) (listed : List Listed) : Type 0 where
-  pub each : All (λ l. (l.user < 32) × IsListed entries l) listed
+  pub each : All (λ l. (l.user < 32) × (is_file l.user l.name entries ≡ true) × (l ≡ listed_of l.user l.name entries)) listed
   pub every : (k : ℕ) → is_extent (at entries k) ≡ true → Any (λ l. (l.user ≡ (at entries k).user) × (l.name ≡ letters (at entries k).name)) listed
-  pub ordered : (i j : ℕ) (d : Listed) → i < j → j < length listed → ComesBefore (slice_index_or listed i d) (slice_index_or listed j d)
+  pub ordered : (i j : ℕ) (d : Listed) → i < j → j < length listed →
+      ComesBefore (slice_index_or listed i d).user (slice_index_or listed i d).name (slice_index_or listed j d).user (slice_index_or listed j d).name

@@ -1,18 +1,14 @@
 //! Which blocks the entries of a directory hold.
 
 ghost use Rattle.std.specs.Prelude.{◌≡◌, ◌||◌, ◌==◌, false, not, true, MatchBool, slice_index_or, slice_set};
-ghost use Rattle.cpm_directory.specs.Marks.{AddsMarks, AreMarks, AreOwn};
+ghost use Rattle.cpm_directory.specs.Private.Marks.{AddsMarks, AreMarks, AreOwn};
 ghost use Rattle.cpm_directory.specs.Searches.{free_block};
 
 use crate::Entry;
+use crate::format::{BLOCK_COUNT, FIRST_BLOCK};
 
 /// A flag for each number that a block byte can have.
 pub(crate) type Marks = [bool; 256];
-
-/// The first block of files. Those before it are the directory.
-pub(crate) const FIRST: u8 = 2;
-/// How many blocks a disk has.
-pub(crate) const BLOCKS: u8 = 243;
 
 /// Marks a block, and answers whether it is 0 or was not marked before.
 fn mark_block(marks: &mut Marks, block: u8) -> bool
@@ -55,5 +51,5 @@ pub fn free_block(entries: &[Entry]) -> Option<u8>
     ensures { result ≡ free_block entries.now }
 {
     let marks = taken(entries);
-    (FIRST..BLOCKS).find(|block| !marks[usize::from(*block)])
+    (FIRST_BLOCK..BLOCK_COUNT).find(|block| !marks[usize::from(*block)])
 }

@@ -5,19 +5,23 @@ ghost use Rattle.cpm_directory.specs.Letters.{byte_matches, letters, name_matche
 
 use crate::{Name, Pattern};
 
-/// An entry: 32 bytes. Users 0 to 31 have extents of files, E5H is free, and any other byte is foreign.
+/// An entry of a directory: 32 bytes. Of users 0 to 31 it is an extent of a file, of user E5H it is free, and with any
+/// other user byte it is foreign: no name of a user below 32 finds it, and it holds no block.
 #[derive(Clone, Copy, Debug, PartialEq, Eq)]
 pub struct Entry {
+    /// The user, 0 to 31; E5H where the entry is free.
     pub user: u8,
     /// Eight bytes and three of the type. The high bit of the type's first byte is read-only, of its second system.
     pub name: [u8; 11],
     /// EX, the number of the extent of 128 records.
     pub extent: u8,
+    /// S1, of no meaning here.
     pub s1: u8,
+    /// S2, whose low six bits are 0 on a disk of this size.
     pub s2: u8,
     /// RC, how many records of the extent count.
     pub records: u8,
-    /// The block of each eight records, 0 for none.
+    /// The block of each eight records in turn, 0 for none.
     pub blocks: [u8; 16],
 }
 
@@ -58,7 +62,7 @@ fn with_letters(old: &[u8; 11], mut name: [u8; 11]) -> [u8; 11]
 
 impl Entry {
     ghost use Rattle.std.specs.Prelude.{◌≡◌, ◌<◌, ◌/◌, slice_index};
-    ghost use Rattle.cpm_directory.specs.Entries.{blank, bytes_of, entry_of, erased, has_record, is_exact_match, is_extent, is_extent_of, is_free, is_match, is_of, is_read_only, is_system, new_extent, record_number, renamed, with_record};
+    ghost use Rattle.cpm_directory.specs.Entries.{blank, bytes_of, entry_of, erased, has_record, is_exact_match, is_extent, is_extent_of, is_free, is_match, is_of, is_read_only, is_system, new_extent, place_on_disk, renamed, with_record};
 
     /// An entry of 32 bytes of E5H.
     pub fn blank() -> Entry
@@ -138,12 +142,14 @@ impl Entry {
         self.is_of(user, name) && self.extent == number
     }
 
+    /// Whether the entry has the attribute read-only, the high bit of the type's first byte.
     pub fn is_read_only(&self) -> bool
         ensures { result ≡ is_read_only self.now }
     {
         self.name[8] >= 128
     }
 
+    /// Whether the entry has the attribute system, the high bit of the type's second byte.
     pub fn is_system(&self) -> bool
         ensures { result ≡ is_system self.now }
     {
@@ -174,9 +180,9 @@ impl Entry {
     }
 
     /// The logical record of the disk that holds record `i` of the extent, where its block is there.
-    pub fn record_number(&self, i: u8) -> u32
+    pub fn place_on_disk(&self, i: u8) -> u32
         requires { i < 128 }
-        ensures { result ≡ record_number self.now i }
+        ensures { result ≡ place_on_disk self.now i }
     {
         8 * u32::from(self.blocks[usize::from(i / 8)]) + u32::from(i % 8)
     }

@@ -12,6 +12,7 @@ pub enum DiskFault {
     /// The device failed during the call.
     #[error("the device failed")]
     Fault,
+    /// A block other than 0 that stands twice in the entries of users 0 to 31.
     #[error("a block stands twice in the directory")]
     BlockTwice,
     /// A block byte of 1 or above 242.
@@ -20,14 +21,19 @@ pub enum DiskFault {
     /// RC above 128, EX above 31, or low six bits of S2 that are not 0.
     #[error("a directory entry has a count out of range")]
     BadEntry,
+    /// The user has no file of the name, or none that matches.
     #[error("no such file")]
     NotFound,
+    /// The user has a file of the new name.
     #[error("the file exists")]
     Exists,
+    /// A new file or extent is needed, and no entry is free.
     #[error("the directory is full")]
     DirectoryFull,
+    /// A new block is needed, and none is free.
     #[error("the disk is full")]
     DiskFull,
+    /// One of the file's entries is read-only.
     #[error("the file is read-only")]
     ReadOnly,
     /// The extent is there and the record is not.
@@ -44,6 +50,7 @@ pub enum DiskFault {
     /// A record above 4,095.
     #[error("the record is past the last that a file may have")]
     TooFar,
+    /// A growth was refused.
     #[error("out of memory")]
     NoMemory,
 }

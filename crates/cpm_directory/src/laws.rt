@@ -3,12 +3,23 @@
 ghost use Rattle.std.specs.Prelude.{◌≡◌, List, ℕ, Result, length, ⊤};
 ghost use Rattle.cpm_directory.specs.Types.{DiskFault, Entry};
 ghost use Rattle.cpm_directory.specs.Entries.{bytes_of, entry_of};
+ghost use Rattle.cpm_directory.specs.Letters.{letters};
 ghost use Rattle.cpm_directory.specs.Rules.{IsJudged};
+
+use crate::Name;
 
 /// Thirty-two bytes are those of the entry that they spell. So an entry that nothing changes is kept byte for byte.
 pub fn same_bytes()
     ensures { (bytes : List ℕ) → length bytes ≡ 32 → bytes_of (entry_of bytes) ≡ bytes }
 {}
+
+/// The bytes of a name are eleven, each below 80H. (It is asked of a name and not of any bytes, so it takes one.)
+pub fn is_name(name: &Name)
+    ensures seven { letters name.now ≡ name.now }
+    ensures eleven { length name.now ≡ 11 }
+{
+    let _bytes = name.bytes();
+}
 
 /// A directory is judged in one way: it keeps its rules, or it has one first fault.
 pub fn one_judgement()

@@ -1,8 +1,8 @@
 //! The files of a directory.
 
 ghost use Rattle.std.specs.Prelude.{◌≡◌, IfErr, IfOk, map};
-ghost use Rattle.cpm_directory.specs.Files.{AreInOrder, files_of, listed_of};
-ghost use Rattle.cpm_directory.specs.Searches.{IsListing};
+ghost use Rattle.cpm_directory.specs.Private.Files.{AreInOrder, files_of};
+ghost use Rattle.cpm_directory.specs.Searches.{IsListing, listed_of};
 
 use crate::file::File;
 use crate::{DiskFault, Entry, Name, file_is_read_only, file_is_system, size};
@@ -44,7 +44,7 @@ fn bring_in_order(files: &mut Vec<File>)
 
 /// What a listing says of a file.
 fn describe(entries: &[Entry], file: &File) -> Listed
-    ensures { result ≡ listed_of entries.now file.now }
+    ensures { result ≡ listed_of file.now.user file.now.name entries.now }
 {
     Listed {
         user: file.user,
@@ -61,7 +61,7 @@ fn describe_each(
     entries: &[Entry],
     files: &[File],
 ) -> Result<Vec<Listed>, AllocError>
-    ensures { IfOk result (λ listed. listed.items ≡ map (listed_of entries.now) files.now) }
+    ensures { IfOk result (λ listed. listed.items ≡ map (λ f. listed_of f.user f.name entries.now) files.now) }
 {
     files
         .iter()

@@ -2,10 +2,11 @@
 
 ghost use Rattle.std.specs.Prelude.{◌≡◌, ◌↔◌, IfOk, IsTrue, MatchBool, true};
 ghost use Rattle.cpm_directory.specs.Entries.{is_extent};
-ghost use Rattle.cpm_directory.specs.Marks.{AddsMarks, AreMarks};
+ghost use Rattle.cpm_directory.specs.Private.Marks.{AddsMarks, AreMarks};
 ghost use Rattle.cpm_directory.specs.Rules.{AreBlocks, HasOwnName, IsBlock, IsEntryJudged, IsGood, IsJudged};
 
-use crate::blocks::{BLOCKS, FIRST, Marks, mark};
+use crate::blocks::{Marks, mark};
+use crate::format::{BLOCK_COUNT, FIRST_BLOCK};
 use crate::{DiskFault, Entry, Name};
 
 /// The most records of an extent.
@@ -26,7 +27,7 @@ fn is_good(entry: &Entry) -> bool
 fn is_block(byte: u8) -> bool
     ensures { IsTrue result ↔ IsBlock byte }
 {
-    byte == 0 || FIRST <= byte && byte < BLOCKS
+    byte == 0 || FIRST_BLOCK <= byte && byte < BLOCK_COUNT
 }
 
 /// Whether the blocks of an entry are blocks of files, or 0.

@@ -45,7 +45,8 @@ fn numbered(position: Option<usize>) -> Option<u16>
 /// The number of the entry of a file's extent.
 pub fn position_of(entries: &[Entry], user: u8, name: &Name, number: u8) -> Option<u16>
     requires { length entries.now ≤ 65536 }
-    ensures { result ≡ position (is_extent_of user name.now number) entries.now }
+    ensures found { result ≡ position (is_extent_of user name.now number) entries.now }
+    ensures within { IfSome result (λ k. k < length entries.now) }
 {
     numbered(
         entries
@@ -83,7 +84,8 @@ fn first_match(entries: &[Entry], user: u8, pattern: &Pattern) -> Option<usize>
 /// The number of the first entry from `from` on that is of the user and matches a pattern.
 pub fn find(entries: &[Entry], user: u8, pattern: &Pattern, from: u16) -> Option<u16>
     requires { length entries.now ≤ 65536 }
-    ensures { result ≡ found_from user pattern.now from entries.now }
+    ensures found { result ≡ found_from user pattern.now from entries.now }
+    ensures within { IfSome result (λ k. k < length entries.now) }
 {
     let start = usize::from(from).min(entries.len());
     let (_, rest) = entries.split_at(start);

@@ -3,10 +3,10 @@ use Rattle.std.proofs.Common.{◌≡◌, ◌⊎◌, ◌<◌, ◌/◌, ◌==◌, 
 use Rattle.std.proofs.lemmas.Bool.{and_parts, cases_Bool, eqb-false}
 use Rattle.std.specs.List.{list_any}
 use Rattle.cpm_directory.specs.declared.entry.Entry.{Entry}
-use Rattle.cpm_directory.specs.Entries.{at, block, is_extent_of, is_of, is_read_only, is_system, record_number}
-use Rattle.cpm_operations.proofs.Facts.{found_at}
-use Rattle.cpm_disk.specs.Files.{SameFile, stored_in}
-use Rattle.cpm_disk.specs.Image.{Image, directory, record_at}
+use Rattle.cpm_directory.specs.Entries.{at, block, is_extent_of, is_of, is_read_only, is_system, place_on_disk}
+use Rattle.cpm_operations.proofs.Entries.{found_at}
+use Rattle.cpm_disk.specs.Files.{SameFile, in_block}
+use Rattle.cpm_disk.specs.Image.{Image, directory, disk_record}
 use Rattle.cpm_disk.proofs.Places.{length_directory}
 
 -- two entries that differ only where a test fails
@@ -41,22 +41,22 @@ narrower user name q x y (inl same) = inl same
 narrower user name q x y (inr (fails, too)) = inr (ap (λ b. b && q x) fails, ap (λ b. b && q y) too)
 
 -- what an entry stores, where the record that it names is as before
-pub same_stored : (old new : Image) (e : Entry) (i : ℕ) → ((block e (i / 8) ≡ 0 → ⊥) → record_at new (record_number e i) ≡ record_at old (record_number e i)) → stored_in new i e ≡ stored_in old i e
-same_stored old new e i kept = elim (cases_Bool (block e (i / 8) == 0)) as (λ _. stored_in new i e ≡ stored_in old i e) [
-  | inl none ↦ ap (λ b. if b then None else Some (record_at new (record_number e i))) none ∙ sym (ap (λ b. if b then None else Some (record_at old (record_number e i))) none)
-  | inr some ↦ ap (λ b. if b then None else Some (record_at new (record_number e i))) some
+pub same_stored : (old new : Image) (e : Entry) (i : ℕ) → ((block e (i / 8) ≡ 0 → ⊥) → disk_record new (place_on_disk e i) ≡ disk_record old (place_on_disk e i)) → in_block new i e ≡ in_block old i e
+same_stored old new e i kept = elim (cases_Bool (block e (i / 8) == 0)) as (λ _. in_block new i e ≡ in_block old i e) [
+  | inl none ↦ ap (λ b. if b then None else Some (disk_record new (place_on_disk e i))) none ∙ sym (ap (λ b. if b then None else Some (disk_record old (place_on_disk e i))) none)
+  | inr some ↦ ap (λ b. if b then None else Some (disk_record new (place_on_disk e i))) some
       ∙ ap (λ bytes. Some bytes) (kept (eqb-false (block e (i / 8)) 0 some))
-      ∙ sym (ap (λ b. if b then None else Some (record_at old (record_number e i))) some)
+      ∙ sym (ap (λ b. if b then None else Some (disk_record old (place_on_disk e i))) some)
 ]
 
 -- a file whose entries and records are as before
 pub same_file : (old new : Image) (user : ℕ) (name : List ℕ)
     → ((k : ℕ) → k < 64 → Alike (is_of user name) (at (directory old) k) (at (directory new) k))
-    → ((k i : ℕ) → k < 64 → i < 128 → is_of user name (at (directory old) k) ≡ true → (block (at (directory old) k) (i / 8) ≡ 0 → ⊥) → record_at new (record_number (at (directory old) k) i) ≡ record_at old (record_number (at (directory old) k) i))
+    → ((k i : ℕ) → k < 64 → i < 128 → is_of user name (at (directory old) k) ≡ true → (block (at (directory old) k) (i / 8) ≡ 0 → ⊥) → disk_record new (place_on_disk (at (directory old) k) i) ≡ disk_record old (place_on_disk (at (directory old) k) i))
     → SameFile old new user name
 same_file old new user name alike kept = record {
   counts = λ number. ap (option_map (λ e. e.records)) (found number);
-  records = λ number i below. ap (option_and_then (stored_in new i)) (found number) ∙ by_entry number i below (find (is_extent_of user name number) (directory old)) refl;
+  records = λ number i below. ap (option_and_then (in_block new i)) (found number) ∙ by_entry number i below (find (is_extent_of user name number) (directory old)) refl;
   read_only = any_alike (λ e. is_of user name e && is_read_only e) (directory old) (directory new) long (λ k below. narrower user name is_read_only (at (directory old) k) (at (directory new) k) (alike k (within k below)));
   system = any_alike (λ e. is_of user name e && is_system e) (directory old) (directory new) long (λ k below. narrower user name is_system (at (directory old) k) (at (directory new) k) (alike k (within k below)));
 }
@@ -70,9 +70,9 @@ same_file old new user name alike kept = record {
     found : (number : ℕ) → find (is_extent_of user name number) (directory new) ≡ find (is_extent_of user name number) (directory old)
     found number = find_alike (is_extent_of user name number) (directory old) (directory new) long (λ k below. narrower user name (λ e. e.extent == number) (at (directory old) k) (at (directory new) k) (alike k (within k below)))
 
-    by_entry : (number i : ℕ) → i < 128 → (o : Option Entry) → find (is_extent_of user name number) (directory old) ≡ o → option_and_then (stored_in new i) o ≡ option_and_then (stored_in old i) o
+    by_entry : (number i : ℕ) → i < 128 → (o : Option Entry) → find (is_extent_of user name number) (directory old) ≡ o → option_and_then (in_block new i) o ≡ option_and_then (in_block old i) o
     by_entry number i below None is = refl
     by_entry number i below (Some e) is =
         let (k, below_k, is_at, passes) = found_at (is_extent_of user name number) (directory old) e is in
         let of : is_of user name (at (directory old) k) ≡ true = subst (λ x. is_of user name x ≡ true) is_at (and_parts (is_of user name e) (e.extent == number) passes).0 in
-        same_stored old new e i (λ some. subst (λ x. record_at new (record_number x i) ≡ record_at old (record_number x i)) (sym is_at) (kept k i (within k below_k) below of (λ zero_block. some (ap (λ x. block x (i / 8)) is_at ∙ zero_block))))
+        same_stored old new e i (λ some. subst (λ x. disk_record new (place_on_disk x i) ≡ disk_record old (place_on_disk x i)) (sym is_at) (kept k i (within k below_k) below of (λ zero_block. some (ap (λ x. block x (i / 8)) is_at ∙ zero_block))))

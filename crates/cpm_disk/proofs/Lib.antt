@@ -1,11 +1,11 @@
 pub mod Chunks
 pub mod Places
 pub mod Outcomes
-pub mod Changing
-pub mod Ending
-pub mod Clearing
-pub mod Refusing
-pub mod Extending
+pub mod Changes
+pub mod StillMounted
+pub mod Blocks
+pub mod Refusals
+pub mod EntryList
 pub mod Files
 pub mod Others
 pub mod Maps

@@ -3,19 +3,19 @@ use Rattle.std.proofs.Common.{◌≡◌, ◌<◌, ◌≤◌, ◌+◌, ◌*◌, �
 use Rattle.std.proofs.lemmas.Bool.{and_from, and_parts, cases_Bool, cases_eq, cases_lt, lt-leb, not-false}
 use Rattle.std.specs.List.{list_any}
 use Rattle.cpm_directory.specs.declared.entry.Entry.{Entry}
-use Rattle.cpm_directory.specs.Entries.{at, blank, block, erased, is_extent, is_extent_of, is_match, is_of, is_read_only, is_system, new_extent, record_number, renamed}
+use Rattle.cpm_directory.specs.Entries.{at, blank, block, erased, is_extent, is_extent_of, is_match, is_of, is_read_only, is_system, new_extent, place_on_disk, renamed}
 use Rattle.cpm_directory.specs.Letters.{letters, name_matches, with_letters}
 use Rattle.cpm_directory.specs.Rules.{IsBlock, IsSound}
 use Rattle.cpm_directory.specs.Searches.{file_is_read_only, free_entry, is_file}
-use Rattle.cpm_operations.proofs.Facts.{found_at, below_extent, blank_is_not_of, is_of_file, letters_with, none_at, of_file, zeros_at}
-use Rattle.cpm_operations.proofs.Keeping.{at_erasure, at_renaming, erasing, length_of_name, renaming_of}
+use Rattle.cpm_operations.proofs.Entries.{found_at, below_extent, blank_is_not_of, is_of_file, letters_with, none_at, of_file, zeros_at}
+use Rattle.cpm_operations.proofs.Kept.{at_erasure, at_renaming, length_of_name}
 use Rattle.cpm_operations.specs.Kept.{IsPut}
-use Rattle.cpm_operations.specs.Steps.{◌>>=◌, after_erasure, after_renaming, creation, given, renaming, unless}
+use Rattle.cpm_operations.specs.Steps.{◌>>=◌, after_erasure, after_renaming, creation, given, renaming, unless, erased_by, renamed_by}
 use Rattle.cpm_operations.proofs.Results.{unless_ok}
 use Rattle.cpm_directory.specs.declared.fault.DiskFault.TheVariants as fault
 use Rattle.cpm_disk.specs.Calls.{Changed}
-use Rattle.cpm_disk.specs.Files.{IsMoved, IsNewFile, IsNoFile, stored_in}
-use Rattle.cpm_disk.specs.Image.{Image, IsOfDirectory, SameBut, directory, record_at}
+use Rattle.cpm_disk.specs.Files.{IsMoved, IsNewFile, IsNoFile, in_block}
+use Rattle.cpm_disk.specs.Image.{Image, IsOfDirectory, SameBut, directory, disk_record}
 use Rattle.cpm_disk.proofs.Files.{same_stored}
 use Rattle.cpm_disk.proofs.Others.{apart_from, created_entry, matches_letters}
 
@@ -46,7 +46,7 @@ extent_found entries user name number k low sound below is = find_unique (is_ext
 pub new_file : (image : Image) (entries : List Entry) (user : ℕ) (name : List ℕ) (k : ℕ) → user < 32 → letters name ≡ name → k < length entries → is_file user name entries ≡ false → directory image ≡ slice_set entries k (new_extent user name 0) → IsSound (directory image) → IsNewFile image user name
 new_file image entries user name k low seven below none is sound = record {
   first = ap (option_map (λ e. e.records)) found;
-  records = λ i. ap (option_and_then (stored_in image i)) found ∙ ap (λ b. if b == 0 then None else Some (record_at image (record_number e i))) (zeros_at 16 (i / 8));
+  records = λ i. ap (option_and_then (in_block image i)) found ∙ ap (λ b. if b == 0 then None else Some (disk_record image (place_on_disk e i))) (zeros_at 16 (i / 8));
   others = λ number some. ap (option_map (λ x. x.records)) (find_none (is_extent_of user name number) (directory image) (absent number some));
 }
   where
@@ -79,8 +79,8 @@ erased_file image entries user pattern name low matches is number = find_none (i
     let gone : is_of user name (at (directory image) j) ≡ false = subst (λ x. is_of user name x ≡ false) (sym (ap (λ es. at es j) is ∙ at_erasure user pattern entries j low)) (not_of (at entries j)) in
     ap (λ b. b && ((at (directory image) j).extent == number)) gone)
   where
-    not_of : (e : Entry) → is_of user name (erasing user pattern e) ≡ false
-    not_of e = elim (cases_Bool (is_match user pattern e)) as (λ _. is_of user name (erasing user pattern e) ≡ false) [
+    not_of : (e : Entry) → is_of user name (erased_by user pattern e) ≡ false
+    not_of e = elim (cases_Bool (is_match user pattern e)) as (λ _. is_of user name (erased_by user pattern e) ≡ false) [
       | inl match ↦ subst (λ x. is_of user name x ≡ false) (sym (ap (λ b. if b then erased e else e) match)) (ap (λ b. b && bytes_eq (letters e.name) name) (ne_eqb 0xE5 user (λ same. omega arith)))
       | inr other ↦ subst (λ x. is_of user name x ≡ false) (sym (ap (λ b. if b then erased e else e) other)) (elim (cases_Bool (is_of user name e)) as (λ _. is_of user name e ≡ false) [
         | inl of ↦ (let one = of_file user name e of in
@@ -118,8 +118,8 @@ any_changed p q f (x ∷ xs) same = ap (λ b. b || list_any p (map f xs)) (same 
 
 -- what renaming makes of an entry, asked by the new name, is what the entry is, asked by the old one
 renamed_test : (user : ℕ) (from to : List ℕ) (q r : Entry → Bool) (e : Entry) → length from ≡ length to → letters to ≡ to → is_of user to e ≡ false → (length e.name ≡ length to → r (renamed to e) ≡ q e)
-    → (is_of user to (renaming_of user from to e) && r (renaming_of user from to e)) ≡ (is_of user from e && q e)
-renamed_test user from to q r e long seven not_to kept = elim (cases_Bool (is_of user from e)) as (λ _. (is_of user to (renaming_of user from to e) && r (renaming_of user from to e)) ≡ (is_of user from e && q e)) [
+    → (is_of user to (renamed_by user from to e) && r (renamed_by user from to e)) ≡ (is_of user from e && q e)
+renamed_test user from to q r e long seven not_to kept = elim (cases_Bool (is_of user from e)) as (λ _. (is_of user to (renamed_by user from to e) && r (renamed_by user from to e)) ≡ (is_of user from e && q e)) [
   | inl of ↦ (
       let same_length = length_of_name user from e of ∙ long in
       let now : is_of user to (renamed to e) ≡ true = is_of_file user to (renamed to e) (of_file user from e of).0 (letters_with e.name to same_length seven) in
@@ -128,18 +128,18 @@ renamed_test user from to q r e long seven not_to kept = elim (cases_Bool (is_of
 ]
 
 -- a block that an entry of a directory names, but 0, is one of files
-pub range_of : (entries : List Entry) (k : ℕ) (e : Entry) → IsSound entries → e ≡ at entries k → e.user < 32 → (group : ℕ) → (block e group ≡ 0 → ⊥) → (2 ≤ block e group) × (block e group ≤ 242)
+pub range_of : (entries : List Entry) (k : ℕ) (e : Entry) → IsSound entries → e ≡ at entries k → e.user < 32 → (group : ℕ) → (block e group ≡ 0 → ⊥) → (2 ≤ block e group) × (block e group < 243)
 range_of entries k e sound is_at low group some =
     let ext = subst (λ x. is_extent x ≡ true) is_at (below_extent e low) in
-    elim (subst (λ x. IsBlock (block x group)) (sym is_at) (sound.blocks k ext group)) as (λ _. (2 ≤ block e group) × (block e group ≤ 242)) [ inl none ↦ absurd (some none) | inr files ↦ files ]
+    elim (subst (λ x. IsBlock (block x group)) (sym is_at) (sound.blocks k ext group)) as (λ _. (2 ≤ block e group) × (block e group < 243)) [ inl none ↦ absurd (some none) | inr files ↦ files ]
 
 pub moved_file : (old new : Image) (user : ℕ) (from to : List ℕ) → user < 32 → length from ≡ length to → letters to ≡ to → (from ≡ to → ⊥) → IsSound (directory old) → is_file user to (directory old) ≡ false → directory new ≡ after_renaming user from to (directory old) → SameBut IsOfDirectory old new → IsMoved old new user from to
 moved_file old new user from to low long seven apart sound none is rest = record {
   counts = λ number. ap (option_map (λ e. e.records)) (found number) ∙ same_count (find (is_extent_of user from number) (directory old));
-  records = λ number i below. ap (option_and_then (stored_in new i)) (found number) ∙ same_bytes number i below (find (is_extent_of user from number) (directory old)) refl;
-  read_only = ap (list_any (λ e. is_of user to e && is_read_only e)) is ∙ any_changed (λ e. is_of user to e && is_read_only e) (λ e. is_of user from e && is_read_only e) (renaming_of user from to) (directory old)
+  records = λ number i below. ap (option_and_then (in_block new i)) (found number) ∙ same_bytes number i below (find (is_extent_of user from number) (directory old)) refl;
+  read_only = ap (list_any (λ e. is_of user to e && is_read_only e)) is ∙ any_changed (λ e. is_of user to e && is_read_only e) (λ e. is_of user from e && is_read_only e) (renamed_by user from to) (directory old)
       (λ j _. renamed_test user from to is_read_only is_read_only (at (directory old) j) long seven (not_to j) (λ same. high_bit (at (directory old) j).name to 8 same seven));
-  system = ap (list_any (λ e. is_of user to e && is_system e)) is ∙ any_changed (λ e. is_of user to e && is_system e) (λ e. is_of user from e && is_system e) (renaming_of user from to) (directory old)
+  system = ap (list_any (λ e. is_of user to e && is_system e)) is ∙ any_changed (λ e. is_of user to e && is_system e) (λ e. is_of user from e && is_system e) (renamed_by user from to) (directory old)
       (λ j _. renamed_test user from to is_system is_system (at (directory old) j) long seven (not_to j) (λ same. high_bit (at (directory old) j).name to 9 same seven));
   gone = λ number. find_none (is_extent_of user from number) (directory new) (λ j _. ap (λ b. b && ((at (directory new) j).extent == number)) (subst (λ x. is_of user from x ≡ false) (sym (ap (λ es. at es j) is ∙ at_renaming user from to (directory old) j low)) (not_from (at (directory old) j))));
 }
@@ -147,39 +147,39 @@ moved_file old new user from to low long seven apart sound none is rest = record
     not_to : (j : ℕ) → is_of user to (at (directory old) j) ≡ false
     not_to j = none_at (is_of user to) (directory old) j (blank_is_not_of user to low) none
 
-    found : (number : ℕ) → find (is_extent_of user to number) (directory new) ≡ option_map (renaming_of user from to) (find (is_extent_of user from number) (directory old))
-    found number = ap (find (is_extent_of user to number)) is ∙ find_changed (is_extent_of user to number) (is_extent_of user from number) (renaming_of user from to) (directory old)
+    found : (number : ℕ) → find (is_extent_of user to number) (directory new) ≡ option_map (renamed_by user from to) (find (is_extent_of user from number) (directory old))
+    found number = ap (find (is_extent_of user to number)) is ∙ find_changed (is_extent_of user to number) (is_extent_of user from number) (renamed_by user from to) (directory old)
         (λ j _. renamed_test user from to (λ e. e.extent == number) (λ e. e.extent == number) (at (directory old) j) long seven (not_to j) (λ _. refl))
 
-    kept_records : (e : Entry) → (renaming_of user from to e).records ≡ e.records
-    kept_records e = elim (cases_Bool (is_of user from e)) as (λ _. (renaming_of user from to e).records ≡ e.records) [
+    kept_records : (e : Entry) → (renamed_by user from to e).records ≡ e.records
+    kept_records e = elim (cases_Bool (is_of user from e)) as (λ _. (renamed_by user from to e).records ≡ e.records) [
       | inl of ↦ ap (λ b. (if b then renamed to e else e).records) of
       | inr not_of ↦ ap (λ b. (if b then renamed to e else e).records) not_of
     ]
 
-    kept_blocks : (e : Entry) → (renaming_of user from to e).blocks ≡ e.blocks
-    kept_blocks e = elim (cases_Bool (is_of user from e)) as (λ _. (renaming_of user from to e).blocks ≡ e.blocks) [
+    kept_blocks : (e : Entry) → (renamed_by user from to e).blocks ≡ e.blocks
+    kept_blocks e = elim (cases_Bool (is_of user from e)) as (λ _. (renamed_by user from to e).blocks ≡ e.blocks) [
       | inl of ↦ ap (λ b. (if b then renamed to e else e).blocks) of
       | inr not_of ↦ ap (λ b. (if b then renamed to e else e).blocks) not_of
     ]
 
-    same_count : (o : Option Entry) → option_map (λ e. e.records) (option_map (renaming_of user from to) o) ≡ option_map (λ e. e.records) o
+    same_count : (o : Option Entry) → option_map (λ e. e.records) (option_map (renamed_by user from to) o) ≡ option_map (λ e. e.records) o
     same_count None = refl
     same_count (Some e) = ap (λ n. Some n) (kept_records e)
 
     stored_by : Image → List ℕ → ℕ → Option (List ℕ)
-    stored_by image blocks i = if slice_index blocks (i / 8) == 0 then None else Some (record_at image (8 * slice_index blocks (i / 8) + i % 8))
+    stored_by image blocks i = if slice_index blocks (i / 8) == 0 then None else Some (disk_record image (8 * slice_index blocks (i / 8) + i % 8))
 
-    same_bytes : (number i : ℕ) → i < 128 → (o : Option Entry) → find (is_extent_of user from number) (directory old) ≡ o → option_and_then (stored_in new i) (option_map (renaming_of user from to) o) ≡ option_and_then (stored_in old i) o
+    same_bytes : (number i : ℕ) → i < 128 → (o : Option Entry) → find (is_extent_of user from number) (directory old) ≡ o → option_and_then (in_block new i) (option_map (renamed_by user from to) o) ≡ option_and_then (in_block old i) o
     same_bytes number i below None is_none = refl
     same_bytes number i below (Some e) is_e = ap (λ blocks. stored_by new blocks i) (kept_blocks e) ∙ same_stored old new e i (λ some.
         let (k, below_k, is_at, passes) = found_at (is_extent_of user from number) (directory old) e is_e in
         let user_is = (of_file user from e (and_parts (is_of user from e) (e.extent == number) passes).0).0 in
         let range = range_of (directory old) k e sound is_at (omega arith) (i / 8) some in
-        rest.records (record_number e i) (omega (arith, range.0, range.1)) (λ of. omega (arith, range.0)))
+        rest.records (place_on_disk e i) (omega (arith, range.0, range.1)) (λ of. omega (arith, range.0)))
 
-    not_from : (e : Entry) → is_of user from (renaming_of user from to e) ≡ false
-    not_from e = elim (cases_Bool (is_of user from e)) as (λ _. is_of user from (renaming_of user from to e) ≡ false) [
+    not_from : (e : Entry) → is_of user from (renamed_by user from to e) ≡ false
+    not_from e = elim (cases_Bool (is_of user from e)) as (λ _. is_of user from (renamed_by user from to e) ≡ false) [
       | inl of ↦ subst (λ x. is_of user from x ≡ false) (sym (ap (λ b. if b then renamed to e else e) of))
           (apart_from user to user from (renamed to e) (is_of_file user to (renamed to e) (of_file user from e of).0 (letters_with e.name to (length_of_name user from e of ∙ long) seven)) (λ _ same. apart same))
       | inr not_of ↦ subst (λ x. is_of user from x ≡ false) (sym (ap (λ b. if b then renamed to e else e) not_of)) not_of

@@ -2,21 +2,21 @@
 use Rattle.std.proofs.Common.{◌≡◌, ◌≢◌, ◌<◌, ◌≤◌, ◌/◌, ◌%◌, ◌==◌, ℕ, true, false, ◌&&◌, ◌||◌, List, [], ◌∷◌, length, slice_set, get_or-set_same, get_or-set_other, refl, sym, ap, subst, ◌∙◌, inl, inr, arith, if◌then◌else◌, true≢false, eqb-true, nat_eq, Ok}
 use Rattle.std.proofs.lemmas.Bool.{and_parts, cases_Bool, cases_eq}
 use Rattle.cpm_directory.specs.declared.entry.Entry.{Entry}
-use Rattle.cpm_directory.specs.Entries.{at, blank, block, erased, is_free, is_match, is_of, new_extent, record_number, renamed}
+use Rattle.cpm_directory.specs.Entries.{at, blank, block, erased, is_free, is_match, is_of, new_extent, place_on_disk, renamed}
 use Rattle.cpm_directory.specs.Letters.{byte_matches, letters, name_matches}
 use Rattle.cpm_directory.specs.Rules.{IsSound}
 use Rattle.cpm_directory.specs.Searches.{free_entry, is_file}
 use Rattle.cpm_directory.specs.declared.fault.DiskFault.TheVariants as fault
-use Rattle.cpm_operations.proofs.Facts.{below_extent, is_of_file, letters_with, of_file}
-use Rattle.cpm_operations.proofs.Keeping.{at_erasure, at_renaming, erasing, length_of_name, renaming_of}
+use Rattle.cpm_operations.proofs.Entries.{below_extent, is_of_file, letters_with, of_file}
+use Rattle.cpm_operations.proofs.Kept.{at_erasure, at_renaming, length_of_name}
 use Rattle.cpm_operations.specs.declared.placement.Placement.{Placement}
 use Rattle.cpm_operations.specs.Kept.{IsKeptBy, IsPut}
-use Rattle.cpm_operations.specs.Steps.{◌>>=◌, after_erasure, after_renaming, creation, given}
+use Rattle.cpm_operations.specs.Steps.{◌>>=◌, after_erasure, after_renaming, creation, given, erased_by, renamed_by}
 use Rattle.cpm_operations.proofs.Results.{bind_ok, unless_ok}
 use Rattle.cpm_disk.specs.Calls.{Changed, PartlyChanged, PartlyWritten, Written}
 use Rattle.cpm_disk.specs.Files.{IsEither, IsFile, IsMatched, OthersAreSame, SameFile}
-use Rattle.cpm_disk.specs.Image.{Image, IsOfBlock, directory, record_at}
-use Rattle.cpm_disk.proofs.Ending.{write_between}
+use Rattle.cpm_disk.specs.Image.{Image, IsOfBlock, directory, disk_record}
+use Rattle.cpm_disk.proofs.StillMounted.{write_between}
 use Rattle.cpm_disk.proofs.Files.{Alike, same_file}
 
 -- a call that changes the directory alone, in no entry of the file
@@ -29,8 +29,8 @@ beside old new entries user name low sound left alike = same_file old new user n
     ])
     (λ k i below low_i of some.
     let ext = below_extent (at (directory old) k) (let user_is = (of_file user name (at (directory old) k) of).0 in omega arith) in
-    let range : (2 ≤ block (at (directory old) k) (i / 8)) × (block (at (directory old) k) (i / 8) ≤ 242) = elim (sound.blocks k ext (i / 8)) [ inl none ↦ absurd (some none) | inr files ↦ files ] in
-    left.rest.records (record_number (at (directory old) k) i) (omega (arith, range.0, range.1)) (λ in_directory. omega (arith, range.0)))
+    let range : (2 ≤ block (at (directory old) k) (i / 8)) × (block (at (directory old) k) (i / 8) < 243) = elim (sound.blocks k ext (i / 8)) [ inl none ↦ absurd (some none) | inr files ↦ files ] in
+    left.rest.records (place_on_disk (at (directory old) k) i) (omega (arith, range.0, range.1)) (λ in_directory. omega (arith, range.0)))
 
 pub whole_change : (old new : Image) (entries : List Entry) → Changed old new entries → PartlyChanged old new entries
 whole_change old new entries made = record { between = λ k. inr (ap (λ es. at es k) made.entries_are); rest = made.rest }
@@ -72,7 +72,7 @@ matches_letters (p ∷ pattern) (b ∷ name) =
 
 pub erased_alike : (entries : List Entry) (user : ℕ) (pattern : List ℕ) (other : ℕ) (others : List ℕ) → user < 32 → other < 32 → ((other ≡ user) → (name_matches pattern others ≡ true) → ⊥) → (k : ℕ) → Alike (is_of other others) (at entries k) (at (after_erasure user pattern entries) k)
 erased_alike entries user pattern other others low low_other apart k =
-    let after : at (after_erasure user pattern entries) k ≡ erasing user pattern (at entries k) = at_erasure user pattern entries k low in
+    let after : at (after_erasure user pattern entries) k ≡ erased_by user pattern (at entries k) = at_erasure user pattern entries k low in
     elim (cases_Bool (is_match user pattern (at entries k))) as (λ _. Alike (is_of other others) (at entries k) (at (after_erasure user pattern entries) k)) [
       | inl matches ↦ (
           let gone : at (after_erasure user pattern entries) k ≡ erased (at entries k) = after ∙ ap (λ b. if b then erased (at entries k) else at entries k) matches in
@@ -92,7 +92,7 @@ erased_alike entries user pattern other others low low_other apart k =
 
 pub renamed_alike : (entries : List Entry) (user : ℕ) (old new : List ℕ) (other : ℕ) (others : List ℕ) → user < 32 → other < 32 → length old ≡ length new → letters new ≡ new → ((other ≡ user) → (others ≡ old) → ⊥) → ((other ≡ user) → (others ≡ new) → ⊥) → (k : ℕ) → Alike (is_of other others) (at entries k) (at (after_renaming user old new entries) k)
 renamed_alike entries user old new other others low low_other long seven apart_old apart_new k =
-    let after : at (after_renaming user old new entries) k ≡ renaming_of user old new (at entries k) = at_renaming user old new entries k low in
+    let after : at (after_renaming user old new entries) k ≡ renamed_by user old new (at entries k) = at_renaming user old new entries k low in
     elim (cases_Bool (is_of user old (at entries k))) as (λ _. Alike (is_of other others) (at entries k) (at (after_renaming user old new entries) k)) [
       | inl of ↦ (
           let changed : at (after_renaming user old new entries) k ≡ renamed new (at entries k) = after ∙ ap (λ b. if b then renamed new (at entries k) else at entries k) of in
@@ -106,7 +106,7 @@ renamed_alike entries user old new other others low low_other long seven apart_o
     ]
 
 -- a stopped write leaves the records outside the directory and its block
-untouched : (old new : Image) (p : Placement) (i : ℕ) (bytes : List ℕ) → PartlyWritten old new p i bytes → (n : ℕ) → n < 1944 → 16 ≤ n → (IsOfBlock p.block n → ⊥) → record_at new n ≡ record_at old n
+untouched : (old new : Image) (p : Placement) (i : ℕ) (bytes : List ℕ) → PartlyWritten old new p i bytes → (n : ℕ) → n < 1944 → 16 ≤ n → (IsOfBlock p.block n → ⊥) → disk_record new n ≡ disk_record old n
 untouched old new p i bytes (inl put) n below files beside_it = put.0.rest.records n below (λ of. elim of [ inl in_directory ↦ omega arith | inr in_block ↦ beside_it in_block ])
 untouched old new p i bytes (inr none) n below files beside_it = none.1.records n below beside_it
 
@@ -119,10 +119,10 @@ beside_write old new p i bytes user name other others low sound kept apart left 
     ])
     (λ k j below low_j of some.
     let ext = below_extent (at (directory old) k) (let user_is = (of_file other others (at (directory old) k) of).0 in omega arith) in
-    let range : (2 ≤ block (at (directory old) k) (j / 8)) × (block (at (directory old) k) (j / 8) ≤ 242) = elim (sound.blocks k ext (j / 8)) [ inl none ↦ absurd (some none) | inr files ↦ files ] in
+    let range : (2 ≤ block (at (directory old) k) (j / 8)) × (block (at (directory old) k) (j / 8) < 243) = elim (sound.blocks k ext (j / 8)) [ inl none ↦ absurd (some none) | inr files ↦ files ] in
     let elsewhere : k ≢ p.number = λ here. true≢false (sym of ∙ subst (λ n. is_of other others (at (directory old) n) ≡ false) (sym here) before) in
     let other_block : block (at (directory old) k) (j / 8) ≢ p.block = λ same. kept.apart k (j / 8) elsewhere ext same in
-    untouched old new p i bytes left (record_number (at (directory old) k) j) (omega (arith, range.0, range.1)) (omega (arith, range.0)) (λ in_block. omega (arith, in_block.0, in_block.1)))
+    untouched old new p i bytes left (place_on_disk (at (directory old) k) j) (omega (arith, range.0, range.1)) (omega (arith, range.0)) (λ in_block. omega (arith, in_block.0, in_block.1)))
   where
     before : is_of other others (at (directory old) p.number) ≡ false
     before = elim kept.was as (λ _. is_of other others (at (directory old) p.number) ≡ false) [

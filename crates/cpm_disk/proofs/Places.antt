@@ -2,11 +2,12 @@
 use Rattle.std.proofs.Common.{◌≡◌, ◌<◌, ◌/◌, ◌%◌, ◌*◌, ◌+◌, ℕ, List, [], length, take, drop, refl, sym, ap, subst, ◌∙◌, inl, inr, arith, slice_set, get_or-set_same, get_or-set_other, ext_get_or, length-set}
 use Rattle.std.proofs.lemmas.Bool.{cases_eq}
 use Rattle.std.proofs.lemmas.List.FromFn.{get_or-map-range_with_len, length-map-range_with_len}
+use Rattle.cpm_image.specs.declared.format.TheConstants.{RECORD_COUNT}
 use Rattle.cpm_image.specs.Skew.{sector}
 use Rattle.cpm_directory.specs.declared.entry.Entry.{Entry}
 use Rattle.cpm_directory.specs.Entries.{at, blank, entry_of}
 use Rattle.cpm_disk.specs.Calls.{Changed}
-use Rattle.cpm_disk.specs.Image.{Image, IsOfDirectory, SameBut, Wrote, directory, entry_at, record_at, record_count}
+use Rattle.cpm_disk.specs.Image.{Image, IsOfDirectory, SameBut, Wrote, directory, entry_at, disk_record}
 
 pub at_directory : (image : Image) (k : ℕ) → k < 64 → at (directory image) k ≡ entry_at image k
 unfolding directory
@@ -20,7 +21,7 @@ length_directory image = length-map-range_with_len (entry_at image) 0 64
 pub same_entries : (xs ys : List Entry) → length xs ≡ 64 → length ys ≡ 64 → ((k : ℕ) → k < 64 → at xs k ≡ at ys k) → xs ≡ ys
 same_entries xs ys long too each = ext_get_or blank xs ys (long ∙ sym too) (λ k below. each k (omega arith))
 
-pub same_directory : (old new : Image) → ((n : ℕ) → n < 16 → record_at new n ≡ record_at old n) → directory new ≡ directory old
+pub same_directory : (old new : Image) → ((n : ℕ) → n < 16 → disk_record new n ≡ disk_record old n) → directory new ≡ directory old
 same_directory old new same = same_entries (directory new) (directory old) (length_directory new) (length_directory old)
     (λ k below. at_directory new k below ∙ ap (λ bytes. entry_of (take 32 (drop (32 * (k % 4)) bytes))) (same (k / 4) (omega arith)) ∙ sym (at_directory old k below))
 
@@ -46,7 +47,7 @@ widened P Q a b within same = record {
 pub directory_kept : (P : ℕ → Type 0) (old new : Image) → ((n : ℕ) → n < 16 → P n → ⊥) → SameBut P old new → directory new ≡ directory old
 directory_kept P old new apart same = same_directory old new (λ n below. same.records n (omega arith) (apart n below))
 
-pub wrote : (old : Image) (n : ℕ) (bytes : List ℕ) → sector n < length old → ((m : ℕ) → m < record_count → sector m ≡ sector n → m ≡ n) → n < record_count → Wrote old (slice_set old (sector n) bytes) n bytes
+pub wrote : (old : Image) (n : ℕ) (bytes : List ℕ) → sector n < length old → ((m : ℕ) → m < RECORD_COUNT → sector m ≡ sector n → m ≡ n) → n < RECORD_COUNT → Wrote old (slice_set old (sector n) bytes) n bytes
 wrote old n bytes within distinct below = record {
   here = get_or-set_same old (sector n) bytes [] within;
   rest = record {
@@ -57,15 +58,15 @@ wrote old n bytes within distinct below = record {
 }
 
 -- a record of the directory with one entry changed
-pub stored : (old new : Image) (entries : List Entry) (number : ℕ) (e : Entry) (bytes : List ℕ) → directory old ≡ entries → number < 64 → Wrote old new (number / 4) bytes
+pub entry_put : (old new : Image) (entries : List Entry) (number : ℕ) (e : Entry) (bytes : List ℕ) → directory old ≡ entries → number < 64 → Wrote old new (number / 4) bytes
     → ((i : ℕ) → i < 4 → entry_of (take 32 (drop (32 * i) bytes)) ≡ at (slice_set entries number e) (4 * (number / 4) + i))
     → directory new ≡ slice_set entries number e
-stored old new entries number e bytes was below wrote_it holds = same_entries (directory new) (slice_set entries number e) (length_directory new) (length-set entries number e ∙ ap length (sym was) ∙ length_directory old) each
+entry_put old new entries number e bytes was below wrote_it holds = same_entries (directory new) (slice_set entries number e) (length_directory new) (length-set entries number e ∙ ap length (sym was) ∙ length_directory old) each
   where
     each : (k : ℕ) → k < 64 → at (directory new) k ≡ at (slice_set entries number e) k
     each k below_k = elim (cases_eq (k / 4) (number / 4)) as (λ _. at (directory new) k ≡ at (slice_set entries number e) k) [
       | inl here ↦ (let place : 4 * (number / 4) + k % 4 ≡ k = omega arith in
-          at_directory new k below_k ∙ ap (λ b. entry_of (take 32 (drop (32 * (k % 4)) b))) (ap (record_at new) here ∙ wrote_it.here)
+          at_directory new k below_k ∙ ap (λ b. entry_of (take 32 (drop (32 * (k % 4)) b))) (ap (disk_record new) here ∙ wrote_it.here)
           ∙ holds (k % 4) (omega arith) ∙ ap (at (slice_set entries number e)) place)
       | inr other ↦ at_directory new k below_k ∙ ap (λ b. entry_of (take 32 (drop (32 * (k % 4)) b))) (wrote_it.rest.records (k / 4) (omega arith) other)
           ∙ sym (at_directory old k below_k) ∙ ap (λ es. at es k) was ∙ sym (get_or-set_other entries number k e blank (λ same. other (ap (λ n. n / 4) same)))
@@ -75,7 +76,7 @@ pub changed_by : (old new : Image) (entries : List Entry) (number : ℕ) (e : En
     → ((i : ℕ) → i < 4 → entry_of (take 32 (drop (32 * i) bytes)) ≡ at (slice_set entries number e) (4 * (number / 4) + i))
     → Changed old new (slice_set entries number e)
 changed_by old new entries number e bytes was below wrote_it holds = record {
-  entries_are = stored old new entries number e bytes was below wrote_it holds;
+  entries_are = entry_put old new entries number e bytes was below wrote_it holds;
   rest = widened (λ n. n ≡ number / 4) IsOfDirectory old new (λ n same. omega arith) wrote_it.rest;
 }
 

@@ -4,18 +4,18 @@ use Rattle.std.proofs.lemmas.Bool.{and_from, and_parts, cases_Bool, cases_eq, eq
 use Rattle.std.proofs.lemmas.List.Quantifiers.{position-Some}
 use Rattle.cpm_directory.specs.declared.entry.Entry.{Entry}
 use Rattle.cpm_directory.specs.declared.fault.DiskFault.TheVariants as fault
-use Rattle.cpm_directory.specs.Entries.{at, blank, block, is_extent, is_extent_of, is_free, is_of, new_extent, record_number, with_record}
+use Rattle.cpm_directory.specs.Entries.{at, blank, block, is_extent, is_extent_of, is_free, is_of, new_extent, place_on_disk, with_record}
 use Rattle.cpm_directory.specs.Rules.{IsSound}
 use Rattle.cpm_directory.specs.Searches.{file_is_read_only, free_block, free_entry, is_file}
-use Rattle.cpm_operations.proofs.Facts.{found_at, below_extent, blank_is_not_of, of_file, zeros_at}
-use Rattle.cpm_operations.proofs.Placing.{IsBlockFor, IsPlace, block_found, none_placed, place_found}
+use Rattle.cpm_operations.proofs.Entries.{found_at, below_extent, blank_is_not_of, of_file, zeros_at}
+use Rattle.cpm_operations.proofs.Placements.{IsBlockFor, IsPlace, block_found, none_placed, place_found}
 use Rattle.cpm_operations.proofs.Results.{bind_ok, given_ok, unless_ok}
 use Rattle.cpm_operations.specs.declared.placement.Placement.{Placement}
 use Rattle.cpm_operations.specs.Kept.{IsKeptBy}
 use Rattle.cpm_operations.specs.Steps.{block_place, extent_place, found_or_new, given, placing, unless, writing}
 use Rattle.cpm_disk.specs.Calls.{HasWritten, Written}
-use Rattle.cpm_disk.specs.Files.{HasRecord, count_of, stored, stored_in}
-use Rattle.cpm_disk.specs.Image.{Image, IsOfBlock, IsOfDirectory, SameBut, directory, record_at}
+use Rattle.cpm_disk.specs.Files.{HasRecord, count_of, block_record, in_block}
+use Rattle.cpm_disk.specs.Image.{Image, IsOfBlock, IsOfDirectory, SameBut, directory, disk_record}
 use Rattle.cpm_disk.proofs.Files.{Alike, find_alike, same_stored}
 use Rattle.cpm_disk.proofs.Maps.{extent_found, find_none, range_of}
 use Rattle.cpm_disk.proofs.Others.{not_free}
@@ -63,39 +63,39 @@ extent_is : (entries : List Entry) (user : ℕ) (name : List ℕ) (number : ℕ)
 extent_is entries user name number place (inl old) = eqb-true place.1.extent number (and_parts (is_of user name place.1) (place.1.extent == number) old.1).1
 extent_is entries user name number place (inr new) = new.4
 
--- what the extent counted and stored before
+-- what the extent counted and block_record before
 count_was : (image : Image) (user : ℕ) (name : List ℕ) (number : ℕ) (place : ℕ × Entry) → Was (directory image) user name number place → unwrap_or (count_of image user name number) 0 ≡ place.1.records
 count_was image user name number place (inl old) = ap (λ o. unwrap_or (option_map (λ e. e.records) o) 0) old.2
 count_was image user name number place (inr new) = ap (λ o. unwrap_or (option_map (λ e. e.records) o) 0) new.1 ∙ sym new.2
 
-stored_was : (image : Image) (user : ℕ) (name : List ℕ) (number i : ℕ) (place : ℕ × Entry) → Was (directory image) user name number place → stored image user name number i ≡ stored_in image i place.1
-stored_was image user name number i place (inl old) = ap (option_and_then (stored_in image i)) old.2
-stored_was image user name number i place (inr new) = ap (option_and_then (stored_in image i)) new.1 ∙ sym (ap (λ b. if b == 0 then None else Some (record_at image (record_number place.1 i))) (new.3 (i / 8)))
+stored_was : (image : Image) (user : ℕ) (name : List ℕ) (number i : ℕ) (place : ℕ × Entry) → Was (directory image) user name number place → block_record image user name number i ≡ in_block image i place.1
+stored_was image user name number i place (inl old) = ap (option_and_then (in_block image i)) old.2
+stored_was image user name number i place (inr new) = ap (option_and_then (in_block image i)) new.1 ∙ sym (ap (λ b. if b == 0 then None else Some (disk_record image (place_on_disk place.1 i))) (new.3 (i / 8)))
 
 -- what an entry stores in a block that it names
-stored_there : (image : Image) (e : Entry) (i b : ℕ) → block e (i / 8) ≡ b → 0 < b → stored_in image i e ≡ Some (record_at image (8 * b + i % 8))
+stored_there : (image : Image) (e : Entry) (i b : ℕ) → block e (i / 8) ≡ b → 0 < b → in_block image i e ≡ Some (disk_record image (8 * b + i % 8))
 stored_there image e i b is some =
-    ap (λ n. if n == 0 then None else Some (record_at image (8 * n + i % 8))) is
-    ∙ ap (λ t. if t then None else Some (record_at image (8 * b + i % 8))) (ne_eqb b 0 (λ none. omega arith))
+    ap (λ n. if n == 0 then None else Some (disk_record image (8 * n + i % 8))) is
+    ∙ ap (λ t. if t then None else Some (disk_record image (8 * b + i % 8))) (ne_eqb b 0 (λ none. omega arith))
 
-stored_not : (image : Image) (e : Entry) (i : ℕ) → block e (i / 8) ≡ 0 → stored_in image i e ≡ None
-stored_not image e i none = ap (λ n. if n == 0 then None else Some (record_at image (8 * n + i % 8))) none
+stored_not : (image : Image) (e : Entry) (i : ℕ) → block e (i / 8) ≡ 0 → in_block image i e ≡ None
+stored_not image e i none = ap (λ n. if n == 0 then None else Some (disk_record image (8 * n + i % 8))) none
 
 -- the records of the block beside the one that is written
 beside_it : (old new : Image) (user : ℕ) (name : List ℕ) (number i j b : ℕ) (is_new : Bool) (bytes : List ℕ) (place : ℕ × Entry) → Was (directory old) user name number place → Had place.1 (j / 8) (b, is_new) → j % 8 ≢ i → HasWritten old new b i is_new bytes
-    → record_at new (8 * b + j % 8) ≡ unwrap_or (stored old user name number j) (replicate 128 0)
+    → disk_record new (8 * b + j % 8) ≡ unwrap_or (block_record old user name number j) (replicate 128 0)
 beside_it old new user name number i j b is_new bytes place before (inl had_none) apart made =
-    made.beside (j % 8) (omega arith) apart ∙ ap (λ t. if t then replicate 128 0 else record_at old (8 * b + j % 8)) had_none.0
+    made.beside (j % 8) (omega arith) apart ∙ ap (λ t. if t then replicate 128 0 else disk_record old (8 * b + j % 8)) had_none.0
     ∙ sym (ap (λ o. unwrap_or o (replicate 128 0)) (stored_was old user name number j place before ∙ stored_not old place.1 j had_none.1))
 beside_it old new user name number i j b is_new bytes place before (inr had_it) apart made =
-    made.beside (j % 8) (omega arith) apart ∙ ap (λ t. if t then replicate 128 0 else record_at old (8 * b + j % 8)) had_it.0
+    made.beside (j % 8) (omega arith) apart ∙ ap (λ t. if t then replicate 128 0 else disk_record old (8 * b + j % 8)) had_it.0
     ∙ sym (ap (λ o. unwrap_or o (replicate 128 0)) (stored_was old user name number j place before ∙ stored_there old place.1 j b had_it.1 had_it.2))
 
 -- an entry's record outside the block that is written
-other_block : (old new : Image) (e : Entry) (i b : ℕ) → ((block e (i / 8) ≡ 0 → ⊥) → (2 ≤ block e (i / 8)) × (block e (i / 8) ≤ 242)) → (block e (i / 8) ≡ b → ⊥) → SameBut (λ n. IsOfDirectory n ⊎ IsOfBlock b n) old new → stored_in new i e ≡ stored_in old i e
+other_block : (old new : Image) (e : Entry) (i b : ℕ) → ((block e (i / 8) ≡ 0 → ⊥) → (2 ≤ block e (i / 8)) × (block e (i / 8) < 243)) → (block e (i / 8) ≡ b → ⊥) → SameBut (λ n. IsOfDirectory n ⊎ IsOfBlock b n) old new → in_block new i e ≡ in_block old i e
 other_block old new e i b range apart rest = same_stored old new e i (λ some.
     let within = range some in
-    rest.records (record_number e i) (omega (arith, within.0, within.1)) (λ of. elim of [ inl in_directory ↦ omega (arith, within.0) | inr in_block ↦ apart (omega (arith, in_block.0, in_block.1)) ]))
+    rest.records (place_on_disk e i) (omega (arith, within.0, within.1)) (λ of. elim of [ inl in_directory ↦ omega (arith, within.0) | inr in_block ↦ apart (omega (arith, in_block.0, in_block.1)) ]))
 
 -- another number is another extent
 not_extent : (user : ℕ) (name : List ℕ) (number other : ℕ) (e : Entry) → e.extent ≡ number → other ≢ number → is_extent_of user name other e ≡ false
@@ -105,20 +105,20 @@ not_extent user name number other e is apart = elim (cases_Bool (is_extent_of us
 ]
 
 record_put : (old new : Image) (user : ℕ) (name : List ℕ) (number : ℕ) (bytes : List ℕ) (place : ℕ × Entry) (b : ℕ) (is_new : Bool) → user < 32 → IsSound (directory old) → IsSound (directory new)
-    → IsPlace user name (directory old) place → Was (directory old) user name (number / 128) place → Had place.1 (number % 128 / 8) (b, is_new) → ((other : ℕ) → other ≢ number % 128 / 8 → block place.1 other ≡ b → ⊥) → 2 ≤ b → b ≤ 242
+    → IsPlace user name (directory old) place → Was (directory old) user name (number / 128) place → Had place.1 (number % 128 / 8) (b, is_new) → ((other : ℕ) → other ≢ number % 128 / 8 → block place.1 other ≡ b → ⊥) → 2 ≤ b → b < 243
     → ((k group : ℕ) → k ≢ place.0 → is_extent (at (directory old) k) ≡ true → block (at (directory old) k) group ≡ b → ⊥)
     → block (with_record place.1 (number % 128) b) (number % 128 / 8) ≡ b
     → directory new ≡ slice_set (directory old) place.0 (with_record place.1 (number % 128) b) → HasWritten old new b (number % 8) is_new bytes → HasRecord old new user name number bytes
 record_put old new user name number bytes place b is_new low sound sound_new fits before had_block lone files small elsewhere placed is made = record {
   count = ap (option_map (λ e. e.records)) found ∙ ap (λ n. Some (max n (number % 128 + 1))) (sym (count_was old user name (number / 128) place before));
-  here = stored_here (number % 128) ∙ stored_there new entry (number % 128) b placed (omega arith) ∙ ap (λ bs. Some bs) (ap (λ n. record_at new (8 * b + n)) (let e : number % 128 % 8 ≡ number % 8 = omega arith in e) ∙ made.here);
+  here = stored_here (number % 128) ∙ stored_there new entry (number % 128) b placed (omega arith) ∙ ap (λ bs. Some bs) (ap (λ n. disk_record new (8 * b + n)) (let e : number % 128 % 8 ≡ number % 8 = omega arith in e) ∙ made.here);
   block = λ i below apart same_group. stored_here i ∙ stored_there new entry i b (ap (block entry) same_group ∙ placed) (omega arith)
       ∙ ap (λ bs. Some bs) (beside_it old new user name (number / 128) (number % 8) i b is_new bytes place before (subst (λ g. Had place.1 g (b, is_new)) (sym same_group) had_block) (λ same. apart (omega arith)) made);
   extent = λ i below other_group. stored_here i ∙ same_slot i other_group
       ∙ other_block old new place.1 i b (λ some. range i some) (lone (i / 8) other_group) made.rest
       ∙ sym (stored_was old user name (number / 128) i place before);
   counts = λ other apart. ap (option_map (λ e. e.records)) (found_other other apart);
-  records = λ other i apart below. ap (option_and_then (stored_in new i)) (found_other other apart) ∙ by_entry other i apart (find (is_extent_of user name other) (directory old)) refl;
+  records = λ other i apart below. ap (option_and_then (in_block new i)) (found_other other apart) ∙ by_entry other i apart (find (is_extent_of user name other) (directory old)) refl;
 }
   where
     entry : Entry
@@ -136,14 +136,14 @@ record_put old new user name number bytes place b is_new low sound sound_new fit
     found : find (is_extent_of user name (number / 128)) (directory new) ≡ Some (with_record place.1 (number % 128) b)
     found = extent_found (directory new) user name (number / 128) place.0 low sound_new (let long = length_directory old in let long_too = length_directory new in let within = fits.within in omega arith) (subst (λ x. is_extent_of user name (number / 128) x ≡ true) (sym at_place) is_extent_here) ∙ ap (λ e. Some e) at_place
 
-    stored_here : (i : ℕ) → stored new user name (number / 128) i ≡ stored_in new i (with_record place.1 (number % 128) b)
-    stored_here i = ap (option_and_then (stored_in new i)) found
+    stored_here : (i : ℕ) → block_record new user name (number / 128) i ≡ in_block new i (with_record place.1 (number % 128) b)
+    stored_here i = ap (option_and_then (in_block new i)) found
 
-    same_slot : (i : ℕ) → i / 8 ≢ number % 128 / 8 → stored_in new i (with_record place.1 (number % 128) b) ≡ stored_in new i place.1
-    same_slot i other_group = ap (λ n. if n == 0 then None else Some (record_at new (8 * n + i % 8))) (get_or-set_other place.1.blocks (number % 128 / 8) (i / 8) b 0 other_group)
+    same_slot : (i : ℕ) → i / 8 ≢ number % 128 / 8 → in_block new i (with_record place.1 (number % 128) b) ≡ in_block new i place.1
+    same_slot i other_group = ap (λ n. if n == 0 then None else Some (disk_record new (8 * n + i % 8))) (get_or-set_other place.1.blocks (number % 128 / 8) (i / 8) b 0 other_group)
 
-    range : (i : ℕ) → (block place.1 (i / 8) ≡ 0 → ⊥) → (2 ≤ block place.1 (i / 8)) × (block place.1 (i / 8) ≤ 242)
-    range i some = elim (fits.fits.blocks (i / 8)) as (λ _. (2 ≤ block place.1 (i / 8)) × (block place.1 (i / 8) ≤ 242)) [ inl none ↦ absurd (some none) | inr within ↦ within ]
+    range : (i : ℕ) → (block place.1 (i / 8) ≡ 0 → ⊥) → (2 ≤ block place.1 (i / 8)) × (block place.1 (i / 8) < 243)
+    range i some = elim (fits.fits.blocks (i / 8)) as (λ _. (2 ≤ block place.1 (i / 8)) × (block place.1 (i / 8) < 243)) [ inl none ↦ absurd (some none) | inr within ↦ within ]
 
     not_there : (other : ℕ) → other ≢ number / 128 → is_extent_of user name other (at (directory old) place.0) ≡ false
     not_there other apart = elim before as (λ _. is_extent_of user name other (at (directory old) place.0) ≡ false) [
@@ -160,7 +160,7 @@ record_put old new user name number bytes place b is_new low sound sound_new fit
       | inr away ↦ inl (ap (λ es. at es j) is ∙ get_or-set_other (directory old) place.0 j (with_record place.1 (number % 128) b) blank away)
     ])
 
-    by_entry : (other i : ℕ) → other ≢ number / 128 → (o : Option Entry) → find (is_extent_of user name other) (directory old) ≡ o → option_and_then (stored_in new i) o ≡ option_and_then (stored_in old i) o
+    by_entry : (other i : ℕ) → other ≢ number / 128 → (o : Option Entry) → find (is_extent_of user name other) (directory old) ≡ o → option_and_then (in_block new i) o ≡ option_and_then (in_block old i) o
     by_entry other i apart None is_none = refl
     by_entry other i apart (Some e) is_e =
         let (k, below_k, is_at, passes) = found_at (is_extent_of user name other) (directory old) e is_e in

@@ -1,12 +1,12 @@
 -- What the calls of a mounted disk answer, and what they leave.
-use Rattle.std.specs.Prelude.{◌≡◌, ◌≢◌, ◌<◌, ◌⊎◌, ◌*◌, ◌+◌, ℕ, Bool, true, false, List, Result, Ok, Err, replicate, slice_set, if◌then◌else◌}
+use Rattle.std.specs.Prelude.{◌≡◌, ◌≢◌, ◌<◌, ◌⊎◌, ◌*◌, ◌+◌, ℕ, Bool, true, false, List, Result, Ok, Err, replicate, slice_set, ⊤, if◌then◌else◌}
 use Rattle.cpm_image.specs.Device.{HasRisen}
 use Rattle.cpm_directory.specs.declared.entry.Entry.{Entry}
 use Rattle.cpm_directory.specs.declared.fault.DiskFault.{DiskFault}
 use Rattle.cpm_directory.specs.declared.fault.DiskFault.TheVariants as fault
 use Rattle.cpm_operations.specs.declared.placement.Placement.{Placement}
 use Rattle.cpm_operations.specs.Kept.{IsBetween}
-use Rattle.cpm_disk.specs.Image.{Image, IsOfBlock, IsOfDirectory, SameBut, directory, record_at}
+use Rattle.cpm_disk.specs.Image.{Image, IsOfBlock, IsOfDirectory, SameBut, directory, disk_record}
 
 -- A mounted disk: its device, and whether that has failed since.
 pub record Mounted (S : Type 0) : Type 0 where
@@ -14,14 +14,21 @@ pub record Mounted (S : Type 0) : Type 0 where
   pub failed : Bool
 
 -- The answer of a call. What its definition says stands in expected, the first refusal or what is to be done; finished is what
--- a call has done, by that and its answer, and stopped what it leaves where the device failed. Any other refusal changes nothing.
+-- a call has done, by that and its answer, and stopped what it leaves where the device failed. A call succeeds only where the device
+-- did not fail in it. Any other refusal changes nothing.
 abbrev pub Outcome : {S X Y : Type 0} → (S → ℕ) → Mounted S → Mounted S → Result X DiskFault → (X → Y → Type 0) → (X → Type 0) → Result Y DiskFault → Type 0
 Outcome {X = X} faults old new expected finished stopped (Ok y) =
-    (old.failed ≡ false) × (new.failed ≡ false) × (x : X) × (expected ≡ Ok x) × finished x y
+    (old.failed ≡ false) × (new.failed ≡ false) × (faults new.device ≡ faults old.device) × (x : X) × (expected ≡ Ok x) × finished x y
 Outcome {X = X} faults old new expected finished stopped (Err fault.Fault) =
     (old.failed ≡ false) × (new.failed ≡ true) × HasRisen (faults old.device) (faults new.device) × (x : X) × (expected ≡ Ok x) × stopped x
 Outcome faults old new expected finished stopped (Err fault.Failed) = (old.failed ≡ true) × (new ≡ old)
 Outcome faults old new expected finished stopped (Err refusal) = (old.failed ≡ false) × (expected ≡ Err refusal) × (new ≡ old)
+
+-- A fault that a call may answer: the device failed in it, or before it, or else what its operation refuses.
+abbrev pub FailsOr : (DiskFault → Type 0) → DiskFault → Type 0
+FailsOr refuses fault.Fault = ⊤
+FailsOr refuses fault.Failed = ⊤
+FailsOr refuses refusal = refuses refusal
 
 -- the directory changed, and nothing else
 pub record Changed (old new : Image) (entries : List Entry) : Type 0 where
@@ -35,8 +42,8 @@ pub record PartlyChanged (old new : Image) (entries : List Entry) : Type 0 where
 
 -- Record i of a block was written. The other records of a new block are zeros.
 pub record HasWritten (old new : Image) (block i : ℕ) (is_new : Bool) (bytes : List ℕ) : Type 0 where
-  pub here : record_at new (8 * block + i) ≡ bytes
-  pub beside : (j : ℕ) → j < 8 → j ≢ i → record_at new (8 * block + j) ≡ (if is_new then replicate 128 0 else record_at old (8 * block + j))
+  pub here : disk_record new (8 * block + i) ≡ bytes
+  pub beside : (j : ℕ) → j < 8 → j ≢ i → disk_record new (8 * block + j) ≡ (if is_new then replicate 128 0 else disk_record old (8 * block + j))
   pub rest : SameBut (λ n. IsOfDirectory n ⊎ IsOfBlock block n) old new
 
 -- a record was written, and then its entry
@@ -50,4 +57,4 @@ abbrev pub PartlyWritten : Image → Image → Placement → ℕ → List ℕ �
 PartlyWritten old new p i bytes =
     (HasWritten old new p.block i p.is_new bytes × IsBetween (directory old) (slice_set (directory old) p.number p.entry) (directory new))
     ⊎ ((directory new ≡ directory old) × SameBut (λ n. IsOfBlock p.block n) old new
-    × (p.is_new ≡ false → (j : ℕ) → j < 8 → (record_at new (8 * p.block + j) ≡ record_at old (8 * p.block + j)) ⊎ ((j ≡ i) × (record_at new (8 * p.block + j) ≡ bytes))))
+    × (p.is_new ≡ false → (j : ℕ) → j < 8 → (disk_record new (8 * p.block + j) ≡ disk_record old (8 * p.block + j)) ⊎ ((j ≡ i) × (disk_record new (8 * p.block + j) ≡ bytes))))

@@ -2,30 +2,31 @@
 -- two attributes. Record i of an extent is there where i is below the count and its block is. (CP/M 2.2 Alteration Guide, the directory.)
 use Rattle.std.specs.Prelude.{◌≡◌, ◌≢◌, ◌<◌, ◌⊎◌, ◌+◌, ◌/◌, ◌%◌, ◌==◌, max, replicate, unwrap_or, ℕ, true, List, Option, Some, None, find, if◌then◌else◌, option_and_then, option_map}
 use Rattle.cpm_directory.specs.declared.entry.Entry.{Entry}
-use Rattle.cpm_directory.specs.Entries.{block, has_record, is_extent_of, record_number}
+use Rattle.cpm_directory.specs.Entries.{block, has_record, is_extent_of, place_on_disk}
 use Rattle.cpm_directory.specs.Letters.{name_matches}
 use Rattle.cpm_directory.specs.Searches.{file_is_read_only, file_is_system}
-use Rattle.cpm_disk.specs.Image.{Image, directory, record_at}
+use Rattle.cpm_disk.specs.Image.{Image, directory, disk_record}
 
 -- the count of the records of a file's extent
 abbrev pub count_of : Image → ℕ → List ℕ → ℕ → Option ℕ
 count_of image user name number = option_map (λ e. e.records) (find (is_extent_of user name number) (directory image))
 
--- record i of an extent, where its block is there
-abbrev pub stored_in : Image → ℕ → Entry → Option (List ℕ)
-stored_in image i e = if block e (i / 8) == 0 then None else Some (record_at image (record_number e i))
+-- the bytes in an entry's block for record i, where it has that block, whether or not the record is there
+abbrev pub in_block : Image → ℕ → Entry → Option (List ℕ)
+in_block image i e = if block e (i / 8) == 0 then None else Some (disk_record image (place_on_disk e i))
 
-abbrev pub stored : Image → ℕ → List ℕ → ℕ → ℕ → Option (List ℕ)
-stored image user name number i = option_and_then (stored_in image i) (find (is_extent_of user name number) (directory image))
+-- the same of an extent of a file
+abbrev pub block_record : Image → ℕ → List ℕ → ℕ → ℕ → Option (List ℕ)
+block_record image user name number i = option_and_then (in_block image i) (find (is_extent_of user name number) (directory image))
 
 -- the bytes of a file's record, where it is there
-abbrev pub record_of : Image → ℕ → List ℕ → ℕ → Option (List ℕ)
-record_of image user name number = option_and_then (λ e. if has_record e (number % 128) then stored_in image (number % 128) e else None) (find (is_extent_of user name (number / 128)) (directory image))
+abbrev pub file_record : Image → ℕ → List ℕ → ℕ → Option (List ℕ)
+file_record image user name number = option_and_then (λ e. if has_record e (number % 128) then in_block image (number % 128) e else None) (find (is_extent_of user name (number / 128)) (directory image))
 
 -- a file is as before: its extents, their counts and records, and its attributes
 pub record SameFile (old new : Image) (user : ℕ) (name : List ℕ) : Type 0 where
   pub counts : (number : ℕ) → count_of new user name number ≡ count_of old user name number
-  pub records : (number i : ℕ) → i < 128 → stored new user name number i ≡ stored old user name number i
+  pub records : (number i : ℕ) → i < 128 → block_record new user name number i ≡ block_record old user name number i
   pub read_only : file_is_read_only user name (directory new) ≡ file_is_read_only user name (directory old)
   pub system : file_is_system user name (directory new) ≡ file_is_system user name (directory old)
 
@@ -35,15 +36,15 @@ OthersAreSame old new named = (user : ℕ) (name : List ℕ) → user < 32 → (
 
 -- the file of a user and a name
 abbrev pub IsFile : ℕ → List ℕ → ℕ → List ℕ → Type 0
-IsFile user name other others = (other ≡ user) × (others ≡ name)
+IsFile user name other_user other_name = (other_user ≡ user) × (other_name ≡ name)
 
 -- one of two of a user's files
 abbrev pub IsEither : ℕ → List ℕ → List ℕ → ℕ → List ℕ → Type 0
-IsEither user one two other others = (other ≡ user) × ((others ≡ one) ⊎ (others ≡ two))
+IsEither user one two other_user other_name = (other_user ≡ user) × ((other_name ≡ one) ⊎ (other_name ≡ two))
 
 -- a user's files that match a pattern
 abbrev pub IsMatched : ℕ → List ℕ → ℕ → List ℕ → Type 0
-IsMatched user pattern other others = (other ≡ user) × (name_matches pattern others ≡ true)
+IsMatched user pattern other_user other_name = (other_user ≡ user) × (name_matches pattern other_name ≡ true)
 
 -- a user has no file of a name
 abbrev pub IsNoFile : Image → ℕ → List ℕ → Type 0
@@ -52,13 +53,13 @@ IsNoFile image user name = (number : ℕ) → find (is_extent_of user name numbe
 -- a file that was made: one extent without records, and no attributes
 pub record IsNewFile (image : Image) (user : ℕ) (name : List ℕ) : Type 0 where
   pub first : count_of image user name 0 ≡ Some 0
-  pub records : (i : ℕ) → stored image user name 0 i ≡ None
+  pub records : (i : ℕ) → block_record image user name 0 i ≡ None
   pub others : (number : ℕ) → 0 < number → count_of image user name number ≡ None
 
 -- a file under another name: its extents, their counts and records, and its attributes; and no file under the old one
 pub record IsMoved (old new : Image) (user : ℕ) (from to : List ℕ) : Type 0 where
   pub counts : (number : ℕ) → count_of new user to number ≡ count_of old user from number
-  pub records : (number i : ℕ) → i < 128 → stored new user to number i ≡ stored old user from number i
+  pub records : (number i : ℕ) → i < 128 → block_record new user to number i ≡ block_record old user from number i
   pub read_only : file_is_read_only user to (directory new) ≡ file_is_read_only user from (directory old)
   pub system : file_is_system user to (directory new) ≡ file_is_system user from (directory old)
   pub gone : IsNoFile new user from
@@ -67,8 +68,8 @@ pub record IsMoved (old new : Image) (user : ℕ) (from to : List ℕ) : Type 0 
 -- is as before.
 pub record HasRecord (old new : Image) (user : ℕ) (name : List ℕ) (number : ℕ) (bytes : List ℕ) : Type 0 where
   pub count : count_of new user name (number / 128) ≡ Some (max (unwrap_or (count_of old user name (number / 128)) 0) (number % 128 + 1))
-  pub here : stored new user name (number / 128) (number % 128) ≡ Some bytes
-  pub block : (i : ℕ) → i < 128 → i ≢ number % 128 → i / 8 ≡ number % 128 / 8 → stored new user name (number / 128) i ≡ Some (unwrap_or (stored old user name (number / 128) i) (replicate 128 0))
-  pub extent : (i : ℕ) → i < 128 → i / 8 ≢ number % 128 / 8 → stored new user name (number / 128) i ≡ stored old user name (number / 128) i
+  pub here : block_record new user name (number / 128) (number % 128) ≡ Some bytes
+  pub block : (i : ℕ) → i < 128 → i ≢ number % 128 → i / 8 ≡ number % 128 / 8 → block_record new user name (number / 128) i ≡ Some (unwrap_or (block_record old user name (number / 128) i) (replicate 128 0))
+  pub extent : (i : ℕ) → i < 128 → i / 8 ≢ number % 128 / 8 → block_record new user name (number / 128) i ≡ block_record old user name (number / 128) i
   pub counts : (other : ℕ) → other ≢ number / 128 → count_of new user name other ≡ count_of old user name other
-  pub records : (other i : ℕ) → other ≢ number / 128 → i < 128 → stored new user name other i ≡ stored old user name other i
+  pub records : (other i : ℕ) → other ≢ number / 128 → i < 128 → block_record new user name other i ≡ block_record old user name other i

@@ -1,7 +1,9 @@
 -- A disk's image: its logical records, its directory, and what a change leaves as it was.
 use Rattle.std.specs.Prelude.{◌≡◌, ◌≢◌, ◌<◌, ◌≤◌, ℕ, ◌+◌, ◌*◌, ◌/◌, ◌%◌, List, [], length, map, take, drop, slice_index_or}
 use Rattle.std.specs.List.{range_with_len}
+use Rattle.cpm_image.specs.declared.format.TheConstants.{RECORD_COUNT}
 use Rattle.cpm_image.specs.Skew.{sector}
+use Rattle.cpm_directory.specs.declared.format.TheConstants.{ENTRY_COUNT}
 use Rattle.cpm_directory.specs.declared.entry.Entry.{Entry}
 use Rattle.cpm_directory.specs.Entries.{entry_of}
 
@@ -9,19 +11,16 @@ use Rattle.cpm_directory.specs.Entries.{entry_of}
 abbrev pub Image : Type 0
 Image = List (List ℕ)
 
--- the logical records are numbered from 0 below this: 243 blocks of eight
-abbrev pub record_count : ℕ
-record_count = 1944
+-- the bytes of a logical record of the disk
+abbrev pub disk_record : Image → ℕ → List ℕ
+disk_record image n = slice_index_or image (sector n) []
 
-abbrev pub record_at : Image → ℕ → List ℕ
-record_at image n = slice_index_or image (sector n) []
-
--- Blocks 0 and 1 are the directory, of 64 entries, four in each record.
+-- Blocks 0 and 1 are the directory. Each of its records has four entries.
 abbrev pub entry_at : Image → ℕ → Entry
-entry_at image k = entry_of (take 32 (drop (32 * (k % 4)) (record_at image (k / 4))))
+entry_at image k = entry_of (take 32 (drop (32 * (k % 4)) (disk_record image (k / 4))))
 
 unfoldable pub directory : Image → List Entry
-directory image = map (entry_at image) (range_with_len 0 64)
+directory image = map (entry_at image) (range_with_len 0 ENTRY_COUNT)
 
 -- the records of the directory
 abbrev pub IsOfDirectory : ℕ → Type 0
@@ -33,15 +32,15 @@ IsOfBlock b n = (8 * b ≤ n) × (n < 8 * b + 8)
 
 -- a sector of the system's tracks, or one of the last six
 abbrev pub HoldsNoRecord : ℕ → Type 0
-HoldsNoRecord s = (n : ℕ) → n < record_count → sector n ≢ s
+HoldsNoRecord s = (n : ℕ) → n < RECORD_COUNT → sector n ≢ s
 
 -- every sector is as before, but for some logical records
 pub record SameBut (P : ℕ → Type 0) (old new : Image) : Type 0 where
   pub count : length new ≡ length old
-  pub records : (n : ℕ) → n < record_count → (P n → ⊥) → record_at new n ≡ record_at old n
+  pub records : (n : ℕ) → n < RECORD_COUNT → (P n → ⊥) → disk_record new n ≡ disk_record old n
   pub system : (s : ℕ) → HoldsNoRecord s → slice_index_or new s [] ≡ slice_index_or old s []
 
 -- a write of one logical record
 pub record Wrote (old new : Image) (number : ℕ) (bytes : List ℕ) : Type 0 where
-  pub here : record_at new number ≡ bytes
+  pub here : disk_record new number ≡ bytes
   pub rest : SameBut (λ n. n ≡ number) old new

@@ -3,7 +3,7 @@ use Rattle.std.specs.Prelude.{◌≡◌, ◌%◌, ℕ, List, Result, slice_set}
 use Rattle.cpm_directory.specs.declared.fault.DiskFault.{DiskFault}
 use Rattle.cpm_operations.specs.Steps.{after_erasure, after_renaming, creation, erasure, reading, renaming, writing}
 use Rattle.cpm_disk.specs.Calls.{Changed, Mounted, Outcome, PartlyChanged, PartlyWritten, Written}
-use Rattle.cpm_disk.specs.Image.{Image, directory, record_at}
+use Rattle.cpm_disk.specs.Image.{Image, directory, disk_record}
 
 -- a new file: its entry is put, and its number answered
 abbrev pub IsCreated : {S : Type 0} → (S → Image) → (S → ℕ) → Mounted S → Mounted S → ℕ → List ℕ → Result ℕ DiskFault → Type 0
@@ -39,7 +39,7 @@ IsRenamed sectors faults old new user from to result =
 abbrev pub IsRead : {S : Type 0} → (S → Image) → (S → ℕ) → Mounted S → Mounted S → ℕ → List ℕ → ℕ → Result (List ℕ) DiskFault → Type 0
 IsRead sectors faults old new user name number result =
     Outcome faults old new (reading user name number (directory (sectors old.device)))
-    (λ place bytes. (bytes ≡ record_at (sectors old.device) place) × (sectors new.device ≡ sectors old.device))
+    (λ place bytes. (bytes ≡ disk_record (sectors old.device) place) × (sectors new.device ≡ sectors old.device))
     (λ _. sectors new.device ≡ sectors old.device)
     result
 

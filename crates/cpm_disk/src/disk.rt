@@ -1,14 +1,17 @@
 //! Mounted disks.
 
 ghost use Rattle.std.specs.Prelude.{◌≡◌, Bool};
-ghost use Rattle.cpm_disk.specs.State.{IsMounted};
+ghost use Rattle.cpm_disk.specs.Private.State.{IsMounted};
 ghost use Rattle.cpm_disk.specs.Calls.{Mounted};
 
 use crate::block::write_all;
 use crate::change::{Change, change_all};
 use crate::reader::read_entries;
 use crate::records::{read_record, store};
-use cpm_directory::{DiskFault, Entry, Listed, Name, Pattern, find, judge, list, size};
+use cpm_directory::laws::is_name;
+use cpm_directory::{
+    DiskFault, Entry, Listed, Name, Pattern, find, judge, list, position_of, size,
+};
 use cpm_image::Sectors;
 use cpm_operations::{creation, erasure, reading, renaming, writing};
 use std::alloc::Global;
@@ -16,9 +19,10 @@ use std::marker::Model;
 
 /// A mounted disk, eight inch single density: 64 entries, blocks 2 to 242 for files.
 ///
-/// Users are 0 to 31. A call that the device fails in answers Fault; then the device has, sector by sector, what it had
-/// before or what the call was to leave, the rules of a directory are kept, and every call but `unmount` answers Failed
-/// until the disk is mounted again.
+/// Users are 0 to 31. A call that the device fails in answers [`DiskFault::Fault`]. Then each entry of the directory is as
+/// it was before the call or as the call was to leave it, so that the rules of a directory are kept; of records and blocks
+/// see `write_block_of`. Every call but `unmount` answers [`DiskFault::Failed`] from then on, until the disk is mounted
+/// again.
 #[derive(Drop)]
 pub struct Disk<S: Sectors> {
     device: S,
@@ -35,22 +39,29 @@ impl<S: Sectors> Model for Disk<S> {
 }
 
 impl<S: Sectors> Disk<S> {
-    ghost use Rattle.std.specs.Prelude.{◌≡◌, ◌<◌, ◌*◌, ◌+◌, ◌%◌, Option, None, Result, replicate, length, if◌then◌else◌, slice_set, ℕ, List, Some, true, IfOk, OnOk};
-    ghost use Rattle.cpm_directory.specs.Entries.{at, bytes_of};
+    ghost use Rattle.std.specs.Prelude.{◌≡◌, ◌<◌, ◌*◌, ◌+◌, ◌%◌, IfErr, IfSome, position, Option, None, Result, replicate, length, if◌then◌else◌, slice_set, ℕ, List, Some, true, IfOk, OnOk};
+    ghost use Rattle.cpm_image.specs.declared.format.TheConstants.{SECTOR_COUNT};
+    ghost use Rattle.cpm_directory.specs.declared.format.TheConstants.{ENTRY_COUNT};
+    ghost use Rattle.cpm_directory.specs.Entries.{at, bytes_of, is_extent_of};
     ghost use Rattle.cpm_directory.specs.Letters.{name_matches};
     ghost use Rattle.cpm_directory.specs.Rules.{IsSound};
     ghost use Rattle.cpm_directory.specs.Searches.{found_from, size};
-    ghost use Rattle.cpm_disk.specs.Files.{HasRecord, IsEither, IsFile, IsMatched, IsMoved, IsNewFile, IsNoFile, OthersAreSame, record_of};
+    ghost use Rattle.cpm_operations.specs.Refusals.{RefusesCreation, RefusesErasure, RefusesReading, RefusesRenaming, RefusesWriting};
+    ghost use Rattle.cpm_disk.specs.Calls.{FailsOr};
+    ghost use Rattle.cpm_disk.specs.Files.{HasRecord, IsEither, IsFile, IsMatched, IsMoved, IsNewFile, IsNoFile, OthersAreSame, file_record};
     ghost use Rattle.cpm_disk.specs.Image.{directory};
     ghost use Rattle.cpm_disk.specs.Mounting.{IsListedBy, IsMountedFrom};
     ghost use Rattle.cpm_disk.specs.Operations.{IsCreated, IsErased, IsRead, IsRenamed, IsWritten};
 
     /// Mounts a device of 2,002 sectors.
     ///
-    /// Fault, or of the directory's entries in their order the first that is no good: BadEntry, BlockRange, BlockTwice,
-    /// NameTwice. The device comes back with its fault.
+    /// # Errors
+    ///
+    /// [`DiskFault::Fault`] where the device failed, [`DiskFault::NoMemory`]; else of the directory's entries in their order
+    /// the first that breaks a rule, and the first rule that it breaks: [`DiskFault::BadEntry`],
+    /// [`DiskFault::BlockRange`], [`DiskFault::BlockTwice`], [`DiskFault::NameTwice`]. The device comes back with the fault.
     pub fn mount(alloc: Global, mut device: S) -> Result<Disk<S>, (DiskFault, S)>
-        requires { length (S.sectors device) ≡ 2002 }
+        requires { length (S.sectors device) ≡ SECTOR_COUNT }
         ensures { IsMountedFrom S.sectors S.faults device result }
     {
         match read_entries(alloc, &mut device) {
@@ -66,9 +77,11 @@ impl<S: Sectors> Disk<S> {
         }
     }
 
-    /// Gives the device back, as it stands.
+    /// Gives the device back, as it stands. It can be mounted again, also after a failure.
     pub fn unmount(self) -> S
-        ensures { result ≡ self.device }
+        ensures device { result ≡ self.device }
+        ensures count { length (S.sectors result) ≡ SECTOR_COUNT }
+        ensures sound { IsSound (directory (S.sectors result)) }
     {
         self.device
     }
@@ -76,7 +89,9 @@ impl<S: Sectors> Disk<S> {
     /// The number of the first entry from `from` on that is of the user and matches a pattern, its extent included.
     /// `None` also after a failure.
     pub fn find(&self, user: u8, pattern: &Pattern, from: u16) -> Option<u16>
-        ensures { result ≡ (if self.now.failed then None else found_from user pattern.now from (directory (S.sectors self.now.device))) }
+        ensures found { result ≡ (if self.now.failed then None else found_from user pattern.now from (directory (S.sectors self.now.device))) }
+        ensures within { IfSome result (λ k. k < ENTRY_COUNT) }
+        ensures sound { IsSound (directory (S.sectors self.now.device)) }
     {
         if self.failed {
             return None;
@@ -84,10 +99,24 @@ impl<S: Sectors> Disk<S> {
         find(&self.entries, user, pattern, from)
     }
 
+    /// The number of the entry of a file's extent, of which there is one at the most. A `?` in the name stands for itself.
+    /// `None` also after a failure.
+    pub fn find_extent(&self, user: u8, name: &Name, extent: u8) -> Option<u16>
+        ensures found { result ≡ (if self.now.failed then None else position (is_extent_of user name.now extent) (directory (S.sectors self.now.device))) }
+        ensures within { IfSome result (λ k. k < ENTRY_COUNT) }
+        ensures sound { IsSound (directory (S.sectors self.now.device)) }
+    {
+        if self.failed {
+            return None;
+        }
+        position_of(&self.entries, user, name, extent)
+    }
+
     /// The 32 bytes of an entry. After a failure each is E5H.
     pub fn entry(&self, number: u16) -> [u8; 32]
-        requires { number < 64 }
-        ensures { result ≡ (if self.now.failed then replicate 32 0xE5 else bytes_of (at (directory (S.sectors self.now.device)) number)) }
+        requires { number < ENTRY_COUNT }
+        ensures bytes { result ≡ (if self.now.failed then replicate 32 0xE5 else bytes_of (at (directory (S.sectors self.now.device)) number)) }
+        ensures sound { IsSound (directory (S.sectors self.now.device)) }
     {
         if self.failed {
             return [0xE5; 32];
@@ -97,7 +126,8 @@ impl<S: Sectors> Disk<S> {
 
     /// The count of records up to the file's last, written or not. `None` where there is no such file, and after a failure.
     pub fn size(&self, user: u8, name: &Name) -> Option<u32>
-        ensures { result ≡ (if self.now.failed then None else size user name.now (directory (S.sectors self.now.device))) }
+        ensures size { result ≡ (if self.now.failed then None else size user name.now (directory (S.sectors self.now.device))) }
+        ensures sound { IsSound (directory (S.sectors self.now.device)) }
     {
         if self.failed {
             return None;
@@ -107,10 +137,14 @@ impl<S: Sectors> Disk<S> {
 
     /// Makes a file without records, and answers the number of its entry, the lowest free one.
     ///
-    /// Exists, DirectoryFull.
+    /// # Errors
+    ///
+    /// In this order: [`DiskFault::Failed`], [`DiskFault::Exists`], [`DiskFault::DirectoryFull`], [`DiskFault::Fault`].
     pub fn create(&mut self, user: u8, name: &Name) -> Result<u16, DiskFault>
         requires { user < 32 }
         ensures done { IsCreated S.sectors S.faults self.old self.new user name.now result }
+        ensures refusals { IfErr result (FailsOr RefusesCreation) }
+        ensures within { IfOk result (λ k. k < ENTRY_COUNT) }
         ensures made { OnOk result (IsNewFile (S.sectors self.new.device) user name.now) }
         ensures others { OthersAreSame (S.sectors self.old.device) (S.sectors self.new.device) (IsFile user name.now) }
         ensures sound { IsSound (directory (S.sectors self.new.device)) }
@@ -118,6 +152,8 @@ impl<S: Sectors> Disk<S> {
         if self.failed {
             return Err(DiskFault::Failed);
         }
+        // A law: a file is found by a name whose bytes are below 80H.
+        is_name(name);
         let (number, entry) = creation(&self.entries, user, name)?;
         match store(&mut self.device, &mut self.entries, number, entry) {
             Ok(()) => Ok(number),
@@ -130,10 +166,14 @@ impl<S: Sectors> Disk<S> {
 
     /// Erases the entries of a user that match a pattern, whatever their extents, and answers how many they were.
     ///
-    /// NotFound, ReadOnly where a file that matches is read-only.
+    /// # Errors
+    ///
+    /// In this order: [`DiskFault::Failed`], [`DiskFault::NotFound`], [`DiskFault::ReadOnly`] where one that matches is
+    /// read-only, [`DiskFault::Fault`].
     pub fn erase(&mut self, user: u8, pattern: &Pattern) -> Result<u16, DiskFault>
         requires { user < 32 }
         ensures done { IsErased S.sectors S.faults self.old self.new user pattern.now.name result }
+        ensures refusals { IfErr result (FailsOr RefusesErasure) }
         ensures gone { OnOk result ((name : List ℕ) → name_matches pattern.now.name name ≡ true → IsNoFile (S.sectors self.new.device) user name) }
         ensures others { OthersAreSame (S.sectors self.old.device) (S.sectors self.new.device) (IsMatched user pattern.now.name) }
         ensures sound { IsSound (directory (S.sectors self.new.device)) }
@@ -157,10 +197,14 @@ impl<S: Sectors> Disk<S> {
 
     /// Renames a file. The high bit of each byte of its entries' names stays.
     ///
-    /// NotFound, Exists, ReadOnly.
+    /// # Errors
+    ///
+    /// In this order: [`DiskFault::Failed`], [`DiskFault::NotFound`], [`DiskFault::Exists`], [`DiskFault::ReadOnly`],
+    /// [`DiskFault::Fault`].
     pub fn rename(&mut self, user: u8, old: &Name, new: &Name) -> Result<(), DiskFault>
         requires { user < 32 }
         ensures done { IsRenamed S.sectors S.faults self.old self.new user old.now new.now result }
+        ensures refusals { IfErr result (FailsOr RefusesRenaming) }
         ensures moved { OnOk result (IsMoved (S.sectors self.old.device) (S.sectors self.new.device) user old.now new.now) }
         ensures others { OthersAreSame (S.sectors self.old.device) (S.sectors self.new.device) (IsEither user old.now new.now) }
         ensures sound { IsSound (directory (S.sectors self.new.device)) }
@@ -168,6 +212,9 @@ impl<S: Sectors> Disk<S> {
         if self.failed {
             return Err(DiskFault::Failed);
         }
+        // A law: entries take a name of as many bytes as they have, each below 80H.
+        is_name(old);
+        is_name(new);
         renaming(&self.entries, user, old, new)?;
         let change = Change::Rename {
             user,
@@ -185,7 +232,10 @@ impl<S: Sectors> Disk<S> {
 
     /// The bytes of a file's record, counted from 0.
     ///
-    /// NotFound, TooFar above 4,095, NoExtent, Unwritten.
+    /// # Errors
+    ///
+    /// In this order: [`DiskFault::Failed`], [`DiskFault::NotFound`], [`DiskFault::TooFar`] above 4,095,
+    /// [`DiskFault::NoExtent`], [`DiskFault::Unwritten`], [`DiskFault::Fault`].
     pub fn read_block_of(
         &mut self,
         user: u8,
@@ -194,7 +244,8 @@ impl<S: Sectors> Disk<S> {
     ) -> Result<[u8; 128], DiskFault>
         requires { user < 32 }
         ensures done { IsRead S.sectors S.faults self.old self.new user name.now number result }
-        ensures found { IfOk result (λ bytes. record_of (S.sectors self.old.device) user name.now number ≡ Some bytes) }
+        ensures refusals { IfErr result (FailsOr RefusesReading) }
+        ensures found { IfOk result (λ bytes. file_record (S.sectors self.old.device) user name.now number ≡ Some bytes) }
         ensures sound { IsSound (directory (S.sectors self.new.device)) }
     {
         if self.failed {
@@ -213,7 +264,11 @@ impl<S: Sectors> Disk<S> {
 
     /// Writes a file's record, counted from 0. The other records of a block that is new are zeros.
     ///
-    /// NotFound, ReadOnly, TooFar above 4,095, DirectoryFull where it needs an extent, DiskFull where it needs a block.
+    /// # Errors
+    ///
+    /// In this order: [`DiskFault::Failed`], [`DiskFault::NotFound`], [`DiskFault::ReadOnly`], [`DiskFault::TooFar`] above
+    /// 4,095, [`DiskFault::DirectoryFull`] where it needs an extent, [`DiskFault::DiskFull`] where it needs a block,
+    /// [`DiskFault::Fault`].
     pub fn write_block_of(
         &mut self,
         user: u8,
@@ -223,6 +278,7 @@ impl<S: Sectors> Disk<S> {
     ) -> Result<(), DiskFault>
         requires { user < 32 }
         ensures done { IsWritten S.sectors S.faults self.old self.new user name.now number bytes.now result }
+        ensures refusals { IfErr result (FailsOr RefusesWriting) }
         ensures written { OnOk result (HasRecord (S.sectors self.old.device) (S.sectors self.new.device) user name.now number bytes.now) }
         ensures others { OthersAreSame (S.sectors self.old.device) (S.sectors self.new.device) (IsFile user name.now) }
         ensures sound { IsSound (directory (S.sectors self.new.device)) }
@@ -248,9 +304,12 @@ impl<S: Sectors> Disk<S> {
 
     /// The files, by user and then by name.
     ///
-    /// NoMemory.
+    /// # Errors
+    ///
+    /// [`DiskFault::Failed`], [`DiskFault::NoMemory`].
     pub fn list(&self, alloc: Global) -> Result<Vec<Listed>, DiskFault>
-        ensures { IsListedBy S.sectors (λ listed. listed.items) self.now result }
+        ensures sound { IsSound (directory (S.sectors self.now.device)) }
+        ensures listing { IsListedBy S.sectors (λ listed. listed.items) self.now result }
     {
         if self.failed {
             return Err(DiskFault::Failed);

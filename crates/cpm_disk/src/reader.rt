@@ -1,9 +1,10 @@
 //! Reading of a directory.
 
 ghost use Rattle.std.specs.Prelude.{◌≡◌, IfErr, IfOk, OnOk, length};
+ghost use Rattle.cpm_image.specs.declared.format.TheConstants.{SECTOR_COUNT};
 ghost use Rattle.cpm_directory.specs.declared.fault.DiskFault.TheVariants as DiskFault;
 ghost use Rattle.cpm_disk.specs.Image.{directory};
-ghost use Rattle.cpm_disk.specs.Mounting.{Extended, IsReadFault};
+ghost use Rattle.cpm_disk.specs.Private.Reading.{Extended, IsReadFault};
 
 use crate::records::read_record;
 use cpm_directory::{DiskFault, Entry};
@@ -26,10 +27,14 @@ fn add_entries(entries: &mut Vec<Entry>, bytes: &[u8; 128]) -> Result<(), DiskFa
 }
 
 /// The entries of a device's directory.
-pub fn read_entries<S: Sectors>(alloc: Global, device: &mut S) -> Result<Vec<Entry>, DiskFault>
-    requires { length (S.sectors device.old) ≡ 2002 }
+pub(crate) fn read_entries<S: Sectors>(
+    alloc: Global,
+    device: &mut S,
+) -> Result<Vec<Entry>, DiskFault>
+    requires { length (S.sectors device.old) ≡ SECTOR_COUNT }
     ensures entries { IfOk result (λ entries. entries.items ≡ directory (S.sectors device.old)) }
     ensures kept { S.sectors device.new ≡ S.sectors device.old }
+    ensures unfailed { OnOk result (S.faults device.new ≡ S.faults device.old) }
     ensures cause { IfErr result (IsReadFault (S.faults device.old) (S.faults device.new)) }
 {
     let mut entries = Vec::new(alloc);

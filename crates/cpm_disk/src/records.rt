@@ -2,8 +2,10 @@
 
 ghost use Rattle.std.specs.Prelude.{◌≡◌, ◌⊎◌, ◌<◌, ◌≤◌, ◌+◌, ◌*◌, ◌/◌, ℕ, drop, length, OnErr, OnOk, slice_set, take};
 ghost use Rattle.cpm_image.specs.Device.{HasCause};
+ghost use Rattle.cpm_image.specs.declared.format.TheConstants.{RECORD_COUNT, SECTOR_COUNT};
+ghost use Rattle.cpm_directory.specs.declared.format.TheConstants.{ENTRY_COUNT};
 ghost use Rattle.cpm_directory.specs.Entries.{at, entry_of};
-ghost use Rattle.cpm_disk.specs.Image.{SameBut, Wrote, directory, record_at};
+ghost use Rattle.cpm_disk.specs.Image.{SameBut, Wrote, directory, disk_record};
 ghost use Rattle.cpm_disk.specs.Calls.{Changed};
 
 use cpm_directory::Entry;
@@ -13,14 +15,14 @@ use cpm_image::{DeviceFault, Sectors, logical};
 const ENTRIES_IN_RECORD: usize = 4;
 
 /// Reads a logical record.
-pub fn read_record<S: Sectors>(
+pub(crate) fn read_record<S: Sectors>(
     device: &mut S,
     number: u32,
     bytes: &mut [u8; 128],
 ) -> Result<(), DeviceFault>
-    requires count { length (S.sectors device.old) ≡ 2002 }
-    requires number { number < 1944 }
-    ensures read { OnOk result (bytes.new ≡ record_at (S.sectors device.old) number) }
+    requires count { length (S.sectors device.old) ≡ SECTOR_COUNT }
+    requires number { number < RECORD_COUNT }
+    ensures read { OnOk result (bytes.new ≡ disk_record (S.sectors device.old) number) }
     ensures kept { S.sectors device.new ≡ S.sectors device.old }
     ensures cause { HasCause (S.faults device.old) (S.faults device.new) result }
 {
@@ -28,13 +30,13 @@ pub fn read_record<S: Sectors>(
 }
 
 /// Writes a logical record.
-pub fn write_record<S: Sectors>(
+pub(crate) fn write_record<S: Sectors>(
     device: &mut S,
     number: u32,
     bytes: &[u8; 128],
 ) -> Result<(), DeviceFault>
-    requires count { length (S.sectors device.old) ≡ 2002 }
-    requires number { number < 1944 }
+    requires count { length (S.sectors device.old) ≡ SECTOR_COUNT }
+    requires number { number < RECORD_COUNT }
     ensures written { OnOk result (Wrote (S.sectors device.old) (S.sectors device.new) number bytes.now) }
     ensures stopped { OnErr result ((S.sectors device.new ≡ S.sectors device.old) ⊎ Wrote (S.sectors device.old) (S.sectors device.new) number bytes.now) }
     ensures cause { HasCause (S.faults device.old) (S.faults device.new) result }
@@ -56,15 +58,15 @@ fn directory_record(entries: &[Entry], record: usize) -> [u8; 128]
 }
 
 /// Puts an entry into the directory, here and on the device.
-pub fn store<S: Sectors>(
+pub(crate) fn store<S: Sectors>(
     device: &mut S,
     entries: &mut [Entry],
     number: u16,
     entry: Entry,
 ) -> Result<(), DeviceFault>
-    requires count { length (S.sectors device.old) ≡ 2002 }
-    requires size { length entries.old ≡ 64 }
-    requires number { number < 64 }
+    requires count { length (S.sectors device.old) ≡ SECTOR_COUNT }
+    requires size { length entries.old ≡ ENTRY_COUNT }
+    requires number { number < ENTRY_COUNT }
     requires entries { directory (S.sectors device.old) ≡ entries.old }
     ensures entries { entries.new ≡ slice_set entries.old number entry }
     ensures stored { OnOk result (Changed (S.sectors device.old) (S.sectors device.new) entries.new) }

@@ -12,7 +12,8 @@ pub struct DeviceFault;
 
 /// A device of 128-byte sectors, numbered from 0, which counts its faults.
 ///
-/// The count never falls. At the greatest count of 64 bits it stays, and a fault counts as a rise.
+/// A call that succeeds leaves the count as it was, and one that fails raises it. At the greatest count of 64 bits it
+/// stays, and counts as raised.
 pub trait Sectors {
     /// The bytes of each sector.
     ghost sectors: { Self → List (List ℕ) };
@@ -25,6 +26,10 @@ pub trait Sectors {
         ensures { result ≡ length (sectors self.now) };
 
     /// Reads a sector. After a fault the buffer may hold anything.
+    ///
+    /// # Errors
+    ///
+    /// [`DeviceFault`] where the device failed.
     fn read(&mut self, n: u32, bytes: &mut [u8; 128]) -> Result<(), DeviceFault>
         requires { n < length (sectors self.old) }
         ensures read { OnOk result (bytes.new ≡ slice_index_or (sectors self.old) n []) }
@@ -32,6 +37,10 @@ pub trait Sectors {
         ensures cause { HasCause (faults self.old) (faults self.new) result };
 
     /// Writes a sector, and no other. After a fault the sector is as before or as written, whole.
+    ///
+    /// # Errors
+    ///
+    /// [`DeviceFault`] where the device failed.
     fn write(&mut self, n: u32, bytes: &[u8; 128]) -> Result<(), DeviceFault>
         requires { n < length (sectors self.old) }
         ensures written { OnOk result (sectors self.new ≡ slice_set (sectors self.old) n bytes.now) }

@@ -9,10 +9,13 @@ use thiserror::Error;
 /// Why bytes are no image of a disk.
 #[derive(Clone, Copy, Debug, PartialEq, Eq, Error)]
 pub enum ImageFault {
+    /// The bytes are no whole number of sectors.
     #[error("the image is not a whole number of 128-byte sectors")]
     NotSectors,
+    /// More than 256,256 bytes.
     #[error("the image is longer than 256256 bytes")]
     TooLong,
+    /// A growth was refused.
     #[error("out of memory")]
     NoMemory,
 }

@@ -4,11 +4,13 @@
 
 mod device;
 mod fault;
+mod format;
 pub mod laws;
 mod memory;
 mod skew;
 
 pub use device::{DeviceFault, Sectors};
 pub use fault::ImageFault;
+pub use format::{RECORD_COUNT, SECTOR_COUNT};
 pub use memory::MemoryImage;
 pub use skew::logical;

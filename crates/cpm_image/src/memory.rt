@@ -2,14 +2,15 @@
 
 use crate::device::{DeviceFault, Sectors};
 use crate::fault::ImageFault;
+use crate::format::SECTOR_COUNT;
 use std::alloc::Global;
 use std::marker::Model;
 
-/// How many sectors an image has: 77 tracks of 26.
-const SECTOR_COUNT: usize = 2_002;
-
 /// What a sector holds that was never written.
 const BLANK_SECTOR: [u8; 128] = [0xE5; 128];
+
+/// How many sectors an image has.
+const COUNT: usize = SECTOR_COUNT as usize;
 
 /// The image of an eight inch single density disk: 2,002 sectors of 128 bytes. A contract sees their list.
 #[derive(Debug, Drop)]
@@ -19,12 +20,13 @@ pub struct MemoryImage {
 
 impl Model for MemoryImage {
     ghost use Rattle.std.specs.Prelude.{◌≡◌, List, ℕ, length};
+    ghost use Rattle.cpm_image.specs.declared.format.TheConstants.{SECTOR_COUNT};
 
     ghost Value = { List (List ℕ) };
 
     ghost view = { λ image. image.sectors.items };
 
-    ghost invariant = { λ image. length image.sectors.items ≡ 2002 };
+    ghost invariant = { λ image. length image.sectors.items ≡ SECTOR_COUNT };
 }
 
 impl MemoryImage {
@@ -34,7 +36,10 @@ impl MemoryImage {
     /// The image that bytes hold, sector after sector. A shorter one is filled up with E5H, so that no bytes at all are
     /// a blank disk.
     ///
-    /// NotSectors where the bytes are no whole sectors, then TooLong where there are more than 256,256.
+    /// # Errors
+    ///
+    /// In this order: [`ImageFault::NotSectors`] where the bytes are no whole sectors, [`ImageFault::TooLong`] where they
+    /// are more than 256,256, [`ImageFault::NoMemory`].
     pub fn from_bytes(alloc: Global, bytes: &[u8]) -> Result<MemoryImage, ImageFault>
         ensures { IsImageOf bytes.now result }
     {
@@ -42,12 +47,12 @@ impl MemoryImage {
         if !rest.is_empty() {
             return Err(ImageFault::NotSectors);
         }
-        if given.len() > SECTOR_COUNT {
+        if given.len() > COUNT {
             return Err(ImageFault::TooLong);
         }
-        let mut sectors = Vec::with_capacity(alloc, SECTOR_COUNT)?;
+        let mut sectors = Vec::with_capacity(alloc, COUNT)?;
         sectors.extend_from_slice(given)?;
-        sectors.resize(SECTOR_COUNT, BLANK_SECTOR)?;
+        sectors.resize(COUNT, BLANK_SECTOR)?;
         Ok(MemoryImage { sectors })
     }
 
@@ -61,6 +66,7 @@ impl MemoryImage {
 
 impl Sectors for MemoryImage {
     ghost use Rattle.std.specs.Prelude.{◌≡◌, ◌<◌, [], IsOk, length, slice_index_or, slice_set};
+    ghost use Rattle.cpm_image.specs.declared.format.TheConstants.{SECTOR_COUNT};
 
     ghost sectors = { λ image. image };
 
@@ -68,7 +74,7 @@ impl Sectors for MemoryImage {
 
     fn len(&self) -> u32
         ensures len { result ≡ length self.now }
-        ensures count { result ≡ 2002 }
+        ensures count { result ≡ SECTOR_COUNT }
     {
         self.sectors.len() as u32
     }

@@ -1,18 +1,30 @@
 //! Where the logical records of a disk lie.
 
 ghost use Rattle.std.specs.Prelude.{◌≡◌, ◌<◌, ◌≤◌, ℕ};
+ghost use Rattle.cpm_image.specs.declared.format.TheConstants.{RECORD_COUNT, SECTOR_COUNT};
 ghost use Rattle.cpm_image.specs.Skew.{sector};
+
+/// Sectors of a track.
+const TRACK: u32 = 26;
+/// The tracks before the records are the system's.
+const SYSTEM_TRACKS: u32 = 2;
+/// How far apart consecutive records lie on a track, in sectors.
+const STEP: u32 = 6;
 
 /// The sector of the image, counted from 0, that holds a logical record of an eight inch single density disk.
 ///
-/// The first two tracks are the system's. On each further track consecutive records lie six sectors apart.
+/// The first two tracks are the system's. On each further track consecutive records lie six sectors apart, round and
+/// round, as the standard's translate table has it, so that a computer has time between one and the next.
 pub fn logical(number: u32) -> u32
-    requires { number < 1944 }
+    requires { number < RECORD_COUNT }
     ensures sector { result ≡ sector number }
     ensures behind_system { 52 ≤ result }
-    ensures within { result < 2002 }
-    ensures distinct { (m : ℕ) → m < 1944 → sector m ≡ sector number → m ≡ number }
+    ensures within { result < SECTOR_COUNT }
+    ensures distinct { (m : ℕ) → m < RECORD_COUNT → sector m ≡ sector number → m ≡ number }
 {
-    let place = number % 26;
-    26 * (2 + number / 26) + (6 * place % 26 + place / 13)
+    let turn = number % TRACK;
+    // Six and 26 are even: after 13 steps of six the records are back where they began, and the other 13 records of the
+    // track lie one sector further on.
+    let place = STEP * turn % TRACK + turn / (TRACK / 2);
+    TRACK * (SYSTEM_TRACKS + number / TRACK) + place
 }

@@ -1,7 +1,7 @@
-pub mod Facts
+pub mod Entries
 pub mod Results
 pub mod Sound
-pub mod Keeping
-pub mod Placing
-pub mod Locating
+pub mod Kept
+pub mod Placements
+pub mod RecordPlaces
 pub mod Worth

@@ -11,9 +11,9 @@ use Rattle.cpm_directory.specs.Searches.{file_is_read_only, free_entry, is_file}
 use Rattle.cpm_operations.specs.declared.placement.Placement.{Placement}
 use Rattle.cpm_operations.specs.Kept.{IsKeptBy, IsPut, StaysSound}
 use Rattle.cpm_operations.specs.Steps.{◌>>=◌, after_renaming, creation, given, reading, renaming, unless, writing}
-use Rattle.cpm_operations.proofs.Keeping.{creation_keeps, renaming_keeps}
-use Rattle.cpm_operations.proofs.Locating.{reading_within}
-use Rattle.cpm_operations.proofs.Placing.{writing_keeps}
+use Rattle.cpm_operations.proofs.Kept.{creation_keeps, renaming_keeps}
+use Rattle.cpm_operations.proofs.RecordPlaces.{reading_within}
+use Rattle.cpm_operations.proofs.Placements.{writing_keeps}
 use Rattle.cpm_operations.proofs.Results.{bind_ok, given_ok, unless_ok}
 
 pub created : (user : ℕ) (name : List ℕ) (entries : List Entry) (r : Result (ℕ × Entry) DiskFault) → user < 32 → letters name ≡ name → r ≡ creation user name entries → IsSound entries → IfOk r (IsPut entries)

@@ -1,6 +1,7 @@
 -- Directories that lie between one and another: where a device fails, each entry is as before or as it was to be.
 use Rattle.std.specs.Prelude.{◌≡◌, ◌≢◌, ◌<◌, ◌≤◌, ◌⊎◌, ℕ, List, length, slice_set, true}
 use Rattle.cpm_directory.specs.declared.entry.Entry.{Entry}
+use Rattle.cpm_directory.specs.declared.format.TheConstants.{BLOCK_COUNT, FIRST_BLOCK}
 use Rattle.cpm_operations.specs.declared.placement.Placement.{Placement}
 use Rattle.cpm_directory.specs.Entries.{at, block, is_extent, is_free, is_of}
 use Rattle.cpm_directory.specs.Rules.{IsSound}
@@ -25,7 +26,7 @@ pub record IsKeptBy (user : ℕ) (name : List ℕ) (entries : List Entry) (p : P
   pub within : p.number < length entries
   pub was : (is_of user name (at entries p.number) ≡ true) ⊎ (is_free (at entries p.number) ≡ true)
   pub of_file : is_of user name p.entry ≡ true
-  pub block_from : 2 ≤ p.block
-  pub block_to : p.block ≤ 242
+  pub block_from : FIRST_BLOCK ≤ p.block
+  pub block_to : p.block < BLOCK_COUNT
   pub apart : (k group : ℕ) → k ≢ p.number → is_extent (at entries k) ≡ true → block (at entries k) group ≡ p.block → ⊥
   pub sound : StaysSound entries (slice_set entries p.number p.entry)

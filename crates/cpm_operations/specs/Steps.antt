@@ -3,9 +3,10 @@ use Rattle.std.specs.Prelude.{ℕ, ◌/◌, ◌%◌, ◌==◌, Bool, true, false
 use Rattle.std.specs.List.{list_any}
 use Rattle.cpm_directory.specs.declared.entry.Entry.{Entry}
 use Rattle.cpm_directory.specs.declared.fault.DiskFault.{DiskFault}
+use Rattle.cpm_operations.specs.declared.operations.TheConstants.{LAST_RECORD}
 use Rattle.cpm_operations.specs.declared.placement.Placement.{Placement}
 use Rattle.cpm_directory.specs.declared.fault.DiskFault.TheVariants as fault
-use Rattle.cpm_directory.specs.Entries.{at, block, erased, has_record, is_extent_of, is_match, is_of, is_read_only, new_extent, record_number, renamed, with_record}
+use Rattle.cpm_directory.specs.Entries.{at, block, erased, has_record, is_extent_of, is_match, is_of, is_read_only, new_extent, place_on_disk, renamed, with_record}
 use Rattle.cpm_directory.specs.Searches.{file_is_read_only, free_block, free_entry, is_file}
 
 infixl 10 ◌>>=◌
@@ -36,8 +37,12 @@ erasure user pattern entries =
     (unless (list_any (λ e. is_match user pattern e && is_read_only e) entries) fault.ReadOnly
     (Ok (count_by (is_match user pattern) entries)))
 
+-- what erasing makes of an entry, and of all
+abbrev pub erased_by : ℕ → List ℕ → Entry → Entry
+erased_by user pattern e = if is_match user pattern e then erased e else e
+
 abbrev pub after_erasure : ℕ → List ℕ → List Entry → List Entry
-after_erasure user pattern entries = map (λ e. if is_match user pattern e then erased e else e) entries
+after_erasure user pattern entries = map (erased_by user pattern) entries
 
 -- whether a file may be renamed
 abbrev pub renaming : ℕ → List ℕ → List ℕ → List Entry → Result ⊤ DiskFault
@@ -47,23 +52,23 @@ renaming user old new entries =
     (unless (file_is_read_only user old entries) fault.ReadOnly
     (Ok tt)))
 
-abbrev pub after_renaming : ℕ → List ℕ → List ℕ → List Entry → List Entry
-after_renaming user old new entries = map (λ e. if is_of user old e then renamed new e else e) entries
+-- what renaming makes of an entry, and of all
+abbrev pub renamed_by : ℕ → List ℕ → List ℕ → Entry → Entry
+renamed_by user old new e = if is_of user old e then renamed new e else e
 
--- The last record of a file. There are 32 extents of 128 records.
-abbrev pub last_record : ℕ
-last_record = 4095
+abbrev pub after_renaming : ℕ → List ℕ → List ℕ → List Entry → List Entry
+after_renaming user old new entries = map (renamed_by user old new) entries
 
 -- the logical record of the disk that holds record i of an extent
-abbrev pub recorded : ℕ → Entry → Result ℕ DiskFault
-recorded i e = unless (not (has_record e i)) fault.Unwritten (Ok (record_number e i))
+abbrev pub written_place : ℕ → Entry → Result ℕ DiskFault
+written_place i e = unless (not (has_record e i)) fault.Unwritten (Ok (place_on_disk e i))
 
 -- the logical record of the disk that holds a file's record
 abbrev pub reading : ℕ → List ℕ → ℕ → List Entry → Result ℕ DiskFault
 reading user name number entries =
     unless (not (is_file user name entries)) fault.NotFound
-    (unless (nat_lt last_record number) fault.TooFar
-    (given (find (is_extent_of user name (number / 128)) entries) fault.NoExtent >>= recorded (number % 128)))
+    (unless (nat_lt LAST_RECORD number) fault.TooFar
+    (given (find (is_extent_of user name (number / 128)) entries) fault.NoExtent >>= written_place (number % 128)))
 
 -- the number and the entry of a file's extent, where it has one, else the lowest free entry, with the name of the file's lowest entry
 abbrev pub found_or_new : ℕ → List ℕ → ℕ → List Entry → Option ℕ → Result (ℕ × Entry) DiskFault
@@ -93,5 +98,5 @@ abbrev pub writing : ℕ → List ℕ → ℕ → List Entry → Result Placemen
 writing user name number entries =
     unless (not (is_file user name entries)) fault.NotFound
     (unless (file_is_read_only user name entries) fault.ReadOnly
-    (unless (nat_lt last_record number) fault.TooFar
+    (unless (nat_lt LAST_RECORD number) fault.TooFar
     (placing user name number entries)))

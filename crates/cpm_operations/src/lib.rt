@@ -7,5 +7,5 @@
 mod operations;
 mod placement;
 
-pub use operations::{creation, erasure, reading, renaming, writing};
+pub use operations::{LAST_RECORD, creation, erasure, reading, renaming, writing};
 pub use placement::Placement;

@@ -2,7 +2,7 @@ use Rattle.std.proofs.Common.{false, not, get_or, refl, sym, ◌∙◌, rules, t
 use Rattle.std.proofs.lemmas.Iterator.{YieldsList-from_range}
 use Rattle.std.proofs.lemmas.Iterator.Adapters.{option_map_id}
 use Rattle.std.proofs.lemmas.Iterator.Search.{find_from_yields_List}
-use Rattle.cpm_directory.proofs.Taking.{lowest}
+use Rattle.cpm_directory.proofs.TakenBlocks.{lowest}
 use Rattle.cpm_directory.proofs.blocks.free_block.Goals as goal
 
 pub returns : goal.returns

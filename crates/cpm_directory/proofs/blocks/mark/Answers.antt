@@ -1,5 +1,5 @@
 use Rattle.std.proofs.Common.{refl, arith}
-use Rattle.cpm_directory.proofs.Marking.{turn, finished}
+use Rattle.cpm_directory.proofs.Marks.{turn, finished}
 use Rattle.std.proofs.lemmas.List.{take_all}
 use Rattle.cpm_directory.proofs.blocks.mark.Goals as goal
 

@@ -1,4 +1,4 @@
-use Rattle.cpm_directory.proofs.Marking.{IsMarking}
+use Rattle.cpm_directory.proofs.Marks.{IsMarking}
 use Rattle.cpm_directory.proofs.blocks.mark.Given as goal
 
 abbrev pub invariant-loop-block : goal.invariant-loop-block

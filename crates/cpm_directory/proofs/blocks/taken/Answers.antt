@@ -1,6 +1,6 @@
 use Rattle.std.proofs.Common.{sym, ◌∙◌}
 use Rattle.std.proofs.lemmas.List.{take_all}
-use Rattle.cpm_directory.proofs.Taking.{none_taken, entry_marked, entry_passed}
+use Rattle.cpm_directory.proofs.TakenBlocks.{none_taken, entry_marked, entry_passed}
 use Rattle.cpm_directory.proofs.blocks.taken.Goals as goal
 use Rattle.cpm_directory.proofs.blocks.taken.Goals.{then-is_extent, else-is_extent}
 

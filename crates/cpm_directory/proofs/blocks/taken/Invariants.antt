@@ -1,4 +1,4 @@
-use Rattle.cpm_directory.proofs.Taking.{AreTaken}
+use Rattle.cpm_directory.proofs.TakenBlocks.{AreTaken}
 use Rattle.cpm_directory.proofs.blocks.taken.Given as goal
 
 abbrev pub invariant-loop-entry : goal.invariant-loop-entry

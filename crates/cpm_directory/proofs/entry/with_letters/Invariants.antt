@@ -1,4 +1,4 @@
-use Rattle.cpm_directory.proofs.Bytewise.{IsRenamed}
+use Rattle.cpm_directory.proofs.Bytes.{IsRenamed}
 use Rattle.cpm_directory.proofs.entry.with_letters.Given as goal
 
 abbrev pub invariant-loop-i : goal.invariant-loop-i

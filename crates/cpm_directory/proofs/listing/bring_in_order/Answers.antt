@@ -1,5 +1,5 @@
 use Rattle.std.proofs.lemmas.List.Filters.{dedup_is}
-use Rattle.cpm_directory.proofs.Arranging.{arranged}
+use Rattle.cpm_directory.proofs.Order.{arranged}
 use Rattle.cpm_directory.proofs.listing.bring_in_order.Goals as goal
 
 pub returns : goal.returns

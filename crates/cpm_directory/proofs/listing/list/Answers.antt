@@ -1,4 +1,4 @@
-use Rattle.cpm_directory.proofs.Filing.{listing}
+use Rattle.cpm_directory.proofs.FileList.{listing}
 use Rattle.cpm_directory.proofs.listing.list.Goals as goal
 
 pub returns-clause-listing : goal.returns-clause-listing

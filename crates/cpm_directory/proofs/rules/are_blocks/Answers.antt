@@ -1,7 +1,7 @@
 use Rattle.std.proofs.Common.{rules, tests}
 use Rattle.std.proofs.lemmas.Iterator.{YieldsList-from_slice, cases_from_all}
 use Rattle.cpm_directory.specs.Rules.{IsBlock}
-use Rattle.cpm_directory.proofs.Owning.{blocks_judged}
+use Rattle.cpm_directory.proofs.OwnBlocks.{blocks_judged}
 use Rattle.cpm_directory.proofs.rules.are_blocks.Goals as goal
 
 pub returns : goal.returns

@@ -2,7 +2,7 @@ use Rattle.std.proofs.Common.{rules, tests}
 use Rattle.std.proofs.lemmas.Iterator.{YieldsList-from_slice}
 use Rattle.std.proofs.lemmas.Iterator.Search.{any_from_yields_List}
 use Rattle.cpm_directory.specs.Entries.{is_extent_of}
-use Rattle.cpm_directory.proofs.Naming.{own_name}
+use Rattle.cpm_directory.proofs.Names.{own_name}
 use Rattle.cpm_directory.proofs.rules.has_own_name.Goals as goal
 
 pub returns : goal.returns

@@ -1,6 +1,6 @@
 use Rattle.std.proofs.Common.{arith, sym, ◌∙◌}
 use Rattle.std.proofs.lemmas.Result.{err_from_is_err_and}
-use Rattle.cpm_directory.proofs.Judging.{sound, start, entry_kept, entry_skipped, refused, marks_before}
+use Rattle.cpm_directory.proofs.FirstFault.{sound, start, entry_kept, entry_skipped, refused, marks_before}
 use Rattle.cpm_directory.proofs.rules.judge.Goals as goal
 use Rattle.cpm_directory.proofs.rules.judge.Goals.{then-is_extent+in_ok-judge_entry, else-is_extent}
 

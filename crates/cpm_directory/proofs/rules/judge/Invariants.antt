@@ -1,4 +1,4 @@
-use Rattle.cpm_directory.proofs.Judging.{AreJudged}
+use Rattle.cpm_directory.proofs.FirstFault.{AreJudged}
 use Rattle.cpm_directory.proofs.rules.judge.Given as goal
 
 abbrev pub invariant-loop-number : goal.invariant-loop-number

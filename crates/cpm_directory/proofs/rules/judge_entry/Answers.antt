@@ -1,5 +1,5 @@
 use Rattle.std.proofs.Common.{true, false}
-use Rattle.cpm_directory.proofs.Owning.{own_blocks}
+use Rattle.cpm_directory.proofs.OwnBlocks.{own_blocks}
 use Rattle.cpm_directory.proofs.rules.judge_entry.Goals as goal
 
 pub returns-then-not-mark-clause-judged : goal.returns-then-not-mark-clause-judged

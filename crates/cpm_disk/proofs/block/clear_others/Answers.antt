@@ -1,6 +1,6 @@
 use Rattle.std.proofs.Common.{subst}
 use Rattle.cpm_disk.specs.Image.{IsOfBlock, SameBut}
-use Rattle.cpm_disk.proofs.Clearing.{after_all, one_of}
+use Rattle.cpm_disk.proofs.Blocks.{after_all, one_of}
 use Rattle.cpm_disk.proofs.block.clear_others.Goals as goal
 
 pub returns-in_err-write_record-clause-rest : goal.returns-in_err-write_record-clause-rest

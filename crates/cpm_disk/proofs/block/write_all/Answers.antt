@@ -1,7 +1,7 @@
 use Rattle.std.proofs.Common.{◌∙◌, inr}
 use Rattle.std.proofs.lemmas.Result.{err_from_is_err_and}
 use Rattle.cpm_disk.specs.Calls.{PartlyWritten}
-use Rattle.cpm_disk.proofs.Clearing.{directory_beside, written_partly, written_whole}
+use Rattle.cpm_disk.proofs.Blocks.{directory_beside, written_partly, written_whole}
 use Rattle.cpm_disk.proofs.Outcomes.{on_err, on_ok}
 use Rattle.cpm_disk.proofs.block.write_all.Goals as goal
 

@@ -1,4 +1,4 @@
-use Rattle.cpm_disk.proofs.Clearing.{filled, filled_rest}
+use Rattle.cpm_disk.proofs.Blocks.{filled, filled_rest}
 use Rattle.cpm_disk.proofs.Outcomes.{on_ok, settled}
 use Rattle.cpm_disk.proofs.block.write_block.Goals as goal
 

@@ -1,4 +1,4 @@
-use Rattle.cpm_disk.specs.Mounting.{Extended}
+use Rattle.cpm_disk.specs.Private.Reading.{Extended}
 use Rattle.cpm_disk.proofs.reader.add_entries.Given as goal
 
 abbrev pub invariant-loop-piece : goal.invariant-loop-piece

@@ -7,7 +7,7 @@ use Rattle.cpm_disk.proofs.reader.read_entries.Given as goal
 abbrev pub invariant-loop-number : goal.invariant-loop-number
 invariant-loop-number g l = record {
   kept : g.S.Sectors.sectors l.device ≡ g.S.Sectors.sectors l.fn.device;
-  later : g.S.Sectors.faults l.fn.device ≤ g.S.Sectors.faults l.device;
+  unfailed : g.S.Sectors.faults l.device ≡ g.S.Sectors.faults l.fn.device;
   size : length l.entries.items ≡ 4 * l.number;
   read : (k : ℕ) → k < 4 * l.number → at l.entries.items k ≡ entry_at (g.S.Sectors.sectors l.fn.device) k;
 }

@@ -1,4 +1,4 @@
-use Rattle.cpm_operations.proofs.Keeping.{erasure_keeps}
+use Rattle.cpm_operations.proofs.Kept.{erasure_keeps}
 use Rattle.cpm_operations.proofs.operations.erasure.Goals as goal
 
 pub returns-clause-kept : goal.returns-clause-kept

@@ -4,4 +4,4 @@ use Rattle.cpm_operations.proofs.operations.renaming.Goals as goal
 
 pub returns-clause-kept : goal.returns-clause-kept
 returns-clause-kept c = renamed_soundly c.args.user c.args.old.now c.args.new.now c.args.entries.now c.may_rename.result c.requires
-    (c.bytes-old_letters.ensures.eleven ∙ sym c.bytes-new_letters.ensures.eleven) c.bytes-new_letters.ensures.seven c.may_rename.ensures
+    (c.is_name.ensures.eleven ∙ sym c.is_name-2.ensures.eleven) c.is_name-2.ensures.seven c.may_rename.ensures.step

@@ -2,7 +2,7 @@ use Rattle.std.proofs.Common.{refl, ap, ◌∙◌}
 use Rattle.cpm_directory.proofs.entry.Entry.to_bytes.Goals as goal
 use Rattle.std.proofs.lemmas.List.{append-nil}
 use Rattle.cpm_directory.specs.Entries.{entry_of}
-use Rattle.cpm_directory.proofs.Bytewise.{eleven, entry_of-bytes}
+use Rattle.cpm_directory.proofs.Bytes.{eleven, entry_of-bytes}
 
 pub returns-clause-bytes : goal.returns-clause-bytes
 returns-clause-bytes c =

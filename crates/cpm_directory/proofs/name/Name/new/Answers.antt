@@ -1,6 +1,6 @@
 use Rattle.std.proofs.Common.{arith}
 use Rattle.cpm_directory.proofs.name.Name.new.Goals as goal
-use Rattle.cpm_directory.proofs.Bytewise.{cut, letters-letters}
+use Rattle.cpm_directory.proofs.Bytes.{cut, letters-letters}
 
 pub invariant_of-result : goal.invariant_of-result
 invariant_of-result c =

@@ -1,4 +1,4 @@
-use Rattle.cpm_directory.proofs.Bytewise.{IsCut}
+use Rattle.cpm_directory.proofs.Bytes.{IsCut}
 use Rattle.cpm_directory.proofs.name.Name.new.Given as goal
 
 abbrev pub invariant-loop-byte : goal.invariant-loop-byte

@@ -7,7 +7,7 @@ use Rattle.cpm_disk.specs.Calls.{Changed}
 use Rattle.cpm_disk.specs.Files.{IsFile, OthersAreSame}
 use Rattle.cpm_disk.specs.Image.{directory}
 use Rattle.cpm_disk.specs.Operations.{IsCreated}
-use Rattle.cpm_disk.proofs.Ending.{partly}
+use Rattle.cpm_disk.proofs.StillMounted.{partly}
 use Rattle.cpm_disk.proofs.Maps.{made_file}
 use Rattle.cpm_disk.proofs.Others.{create_others, whole_change}
 use Rattle.cpm_disk.proofs.Outcomes.{second}
@@ -21,6 +21,7 @@ returns-in-Ok-clause-done g c =
     subst (λ old. IsCreated g.S.Sectors.sectors g.S.Sectors.faults old (record { device = c.store.new.device; failed = c.self.inside.failed }) c.args.user c.args.name.now (Ok c.in_ok-number.number)) c.self.view_is (
       c.if-self.false,
       c.if-self.false,
+      c.in-Ok.ensures.cause,
       (c.in_ok-number.number, c.in_ok-number.entry),
       asked,
       (refl, subst (Changed (g.S.Sectors.sectors c.self.inside.device) (g.S.Sectors.sectors c.store.new.device)) (c.in-Ok.ensures.entries ∙ ap (λ es. slice_set es c.in_ok-number.number c.in_ok-number.entry) (c.deref_mut.ensures.value ∙ entries)) c.in-Ok.ensures.stored),
@@ -34,7 +35,7 @@ returns-in-Err-clause-done g c =
     subst (λ old. IsCreated g.S.Sectors.sectors g.S.Sectors.faults old (record { device = c.store.new.device; failed = true }) c.args.user c.args.name.now (Err Fault)) c.self.view_is (
       c.if-self.false,
       refl,
-      c.in-Err.ensures.cause.failed,
+      c.in-Err.ensures.cause,
       (c.in_ok-number.number, c.in_ok-number.entry),
       asked,
       partly _ _ _ (second _ _ _ (subst (Changed (g.S.Sectors.sectors c.self.inside.device) (g.S.Sectors.sectors c.store.new.device)) (c.in-Err.ensures.entries ∙ ap (λ es. slice_set es c.in_ok-number.number c.in_ok-number.entry) (c.deref_mut.ensures.value ∙ entries))) c.in-Err.ensures.stopped),
@@ -47,7 +48,7 @@ returns-in-Ok-clause-others g c =
     let asked = ap (creation c.args.user c.args.name.now) (sym entries) ∙ sym c.creation.ensures.step ∙ c.in_ok-number.was in
     let put = subst (λ es. IsSound es → IsPut es (c.in_ok-number.number, c.in_ok-number.entry)) entries c.in_ok-number.ensures.kept c.self.invariant.sound in
     subst (λ old. OthersAreSame (g.S.Sectors.sectors old.device) (g.S.Sectors.sectors c.store.new.device) (IsFile c.args.user c.args.name.now)) c.self.view_is
-    (create_others _ _ c.args.user c.args.name.now (c.in_ok-number.number, c.in_ok-number.entry) c.creation.ensures.seven c.self.invariant.sound put asked
+    (create_others _ _ c.args.user c.args.name.now (c.in_ok-number.number, c.in_ok-number.entry) c.is_name.ensures.seven c.self.invariant.sound put asked
     (whole_change _ _ _ (subst (Changed (g.S.Sectors.sectors c.self.inside.device) (g.S.Sectors.sectors c.store.new.device)) (c.in-Ok.ensures.entries ∙ ap (λ es. slice_set es c.in_ok-number.number c.in_ok-number.entry) lent) c.in-Ok.ensures.stored)))
 
 pub returns-in-Err-clause-others : goal.returns-in-Err-clause-others
@@ -57,7 +58,7 @@ returns-in-Err-clause-others g c =
     let asked = ap (creation c.args.user c.args.name.now) (sym entries) ∙ sym c.creation.ensures.step ∙ c.in_ok-number.was in
     let put = subst (λ es. IsSound es → IsPut es (c.in_ok-number.number, c.in_ok-number.entry)) entries c.in_ok-number.ensures.kept c.self.invariant.sound in
     subst (λ old. OthersAreSame (g.S.Sectors.sectors old.device) (g.S.Sectors.sectors c.store.new.device) (IsFile c.args.user c.args.name.now)) c.self.view_is
-    (create_others _ _ c.args.user c.args.name.now (c.in_ok-number.number, c.in_ok-number.entry) c.creation.ensures.seven c.self.invariant.sound put asked
+    (create_others _ _ c.args.user c.args.name.now (c.in_ok-number.number, c.in_ok-number.entry) c.is_name.ensures.seven c.self.invariant.sound put asked
     (partly _ _ _ (second _ _ _ (subst (Changed (g.S.Sectors.sectors c.self.inside.device) (g.S.Sectors.sectors c.store.new.device)) (c.in-Err.ensures.entries ∙ ap (λ es. slice_set es c.in_ok-number.number c.in_ok-number.entry) lent)) c.in-Err.ensures.stopped)))
 
 pub returns-in-Ok-clause-made : goal.returns-in-Ok-clause-made
@@ -66,5 +67,5 @@ returns-in-Ok-clause-made g c =
     let lent = c.deref_mut.ensures.value ∙ c.self.invariant.entries_are c.if-self.false in
     let asked = ap (creation c.args.user c.args.name.now) (sym entries) ∙ sym c.creation.ensures.step ∙ c.in_ok-number.was in
     let put = subst (λ es. IsSound es → IsPut es (c.in_ok-number.number, c.in_ok-number.entry)) entries c.in_ok-number.ensures.kept c.self.invariant.sound in
-    made_file _ _ c.args.user c.args.name.now (c.in_ok-number.number, c.in_ok-number.entry) c.requires c.creation.ensures.seven put asked
+    made_file _ _ c.args.user c.args.name.now (c.in_ok-number.number, c.in_ok-number.entry) c.requires c.is_name.ensures.seven put asked
     (subst (Changed (g.S.Sectors.sectors c.self.inside.device) (g.S.Sectors.sectors c.store.new.device)) (c.in-Ok.ensures.entries ∙ ap (λ es. slice_set es c.in_ok-number.number c.in_ok-number.entry) lent) c.in-Ok.ensures.stored)

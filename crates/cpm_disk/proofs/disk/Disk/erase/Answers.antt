@@ -7,7 +7,7 @@ use Rattle.cpm_disk.specs.Calls.{Changed, PartlyChanged}
 use Rattle.cpm_disk.specs.Files.{IsMatched, OthersAreSame}
 use Rattle.cpm_disk.specs.Image.{directory}
 use Rattle.cpm_disk.specs.Operations.{IsErased}
-use Rattle.cpm_disk.proofs.Ending.{mounted_changed, whole}
+use Rattle.cpm_disk.proofs.StillMounted.{mounted_changed, whole}
 use Rattle.cpm_disk.proofs.Maps.{erased_file}
 use Rattle.cpm_disk.proofs.Others.{erase_others, whole_change}
 use Rattle.cpm_disk.proofs.disk.Disk.erase.Goals as goal
@@ -37,7 +37,7 @@ returns-in-Err-clause-done g c =
     subst (λ old. IsErased g.S.Sectors.sectors g.S.Sectors.faults old (record { device = c.change_all.new.device; failed = true }) c.args.user c.args.pattern.now.name (Err Fault)) c.self.view_is (
       c.if-self.false,
       refl,
-      c.in-Err.ensures.cause.failed,
+      c.in-Err.ensures.cause,
       c.in_ok-count.count,
       asked,
       subst (λ es. PartlyChanged (g.S.Sectors.sectors c.self.inside.device) (g.S.Sectors.sectors c.change_all.new.device) (after_erasure c.args.user c.args.pattern.now.name es)) (c.deref_mut.ensures.value ∙ entries) c.in-Err.ensures.stopped,

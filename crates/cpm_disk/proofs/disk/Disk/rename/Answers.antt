@@ -7,7 +7,7 @@ use Rattle.cpm_disk.specs.Calls.{Changed, PartlyChanged}
 use Rattle.cpm_disk.specs.Files.{IsEither, IsMoved, OthersAreSame}
 use Rattle.cpm_disk.specs.Image.{directory}
 use Rattle.cpm_disk.specs.Operations.{IsRenamed}
-use Rattle.cpm_disk.proofs.Ending.{mounted_changed, whole}
+use Rattle.cpm_disk.proofs.StillMounted.{mounted_changed, whole}
 use Rattle.cpm_disk.proofs.Maps.{renamed_file}
 use Rattle.cpm_disk.proofs.Others.{rename_others, whole_change}
 use Rattle.cpm_disk.proofs.disk.Disk.rename.Goals as goal
@@ -37,7 +37,7 @@ returns-in-Err-clause-done g c =
     subst (λ old. IsRenamed g.S.Sectors.sectors g.S.Sectors.faults old (record { device = c.change_all.new.device; failed = true }) c.args.user c.args.old.now c.args.new.now (Err Fault)) c.self.view_is (
       c.if-self.false,
       refl,
-      c.in-Err.ensures.cause.failed,
+      c.in-Err.ensures.cause,
       tt,
       asked,
       subst (λ es. PartlyChanged (g.S.Sectors.sectors c.self.inside.device) (g.S.Sectors.sectors c.change_all.new.device) (after_renaming c.args.user c.args.old.now c.args.new.now es)) (c.deref_mut.ensures.value ∙ entries) c.in-Err.ensures.stopped,
@@ -47,14 +47,14 @@ pub returns-in-Ok-clause-others : goal.returns-in-Ok-clause-others
 returns-in-Ok-clause-others g c =
     let entries = c.deref_mut.ensures.value ∙ c.self.invariant.entries_are c.if-self.false in
     subst (λ old. OthersAreSame (g.S.Sectors.sectors old.device) (g.S.Sectors.sectors c.change_all.new.device) (IsEither c.args.user c.args.old.now c.args.new.now)) c.self.view_is
-    (rename_others _ _ c.args.user c.args.old.now c.args.new.now c.requires c.renaming.ensures.as_long c.renaming.ensures.seven c.self.invariant.sound
+    (rename_others _ _ c.args.user c.args.old.now c.args.new.now c.requires (c.is_name.ensures.eleven ∙ sym c.is_name-2.ensures.eleven) c.is_name-2.ensures.seven c.self.invariant.sound
     (whole_change _ _ _ (subst (Changed (g.S.Sectors.sectors c.self.inside.device) (g.S.Sectors.sectors c.change_all.new.device)) (c.in-Ok.ensures.entries ∙ ap (after_renaming c.args.user c.args.old.now c.args.new.now) entries) c.in-Ok.ensures.changed)))
 
 pub returns-in-Err-clause-others : goal.returns-in-Err-clause-others
 returns-in-Err-clause-others g c =
     let entries = c.deref_mut.ensures.value ∙ c.self.invariant.entries_are c.if-self.false in
     subst (λ old. OthersAreSame (g.S.Sectors.sectors old.device) (g.S.Sectors.sectors c.change_all.new.device) (IsEither c.args.user c.args.old.now c.args.new.now)) c.self.view_is
-    (rename_others _ _ c.args.user c.args.old.now c.args.new.now c.requires c.renaming.ensures.as_long c.renaming.ensures.seven c.self.invariant.sound
+    (rename_others _ _ c.args.user c.args.old.now c.args.new.now c.requires (c.is_name.ensures.eleven ∙ sym c.is_name-2.ensures.eleven) c.is_name-2.ensures.seven c.self.invariant.sound
     (subst (λ es. PartlyChanged (g.S.Sectors.sectors c.self.inside.device) (g.S.Sectors.sectors c.change_all.new.device) (after_renaming c.args.user c.args.old.now c.args.new.now es)) entries c.in-Err.ensures.stopped))
 
 pub returns-in-Ok-clause-moved : goal.returns-in-Ok-clause-moved
@@ -63,5 +63,5 @@ returns-in-Ok-clause-moved g c =
     let asked : renaming c.args.user c.args.old.now c.args.new.now (directory (g.S.Sectors.sectors c.self.inside.device)) ≡ Ok tt =
     ap (renaming c.args.user c.args.old.now c.args.new.now) (sym (c.deref.ensures.value ∙ c.self.invariant.entries_are c.if-self.false)) ∙ sym c.renaming.ensures.step ∙ c.in_ok-renaming.was in
     subst (λ old. IsMoved (g.S.Sectors.sectors old.device) (g.S.Sectors.sectors c.change_all.new.device) c.args.user c.args.old.now c.args.new.now) c.self.view_is
-    (renamed_file _ _ c.args.user c.args.old.now c.args.new.now c.requires c.renaming.ensures.as_long c.renaming.ensures.seven c.self.invariant.sound asked
+    (renamed_file _ _ c.args.user c.args.old.now c.args.new.now c.requires (c.is_name.ensures.eleven ∙ sym c.is_name-2.ensures.eleven) c.is_name-2.ensures.seven c.self.invariant.sound asked
     (subst (Changed (g.S.Sectors.sectors c.self.inside.device) (g.S.Sectors.sectors c.change_all.new.device)) (c.in-Ok.ensures.entries ∙ ap (after_renaming c.args.user c.args.old.now c.args.new.now) entries) c.in-Ok.ensures.changed))

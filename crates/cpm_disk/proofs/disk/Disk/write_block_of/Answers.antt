@@ -7,9 +7,9 @@ use Rattle.cpm_operations.specs.Steps.{writing}
 use Rattle.cpm_disk.specs.Files.{HasRecord, IsFile, OthersAreSame}
 use Rattle.cpm_disk.specs.Image.{directory}
 use Rattle.cpm_disk.specs.Operations.{IsWritten}
-use Rattle.cpm_disk.proofs.Ending.{mounted_partly_written, mounted_written, whole, write_between}
+use Rattle.cpm_disk.proofs.StillMounted.{mounted_partly_written, mounted_written, whole, write_between}
 use Rattle.cpm_disk.proofs.Others.{whole_write, write_others}
-use Rattle.cpm_disk.proofs.Refusing.{write_refused}
+use Rattle.cpm_disk.proofs.Refusals.{write_refused}
 use Rattle.cpm_disk.proofs.Written.{record_written}
 use Rattle.cpm_disk.proofs.disk.Disk.write_block_of.Goals as goal
 
@@ -20,7 +20,7 @@ returns-in_err-place-clause-done g c =
     ap (writing c.args.user c.args.name.now c.args.number) (sym (c.deref.ensures.value ∙ entries)) ∙ sym c.in_err-place.ensures.step in
     let p = err_from_is_err_and c.from_residual.result c.from_residual.ensures.1 in
     rw (p.1, p.2) (subst (λ disk. IsWritten g.S.Sectors.sectors g.S.Sectors.faults disk disk c.args.user c.args.name.now c.args.number c.args.bytes.now (Err c.in_err-place.field-0.0)) c.self.view_is
-    (write_refused g.S.Sectors.sectors g.S.Sectors.faults _ c.args.user c.args.name.now c.args.number c.args.bytes.now c.in_err-place.field-0.0 c.if-self.false asked))
+    (write_refused g.S.Sectors.sectors g.S.Sectors.faults _ c.args.user c.args.name.now c.args.number c.args.bytes.now c.in_err-place.field-0.0 c.if-self.false asked c.in_err-place.ensures.refusals))
 
 pub invariant_of-self : goal.invariant_of-self
 invariant_of-self g c =
@@ -45,7 +45,7 @@ returns-in-Ok-clause-done g c =
     let asked : writing c.args.user c.args.name.now c.args.number (directory (g.S.Sectors.sectors c.self.inside.device)) ≡ Ok c.in_ok-place.place =
     ap (writing c.args.user c.args.name.now c.args.number) (sym (c.deref.ensures.value ∙ entries)) ∙ sym c.writing.ensures.step ∙ c.in_ok-place.was in
     subst (λ old. IsWritten g.S.Sectors.sectors g.S.Sectors.faults old (record { device = c.write_all.new.device; failed = c.self.inside.failed }) c.args.user c.args.name.now c.args.number c.args.bytes.now (Ok tt)) c.self.view_is
-    (c.if-self.false, c.if-self.false, c.in_ok-place.place, asked, c.in-Ok.ensures.written)
+    (c.if-self.false, c.if-self.false, c.in-Ok.ensures.cause, c.in_ok-place.place, asked, c.in-Ok.ensures.written)
 
 pub returns-in-Err-clause-done : goal.returns-in-Err-clause-done
 returns-in-Err-clause-done g c =
@@ -53,7 +53,7 @@ returns-in-Err-clause-done g c =
     let asked : writing c.args.user c.args.name.now c.args.number (directory (g.S.Sectors.sectors c.self.inside.device)) ≡ Ok c.in_ok-place.place =
     ap (writing c.args.user c.args.name.now c.args.number) (sym (c.deref.ensures.value ∙ entries)) ∙ sym c.writing.ensures.step ∙ c.in_ok-place.was in
     subst (λ old. IsWritten g.S.Sectors.sectors g.S.Sectors.faults old (record { device = c.write_all.new.device; failed = true }) c.args.user c.args.name.now c.args.number c.args.bytes.now (Err Fault)) c.self.view_is
-    (c.if-self.false, refl, c.in-Err.ensures.cause.failed, c.in_ok-place.place, asked, c.in-Err.ensures.stopped)
+    (c.if-self.false, refl, c.in-Err.ensures.cause, c.in_ok-place.place, asked, c.in-Err.ensures.stopped)
 
 pub returns-in-Err-clause-sound : goal.returns-in-Err-clause-sound
 returns-in-Err-clause-sound g c =

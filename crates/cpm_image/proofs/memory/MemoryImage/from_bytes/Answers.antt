@@ -1,7 +1,7 @@
 use Rattle.std.proofs.Common.{rules, ◌≡◌, ◌*◌, ◌/◌, ◌≤◌, length, arith, vec_len}
 use Rattle.std.proofs.lemmas.Grind.{common_steps}
 use Rattle.std.specs.Simd.{first_chunks}
-use Rattle.cpm_image.proofs.Filling.{resized}
+use Rattle.cpm_image.proofs.Bytes.{resized}
 use Rattle.cpm_image.proofs.memory.MemoryImage.from_bytes.Goals as goal
 
 pub returns : goal.returns

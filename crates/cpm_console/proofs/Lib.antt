@@ -1,0 +1,5 @@
+pub mod Input
+pub mod Events
+pub mod Texts
+pub mod Lines
+pub mod WrittenByte

@@ -1,0 +1,49 @@
+-- Whether an entry's name and number stand in one before it.
+use Rattle.std.proofs.Common.{◌≡◌, ◌<◌, ◌==◌, nat_lt, subst, ℕ, List, Bool, true, false, ◌&&◌, not, MatchBool, length, refl, inl, inr, sym, ◌∙◌}
+use Rattle.std.specs.List.{list_any}
+use Rattle.std.proofs.lemmas.Bool.{cases_lt, eq-eqb, eqb-true}
+use Rattle.std.proofs.lemmas.List.{get_or_past}
+use Rattle.std.proofs.lemmas.Slice.Eq.{bytes_eq-Decides}
+use Rattle.cpm_directory.specs.Types.{Entry}
+use Rattle.cpm_directory.specs.Letters.{letters}
+use Rattle.cpm_directory.specs.Entries.{at, blank, is_extent, is_extent_of}
+use Rattle.cpm_directory.specs.Rules.{HasOwnName}
+use Rattle.cpm_directory.proofs.Elements.{where_any, nowhere}
+
+pub both_true : (a b : Bool) → (a && b) ≡ true → (a ≡ true) × (b ≡ true)
+both_true true b h = (refl, h)
+both_true false b h = absurd (let e : false ≡ true = h in cc)
+
+pub true_both : (a b : Bool) → a ≡ true → b ≡ true → (a && b) ≡ true
+true_both a b p q = rw (p) q
+
+-- what the test of an extent of a file says
+pub same_extent : (user number : ℕ) (name : List ℕ) (d : Entry) → is_extent_of user name number d ≡ true → (d.user ≡ user) × (letters d.name ≡ name) × (d.extent ≡ number)
+same_extent user number name d h =
+    let parts = both_true _ (d.extent == number) h in
+    let whose = both_true (d.user == user) _ parts.0 in
+    (eqb-true _ _ whose.0, (bytes_eq-Decides (letters d.name) name).0 whose.1, eqb-true _ _ parts.1)
+
+pub extent_same : (user number : ℕ) (name : List ℕ) (d : Entry) → d.user ≡ user → letters d.name ≡ name → d.extent ≡ number → is_extent_of user name number d ≡ true
+extent_same user number name d u n x = true_both _ _ (true_both _ _ (eq-eqb _ _ u) ((bytes_eq-Decides (letters d.name) name).1 n)) (eq-eqb _ _ x)
+
+-- past the end there is no extent
+pub within_extents : (entries : List Entry) (k : ℕ) → is_extent (at entries k) ≡ true → k < length entries
+within_extents entries k extent = elim (cases_lt k (length entries)) [
+  | inl lt ↦ lt
+  | inr ge ↦ let past = get_or_past entries k blank ge in let none : false ≡ true = rw past at extent in absurd cc
+]
+
+own_name_by : (before : List Entry) (e : Entry) → is_extent e ≡ true → (b : Bool) → list_any (is_extent_of e.user (letters e.name) e.extent) before ≡ b → MatchBool (not b) (HasOwnName before e) (HasOwnName before e → ⊥)
+own_name_by before e extent true found = λ own.
+    let place = where_any (is_extent_of e.user (letters e.name) e.extent) before blank found in
+    let same = same_extent e.user e.extent (letters e.name) (at before place.0) place.2 in
+    own place.0 (subst (λ u. nat_lt u 32 ≡ true) (sym same.0) extent) same
+own_name_by before e extent false none = λ k is same.
+    let miss = nowhere (is_extent_of e.user (letters e.name) e.extent) before blank none k (within_extents before k is) in
+    let hit = extent_same e.user e.extent (letters e.name) (at before k) same.0 same.1 same.2 in
+    let clash : true ≡ false = sym hit ∙ miss in
+    absurd cc
+
+pub own_name : (before : List Entry) (e : Entry) → is_extent e ≡ true → MatchBool (not (list_any (is_extent_of e.user (letters e.name) e.extent) before)) (HasOwnName before e) (HasOwnName before e → ⊥)
+own_name before e extent = own_name_by before e extent _ refl

@@ -1,0 +1,64 @@
+-- How calls end.
+use Rattle.std.proofs.Common.{◌≡◌, ◌⊎◌, ℕ, Bool, true, List, ◌++◌, drop, length, slice_set, take, sym, ap, subst, ◌∙◌, inl, inr, take_at, true≢false}
+use Rattle.cpm_directory.specs.declared.entry.Entry.{Entry}
+use Rattle.cpm_directory.specs.Entries.{at}
+use Rattle.cpm_operations.specs.declared.placement.Placement.{Placement}
+use Rattle.cpm_operations.specs.Kept.{IsBetween, IsKeptBy, StaysSound}
+use Rattle.cpm_disk.specs.Calls.{Changed, PartlyChanged, PartlyWritten, Written}
+use Rattle.cpm_disk.specs.Image.{Image, IsOfDirectory, SameBut, directory}
+use Rattle.cpm_disk.specs.Private.State.{IsMounted}
+use Rattle.cpm_disk.proofs.Places.{same_all}
+
+pub partly : (old new : Image) (entries : List Entry) → (new ≡ old) ⊎ Changed old new entries → PartlyChanged old new entries
+partly old new entries (inl same) = record {
+  between = λ k. inl (ap (λ i. at (directory i) k) same);
+  rest = subst (λ i. SameBut IsOfDirectory old i) (sym same) (same_all IsOfDirectory old);
+}
+partly old new entries (inr made) = record { between = λ k. inr (ap (λ es. at es k) made.entries_are); rest = made.rest }
+
+-- a vector whose elements were all lent is what they are now
+pub whole : (n : ℕ) (new items : List Entry) → length new ≡ n → take n (new ++ drop (length new) items) ≡ new
+whole n new items long = take_at new (drop (length new) items) n long
+
+-- a disk whose entries changed is mounted as before
+pub mounted_changed : (image new : Image) (entries changed items : List Entry) (failed : Bool) → IsMounted image entries failed → StaysSound (directory image) changed → Changed image new changed → items ≡ changed → length changed ≡ 64 → IsMounted new items failed
+mounted_changed image new entries changed items failed was kept made same long = record {
+  count = made.rest.count ∙ was.count;
+  sound = kept (directory new) (λ k. inr (ap (λ es. at es k) made.entries_are));
+  size = ap length same ∙ long;
+  entries_are = λ _. same ∙ sym made.entries_are;
+}
+
+-- and one that was stopped keeps the rules
+pub mounted_partly : (image new : Image) (entries changed items : List Entry) (failed : Bool) → IsMounted image entries failed → StaysSound (directory image) changed → PartlyChanged image new changed → length items ≡ 64 → IsMounted new items true
+mounted_partly image new entries changed items failed was kept left long = record {
+  count = left.rest.count ∙ was.count;
+  sound = kept (directory new) left.between;
+  size = long;
+  entries_are = λ failed_is. absurd (true≢false failed_is);
+}
+
+-- what a stopped write leaves of the directory
+pub write_between : (old new : Image) (p : Placement) (i : ℕ) (bytes : List ℕ) → PartlyWritten old new p i bytes → IsBetween (directory old) (slice_set (directory old) p.number p.entry) (directory new)
+write_between old new p i bytes (inl put) = put.1
+write_between old new p i bytes (inr none) = λ k. inl (ap (λ es. at es k) none.0)
+
+write_count : (old new : Image) (p : Placement) (i : ℕ) (bytes : List ℕ) → PartlyWritten old new p i bytes → length new ≡ length old
+write_count old new p i bytes (inl put) = put.0.rest.count
+write_count old new p i bytes (inr none) = none.1.count
+
+pub mounted_written : (image new : Image) (entries items : List Entry) (failed : Bool) (user : ℕ) (name : List ℕ) (p : Placement) (i : ℕ) (bytes : List ℕ) → IsMounted image entries failed → IsKeptBy user name (directory image) p → Written image new p i bytes → items ≡ slice_set (directory image) p.number p.entry → length items ≡ 64 → IsMounted new items failed
+mounted_written image new entries items failed user name p i bytes was kept made same long = record {
+  count = made.data_are.rest.count ∙ was.count;
+  sound = kept.sound (directory new) (λ k. inr (ap (λ es. at es k) made.entries_are));
+  size = long;
+  entries_are = λ _. same ∙ sym made.entries_are;
+}
+
+pub mounted_partly_written : (image new : Image) (entries items : List Entry) (failed : Bool) (user : ℕ) (name : List ℕ) (p : Placement) (i : ℕ) (bytes : List ℕ) → IsMounted image entries failed → IsKeptBy user name (directory image) p → PartlyWritten image new p i bytes → length items ≡ 64 → IsMounted new items true
+mounted_partly_written image new entries items failed user name p i bytes was kept left long = record {
+  count = write_count image new p i bytes left ∙ was.count;
+  sound = kept.sound (directory new) (write_between image new p i bytes left);
+  size = long;
+  entries_are = λ failed_is. absurd (true≢false failed_is);
+}

@@ -1,0 +1,193 @@
+//! What a device that fails at one call leaves, for each call in turn.
+
+use crate::calls::Call;
+use crate::failing::Failing;
+use crate::support::{copy_of, disk_of, mount, mounted};
+use cpm_disk::{Disk, DiskFault, Name, Pattern};
+use cpm_image::MemoryImage;
+use std::alloc::Global;
+use std::process::Abort;
+use std::test::Fail;
+
+const FILE: [u8; 11] = *b"FILE    TXT";
+
+const OTHER: [u8; 11] = *b"OTHER   TXT";
+
+const NEW: [u8; 11] = *b"NEW     TXT";
+
+/// An image with records of a file in two extents, which lie in two records of the directory, and of another file.
+fn base(rt: &impl Abort, alloc: Global) -> Result<MemoryImage, Fail> {
+    let mut disk = disk_of(
+        rt,
+        alloc,
+        &[
+            (0, 0, OTHER, 0, 0, [0; 4]),
+            (1, 0, FILE, 0, 0, [0; 4]),
+            (2, 0x20, FILE, 0, 1, [9, 0, 0, 0]),
+            (3, 1, FILE, 0, 0, [0; 4]),
+            (9, 0, FILE, 1, 0, [0; 4]),
+        ],
+    )?;
+    for number in [0, 1, 2, 3, 9, 10, 128, 130] {
+        disk.write_block_of(
+            0,
+            &Name::new(FILE),
+            number,
+            &[(number % 100) as u8 + 1; 128],
+        )?;
+    }
+    disk.write_block_of(0, &Name::new(OTHER), 0, &[0xAA; 128])?;
+    Ok(disk.unmount())
+}
+
+/// What can be seen of a disk: its entries, and what reading the records of the file answers.
+#[derive(Drop)]
+struct Seen {
+    entries: Vec<[u8; 32]>,
+    records: Vec<Result<[u8; 128], DiskFault>>,
+}
+
+/// What can be seen once an image is mounted again.
+fn look_at(rt: &impl Abort, alloc: Global, image: MemoryImage) -> Result<Seen, Fail> {
+    let mut disk = mounted(rt, alloc, image)?;
+    let mut entries = Vec::with_capacity(alloc, 64)?;
+    for at in 0..64 {
+        entries.push(disk.entry(at))?;
+    }
+    let mut records = Vec::new(alloc);
+    for number in [
+        0, 1, 2, 3, 4, 7, 8, 9, 10, 11, 15, 16, 23, 24, 128, 129, 130, 131, 256, 300, 303,
+    ] {
+        records.push(disk.read_block_of(0, &Name::new(FILE), number))?;
+    }
+    Ok(Seen { entries, records })
+}
+
+/// Asserts what a disk answers whose device has failed.
+fn assert_failed(rt: &impl Abort, alloc: Global, disk: &mut Disk<Failing>) -> Result<(), Fail> {
+    let any = Pattern {
+        name: *b"???????????",
+        extent: 0x3F,
+    };
+    assert_eq!(rt; disk.find(0, &any, 0), None);
+    assert_eq!(rt; disk.entry(0), [0xE5; 32]);
+    assert_eq!(rt; disk.entry(63), [0xE5; 32]);
+    assert_eq!(rt; disk.find_extent(0, &Name::new(FILE), 0), None);
+    assert_eq!(rt; disk.size(0, &Name::new(FILE)), None);
+    assert!(rt; matches!(disk.list(alloc), Err(DiskFault::Failed)));
+    for call in [
+        Call::Create(*b"FRESH   TXT"),
+        Call::Create(OTHER),
+        Call::Erase(OTHER),
+        Call::Rename(OTHER, *b"FRESH   TXT"),
+        Call::Read(OTHER, 0),
+        Call::Read(OTHER, 5_000),
+        Call::Write(OTHER, 0, 1),
+        Call::Write(NEW, 5_000, 1),
+    ] {
+        assert_eq!(rt; call.make(disk), Err(DiskFault::Failed), "{call:?}");
+    }
+    Ok(())
+}
+
+/// Asserts that each entry is as before or as the finished call leaves it, and so are the file's records where the call is no
+/// change of names: all as before, or all as after.
+fn assert_between(rt: &impl Abort, call: Call, now: &Seen, before: &Seen, after: &Seen) {
+    for ((entry, old), new) in now.entries.iter().zip(&before.entries).zip(&after.entries) {
+        assert!(rt; entry == old || entry == new, "{entry:?} by {call:?}");
+    }
+    if matches!(call, Call::Write(..) | Call::Read(..) | Call::Create(..)) {
+        assert!(rt;
+            now.records.as_slice() == before.records.as_slice()
+                || now.records.as_slice() == after.records.as_slice(),
+            "by {call:?}"
+        );
+    }
+}
+
+/// A call on a device that fails at one of its calls. Whether it met the fault.
+fn meets_fault(
+    rt: &impl Abort,
+    alloc: Global,
+    image: MemoryImage,
+    call: Call,
+    fault_at: (u32, bool),
+    states: (&Seen, &Seen),
+) -> Result<bool, Fail> {
+    let (before, after) = states;
+    let mut disk = match mount(rt, alloc, Failing::new(image, fault_at.0, fault_at.1)) {
+        Ok(disk) => disk,
+        Err((DiskFault::Fault, device)) => {
+            let now = look_at(rt, alloc, device.into_image())?;
+            assert_between(rt, call, &now, before, before);
+            return Ok(true);
+        }
+        Err((fault, _)) => return Err(Fail::from(fault)),
+    };
+    let met = call.make(&mut disk) == Err(DiskFault::Fault);
+    if met {
+        assert_failed(rt, alloc, &mut disk)?;
+    }
+    let now = look_at(rt, alloc, disk.unmount().into_image())?;
+    let before = if met { before } else { after };
+    assert_between(rt, call, &now, before, after);
+    Ok(met)
+}
+
+/// A call on devices that fail at each of their calls in turn, until a run meets no fault.
+fn assert_stops(rt: &impl Abort, alloc: Global, call: Call) -> Result<(), Fail> {
+    let image = base(rt, alloc)?;
+    let before = look_at(rt, alloc, copy_of(alloc, &image)?)?;
+    let mut disk = mounted(rt, alloc, copy_of(alloc, &image)?)?;
+    call.make(&mut disk)?;
+    let after = look_at(rt, alloc, disk.unmount())?;
+    for writes in [false, true] {
+        let mut runs = 0;
+        for k in 0..100 {
+            let met = meets_fault(
+                rt,
+                alloc,
+                copy_of(alloc, &image)?,
+                call,
+                (k, writes),
+                (&before, &after),
+            )?;
+            if !met {
+                break;
+            }
+            runs = k;
+        }
+        // The sixteen records of the directory are read, and one record more is read or written at least.
+        assert!(rt; 16 <= runs && runs < 50, "{runs} runs of {call:?}");
+    }
+    Ok(())
+}
+
+#[test]
+fn entries_old_or_new(rt: HostRuntime) -> Result<(), Fail> {
+    for call in [
+        Call::Create(NEW),
+        Call::Erase(OTHER),
+        Call::Erase(*b"????????TXT"),
+        Call::Rename(FILE, NEW),
+    ] {
+        assert_stops(&rt, rt.alloc(), call)?;
+    }
+    Ok(())
+}
+
+#[test]
+fn records_old_or_new(rt: HostRuntime) -> Result<(), Fail> {
+    for call in [
+        Call::Read(FILE, 9),
+        // A record that is there, one past the last in a block that is there, a new block, and new extents.
+        Call::Write(FILE, 2, 0x77),
+        Call::Write(FILE, 11, 0x77),
+        Call::Write(FILE, 23, 0x77),
+        Call::Write(FILE, 131, 0x77),
+        Call::Write(FILE, 300, 0x77),
+    ] {
+        assert_stops(&rt, rt.alloc(), call)?;
+    }
+    Ok(())
+}
