@@ -5,7 +5,7 @@ use Rattle.std.specs.List.{slice_get}
 use Rattle.ruler.specs.declared.shape.Statement.{Statement}
 use Rattle.ruler.specs.declared.shape.Statement.TheVariants.{Fixed, Jump, Short}
 use Rattle.ruler.specs.declared.limits.TheConstants.{MAX_TOTAL}
-use Rattle.ruler.specs.Choice.{Choice, bytes_before, chosen, place, total, IsJump, IsShort, IsSettled, Reaches}
+use Rattle.ruler.specs.Choice.{Choice, bytes_before, chosen, total, IsJump, IsNear, IsShort, IsSettled, Reaches}
 use Rattle.relax.specs.declared.growth.Growth.{Growth}
 use Rattle.relax.specs.declared.growth.Verdict.TheVariants.{Range, TooLarge}
 use Rattle.relax.specs.Growth.{Holds, IsGrowth}
@@ -30,9 +30,8 @@ over_127_settled : IsSettled all_short over_127
 unfolding bytes_before
 over_127_settled zero t jump short =
     let there : 2 ≡ t = cc jump in
-    let from : place all_short over_127 0 ≡ 256 = refl in
-    let to : place all_short over_127 2 ≡ 385 = refl in
-    subst (Reaches all_short over_127 0) there (rw (from, to) (omega arith, omega arith))
+    let near : IsNear 256 385 = (omega arith, omega arith) in
+    subst (Reaches all_short over_127 0) there near
 over_127_settled (suc zero) t jump short = absurd (cc jump)
 over_127_settled (suc (suc zero)) t jump short = absurd (cc jump)
 over_127_settled (suc (suc (suc k))) t jump short = absurd (cc jump)
@@ -49,15 +48,13 @@ both_or_none_settled : IsSettled all_short both_or_none
 unfolding bytes_before
 both_or_none_settled zero t jump short =
     let there : 4 ≡ t = cc jump in
-    let from : place all_short both_or_none 0 ≡ 256 = refl in
-    let to : place all_short both_or_none 4 ≡ 385 = refl in
-    subst (Reaches all_short both_or_none 0) there (rw (from, to) (omega arith, omega arith))
+    let near : IsNear 256 385 = (omega arith, omega arith) in
+    subst (Reaches all_short both_or_none 0) there near
 both_or_none_settled (suc zero) t jump short = absurd (cc jump)
 both_or_none_settled (suc (suc zero)) t jump short =
     let there : 0 ≡ t = cc jump in
-    let from : place all_short both_or_none 2 ≡ 382 = refl in
-    let to : place all_short both_or_none 0 ≡ 256 = refl in
-    subst (Reaches all_short both_or_none 2) there (rw (from, to) (omega arith, omega arith))
+    let near : IsNear 382 256 = (omega arith, omega arith) in
+    subst (Reaches all_short both_or_none 2) there near
 both_or_none_settled (suc (suc (suc zero))) t jump short = absurd (cc jump)
 both_or_none_settled (suc (suc (suc (suc k)))) t jump short = absurd (cc jump)
 
@@ -74,9 +71,8 @@ unfolding bytes_before
 just_in_range_settled zero t jump short = absurd (cc jump)
 just_in_range_settled (suc zero) t jump short =
     let there : 2 ≡ t = cc jump in
-    let from : place all_short just_in_range 1 ≡ 258 = refl in
-    let to : place all_short just_in_range 2 ≡ 260 = refl in
-    subst (Reaches all_short just_in_range 1) there (rw (from, to) (omega arith, omega arith))
+    let near : IsNear 258 260 = (omega arith, omega arith) in
+    subst (Reaches all_short just_in_range 1) there near
 just_in_range_settled (suc (suc zero)) t jump short = absurd (cc jump)
 just_in_range_settled (suc (suc (suc zero))) t jump short = absurd (cc jump)
 just_in_range_settled (suc (suc (suc (suc k)))) t jump short = absurd (cc jump)
@@ -85,9 +81,8 @@ just_in_range_reaches : (t : ℕ) → IsShort just_in_range 0 t → Reaches all_
 unfolding bytes_before
 just_in_range_reaches t short =
     let there : 3 ≡ t = cc short in
-    let from : place all_short just_in_range 0 ≡ 256 = refl in
-    let to : place all_short just_in_range 3 ≡ 385 = refl in
-    subst (Reaches all_short just_in_range 0) there (rw (from, to) (omega arith, omega arith))
+    let near : IsNear 256 385 = (omega arith, omega arith) in
+    subst (Reaches all_short just_in_range 0) there near
 
 -- so it is not out of range, as it is where ranges are judged with every jump long
 pub not_judged_all_long : (g : Growth) → IsGrowth just_in_range g → g.verdict ≢ Range 0
@@ -104,8 +99,8 @@ unfolding bytes_before
 just_enough_settled zero t jump short = absurd (cc jump)
 just_enough_settled (suc zero) t jump short =
     let there : 1 ≡ t = cc jump in
-    let from : place all_short just_enough 1 ≡ 64766 = refl in
-    subst (Reaches all_short just_enough 1) there (rw from (omega arith, omega arith))
+    let near : IsNear 64766 64766 = (omega arith, omega arith) in
+    subst (Reaches all_short just_enough 1) there near
 just_enough_settled (suc (suc k)) t jump short = absurd (cc jump)
 
 just_enough_total : total all_short just_enough ≡ 64512
