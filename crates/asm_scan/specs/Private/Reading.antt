@@ -1,5 +1,4 @@
--- How the code reads the front of a line, step by step. Private contracts alone cite this file: nobody need believe it,
--- since proofs/ ties it to specs/Tokens.antt.
+-- How the code reads the front of a line, step by step.
 use Rattle.std.specs.Prelude.{ℕ, ◌+◌, List, [], ◌∷◌, Option, Some, None, Result, Ok, Err, Bool, false, ◌==◌, ◌&&◌, if◌then◌else◌, nat_eq, take, drop, find, codes}
 use Rattle.std.specs.List.{prefix_len, starts_with}
 use Rattle.std.specs.Char.{is_ascii_digit, is_ascii_alphanumeric, to_ascii_uppercase}
