@@ -15,7 +15,7 @@ use Rattle.asm_stmt.specs.declared.form.Field.TheVariants.{Byte}
 use Rattle.asm_stmt.specs.declared.form.Branch.TheVariants.{Relative}
 use Rattle.asm_stmt.specs.declared.names.Word.{Word}
 use Rattle.asm_stmt.specs.declared.names.Word.TheVariants.{Nop, Ret, Db, Ds, Jp, Jr}
-use Rattle.asm_parse.specs.Words.{upper, is_reserved}
+use Rattle.asm_words.specs.Words.{upper, is_reserved}
 use Rattle.asm_stmt.specs.Names.{word_of}
 use Rattle.asm_stmt.specs.Statement.{Statement, Code, Data, Space, Jump, Short, Line}
 

@@ -1,5 +1,4 @@
--- How the code reads symbols, step by step. Private contracts alone cite this file: nobody need believe it, since proofs/ ties it to
--- specs/Grammar.antt.
+-- How the code reads symbols, step by step.
 use Rattle.std.specs.Prelude.{◌-◌, ℕ, List, [], ◌∷◌, Option, Some, None, if◌then◌else◌, nat_le}
 use Rattle.asm_parse.specs.declared.operator.Binary.{Binary}
 use Rattle.asm_parse.specs.declared.sign.Sign.{Sign}

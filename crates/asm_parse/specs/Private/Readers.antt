@@ -1,4 +1,4 @@
--- The state of the code that reads symbols. Private contracts alone cite this file.
+-- The state of the code that reads symbols.
 use Rattle.std.specs.Prelude.{◌≡◌, ◌-◌, ℕ, Bool, true, false, List, Option, Some, None, Result, length, map, drop, slice_get}
 use Rattle.asm_parse.specs.declared.fault.ExprFault.{ExprFault}
 use Rattle.asm_parse.specs.declared.reader.Operator.{Operator}
@@ -6,8 +6,8 @@ use Rattle.asm_parse.specs.declared.reader.Pending.{Pending}
 use Rattle.asm_parse.specs.declared.reader.Reader.{Reader}
 use Rattle.asm_parse.specs.Source.{source_item}
 use Rattle.asm_parse.specs.Grammar.{Symbol, Phrase, prefix_level, infix_level}
-use Rattle.asm_parse.specs.Parsing.{Frame, Inside, Under, State, reading, start}
-use Rattle.asm_parse.specs.Stacks.{Holds, Answers}
+use Rattle.asm_parse.specs.Private.Parsing.{Frame, Inside, Under, State, reading, start}
+use Rattle.asm_parse.specs.Private.Stacks.{Holds, Answers}
 
 abbrev pub HoldsIn : List Frame → Option Phrase → Reader → Type 0
 HoldsIn frames operand r = Holds (record { frames = frames; operand = operand }) r.pending.items (map source_item r.items.items) r.deepest r.complete

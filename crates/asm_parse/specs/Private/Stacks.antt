@@ -1,4 +1,4 @@
--- The stacks of the code that reads symbols. Private contracts alone cite this file.
+-- The stacks of the code that reads symbols.
 use Rattle.std.specs.Prelude.{◌≡◌, ◌-◌, ℕ, ◌+◌, max, Bool, List, [], ◌∷◌, ◌++◌, Option, Some, None, Result, Ok, Err, length, slice_get, is_some}
 use Rattle.asm_parse.specs.declared.fault.ExprFault.{ExprFault}
 use Rattle.asm_parse.specs.declared.item.Item.{Item}
@@ -9,7 +9,7 @@ use Rattle.asm_parse.specs.declared.reader.Pending.{Pending}
 use Rattle.asm_parse.specs.Expression.{postfix}
 use Rattle.asm_parse.specs.Source.{Operand, operand}
 use Rattle.asm_parse.specs.Grammar.{Symbol, Term, Marked, Foreign, Phrase, prefix_level, infix_level, depth, expression}
-use Rattle.asm_parse.specs.Parsing.{Frame, Inside, Under, RightOf, State}
+use Rattle.asm_parse.specs.Private.Parsing.{Frame, Inside, Under, RightOf, State}
 
 abbrev pub part_symbol : Part → Symbol
 part_symbol (Part.Term t) = Term (operand t)

@@ -19,14 +19,14 @@ use Rattle.asm_parse.specs.declared.reader.Pending.{Pending}
 use Rattle.asm_parse.specs.Expression.{postfix}
 use Rattle.asm_parse.specs.Source.{Operand}
 use Rattle.asm_parse.specs.Grammar.{Phrase, Prefixed, Joined, prefix_level, infix_level, depth, expression, Symbol, Spells, IsParsed, symbol}
-use Rattle.asm_parse.specs.Parsing.{Frame, Inside, Under, RightOf, State, reduce, room, enclosed, sign_before, sign_behind, under_prefix, right_of, ended, finish, finish_by, reading, step, start}
+use Rattle.asm_parse.specs.Private.Parsing.{Frame, Inside, Under, RightOf, State, reduce, room, enclosed, sign_before, sign_behind, under_prefix, right_of, ended, finish, finish_by, reading, step, start}
 use Rattle.asm_parse.specs.Words.{prefix_of, infix_of}
-use Rattle.asm_parse.specs.Stacks.{open_in, open_of, opened, pendings, written, items_of, depth_around, depth_of, Holds, Answers, IsReduced}
-use Rattle.asm_parse.specs.Readers.{frame_of, opens, room_in, room_of, Reads, ReadIn}
+use Rattle.asm_parse.specs.Private.Stacks.{open_in, open_of, opened, pendings, written, items_of, depth_around, depth_of, Holds, Answers, IsReduced}
+use Rattle.asm_parse.specs.Private.Readers.{frame_of, opens, room_in, room_of, Reads, ReadIn}
 use Rattle.asm_parse.proofs.Depths.{depth_more, depth_reduced, max_zero}
-use Rattle.asm_parse.proofs.Parsing.{taking, joining, prefix_seven, infix_seven, complete}
-use Rattle.asm_parse.proofs.Sounding.{sound}
-use Rattle.asm_parse.proofs.Stacking.{not_empty, last_same}
+use Rattle.asm_parse.proofs.Completeness.{taking, joining, prefix_seven, infix_seven, complete}
+use Rattle.asm_parse.proofs.Soundness.{sound}
+use Rattle.asm_parse.proofs.Stacks.{not_empty, last_same}
 
 get-last : (xs : List Pending) (x : Pending) → slice_get (xs ++ x ∷ []) (length xs) ≡ Some x
 get-last [] x = refl

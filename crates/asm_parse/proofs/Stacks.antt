@@ -9,9 +9,9 @@ use Rattle.asm_parse.specs.declared.reader.Pending.{Pending}
 use Rattle.asm_parse.specs.Expression.{postfix}
 use Rattle.asm_parse.specs.Source.{Operand}
 use Rattle.asm_parse.specs.Grammar.{Phrase, Prefixed, Joined, prefix_level, infix_level, expression}
-use Rattle.asm_parse.specs.Parsing.{Frame, Inside, Under, RightOf, reduce}
-use Rattle.asm_parse.proofs.Parsing.{taking, joining}
-use Rattle.asm_parse.specs.Stacks.{level_of, pendings, written, closed_item, closed_by, IsReduced}
+use Rattle.asm_parse.specs.Private.Parsing.{Frame, Inside, Under, RightOf, reduce}
+use Rattle.asm_parse.proofs.Completeness.{taking, joining}
+use Rattle.asm_parse.specs.Private.Stacks.{level_of, pendings, written, closed_item, closed_by, IsReduced}
 
 -- What is left to take while the stacks hold some frames.
 pub record Reducing (level : ℕ) (whole : List Frame × Phrase) (pending : List Pending) (items : List (Item Operand)) : Type 0 where

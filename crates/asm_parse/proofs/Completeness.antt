@@ -7,7 +7,7 @@ use Rattle.asm_parse.specs.declared.sign.Sign.{Sign}
 use Rattle.asm_parse.specs.declared.sign.Prefix.{Prefix}
 use Rattle.asm_parse.specs.Expression.{and_then}
 use Rattle.asm_parse.specs.Grammar.{Symbol, Marked, Phrase, Single, Enclosed, Prefixed, Joined, prefix_level, infix_level, looseness, IsGrouped, prefix_sign, infix_sign, spelling, Spells}
-use Rattle.asm_parse.specs.Parsing.{Frame, Inside, Under, RightOf, State, room, reduce, under_prefix, right_of, enclosed, sign_before, sign_behind, ended, reading, start}
+use Rattle.asm_parse.specs.Private.Parsing.{Frame, Inside, Under, RightOf, State, room, reduce, under_prefix, right_of, enclosed, sign_before, sign_behind, ended, reading, start}
 
 -- The levels of infix operators are none of those of prefix operators, and all are 7 at most.
 pub infix_two : (o : Binary) → 2 ≤ infix_level o

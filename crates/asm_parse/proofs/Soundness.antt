@@ -8,8 +8,8 @@ use Rattle.asm_parse.specs.declared.sign.Prefix.{Prefix}
 use Rattle.asm_parse.specs.Expression.{and_then}
 use Rattle.asm_parse.specs.Words.{prefix_of, infix_of}
 use Rattle.asm_parse.specs.Grammar.{Symbol, Term, Marked, Foreign, Phrase, Single, Enclosed, Prefixed, Joined, prefix_level, infix_level, looseness, IsGrouped, prefix_sign, infix_sign, spelling, Spells}
-use Rattle.asm_parse.specs.Parsing.{Frame, Inside, Under, RightOf, State, room, reduce, under_prefix, right_of, enclosed, sign_before, sign_behind, step_by, step, ended, finish_by, reading, start}
-use Rattle.asm_parse.proofs.Parsing.{infix_two, infix_seven}
+use Rattle.asm_parse.specs.Private.Parsing.{Frame, Inside, Under, RightOf, State, room, reduce, under_prefix, right_of, enclosed, sign_before, sign_behind, step_by, step, ended, finish_by, reading, start}
+use Rattle.asm_parse.proofs.Completeness.{infix_two, infix_seven}
 
 -- what frames have read
 abbrev pub read_by : List Frame → List Symbol
