@@ -1,49 +1,140 @@
 -- Fixed expressions have one value, and reducing keeps every value.
-use Rattle.std.proofs.Common.{◌≡◌, ℕ, Option, Some, None, refl, sym, ap, ◌∙◌}
-use Rattle.std.specs.Option.{option_map}
-use Rattle.asm_expr.specs.Types.{Binary, Atom}
+use Rattle.std.proofs.Common.{◌≡◌, ℕ, refl, sym, ap, ◌∙◌}
+use Rattle.asm_expr.specs.Types.{Unary, Binary, Atom, Worth, Unknown}
+use Rattle.asm_expr.specs.declared.part.Part.{Part}
 use Rattle.asm_expr.specs.Arithmetic.{unary, binary}
 use Rattle.asm_parse.specs.Expression.{Expression, Leaf, Prefix, Infix}
 use Rattle.asm_expr.specs.Items.{value}
+use Rattle.asm_expr.specs.Distances.{Step}
 use Rattle.asm_expr.specs.Names.{Table}
-use Rattle.asm_expr.specs.Settling.{difference, or_else, both, fixed, number_or, reduced, Agrees}
+use Rattle.asm_expr.specs.Settling.{known, difference, or_else, through, both, worth, leaf_or, reduced}
+use Rattle.asm_expr.proofs.Places.{one_distance}
 
-option_map_some : (f : ℕ → ℕ) (o : Option ℕ) (n : ℕ) → option_map f o ≡ Some n → (m : ℕ) × (o ≡ Some m) × (f m ≡ n)
-option_map_some f None n e = cc
-option_map_some f (Some m) n e = (m, refl, cc)
+through_number : (f : ℕ → ℕ) (w : Worth) (n : ℕ) → through f w ≡ Worth.Number n → (m : ℕ) × (w ≡ Worth.Number m) × (f m ≡ n)
+through_number f (Worth.Number m) n e = (m, refl, cc)
+through_number f Worth.Unknown n e = cc
+through_number f Worth.Varies n e = cc
 
-both_some : (f : ℕ → ℕ → ℕ) (o p : Option ℕ) (n : ℕ) → both f o p ≡ Some n → (a : ℕ) × (b : ℕ) × (o ≡ Some a) × (p ≡ Some b) × (f a b ≡ n)
-both_some f None p n e = cc
-both_some f (Some a) None n e = cc
-both_some f (Some a) (Some b) n e = (a, b, refl, refl, cc)
+both_number : (f : ℕ → ℕ → ℕ) (v w : Worth) (n : ℕ) → both f v w ≡ Worth.Number n → (a : ℕ) × (b : ℕ) × (v ≡ Worth.Number a) × (w ≡ Worth.Number b) × (f a b ≡ n)
+both_number f (Worth.Number a) w n e = let m = through_number (f a) w n e in (a, m.0, refl, m.1, m.2)
+both_number f Worth.Unknown (Worth.Number b) n e = cc
+both_number f Worth.Unknown Worth.Unknown n e = cc
+both_number f Worth.Unknown Worth.Varies n e = cc
+both_number f Worth.Varies w n e = cc
 
-difference_value : (t : Table) (places : ℕ → ℕ) → Agrees t places → (op : Binary) (a b : Expression Atom) (n : ℕ) → difference t op a b ≡ Some n → value places (Infix op a b) ≡ n
-difference_value t places agrees Binary.Subtract (Leaf (Atom.Ref p)) (Leaf (Atom.Ref q)) n is = agrees p q n is
-difference_value t places agrees op a b n is = cc
+difference_value : (t : Table) (places : ℕ → ℕ) → Step t.statements places → (op : Binary) (a b : Expression Atom) (n : ℕ) → difference t op (known a) (known b) ≡ Worth.Number n
+    → value places (Infix op a b) ≡ n
+difference_value t places step Binary.Subtract (Leaf (Atom.Ref p)) (Leaf (Atom.Ref q)) n is = one_distance t.statements places step p q n is
+difference_value t places step op a b n is = cc
 
-pub fixed_value : (t : Table) (places : ℕ → ℕ) → Agrees t places → (e : Expression Atom) (n : ℕ) → fixed t e ≡ Some n → value places e ≡ n
-fixed_value t places agrees (Leaf (Atom.Number m)) n is = cc
-fixed_value t places agrees (Leaf (Atom.Ref r)) n is = cc
-fixed_value t places agrees (Prefix op a) n is =
-    let m = option_map_some (unary op) (fixed t a) n is in
-    ap (unary op) (fixed_value t places agrees a m.0 m.1) ∙ m.2
-fixed_value t places agrees (Infix op a b) n is =
-    elim (difference t op a b) as (λ o. difference t op a b ≡ o → or_else o (both (binary op) (fixed t a) (fixed t b)) ≡ Some n → value places (Infix op a b) ≡ n) [
-      | Some m ↦ λ was e. difference_value t places agrees op a b n (was ∙ e)
-      | None ↦ λ was e.
-          let m = both_some (binary op) (fixed t a) (fixed t b) n e in
-          ap (λ x. binary op x (value places b)) (fixed_value t places agrees a m.0 m.2) ∙ ap (binary op m.0) (fixed_value t places agrees b m.1 m.3) ∙ m.4
+pub fixed_value : (t : Table) (places : ℕ → ℕ) → Step t.statements places → (e : Expression Atom) (n : ℕ) → worth t (known e) ≡ Worth.Number n → value places e ≡ n
+fixed_value t places step (Leaf (Atom.Number m)) n is = cc
+fixed_value t places step (Leaf (Atom.Ref r)) n is = cc
+fixed_value t places step (Prefix op a) n is =
+    let m = through_number (unary op) (worth t (known a)) n is in
+    ap (unary op) (fixed_value t places step a m.0 m.1) ∙ m.2
+fixed_value t places step (Infix op a b) n is =
+    elim (difference t op (known a) (known b)) as (λ o. difference t op (known a) (known b) ≡ o → or_else o (both (binary op) (worth t (known a)) (worth t (known b))) ≡ Worth.Number n
+    → value places (Infix op a b) ≡ n) [
+      | Worth.Number m ↦ λ was e. difference_value t places step op a b n (was ∙ e)
+      | Worth.Unknown ↦ λ was e. cc
+      | Worth.Varies ↦ λ was e.
+          let m = both_number (binary op) (worth t (known a)) (worth t (known b)) n e in
+          ap (λ x. binary op x (value places b)) (fixed_value t places step a m.0 m.2) ∙ ap (binary op m.0) (fixed_value t places step b m.1 m.3) ∙ m.4
     ] refl is
 
-number_or_value : (places : ℕ → ℕ) (other whole : Expression Atom) (o : Option ℕ) → ((n : ℕ) → o ≡ Some n → value places whole ≡ n) → value places other ≡ value places whole
-    → value places (number_or other o) ≡ value places whole
-number_or_value places other whole None is same = same
-number_or_value places other whole (Some n) is same = sym (is n refl)
+-- What is known of expressions, by their operators.
+leaf_known : (e : Expression Atom) (n : ℕ) → known e ≡ Leaf (Part.Number n) → e ≡ Leaf (Atom.Number n)
+leaf_known (Leaf (Atom.Number m)) n is = let same : m ≡ n = cc in ap (λ k. Leaf (Atom.Number k)) same
+leaf_known (Leaf (Atom.Ref r)) n is = cc
+leaf_known (Prefix op a) n is = cc
+leaf_known (Infix op a b) n is = cc
 
-pub reduced_value : (t : Table) (places : ℕ → ℕ) → Agrees t places → (e : Expression Atom) → value places (reduced t e) ≡ value places e
-reduced_value t places agrees (Leaf atom) = refl
-reduced_value t places agrees (Prefix op a) =
-    number_or_value places (Prefix op (reduced t a)) (Prefix op a) _ (fixed_value t places agrees (Prefix op a)) (ap (unary op) (reduced_value t places agrees a))
-reduced_value t places agrees (Infix op a b) =
-    number_or_value places (Infix op (reduced t a) (reduced t b)) (Infix op a b) _ (fixed_value t places agrees (Infix op a b))
-    (ap (λ x. binary op x (value places (reduced t b))) (reduced_value t places agrees a) ∙ ap (binary op (value places a)) (reduced_value t places agrees b))
+pub leaf_unknown : (e : Expression Atom) (what : Unknown) → known e ≡ Leaf (Part.Unknown what) → ⊥
+leaf_unknown (Leaf (Atom.Number m)) what is = cc
+leaf_unknown (Leaf (Atom.Ref r)) what is = cc
+leaf_unknown (Prefix op a) what is = cc
+leaf_unknown (Infix op a b) what is = cc
+
+prefix_known : (e : Expression Atom) (op : Unary) (a : Expression Part) → known e ≡ Prefix op a → (x : Expression Atom) × (e ≡ Prefix op x) × (a ≡ known x)
+prefix_known (Leaf (Atom.Number m)) op a is = cc
+prefix_known (Leaf (Atom.Ref r)) op a is = cc
+prefix_known (Prefix o x) op a is = let same : o ≡ op = cc in (x, ap (λ p. Prefix p x) same, cc)
+prefix_known (Infix o x y) op a is = cc
+
+infix_known : (e : Expression Atom) (op : Binary) (a b : Expression Part) → known e ≡ Infix op a b → (x : Expression Atom) × (y : Expression Atom) × (e ≡ Infix op x y) × (a ≡ known x) × (b ≡ known y)
+infix_known (Leaf (Atom.Number m)) op a b is = cc
+infix_known (Leaf (Atom.Ref r)) op a b is = cc
+infix_known (Prefix o x) op a b is = cc
+infix_known (Infix o x y) op a b is = let same : o ≡ op = cc in (x, y, ap (λ p. Infix p x y) same, cc, cc)
+
+-- An expression that is a number has no part that is not known,
+number_known : (t : Table) (e : Expression Part) (n : ℕ) → worth t e ≡ Worth.Number n → (x : Expression Atom) × (e ≡ known x)
+number_known t (Leaf (Part.Number m)) n is = (Leaf (Atom.Number m), refl)
+number_known t (Leaf (Part.Ref r)) n is = cc
+number_known t (Leaf (Part.Unknown Unknown.Number)) n is = cc
+number_known t (Leaf (Part.Unknown Unknown.Varies)) n is = cc
+number_known t (Leaf (Part.Unknown Unknown.VariesInByte)) n is = cc
+number_known t (Prefix op a) n is =
+    let m = through_number (unary op) (worth t a) n is in
+    let x = number_known t a m.0 m.1 in
+    (Prefix op x.0, ap (Prefix op) x.1)
+number_known t (Infix op a b) n is =
+    elim (difference t op a b) as (λ o. difference t op a b ≡ o → or_else o (both (binary op) (worth t a) (worth t b)) ≡ Worth.Number n → (x : Expression Atom) × (Infix op a b ≡ known x)) [
+      | Worth.Number m ↦ λ was e. distance_known t op a b m was
+      | Worth.Unknown ↦ λ was e. cc
+      | Worth.Varies ↦ λ was e.
+          let m = both_number (binary op) (worth t a) (worth t b) n e in
+          let x = number_known t a m.0 m.2 in
+          let y = number_known t b m.1 m.3 in
+          (Infix op x.0 y.0, ap (λ z. Infix op z b) x.1 ∙ ap (Infix op (known x.0)) y.1)
+    ] refl is
+  where
+    distance_known : (t : Table) (op : Binary) (a b : Expression Part) (n : ℕ) → difference t op a b ≡ Worth.Number n → (x : Expression Atom) × (Infix op a b ≡ known x)
+    distance_known t Binary.Subtract (Leaf (Part.Ref p)) (Leaf (Part.Ref q)) n is = (Infix Binary.Subtract (Leaf (Atom.Ref p)) (Leaf (Atom.Ref q)), refl)
+    distance_known t op a b n is = cc
+
+-- nor has one that reduces to none, and it has the value of what it reduces to.
+pub record Same (t : Table) (e : Expression Part) (x : Expression Atom) : Type 0 where
+  pub whole : Expression Atom
+  pub known : e ≡ known whole
+  pub value : (places : ℕ → ℕ) → Step t.statements places → value places x ≡ value places whole
+
+same_number : (t : Table) (e : Expression Part) (x : Expression Atom) (n : ℕ) → worth t e ≡ Worth.Number n → Leaf (Part.Number n) ≡ known x → Same t e x
+same_number t e x n is made =
+    let w = number_known t e n is in
+    record {
+      whole = w.0;
+      known = w.1;
+      value = λ places step. ap (value places) (leaf_known x n (sym made)) ∙ sym (fixed_value t places step w.0 n (ap (worth t) (sym w.1) ∙ is));
+    }
+
+pub same : (t : Table) (e : Expression Part) (x : Expression Atom) → reduced t e ≡ known x → Same t e x
+same t (Leaf part) x made = record { whole = x; known = made; value = λ places step. refl }
+same t (Prefix op a) x made =
+    elim (worth t (Prefix op a)) as (λ w. worth t (Prefix op a) ≡ w → leaf_or (Prefix op (reduced t a)) w ≡ known x → Same t (Prefix op a) x) [
+      | Worth.Number n ↦ λ was is. same_number t (Prefix op a) x n was is
+      | Worth.Unknown ↦ λ was is. absurd (leaf_unknown x Unknown.Number (sym is))
+      | Worth.Varies ↦ λ was is.
+          let p = prefix_known x op (reduced t a) (sym is) in
+          let s = same t a p.0 p.2 in
+          record {
+            whole = Prefix op s.whole;
+            known = ap (Prefix op) s.known;
+            value = λ places step. ap (value places) p.1 ∙ ap (unary op) (s.value places step);
+          }
+    ] refl made
+same t (Infix op a b) x made =
+    elim (worth t (Infix op a b)) as (λ w. worth t (Infix op a b) ≡ w → leaf_or (Infix op (reduced t a) (reduced t b)) w ≡ known x → Same t (Infix op a b) x) [
+      | Worth.Number n ↦ λ was is. same_number t (Infix op a b) x n was is
+      | Worth.Unknown ↦ λ was is. absurd (leaf_unknown x Unknown.Number (sym is))
+      | Worth.Varies ↦ λ was is.
+          let p = infix_known x op (reduced t a) (reduced t b) (sym is) in
+          let s = same t a p.0 p.3 in
+          let u = same t b p.1 p.4 in
+          record {
+            whole = Infix op s.whole u.whole;
+            known = ap (λ z. Infix op z b) s.known ∙ ap (Infix op (known s.whole)) u.known;
+            value = λ places step. ap (value places) p.2 ∙ ap (λ v. binary op v (value places p.1)) (s.value places step) ∙ ap (binary op (value places s.whole)) (u.value places step);
+          }
+    ] refl made

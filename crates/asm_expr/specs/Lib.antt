@@ -2,7 +2,9 @@ pub mod Types
 pub mod Postfix
 pub mod Arithmetic
 pub mod Items
-pub mod Steps
+pub mod Distances
 pub mod Names
 pub mod Settling
-pub mod Folding
+pub mod Equating
+pub mod Offsets
+pub mod Private

@@ -1,30 +1,18 @@
--- What names stand for, and which distances are the same in every choice of jumps.
-use Rattle.std.specs.Prelude.{ℕ, ◌+◌, ◌-◌, ◌%◌, ◌==◌, List, [], ◌∷◌, ◌++◌, Option, Some, None, if◌then◌else◌, length, map, slice_get}
-use Rattle.std.specs.declared.vec.Vec.{Vec}
+-- What names stand for, and the statements of a module in order.
+use Rattle.std.specs.Prelude.{◌≡◌, ◌≤◌, ℕ, List, [], ◌∷◌, ◌++◌, Option, Some, length}
 use Rattle.std.specs.Map.{lookup}
 use Rattle.std.specs.Str.{bytes_eq}
 use Rattle.asm_expr.specs.declared.meaning.Meaning.{Meaning}
-use Rattle.asm_expr.specs.declared.names.Point.{Point}
-use Rattle.asm_expr.specs.declared.names.Names.{Names}
-use Rattle.asm_expr.specs.Arithmetic.{modulus}
+use Rattle.asm_expr.specs.declared.statement.Statement.{Statement}
 
--- What Names holds: each name with what it stands for; the statement whose place is `$`; where the statements that are passed lie,
--- and the next one.
+-- Each name with what it stands for; the statement whose place is `$`; the statements that are passed, in order.
 pub record Table : Type 0 where
   pub entries : List (List ℕ × Meaning)
   pub here : ℕ
-  pub points : List Point
-  pub end : Point
-
--- the entries of a map whose keys are bytes
-abbrev pub named : {A V : Type 0} → List (Vec ℕ A × V) → List (List ℕ × V)
-named entries = map (λ e. (e.0.items, e.1)) entries
-
-abbrev pub table : Names → Table
-table names = record { entries = named names.meanings.entries; here = names.here; points = names.points.items; end = names.end }
+  pub statements : List Statement
 
 abbrev pub empty : Table
-empty = record { entries = []; here = 0; points = []; end = record { stretch = 0; offset = 0 } }
+empty = record { entries = []; here = 0; statements = [] }
 
 -- what a name stands for
 abbrev pub found : Table → List ℕ → Option Meaning
@@ -33,21 +21,14 @@ found t name = lookup (bytes_eq name) t.entries
 abbrev pub with_meaning : List ℕ → Meaning → Table → Table
 with_meaning name what t = record t { entries = t.entries ++ (name, what) ∷ [] }
 
--- A statement of a fixed size is passed: the next one stands in the same stretch.
-abbrev pub after_fixed : ℕ → Table → Table
-after_fixed size t = record t { points = t.points ++ t.end ∷ []; end = record { stretch = t.end.stretch; offset = (t.end.offset + size) % modulus } }
+abbrev pub with_statement : Statement → Table → Table
+with_statement statement t = record t { statements = t.statements ++ statement ∷ [] }
 
--- A relaxable jump is passed: the next statement begins a stretch, which bears its number.
-abbrev pub after_jump : Table → Table
-after_jump t = record t { points = t.points ++ t.end ∷ []; end = record { stretch = length t.points + 1; offset = 0 } }
+-- An EQU name's expression stands for as many terms and operators as it has items, at least, and for one.
+abbrev pub IsCounted : Meaning → Type 0
+IsCounted (Meaning.Equ equated) = (1 ≤ equated.size) × (length equated.expr ≤ equated.size)
+IsCounted _ = Unit {0}
 
-abbrev pub point_at : Table → ℕ → Option Point
-point_at t statement = slice_get (t.points ++ t.end ∷ []) statement
-
-abbrev pub between : Option Point → Option Point → Option ℕ
-between (Some p) (Some q) = if p.stretch == q.stretch then Some ((p.offset + (modulus - q.offset)) % modulus) else None
-between _ _ = None
-
--- how far statement p lies behind statement q, where no relaxable jump stands between them
-abbrev pub distance : Table → ℕ → ℕ → Option ℕ
-distance t p q = between (point_at t p) (point_at t q)
+-- Each name's does.
+abbrev pub AreCounted : Table → Type 0
+AreCounted t = (name : List ℕ) (what : Meaning) → found t name ≡ Some what → IsCounted what

@@ -7,7 +7,7 @@ ghost use Rattle.asm_expr.specs.declared.atom.Atom.{Atom};
 ghost use Rattle.asm_parse.specs.Expression.{Expression};
 ghost use Rattle.asm_expr.specs.Postfix.{put, run, tree};
 ghost use Rattle.asm_expr.specs.Items.{IsConstant, IsExpr, is_division, is_divisor, is_guarded, is_ref, is_within, refs, refs_in, value};
-ghost use Rattle.asm_expr.specs.Steps.{Stacked, arity, is_expr};
+ghost use Rattle.asm_expr.specs.Private.Steps.{Stacked, arity, is_expr};
 
 use crate::arithmetic::{apply_binary, apply_unary};
 use crate::atom::Atom;
@@ -39,7 +39,7 @@ impl Model for Expr {
 }
 
 /// How many values the items leave, or None where an operator lacks an operand.
-fn values_left(items: &[Item<Atom>]) -> Option<usize>
+pub(crate) fn values_left<L>(items: &[Item<L>]) -> Option<usize>
     ensures { result ≡ option_map length (run items.now []) }
 {
     let mut left = 0;

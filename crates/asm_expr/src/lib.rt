@@ -1,19 +1,32 @@
 //! Expressions of Z80 assembler source: what names make of trees, postfix items, and values at places.
 #![tactic(auto)]
 
+mod answer;
 mod arithmetic;
 mod atom;
+mod equating;
 mod expr;
+mod here;
 pub mod laws;
+mod layout;
 mod meaning;
 mod names;
+mod part;
 mod reduction;
+mod statement;
+mod unknown;
 mod weigh;
+mod worth;
 
+pub use answer::{Settled, settle};
 pub use asm_parse::{Binary, ExprFault, Item, Term, Tree, Unary, is_reserved, parse};
 pub use atom::Atom;
+pub use equating::equate;
 pub use expr::{Expr, constant, has_places, items, value};
+pub use here::{Offset, offset_from_here};
 pub use meaning::{Equated, Meaning};
 pub use names::Names;
-pub use reduction::settle;
+pub use statement::Statement;
+pub use unknown::Unknown;
 pub use weigh::{is_constant, is_defined, size};
+pub use worth::Worth;

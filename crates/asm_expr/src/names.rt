@@ -1,52 +1,56 @@
 //! What the names of a module stand for, and where its statements lie.
 
-ghost use Rattle.std.specs.Prelude.{◌≡◌, ◌++◌, ◌∷◌, [], None, OnOk, option_copied};
-ghost use Rattle.asm_expr.specs.Names.{after_fixed, after_jump, distance, empty, found, point_at, table, with_meaning};
+ghost use Rattle.std.specs.Prelude.{◌≡◌, None, OnOk, OnErr, option_copied};
+ghost use Rattle.asm_expr.specs.declared.statement.Statement.{Statement};
+ghost use Rattle.asm_expr.specs.Distances.{distance};
+ghost use Rattle.asm_expr.specs.Names.{AreCounted, IsCounted, empty, found, with_meaning, with_statement};
 
+use crate::layout::Layout;
 use crate::meaning::Meaning;
+use crate::statement::Statement;
+use crate::worth::Worth;
 use indexmap::IndexMap;
 use std::alloc::{AllocError, Global};
+use std::marker::Model;
 
-/// Where a statement lies: the stretch without relaxable jumps in which it stands, and how many bytes of the stretch
-/// stand before it, modulo 65,536.
-#[derive(Clone, Copy, Debug)]
-struct Point {
-    stretch: usize,
-    offset: u16,
-}
-
-/// What the names of a module stand for, the place of `$`, and each distance of two statements that is the same in
-/// every choice of jumps.
+/// What the names of a module stand for, the place of `$`, and the statements in order. Clauses see the table.
 #[derive(Debug, Drop)]
 pub struct Names {
     meanings: IndexMap<Vec<u8>, Meaning>,
     here: u16,
-    /// The statements that are passed.
-    points: Vec<Point>,
-    /// The next one, or the end.
-    end: Point,
+    statements: Layout,
+}
+
+impl Model for Names {
+    ghost use Rattle.asm_expr.specs.Names.{AreCounted, Table};
+    ghost use Rattle.asm_expr.specs.Private.Entries.{table_of};
+
+    ghost Value = { Table };
+
+    ghost view = { λ n. table_of n.meanings.entries n.here n.statements };
+
+    ghost invariant = { λ n. AreCounted (table_of n.meanings.entries n.here n.statements) };
 }
 
 impl Names {
     /// No names and no statements.
     pub fn new(alloc: Global) -> Names
-        ensures { table result ≡ empty }
+        ensures { result ≡ empty }
     {
         Names {
             meanings: IndexMap::new(alloc),
             here: 0,
-            points: Vec::new(alloc),
-            end: Point {
-                stretch: 0,
-                offset: 0,
-            },
+            statements: Layout::new(alloc),
         }
     }
 
-    /// Adds a name in upper case, which is not there yet.
+    /// Adds a name in upper case, which is not there yet. An EQU name's expression stands for as many terms and operators as it
+    /// has items, at least.
     pub fn define(&mut self, name: Vec<u8>, meaning: Meaning) -> Result<(), AllocError>
-        requires { found (table self.old) name.items ≡ None }
-        ensures { OnOk result (table self.new ≡ with_meaning name.items meaning (table self.old)) }
+        requires new { found self.old name.items ≡ None }
+        requires counted { IsCounted meaning }
+        ensures ok { OnOk result (self.new ≡ with_meaning name.items meaning self.old) }
+        ensures err { OnErr result (self.new ≡ self.old) }
     {
         self.meanings.insert(name, meaning)?;
         Ok(())
@@ -54,69 +58,61 @@ impl Names {
 
     /// The statement whose place is `$`, by its number.
     pub fn set_here(&mut self, statement: u16)
-        ensures { table self.new ≡ record (table self.old) { here = statement } }
+        ensures { self.new ≡ record self.old { here = statement } }
     {
         self.here = statement;
     }
 
     /// The statement whose place is `$`.
     pub(crate) fn here(&self) -> u16
-        ensures { result ≡ (table self.now).here }
+        ensures { result ≡ self.now.here }
     {
         self.here
     }
 
-    /// Passes a statement that takes as many bytes in every choice of jumps.
-    pub fn pass_fixed(&mut self, size: u16) -> Result<(), AllocError>
-        ensures { OnOk result (table self.new ≡ after_fixed size (table self.old)) }
+    /// The names' expressions stand for as many terms and operators as they have items, at least.
+    pub(crate) fn counted(&self)
+        ensures { AreCounted self.now }
     {
-        self.points.push(self.end)?;
-        self.end.offset = self.end.offset.wrapping_add(size);
-        Ok(())
+        let _here = self.here;
     }
 
-    /// Passes a relaxable jump, with which a stretch begins.
-    pub fn pass_jump(&mut self) -> Result<(), AllocError>
-        ensures { OnOk result (table self.new ≡ after_jump (table self.old)) }
+    /// Passes a statement that takes as many bytes in every choice of jumps.
+    pub fn pass_fixed(&mut self, size: u16) -> Result<(), AllocError>
+        ensures ok { OnOk result (self.new ≡ with_statement (Statement.Sized size) self.old) }
+        ensures err { OnErr result (self.new ≡ self.old) }
     {
-        self.points.push(self.end)?;
-        self.end = Point {
-            stretch: self.points.len(),
-            offset: 0,
-        };
-        Ok(())
+        self.statements.pass(Statement::Sized(size))
+    }
+
+    /// Passes a relaxable jump.
+    pub fn pass_jump(&mut self) -> Result<(), AllocError>
+        ensures ok { OnOk result (self.new ≡ with_statement Statement.Relaxable self.old) }
+        ensures err { OnErr result (self.new ≡ self.old) }
+    {
+        self.statements.pass(Statement::Relaxable)
+    }
+
+    /// Passes a statement whose size is not known, since its own line is faulty.
+    pub fn pass_unsized(&mut self) -> Result<(), AllocError>
+        ensures ok { OnOk result (self.new ≡ with_statement Statement.Unsized self.old) }
+        ensures err { OnErr result (self.new ≡ self.old) }
+    {
+        self.statements.pass(Statement::Unsized)
     }
 
     /// What a name in upper case stands for.
     pub fn meaning(&self, name: &[u8]) -> Option<&Meaning>
-        ensures { option_copied result ≡ found (table self.now) name.now }
+        ensures { option_copied result ≡ found self.now name.now }
     {
         self.meanings.get(name)
     }
 
-    /// Where a statement lies, or the end.
-    fn point(&self, statement: u16) -> Option<Point>
-        ensures { result ≡ point_at (table self.now) statement }
+    /// How far statement `p` lies behind statement `q`, modulo 65,536: as many bytes as the statements between them
+    /// take. Where one is no statement and not the end, it varies.
+    pub fn distance(&self, p: u16, q: u16) -> Worth
+        ensures { result ≡ distance self.now.statements p q }
     {
-        let at = usize::from(statement);
-        if at == self.points.len() {
-            Some(self.end)
-        } else {
-            self.points.get(at).copied()
-        }
-    }
-
-    /// How far statement `p` lies behind statement `q`, modulo 65,536; None where a relaxable jump stands between them,
-    /// or one is no statement.
-    pub fn distance(&self, p: u16, q: u16) -> Option<u16>
-        ensures { result ≡ distance (table self.now) p q }
-    {
-        let p = self.point(p)?;
-        let q = self.point(q)?;
-        if p.stretch == q.stretch {
-            Some(p.offset.wrapping_sub(q.offset))
-        } else {
-            None
-        }
+        self.statements.distance(p, q)
     }
 }

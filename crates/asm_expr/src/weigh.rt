@@ -3,18 +3,19 @@
 ghost use Rattle.std.specs.Prelude.{◌≡◌, ◌≤◌, ◌↔◌, IsTrue};
 ghost use Rattle.std.specs.List.{AllPass, list_all};
 ghost use Rattle.asm_parse.specs.Source.{source_item};
+ghost use Rattle.asm_parse.specs.Expression.{postfix};
 ghost use Rattle.asm_expr.specs.Postfix.{source};
-ghost use Rattle.asm_expr.specs.Names.{table};
 ghost use Rattle.asm_expr.specs.Settling.{is_constant_item, is_known, size};
-ghost use Rattle.asm_expr.specs.Folding.{item_size};
+ghost use Rattle.asm_expr.specs.Private.Folding.{item_size};
 
 use crate::meaning::Meaning;
 use crate::names::Names;
+use crate::unknown::Unknown;
 use asm_parse::{Item, Term, Tree};
 
 /// How many terms and operators an item of a source stands for.
 pub(crate) fn item_size(item: &Item<Term>, names: &Names) -> u16
-    ensures { result ≡ item_size (table names.now) (source_item item.now) }
+    ensures { result ≡ item_size names.now (source_item item.now) }
 {
     let Item::Leaf(Term::Name(name)) = item else {
         return 1;
@@ -27,26 +28,30 @@ pub(crate) fn item_size(item: &Item<Term>, names: &Names) -> u16
 
 /// Whether an item stands for no place and no external.
 fn is_constant_item(item: &Item<Term>, names: &Names) -> bool
-    ensures { result ≡ is_constant_item (table names.now) (source_item item.now) }
+    ensures { result ≡ is_constant_item names.now (source_item item.now) }
 {
     match item {
         Item::Leaf(Term::Here) => false,
         Item::Leaf(Term::Name(name)) => {
-            matches!(names.meaning(name), Some(Meaning::Constant(_)))
+            matches!(
+                names.meaning(name),
+                Some(Meaning::Constant(_) | Meaning::Unknown(Unknown::Number))
+            )
         }
         _ => true,
     }
 }
 
-fn all_constant(items: &[Item<Term>], names: &Names) -> bool
-    ensures { result ≡ list_all (λ i. is_constant_item (table names.now) (source_item i)) items.now }
+pub(crate) fn all_constant(items: &[Item<Term>], names: &Names) -> bool
+    ensures { result ≡ list_all (λ i. is_constant_item names.now (source_item i)) items.now }
 {
     items.iter().all(|item| is_constant_item(item, names))
 }
 
-/// Whether an expression is constant: no place and no external stands in it after EQU names are replaced.
+/// Whether an expression is constant: no place and no external stands in it after EQU names are replaced. A name that stands
+/// for one number which is not known counts as constant.
 pub fn is_constant(parsed: &Tree, names: &Names) -> bool
-    ensures { result ≡ list_all (is_constant_item (table names.now)) parsed.now }
+    ensures { result ≡ list_all (is_constant_item names.now) (postfix (source parsed.now)) }
 {
     all_constant(parsed.items(), names)
 }
@@ -54,8 +59,8 @@ pub fn is_constant(parsed: &Tree, names: &Names) -> bool
 /// How many terms and operators an expression stands for, after EQU names are replaced, a constant one by its number.
 /// Of what [`settle`](crate::settle) takes there are 64 at most.
 pub fn size(parsed: &Tree, names: &Names) -> u16
-    requires { size (table names.now) (source parsed.now) ≤ 64 }
-    ensures { result ≡ size (table names.now) (source parsed.now) }
+    requires { size names.now (source parsed.now) ≤ 64 }
+    ensures { result ≡ size names.now (source parsed.now) }
 {
     let mut total = 0;
     for item in parsed.items() {
@@ -65,7 +70,7 @@ pub fn size(parsed: &Tree, names: &Names) -> u16
 }
 
 fn is_known(item: &Item<Term>, names: &Names) -> bool
-    ensures { result ≡ is_known (table names.now) (source_item item.now) }
+    ensures { result ≡ is_known names.now (source_item item.now) }
 {
     match item {
         Item::Leaf(Term::Name(name)) => names.meaning(name).is_some(),
@@ -74,14 +79,14 @@ fn is_known(item: &Item<Term>, names: &Names) -> bool
 }
 
 fn all_known(items: &[Item<Term>], names: &Names) -> bool
-    ensures { result ≡ list_all (λ i. is_known (table names.now) (source_item i)) items.now }
+    ensures { result ≡ list_all (λ i. is_known names.now (source_item i)) items.now }
 {
     items.iter().all(|item| is_known(item, names))
 }
 
 /// Whether each name of an expression stands for something.
 pub fn is_defined(parsed: &Tree, names: &Names) -> bool
-    ensures { IsTrue result ↔ AllPass (is_known (table names.now)) parsed.now }
+    ensures { IsTrue result ↔ AllPass (is_known names.now) parsed.now }
 {
     all_known(parsed.items(), names)
 }

@@ -1,8 +1,8 @@
 -- How deep what is read is.
 use Rattle.std.proofs.Common.{◌≡◌, ℕ, ◌+◌, max, Bool, true, false, List, [], ◌∷◌, if◌then◌else◌, nat_le, refl, sym, ap, ◌∙◌, arith}
 use Rattle.asm_parse.specs.Grammar.{Phrase, Prefixed, Joined, prefix_level, infix_level, depth}
-use Rattle.asm_parse.specs.Parsing.{Frame, Inside, Under, RightOf, reduce}
-use Rattle.asm_parse.specs.Stacks.{opened, depth_around}
+use Rattle.asm_parse.specs.Private.Parsing.{Frame, Inside, Under, RightOf, reduce}
+use Rattle.asm_parse.specs.Private.Stacks.{opened, depth_around}
 
 max_plus : (a b : ℕ) → max a b + 1 ≡ max (a + 1) (b + 1)
 max_plus a b = omega arith

@@ -1,5 +1,6 @@
-pub mod Parsing
-pub mod Sounding
+pub mod Completeness
+pub mod Soundness
 pub mod Depths
-pub mod Stacking
-pub mod Steady
+pub mod Stacks
+pub mod Readers
+pub mod Parsed

@@ -12,7 +12,8 @@ use Rattle.asm_parse.specs.declared.sign.Prefix.{Prefix}
 use Rattle.asm_parse.specs.Expression.{Expression, postfix}
 use Rattle.asm_parse.specs.Expression as tree
 use Rattle.asm_parse.specs.Source.{Operand, Number, Name, Here}
-use Rattle.asm_parse.specs.Words.{upper, sign_of, is_reserved}
+use Rattle.asm_words.specs.Words.{upper, is_reserved}
+use Rattle.asm_parse.specs.Words.{sign_of}
 
 -- A token as an expression reads it: a term, a sign, or what stands in no expression.
 pub data Symbol : Type 0 where

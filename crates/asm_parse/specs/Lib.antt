@@ -3,6 +3,5 @@ pub mod Expression
 pub mod Source
 pub mod Words
 pub mod Grammar
-pub mod Parsing
-pub mod Stacks
-pub mod Readers
+pub mod Parsed
+pub mod Private

@@ -1,37 +1,16 @@
 -- The words and marks of the language that stand in expressions.
-use Rattle.std.specs.Prelude.{ℕ, Bool, List, [], ◌∷◌, Option, Some, None, if◌then◌else◌, map, codes}
-use Rattle.std.specs.List.{list_any}
-use Rattle.std.specs.Char.{to_ascii_uppercase}
-use Rattle.std.specs.Str.{bytes_eq}
+use Rattle.std.specs.Prelude.{ℕ, List, [], ◌∷◌, Option, Some, None, codes}
+use Rattle.asm_words.specs.Words.{first_word}
 use Rattle.asm_parse.specs.declared.operator.Unary.{Unary}
 use Rattle.asm_parse.specs.declared.operator.Binary.{Binary}
 use Rattle.asm_parse.specs.declared.sign.Sign.{Sign}
 use Rattle.asm_parse.specs.declared.sign.Prefix.{Prefix}
 
--- names are read as upper case
-abbrev pub upper : List ℕ → List ℕ
-upper name = map to_ascii_uppercase name
-
--- what stands beside the first of these words that a name is
-abbrev pub first_word : {A : Type 0} → List (List ℕ × A) → List ℕ → Option A
-first_word [] name = None
-first_word (w ∷ ws) name = if bytes_eq name w.0 then Some w.1 else first_word ws name
-
+-- the word of an expression that a name in upper case is
 abbrev pub sign_of : List ℕ → Option Sign
 sign_of = first_word ((codes "HIGH", Sign.High) ∷ (codes "LOW", Sign.Low) ∷ (codes "NOT", Sign.Not) ∷ (codes "MOD", Sign.Mod) ∷ (codes "SHL", Sign.Shl) ∷ (codes "SHR", Sign.Shr)
     ∷ (codes "AND", Sign.And) ∷ (codes "OR", Sign.Or) ∷ (codes "XOR", Sign.Xor)
     ∷ (codes "EQ", Sign.Eq) ∷ (codes "NE", Sign.Ne) ∷ (codes "LT", Sign.Lt) ∷ (codes "LE", Sign.Le) ∷ (codes "GT", Sign.Gt) ∷ (codes "GE", Sign.Ge) ∷ [])
-
--- registers, conditions and operators, which no program defines
-abbrev pub reserved_names : List (List ℕ)
-reserved_names = codes "A" ∷ codes "B" ∷ codes "C" ∷ codes "D" ∷ codes "E" ∷ codes "H" ∷ codes "L" ∷ codes "I" ∷ codes "R"
-    ∷ codes "AF" ∷ codes "BC" ∷ codes "DE" ∷ codes "HL" ∷ codes "IX" ∷ codes "IY" ∷ codes "SP"
-    ∷ codes "NZ" ∷ codes "Z" ∷ codes "NC" ∷ codes "PO" ∷ codes "PE" ∷ codes "P" ∷ codes "M"
-    ∷ codes "HIGH" ∷ codes "LOW" ∷ codes "MOD" ∷ codes "SHL" ∷ codes "SHR"
-    ∷ codes "EQ" ∷ codes "NE" ∷ codes "LT" ∷ codes "LE" ∷ codes "GT" ∷ codes "GE" ∷ codes "NOT" ∷ codes "AND" ∷ codes "OR" ∷ codes "XOR" ∷ []
-
-abbrev pub is_reserved : List ℕ → Bool
-is_reserved name = list_any (λ word. bytes_eq name word) reserved_names
 
 -- the operator that a sign is before an operand
 abbrev pub prefix_of : Sign → Option Prefix

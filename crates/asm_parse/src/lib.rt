@@ -9,9 +9,9 @@ mod reader;
 mod sign;
 mod tree;
 
+pub use asm_words::is_reserved;
 pub use fault::ExprFault;
 pub use item::{Item, Term};
 pub use operator::{Binary, Unary};
 pub use reader::parse;
-pub use sign::is_reserved;
 pub use tree::Tree;

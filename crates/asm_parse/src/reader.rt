@@ -1,22 +1,24 @@
 //! From tokens to expressions: operators wait on a stack until what binds less tightly follows, and are then put behind
 //! their operands.
 
-ghost use Rattle.std.specs.Prelude.{◌≡◌, ◌≤◌, ℕ, List, ◌++◌, map, max, Some, Ok, IfOk, IfErr};
+ghost use Rattle.std.specs.Prelude.{◌≡◌, ◌≤◌, ◌⊎◌, ℕ, List, ◌++◌, map, max, Some, Ok, Err, IfOk, IfErr};
 ghost use Rattle.asm_scan.specs.Tokens.{lexeme, lexemes};
 ghost use Rattle.asm_parse.specs.declared.fault.ExprFault.{ExprFault};
 ghost use Rattle.asm_parse.specs.Expression.{postfix};
 ghost use Rattle.asm_parse.specs.Source.{source_item};
 ghost use Rattle.asm_parse.specs.Grammar.{IsParsed, Phrase, character, expression, symbol};
-ghost use Rattle.asm_parse.specs.Parsing.{Frame, reduce};
-ghost use Rattle.asm_parse.specs.Readers.{room_in};
-ghost use Rattle.asm_parse.specs.Stacks.{IsReduced, closed_item, level_of, open_in, part_symbol, pendings, written};
+ghost use Rattle.asm_parse.specs.Parsed.{parsed};
+ghost use Rattle.asm_parse.specs.Private.Parsing.{Frame, reduce};
+ghost use Rattle.asm_parse.specs.Private.Readers.{room_in};
+ghost use Rattle.asm_parse.specs.Private.Stacks.{IsReduced, closed_item, level_of, open_in, part_symbol, pendings, written};
 
 use crate::fault::ExprFault;
 use crate::item::{Item, Term};
 use crate::operator::{Binary, Unary};
-use crate::sign::{Prefix, Sign, is_reserved, sign_of};
+use crate::sign::{Prefix, Sign, sign_of};
 use crate::tree::Tree;
 use asm_scan::{Kind, Mark, Token};
+use asm_words::is_reserved;
 use std::alloc::Global;
 
 /// The most parentheses and prefix operators that may be open at one point.
@@ -190,9 +192,9 @@ struct Reader {
 
 impl Reader {
     ghost use Rattle.std.specs.Prelude.{◌∷◌, None, is_some, true};
-    ghost use Rattle.asm_parse.specs.Parsing.{State, finish, reading, sign_before, sign_behind, start, step};
+    ghost use Rattle.asm_parse.specs.Private.Parsing.{State, finish, reading, sign_before, sign_behind, start, step};
     ghost use Rattle.asm_parse.specs.Grammar.{Symbol};
-    ghost use Rattle.asm_parse.specs.Readers.{HoldsIn, IsReading, Reads, frame_of, opens};
+    ghost use Rattle.asm_parse.specs.Private.Readers.{HoldsIn, IsReading, Reads, frame_of, opens};
 
     /// An operator before its operand, or an open parenthesis.
     fn begin(&mut self, operator: Operator) -> Result<(), ExprFault>
@@ -295,7 +297,9 @@ impl Reader {
 /// [`ExprFault::Syntax`] where they spell none, and else [`ExprFault::TooDeep`] where more than 32 parentheses and prefix
 /// operators are open at one point; [`ExprFault::NoMemory`] where a name or the items cannot grow.
 pub fn parse(alloc: Global, tokens: &[Token<'_>]) -> Result<Tree, ExprFault>
-    ensures { IsParsed (map symbol (lexemes tokens.entry.now)) result }
+    ensures spelled { IsParsed (map symbol (lexemes tokens.entry.now)) result }
+    // Tokens spell one thing alone.
+    ensures parsed { (result ≡ parsed (lexemes tokens.entry.now)) ⊎ (result ≡ Err ExprFault.NoMemory) }
 {
     let mut reader = Reader {
         pending: Vec::new(alloc),

@@ -1,9 +1,7 @@
 //! The words and marks of the language that stand in expressions.
 
 ghost use Rattle.std.specs.Prelude.{◌≡◌};
-ghost use Rattle.std.specs.List.{list_any};
-ghost use Rattle.std.specs.Str.{bytes_eq};
-ghost use Rattle.asm_parse.specs.Words.{is_reserved, sign_of};
+ghost use Rattle.asm_parse.specs.Words.{sign_of};
 
 use crate::operator::{Binary, Unary};
 
@@ -105,26 +103,4 @@ pub(crate) fn sign_of(word: &[u8]) -> Option<Sign>
         b"GE" => Some(Sign::Ge),
         _ => None,
     }
-}
-
-/// Whether the word is one of these.
-fn is_among(word: &[u8], words: &[&[u8]]) -> bool
-    ensures { result ≡ list_any (λ other. bytes_eq word.now other.now) words.entry.now }
-{
-    words.iter().any(|other| word == *other)
-}
-
-/// Whether a name in upper case is a register, a condition or an operator, which no program defines.
-pub fn is_reserved(name: &[u8]) -> bool
-    ensures { result ≡ is_reserved name.now }
-{
-    is_among(
-        name,
-        &[
-            b"A", b"B", b"C", b"D", b"E", b"H", b"L", b"I", b"R", b"AF", b"BC", b"DE", b"HL",
-            b"IX", b"IY", b"SP", b"NZ", b"Z", b"NC", b"PO", b"PE", b"P", b"M", b"HIGH", b"LOW",
-            b"MOD", b"SHL", b"SHR", b"EQ", b"NE", b"LT", b"LE", b"GT", b"GE", b"NOT", b"AND",
-            b"OR", b"XOR",
-        ],
-    )
 }

@@ -12,7 +12,7 @@ use Rattle.asm_scan.specs.Types.{Kind, Mark, ScanFault}
 use Rattle.asm_scan.specs.Classes.{begins_name, continues_name, is_quote, is_control}
 use Rattle.asm_scan.specs.Numbers.{number_of}
 use Rattle.asm_scan.specs.Tokens.{BeginsWithout, IsName, IsNumber, IsToken, IsString, IsOpenString, IsBrokenString, IsStrayByte, BeginsFault, ArePlain, IsAf, doubled, mark_byte}
-use Rattle.asm_scan.specs.Reading.{is_af, first_token, every_mark, first_name, first_number, number_or_fault, quoted_or_fault, mark_or_fault, mark_of, string_len, longer_by}
+use Rattle.asm_scan.specs.Private.Reading.{is_af, first_token, every_mark, first_name, first_number, number_or_fault, quoted_or_fault, mark_or_fault, mark_of, string_len, longer_by}
 use Rattle.asm_scan.proofs.Strings.{len_after, len_at_end, len_at_control, EndsContent, divides}
 
 -- The longest run of a class at the front.

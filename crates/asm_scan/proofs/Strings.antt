@@ -6,7 +6,7 @@ use Rattle.std.proofs.lemmas.List.Elements.{All-nil, All-cons, All-head, All-tai
 use Rattle.asm_scan.specs.Types.{ScanFault}
 use Rattle.asm_scan.specs.Classes.{is_control}
 use Rattle.asm_scan.specs.Tokens.{BeginsWithout, ArePlain, doubled}
-use Rattle.asm_scan.specs.Reading.{string_len, longer_by}
+use Rattle.asm_scan.specs.Private.Reading.{string_len, longer_by}
 
 pub len_at_end : (q : ℕ) (more : List ℕ) → BeginsWithout (λ c. c == q) more → string_len q (q ∷ more) ≡ Ok 1
 len_at_end q [] ended = cond-true (q == q) (Ok 1) _ (eq-eqb q q refl)

@@ -1,7 +1,7 @@
 //! Strings.
 
 ghost use Rattle.std.specs.Prelude.{◌≡◌, ◌≤◌, length, IfOk};
-ghost use Rattle.asm_scan.specs.Reading.{string_len};
+ghost use Rattle.asm_scan.specs.Private.Reading.{string_len};
 
 use crate::classes::is_control;
 use crate::fault::ScanFault;

@@ -1,6 +1,6 @@
 -- The words that begin a statement.
 use Rattle.std.specs.Prelude.{ℕ, List, [], ◌∷◌, Option, codes}
-use Rattle.asm_parse.specs.Words.{first_word}
+use Rattle.asm_words.specs.Words.{first_word}
 use Rattle.asm_stmt.specs.declared.names.Word.{Word}
 use Rattle.asm_stmt.specs.declared.names.Word.TheVariants.{Nop, Ret, Db, Ds, Jp, Jr}
 

@@ -15,7 +15,8 @@ use Rattle.asm_stmt.specs.declared.form.Field.TheVariants.{Byte}
 use Rattle.asm_stmt.specs.declared.form.Branch.TheVariants.{Relative}
 use Rattle.asm_stmt.specs.declared.names.Word.{Word}
 use Rattle.asm_stmt.specs.declared.names.Word.TheVariants.{Nop, Ret, Db, Ds, Jp, Jr}
-use Rattle.asm_parse.specs.Words.{upper, is_reserved}
+use Rattle.asm_words.specs.Results.{◌>>=◌}
+use Rattle.asm_words.specs.Words.{upper, is_reserved}
 use Rattle.asm_stmt.specs.Names.{word_of}
 use Rattle.asm_stmt.specs.Statement.{Statement, Code, Data, Space, Jump, Short, Line}
 
@@ -61,12 +62,6 @@ spelled Ds operands = option_map (λ n. Space n 0) (number_given operands)
 spelled Jp operands = option_map (Jump None) (target_named operands)
 spelled Jr operands = option_map (Short (Relative None)) (target_named operands)
 spelled _ _ = None
-
--- goes on with an answer, unless there is a fault
-infixl 10 ◌>>=◌
-abbrev pub ◌>>=◌ : {A B : Type 0} → Result A StmtFault → (A → Result B StmtFault) → Result B StmtFault
-(Ok x) >>= f = f x
-(Err fault) >>= f = Err fault
 
 -- the value, or this fault where there is none
 abbrev pub value_or : {A : Type 0} → StmtFault → Option A → Result A StmtFault

@@ -3,7 +3,7 @@
 ghost use Rattle.std.specs.Prelude.{◌≡◌, ◌≤◌, length, vec_len, IfOk, IfSome};
 ghost use Rattle.std.specs.Option.{option_map};
 ghost use Rattle.asm_scan.specs.Tokens.{lexemes};
-ghost use Rattle.asm_parse.specs.Words.{upper};
+ghost use Rattle.asm_words.specs.Words.{upper};
 ghost use Rattle.asm_stmt.specs.Statement.{HasFields, line_of, statement_of};
 ghost use Rattle.asm_stmt.specs.Spelling.{Gives, before_colon, bytes_listed, label, number_given, spelled, spells, statement, symbols, target_named, value_or};
 ghost use Rattle.asm_stmt.specs.declared.fault.StmtFault.TheVariants.{BadOperands};
@@ -11,7 +11,7 @@ ghost use Rattle.asm_stmt.specs.declared.fault.StmtFault.TheVariants.{BadOperand
 use crate::fault::StmtFault;
 use crate::form::{Body, Branch, Field, Stmt};
 use crate::names::{Word, word_named};
-use asm_parse::is_reserved;
+use asm_words::is_reserved;
 use asm_scan::{Kind, Mark, Token};
 use std::alloc::Global;
 use z80_instr::Instr;

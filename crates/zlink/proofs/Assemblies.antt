@@ -13,7 +13,8 @@ use Rattle.zlink.specs.Built.{IsAnswer}
 use Rattle.zlink.specs.declared.fault.Why.{Why}
 use Rattle.zlink.specs.declared.fault.AsmFault.{AsmFault}
 use Rattle.zlink.specs.Lines.{source_lines}
-use Rattle.zlink.specs.Source.{Judges, TakesUp, Assembles, program_of, line_read, fits_after, ◌>>=◌}
+use Rattle.asm_words.specs.Results.{◌>>=◌}
+use Rattle.zlink.specs.Source.{Judges, TakesUp, Assembles, program_of, line_read, fits_after}
 
 -- a line comes to one thing alone
 abbrev pub OneScan : Type 0

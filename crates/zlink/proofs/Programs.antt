@@ -11,7 +11,8 @@ use Rattle.asm_stmt.specs.Statement.{Statement, Code, Data, Space, Jump, Short, 
 use Rattle.zlink.specs.declared.fault.Why.TheVariants as why
 use Rattle.zlink.specs.Labels.{Names, found}
 use Rattle.zlink.specs.Program.{IsStatement, IsProgram, field_fits}
-use Rattle.zlink.specs.Source.{placed, labelled, labels, labels_from, numbered, numbered_from, statement_count, settled, all_settled, target_of, program_of, fault_map, ◌>>=◌}
+use Rattle.asm_words.specs.Results.{◌>>=◌}
+use Rattle.zlink.specs.Source.{placed, labelled, labels, labels_from, numbered, numbered_from, statement_count, settled, all_settled, target_of, program_of, fault_map}
 use Rattle.zlink.specs.Private.FirstPass.{IsPlaced}
 use Rattle.zlink.specs.Private.SecondPass.{IsTyped}
 

@@ -10,7 +10,8 @@ use Rattle.zlink.specs.declared.fault.AsmStop.{AsmStop}
 use Rattle.zlink.specs.declared.fault.AsmStop.TheVariants as asm
 use Rattle.zlink.specs.declared.first_pass.Numbered.{Numbered}
 use Rattle.zlink.specs.Labels.{Names}
-use Rattle.zlink.specs.Source.{settled, all_settled, fault_map, ◌>>=◌}
+use Rattle.asm_words.specs.Results.{◌>>=◌}
+use Rattle.zlink.specs.Source.{settled, all_settled, fault_map}
 use Rattle.zlink.specs.Private.FirstPass.{numbered_one}
 use Rattle.zlink.specs.Private.SecondPass.{statement_in, IsTyped, IsSettledLine, IsSecondPass}
 

@@ -4,6 +4,7 @@ use Rattle.std.specs.Prelude.{◌≡◌, ℕ, ◌+◌, Bool, true, false, List, 
 use Rattle.std.specs.Result.{MatchResult}
 use Rattle.std.specs.List.{list_all}
 use Rattle.std.specs.Option.{option_map_or}
+use Rattle.asm_words.specs.Results.{◌>>=◌}
 use Rattle.asm_scan.specs.declared.fault.ScanFault.{ScanFault}
 use Rattle.asm_scan.specs.Tokens.{Lexeme}
 use Rattle.asm_scan.specs.Lines.{Scans}
@@ -16,12 +17,6 @@ use Rattle.zlink.specs.declared.fault.AsmFault.{AsmFault}
 use Rattle.zlink.specs.Labels.{Names, found}
 use Rattle.zlink.specs.Lines.{source_lines}
 use Rattle.zlink.specs.Program.{field_fits}
-
--- goes on with an answer, unless there is a fault
-infixl 10 ◌>>=◌
-abbrev pub ◌>>=◌ : {A B F : Type 0} → Result A F → (A → Result B F) → Result B F
-(Ok x) >>= f = f x
-(Err fault) >>= f = Err fault
 
 -- the same answer, with the fault seen by a view
 abbrev pub fault_map : {A E F : Type 0} → (E → F) → Result A E → Result A F

@@ -1,40 +1,59 @@
-use Rattle.std.proofs.Common.{◌≡◌, Err, subst, arith}
+use Rattle.std.proofs.Common.{◌≡◌, ◌<◌, Err, length, map, get_or, sym, ap, subst, ◌∙◌, arith}
+use Rattle.std.proofs.lemmas.List.{length-map}
 use Rattle.std.proofs.lemmas.Result.{err_from_is_err_and}
 use Rattle.asm_expr.specs.Types.{Item, Atom}
+use Rattle.asm_expr.specs.Private.Steps.{arity}
 use Rattle.asm_expr.specs.Items.{IsExpr}
-use Rattle.asm_expr.specs.Names.{table}
-use Rattle.asm_expr.specs.Folding.{Folds, fold_all}
-use Rattle.asm_expr.proofs.Postfix.{run-whole}
-use Rattle.asm_expr.proofs.Judging.{spelled_tree}
-use Rattle.asm_expr.proofs.Settling.{room_arity, room_next, folded_arity, folded_next, folded_refused}
+use Rattle.asm_expr.specs.Settling.{known_item}
+use Rattle.asm_expr.specs.Private.Folding.{Folds, fold_all, fold_one}
+use Rattle.std.proofs.Math.ListN.{get_or-map}
+use Rattle.asm_expr.proofs.Known.{known_run}
+use Rattle.asm_expr.proofs.Judgements.{spelled_tree}
+use Rattle.asm_expr.proofs.Steps.{room_arity, room_next, folded_arity, folded_next, folded_refused}
 use Rattle.asm_expr.proofs.reduction.take_expr.Goals as goal
 
 pub fold-requires : goal.fold-requires
 fold-requires c =
-    let expr : IsExpr c.items-item-items.result.now = rw c.items-item-items.ensures.items c.items-item-items.ensures.expr in
-    room_arity _ c.loop-item.item-index _ (Item.Leaf (Atom.Number 0)) _ (run-whole _ expr.tree expr.spelled) (omega arith) c.loop-item.invariant.0
+    let xs = c.items-item-items.result.now in
+    let k = c.loop-item.item-index in
+    let expr : IsExpr xs = rw c.items-item-items.ensures.items c.items-item-items.ensures.expr in
+    let at : get_or (map known_item xs) k (known_item (Item.Leaf (Atom.Number 0))) ≡ c.known_item.result = get_or-map known_item xs k (Item.Leaf (Atom.Number 0)) ∙ sym c.known_item.ensures in
+    let room = room_arity (map known_item xs) k _ (known_item (Item.Leaf (Atom.Number 0))) _ (known_run xs expr).1 (omega (arith, length-map xs known_item)) c.loop-item.invariant.0 in
+    omega (arith, room, ap arity at)
 
 pub returns-in_err-fold-clause-folds : goal.returns-in_err-fold-clause-folds
 returns-in_err-fold-clause-folds c = λ before is.
-    let expr : IsExpr c.items-item-items.result.now = rw c.items-item-items.ensures.items c.items-item-items.ensures.expr in
-    let whole = run-whole _ expr.tree expr.spelled in
+    let xs = c.items-item-items.result.now in
+    let k = c.loop-item.item-index in
+    let d = known_item (Item.Leaf (Atom.Number 0)) in
+    let t = c.args.names.now in
+    let expr : IsExpr xs = rw c.items-item-items.ensures.items c.items-item-items.ensures.expr in
+    let at : get_or (map known_item xs) k d ≡ c.known_item.result = get_or-map known_item xs k (Item.Leaf (Atom.Number 0)) ∙ sym c.known_item.ensures in
     let f = c.loop-item.invariant.1 before is in
-    let enough = folded_arity _ _ before c.loop-item.item-index _ (Item.Leaf (Atom.Number 0)) _ whole (omega arith) f in
+    let within : k < length (map known_item xs) = omega (arith, length-map xs known_item) in
+    let enough = folded_arity t (map known_item xs) before k _ d _ (known_run xs expr).1 within f in
     let p = err_from_is_err_and c.from_residual.result c.from_residual.ensures.1 in
-    let same : c.items-item-items.result.now ≡ c.args.expr.now = c.items-item-items.ensures.items in
-    rw (p.1, p.2) (subst (λ xs. Folds (fold_all (table c.args.names.now) xs before) {A = Unit {0}} (Err c.in_err-fold.field-0.0) c.fold.new.items.items) same
-    (folded_refused _ _ before c.loop-item.item-index _ c.fold.new.items.items (Item.Leaf (Atom.Number 0)) c.in_err-fold.field-0.0 (omega arith) f (c.in_err-fold.ensures.folds f.now f.written enough)))
+    let refused = c.in_err-fold.ensures.folds f.now f.written (omega (arith, enough, ap arity at)) in
+    rw (p.1, p.2) (subst (λ ys. Folds (fold_all t (map known_item ys) before) {A = Unit {0}} (Err c.in_err-fold.field-0.0) c.fold.new.items.items) c.items-item-items.ensures.items
+    (folded_refused t (map known_item xs) before k _ c.fold.new.items.items d c.in_err-fold.field-0.0 within f
+    (subst (λ y. Folds (fold_one t y f.now) {A = Unit {0}} (Err c.in_err-fold.field-0.0) c.fold.new.items.items) (sym at) refused)))
 
 pub loop-item-preserved : goal.loop-item-preserved
 loop-item-preserved c =
-    let expr : IsExpr c.items-item-items.result.now = rw c.items-item-items.ensures.items c.items-item-items.ensures.expr in
-    let whole = run-whole _ expr.tree expr.spelled in (
-      room_next _ c.loop-item.item-index _ _ (Item.Leaf (Atom.Number 0)) _ whole (omega arith) c.loop-item.invariant.0 c.in_ok-fold.ensures.len,
+    let xs = c.items-item-items.result.now in
+    let k = c.loop-item.item-index in
+    let d = known_item (Item.Leaf (Atom.Number 0)) in
+    let t = c.args.names.now in
+    let expr : IsExpr xs = rw c.items-item-items.ensures.items c.items-item-items.ensures.expr in
+    let at : get_or (map known_item xs) k d ≡ c.known_item.result = get_or-map known_item xs k (Item.Leaf (Atom.Number 0)) ∙ sym c.known_item.ensures in
+    let whole = (known_run xs expr).1 in
+    let within : k < length (map known_item xs) = omega (arith, length-map xs known_item) in (
+      room_next (map known_item xs) k _ _ d _ whole within c.loop-item.invariant.0 (omega (arith, c.in_ok-fold.ensures.len, ap arity at)),
       λ before is.
           let f = c.loop-item.invariant.1 before is in
-          let enough = folded_arity _ _ before c.loop-item.item-index _ (Item.Leaf (Atom.Number 0)) _ whole (omega arith) f in
-          let done = c.in_ok-fold.ensures.folds f.now f.written enough in
-          folded_next _ _ before c.loop-item.item-index _ _ (Item.Leaf (Atom.Number 0)) _ done.0 whole (omega arith) f done.1 done.2,
+          let enough = folded_arity t (map known_item xs) before k _ d _ whole within f in
+          let done = c.in_ok-fold.ensures.folds f.now f.written (omega (arith, enough, ap arity at)) in
+          folded_next t (map known_item xs) before k _ _ d _ done.0 whole within f (ap (λ y. fold_one t y f.now) at ∙ done.1) done.2,
     )
 
 pub returns-in_err-fold-clause-whole : goal.returns-in_err-fold-clause-whole

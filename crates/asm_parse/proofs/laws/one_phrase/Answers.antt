@@ -1,4 +1,4 @@
-use Rattle.asm_parse.proofs.Parsing as parsing
+use Rattle.asm_parse.proofs.Completeness as parsing
 use Rattle.asm_parse.proofs.laws.one_phrase.Goals as goal
 
 pub returns : goal.returns

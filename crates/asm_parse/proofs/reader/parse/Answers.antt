@@ -2,11 +2,12 @@ use Rattle.std.proofs.Common.{false, Ok, Err, map, refl, sym, subst, arith}
 use Rattle.std.proofs.lemmas.List.{length-map}
 use Rattle.std.proofs.lemmas.Result.{err_from_is_err_and}
 use Rattle.asm_scan.specs.Tokens.{lexeme, lexemes}
-use Rattle.asm_parse.specs.Grammar.{symbol}
-use Rattle.asm_parse.specs.Parsing.{step}
-use Rattle.asm_parse.specs.Stacks.{part_symbol}
-use Rattle.asm_parse.specs.Readers.{Reads}
-use Rattle.asm_parse.proofs.Steady.{read_start, read_next, read_stops, symbol_at}
+use Rattle.asm_parse.specs.Grammar.{IsParsed, symbol}
+use Rattle.asm_parse.specs.Private.Parsing.{step}
+use Rattle.asm_parse.specs.Private.Stacks.{part_symbol}
+use Rattle.asm_parse.specs.Private.Readers.{Reads}
+use Rattle.asm_parse.proofs.Readers.{read_start, read_end, read_next, read_stops, symbol_at}
+use Rattle.asm_parse.proofs.Parsed.{only_parsed}
 use Rattle.asm_parse.proofs.reader.parse.Goals as goal
 
 pub loop-token-init : goal.loop-token-init
@@ -21,8 +22,8 @@ loop-token-preserved c =
     read_next (map symbol (lexemes tokens)) c.loop-token.token-index x c.loop-token.reader c.take.new.self (omega (arith, length-map tokens lexeme, length-map (lexemes tokens) symbol)) s
     (subst (λ y. Reads (step y s.state) {A = Unit {0}} (Ok tt) c.take.new.self) (sym at) (c.in_ok-take.ensures s.state s.holds))
 
-pub returns-in_err-take : goal.returns-in_err-take
-returns-in_err-take c =
+pub returns-in_err-take-clause-spelled : goal.returns-in_err-take-clause-spelled
+returns-in_err-take-clause-spelled c =
     let tokens = c.args.tokens.now in
     let x = part_symbol c.in_ok-part_of.field-0 in
     let s = c.loop-token.invariant in
@@ -30,3 +31,13 @@ returns-in_err-take c =
     let p = err_from_is_err_and c.from_residual-in_err-take.result c.from_residual-in_err-take.ensures.1 in
     rw (p.1, p.2) (read_stops (map symbol (lexemes tokens)) c.loop-token.token-index x c.loop-token.reader c.take.new.self c.in_err-take.field-0.0 (omega (arith, length-map tokens lexeme, length-map (lexemes tokens) symbol)) s
     (subst (λ y. Reads (step y s.state) {A = Unit {0}} (Err c.in_err-take.field-0.0) c.take.new.self) (sym at) (c.in_err-take.ensures s.state s.holds)))
+
+pub returns-in_err-take-clause-parsed : goal.returns-in_err-take-clause-parsed
+returns-in_err-take-clause-parsed c = only_parsed (map symbol (lexemes c.args.tokens.now)) _ (returns-in_err-take-clause-spelled c)
+
+pub returns-clause-parsed : goal.returns-clause-parsed
+returns-clause-parsed c =
+    let symbols = map symbol (lexemes c.args.tokens.now) in
+    let s = c.loop-token.invariant in
+    let all = read_end symbols c.loop-token.token-index c.loop-token.reader (omega (arith, length-map c.args.tokens.now lexeme, length-map (lexemes c.args.tokens.now) symbol)) s in
+    only_parsed symbols c.finish.result (c.finish.ensures symbols s.state s.holds all)

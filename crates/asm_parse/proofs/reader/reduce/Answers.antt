@@ -1,7 +1,7 @@
 use Rattle.std.proofs.Common.{◌≡◌, ◌-◌, ◌++◌, ◌∷◌, [], Some, None, length, take, sym, ap, ◌∙◌, arith}
 use Rattle.std.specs.Prelude.{slice_get, vec_len}
 use Rattle.std.specs.Option.{option_copied}
-use Rattle.asm_parse.proofs.Stacking.{reducing_next, reducing_stays, reducing_ends, split_last, no_last}
+use Rattle.asm_parse.proofs.Stacks.{reducing_next, reducing_stays, reducing_ends, split_last, no_last}
 use Rattle.asm_parse.proofs.reader.reduce.Goals as goal
 
 pub loop-last-preserved : goal.loop-last-preserved

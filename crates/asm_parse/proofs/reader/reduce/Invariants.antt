@@ -2,9 +2,9 @@ use Rattle.std.proofs.Common.{◌≡◌, ◌++◌, List, length, map}
 use Rattle.asm_parse.specs.Expression.{postfix}
 use Rattle.asm_parse.specs.Source.{source_item}
 use Rattle.asm_parse.specs.Grammar.{Phrase, expression}
-use Rattle.asm_parse.specs.Parsing.{Frame, reduce}
-use Rattle.asm_parse.specs.Stacks.{pendings, written}
-use Rattle.asm_parse.proofs.Stacking.{Reducing}
+use Rattle.asm_parse.specs.Private.Parsing.{Frame, reduce}
+use Rattle.asm_parse.specs.Private.Stacks.{pendings, written}
+use Rattle.asm_parse.proofs.Stacks.{Reducing}
 use Rattle.asm_parse.proofs.reader.reduce.Given as goal
 
 abbrev pub invariant-loop-last : goal.invariant-loop-last

@@ -1,5 +1,5 @@
 use Rattle.std.proofs.Common.{length, ◌-◌, ◌≡◌, ◌≤◌, drop}
-use Rattle.asm_scan.specs.Reading.{string_len, longer_by}
+use Rattle.asm_scan.specs.Private.Reading.{string_len, longer_by}
 use Rattle.asm_scan.proofs.quoted.string_len.Given as goal
 
 abbrev pub invariant-loop-len : goal.invariant-loop-len

@@ -1,6 +1,6 @@
 use Rattle.std.proofs.Common.{◌≡◌, ◌+◌, length, ap, ◌∙◌, arith}
-use Rattle.asm_parse.specs.Stacks.{open_in, opened}
-use Rattle.asm_parse.proofs.Steady.{begun, open_in-pendings, opened_few}
+use Rattle.asm_parse.specs.Private.Stacks.{open_in, opened}
+use Rattle.asm_parse.proofs.Readers.{begun, open_in-pendings, opened_few}
 use Rattle.asm_parse.proofs.reader.Reader.begin.Goals as goal
 
 pub returns : goal.returns

@@ -1,7 +1,7 @@
 use Rattle.std.proofs.Common.{map, sym, subst, ◌∙◌, arith}
 use Rattle.asm_parse.specs.Source.{source_item}
-use Rattle.asm_parse.specs.Stacks.{Holds}
-use Rattle.asm_parse.proofs.Steady.{finished, unread, unfinished, open_end, none_waiting, some_waiting, whole_source}
+use Rattle.asm_parse.specs.Private.Stacks.{Holds}
+use Rattle.asm_parse.proofs.Readers.{finished, unread, unfinished, open_end, none_waiting, some_waiting, whole_source}
 use Rattle.asm_parse.proofs.reader.Reader.finish.Goals as goal
 
 pub returns-then-not-self : goal.returns-then-not-self

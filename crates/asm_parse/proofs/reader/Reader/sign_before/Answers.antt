@@ -1,7 +1,7 @@
 use Rattle.std.proofs.Common.{◌≡◌, refl, sym, ap, subst, ◌∙◌, arith}
-use Rattle.asm_parse.specs.Readers.{Reads, room_in}
-use Rattle.asm_parse.specs.Parsing.{room}
-use Rattle.asm_parse.proofs.Steady.{refused, no_room, in_room, room_in-pendings}
+use Rattle.asm_parse.specs.Private.Readers.{Reads, room_in}
+use Rattle.asm_parse.specs.Private.Parsing.{room}
+use Rattle.asm_parse.proofs.Readers.{refused, no_room, in_room, room_in-pendings}
 use Rattle.asm_parse.proofs.reader.Reader.sign_before.Goals as goal
 
 pub returns-then-level_of-room_in : goal.returns-then-level_of-room_in

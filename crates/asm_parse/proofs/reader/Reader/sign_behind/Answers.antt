@@ -2,10 +2,10 @@ use Rattle.std.proofs.Common.{◌++◌, Ok, map, sym, ap, subst, ◌∙◌}
 use Rattle.std.specs.Option.{option_to_list}
 use Rattle.asm_parse.specs.Source.{source_item}
 use Rattle.asm_parse.specs.Grammar.{infix_level}
-use Rattle.asm_parse.specs.Stacks.{IsReduced, open_in}
-use Rattle.asm_parse.specs.Readers.{Reads}
-use Rattle.asm_parse.specs.Parsing.{reduce, sign_behind}
-use Rattle.asm_parse.proofs.Steady.{close_done, right_done}
+use Rattle.asm_parse.specs.Private.Stacks.{IsReduced, open_in}
+use Rattle.asm_parse.specs.Private.Readers.{Reads}
+use Rattle.asm_parse.specs.Private.Parsing.{reduce, sign_behind}
+use Rattle.asm_parse.proofs.Readers.{close_done, right_done}
 use Rattle.asm_parse.proofs.reader.Reader.sign_behind.Goals as goal
 
 pub returns-in-Some : goal.returns-in-Some

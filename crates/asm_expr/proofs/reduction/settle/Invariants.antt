@@ -1,8 +1,0 @@
-use Rattle.std.proofs.Common.{map}
-use Rattle.asm_expr.specs.Names.{table}
-use Rattle.asm_parse.specs.Source.{source_item}
-use Rattle.asm_expr.proofs.Settling.{Settles}
-use Rattle.asm_expr.proofs.reduction.settle.Given as goal
-
-abbrev pub invariant-loop-item : goal.invariant-loop-item
-invariant-loop-item l = Settles (table l.names) (map source_item l.item-items) l.item-index l.size l.out.items

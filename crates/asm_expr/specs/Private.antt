@@ -1,0 +1,7 @@
+-- What private contracts alone cite: no reviewer need believe it.
+pub mod Steps
+pub mod Sums
+pub mod Folding
+pub mod Entries
+pub mod Answers
+pub mod Heads

@@ -1,0 +1,90 @@
+//! What names make of an expression: the items of an object.
+
+ghost use Rattle.std.specs.Prelude.{◌≡◌, ◌⊎◌, List, Err, None, IfErr, IfOk, map};
+ghost use Rattle.std.specs.List.{AllPass};
+ghost use Rattle.std.specs.Option.{option_map};
+ghost use Rattle.asm_parse.specs.declared.fault.ExprFault.{ExprFault};
+ghost use Rattle.asm_expr.specs.Postfix.{source};
+ghost use Rattle.asm_expr.specs.Settling.{IsWorthOf, is_known, item_known, items_known, settled};
+ghost use Rattle.asm_expr.specs.Private.Folding.{unknown_at_end};
+
+use crate::atom::Atom;
+use crate::expr::Expr;
+use crate::names::Names;
+use crate::part::Part;
+use crate::reduction::reduce;
+use crate::unknown::Unknown;
+use asm_parse::{ExprFault, Item, Tree, Unary};
+use std::alloc::Global;
+
+/// What names make of an expression.
+#[derive(Debug, Drop)]
+pub enum Settled {
+    /// Its items, each fixed part as its number.
+    Known(Expr),
+    /// A part has no value, since a line that gives it is faulty: what is known of the whole.
+    Unknown(Unknown),
+}
+
+/// The item of an object that this is; None where it has no value.
+fn item_known(item: &Item<Part>) -> Option<Item<Atom>>
+    ensures { result ≡ item_known item.now }
+{
+    match item {
+        Item::Leaf(Part::Number(n)) => Some(Item::Leaf(Atom::Number(*n))),
+        Item::Leaf(Part::Ref(r)) => Some(Item::Leaf(Atom::Ref(*r))),
+        Item::Leaf(Part::Unknown(_)) => None,
+        Item::Unary(op) => Some(Item::Unary(*op)),
+        Item::Binary(op) => Some(Item::Binary(*op)),
+    }
+}
+
+/// The items of an object that these are; None where one of them has no value.
+fn items_known(alloc: Global, items: &[Item<Part>]) -> Result<Option<Vec<Item<Atom>>>, ExprFault>
+    ensures items { IfOk result (λ answer. option_map (λ known. known.items) answer ≡ items_known items.now) }
+    ensures memory { IfErr result (λ why. why ≡ ExprFault.NoMemory) }
+{
+    let mut known = Vec::with_capacity(alloc, items.len())?;
+    for item in items {
+        match item_known(item) {
+            Some(item) => known.push(item)?,
+            None => return Ok(None),
+        }
+    }
+    Ok(Some(known))
+}
+
+/// What is known of an expression without a value, by its reduced items.
+fn unknown_of(items: &[Item<Part>]) -> Unknown
+    ensures { result ≡ unknown_at_end items.now }
+{
+    match items.last() {
+        Some(Item::Leaf(Part::Unknown(what))) => *what,
+        Some(Item::Unary(Unary::High | Unary::Low)) => Unknown::VariesInByte,
+        _ => Unknown::Varies,
+    }
+}
+
+/// What the names make of an expression: its items with each fixed part as its number. A part may have no value, since the
+/// line that gives it is faulty: a name that stands for none, or a distance over a statement whose size is not known. That is
+/// no fault of this expression, and what is answered is whether the whole is one number all the same.
+///
+/// # Errors
+///
+/// Where an expression has several faults, the one that shows first in postfix order:
+/// [`ExprFault::DivideByZero`] and [`ExprFault::LabelDivisor`] at a division whose divisor is 0, or is not fixed;
+/// [`ExprFault::TooLarge`] at the 65th term or operator, after EQU names are replaced.
+/// [`ExprFault::NoMemory`] where the items cannot grow.
+pub fn settle(alloc: Global, parsed: &Tree, names: &Names) -> Result<Settled, ExprFault>
+    requires { AllPass (is_known names.now) parsed.now }
+    ensures settled { (result ≡ settled names.now (source parsed.now)) ⊎ (result ≡ Err ExprFault.NoMemory) }
+    ensures worth { IfOk result (λ answer. IsWorthOf names.now (source parsed.now) answer) }
+{
+    // Called for what it says of the table: the items that are settled are no more than 64.
+    names.counted();
+    let reduced = reduce(alloc, parsed, names)?;
+    match items_known(alloc, &reduced)? {
+        Some(items) => Ok(Settled::Known(Expr::known(items))),
+        None => Ok(Settled::Unknown(unknown_of(&reduced))),
+    }
+}

@@ -1,0 +1,41 @@
+//! What an EQU's expression stands for.
+
+ghost use Rattle.std.specs.Prelude.{◌≡◌, ◌⊎◌, Err, IfOk};
+ghost use Rattle.std.specs.List.{AllPass};
+ghost use Rattle.asm_expr.specs.Types.{ExprFault};
+ghost use Rattle.asm_expr.specs.Postfix.{source};
+ghost use Rattle.asm_expr.specs.Names.{IsCounted};
+ghost use Rattle.asm_expr.specs.Settling.{is_known};
+ghost use Rattle.asm_expr.specs.Equating.{equated};
+
+use crate::answer::{Settled, settle};
+use crate::expr::constant;
+use crate::meaning::{Equated, Meaning};
+use crate::names::Names;
+use crate::weigh::{is_constant, size};
+use asm_parse::{ExprFault, Tree};
+use std::alloc::Global;
+
+/// What a name stands for whose EQU has this expression.
+///
+/// # Errors
+///
+/// The first fault of the expression, as [`settle`](crate::settle) has it.
+pub fn equate(alloc: Global, parsed: &Tree, names: &Names) -> Result<Meaning, ExprFault>
+    requires { AllPass (is_known names.now) parsed.now }
+    ensures equated { (result ≡ equated names.now (source parsed.now)) ⊎ (result ≡ Err ExprFault.NoMemory) }
+    ensures counted { IfOk result IsCounted }
+{
+    let expr = match settle(alloc, parsed, names)? {
+        Settled::Known(expr) => expr,
+        Settled::Unknown(what) => return Ok(Meaning::Unknown(what)),
+    };
+    if !is_constant(parsed, names) {
+        let size = size(parsed, names);
+        return Ok(Meaning::Equ(Equated { expr, size }));
+    }
+    match constant(&expr) {
+        Some(n) => Ok(Meaning::Constant(n)),
+        None => unreachable!(),
+    }
+}

@@ -1,0 +1,114 @@
+//! Statements in order, and the distances between them.
+
+ghost use Rattle.std.specs.Prelude.{◌≡◌, ◌++◌, ◌∷◌, [], List, OnOk, OnErr, MatchOption, ◌<◌, ◌≤◌, length, take};
+ghost use Rattle.asm_expr.specs.declared.statement.Statement.{Statement};
+ghost use Rattle.asm_expr.specs.Distances.{distance};
+ghost use Rattle.asm_expr.specs.Private.Sums.{IsBefore, gap};
+
+use crate::statement::Statement;
+use crate::worth::Worth;
+use std::alloc::{AllocError, Global};
+use std::marker::Model;
+
+/// What stands before a place: how many bytes of known sizes, modulo 65,536, how many relaxable jumps, and how many
+/// statements of a size that is not known.
+#[derive(Clone, Copy, Debug)]
+struct Before {
+    bytes: u16,
+    relaxable: usize,
+    unknown: usize,
+}
+
+/// How far a place lies behind another, by what stands before each.
+fn gap(p: Before, q: Before) -> Worth
+    ensures { result ≡ gap p q }
+{
+    if p.relaxable != q.relaxable {
+        Worth::Varies
+    } else if p.unknown != q.unknown {
+        Worth::Unknown
+    } else {
+        Worth::Number(p.bytes.wrapping_sub(q.bytes))
+    }
+}
+
+/// A statement, and what stands before it.
+#[derive(Clone, Copy, Debug)]
+struct Passed {
+    statement: Statement,
+    before: Before,
+}
+
+/// Statements in order. Clauses see their list.
+#[derive(Debug, Drop)]
+pub(crate) struct Layout {
+    passed: Vec<Passed>,
+    end: Before,
+}
+
+impl Model for Layout {
+    ghost use Rattle.std.specs.Prelude.{List, map};
+    ghost use Rattle.asm_expr.specs.declared.statement.Statement.{Statement};
+    ghost use Rattle.asm_expr.specs.Private.Sums.{AreSummed};
+
+    ghost Value = { List Statement };
+
+    ghost view = { λ l. map (λ p. p.statement) l.passed.items };
+
+    ghost invariant = { λ l. AreSummed l.passed.items l.end };
+}
+
+impl Layout {
+    /// No statements.
+    pub(crate) fn new(alloc: Global) -> Layout
+        ensures { result ≡ [] }
+    {
+        Layout {
+            passed: Vec::new(alloc),
+            end: Before {
+                bytes: 0,
+                relaxable: 0,
+                unknown: 0,
+            },
+        }
+    }
+
+    /// Passes a statement.
+    pub(crate) fn pass(&mut self, statement: Statement) -> Result<(), AllocError>
+        ensures ok { OnOk result (self.new ≡ self.old ++ statement ∷ []) }
+        ensures err { OnErr result (self.new ≡ self.old) }
+    {
+        self.passed.push(Passed {
+            statement,
+            before: self.end,
+        })?;
+        match statement {
+            Statement::Sized(size) => self.end.bytes = self.end.bytes.wrapping_add(size),
+            Statement::Relaxable => self.end.relaxable += 1,
+            Statement::Unsized => self.end.unknown += 1,
+        }
+        Ok(())
+    }
+
+    /// What stands before a statement, or before the end; None of a number past it.
+    fn before(&self, statement: u16) -> Option<Before>
+        ensures { MatchOption result (length self.now < statement) (λ b. (statement ≤ length self.now) × IsBefore (take statement self.now) b) }
+    {
+        let at = usize::from(statement);
+        if at == self.passed.len() {
+            Some(self.end)
+        } else {
+            self.passed.get(at).map(|passed| passed.before)
+        }
+    }
+
+    /// How far statement `p` lies behind statement `q`, modulo 65,536.
+    pub(crate) fn distance(&self, p: u16, q: u16) -> Worth
+        ensures { result ≡ distance self.now p q }
+    {
+        match (self.before(p), self.before(q)) {
+            (Some(p), Some(q)) => gap(p, q),
+            _ => Worth::Varies,
+        }
+    }
+}
