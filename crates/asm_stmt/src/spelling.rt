@@ -11,8 +11,8 @@ ghost use Rattle.asm_stmt.specs.declared.fault.StmtFault.TheVariants.{BadOperand
 use crate::fault::StmtFault;
 use crate::form::{Body, Branch, Field, Stmt};
 use crate::names::{Word, word_named};
-use asm_words::is_reserved;
 use asm_scan::{Kind, Mark, Token};
+use asm_words::is_reserved;
 use std::alloc::Global;
 use z80_instr::Instr;
 

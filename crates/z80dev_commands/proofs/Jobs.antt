@@ -57,7 +57,11 @@ job_of words f (Check sizes cert) met parsed is = (parsed, (met.rows, met.checks
 
 -- one of the paths is not there
 pub lacks : (words : List Text) (f : Found) → IsMet words f → IsCheckOf f None → LacksPath words
-lacks words f met is = (met.rows, met.checks, elim is [
-  | inl e ↦ inl (sym (met.values (codes "SIZES")) ∙ e)
-  | inr e ↦ inr (sym (met.values (codes "CERT")) ∙ e)
-])
+lacks words f met is = (
+  met.rows,
+  met.checks,
+  elim is [
+    | inl e ↦ inl (sym (met.values (codes "SIZES")) ∙ e)
+    | inr e ↦ inr (sym (met.values (codes "CERT")) ∙ e)
+  ],
+)

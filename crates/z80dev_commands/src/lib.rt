@@ -42,7 +42,11 @@ fn command<'a>(alloc: Global) -> Result<Command<'a>, AllocError>
     ensures app { IfOk result (λ c. app_of c ≡ z80dev) }
 {
     let sizes = path(alloc, "SIZES", "The sizes text: a line for each statement");
-    let cert = path(alloc, "CERT", "The certificate: the jumps that must be long, and the verdict");
+    let cert = path(
+        alloc,
+        "CERT",
+        "The certificate: the jumps that must be long, and the verdict",
+    );
     let check = Command::new(alloc, "check")
         .about("Checks the certificate of a sizes text: prints `best N`, `range K` or `size N`")
         .arg(sizes)?

@@ -22,10 +22,10 @@ loop-k-preserved c =
     let h1 = c.in_ok-push-2.ensures in
     let there = slice_get-get_or c.args.statements.now c.loop-k.k (Fixed 0) (omega arith) in
     let more = place-next (chosen c.args.long.now) c.args.statements.now c.loop-k.k _ there in
-    let next : c.loop-k.next + c.size_of-next.result ≡ place (chosen c.args.long.now) c.args.statements.now (c.loop-k.k + 1) = omega (arith, c.loop-k.invariant.next, c.size_of-next.ensures.value, more) in
+    let next : c.loop-k.next + c.size-next.result ≡ place (chosen c.args.long.now) c.args.statements.now (c.loop-k.k + 1) = omega (arith, c.loop-k.invariant.next, c.size-next.ensures.value, more) in
     record {
       len = omega (arith, h1.len, c.loop-k.invariant.len);
       next = next;
-      small = omega (arith, c.loop-k.invariant.small, c.size_of-next.ensures.bound);
+      small = omega (arith, c.loop-k.invariant.small, c.size-next.ensures.bound);
       each = table-push (place (chosen c.args.long.now) c.args.statements.now) c.loop-k.places.items _ c.loop-k.k _ (omega (arith, c.loop-k.invariant.len, c.loop-k.places.ok)) next h1.items c.loop-k.invariant.each;
     }
