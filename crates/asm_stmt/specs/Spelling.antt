@@ -37,7 +37,7 @@ symbol_by kind.Quoted text = Other
 abbrev pub symbol : Lexeme → Symbol
 symbol token = symbol_by token.kind token.text
 
--- numbers divided by commas, at least one
+-- numbers separated by commas, at least one
 abbrev pub bytes_listed : List Symbol → Option (List Field)
 bytes_listed (Number n ∷ []) = Some (Byte n ∷ [])
 bytes_listed (Number n ∷ Sign Comma ∷ rest) = option_map (λ fields. Byte n ∷ fields) (bytes_listed rest)

@@ -16,7 +16,7 @@ use asm_words::is_reserved;
 use std::alloc::Global;
 use z80_instr::Instr;
 
-/// The numbers of a `DB`, which commas divide.
+/// The numbers of a `DB`, separated by commas.
 fn bytes_of(alloc: Global, operands: &[Token<'_>]) -> Result<Vec<Field>, StmtFault>
     ensures sized { IfOk result (λ v. (1 ≤ vec_len v) × (vec_len v ≤ length operands.entry.now)) }
     ensures listed { Gives (λ v. v.items) result (value_or BadOperands (bytes_listed (symbols operands.entry.now))) }

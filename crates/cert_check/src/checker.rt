@@ -58,6 +58,7 @@ pub fn check(alloc: Global, sizes: &[u8], cert: &[u8]) -> Result<Verdict, CheckF
     ensures verdict { IfOk result (λ verdict. (shape : List Statement) → IsShape shape → sizes.now ≡ sizes_text shape →
         Holds shape verdict) }
 {
+    // Laws, which do nothing: their contracts are what the clauses `only` and `verdict` follow from.
     one_answer();
     accepted();
     judged(alloc, sizes, cert)

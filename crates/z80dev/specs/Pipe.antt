@@ -47,8 +47,8 @@ file_line file = encode_lower file ++ 10 ∷ []
 abbrev pub WithFile : List ℕ → (List ℕ → Type 0) → Type 0
 WithFile text Written = IsWithin text × (file : List ℕ) × IsFileOf text file × Written (file_line file)
 
--- `build` refuses a text: with the first fault of one that is within the limit, because no choice of its jumps fits, or for
--- want of memory.
+-- `build` refuses a text: with the first fault of one that is within the limit, because no choice of its jumps fits, or because
+-- memory ran out.
 abbrev pub IsRefused : List ℕ → BuildFault → Type 0
 IsRefused text (build.Link link.NoMemory) = Unit {0}
 IsRefused text refusal = IsWithin text × IsAnswer text (Err refusal)

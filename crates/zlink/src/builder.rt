@@ -78,6 +78,7 @@ pub fn build(alloc: Global, sources: &[Source<'_>]) -> Result<Built, BuildFault>
     ensures exact { (source : Source) (fault : AsmFault) → sources.entry.now ≡ source ∷ [] → Assembles source.text.now (Err fault) →
         (result ≡ Err (BuildFault.Asm 0 fault)) ⊎ (result ≡ Err (BuildFault.Link LinkFault.NoMemory)) }
 {
+    // A law, which does nothing: its contract is what the clause `exact` follows from.
     one_answer();
     build_text(alloc, sources[0].text)
 }

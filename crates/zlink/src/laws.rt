@@ -15,6 +15,7 @@ ghost use Rattle.zlink.specs.Certified.{told};
 pub fn one_answer()
     ensures { (text : List ℕ) (a b : Result (List (Statement ℕ)) AsmFault) → Assembles text a → Assembles text b → a ≡ b }
 {
+    // A law, which does nothing: its contract is what this one follows from.
     asm_scan::laws::one_answer();
 }
 
@@ -22,6 +23,7 @@ pub fn one_answer()
 pub fn some_answer()
     ensures { (text : List ℕ) → (answer : Result (List (Statement ℕ)) AsmFault) × Assembles text answer }
 {
+    // As above.
     asm_scan::laws::some_answer();
 }
 
