@@ -1,9 +1,9 @@
 -- Numbers put in change neither the row nor the length of the bytes.
 use Rattle.std.proofs.Common.{◌≡◌, ℕ, List, [], ◌∷◌, refl, ap, ◌∙◌, length, ℤ}
-use Rattle.z80_instr.specs.Table.{canonical, octal_of}
+use Rattle.z80_instr.specs.Table.{canonical}
 use Rattle.z80_form.specs.Types.{Memory, Operand, Pointer, RegisterPair, WordRegister, Octal, InterruptMode, Instr, Field, Mnemonic, Form, Name}
 use Rattle.z80_form.specs.Rows.{row, operand, memory, pointer, register, two, one, on_a}
-use Rattle.z80_form.specs.Numbers.{memory_at, operand_at, pointer_at, with_displacement, with_byte, with_word, with_distance, with_bit, with_mode, with_restart, mode_of, signed, with_number, with_numbers}
+use Rattle.z80_form.specs.Numbers.{memory_at, operand_at, pointer_at, with_displacement, with_byte, with_word, with_distance, with_bit, with_mode, with_restart, with_number, with_numbers}
 
 -- Rows.
 

@@ -1,12 +1,12 @@
 -- Every instruction is that of its row with its numbers put in: a test for each row of the table.
-use Rattle.std.proofs.Common.{◌≡◌, ℕ, ◌+◌, ◌-◌, ◌*◌, ◌/◌, ◌%◌, ◌<◌, List, [], ◌∷◌, Bool, true, ◌&&◌, ◌||◌, refl, ap, ◌∙◌, map, ℤ, pos, negsuc, All, arith, length}
+use Rattle.std.proofs.Common.{◌≡◌, ℕ, ◌-◌, ◌*◌, ◌/◌, ◌%◌, ◌<◌, List, [], ◌∷◌, true, refl, ℤ, pos, negsuc, arith}
 use Rattle.std.proofs.lemmas.Bool.{ltb-true, and_parts}
 use Rattle.std.proofs.lemmas.List.Elements.{All-cons}
 use Rattle.z80_instr.specs.Table.{octal_code, octal_of}
 use Rattle.z80_instr.specs.Codes.{in_range, is_signed_byte}
-use Rattle.z80_instr.proofs.Finite.{agree_below, Finite, ◌⊗◌, registers, indexes, pairs, addends, conditions, short_conditions, operations, rotations, octals, block_operations, block_steps}
+use Rattle.z80_instr.proofs.Finite.{agree_below, ◌⊗◌, registers, indexes, pairs, addends, conditions, short_conditions, operations, rotations, octals, block_operations, block_steps}
 use Rattle.z80_form.specs.Types.{Memory, Operand, Pointer, WordRegister, HlOrIndex, StackOperand, Octal, InterruptMode, Instr, Field}
-use Rattle.z80_form.specs.Numbers.{allows, fields, signed, with_number, with_numbers, AreAllowed, blank, HasNumbers}
+use Rattle.z80_form.specs.Numbers.{allows, fields, signed, with_number, blank, HasNumbers}
 
 -- Numbers in fields.
 
@@ -68,20 +68,20 @@ complete (Instr.LoadByte (Operand.Memory Memory.Hl) n) ok = let small = ltb-true
 complete (Instr.LoadByte (Operand.Memory (Memory.Indexed a d)) n) ok = let parts = and_parts (is_signed_byte d) _ ok in let small = ltb-true n 256 parts.1 in two_numbers _ Field.Displacement Field.Byte (displacement d) n (indexes.agree _ (λ a. Field.Displacement ∷ Field.Byte ∷ []) (λ a. fields (Instr.LoadByte (Operand.Memory (Memory.Indexed a d)) n)) refl a) (displacement_allowed d parts.0) (byte_allowed n small) (rw (displacement_is d parts.0, byte_is n small) refl)
 complete (Instr.LoadA Pointer.Bc) ok = none _ refl refl
 complete (Instr.LoadA Pointer.De) ok = none _ refl refl
-complete (Instr.LoadA (Pointer.Address nn)) ok = one_number _ Field.Word nn refl refl refl
+complete (Instr.LoadA (Pointer.Address nn)) ok = one_number _ Field.Word nn refl ok refl
 complete (Instr.StoreA Pointer.Bc) ok = none _ refl refl
 complete (Instr.StoreA Pointer.De) ok = none _ refl refl
-complete (Instr.StoreA (Pointer.Address nn)) ok = one_number _ Field.Word nn refl refl refl
+complete (Instr.StoreA (Pointer.Address nn)) ok = one_number _ Field.Word nn refl ok refl
 complete Instr.LoadAFromI ok = none _ refl refl
 complete Instr.LoadAFromR ok = none _ refl refl
 complete Instr.LoadIFromA ok = none _ refl refl
 complete Instr.LoadRFromA ok = none _ refl refl
-complete (Instr.LoadWord (WordRegister.Pair a) nn) ok = one_number _ Field.Word nn (pairs.agree _ (λ a. Field.Word ∷ []) (λ a. fields (Instr.LoadWord (WordRegister.Pair a) nn)) refl a) refl refl
-complete (Instr.LoadWord (WordRegister.Index a) nn) ok = one_number _ Field.Word nn (indexes.agree _ (λ a. Field.Word ∷ []) (λ a. fields (Instr.LoadWord (WordRegister.Index a) nn)) refl a) refl refl
-complete (Instr.LoadWordFrom (WordRegister.Pair a) nn) ok = one_number _ Field.Word nn (pairs.agree _ (λ a. Field.Word ∷ []) (λ a. fields (Instr.LoadWordFrom (WordRegister.Pair a) nn)) refl a) refl refl
-complete (Instr.LoadWordFrom (WordRegister.Index a) nn) ok = one_number _ Field.Word nn (indexes.agree _ (λ a. Field.Word ∷ []) (λ a. fields (Instr.LoadWordFrom (WordRegister.Index a) nn)) refl a) refl refl
-complete (Instr.StoreWord (WordRegister.Pair a) nn) ok = one_number _ Field.Word nn (pairs.agree _ (λ a. Field.Word ∷ []) (λ a. fields (Instr.StoreWord (WordRegister.Pair a) nn)) refl a) refl refl
-complete (Instr.StoreWord (WordRegister.Index a) nn) ok = one_number _ Field.Word nn (indexes.agree _ (λ a. Field.Word ∷ []) (λ a. fields (Instr.StoreWord (WordRegister.Index a) nn)) refl a) refl refl
+complete (Instr.LoadWord (WordRegister.Pair a) nn) ok = one_number _ Field.Word nn (pairs.agree _ (λ a. Field.Word ∷ []) (λ a. fields (Instr.LoadWord (WordRegister.Pair a) nn)) refl a) ok refl
+complete (Instr.LoadWord (WordRegister.Index a) nn) ok = one_number _ Field.Word nn (indexes.agree _ (λ a. Field.Word ∷ []) (λ a. fields (Instr.LoadWord (WordRegister.Index a) nn)) refl a) ok refl
+complete (Instr.LoadWordFrom (WordRegister.Pair a) nn) ok = one_number _ Field.Word nn (pairs.agree _ (λ a. Field.Word ∷ []) (λ a. fields (Instr.LoadWordFrom (WordRegister.Pair a) nn)) refl a) ok refl
+complete (Instr.LoadWordFrom (WordRegister.Index a) nn) ok = one_number _ Field.Word nn (indexes.agree _ (λ a. Field.Word ∷ []) (λ a. fields (Instr.LoadWordFrom (WordRegister.Index a) nn)) refl a) ok refl
+complete (Instr.StoreWord (WordRegister.Pair a) nn) ok = one_number _ Field.Word nn (pairs.agree _ (λ a. Field.Word ∷ []) (λ a. fields (Instr.StoreWord (WordRegister.Pair a) nn)) refl a) ok refl
+complete (Instr.StoreWord (WordRegister.Index a) nn) ok = one_number _ Field.Word nn (indexes.agree _ (λ a. Field.Word ∷ []) (λ a. fields (Instr.StoreWord (WordRegister.Index a) nn)) refl a) ok refl
 complete (Instr.LoadSp HlOrIndex.Hl) ok = none _ refl refl
 complete (Instr.LoadSp (HlOrIndex.Index a)) ok = none _ (indexes.agree _ (λ a. []) (λ a. fields (Instr.LoadSp (HlOrIndex.Index a))) refl a) refl
 complete (Instr.Push StackOperand.Bc) ok = none _ refl refl
@@ -148,15 +148,15 @@ complete (Instr.Set a (Operand.Memory (Memory.Indexed b d))) ok = two_numbers _ 
 complete (Instr.Res a (Operand.Register b)) ok = one_number _ Field.Bit (octal_code a) ((octals ⊗ registers).agree _ (λ p. Field.Bit ∷ []) (λ p. fields (Instr.Res p.0 (Operand.Register p.1))) refl (a, b)) (bit_allowed a) (rw (bit_is a) refl)
 complete (Instr.Res a (Operand.Memory Memory.Hl)) ok = one_number _ Field.Bit (octal_code a) (octals.agree _ (λ a. Field.Bit ∷ []) (λ a. fields (Instr.Res a (Operand.Memory Memory.Hl))) refl a) (bit_allowed a) (rw (bit_is a) refl)
 complete (Instr.Res a (Operand.Memory (Memory.Indexed b d))) ok = two_numbers _ Field.Bit Field.Displacement (octal_code a) (displacement d) ((octals ⊗ indexes).agree _ (λ p. Field.Bit ∷ Field.Displacement ∷ []) (λ p. fields (Instr.Res p.0 (Operand.Memory (Memory.Indexed p.1 d)))) refl (a, b)) (bit_allowed a) (displacement_allowed d ok) (rw (displacement_is d ok, bit_is a) refl)
-complete (Instr.Jump nn) ok = one_number _ Field.Word nn refl refl refl
-complete (Instr.JumpIf a nn) ok = one_number _ Field.Word nn (conditions.agree _ (λ a. Field.Word ∷ []) (λ a. fields (Instr.JumpIf a nn)) refl a) refl refl
+complete (Instr.Jump nn) ok = one_number _ Field.Word nn refl ok refl
+complete (Instr.JumpIf a nn) ok = one_number _ Field.Word nn (conditions.agree _ (λ a. Field.Word ∷ []) (λ a. fields (Instr.JumpIf a nn)) refl a) ok refl
 complete (Instr.JumpRelative e) ok = one_number _ Field.Distance (displacement e) refl (displacement_allowed e ok) (rw (displacement_is e ok) refl)
 complete (Instr.JumpRelativeIf a e) ok = one_number _ Field.Distance (displacement e) (short_conditions.agree _ (λ a. Field.Distance ∷ []) (λ a. fields (Instr.JumpRelativeIf a e)) refl a) (displacement_allowed e ok) (rw (displacement_is e ok) refl)
 complete (Instr.JumpIndirect HlOrIndex.Hl) ok = none _ refl refl
 complete (Instr.JumpIndirect (HlOrIndex.Index a)) ok = none _ (indexes.agree _ (λ a. []) (λ a. fields (Instr.JumpIndirect (HlOrIndex.Index a))) refl a) refl
 complete (Instr.Djnz e) ok = one_number _ Field.Distance (displacement e) refl (displacement_allowed e ok) (rw (displacement_is e ok) refl)
-complete (Instr.Call nn) ok = one_number _ Field.Word nn refl refl refl
-complete (Instr.CallIf a nn) ok = one_number _ Field.Word nn (conditions.agree _ (λ a. Field.Word ∷ []) (λ a. fields (Instr.CallIf a nn)) refl a) refl refl
+complete (Instr.Call nn) ok = one_number _ Field.Word nn refl ok refl
+complete (Instr.CallIf a nn) ok = one_number _ Field.Word nn (conditions.agree _ (λ a. Field.Word ∷ []) (λ a. fields (Instr.CallIf a nn)) refl a) ok refl
 complete Instr.Ret ok = none _ refl refl
 complete (Instr.RetIf a) ok = none _ (conditions.agree _ (λ a. []) (λ a. fields (Instr.RetIf a)) refl a) refl
 complete Instr.Reti ok = none _ refl refl

@@ -1,7 +1,7 @@
 -- Where the numbers stand in the bytes: a test for each row that has one.
-use Rattle.std.proofs.Common.{◌≡◌, ℕ, ◌%◌, ◌<◌, List, [], ◌∷◌, ◌++◌, refl, ap, arith, true, Some, ℤ}
+use Rattle.std.proofs.Common.{◌≡◌, ℕ, ◌%◌, [], ◌∷◌, ◌++◌, refl, ap, arith, true, Some}
 use Rattle.std.specs.Prelude.{slice_set}
-use Rattle.std.specs.Int.{w8, cast_signed, cast_unsigned}
+use Rattle.std.specs.Int.{w8, cast_unsigned}
 use Rattle.std.proofs.lemmas.Int.{of_z-to_z}
 use Rattle.z80_instr.specs.Table.{canonical, word}
 use Rattle.z80_form.specs.Types.{Memory, Operand, Pointer, RegisterPair, WordRegister, Instr, Field}

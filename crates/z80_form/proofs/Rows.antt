@@ -1,5 +1,5 @@
 -- Each instruction is read from its row, with (IX+d) and with (IX): a test for each row of the table.
-use Rattle.std.proofs.Common.{◌≡◌, inl, inr, ◌⊎◌, List, Option, Some, refl, ap, sym, ◌∙◌, map}
+use Rattle.std.proofs.Common.{◌≡◌, inl, inr, List, Option, Some, refl, ap, sym, ◌∙◌, map}
 use Rattle.z80_instr.proofs.Finite.{Finite, ◌⊗◌, registers, indexes, pairs, addends, conditions, short_conditions, operations, rotations, octals, block_operations, block_steps}
 use Rattle.z80_form.specs.Types.{Memory, Operand, Pointer, WordRegister, HlOrIndex, StackOperand, InterruptMode, Instr, Form, Mnemonic}
 use Rattle.z80_form.specs.Rows.{row, without_displacement, Spells}

@@ -1,12 +1,14 @@
 -- What is read has the row that was read: a test for each mnemonic over the forms.
-use Rattle.std.proofs.Common.{◌≡◌, inl, inr, ◌⊎◌, ◌↔◌, List, [], ◌∷◌, Option, Some, None, Bool, true, false, ◌||◌, refl, ap, sym, ◌∙◌, map, cond, length}
-use Rattle.std.specs.Option.{option_map}
-use Rattle.std.proofs.lemmas.Bool.{cases_Bool}
-use Rattle.z80_instr.proofs.Finite.{Finite, ◌⊗◌, operations}
-use Rattle.z80_form.specs.Types.{AluOperation, Instr, Form, Mnemonic}
+use Rattle.std.proofs.Common.{◌≡◌, ◌≢◌, not, arith, inl, inr, ◌⊎◌, ◌↔◌, List, [], ◌∷◌, Option, Some, None, Bool, true, false, ◌||◌, refl, ap, sym, ◌∙◌, map, cond, length}
+use Rattle.std.specs.Option.{option_map, is_some, IfSome}
+use Rattle.std.specs.List.{list_all}
+use Rattle.std.proofs.lemmas.List.Elements.{All-cons}
+use Rattle.std.proofs.lemmas.Bool.{cases_Bool, and_parts}
+use Rattle.z80_instr.proofs.Finite.{◌⊗◌}
+use Rattle.z80_form.specs.Types.{AluOperation, Instr, Form, Mnemonic, Field}
 use Rattle.z80_form.specs.Rows.{row, without_displacement, Spells}
 use Rattle.z80_instr.specs.Table.{canonical}
-use Rattle.z80_form.specs.Numbers.{zeros, blank}
+use Rattle.z80_form.specs.Numbers.{zeros, blank, field_of, has_expression, HasFields}
 use Rattle.z80_form.specs.Private.Reading.{instruction_read, two_read}
 use Rattle.z80_words.proofs.Finite.{mnemonics}
 use Rattle.z80_form.proofs.Finite.{operand_forms}
@@ -23,14 +25,18 @@ has_index (form ∷ forms) = has_index forms
 abbrev written : List Form → Instr → List Form
 written forms instr = cond (has_index forms) (map without_displacement (row instr).operands) (row instr).operands
 
+-- whether an operand's expression, if it has one, fills a field of the instruction
+abbrev fills : Instr → Form → Bool
+fills instr form = not (has_expression form) || is_some (field_of instr form)
+
 abbrev Seen : Type 0
-Seen = Mnemonic × List Form × Instr
+Seen = Mnemonic × List Form × Instr × Bool
 
 abbrev seen : List Form → Instr → Seen
-seen forms instr = ((row instr).mnemonic, written forms instr, blank instr)
+seen forms instr = ((row instr).mnemonic, written forms instr, blank instr, list_all (fills instr) forms)
 
 abbrev wanted : Mnemonic → List Form → Instr → Seen
-wanted m forms instr = (m, forms, instr)
+wanted m forms instr = (m, forms, instr, true)
 
 abbrev IsSound : Mnemonic → List Form → Option Instr → Type 0
 IsSound m forms read = option_map (seen forms) read ≡ option_map (wanted m forms) read
@@ -67,7 +73,7 @@ sound m (form ∷ []) = (mnemonics ⊗ operand_forms).agree _ (λ p. option_map 
 sound m (left ∷ right ∷ []) = two_sound m left right
 sound m (a ∷ b ∷ c ∷ forms) = refl
 
-spelled : (m : Mnemonic) (forms : List Form) (instr : Instr) → seen forms instr ≡ wanted m forms instr → Spells m forms instr × (blank instr ≡ instr)
+spelled : (m : Mnemonic) (forms : List Form) (instr : Instr) → seen forms instr ≡ wanted m forms instr → Spells m forms instr × (blank instr ≡ instr) × (list_all (fills instr) forms ≡ true)
 spelled m forms instr e =
     let operands : written forms instr ≡ forms = ap (λ (s : Seen). s.1) e in
     let split : (forms ≡ (row instr).operands) ⊎ (forms ≡ map without_displacement (row instr).operands) =
@@ -75,9 +81,9 @@ spelled m forms instr e =
       | inl short ↦ inr (sym (rw short at operands))
       | inr long ↦ inl (sym (rw long at operands))
     ] in
-    (record { mnemonic_is = ap (λ (s : Seen). s.0) e; operands_are = split }, ap (λ (s : Seen). s.2) e)
+    (record { mnemonic_is = ap (λ (s : Seen). s.0) e; operands_are = split }, ap (λ (s : Seen). s.2) e, ap (λ (s : Seen). s.3) e)
 
-is_spelled : (m : Mnemonic) (forms : List Form) (instr : Instr) (read : Option Instr) → IsSound m forms read → read ≡ Some instr → Spells m forms instr × (blank instr ≡ instr)
+is_spelled : (m : Mnemonic) (forms : List Form) (instr : Instr) (read : Option Instr) → IsSound m forms read → read ≡ Some instr → Spells m forms instr × (blank instr ≡ instr) × (list_all (fills instr) forms ≡ true)
 is_spelled m forms instr None e is = absurd cc
 is_spelled m forms instr (Some found) e is =
     let same : found ≡ instr = cc in
@@ -87,9 +93,25 @@ is_spelled m forms instr (Some found) e is =
 -- What is read of a mnemonic and operands is the one instruction that they spell.
 pub instruction_is : (m : Mnemonic) (forms : List Form) (instr : Instr) → (instruction_read m forms ≡ Some instr) ↔ (Spells m forms instr × (blank instr ≡ instr))
 instruction_is m forms instr = (
-  λ is. is_spelled m forms instr (instruction_read m forms) (sound m forms) is,
+  λ is. let all = is_spelled m forms instr (instruction_read m forms) (sound m forms) is in (all.0, all.1),
   λ spells. found m forms instr spells.0 ∙ ap Some spells.1,
 )
+
+-- Each expression of what is read fills a field of the instruction.
+fills_field : (expression : Bool) (field : Option Field) → (not expression || is_some field) ≡ true → expression ≡ true → field ≢ None
+fills_field false field ok e none = cc
+fills_field true None ok e none = cc
+fills_field true (Some field) ok e none = cc
+
+has_fields : (instr : Instr) (forms : List Form) → list_all (fills instr) forms ≡ true → HasFields instr forms
+has_fields instr [] ok = λ k d h. absurd (omega arith)
+has_fields instr (form ∷ forms) ok =
+    let parts = and_parts (fills instr form) _ ok in
+    All-cons (λ form. has_expression form ≡ true → field_of instr form ≢ None) form forms (fills_field (has_expression form) (field_of instr form) parts.0) (has_fields instr forms parts.1)
+
+pub fields_filled : (m : Mnemonic) (forms : List Form) (read : Option Instr) → instruction_read m forms ≡ read → IfSome read (λ instr. HasFields instr forms)
+fields_filled m forms None e = tt
+fields_filled m forms (Some instr) e = has_fields instr forms (is_spelled m forms instr (instruction_read m forms) (sound m forms) e).2
 
 -- Nothing is read exactly where no instruction is spelled.
 none_by : (m : Mnemonic) (forms : List Form) (read : Option Instr) → instruction_read m forms ≡ read → ((instr : Instr) → Spells m forms instr → ⊥) → read ≡ None

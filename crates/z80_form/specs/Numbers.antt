@@ -1,5 +1,5 @@
 -- The numbers of an instruction: which of them an operand's expression fills, and the instruction with a number put in.
-use Rattle.std.specs.Prelude.{◌≡◌, ℕ, zero, suc, ◌-◌, ◌/◌, ◌%◌, Bool, true, false, ◌&&◌, ◌||◌, ◌==◌, nat_lt, nat_le, List, [], ◌∷◌, Option, Some, None, ℤ, map, take, length, All}
+use Rattle.std.specs.Prelude.{◌≡◌, ◌≢◌, ℕ, zero, suc, ◌-◌, ◌/◌, ◌%◌, Bool, true, false, ◌&&◌, ◌||◌, ◌==◌, nat_lt, nat_le, List, [], ◌∷◌, Option, Some, None, ℤ, map, take, length, All}
 use Rattle.std.specs.List.{filter_map}
 use Rattle.std.specs.Int.{w8, cast_signed}
 use Rattle.z80_instr.specs.Table.{octal_of}
@@ -38,22 +38,33 @@ field_of instr Form.AtNumber = number_field instr
 field_of instr Form.Number = number_field instr
 field_of instr _ = None
 
+-- whether an operand has an expression
+abbrev pub has_expression : Form → Bool
+has_expression (Form.Displaced x) = true
+has_expression Form.AtNumber = true
+has_expression Form.Number = true
+has_expression _ = false
+
+-- Each expression among the operands fills a field of the instruction.
+abbrev pub HasFields : Instr → List Form → Type 0
+HasFields instr operands = All (λ form. has_expression form ≡ true → field_of instr form ≢ None) operands
+
 -- what the expressions of an instruction fill, from left to right
 abbrev pub fields : Instr → List Field
 fields instr = filter_map (field_of instr) (row instr).operands
 
--- A number is one of 16 bits; the negative ones are their remainders.
+-- A number is one of 16 bits; the negative ones are their remainders by 65,536.
 
--- -128 to 127
-abbrev pub is_signed_byte : ℕ → Bool
-is_signed_byte value = nat_lt value 128 || nat_le (65536 - 128) value
+-- -128 to -1
+abbrev pub is_negative : ℕ → Bool
+is_negative value = nat_le (65536 - 128) value && nat_lt value 65536
 
 -- whether a number may stand in a field
 abbrev pub allows : Field → ℕ → Bool
-allows Field.Byte value = nat_lt value 256 || nat_le (65536 - 128) value
-allows Field.Word value = true
-allows Field.Displacement value = is_signed_byte value
-allows Field.Distance value = is_signed_byte value
+allows Field.Byte value = nat_lt value 256 || is_negative value
+allows Field.Word value = nat_lt value 65536
+allows Field.Displacement value = nat_lt value 128 || is_negative value
+allows Field.Distance value = nat_lt value 128 || is_negative value
 allows Field.Bit value = nat_lt value 8
 allows Field.Mode value = nat_lt value 3
 allows Field.Restart value = nat_lt value 64 && (value % 8 == 0)

@@ -1,9 +1,9 @@
 //! From a mnemonic and its operands to the instruction.
 
-ghost use Rattle.std.specs.Prelude.{◌≡◌, ◌↔◌, Some, None};
+ghost use Rattle.std.specs.Prelude.{◌≡◌, ◌↔◌, Some, None, IfSome};
 ghost use Rattle.z80_form.specs.Types.{Instr};
 ghost use Rattle.z80_form.specs.Rows.{Spells};
-ghost use Rattle.z80_form.specs.Numbers.{blank};
+ghost use Rattle.z80_form.specs.Numbers.{blank, HasFields};
 ghost use Rattle.z80_form.specs.Private.Reading as reading;
 
 use crate::form::{Form, Pointed};
@@ -19,6 +19,7 @@ use z80_words::{Mnemonic, Name};
 pub fn instruction(mnemonic: Mnemonic, operands: &[Form]) -> Option<Instr>
     ensures spelled { (instr : Instr) →
         (result ≡ Some instr) ↔ (Spells mnemonic operands.entry.now instr × (blank instr ≡ instr)) }
+    ensures fields { IfSome result (λ instr. HasFields instr operands.entry.now) }
     ensures none { (result ≡ None) ↔ ((instr : Instr) → Spells mnemonic operands.entry.now instr → ⊥) }
 {
     read(mnemonic, operands)

@@ -5,5 +5,3 @@
 mod rows;
 #[cfg(test)]
 mod table;
-#[cfg(test)]
-mod text;

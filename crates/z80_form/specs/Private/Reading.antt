@@ -1,7 +1,7 @@
 -- The rows as the code reads them. proofs/ ties them to those of specs/Rows.antt.
 use Rattle.std.specs.Prelude.{List, [], ◌∷◌, Option, Some, None, pos}
 use Rattle.std.specs.Option.{option_map}
-use Rattle.z80_form.specs.Types.{Register, IndexRegister, Memory, Operand, Pointer, RegisterPair, WordRegister, HlOrIndex, Addend, StackOperand, Cond, ShortCond, AluOperation, Rotation, Octal, InterruptMode, BlockOperation, BlockStep, Instr, Name, Pointed, Form, Mnemonic}
+use Rattle.z80_form.specs.Types.{Register, IndexRegister, Memory, Operand, Pointer, RegisterPair, WordRegister, HlOrIndex, Addend, StackOperand, Cond, ShortCond, AluOperation, Octal, InterruptMode, Instr, Name, Pointed, Form, Mnemonic}
 
 -- Operands.
 

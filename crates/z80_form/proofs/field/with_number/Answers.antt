@@ -1,4 +1,4 @@
-use Rattle.std.proofs.Common.{◌≡◌, ◌∙◌, ap, length}
+use Rattle.std.proofs.Common.{◌∙◌, ap, length}
 use Rattle.z80_instr.specs.Table.{canonical}
 use Rattle.z80_form.specs.Rows.{row}
 use Rattle.z80_form.proofs.field.with_number.Goals as goal

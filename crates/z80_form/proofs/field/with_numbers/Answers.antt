@@ -1,4 +1,4 @@
-use Rattle.std.proofs.Common.{◌≡◌, ℕ, ◌+◌, List, ◌∙◌, ap, sym, length, drop, arith}
+use Rattle.std.proofs.Common.{◌≡◌, ℕ, ◌+◌, List, ◌∙◌, ap, sym, length, drop}
 use Rattle.std.proofs.lemmas.List.{drop_more, drop_all}
 use Rattle.z80_instr.specs.Table.{canonical}
 use Rattle.z80_form.specs.Types.{Field}
