@@ -39,7 +39,7 @@ impl<S: Sectors> Model for Disk<S> {
 }
 
 impl<S: Sectors> Disk<S> {
-    ghost use Rattle.std.specs.Prelude.{◌≡◌, ◌<◌, ◌*◌, ◌+◌, ◌%◌, IfErr, IfSome, position, Option, None, Result, replicate, length, if◌then◌else◌, slice_set, ℕ, List, Some, true, IfOk, OnOk};
+    ghost use Rattle.std.specs.Prelude.{◌≡◌, ◌<◌, ◌*◌, ◌+◌, ◌%◌, ◌⊎◌, IfErr, IfSome, OnErr, position, Option, None, Result, replicate, length, if◌then◌else◌, slice_set, ℕ, List, Some, true, IfOk, OnOk};
     ghost use Rattle.cpm_image.specs.declared.format.TheConstants.{SECTOR_COUNT};
     ghost use Rattle.cpm_directory.specs.declared.format.TheConstants.{ENTRY_COUNT};
     ghost use Rattle.cpm_directory.specs.Entries.{at, bytes_of, is_extent_of};
@@ -48,7 +48,7 @@ impl<S: Sectors> Disk<S> {
     ghost use Rattle.cpm_directory.specs.Searches.{found_from, size};
     ghost use Rattle.cpm_operations.specs.Refusals.{RefusesCreation, RefusesErasure, RefusesReading, RefusesRenaming, RefusesWriting};
     ghost use Rattle.cpm_disk.specs.Calls.{FailsOr};
-    ghost use Rattle.cpm_disk.specs.Files.{HasRecord, IsEither, IsFile, IsMatched, IsMoved, IsNewFile, IsNoFile, OthersAreSame, file_record};
+    ghost use Rattle.cpm_disk.specs.Files.{HasRecord, HasSameRecords, IsEither, IsFile, IsMatched, IsMoved, IsNewFile, IsNoFile, OthersAreSame, file_record};
     ghost use Rattle.cpm_disk.specs.Image.{directory};
     ghost use Rattle.cpm_disk.specs.Mounting.{IsListedBy, IsMountedFrom};
     ghost use Rattle.cpm_disk.specs.Operations.{IsCreated, IsErased, IsRead, IsRenamed, IsWritten};
@@ -264,6 +264,9 @@ impl<S: Sectors> Disk<S> {
 
     /// Writes a file's record, counted from 0. The other records of a block that is new are zeros.
     ///
+    /// Where the device fails on the way, the file's records that are there are those before the call or those after it,
+    /// whole.
+    ///
     /// # Errors
     ///
     /// In this order: [`DiskFault::Failed`], [`DiskFault::NotFound`], [`DiskFault::ReadOnly`], [`DiskFault::TooFar`] above
@@ -280,6 +283,8 @@ impl<S: Sectors> Disk<S> {
         ensures done { IsWritten S.sectors S.faults self.old self.new user name.now number bytes.now result }
         ensures refusals { IfErr result (FailsOr RefusesWriting) }
         ensures written { OnOk result (HasRecord (S.sectors self.old.device) (S.sectors self.new.device) user name.now number bytes.now) }
+        ensures stopped { OnErr result (HasSameRecords (S.sectors self.old.device) (S.sectors self.new.device) user name.now
+            ⊎ HasRecord (S.sectors self.old.device) (S.sectors self.new.device) user name.now number bytes.now) }
         ensures others { OthersAreSame (S.sectors self.old.device) (S.sectors self.new.device) (IsFile user name.now) }
         ensures sound { IsSound (directory (S.sectors self.new.device)) }
     {
