@@ -1,8 +1,13 @@
 -- The greatest of the numbers of those that pass a test.
-use Rattle.std.proofs.Common.{◌≡◌, ℕ, List, [], ◌∷◌, Bool, true, false, cond, ◌||◌, Some, None, map, refl, ap, ◌∙◌, sym}
+use Rattle.std.proofs.Common.{◌≡◌, ◌<◌, ◌≤◌, ◌+◌, ◌*◌, ◌==◌, ℕ, suc, List, [], ◌∷◌, Bool, true, false, cond, ◌||◌, Some, None, IfSome, map, length, get_or, refl, ap, ◌∙◌, sym, arith, eqb-true, lt-ltb, if◌then◌else◌}
 use Rattle.std.specs.Prelude.{max, fold, filter}
 use Rattle.std.specs.List.{list_any, reduce}
 use Rattle.std.proofs.Math.Nat.{zero-max}
+use Rattle.cpm_directory.specs.Types.{Entry}
+use Rattle.cpm_directory.specs.Entries.{at, blank, is_extent, is_of}
+use Rattle.cpm_directory.specs.Rules.{IsSound}
+use Rattle.cpm_directory.specs.Searches.{is_file, size}
+use Rattle.cpm_directory.proofs.Names.{both_true}
 
 pub reduce-max : (xs : List ℕ) → reduce max xs ≡ cond (list_any (λ x. true) xs) (Some (fold max 0 xs)) None
 reduce-max [] = refl
@@ -15,3 +20,23 @@ list_any-map-filter p f (x ∷ xs) = elim (p x) as (λ b. list_any (λ x. true) 
 
 pub reduce-filter : {X : Type 0} (p : X → Bool) (f : X → ℕ) (xs : List X) → reduce max (map f (filter p xs)) ≡ cond (list_any p xs) (Some (fold max 0 (map f (filter p xs)))) None
 reduce-filter p f xs = reduce-max (map f (filter p xs)) ∙ ap (λ b. cond b (Some (fold max 0 (map f (filter p xs)))) None) (list_any-map-filter p f xs)
+
+-- the greatest of small numbers is small
+most_by : {X : Type 0} (p : X → Bool) (f : X → ℕ) (x : X) (xs : List X) (a n : ℕ) → a ≤ n → (b : Bool) → (b ≡ true → f x ≤ n) → ((c : ℕ) → c ≤ n → fold max c (map f (filter p xs)) ≤ n)
+    → fold max a (map f (cond b (x ∷ filter p xs) (filter p xs))) ≤ n
+most_by p f x xs a n start true small rest = rest (max a (f x)) (let h = small refl in omega arith)
+most_by p f x xs a n start false small rest = rest a start
+
+most : {X : Type 0} (p : X → Bool) (f : X → ℕ) (xs : List X) (d : X) (a n : ℕ) → a ≤ n → ((k : ℕ) → k < length xs → p (get_or xs k d) ≡ true → f (get_or xs k d) ≤ n) → fold max a (map f (filter p xs)) ≤ n
+most p f [] d a n start each = start
+most p f (x ∷ xs) d a n start each = most_by p f x xs a n start (p x) (λ is. each 0 (omega arith) is) (λ c h. most p f xs d c n h (λ k below is. each (suc k) (omega arith) is))
+
+-- a file has 32 extents of 128 records at the most
+pub size_most : (user : ℕ) (name : List ℕ) (entries : List Entry) → user < 32 → IsSound entries → IfSome (size user name entries) (λ n. n ≤ 4096)
+size_most user name entries low sound = elim (is_file user name entries) as (λ b. IfSome (if b then Some (fold max 0 (map (λ (e : Entry). 128 * e.extent + e.records) (filter (is_of user name) entries))) else None) (λ n. n ≤ 4096)) [
+  | true ↦ most (is_of user name) (λ (e : Entry). 128 * e.extent + e.records) entries blank 0 4096 (omega arith) (λ k below of.
+      let user_is = eqb-true (at entries k).user user (both_true ((at entries k).user == user) _ of).0 in
+      let good = sound.good k (lt-ltb (at entries k).user 32 (omega arith)) in
+      omega (arith, good.0, good.1))
+  | false ↦ tt
+]

@@ -54,7 +54,7 @@ listed_of user name entries = record {
 
 -- by user, then by name
 abbrev pub ComesBefore : ℕ → List ℕ → ℕ → List ℕ → Type 0
-ComesBefore user name other others = (user < other) ⊎ ((user ≡ other) × (slice_cmp nat_cmp name others ≡ Less))
+ComesBefore user name other_user other_name = (user < other_user) ⊎ ((user ≡ other_user) × (slice_cmp nat_cmp name other_name ≡ Less))
 
 -- The files of a directory, each once, by user and then by name.
 pub record IsListing (entries : List Entry) (listed : List Listed) : Type 0 where

@@ -62,22 +62,7 @@ fn with_letters(old: &[u8; 11], mut name: [u8; 11]) -> [u8; 11]
 
 impl Entry {
     ghost use Rattle.std.specs.Prelude.{◌≡◌, ◌<◌, ◌/◌, slice_index};
-    ghost use Rattle.cpm_directory.specs.Entries.{blank, bytes_of, entry_of, erased, has_record, is_exact_match, is_extent, is_extent_of, is_free, is_match, is_of, is_read_only, is_system, new_extent, place_on_disk, renamed, with_record};
-
-    /// An entry of 32 bytes of E5H.
-    pub fn blank() -> Entry
-        ensures { result ≡ blank }
-    {
-        Entry {
-            user: FREE,
-            name: [FREE; 11],
-            extent: FREE,
-            s1: FREE,
-            s2: FREE,
-            records: FREE,
-            blocks: [FREE; 16],
-        }
-    }
+    ghost use Rattle.cpm_directory.specs.Entries.{bytes_of, entry_of, erased, has_record, is_exact_match, is_extent, is_extent_of, is_free, is_match, is_of, is_read_only, is_system, new_extent, place_on_disk, renamed, with_record};
 
     /// The entry that 32 bytes spell.
     pub fn from_bytes(bytes: &[u8; 32]) -> Entry

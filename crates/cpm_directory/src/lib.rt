@@ -23,5 +23,5 @@ pub use name::Name;
 pub use pattern::Pattern;
 pub use rules::judge;
 pub use searches::{
-    file_is_read_only, file_is_system, find, first_of, free_entry, is_file, position_of, size,
+    file_is_read_only, file_is_system, find, free_entry, is_file, position_of, size,
 };

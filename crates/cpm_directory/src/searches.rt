@@ -1,7 +1,8 @@
 //! What is looked for in a directory.
 
 ghost use Rattle.std.specs.Prelude.{◌≡◌, ◌<◌, ◌≤◌, IfSome, length, position};
-ghost use Rattle.cpm_directory.specs.Entries.{is_exact_match, is_extent_of, is_of};
+ghost use Rattle.cpm_directory.specs.Entries.{is_exact_match, is_extent_of};
+ghost use Rattle.cpm_directory.specs.Rules.{IsSound};
 ghost use Rattle.cpm_directory.specs.Searches.{file_is_read_only, file_is_system, found_from, free_entry, is_file, size};
 
 use crate::{Entry, Name, Pattern};
@@ -55,14 +56,6 @@ pub fn position_of(entries: &[Entry], user: u8, name: &Name, number: u8) -> Opti
     )
 }
 
-/// The number of a file's lowest entry.
-pub fn first_of(entries: &[Entry], user: u8, name: &Name) -> Option<u16>
-    requires { length entries.now ≤ 65536 }
-    ensures { result ≡ position (is_of user name.now) entries.now }
-{
-    numbered(entries.iter().position(|entry| entry.is_of(user, name)))
-}
-
 /// The number of the lowest free entry.
 pub fn free_entry(entries: &[Entry]) -> Option<u16>
     requires { length entries.now ≤ 65536 }
@@ -97,7 +90,8 @@ pub fn find(entries: &[Entry], user: u8, pattern: &Pattern, from: u16) -> Option
 
 /// How many records a file has up to its last, written or not. `None` where there is no such file.
 pub fn size(entries: &[Entry], user: u8, name: &Name) -> Option<u32>
-    ensures { result ≡ size user name.now entries.now }
+    ensures size { result ≡ size user name.now entries.now }
+    ensures most { user < 32 → IsSound entries.now → IfSome result (λ n. n ≤ 4096) }
 {
     entries
         .iter()

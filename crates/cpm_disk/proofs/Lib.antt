@@ -7,6 +7,8 @@ pub mod Blocks
 pub mod Refusals
 pub mod EntryList
 pub mod Files
+pub mod Attributes
 pub mod Others
 pub mod Maps
 pub mod Written
+pub mod Stopped

@@ -16,6 +16,7 @@ use Rattle.cpm_directory.specs.declared.fault.DiskFault.TheVariants as fault
 use Rattle.cpm_disk.specs.Calls.{Changed}
 use Rattle.cpm_disk.specs.Files.{IsMoved, IsNewFile, IsNoFile, in_block}
 use Rattle.cpm_disk.specs.Image.{Image, IsOfDirectory, SameBut, directory, disk_record}
+use Rattle.cpm_disk.proofs.Attributes.{any_put, low_byte, none_with}
 use Rattle.cpm_disk.proofs.Files.{same_stored}
 use Rattle.cpm_disk.proofs.Others.{apart_from, created_entry, matches_letters}
 
@@ -48,6 +49,8 @@ new_file image entries user name k low seven below none is sound = record {
   first = ap (option_map (λ e. e.records)) found;
   records = λ i. ap (option_and_then (in_block image i)) found ∙ ap (λ b. if b == 0 then None else Some (disk_record image (place_on_disk e i))) (zeros_at 16 (i / 8));
   others = λ number some. ap (option_map (λ x. x.records)) (find_none (is_extent_of user name number) (directory image) (absent number some));
+  read_only = without is_read_only (lt-leb 128 (get_or name 8 0) (low_byte name 8 seven));
+  system = without is_system (lt-leb 128 (get_or name 9 0) (low_byte name 9 seven));
 }
   where
     e : Entry
@@ -61,6 +64,12 @@ new_file image entries user name k low seven below none is sound = record {
 
     of : is_of user name (new_extent user name 0) ≡ true
     of = is_of_file user name (new_extent user name 0) refl seven
+
+    without : (q : Entry → Bool) → q (new_extent user name 0) ≡ false → list_any (λ x. is_of user name x && q x) (directory image) ≡ false
+    without q fails = ap (list_any (λ x. is_of user name x && q x)) is
+        ∙ any_put (λ x. is_of user name x && q x) entries k (new_extent user name 0) below (ap (λ b. b && q (at entries k)) (none_at (is_of user name) entries k (blank_is_not_of user name low) none))
+        (λ passes. absurd (true≢false (sym passes ∙ ap (λ b. is_of user name (new_extent user name 0) && b) fails ∙ ap (λ b. b && false) of)))
+        ∙ none_with (is_of user name) q entries none
 
     found : find (is_extent_of user name 0) (directory image) ≡ Some (new_extent user name 0)
     found = extent_found (directory image) user name 0 k low sound within (subst (λ x. is_extent_of user name 0 x ≡ true) (sym here) (and_from (is_of user name (new_extent user name 0)) (0 == 0) of refl)) ∙ ap Some here

@@ -1,10 +1,10 @@
 -- What becomes of a file of which a record is written.
-use Rattle.std.proofs.Common.{◌≡◌, ◌≢◌, ◌⊎◌, ◌<◌, ◌≤◌, ◌+◌, ◌*◌, ◌/◌, ◌%◌, ◌==◌, ℕ, max, Bool, true, false, ◌&&◌, not, List, find, position, replicate, slice_set, get_or-set_same, get_or-set_other, nat_lt, Option, Some, None, Ok, option_map, option_and_then, unwrap_or, refl, sym, ap, subst, ◌∙◌, inl, inr, arith, if◌then◌else◌, true≢false, eqb-true, eq-eqb, ne_eqb, ltb-false}
+use Rattle.std.proofs.Common.{◌≡◌, ◌≢◌, ◌⊎◌, ◌<◌, ◌≤◌, ◌+◌, ◌*◌, ◌/◌, ◌%◌, ◌==◌, ℕ, max, Bool, true, false, ◌&&◌, not, List, find, position, replicate, slice_set, get_or-set_same, get_or-set_other, nat_lt, Option, Some, None, Ok, option_map, option_and_then, unwrap_or, refl, sym, ap, subst, ◌∙◌, inl, inr, arith, if◌then◌else◌, true≢false, eqb-true, eq-eqb, ne_eqb, ltb-false, nat_le, slice_index}
 use Rattle.std.proofs.lemmas.Bool.{and_from, and_parts, cases_Bool, cases_eq, eqb-false}
 use Rattle.std.proofs.lemmas.List.Quantifiers.{position-Some}
 use Rattle.cpm_directory.specs.declared.entry.Entry.{Entry}
 use Rattle.cpm_directory.specs.declared.fault.DiskFault.TheVariants as fault
-use Rattle.cpm_directory.specs.Entries.{at, blank, block, is_extent, is_extent_of, is_free, is_of, new_extent, place_on_disk, with_record}
+use Rattle.cpm_directory.specs.Entries.{at, blank, block, is_extent, is_extent_of, is_free, is_of, is_read_only, is_system, new_extent, place_on_disk, with_record}
 use Rattle.cpm_directory.specs.Rules.{IsSound}
 use Rattle.cpm_directory.specs.Searches.{file_is_read_only, free_block, free_entry, is_file}
 use Rattle.cpm_operations.proofs.Entries.{found_at, below_extent, blank_is_not_of, of_file, zeros_at}
@@ -16,15 +16,18 @@ use Rattle.cpm_operations.specs.Steps.{block_place, extent_place, found_or_new, 
 use Rattle.cpm_disk.specs.Calls.{HasWritten, Written}
 use Rattle.cpm_disk.specs.Files.{HasRecord, count_of, block_record, in_block}
 use Rattle.cpm_disk.specs.Image.{Image, IsOfBlock, IsOfDirectory, SameBut, directory, disk_record}
+use Rattle.std.proofs.lemmas.List.Folds.{list_any_at}
+use Rattle.std.specs.List.{list_any}
+use Rattle.cpm_disk.proofs.Attributes.{any_put, any_same}
 use Rattle.cpm_disk.proofs.Files.{Alike, find_alike, same_stored}
 use Rattle.cpm_disk.proofs.Maps.{extent_found, find_none, range_of}
 use Rattle.cpm_disk.proofs.Others.{not_free}
 use Rattle.cpm_disk.proofs.Places.{length_directory}
 
 -- the entry of an extent before a write: the one that it has, or, in place of a free one, that of a new one
-abbrev Was : List Entry → ℕ → List ℕ → ℕ → ℕ × Entry → Type 0
+abbrev pub Was : List Entry → ℕ → List ℕ → ℕ → ℕ × Entry → Type 0
 Was entries user name number place = ((at entries place.0 ≡ place.1) × (is_extent_of user name number place.1 ≡ true) × (find (is_extent_of user name number) entries ≡ Some place.1))
-    ⊎ ((is_free (at entries place.0) ≡ true) × (find (is_extent_of user name number) entries ≡ None) × (place.1.records ≡ 0) × ((group : ℕ) → block place.1 group ≡ 0) × (place.1.extent ≡ number))
+    ⊎ ((is_free (at entries place.0) ≡ true) × (find (is_extent_of user name number) entries ≡ None) × (place.1.records ≡ 0) × ((group : ℕ) → block place.1 group ≡ 0) × (place.1.extent ≡ number) × ((first : Entry) × (find (is_of user name) entries ≡ Some first) × (place.1.name ≡ first.name)))
 
 was : (user : ℕ) (name : List ℕ) (number : ℕ) (entries : List Entry) (o : Option ℕ) (place : ℕ × Entry) → user < 32 → IsSound entries → position (is_extent_of user name number) entries ≡ o → found_or_new user name number entries o ≡ Ok place → Was entries user name number place
 was user name number entries (Some k) place low sound found is =
@@ -37,10 +40,10 @@ was user name number entries None place low sound none is =
     let same : ◌≡◌ {A = ℕ × Entry} (k, new_extent user e.name number) place = cc in
     let here = position-Some is_free entries k blank (given_ok (free_entry entries) fault.DirectoryFull k free) in
     subst (λ (p : ℕ × Entry). Was entries user name number p) same
-    (inr (here.1, find_none (is_extent_of user name number) entries (λ j _. none_placed (is_extent_of user name number) entries j (ap (λ b. b && (0xE5 == number)) (blank_is_not_of user name low)) none), refl, (λ group. zeros_at 16 group), refl))
+    (inr (here.1, find_none (is_extent_of user name number) entries (λ j _. none_placed (is_extent_of user name number) entries j (ap (λ b. b && (0xE5 == number)) (blank_is_not_of user name low)) none), refl, (λ group. zeros_at 16 group), refl, (e, given_ok (find (is_of user name) entries) fault.NotFound e first, refl)))
 
 -- the block of the record: new, or the one that the entry had
-abbrev Had : Entry → ℕ → ℕ × Bool → Type 0
+abbrev pub Had : Entry → ℕ → ℕ × Bool → Type 0
 Had e group found = ((found.1 ≡ true) × (block e group ≡ 0)) ⊎ ((found.1 ≡ false) × (block e group ≡ found.0) × (0 < found.0))
 
 had : (e : Entry) (group : ℕ) (entries : List Entry) (found : ℕ × Bool) → block_place e group entries ≡ Ok found → Had e group found
@@ -92,7 +95,7 @@ beside_it old new user name number i j b is_new bytes place before (inr had_it) 
     ∙ sym (ap (λ o. unwrap_or o (replicate 128 0)) (stored_was old user name number j place before ∙ stored_there old place.1 j b had_it.1 had_it.2))
 
 -- an entry's record outside the block that is written
-other_block : (old new : Image) (e : Entry) (i b : ℕ) → ((block e (i / 8) ≡ 0 → ⊥) → (2 ≤ block e (i / 8)) × (block e (i / 8) < 243)) → (block e (i / 8) ≡ b → ⊥) → SameBut (λ n. IsOfDirectory n ⊎ IsOfBlock b n) old new → in_block new i e ≡ in_block old i e
+pub other_block : (old new : Image) (e : Entry) (i b : ℕ) → ((block e (i / 8) ≡ 0 → ⊥) → (2 ≤ block e (i / 8)) × (block e (i / 8) < 243)) → (block e (i / 8) ≡ b → ⊥) → SameBut (λ n. IsOfDirectory n ⊎ IsOfBlock b n) old new → in_block new i e ≡ in_block old i e
 other_block old new e i b range apart rest = same_stored old new e i (λ some.
     let within = range some in
     rest.records (place_on_disk e i) (omega (arith, within.0, within.1)) (λ of. elim of [ inl in_directory ↦ omega (arith, within.0) | inr in_block ↦ apart (omega (arith, in_block.0, in_block.1)) ]))
@@ -119,6 +122,8 @@ record_put old new user name number bytes place b is_new low sound sound_new fit
       ∙ sym (stored_was old user name (number / 128) i place before);
   counts = λ other apart. ap (option_map (λ e. e.records)) (found_other other apart);
   records = λ other i apart below. ap (option_and_then (in_block new i)) (found_other other apart) ∙ by_entry other i apart (find (is_extent_of user name other) (directory old)) refl;
+  read_only = attribute is_read_only refl (λ e named. ap (λ n. nat_le 128 (slice_index n 8)) named);
+  system = attribute is_system refl (λ e named. ap (λ n. nat_le 128 (slice_index n 9)) named);
 }
   where
     entry : Entry
@@ -126,6 +131,21 @@ record_put old new user name number bytes place b is_new low sound sound_new fit
 
     at_place : at (directory new) place.0 ≡ with_record place.1 (number % 128) b
     at_place = ap (λ es. at es place.0) is ∙ get_or-set_same (directory old) place.0 (with_record place.1 (number % 128) b) blank fits.within
+
+    -- an attribute of the name alone
+    attribute : (q : Entry → Bool) → q (with_record place.1 (number % 128) b) ≡ q place.1 → ((e : Entry) → place.1.name ≡ e.name → q place.1 ≡ q e)
+        → list_any (λ e. is_of user name e && q e) (directory new) ≡ list_any (λ e. is_of user name e && q e) (directory old)
+    attribute q same by_name = ap (list_any (λ e. is_of user name e && q e)) is ∙ elim before as (λ _. list_any (λ e. is_of user name e && q e) (slice_set (directory old) place.0 (with_record place.1 (number % 128) b)) ≡ list_any (λ e. is_of user name e && q e) (directory old)) [
+      | inl old_one ↦ any_same (λ e. is_of user name e && q e) (directory old) place.0 (with_record place.1 (number % 128) b) fits.within
+          (ap (λ t. is_of user name place.1 && t) same ∙ ap (λ e. is_of user name e && q e) (sym old_one.0))
+      | inr (free, none, zero_records, no_blocks, extent_too, (first, found_first, named)) ↦ any_put (λ e. is_of user name e && q e) (directory old) place.0 (with_record place.1 (number % 128) b) fits.within
+          (ap (λ t. t && q (at (directory old) place.0)) (not_free user name (at (directory old) place.0) low free))
+          (λ passes.
+          let (j, below_j, is_first, of_first) = found_at (is_of user name) (directory old) first found_first in
+          let has = (and_parts (is_of user name place.1) (q (with_record place.1 (number % 128) b)) passes).1 in
+          list_any_at (λ e. is_of user name e && q e) (directory old) j blank below_j
+          (subst (λ e. (is_of user name e && q e) ≡ true) is_first (and_from (is_of user name first) (q first) of_first (sym (by_name first named) ∙ sym same ∙ has))))
+    ]
 
     number_is : place.1.extent ≡ number / 128
     number_is = extent_is (directory old) user name (number / 128) place before
@@ -169,22 +189,43 @@ record_put old new user name number bytes place b is_new low sound sound_new fit
         let away : k ≢ place.0 = λ here. true≢false (sym (subst (λ x. is_extent_of user name other x ≡ true) is_at passes) ∙ subst (λ n. is_extent_of user name other (at (directory old) n) ≡ false) (sym here) (not_there other apart)) in
         other_block old new e i b (λ some. range_of (directory old) k e sound is_at (omega arith) (i / 8) some) (λ same. elsewhere k (i / 8) away ext (ap (λ x. block x (i / 8)) (sym is_at) ∙ same)) made.rest
 
+-- how a placement came about: the entry of its extent as it was, and the block that the record has there
+pub record Placed (entries : List Entry) (user : ℕ) (name : List ℕ) (number : ℕ) (p : Placement) : Type 0 where
+  pub place : ℕ × Entry
+  pub at_number : p.number ≡ place.0
+  pub entry : p.entry ≡ with_record place.1 (number % 128) p.block
+  pub fits : IsPlace user name entries place
+  pub was : Was entries user name (number / 128) place
+  pub had : Had place.1 (number % 128 / 8) (p.block, p.is_new)
+  pub lone : (other : ℕ) → other ≢ number % 128 / 8 → block place.1 other ≡ p.block → ⊥
+
+pub placed_of : (user : ℕ) (name : List ℕ) (number : ℕ) (entries : List Entry) (p : Placement) → user < 32 → IsSound entries → IsKeptBy user name entries p → writing user name number entries ≡ Ok p → Placed entries user name number p
+placed_of user name number entries p low sound kept asked =
+    let (there, is_1) = unless_ok (not (is_file user name entries)) fault.NotFound (unless (file_is_read_only user name entries) fault.ReadOnly (unless (nat_lt 4095 number) fault.TooFar (placing user name number entries))) p asked in
+    let (open_to, is_2) = unless_ok (file_is_read_only user name entries) fault.ReadOnly (unless (nat_lt 4095 number) fault.TooFar (placing user name number entries)) p is_1 in
+    let (near, is_3) = unless_ok (nat_lt 4095 number) fault.TooFar (placing user name number entries) p is_2 in
+    let (place, is_place, is_4) = bind_ok (extent_place user name (number / 128) entries) _ p is_3 in
+    let (found, in_block, is_5) = bind_ok (block_place place.1 (number % 128 / 8) entries) _ p is_4 in
+    let below = ltb-false 4095 number near in
+    let fits = place_found user name (number / 128) entries (position (is_extent_of user name (number / 128)) entries) place low (omega arith) sound refl is_place in
+    let blocks = block_found user name entries place (number % 128 / 8) found fits in_block in
+    let same : ◌≡◌ {A = Placement} (record { number = place.0; entry = with_record place.1 (number % 128) found.0; block = found.0; is_new = found.1 }) p = cc in
+    subst (λ (q : Placement). Placed entries user name number q) same (record {
+      place = place;
+      at_number = refl;
+      entry = refl;
+      fits = fits;
+      was = was user name (number / 128) entries (position (is_extent_of user name (number / 128)) entries) place low sound refl is_place;
+      had = had place.1 (number % 128 / 8) entries found in_block;
+      lone = alone user name entries place (number % 128 / 8) found.0 fits blocks.2;
+    })
+
 pub record_written : (old new : Image) (user : ℕ) (name : List ℕ) (number : ℕ) (bytes : List ℕ) (p : Placement) → user < 32 → IsSound (directory old) → IsSound (directory new) → IsKeptBy user name (directory old) p
     → block p.entry (number % 128 / 8) ≡ p.block → writing user name number (directory old) ≡ Ok p → Written old new p (number % 8) bytes → HasRecord old new user name number bytes
 record_written old new user name number bytes p low sound sound_new kept placed asked made =
-    let (there, is_1) = unless_ok (not (is_file user name (directory old))) fault.NotFound (unless (file_is_read_only user name (directory old)) fault.ReadOnly (unless (nat_lt 4095 number) fault.TooFar (placing user name number (directory old)))) p asked in
-    let (open_to, is_2) = unless_ok (file_is_read_only user name (directory old)) fault.ReadOnly (unless (nat_lt 4095 number) fault.TooFar (placing user name number (directory old))) p is_1 in
-    let (near, is_3) = unless_ok (nat_lt 4095 number) fault.TooFar (placing user name number (directory old)) p is_2 in
-    let (place, is_place, is_4) = bind_ok (extent_place user name (number / 128) (directory old)) _ p is_3 in
-    let (found, in_block, is_5) = bind_ok (block_place place.1 (number % 128 / 8) (directory old)) _ p is_4 in
-    let below = ltb-false 4095 number near in
-    let fits = place_found user name (number / 128) (directory old) (position (is_extent_of user name (number / 128)) (directory old)) place low (omega arith) sound refl is_place in
-    let blocks = block_found user name (directory old) place (number % 128 / 8) found fits in_block in
-    let same : ◌≡◌ {A = Placement} p (record { number = place.0; entry = with_record place.1 (number % 128) found.0; block = found.0; is_new = found.1 }) = cc in
-    record_put old new user name number bytes place found.0 found.1 low sound sound_new fits
-    (was user name (number / 128) (directory old) (position (is_extent_of user name (number / 128)) (directory old)) place low sound refl is_place)
-    (had place.1 (number % 128 / 8) (directory old) found in_block) (alone user name (directory old) place (number % 128 / 8) found.0 fits blocks.2) blocks.0 blocks.1
-    (subst (λ (q : Placement). (k group : ℕ) → k ≢ q.number → is_extent (at (directory old) k) ≡ true → block (at (directory old) k) group ≡ q.block → ⊥) same kept.apart)
-    (subst (λ (q : Placement). block q.entry (number % 128 / 8) ≡ q.block) same placed)
-    (made.entries_are ∙ ap (λ (q : Placement). slice_set (directory old) q.number q.entry) same)
-    (subst (λ (q : Placement). HasWritten old new q.block (number % 8) q.is_new bytes) same made.data_are)
+    let is = placed_of user name number (directory old) p low sound kept asked in
+    record_put old new user name number bytes is.place p.block p.is_new low sound sound_new is.fits is.was is.had is.lone kept.block_from kept.block_to
+    (λ k group away. kept.apart k group (λ same. away (same ∙ is.at_number)))
+    (ap (λ (e : Entry). block e (number % 128 / 8)) (sym is.entry) ∙ placed)
+    (made.entries_are ∙ ap (λ n. slice_set (directory old) n p.entry) is.at_number ∙ ap (slice_set (directory old) is.place.0) is.entry)
+    made.data_are

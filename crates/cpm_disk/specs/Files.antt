@@ -1,6 +1,6 @@
 -- The files of an image, as a map from user and name: of each extent the count of its records and the bytes of those in its blocks, and
 -- two attributes. Record i of an extent is there where i is below the count and its block is. (CP/M 2.2 Alteration Guide, the directory.)
-use Rattle.std.specs.Prelude.{◌≡◌, ◌≢◌, ◌<◌, ◌⊎◌, ◌+◌, ◌/◌, ◌%◌, ◌==◌, max, replicate, unwrap_or, ℕ, true, List, Option, Some, None, find, if◌then◌else◌, option_and_then, option_map}
+use Rattle.std.specs.Prelude.{◌≡◌, ◌≢◌, ◌<◌, ◌⊎◌, ◌+◌, ◌/◌, ◌%◌, ◌==◌, max, replicate, unwrap_or, ℕ, true, false, List, Option, Some, None, find, if◌then◌else◌, option_and_then, option_map}
 use Rattle.cpm_directory.specs.declared.entry.Entry.{Entry}
 use Rattle.cpm_directory.specs.Entries.{block, has_record, is_extent_of, place_on_disk}
 use Rattle.cpm_directory.specs.Letters.{name_matches}
@@ -55,6 +55,8 @@ pub record IsNewFile (image : Image) (user : ℕ) (name : List ℕ) : Type 0 whe
   pub first : count_of image user name 0 ≡ Some 0
   pub records : (i : ℕ) → block_record image user name 0 i ≡ None
   pub others : (number : ℕ) → 0 < number → count_of image user name number ≡ None
+  pub read_only : file_is_read_only user name (directory image) ≡ false
+  pub system : file_is_system user name (directory image) ≡ false
 
 -- a file under another name: its extents, their counts and records, and its attributes; and no file under the old one
 pub record IsMoved (old new : Image) (user : ℕ) (from to : List ℕ) : Type 0 where
@@ -73,3 +75,12 @@ pub record HasRecord (old new : Image) (user : ℕ) (name : List ℕ) (number : 
   pub extent : (i : ℕ) → i < 128 → i / 8 ≢ number % 128 / 8 → block_record new user name (number / 128) i ≡ block_record old user name (number / 128) i
   pub counts : (other : ℕ) → other ≢ number / 128 → count_of new user name other ≡ count_of old user name other
   pub records : (other i : ℕ) → other ≢ number / 128 → i < 128 → block_record new user name other i ≡ block_record old user name other i
+  pub read_only : file_is_read_only user name (directory new) ≡ file_is_read_only user name (directory old)
+  pub system : file_is_system user name (directory new) ≡ file_is_system user name (directory old)
+
+-- A file's records that are there are as before, whole, and so are the counts of its extents and its attributes.
+pub record HasSameRecords (old new : Image) (user : ℕ) (name : List ℕ) : Type 0 where
+  pub counts : (number : ℕ) → count_of new user name number ≡ count_of old user name number
+  pub records : (number : ℕ) → file_record new user name number ≡ file_record old user name number
+  pub read_only : file_is_read_only user name (directory new) ≡ file_is_read_only user name (directory old)
+  pub system : file_is_system user name (directory new) ≡ file_is_system user name (directory old)

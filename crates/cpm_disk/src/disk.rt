@@ -39,16 +39,17 @@ impl<S: Sectors> Model for Disk<S> {
 }
 
 impl<S: Sectors> Disk<S> {
-    ghost use Rattle.std.specs.Prelude.{◌≡◌, ◌<◌, ◌*◌, ◌+◌, ◌%◌, IfErr, IfSome, position, Option, None, Result, replicate, length, if◌then◌else◌, slice_set, ℕ, List, Some, true, IfOk, OnOk};
+    ghost use Rattle.std.specs.Prelude.{◌≡◌, ◌<◌, ◌≤◌, ◌*◌, ◌+◌, ◌%◌, ◌⊎◌, IfErr, IfSome, OnErr, position, Option, None, Result, replicate, length, if◌then◌else◌, slice_set, ℕ, List, Some, true, IfOk, OnOk};
     ghost use Rattle.cpm_image.specs.declared.format.TheConstants.{SECTOR_COUNT};
     ghost use Rattle.cpm_directory.specs.declared.format.TheConstants.{ENTRY_COUNT};
     ghost use Rattle.cpm_directory.specs.Entries.{at, bytes_of, is_extent_of};
     ghost use Rattle.cpm_directory.specs.Letters.{name_matches};
     ghost use Rattle.cpm_directory.specs.Rules.{IsSound};
     ghost use Rattle.cpm_directory.specs.Searches.{found_from, size};
+    ghost use Rattle.cpm_operations.specs.declared.operations.TheConstants.{LAST_RECORD};
     ghost use Rattle.cpm_operations.specs.Refusals.{RefusesCreation, RefusesErasure, RefusesReading, RefusesRenaming, RefusesWriting};
     ghost use Rattle.cpm_disk.specs.Calls.{FailsOr};
-    ghost use Rattle.cpm_disk.specs.Files.{HasRecord, IsEither, IsFile, IsMatched, IsMoved, IsNewFile, IsNoFile, OthersAreSame, file_record};
+    ghost use Rattle.cpm_disk.specs.Files.{HasRecord, HasSameRecords, IsEither, IsFile, IsMatched, IsMoved, IsNewFile, IsNoFile, OthersAreSame, file_record};
     ghost use Rattle.cpm_disk.specs.Image.{directory};
     ghost use Rattle.cpm_disk.specs.Mounting.{IsListedBy, IsMountedFrom};
     ghost use Rattle.cpm_disk.specs.Operations.{IsCreated, IsErased, IsRead, IsRenamed, IsWritten};
@@ -124,9 +125,10 @@ impl<S: Sectors> Disk<S> {
         self.entries[usize::from(number)].to_bytes()
     }
 
-    /// The count of records up to the file's last, written or not. `None` where there is no such file, and after a failure.
+    /// The count of records up to the file's last, written or not: 4,096 at the most. `None` where there is no such file, and after a failure.
     pub fn size(&self, user: u8, name: &Name) -> Option<u32>
         ensures size { result ≡ (if self.now.failed then None else size user name.now (directory (S.sectors self.now.device))) }
+        ensures most { user < 32 → IfSome result (λ n. n ≤ LAST_RECORD + 1) }
         ensures sound { IsSound (directory (S.sectors self.now.device)) }
     {
         if self.failed {
@@ -264,6 +266,9 @@ impl<S: Sectors> Disk<S> {
 
     /// Writes a file's record, counted from 0. The other records of a block that is new are zeros.
     ///
+    /// Where the device fails on the way, the file's records that are there are those before the call or those after it,
+    /// whole.
+    ///
     /// # Errors
     ///
     /// In this order: [`DiskFault::Failed`], [`DiskFault::NotFound`], [`DiskFault::ReadOnly`], [`DiskFault::TooFar`] above
@@ -280,6 +285,8 @@ impl<S: Sectors> Disk<S> {
         ensures done { IsWritten S.sectors S.faults self.old self.new user name.now number bytes.now result }
         ensures refusals { IfErr result (FailsOr RefusesWriting) }
         ensures written { OnOk result (HasRecord (S.sectors self.old.device) (S.sectors self.new.device) user name.now number bytes.now) }
+        ensures stopped { OnErr result (HasSameRecords (S.sectors self.old.device) (S.sectors self.new.device) user name.now
+            ⊎ HasRecord (S.sectors self.old.device) (S.sectors self.new.device) user name.now number bytes.now) }
         ensures others { OthersAreSame (S.sectors self.old.device) (S.sectors self.new.device) (IsFile user name.now) }
         ensures sound { IsSound (directory (S.sectors self.new.device)) }
     {

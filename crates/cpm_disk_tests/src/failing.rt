@@ -1,26 +1,36 @@
-//! A device that fails once.
+//! Devices that fail.
 
 ghost use Rattle.std.specs.Prelude.{◌≡◌};
 
 use cpm_image::{DeviceFault, MemoryImage, Sectors};
 
-/// An image in memory of which one call fails, once.
+/// How a device fails at a call.
+#[derive(Clone, Copy, Debug, PartialEq, Eq)]
+pub struct Failure {
+    /// How many calls go well before that one.
+    pub after: u32,
+    /// Whether all calls after it fail too.
+    pub lasts: bool,
+    /// Whether a failed write leaves the sector as it was to be, or as it was.
+    pub writes: bool,
+}
+
+/// An image in memory of which one call fails, or one and all after it.
 #[derive(Drop)]
 pub struct Failing {
     image: MemoryImage,
-    /// How many calls go well before that one; none where it is past.
+    /// How many calls go well before the next that fails; none where no more do.
     left: Option<u32>,
-    /// Whether a failed write leaves the sector as it was to be, or as it was.
-    writes: bool,
+    failure: Failure,
     faults: u64,
 }
 
 impl Failing {
-    pub fn new(image: MemoryImage, left: u32, writes: bool) -> Failing {
+    pub fn new(image: MemoryImage, failure: Failure) -> Failing {
         Failing {
             image,
-            left: Some(left),
-            writes,
+            left: Some(failure.after),
+            failure,
             faults: 0,
         }
     }
@@ -37,7 +47,9 @@ impl Failing {
         match self.left {
             None => false,
             Some(0) => {
-                self.left = None;
+                if !self.failure.lasts {
+                    self.left = None;
+                }
                 true
             }
             Some(left) => {
@@ -68,7 +80,7 @@ impl Sectors for Failing {
     fn write(&mut self, n: u32, bytes: &[u8; 128]) -> Result<(), DeviceFault> {
         if self.fails() {
             self.faults = self.faults.saturating_add(1);
-            if self.writes {
+            if self.failure.writes {
                 self.image.write(n, bytes)?;
             }
             return Err(DeviceFault);

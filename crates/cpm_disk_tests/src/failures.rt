@@ -1,7 +1,7 @@
 //! What a device that fails at one call leaves, for each call in turn.
 
 use crate::calls::Call;
-use crate::failing::Failing;
+use crate::failing::{Failing, Failure};
 use crate::support::{copy_of, disk_of, mount, mounted};
 use cpm_disk::{Disk, DiskFault, Name, Pattern};
 use cpm_image::MemoryImage;
@@ -111,11 +111,11 @@ fn meets_fault(
     alloc: Global,
     image: MemoryImage,
     call: Call,
-    fault_at: (u32, bool),
+    failure: Failure,
     states: (&Seen, &Seen),
 ) -> Result<bool, Fail> {
     let (before, after) = states;
-    let mut disk = match mount(rt, alloc, Failing::new(image, fault_at.0, fault_at.1)) {
+    let mut disk = match mount(rt, alloc, Failing::new(image, failure)) {
         Ok(disk) => disk,
         Err((DiskFault::Fault, device)) => {
             let now = look_at(rt, alloc, device.into_image())?;
@@ -141,18 +141,16 @@ fn assert_stops(rt: &impl Abort, alloc: Global, call: Call) -> Result<(), Fail> 
     let mut disk = mounted(rt, alloc, copy_of(alloc, &image)?)?;
     call.make(&mut disk)?;
     let after = look_at(rt, alloc, disk.unmount())?;
-    for writes in [false, true] {
+    for (lasts, writes) in [(false, false), (false, true), (true, false), (true, true)] {
         let mut runs = 0;
         for k in 0..100 {
-            let met = meets_fault(
-                rt,
-                alloc,
-                copy_of(alloc, &image)?,
-                call,
-                (k, writes),
-                (&before, &after),
-            )?;
-            if !met {
+            let failure = Failure {
+                after: k,
+                lasts,
+                writes,
+            };
+            let image = copy_of(alloc, &image)?;
+            if !meets_fault(rt, alloc, image, call, failure, (&before, &after))? {
                 break;
             }
             runs = k;

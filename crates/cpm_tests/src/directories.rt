@@ -1,7 +1,7 @@
 //! What is looked for in a directory, and its listing.
 
 use cpm_directory::{
-    Entry, Listed, Name, Pattern, file_is_read_only, file_is_system, find, first_of, free_block,
+    Entry, Listed, Name, Pattern, file_is_read_only, file_is_system, find, free_block,
     free_entry, is_file, list, position_of, size,
 };
 use std::alloc::Global;
@@ -27,7 +27,6 @@ fn files(rt: HostRuntime) -> Result<(), Fail> {
     assert!(rt; !is_file(&entries, 0, &other) && !is_file(&entries, 2, &name));
     assert!(rt; file_is_read_only(&entries, 0, &name) && !file_is_read_only(&entries, 1, &name));
     assert!(rt; !file_is_system(&entries, 0, &name));
-    assert_eq!(rt; first_of(&entries, 0, &name), Some(3));
     assert_eq!(rt; position_of(&entries, 0, &name, 0), Some(4));
     assert_eq!(rt; position_of(&entries, 0, &name, 1), Some(3));
     assert_eq!(rt; position_of(&entries, 0, &name, 2), None);

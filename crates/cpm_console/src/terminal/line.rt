@@ -4,12 +4,10 @@ ghost use Rattle.std.specs.Prelude.{◌≡◌, ◌<◌, ℕ, take};
 ghost use Rattle.cpm_console.specs.Line.{edited};
 ghost use Rattle.cpm_console.specs.Private.Draft.{line_at};
 
-use super::Terminal;
+use super::{TAB, Terminal};
 use crate::console::Console;
 use crate::error::ConsoleError;
 use crate::key::Key;
-
-const TAB: u8 = 0x09;
 
 /// What takes a byte off the screen.
 const RUB_OUT: [u8; 3] = [0x08, b' ', 0x08];
@@ -32,8 +30,12 @@ impl<C: Console> Terminal<C> {
     /// Reads a line of at most `room` bytes into a buffer, edited as it is typed, and answers how many bytes it has.
     /// `None`: a warm boot was asked for.
     ///
-    /// What stands in the buffer behind the line is not said. After a fault a front of what passes while the line is read
-    /// has passed.
+    /// What stands in the buffer behind the line is not said.
+    ///
+    /// # Errors
+    ///
+    /// [`ConsoleError::EndOfInput`] where no input is left before the line ends, [`ConsoleError::ConsoleFault`] where the
+    /// console failed. Then a front of what passes while the line is read has passed.
     pub fn read_line(
         &mut self,
         room: u8,

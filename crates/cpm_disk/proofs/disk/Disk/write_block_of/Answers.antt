@@ -1,15 +1,16 @@
-use Rattle.std.proofs.Common.{◌≡◌, true, Err, Ok, ap, length, refl, slice_set, subst, sym, ◌∙◌}
+use Rattle.std.proofs.Common.{◌≡◌, ◌⊎◌, true, Err, Ok, ap, length, refl, slice_set, subst, sym, ◌∙◌}
 use Rattle.std.proofs.lemmas.Result.{err_from_is_err_and}
 use Rattle.cpm_directory.specs.declared.fault.DiskFault.TheVariants.{Fault}
 use Rattle.cpm_directory.specs.Rules.{IsSound}
 use Rattle.cpm_operations.specs.Kept.{IsKeptBy}
 use Rattle.cpm_operations.specs.Steps.{writing}
-use Rattle.cpm_disk.specs.Files.{HasRecord, IsFile, OthersAreSame}
+use Rattle.cpm_disk.specs.Files.{HasRecord, HasSameRecords, IsFile, OthersAreSame}
 use Rattle.cpm_disk.specs.Image.{directory}
 use Rattle.cpm_disk.specs.Operations.{IsWritten}
 use Rattle.cpm_disk.proofs.StillMounted.{mounted_partly_written, mounted_written, whole, write_between}
 use Rattle.cpm_disk.proofs.Others.{whole_write, write_others}
 use Rattle.cpm_disk.proofs.Refusals.{write_refused}
+use Rattle.cpm_disk.proofs.Stopped.{write_left}
 use Rattle.cpm_disk.proofs.Written.{record_written}
 use Rattle.cpm_disk.proofs.disk.Disk.write_block_of.Goals as goal
 
@@ -84,3 +85,13 @@ returns-in-Ok-clause-written g c =
     let sound = kept.sound _ (write_between _ _ c.in_ok-place.place _ _ (whole_write _ _ c.in_ok-place.place _ _ c.in-Ok.ensures.written)) in
     subst (λ old. HasRecord (g.S.Sectors.sectors old.device) (g.S.Sectors.sectors c.write_all.new.device) c.args.user c.args.name.now c.args.number c.args.bytes.now) c.self.view_is
     (record_written _ _ c.args.user c.args.name.now c.args.number c.args.bytes.now c.in_ok-place.place c.requires c.self.invariant.sound sound kept c.in_ok-place.ensures.placed asked c.in-Ok.ensures.written)
+
+pub returns-in-Err-clause-stopped : goal.returns-in-Err-clause-stopped
+returns-in-Err-clause-stopped g c =
+    let entries = c.self.invariant.entries_are c.if-self.false in
+    let asked : writing c.args.user c.args.name.now c.args.number (directory (g.S.Sectors.sectors c.self.inside.device)) ≡ Ok c.in_ok-place.place =
+    ap (writing c.args.user c.args.name.now c.args.number) (sym (c.deref.ensures.value ∙ entries)) ∙ sym c.writing.ensures.step ∙ c.in_ok-place.was in
+    let kept : IsKeptBy c.args.user c.args.name.now (directory (g.S.Sectors.sectors c.self.inside.device)) c.in_ok-place.place = subst (λ es. IsSound es → IsKeptBy c.args.user c.args.name.now es c.in_ok-place.place) (c.deref.ensures.value ∙ entries) c.in_ok-place.ensures.kept c.self.invariant.sound in
+    let sound = kept.sound _ (write_between _ _ c.in_ok-place.place _ _ c.in-Err.ensures.stopped) in
+    subst (λ old. HasSameRecords (g.S.Sectors.sectors old.device) (g.S.Sectors.sectors c.write_all.new.device) c.args.user c.args.name.now ⊎ HasRecord (g.S.Sectors.sectors old.device) (g.S.Sectors.sectors c.write_all.new.device) c.args.user c.args.name.now c.args.number c.args.bytes.now) c.self.view_is
+    (write_left _ _ c.args.user c.args.name.now c.args.number c.args.bytes.now c.in_ok-place.place c.requires c.self.invariant.sound sound kept c.in_ok-place.ensures.placed asked c.in-Err.ensures.stopped)
