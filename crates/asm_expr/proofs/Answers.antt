@@ -80,13 +80,8 @@ settled_fault t e why is = let r = reduced t (replaced t e) in sym (ap (λ f. un
 abbrev pub Answers : Table → Expression Operand → Result Settled ExprFault → Type 0
 Answers t e r = (r ≡ settled t e) ⊎ (r ≡ Err ExprFault.NoMemory)
 
-pub refused : (t : Table) (e : Expression Operand) (why : ExprFault) → IsReduced {A = Unit {0}} t e (Err why) → Answers t e (Err why)
-refused t e ExprFault.NoMemory is = inr refl
-refused t e ExprFault.Syntax is = inl (settled_fault t e ExprFault.Syntax is)
-refused t e ExprFault.DivideByZero is = inl (settled_fault t e ExprFault.DivideByZero is)
-refused t e ExprFault.LabelDivisor is = inl (settled_fault t e ExprFault.LabelDivisor is)
-refused t e ExprFault.TooDeep is = inl (settled_fault t e ExprFault.TooDeep is)
-refused t e ExprFault.TooLarge is = inl (settled_fault t e ExprFault.TooLarge is)
+pub refused : (t : Table) (e : Expression Operand) (why : ExprFault) → IsReduced t e (Err why) → Answers t e (Err why)
+refused t e why is = inl (settled_fault t e why is)
 
 -- What an answer says of the reduced items.
 told : (t : Table) (e : Expression Operand) (o : Option (List (Item Atom))) → items_known (postfix (reduced t (replaced t e))) ≡ o → fault t e ≡ None → IsSettled t e (Ok (settled_as o (unknown_of (reduced t (replaced t e)))))

@@ -1,5 +1,5 @@
 -- The items of expressions that stand one behind the other.
-use Rattle.std.proofs.Common.{◌≡◌, ℕ, ◌-◌, List, [], ◌∷◌, ◌++◌, Option, Some, None, Result, Ok, Err, IfOk, IfErr, length, take, get_or, refl, sym, ap, subst, ◌∙◌, arith, append_assoc, length-append}
+use Rattle.std.proofs.Common.{◌≡◌, ◌≤◌, ℕ, ◌-◌, List, [], ◌∷◌, ◌++◌, Option, Some, None, Result, Ok, Err, IfOk, IfErr, length, take, get_or, refl, sym, ap, subst, ◌∙◌, arith, append_assoc, length-append}
 use Rattle.std.proofs.Math.Seq.{take-append_seam}
 use Rattle.asm_expr.specs.Types.{Unary, Binary, Item, ExprFault, Unknown, Worth}
 use Rattle.asm_expr.specs.declared.part.Part.{Part}
@@ -8,7 +8,7 @@ use Rattle.asm_parse.specs.Expression.{Expression, Leaf, Prefix, Infix, postfix}
 use Rattle.asm_expr.specs.Postfix.{spread}
 use Rattle.asm_expr.specs.Names.{Table}
 use Rattle.asm_expr.specs.Settling.{distance_of, or_else, both, leaf_or}
-use Rattle.asm_expr.specs.Private.Folding.{root, worth_of, ref_of, leaf_of, folded_unary, folded_binary, prefixed, joined, Folds}
+use Rattle.asm_expr.specs.Private.Folding.{root, worth_of, ref_of, leaf_of, folded_unary, folded_binary, fold_one, prefixed, joined, Folds}
 
 -- what stands before the last item
 pub front : Expression Part → List (Item Part)
@@ -152,21 +152,12 @@ binary_other t op a b before old new x y n is len left right none made =
     let apart : (((spread before ++ postfix a) ++ postfix b) ++ Item.Binary op ∷ []) ≡ spread before ++ ((postfix a ++ postfix b) ++ Item.Binary op ∷ []) = simp append_assoc in
     made ∙ ap (λ xs. xs ++ Item.Binary op ∷ []) is ∙ apart ∙ ap (λ e. spread (e ∷ before)) (sym (leaf_none (Infix op a b) (folded_binary t op (root a) (root b)) same))
 
--- What a step answers that succeeds but for want of memory.
-pub folds : {A : Type 0} (f : Result (List (Expression Part)) ExprFault) (answer : Result A ExprFault) (items : List (Item Part)) (now : List (Expression Part)) (P : Type 0)
-    → f ≡ Ok now → IfOk answer (λ _. P) → (P → items ≡ spread now) → IfErr answer (λ why. why ≡ ExprFault.NoMemory) → Folds f answer items
-folds f (Ok x) items now P is holds written memory = (now, is, written holds)
-folds {A} f (Err why) items now P is holds written memory = subst (λ w. Folds f {A = A} (Err w) items) (sym memory) tt
-
--- The same of a step that is refused.
-pub folds_fault : (A : Type 0) (answer : Result (List (Expression Part)) ExprFault) (why : ExprFault) (items : List (Item Part)) → answer ≡ Err why → Folds answer {A = A} (Err why) items
-folds_fault A answer ExprFault.NoMemory items is = tt
-folds_fault A answer ExprFault.Syntax items is = is
-folds_fault A answer ExprFault.DivideByZero items is = is
-folds_fault A answer ExprFault.LabelDivisor items is = is
-folds_fault A answer ExprFault.TooDeep items is = is
-folds_fault A answer ExprFault.TooLarge items is = is
-
 pub none_of : (o : Option ExprFault) → ((why : ExprFault) → o ≡ Some why → ⊥) → o ≡ None
 none_of None never = refl
 none_of (Some why) never = absurd (never why refl)
+
+-- a prefix operator's step, of which the first expression is known once there is one
+pub folds_unary : (t : Table) (op : Unary) (before : List (Expression Part)) (new : List (Item Part)) → 1 ≤ length before
+    → ((a : Expression Part) (rest : List (Expression Part)) → before ≡ a ∷ rest → new ≡ spread (prefixed op a ∷ rest)) → Folds (fold_one t (Item.Unary op) before) {A = Unit {0}} (Ok tt) new
+folds_unary t op [] new enough made = absurd (omega (arith, enough))
+folds_unary t op (a ∷ rest) new enough made = (prefixed op a ∷ rest, refl, made a rest refl)

@@ -103,12 +103,7 @@ folded_fault t items before k out d why h f is = sym f.folds ∙ fold_step t ite
 
 pub folded_refused : (t : Table) (items : List (Item Part)) (before : List (Expression Part)) (k : ℕ) (out new : List (Item Part)) (d : Item Part) (why : ExprFault) → k < length items
     → (f : Folded t items before k out) → Folds (fold_one t (get_or items k d) f.now) {A = Unit {0}} (Err why) new → Folds (fold_all t items before) {A = Unit {0}} (Err why) new
-folded_refused t items before k out new d ExprFault.NoMemory h f is = tt
-folded_refused t items before k out new d ExprFault.Syntax h f is = folded_fault t items before k out d ExprFault.Syntax h f is
-folded_refused t items before k out new d ExprFault.DivideByZero h f is = folded_fault t items before k out d ExprFault.DivideByZero h f is
-folded_refused t items before k out new d ExprFault.LabelDivisor h f is = folded_fault t items before k out d ExprFault.LabelDivisor h f is
-folded_refused t items before k out new d ExprFault.TooDeep h f is = folded_fault t items before k out d ExprFault.TooDeep h f is
-folded_refused t items before k out new d ExprFault.TooLarge h f is = folded_fault t items before k out d ExprFault.TooLarge h f is
+folded_refused t items before k out new d why h f is = folded_fault t items before k out d why h f is
 
 pub folded_end : (t : Table) (items : List (Item Part)) (before : List (Expression Part)) (k : ℕ) (out : List (Item Part)) → length items ≤ k
     → (f : Folded t items before k out) → (now : List (Expression Part)) × (fold_all t items before ≡ Ok now) × (out ≡ spread now)
@@ -123,9 +118,10 @@ pub record Settles (t : Table) (items : List (Item Operand)) (read size : ℕ) (
   pub runs : run (drop read items) values ≡ run items []
   pub enough : length values ≤ length now
   pub small : size ≤ 64
+  pub most : length out ≤ size
 
 pub settles_start : (t : Table) (items : List (Item Operand)) → Settles t items 0 0 []
-settles_start t items = record { now = []; settles = refl; written = refl; values = []; runs = refl; enough = omega arith; small = omega arith }
+settles_start t items = record { now = []; settles = refl; written = refl; values = []; runs = refl; enough = omega arith; small = omega arith; most = omega arith }
 
 long : (now : List (Expression Part)) → length now ≤ length (spread now)
 long [] = omega arith
@@ -164,8 +160,8 @@ for_len t (Item.Binary op) before now h e = fold_len t (Item.Binary op) before n
 
 pub settles_next : (t : Table) (items : List (Item Operand)) (k size : ℕ) (out new : List (Item Part)) (d : Item Operand) (left : List (Expression Operand)) (after : List (Expression Part)) → run items [] ≡ Some left → k < length items
     → (s : Settles t items k size out) → size + item_size t (get_or items k d) ≤ 64 → fold_all t (items_for t (get_or items k d)) s.now ≡ Ok after → new ≡ spread after
-    → Settles t items (k + 1) (size + item_size t (get_or items k d)) new
-settles_next t items k size out new d left after whole h s few is written =
+    → length new ≤ length out + item_size t (get_or items k d) → Settles t items (k + 1) (size + item_size t (get_or items k d)) new
+settles_next t items k size out new d left after whole h s few is written grown =
     let x = get_or items k d in
     let n = next items k d s.values left whole s.runs h in
     let p = put_len x s.values n.0 n.1 in
@@ -173,7 +169,7 @@ settles_next t items k size out new d left after whole h s few is written =
     let step = settling_step t items k size d s.now h
     ∙ ap (λ f. unless f (fold_all t (items_for t x) s.now >>= λ after. settling t (drop (k + 1) items) (size + item_size t x) after)) (not_large (size + item_size t x) few)
     ∙ ap (λ r. r >>= λ after. settling t (drop (k + 1) items) (size + item_size t x) after) is in
-    record { now = after; settles = sym step ∙ s.settles; written = written; values = n.0; runs = n.2; enough = omega (arith, p.1, q, s.enough); small = few }
+    record { now = after; settles = sym step ∙ s.settles; written = written; values = n.0; runs = n.2; enough = omega (arith, p.1, q, s.enough); small = few; most = omega (arith, s.most, grown) }
 
 -- A fault on the way is the fault of the whole.
 same_fault : (t : Table) (e : Expression Operand) (why : ExprFault) → settling t (postfix e) 0 [] ≡ Err why → fault t e ≡ Some why
@@ -201,13 +197,8 @@ settles_fault t items k size out d e why spelled h s few is =
     same_fault t e why (ap (λ is. settling t is 0 []) spelled ∙ sym s.settles ∙ step)
 
 pub settles_refused : (t : Table) (items : List (Item Operand)) (k size : ℕ) (out new : List (Item Part)) (d : Item Operand) (e : Expression Operand) (why : ExprFault) → postfix e ≡ items → k < length items
-    → (s : Settles t items k size out) → size + item_size t (get_or items k d) ≤ 64 → Folds (fold_all t (items_for t (get_or items k d)) s.now) {A = Unit {0}} (Err why) new → IsReduced {A = Unit {0}} t e (Err why)
-settles_refused t items k size out new d e ExprFault.NoMemory spelled h s few is = tt
-settles_refused t items k size out new d e ExprFault.Syntax spelled h s few is = settles_fault t items k size out d e ExprFault.Syntax spelled h s few is
-settles_refused t items k size out new d e ExprFault.DivideByZero spelled h s few is = settles_fault t items k size out d e ExprFault.DivideByZero spelled h s few is
-settles_refused t items k size out new d e ExprFault.LabelDivisor spelled h s few is = settles_fault t items k size out d e ExprFault.LabelDivisor spelled h s few is
-settles_refused t items k size out new d e ExprFault.TooDeep spelled h s few is = settles_fault t items k size out d e ExprFault.TooDeep spelled h s few is
-settles_refused t items k size out new d e ExprFault.TooLarge spelled h s few is = settles_fault t items k size out d e ExprFault.TooLarge spelled h s few is
+    → (s : Settles t items k size out) → size + item_size t (get_or items k d) ≤ 64 → Folds (fold_all t (items_for t (get_or items k d)) s.now) {A = Unit {0}} (Err why) new → IsReduced t e (Err why)
+settles_refused t items k size out new d e why spelled h s few is = settles_fault t items k size out d e why spelled h s few is
 
 pub settles_end : (t : Table) (items : List (Item Operand)) (k size : ℕ) (out : List (Item Part)) (e : Expression Operand) → postfix e ≡ items → length items ≤ k
     → Settles t items k size out → (fault t e ≡ None) × (out ≡ postfix (reduced t (replaced t e)))

@@ -12,6 +12,7 @@ use Rattle.asm_expr.specs.declared.part.Part.{Part}
 use Rattle.asm_expr.specs.declared.unknown.Unknown.{Unknown}
 use Rattle.asm_expr.specs.declared.meaning.Meaning.{Meaning}
 use Rattle.asm_expr.specs.declared.worth.Worth.{Worth}
+use Rattle.asm_expr.specs.declared.expr.TheConstants.{MOST_ITEMS}
 use Rattle.asm_parse.specs.Operators.{divides}
 use Rattle.asm_expr.specs.Arithmetic.{unary, binary}
 use Rattle.asm_parse.specs.Expression.{Expression, Leaf, Prefix, Infix, postfix, and_then}
@@ -144,9 +145,9 @@ divisions_fault t (Leaf part) = None
 divisions_fault t (Prefix op a) = divisions_fault t a
 divisions_fault t (Infix op a b) = first (divisions_fault t a) (first (divisions_fault t b) (division_fault t op b))
 
--- There are 64 terms and operators at most.
+-- There are not more terms and operators than the most items.
 abbrev pub too_large : ℕ → Option ExprFault
-too_large n = if nat_lt 64 n then Some ExprFault.TooLarge else None
+too_large n = if nat_lt MOST_ITEMS n then Some ExprFault.TooLarge else None
 
 -- The first fault in postfix order, of an expression before which some number of terms and operators stands.
 abbrev pub fault_behind : ℕ → Table → Expression Operand → Option ExprFault
@@ -210,7 +211,7 @@ is_constant_item t _ = true
 pub record IsWorth (t : Table) (e : Expression Operand) (items : List (Item Atom)) : Type 0 where
   pub expr : IsExpr items
   pub short : length items ≤ size t e
-  pub small : size t e ≤ 64
+  pub small : size t e ≤ MOST_ITEMS
   pub whole : Expression Atom
   pub known : replaced t e ≡ known whole
   pub value : (places : ℕ → ℕ) → Step t.statements places → value places (tree items) ≡ value places whole

@@ -80,11 +80,11 @@ pub fn settle(alloc: Global, parsed: &Tree, names: &Names) -> Result<Settled, Ex
     ensures settled { (result ≡ settled names.now (source parsed.now)) ⊎ (result ≡ Err ExprFault.NoMemory) }
     ensures worth { IfOk result (λ answer. IsWorthOf names.now (source parsed.now) answer) }
 {
-    // Called for what it says of the table: the items that are settled are no more than 64.
+    // Called for what it says of the table: the items that are settled are no more than the most items.
     names.counted();
-    let reduced = reduce(alloc, parsed, names)?;
-    match items_known(alloc, &reduced)? {
+    let reduced = reduce(parsed, names)?;
+    match items_known(alloc, reduced.as_slice())? {
         Some(items) => Ok(Settled::Known(Expr::known(items))),
-        None => Ok(Settled::Unknown(unknown_of(&reduced))),
+        None => Ok(Settled::Unknown(unknown_of(reduced.as_slice()))),
     }
 }

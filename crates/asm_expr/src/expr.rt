@@ -15,7 +15,7 @@ use asm_parse::Item;
 use std::marker::Model;
 
 /// The most items that an expression may have.
-pub(crate) const MOST_ITEMS: usize = 64;
+pub const MOST_ITEMS: usize = 64;
 
 /// An expression whose names are replaced: its items in postfix order, 64 at most. They leave one value, and a
 /// division stands only directly behind a number that is not 0.

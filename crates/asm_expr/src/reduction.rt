@@ -1,17 +1,17 @@
 //! What names make of an expression.
 
-ghost use Rattle.std.specs.Prelude.{◌≡◌, ◌≤◌, ◌+◌, ℕ, List, ◌∷◌, Ok, Err, Option, true, length, vec_len, map, take, ◌-◌, ◌++◌, [], IfOk, IfErr, IfSome, MatchOption, Some, ◌↔◌};
+ghost use Rattle.std.specs.Prelude.{◌≡◌, ◌<◌, ◌≤◌, ◌+◌, ◌-◌, ◌++◌, ◌∷◌, [], List, Ok, IfOk, true, length, map, take};
 ghost use Rattle.std.specs.List.{AllPass};
 ghost use Rattle.asm_expr.specs.declared.part.Part.{Part};
 ghost use Rattle.asm_parse.specs.declared.item.Item.{Item};
-ghost use Rattle.asm_parse.specs.declared.fault.ExprFault.{ExprFault};
 ghost use Rattle.asm_parse.specs.Expression.{Expression, Leaf, postfix};
 ghost use Rattle.asm_expr.specs.Postfix.{source, spread, tree};
 ghost use Rattle.asm_parse.specs.Source.{operand, source_item};
+ghost use Rattle.asm_expr.specs.Names.{AreCounted};
 ghost use Rattle.asm_expr.specs.Arithmetic.{binary};
-ghost use Rattle.asm_expr.specs.Settling.{both, is_known, known_item};
+ghost use Rattle.asm_expr.specs.Settling.{both, is_known, known_item, size_of};
 ghost use Rattle.asm_expr.specs.Private.Steps.{arity};
-ghost use Rattle.asm_expr.specs.Private.Folding.{Folds, IsReduced, difference_of, fold_all, fold_one, folded_binary, folded_unary, item_fault, items_for, joined, leaf_of, prefixed, ref_of, worth_of};
+ghost use Rattle.asm_expr.specs.Private.Folding.{Folds, IsReduced, difference_of, fold_all, fold_one, folded_binary, folded_unary, item_fault, item_size, items_for, leaf_of, prefixed, ref_of, worth_of};
 
 use crate::arithmetic::{apply_binary, apply_unary};
 use crate::atom::Atom;
@@ -19,11 +19,11 @@ use crate::expr::{Expr, MOST_ITEMS, items};
 use crate::meaning::Meaning;
 use crate::names::Names;
 use crate::part::Part;
+use crate::parts::Parts;
 use crate::unknown::Unknown;
 use crate::weigh::item_size;
 use crate::worth::Worth;
 use asm_parse::{Binary, ExprFault, Item, Term, Tree, Unary};
-use std::alloc::Global;
 
 fn worth_of(item: &Item<Part>) -> Worth
     ensures { result ≡ worth_of item.now }
@@ -114,68 +114,76 @@ fn item_fault(op: Binary, divisor: &Item<Part>) -> Option<ExprFault>
 }
 
 /// Puts a leaf in the place of the last items.
-fn put_leaf(items: &mut Vec<Item<Part>>, count: usize, leaf: Part) -> Result<(), ExprFault>
-    requires { count ≤ vec_len items.old }
-    ensures put { IfOk result (λ _. items.new.items ≡ take (vec_len items.old - count) items.old.items ++ Item.Leaf leaf ∷ []) }
-    ensures fault { IfErr result (λ why. why ≡ ExprFault.NoMemory) }
-    ensures len { IfOk result (λ _. vec_len items.new + count ≡ vec_len items.old + 1) }
+fn put_leaf(items: &mut Parts, count: usize, leaf: Part)
+    requires some { 1 ≤ count }
+    requires there { count ≤ length items.old }
+    requires room { length items.old < MOST_ITEMS }
+    ensures put { items.new ≡ take (length items.old - count) items.old ++ Item.Leaf leaf ∷ [] }
+    ensures len { length items.new + count ≡ length items.old + 1 }
 {
-    items.truncate(items.len() - count);
-    items.push(Item::Leaf(leaf))?;
-    Ok(())
+    items.drop_last(count);
+    items.push(Item::Leaf(leaf));
 }
 
 /// A prefix operator behind its operand's items.
-fn fold_unary(items: &mut Vec<Item<Part>>, op: Unary) -> Result<(), ExprFault>
-    requires { 1 ≤ vec_len items.old }
-    ensures len { IfOk result (λ _. vec_len items.old ≤ vec_len items.new) }
-    ensures folds { (a : Expression Part) (before : List (Expression Part)) → items.old.items ≡ spread (a ∷ before) →
-        Folds (Ok (prefixed op a ∷ before)) result items.new.items }
+fn fold_unary(items: &mut Parts, op: Unary)
+    requires some { 1 ≤ length items.old }
+    requires room { length items.old < MOST_ITEMS }
+    ensures least { length items.old ≤ length items.new }
+    ensures most { length items.new ≤ length items.old + 1 }
+    ensures folds { (a : Expression Part) (before : List (Expression Part)) → items.old ≡ spread (a ∷ before) →
+        items.new ≡ spread (prefixed op a ∷ before) }
 {
-    let last = items[items.len() - 1];
-    match leaf_of(folded_unary(op, &last)) {
+    match leaf_of(folded_unary(op, &items.from_end(1))) {
         Some(leaf) => put_leaf(items, 1, leaf),
-        None => {
-            items.push(Item::Unary(op))?;
-            Ok(())
-        }
+        None => items.push(Item::Unary(op)),
     }
 }
 
 /// An operator behind the items of its two operands.
-fn fold_binary(items: &mut Vec<Item<Part>>, op: Binary, names: &Names) -> Result<(), ExprFault>
-    requires { 2 ≤ vec_len items.old }
-    ensures len { IfOk result (λ _. vec_len items.old ≤ vec_len items.new + 1) }
-    ensures folds { (a b : Expression Part) (before : List (Expression Part)) → items.old.items ≡ spread (b ∷ a ∷ before) →
-        Folds (fold_one names.now (Item.Binary op) (b ∷ a ∷ before)) result items.new.items }
+fn fold_binary(items: &mut Parts, op: Binary, names: &Names) -> Result<(), ExprFault>
+    requires two { 2 ≤ length items.old }
+    requires room { length items.old < MOST_ITEMS }
+    ensures least { IfOk result (λ _. length items.old ≤ length items.new + 1) }
+    ensures most { IfOk result (λ _. length items.new ≤ length items.old + 1) }
+    ensures folds { (a b : Expression Part) (before : List (Expression Part)) → items.old ≡ spread (b ∷ a ∷ before) →
+        Folds (fold_one names.now (Item.Binary op) (b ∷ a ∷ before)) result items.new }
 {
-    let left = items[items.len() - 2];
-    let right = items[items.len() - 1];
+    let left = items.from_end(2);
+    let right = items.from_end(1);
     if let Some(fault) = item_fault(op, &right) {
         return Err(fault);
     }
     match leaf_of(folded_binary(names, op, &left, &right)) {
-        Some(leaf) => put_leaf(items, 2, leaf),
+        Some(leaf) => {
+            put_leaf(items, 2, leaf);
+            Ok(())
+        }
         None => {
-            items.push(Item::Binary(op))?;
+            items.push(Item::Binary(op));
             Ok(())
         }
     }
 }
 
 /// One item more behind items that are reduced.
-fn fold(items: &mut Vec<Item<Part>>, item: Item<Part>, names: &Names) -> Result<(), ExprFault>
-    requires { arity item ≤ vec_len items.old }
-    ensures len { IfOk result (λ _. vec_len items.old + 1 ≤ vec_len items.new + arity item) }
-    ensures folds { (before : List (Expression Part)) → items.old.items ≡ spread before → arity item ≤ length before →
-        Folds (fold_one names.now item before) result items.new.items }
+fn fold(items: &mut Parts, item: Item<Part>, names: &Names) -> Result<(), ExprFault>
+    requires operands { arity item ≤ length items.old }
+    requires room { length items.old < MOST_ITEMS }
+    ensures least { IfOk result (λ _. length items.old + 1 ≤ length items.new + arity item) }
+    ensures most { IfOk result (λ _. length items.new ≤ length items.old + 1) }
+    ensures folds { (before : List (Expression Part)) → items.old ≡ spread before → arity item ≤ length before →
+        Folds (fold_one names.now item before) result items.new }
 {
     match item {
         Item::Leaf(_) => {
-            items.push(item)?;
+            items.push(item);
             Ok(())
         }
-        Item::Unary(op) => fold_unary(items, op),
+        Item::Unary(op) => {
+            fold_unary(items, op);
+            Ok(())
+        }
         Item::Binary(op) => fold_binary(items, op, names),
     }
 }
@@ -193,10 +201,12 @@ fn known_item(item: Item<Atom>) -> Item<Part>
 }
 
 /// The items of an expression behind items that are reduced.
-fn take_expr(out: &mut Vec<Item<Part>>, expr: &Expr, names: &Names) -> Result<(), ExprFault>
+fn take_expr(out: &mut Parts, expr: &Expr, names: &Names) -> Result<(), ExprFault>
+    requires room { length out.old + length expr.now ≤ MOST_ITEMS }
     ensures whole { postfix (tree expr.now) ≡ expr.now }
-    ensures folds { (before : List (Expression Part)) → out.old.items ≡ spread before →
-        Folds (fold_all names.now (map known_item expr.now) before) result out.new.items }
+    ensures most { IfOk result (λ _. length out.new ≤ length out.old + length expr.now) }
+    ensures folds { (before : List (Expression Part)) → out.old ≡ spread before →
+        Folds (fold_all names.now (map known_item expr.now) before) result out.new }
 {
     for item in items(expr) {
         fold(out, known_item(*item), names)?;
@@ -204,20 +214,24 @@ fn take_expr(out: &mut Vec<Item<Part>>, expr: &Expr, names: &Names) -> Result<()
     Ok(())
 }
 
-/// A leaf behind items that are reduced.
-fn put_part(out: &mut Vec<Item<Part>>, part: Part) -> Result<(), ExprFault>
-    ensures len { IfOk result (λ _. vec_len out.new ≡ vec_len out.old + 1) }
-    ensures folds { (before : List (Expression Part)) → out.old.items ≡ spread before → Folds (Ok (Leaf part ∷ before)) result out.new.items }
+/// A leaf behind items that are reduced, which has no fault.
+fn put_part(out: &mut Parts, part: Part) -> Result<(), ExprFault>
+    requires room { length out.old < MOST_ITEMS }
+    ensures most { IfOk result (λ _. length out.new ≤ length out.old + 1) }
+    ensures folds { (before : List (Expression Part)) → out.old ≡ spread before → Folds (Ok (Leaf part ∷ before)) result out.new }
 {
-    out.push(Item::Leaf(part))?;
+    out.push(Item::Leaf(part));
     Ok(())
 }
 
 /// What a term stands for, behind items that are reduced.
-fn take_term(out: &mut Vec<Item<Part>>, term: &Term, names: &Names) -> Result<(), ExprFault>
-    requires { is_known names.now (Item.Leaf (operand term.now)) ≡ true }
-    ensures { (before : List (Expression Part)) → out.old.items ≡ spread before →
-        Folds (fold_all names.now (items_for names.now (Item.Leaf (operand term.now))) before) result out.new.items }
+fn take_term(out: &mut Parts, term: &Term, names: &Names) -> Result<(), ExprFault>
+    requires known { is_known names.now (Item.Leaf (operand term.now)) ≡ true }
+    requires counted { AreCounted names.now }
+    requires room { length out.old + size_of names.now (operand term.now) ≤ MOST_ITEMS }
+    ensures most { IfOk result (λ _. length out.new ≤ length out.old + size_of names.now (operand term.now)) }
+    ensures folds { (before : List (Expression Part)) → out.old ≡ spread before →
+        Folds (fold_all names.now (items_for names.now (Item.Leaf (operand term.now))) before) result out.new }
 {
     match term {
         Term::Number(n) => put_part(out, Part::Number(*n)),
@@ -234,11 +248,14 @@ fn take_term(out: &mut Vec<Item<Part>>, term: &Term, names: &Names) -> Result<()
 }
 
 /// An item of a source, behind items that are reduced.
-fn take_item(out: &mut Vec<Item<Part>>, item: &Item<Term>, names: &Names) -> Result<(), ExprFault>
+fn take_item(out: &mut Parts, item: &Item<Term>, names: &Names) -> Result<(), ExprFault>
     requires known { is_known names.now (source_item item.now) ≡ true }
-    requires operands { arity (source_item item.now) ≤ vec_len out.old }
-    ensures { (before : List (Expression Part)) → out.old.items ≡ spread before → arity (source_item item.now) ≤ length before →
-        Folds (fold_all names.now (items_for names.now (source_item item.now)) before) result out.new.items }
+    requires counted { AreCounted names.now }
+    requires operands { arity (source_item item.now) ≤ length out.old }
+    requires room { length out.old + item_size names.now (source_item item.now) ≤ MOST_ITEMS }
+    ensures most { IfOk result (λ _. length out.new ≤ length out.old + item_size names.now (source_item item.now)) }
+    ensures folds { (before : List (Expression Part)) → out.old ≡ spread before → arity (source_item item.now) ≤ length before →
+        Folds (fold_all names.now (items_for names.now (source_item item.now)) before) result out.new }
 {
     match item {
         Item::Leaf(term) => take_term(out, term, names),
@@ -248,15 +265,13 @@ fn take_item(out: &mut Vec<Item<Part>>, item: &Item<Term>, names: &Names) -> Res
 }
 
 /// The items of an expression with each fixed part as its number, or as one that is not known.
-pub(crate) fn reduce(
-    alloc: Global,
-    parsed: &Tree,
-    names: &Names,
-) -> Result<Vec<Item<Part>>, ExprFault>
+pub(crate) fn reduce(parsed: &Tree, names: &Names) -> Result<Parts, ExprFault>
     requires { AllPass (is_known names.now) parsed.now }
     ensures { IsReduced names.now (source parsed.now) result }
 {
-    let mut out = Vec::new(alloc);
+    // Called for what it says of the table: what a name stands for has no more items than terms and operators.
+    names.counted();
+    let mut out = Parts::new();
     let mut size = 0;
     for item in parsed.items() {
         size += usize::from(item_size(item, names));

@@ -4,6 +4,7 @@ ghost use Rattle.std.specs.Prelude.{◌≡◌, ◌≤◌, ◌↔◌, IsTrue};
 ghost use Rattle.std.specs.List.{AllPass, list_all};
 ghost use Rattle.asm_parse.specs.Source.{source_item};
 ghost use Rattle.asm_parse.specs.Expression.{postfix};
+ghost use Rattle.asm_expr.specs.declared.expr.TheConstants.{MOST_ITEMS};
 ghost use Rattle.asm_expr.specs.Postfix.{source};
 ghost use Rattle.asm_expr.specs.Settling.{is_constant_item, is_known, size};
 ghost use Rattle.asm_expr.specs.Private.Folding.{item_size};
@@ -59,7 +60,7 @@ pub fn is_constant(parsed: &Tree, names: &Names) -> bool
 /// How many terms and operators an expression stands for, after EQU names are replaced, a constant one by its number.
 /// Of what [`settle`](crate::settle) takes there are 64 at most.
 pub fn size(parsed: &Tree, names: &Names) -> u16
-    requires { size names.now (source parsed.now) ≤ 64 }
+    requires { size names.now (source parsed.now) ≤ MOST_ITEMS }
     ensures { result ≡ size names.now (source parsed.now) }
 {
     let mut total = 0;

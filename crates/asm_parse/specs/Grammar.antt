@@ -7,6 +7,7 @@ use Rattle.asm_parse.specs.declared.fault.ExprFault.{ExprFault}
 use Rattle.asm_parse.specs.declared.operator.Unary.{Unary}
 use Rattle.asm_parse.specs.declared.operator.Binary.{Binary}
 use Rattle.asm_parse.specs.declared.item.Item.{Item}
+use Rattle.asm_parse.specs.declared.reader.TheConstants.{MOST_OPEN}
 use Rattle.asm_parse.specs.declared.sign.Sign.{Sign}
 use Rattle.asm_parse.specs.declared.sign.Prefix.{Prefix}
 use Rattle.asm_parse.specs.Expression.{Expression, postfix}
@@ -153,8 +154,8 @@ pub record Spells (symbols : List Symbol) (phrase : Phrase) : Type 0 where
 
 -- What is answered of symbols: the items of the expression that they spell, where it is not too deep; that it is; or that they spell none.
 abbrev pub IsParsed : List Symbol → Result (List (Item Operand)) ExprFault → Type 0
-IsParsed symbols (Ok items) = (phrase : Phrase) × Spells symbols phrase × (depth phrase ≤ 32) × (items ≡ postfix (expression phrase))
+IsParsed symbols (Ok items) = (phrase : Phrase) × Spells symbols phrase × (depth phrase ≤ MOST_OPEN) × (items ≡ postfix (expression phrase))
 IsParsed symbols (Err ExprFault.Syntax) = (phrase : Phrase) → Spells symbols phrase → ⊥
-IsParsed symbols (Err ExprFault.TooDeep) = (phrase : Phrase) × Spells symbols phrase × (32 < depth phrase)
+IsParsed symbols (Err ExprFault.TooDeep) = (phrase : Phrase) × Spells symbols phrase × (MOST_OPEN < depth phrase)
 IsParsed symbols (Err ExprFault.NoMemory) = Unit {0}
 IsParsed symbols (Err _) = ⊥

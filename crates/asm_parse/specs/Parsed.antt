@@ -4,6 +4,7 @@ use Rattle.std.specs.Prelude.{◌≡◌, ℕ, List, Option, Some, None, Result, 
 use Rattle.asm_scan.specs.Tokens.{Lexeme}
 use Rattle.asm_parse.specs.declared.fault.ExprFault.{ExprFault}
 use Rattle.asm_parse.specs.declared.item.Item.{Item}
+use Rattle.asm_parse.specs.declared.reader.TheConstants.{MOST_OPEN}
 use Rattle.asm_parse.specs.Expression.{postfix}
 use Rattle.asm_parse.specs.Source.{Operand}
 use Rattle.asm_parse.specs.Grammar.{Symbol, Phrase, depth, expression, symbol}
@@ -11,7 +12,7 @@ use Rattle.asm_parse.specs.Private.Parsing.{reading, start}
 
 abbrev pub parsed_by : Option Phrase → Result (List (Item Operand)) ExprFault
 parsed_by None = Err ExprFault.Syntax
-parsed_by (Some phrase) = if nat_lt 32 (depth phrase) then Err ExprFault.TooDeep else Ok (postfix (expression phrase))
+parsed_by (Some phrase) = if nat_lt MOST_OPEN (depth phrase) then Err ExprFault.TooDeep else Ok (postfix (expression phrase))
 
 -- the items of the expression that symbols spell, or their fault
 abbrev pub parsed_symbols : List Symbol → Result (List (Item Operand)) ExprFault

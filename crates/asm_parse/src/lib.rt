@@ -13,5 +13,5 @@ pub use asm_words::is_reserved;
 pub use fault::ExprFault;
 pub use item::{Item, Term};
 pub use operator::{Binary, Unary};
-pub use reader::parse;
+pub use reader::{MOST_OPEN, parse};
 pub use tree::Tree;

@@ -22,7 +22,7 @@ use asm_words::is_reserved;
 use std::alloc::Global;
 
 /// The most parentheses and prefix operators that may be open at one point.
-const MOST_OPEN: usize = 32;
+pub const MOST_OPEN: usize = 32;
 
 /// The level of what binds least tightly.
 const LOOSEST: u8 = 7;

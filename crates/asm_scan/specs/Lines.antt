@@ -1,6 +1,7 @@
 -- How a line is cut into tokens.
 use Rattle.std.specs.Prelude.{◌≡◌, ◌<◌, ◌≤◌, ◌+◌, ℕ, List, [], ◌∷◌, ◌++◌, Result, Ok, Err, length, take, drop}
 use Rattle.std.specs.List.{prefix_len}
+use Rattle.asm_scan.specs.declared.scan.TheConstants.{LONGEST_LINE}
 use Rattle.asm_scan.specs.Types.{ScanFault}
 use Rattle.asm_scan.specs.Classes.{is_blank, semicolon}
 use Rattle.asm_scan.specs.Tokens.{Lexeme, IsToken, BeginsFault}
@@ -36,12 +37,12 @@ pub record Stops (line : List ℕ) (fault : ScanFault) : Type 0 where
   pub begins : BeginsTokens line tokens rest
   pub stopped : BeginsFault fault (without_blanks rest)
 
--- What a line comes to: its tokens, or its one fault, which is never NoMemory. Above 255 bytes it is too long, whatever
--- it holds.
+-- What a line comes to: its tokens, or its one fault, which is never NoMemory. Above the longest line it is too long,
+-- whatever it holds.
 abbrev pub Scans : List ℕ → Result (List Lexeme) ScanFault → Type 0
-Scans line (Ok tokens) = (length line ≤ 255) × Cut line tokens
-Scans line (Err ScanFault.LineTooLong) = 255 < length line
-Scans line (Err fault) = (length line ≤ 255) × Stops line fault
+Scans line (Ok tokens) = (length line ≤ LONGEST_LINE) × Cut line tokens
+Scans line (Err ScanFault.LineTooLong) = LONGEST_LINE < length line
+Scans line (Err fault) = (length line ≤ LONGEST_LINE) × Stops line fault
 
 -- The texts are slices of the line, from left to right and apart, the first not before this offset.
 abbrev pub AreSpans : List ℕ → ℕ → List Lexeme → Type 0

@@ -1,6 +1,7 @@
 -- What a line comes to, as a function of the line. laws::scanned says that it is what Scans says, so that nobody need believe how
 -- it is found: it is here for definitions that speak of the tokens of a line.
 use Rattle.std.specs.Prelude.{ℕ, zero, suc, ◌==◌, List, [], ◌∷◌, Result, Ok, Err, if◌then◌else◌, nat_lt, length, take, drop}
+use Rattle.asm_scan.specs.declared.scan.TheConstants.{LONGEST_LINE}
 use Rattle.asm_scan.specs.Types.{ScanFault}
 use Rattle.asm_scan.specs.Classes.{semicolon}
 use Rattle.asm_scan.specs.Tokens.{Lexeme}
@@ -25,4 +26,4 @@ scanned_within (suc n) (b ∷ more) =
 
 -- the tokens of a line, or its one fault
 abbrev pub scanned : List ℕ → Result (List Lexeme) ScanFault
-scanned line = if nat_lt 255 (length line) then Err ScanFault.LineTooLong else scanned_within (length line) (without_blanks line)
+scanned line = if nat_lt LONGEST_LINE (length line) then Err ScanFault.LineTooLong else scanned_within (length line) (without_blanks line)

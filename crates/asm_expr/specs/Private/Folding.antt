@@ -1,6 +1,5 @@
 -- How the code reduces an expression, item by item.
 use Rattle.std.specs.Prelude.{◌≡◌, ℕ, ◌+◌, ◌-◌, List, [], ◌∷◌, Option, Some, None, Result, Ok, Err, if◌then◌else◌, length, slice_get}
-use Rattle.std.specs.declared.vec.Vec.{Vec}
 use Rattle.asm_words.specs.Results.{◌>>=◌}
 use Rattle.asm_parse.specs.declared.fault.ExprFault.{ExprFault}
 use Rattle.asm_parse.specs.declared.operator.Unary.{Unary}
@@ -90,15 +89,13 @@ settling t (item ∷ items) n before =
     unless (too_large (n + item_size t item)) (fold_all t (items_for t item) before >>= λ now. settling t items (n + item_size t item) now)
 
 -- What the whole reduces to, or its first fault.
-abbrev pub IsReduced : {A : Type 0} → Table → Expression Operand → Result (Vec (Item Part) A) ExprFault → Type 0
-IsReduced t e (Ok out) = (fault t e ≡ None) × (out.items ≡ postfix (reduced t (replaced t e)))
-IsReduced t e (Err ExprFault.NoMemory) = Unit {0}
+abbrev pub IsReduced : Table → Expression Operand → Result (List (Item Part)) ExprFault → Type 0
+IsReduced t e (Ok out) = (fault t e ≡ None) × (out ≡ postfix (reduced t (replaced t e)))
 IsReduced t e (Err why) = fault t e ≡ Some why
 
 -- What a step answers is this, written out.
 abbrev pub Folds : Result (List (Expression Part)) ExprFault → {A : Type 0} → Result A ExprFault → List (Item Part) → Type 0
 Folds folded (Ok _) items = (now : List (Expression Part)) × (folded ≡ Ok now) × (items ≡ spread now)
-Folds folded (Err ExprFault.NoMemory) items = Unit {0}
 Folds folded (Err fault) items = folded ≡ Err fault
 
 -- what is known of an expression without a value, by its last item

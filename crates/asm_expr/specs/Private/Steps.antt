@@ -3,13 +3,14 @@ use Rattle.std.specs.Prelude.{◌≡◌, ◌+◌, ◌&&◌, ℕ, Bool, List, [],
 use Rattle.std.specs.Option.{option_map, option_eq}
 use Rattle.asm_parse.specs.declared.item.Item.{Item}
 use Rattle.asm_expr.specs.declared.atom.Atom.{Atom}
+use Rattle.asm_expr.specs.declared.expr.TheConstants.{MOST_ITEMS}
 use Rattle.asm_parse.specs.Expression.{Expression}
 use Rattle.asm_expr.specs.Postfix.{run}
 use Rattle.asm_expr.specs.Items.{value, is_guarded}
 
 -- whether items make an expression
 abbrev pub is_expr : List (Item Atom) → Bool
-is_expr items = (nat_le (length items) 64 && option_eq nat_eq (option_map length (run items [])) (Some 1)) && is_guarded items
+is_expr items = (nat_le (length items) MOST_ITEMS && option_eq nat_eq (option_map length (run items [])) (Some 1)) && is_guarded items
 
 -- how many operands an item takes
 abbrev pub arity : {L : Type 0} → Item L → ℕ

@@ -15,29 +15,29 @@ returns-in_err-reduced c =
 
 pub known-requires : goal.known-requires
 known-requires c =
-    let known = (rw c.in-Some.is at c.in_ok-items.ensures.items) ∙ ap items_known (c.deref.ensures.value ∙ c.in_ok-reduced.ensures.1) in
+    let known = (rw c.in-Some.is at c.in_ok-items.ensures.items) ∙ ap items_known (c.as_slice.ensures ∙ c.in_ok-reduced.ensures.1) in
     (worth_of_known c.args.names.now c.counted.ensures (source c.args.parsed.now) c.in-Some.items.items c.in_ok-reduced.ensures.0 known).expr
 
 pub returns-in-Some-clause-worth : goal.returns-in-Some-clause-worth
 returns-in-Some-clause-worth c =
-    let known = (rw c.in-Some.is at c.in_ok-items.ensures.items) ∙ ap items_known (c.deref.ensures.value ∙ c.in_ok-reduced.ensures.1) in
+    let known = (rw c.in-Some.is at c.in_ok-items.ensures.items) ∙ ap items_known (c.as_slice.ensures ∙ c.in_ok-reduced.ensures.1) in
     subst (IsWorth c.args.names.now (source c.args.parsed.now)) (sym c.known.ensures)
     (worth_of_known c.args.names.now c.counted.ensures (source c.args.parsed.now) c.in-Some.items.items c.in_ok-reduced.ensures.0 known)
 
-pub returns-clause-settled : goal.returns-clause-settled
-returns-clause-settled c =
+pub returns-in-None-clause-settled : goal.returns-in-None-clause-settled
+returns-in-None-clause-settled c =
     let t = c.args.names.now in
     let e = source c.args.parsed.now in
     let lost : None ≡ items_known (postfix (reduced t (replaced t e))) =
-    (rw c.in-None.is at c.in_ok-items.ensures.items) ∙ ap items_known (c.deref.ensures.value ∙ c.in_ok-reduced.ensures.1) in
-    let what = c.unknown_of.ensures ∙ ap unknown_at_end (c.deref-in-None.ensures.value ∙ c.in_ok-reduced.ensures.1) ∙ unknown_end (reduced t (replaced t e)) in
+    (rw c.in-None.is at c.in_ok-items.ensures.items) ∙ ap items_known (c.as_slice.ensures ∙ c.in_ok-reduced.ensures.1) in
+    let what = c.unknown_of.ensures ∙ ap unknown_at_end (c.as_slice-in-None.ensures ∙ c.in_ok-reduced.ensures.1) ∙ unknown_end (reduced t (replaced t e)) in
     inl (settled_unknown t e c.unknown_of.result c.in_ok-reduced.ensures.0 lost what)
 
-pub returns-clause-worth : goal.returns-clause-worth
-returns-clause-worth c =
+pub returns-in-None-clause-worth : goal.returns-in-None-clause-worth
+returns-in-None-clause-worth c =
     let t = c.args.names.now in
     let e = source c.args.parsed.now in
     let lost : None ≡ items_known (postfix (reduced t (replaced t e))) =
-    (rw c.in-None.is at c.in_ok-items.ensures.items) ∙ ap items_known (c.deref.ensures.value ∙ c.in_ok-reduced.ensures.1) in
-    let what = c.unknown_of.ensures ∙ ap unknown_at_end (c.deref-in-None.ensures.value ∙ c.in_ok-reduced.ensures.1) ∙ unknown_end (reduced t (replaced t e)) in
+    (rw c.in-None.is at c.in_ok-items.ensures.items) ∙ ap items_known (c.as_slice.ensures ∙ c.in_ok-reduced.ensures.1) in
+    let what = c.unknown_of.ensures ∙ ap unknown_at_end (c.as_slice-in-None.ensures ∙ c.in_ok-reduced.ensures.1) ∙ unknown_end (reduced t (replaced t e)) in
     unknown_worth t (replaced t e) (items_lost (postfix (reduced t (replaced t e))) (sym lost)) ∙ ap worth_unknown (sym what)

@@ -1,4 +1,4 @@
-use Rattle.std.proofs.Common.{◌≡◌, List, map, vec_len}
+use Rattle.std.proofs.Common.{◌≡◌, ◌≤◌, ◌+◌, List, map, length}
 use Rattle.asm_expr.specs.declared.part.Part.{Part}
 use Rattle.asm_parse.specs.Expression.{Expression}
 use Rattle.asm_expr.specs.Postfix.{spread}
@@ -7,5 +7,6 @@ use Rattle.asm_expr.proofs.Steps.{Folded, Room}
 use Rattle.asm_expr.proofs.reduction.take_expr.Given as goal
 
 abbrev pub invariant-loop-item : goal.invariant-loop-item
-invariant-loop-item l = Room (map known_item l.item-items) l.item-index (vec_len l.out)
-    × ((before : List (Expression Part)) → l.fn.out.items ≡ spread before → Folded l.names (map known_item l.item-items) before l.item-index l.out.items)
+invariant-loop-item l = Room (map known_item l.item-items) l.item-index (length l.out)
+    × ((before : List (Expression Part)) → l.fn.out ≡ spread before → Folded l.names (map known_item l.item-items) before l.item-index l.out)
+    × (length l.out ≤ length l.fn.out + l.item-index)

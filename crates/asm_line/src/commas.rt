@@ -1,0 +1,18 @@
+//! Parentheses, within which no comma separates operands or arguments.
+
+ghost use Rattle.std.specs.Prelude.{◌≡◌, ◌<◌};
+ghost use Rattle.asm_line.specs.Commas.{open_behind};
+
+use asm_scan::{Kind, Mark, Token};
+
+/// How many parentheses are open behind a token, of which `depth` are open before it.
+pub fn open_behind(depth: usize, token: &Token<'_>) -> usize
+    requires { depth < usize.MAX }
+    ensures { result ≡ open_behind depth token.now.kind }
+{
+    match token.kind {
+        Kind::Mark(Mark::Open) => depth + 1,
+        Kind::Mark(Mark::Close) => depth.saturating_sub(1),
+        _ => depth,
+    }
+}

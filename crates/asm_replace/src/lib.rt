@@ -1,0 +1,10 @@
+//! A line of a macro's body with its names replaced, and the arguments of a call.
+#![tactic(auto)]
+
+mod called;
+mod local;
+mod whole_names;
+
+pub use called::arguments;
+pub use local::local_name;
+pub use whole_names::{Replacements, after, replace};
