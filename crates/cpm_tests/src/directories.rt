@@ -1,8 +1,8 @@
 //! What is looked for in a directory, and its listing.
 
 use cpm_directory::{
-    Entry, Listed, Name, Pattern, file_is_read_only, file_is_system, find, free_block,
-    free_entry, is_file, list, position_of, size,
+    Entry, Listed, Name, Pattern, file_is_read_only, file_is_system, find, free_block, free_entry,
+    is_file, list, position_of, size,
 };
 use std::alloc::Global;
 use std::test::Fail;
