@@ -1,13 +1,12 @@
 //! The words of the command `z80dev`: which job they ask for.
 #![tactic(auto)]
 
-ghost use Rattle.std.specs.Prelude.{◌≡◌, ◌⊎◌, true, false, IfErr, IfOk, map, string_bytes};
-ghost use Rattle.clap.specs.Words.{app_of, found_of, kind_of, rule_of, takes};
+ghost use Rattle.std.specs.Prelude.{◌≡◌, true, false, IfErr, IfOk, map, string_bytes};
+ghost use Rattle.clap.specs.Words.{HasKind, app_of, fault_of, found_of, kind_of, rule_of, takes};
 ghost use Rattle.clap.specs.declared.error.kind.ErrorKind.{ErrorKind};
-ghost use Rattle.z80dev_commands.specs.Commands.{IsJob, IsRefusal, LacksPath, path_rule, z80dev};
+ghost use Rattle.z80dev_commands.specs.Commands.{IsJob, path_rule, z80dev};
 ghost use Rattle.z80dev_commands.specs.Private.Found.{IsCheckOf};
 
-use clap::error::ErrorKind;
 use clap::{Arg, ArgAction, ArgMatches, Command, Error};
 use std::alloc::{AllocError, Global};
 
@@ -42,7 +41,11 @@ fn command<'a>(alloc: Global) -> Result<Command<'a>, AllocError>
     ensures app { IfOk result (λ c. app_of c ≡ z80dev) }
 {
     let sizes = path(alloc, "SIZES", "The sizes text: a line for each statement");
-    let cert = path(alloc, "CERT", "The certificate: the jumps that must be long, and the verdict");
+    let cert = path(
+        alloc,
+        "CERT",
+        "The certificate: the jumps that must be long, and the verdict",
+    );
     let check = Command::new(alloc, "check")
         .about("Checks the certificate of a sizes text: prints `best N`, `range K` or `size N`")
         .arg(sizes)?
@@ -68,13 +71,6 @@ fn check_of<'a>(found: &ArgMatches<'a>) -> Option<Job<'a>>
     Some(Job::Check { sizes, cert })
 }
 
-/// A fault of usage: a path that has to be given is not there.
-fn missing_path(alloc: Global) -> Result<Error, AllocError>
-    ensures { IfOk result (λ e. kind_of e ≡ ErrorKind.MissingRequiredArgument) }
-{
-    command(alloc)?.error(ErrorKind::MissingRequiredArgument, "a path is missing")
-}
-
 /// The job that the words ask for, the program's name first.
 ///
 /// # Errors
@@ -82,16 +78,15 @@ fn missing_path(alloc: Global) -> Result<Error, AllocError>
 /// `clap`'s: a fault of usage, a call for help or for the version, or out of memory.
 pub fn commands<'a>(alloc: Global, words: &'a [String]) -> Result<Job<'a>, Error>
     ensures job { IfOk result (IsJob (map (λ word. string_bytes word) words.now)) }
-    ensures refused { IfErr result (λ e. IsRefusal (map (λ word. string_bytes word) words.now) (kind_of e)) }
-    ensures taken { IfErr result (λ e. takes z80dev (map (λ word. string_bytes word) words.now) ≡ true →
-        (kind_of e ≡ ErrorKind.OutOfMemory) ⊎ LacksPath (map (λ word. string_bytes word) words.now)) }
+    ensures refused { IfErr result (HasKind (fault_of z80dev (map (λ word. string_bytes word) words.now))) }
+    ensures taken { IfErr result (λ e. takes z80dev (map (λ word. string_bytes word) words.now) ≡ true → kind_of e ≡ ErrorKind.OutOfMemory) }
 {
     let matches = command(alloc)?.try_get_matches_from(words)?;
     let Some((_, found)) = matches.subcommand() else {
         return Ok(Job::Pipe);
     };
-    match check_of(found) {
-        Some(job) => Ok(job),
-        None => Err(missing_path(alloc)?),
-    }
+    let Some(job) = check_of(found) else {
+        unreachable!()
+    };
+    Ok(job)
 }
