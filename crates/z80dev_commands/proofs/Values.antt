@@ -7,12 +7,17 @@ use Rattle.std.specs.Str.{bytes_eq, chars}
 use Rattle.std.proofs.lemmas.Slice.Eq.{bytes_eq-Decides}
 use Rattle.clap.specs.Lexer.{long_of, short_of}
 use Rattle.clap.specs.Facts.{explicit_source, unwrap_or_range}
-use Rattle.clap.specs.Walk.{Held, Names, Outcome, default_rows, walked_from, Row, Rule, Step, Text, Waiting, Walk, action_of, after_flag, after_step, arg_by_id, arg_by_index, arg_by_long, arg_by_short, at_row, attached_value, bundle, bundle_met, bundle_step, counted, done, finished, first_of, has_row, idle, is_empty, is_pending, long_met, long_or_other, most_values, more_values, new_count, next, nothing_held, count_of, flag_met, option_met, option, option_word, plain, plain_word, positional, reacted, reading_by, refused, rows_after, settled, settled_rows, short_met, short_or_plain, subcommand, subcommand_met, subcommand_or_other, takes_several, takes_values, to_positional, trailing, used, used_as, used_by_id, value, values_or_missing, waits, walk, walk_from, walked, with_count, with_default, with_values, without, word_met}
+use Rattle.clap.specs.Walk.{Held, Names, Outcome, Row, Rule, Step, Text, Waiting, Walk, action_of, after_flag, after_step, answers_to, arg_by_id, arg_by_index}
+use Rattle.clap.specs.Walk.{arg_by_long, arg_by_short, at_row, attached_value, bundle, bundle_met, bundle_step, count_of, counted, default_rows, done, finished, first_of}
+use Rattle.clap.specs.Walk.{flag_met, has_row, idle, is_empty, is_pending, long_met, long_or_other, more_values, most_values, new_count, next, nothing_held, option}
+use Rattle.clap.specs.Walk.{option_met, option_word, plain, plain_word, positional, reacted, reading_by, refused, rows_after, settled, settled_rows, short_met}
+use Rattle.clap.specs.Walk.{short_or_plain, stop_after, subcommand, subcommand_met, subcommand_or_other, takes_several, takes_values, to_positional, trailing, used}
+use Rattle.clap.specs.Walk.{used_as, used_by_id, value, values_or_missing, waits, walk, walk_from, walked, walked_from, with_count, with_default, with_values, without}
+use Rattle.clap.specs.Walk.{word_met}
 use Rattle.clap.specs.Simple.{App, Shape, argument_words, built, entered, label_of, names_of, rows_at, subcommand_of}
 use Rattle.clap.specs.Takes.{is_given}
 use Rattle.clap.specs.Kinds.{Kinds, check_kinds, or_else, range_kinds}
 use Rattle.clap.specs.Faults.{bundle_fault, bundle_step_fault, entered_fault, fault_of, flag_word_fault, flags_fault, level_fault, long_fault, option_fault, other_fault, positional_fault, react_fault, settle_fault, short_fault, step_fault, stray_fault, turn_fault, use_fault, walk_fault, word_fault}
-use Rattle.clap.specs.Walk.{answers_to, stop_after}
 use Rattle.clap.specs.declared.error.kind.ErrorKind.TheVariants as kind
 use Rattle.clap.specs.declared.builder.value_parser.Reading.{Reading}
 use Rattle.clap.specs.declared.builder.action.ArgAction.{ArgAction}

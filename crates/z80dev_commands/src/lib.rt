@@ -2,12 +2,11 @@
 #![tactic(auto)]
 
 ghost use Rattle.std.specs.Prelude.{◌≡◌, true, false, IfErr, IfOk, map, string_bytes};
-ghost use Rattle.clap.specs.Words.{HasKind, app_of, fault_of, found_of, kind_of, rule_of, takes};
+ghost use Rattle.clap.specs.Words.{HasKind, app_of, fault_of, kind_of, rule_of, takes};
 ghost use Rattle.clap.specs.declared.error.kind.ErrorKind.{ErrorKind};
 ghost use Rattle.z80dev_commands.specs.Commands.{IsJob, path_rule, z80dev};
-ghost use Rattle.z80dev_commands.specs.Private.Found.{IsCheckOf};
 
-use clap::{Arg, ArgAction, ArgMatches, Command, Error};
+use clap::{Arg, ArgAction, Command, Error};
 use std::alloc::{AllocError, Global};
 
 /// The version of the command, and the toolchain that its proofs were made with.
@@ -62,15 +61,6 @@ fn command<'a>(alloc: Global) -> Result<Command<'a>, AllocError>
     Ok(command)
 }
 
-/// The job `check`, where both its paths were found.
-fn check_of<'a>(found: &ArgMatches<'a>) -> Option<Job<'a>>
-    ensures { IsCheckOf (found_of found.now) result }
-{
-    let sizes = found.get_str("SIZES")?;
-    let cert = found.get_str("CERT")?;
-    Some(Job::Check { sizes, cert })
-}
-
 /// The job that the words ask for, the program's name first.
 ///
 /// # Errors
@@ -85,8 +75,7 @@ pub fn commands<'a>(alloc: Global, words: &'a [String]) -> Result<Job<'a>, Error
     let Some((_, found)) = matches.subcommand() else {
         return Ok(Job::Pipe);
     };
-    let Some(job) = check_of(found) else {
-        unreachable!()
-    };
-    Ok(job)
+    let sizes = found.get_str("SIZES").unwrap();
+    let cert = found.get_str("CERT").unwrap();
+    Ok(Job::Check { sizes, cert })
 }
