@@ -75,6 +75,7 @@ pub fn commands<'a>(alloc: Global, words: &'a [String]) -> Result<Job<'a>, Error
     let Some((_, found)) = matches.subcommand() else {
         return Ok(Job::Pipe);
     };
+    // Both have to be given, so a parse that succeeds has their values.
     let sizes = found.get_str("SIZES").unwrap();
     let cert = found.get_str("CERT").unwrap();
     Ok(Job::Check { sizes, cert })
