@@ -1,10 +1,8 @@
 -- The words that the command takes, and which job they ask for.
-use Rattle.std.specs.Prelude.{◌≡◌, ◌⊎◌, true, List, [], ◌∷◌, None, Some, codes}
-use Rattle.clap.specs.Words.{App, IsAmong, Row, Rule, Shape, Text, fault_of, first_of, new_rule, subcommand_of, with_subcommand}
+use Rattle.std.specs.Prelude.{◌≡◌, true, List, [], ◌∷◌, None, Some, codes}
+use Rattle.clap.specs.Words.{App, Row, Rule, Shape, Text, fault_of, first_of, new_rule, subcommand_of, with_subcommand}
 use Rattle.clap.specs.Simple.{new_shape}
 use Rattle.clap.specs.declared.builder.action.ArgAction.TheVariants.{Set}
-use Rattle.clap.specs.declared.error.kind.ErrorKind.{ErrorKind}
-use Rattle.clap.specs.declared.error.kind.ErrorKind.TheVariants as kind
 use Rattle.z80dev_commands.specs.declared.Job.{Job}
 use Rattle.z80dev_commands.specs.declared.Job.TheVariants.{Pipe, Check}
 
@@ -37,12 +35,3 @@ abbrev pub IsJob : List Text → Job → Type 0
 IsJob words Pipe = IsParsed words × (subcommand_of z80dev words ≡ None)
 IsJob words (Check sizes cert) = IsParsed words
     × ((rows : List Row) × Checks words rows × (first_of (codes "SIZES") rows ≡ Some sizes.now) × (first_of (codes "CERT") rows ≡ Some cert.now))
-
--- The words name `check`, and the parse finds no value for one of its paths.
-abbrev pub LacksPath : List Text → Type 0
-LacksPath words = (rows : List Row) × Checks words rows × ((first_of (codes "SIZES") rows ≡ None) ⊎ (first_of (codes "CERT") rows ≡ None))
-
--- Why there is no job: memory ran out; or the parse fails, by a fault of this kind; or a path lacks, which is a fault of usage.
-abbrev pub IsRefusal : List Text → ErrorKind → Type 0
-IsRefusal words why =
-    (why ≡ kind.OutOfMemory) ⊎ (IsAmong why (fault_of z80dev words) ⊎ (IsParsed words × LacksPath words × (why ≡ kind.MissingRequiredArgument)))

@@ -1,14 +1,12 @@
 //! The words of the command `z80dev`: which job they ask for.
 #![tactic(auto)]
 
-ghost use Rattle.std.specs.Prelude.{◌≡◌, ◌⊎◌, true, false, IfErr, IfOk, map, string_bytes};
-ghost use Rattle.clap.specs.Words.{app_of, found_of, kind_of, rule_of, takes};
+ghost use Rattle.std.specs.Prelude.{◌≡◌, true, false, IfErr, IfOk, map, string_bytes};
+ghost use Rattle.clap.specs.Words.{HasKind, app_of, fault_of, kind_of, rule_of, takes};
 ghost use Rattle.clap.specs.declared.error.kind.ErrorKind.{ErrorKind};
-ghost use Rattle.z80dev_commands.specs.Commands.{IsJob, IsRefusal, LacksPath, path_rule, z80dev};
-ghost use Rattle.z80dev_commands.specs.Private.Found.{IsCheckOf};
+ghost use Rattle.z80dev_commands.specs.Commands.{IsJob, path_rule, z80dev};
 
-use clap::error::ErrorKind;
-use clap::{Arg, ArgAction, ArgMatches, Command, Error};
+use clap::{Arg, ArgAction, Command, Error};
 use std::alloc::{AllocError, Global};
 
 /// The version of the command, and the toolchain that its proofs were made with.
@@ -63,22 +61,6 @@ fn command<'a>(alloc: Global) -> Result<Command<'a>, AllocError>
     Ok(command)
 }
 
-/// The job `check`, where both its paths were found.
-fn check_of<'a>(found: &ArgMatches<'a>) -> Option<Job<'a>>
-    ensures { IsCheckOf (found_of found.now) result }
-{
-    let sizes = found.get_str("SIZES")?;
-    let cert = found.get_str("CERT")?;
-    Some(Job::Check { sizes, cert })
-}
-
-/// A fault of usage: a path that has to be given is not there.
-fn missing_path(alloc: Global) -> Result<Error, AllocError>
-    ensures { IfOk result (λ e. kind_of e ≡ ErrorKind.MissingRequiredArgument) }
-{
-    command(alloc)?.error(ErrorKind::MissingRequiredArgument, "a path is missing")
-}
-
 /// The job that the words ask for, the program's name first.
 ///
 /// # Errors
@@ -86,16 +68,15 @@ fn missing_path(alloc: Global) -> Result<Error, AllocError>
 /// `clap`'s: a fault of usage, a call for help or for the version, or out of memory.
 pub fn commands<'a>(alloc: Global, words: &'a [String]) -> Result<Job<'a>, Error>
     ensures job { IfOk result (IsJob (map (λ word. string_bytes word) words.now)) }
-    ensures refused { IfErr result (λ e. IsRefusal (map (λ word. string_bytes word) words.now) (kind_of e)) }
-    ensures taken { IfErr result (λ e. takes z80dev (map (λ word. string_bytes word) words.now) ≡ true →
-        (kind_of e ≡ ErrorKind.OutOfMemory) ⊎ LacksPath (map (λ word. string_bytes word) words.now)) }
+    ensures refused { IfErr result (HasKind (fault_of z80dev (map (λ word. string_bytes word) words.now))) }
+    ensures taken { IfErr result (λ e. takes z80dev (map (λ word. string_bytes word) words.now) ≡ true → kind_of e ≡ ErrorKind.OutOfMemory) }
 {
     let matches = command(alloc)?.try_get_matches_from(words)?;
     let Some((_, found)) = matches.subcommand() else {
         return Ok(Job::Pipe);
     };
-    match check_of(found) {
-        Some(job) => Ok(job),
-        None => Err(missing_path(alloc)?),
-    }
+    // Both have to be given, so a parse that succeeds has their values.
+    let sizes = found.get_str("SIZES").unwrap();
+    let cert = found.get_str("CERT").unwrap();
+    Ok(Job::Check { sizes, cert })
 }

@@ -1,11 +1,10 @@
-use Rattle.std.proofs.Common.{◌≡◌, [], true, map, string_bytes, subst, refl, sym, ap, inl, inr, Some, None}
+use Rattle.std.proofs.Common.{◌≡◌, true, map, string_bytes, subst, refl, codes, sym, ap, ◌∙◌}
 use Rattle.std.specs.Option.{option_map}
 use Rattle.std.proofs.lemmas.Result.{err_from_is_err_and}
-use Rattle.clap.specs.Words.{takes, kind_of, is_simple, is_simple_and_free, fault_of, HasMatchesOf, found_of, subcommand_of, subcommand_rows_of, rows_of}
+use Rattle.clap.proofs.CallerLemmas.{some_of_text}
+use Rattle.clap.specs.Words.{app_of, takes, kind_of, found_of}
 use Rattle.clap.specs.declared.error.kind.ErrorKind.{ErrorKind}
-use Rattle.z80dev_commands.specs.Commands.{IsParsed, z80dev}
-use Rattle.z80dev_commands.specs.Private.Found.{IsCheckOf}
-use Rattle.z80dev_commands.proofs.Jobs.{IsMet, job_of, lacks, met_of}
+use Rattle.z80dev_commands.proofs.Jobs.{IsMet, has_value, job_of, met_by}
 use Rattle.z80dev_commands.proofs.commands.Goals as goal
 
 pub returns-in_err-matches-clause-taken : goal.returns-in_err-matches-clause-taken
@@ -13,32 +12,29 @@ returns-in_err-matches-clause-taken c =
     let words = map (λ s. string_bytes s) c.args.words.now in
     let refused = subst (λ a. takes a words ≡ true → kind_of c.in_err-matches.field-0.0 ≡ ErrorKind.OutOfMemory) c.in_ok-command.ensures.app c.in_err-matches.ensures.passes in
     let p = err_from_is_err_and c.from_residual-in_err-matches.result c.from_residual-in_err-matches.ensures.1 in
-    rw (p.1, p.2) (λ t. inl (refused t))
+    rw (p.1, p.2) refused
 
-pub returns-in-Some-check_of-clause-job : goal.returns-in-Some-check_of-clause-job
-returns-in-Some-check_of-clause-job c =
+pub unwrap-sizes-requires : goal.unwrap-sizes-requires
+unwrap-sizes-requires c =
     let words = map (λ s. string_bytes s) c.args.words.now in
-    let m = c.in_ok-matches.matches in
-    let simple : is_simple z80dev ≡ true = refl in
-    let free : is_simple_and_free z80dev ≡ true = refl in
-    let met : subcommand_rows_of m ≡ subcommand_of z80dev words = (subst (λ a. HasMatchesOf a words m) c.in_ok-command.ensures.app c.in_ok-matches.ensures.matches simple).1 in
-    let parsed : IsParsed words = subst (λ a. is_simple_and_free a ≡ true → fault_of a words ≡ []) c.in_ok-command.ensures.app c.in_ok-matches.ensures.kinds free in
-    job_of words (found_of c.in-Some.found.now) c.in-Some-check_of.job (met_of words (found_of c.in-Some.found.now) (subcommand_rows_of m) met c.in-Some.ensures.rows) parsed c.in-Some-check_of.ensures
+    let m = c.in_ok-matches in
+    let found = found_of c.in-Some.found.now in
+    let met : IsMet words found = met_by (app_of c.in_ok-command.field-0) words m.matches found c.in_ok-command.ensures.app m.ensures.kinds m.ensures.matches c.in-Some.ensures.rows in
+    some_of_text _ c.get_str.result _ c.get_str.ensures (has_value words found (codes "SIZES") refl met)
 
-pub returns-clause-refused : goal.returns-clause-refused
-returns-clause-refused c =
+pub unwrap-cert-requires : goal.unwrap-cert-requires
+unwrap-cert-requires c =
     let words = map (λ s. string_bytes s) c.args.words.now in
-    let m = c.in_ok-matches.matches in
-    let simple : is_simple z80dev ≡ true = refl in
-    let free : is_simple_and_free z80dev ≡ true = refl in
-    let met : subcommand_rows_of m ≡ subcommand_of z80dev words = (subst (λ a. HasMatchesOf a words m) c.in_ok-command.ensures.app c.in_ok-matches.ensures.matches simple).1 in
-    let parsed : IsParsed words = subst (λ a. is_simple_and_free a ≡ true → fault_of a words ≡ []) c.in_ok-command.ensures.app c.in_ok-matches.ensures.kinds free in
-    inr (inr (parsed, lacks words (found_of c.in-Some.found.now) (met_of words (found_of c.in-Some.found.now) (subcommand_rows_of m) met c.in-Some.ensures.rows) c.in-None.ensures, c.in_ok-missing_path-in-None.ensures))
+    let m = c.in_ok-matches in
+    let found = found_of c.in-Some.found.now in
+    let met : IsMet words found = met_by (app_of c.in_ok-command.field-0) words m.matches found c.in_ok-command.ensures.app m.ensures.kinds m.ensures.matches c.in-Some.ensures.rows in
+    some_of_text _ c.get_str-2.result _ c.get_str-2.ensures (has_value words found (codes "CERT") refl met)
 
-pub returns-clause-taken : goal.returns-clause-taken
-returns-clause-taken c =
+pub returns-clause-job : goal.returns-clause-job
+returns-clause-job c =
     let words = map (λ s. string_bytes s) c.args.words.now in
-    let m = c.in_ok-matches.matches in
-    let simple : is_simple z80dev ≡ true = refl in
-    let met : subcommand_rows_of m ≡ subcommand_of z80dev words = (subst (λ a. HasMatchesOf a words m) c.in_ok-command.ensures.app c.in_ok-matches.ensures.matches simple).1 in
-    λ taken. inr (lacks words (found_of c.in-Some.found.now) (met_of words (found_of c.in-Some.found.now) (subcommand_rows_of m) met c.in-Some.ensures.rows) c.in-None.ensures)
+    let m = c.in_ok-matches in
+    let found = found_of c.in-Some.found.now in
+    let met : IsMet words found = met_by (app_of c.in_ok-command.field-0) words m.matches found c.in_ok-command.ensures.app m.ensures.kinds m.ensures.matches c.in-Some.ensures.rows in
+    job_of words found c.unwrap-sizes.result c.unwrap-cert.result met
+    (sym c.get_str.ensures ∙ ap (option_map (λ s. s.now)) c.unwrap-sizes.ensures) (sym c.get_str-2.ensures ∙ ap (option_map (λ s. s.now)) c.unwrap-cert.ensures)
