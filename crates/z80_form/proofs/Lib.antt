@@ -4,3 +4,4 @@ mod Texts
 mod Numbers
 mod Kept
 mod Places
+mod Ranges
