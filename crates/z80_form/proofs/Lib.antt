@@ -5,3 +5,4 @@ mod Numbers
 mod Kept
 mod Places
 mod Ranges
+pub mod Refused
