@@ -1,4 +1,4 @@
-mod Tests
+mod Masks
 mod Carries
-mod Packed
+mod FlagByte
 mod Tables

@@ -2,7 +2,7 @@
 //! flags.
 //!
 //! The terms and the order are those of the Z80 CPU User Manual (UM0080). Each operation is a method of [`Flags`] that
-//! answers its result. Nothing here takes memory.
+//! returns its result. Nothing here takes memory.
 #![tactic(auto)]
 
 mod bits;

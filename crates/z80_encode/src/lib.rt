@@ -22,7 +22,7 @@ use put::{
 };
 use z80_instr::{Instr, InterruptMode};
 
-/// Writes the canonical spelling of an instruction at the front of the buffer, and answers its length.
+/// Writes the canonical spelling of an instruction at the front of the buffer, and returns its length.
 ///
 /// The other bytes of the buffer stay as they are.
 pub fn encode(instr: &Instr, out: &mut [u8; 4]) -> u8
@@ -35,7 +35,7 @@ pub fn encode(instr: &Instr, out: &mut [u8; 4]) -> u8
     put_instr(out, instr)
 }
 
-/// The same, by the groups of the manual.
+/// Writes the spelling, an arm for each instruction in the manual's groups and order.
 fn put_instr(out: &mut [u8; 4], instr: Instr) -> u8
     ensures codes { Codes instr (canonical instr) }
     ensures spells { Spells instr out.old out.new result }

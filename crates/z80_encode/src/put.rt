@@ -13,7 +13,7 @@ use z80_instr::{
     HlOrIndex, Memory, Operand, Pointer, Register, RegisterPair, StackOperand, WordRegister,
 };
 
-/// Writes the bytes at the front of the buffer, and answers how many they are.
+/// Writes the bytes at the front of the buffer, and returns how many they are.
 pub(crate) fn put(out: &mut [u8; 4], bytes: &[u8]) -> u8
     requires { length bytes.now ≤ 4 }
     ensures { Writes bytes.now out.old out.new result }

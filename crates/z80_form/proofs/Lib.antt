@@ -4,3 +4,5 @@ mod Texts
 mod Numbers
 mod Kept
 mod Places
+mod Ranges
+pub mod Refused

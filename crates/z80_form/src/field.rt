@@ -32,7 +32,8 @@ impl Field {
     ghost use Rattle.std.specs.Prelude.{◌≡◌};
     ghost use Rattle.z80_form.specs.Numbers.{allows};
 
-    /// Whether a number may stand in this field; the negative ones are their remainders by 65,536.
+    /// Whether a number may stand in this field. A negative one is its remainder by 65,536, as the language's arithmetic
+    /// gives it: 0FFFBH is -5.
     pub fn allows(self, value: u16) -> bool
         ensures { result ≡ allows self value }
     {
@@ -227,7 +228,7 @@ pub fn with_number(instr: Instr, field: Field, value: u16) -> Instr
     filled(instr, field, value)
 }
 
-/// The same, by the kind of the field.
+/// The instruction with a number put in, by the kind of the field.
 fn filled(instr: Instr, field: Field, value: u16) -> Instr
     requires { allows field value ≡ true }
     ensures { result ≡ with_number field value instr }
@@ -243,7 +244,7 @@ fn filled(instr: Instr, field: Field, value: u16) -> Instr
     }
 }
 
-/// The instruction with each of these numbers put in.
+/// The instruction with each of these numbers put in, from left to right.
 pub fn with_numbers(instr: Instr, numbers: &[(Field, u16)]) -> Instr
     requires { AreAllowed numbers.now }
     ensures numbers { result ≡ with_numbers numbers.entry.now instr }

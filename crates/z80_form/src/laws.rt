@@ -4,7 +4,7 @@ ghost use Rattle.z80_instr.specs.Table.{canonical, word};
 ghost use Rattle.z80_instr.specs.Codes.{in_range};
 ghost use Rattle.z80_form.specs.Types.{Instr, Mnemonic, Form, Field};
 ghost use Rattle.z80_form.specs.Rows.{row, Spells};
-ghost use Rattle.z80_form.specs.Numbers.{blank, number_field, with_number, but_last, has_displacement, HasNumbers};
+ghost use Rattle.z80_form.specs.Numbers.{allows, blank, number_field, with_number, but_last, has_displacement, HasNumbers};
 
 /// Every instruction is that of its row with its numbers put in.
 pub fn complete()
@@ -20,12 +20,14 @@ pub fn one_instruction()
         length (canonical first) ≡ length (canonical second) }
 {}
 
-/// A number put in leaves the text but for that number, and the count of bytes.
+/// A number put in leaves the text but for that number, and the count of bytes; an allowed one is of its type.
 pub fn kept()
     ensures row { (field : Field) (value : ℕ) (instr : Instr) → row (with_number field value instr) ≡ row instr }
     ensures size { (field : Field) (value : ℕ) (instr : Instr) →
         length (canonical (with_number field value instr)) ≡ length (canonical instr) }
-    ensures zeros { (instr : Instr) → row (blank instr) ≡ row instr }
+    ensures range { (field : Field) (value : ℕ) (instr : Instr) → allows field value ≡ true →
+        in_range instr ≡ true → in_range (with_number field value instr) ≡ true }
+    ensures zeros { (instr : Instr) → (row (blank instr) ≡ row instr) × (in_range (blank instr) ≡ true) }
 {}
 
 /// Where a number stands: a byte, a word and a distance last in the bytes, a displacement third.

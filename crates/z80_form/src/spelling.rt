@@ -25,7 +25,7 @@ pub fn instruction(mnemonic: Mnemonic, operands: &[Form]) -> Option<Instr>
     read(mnemonic, operands)
 }
 
-/// The same, by the count of the operands.
+/// What is spelled, by the count of the operands.
 fn read(mnemonic: Mnemonic, operands: &[Form]) -> Option<Instr>
     ensures { result ≡ reading.instruction_read mnemonic operands.entry.now }
 {

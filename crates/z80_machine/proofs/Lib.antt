@@ -1,2 +1,2 @@
-mod Standing
+mod AtPc
 mod OneTurn

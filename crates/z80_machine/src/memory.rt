@@ -65,7 +65,7 @@ impl Memory {
         u16::from_le_bytes([self.get(address), self.get(address.wrapping_add(1))])
     }
 
-    /// Sets them, and no other byte.
+    /// Sets the word at an address and the next, the low byte first, and no other byte.
     pub fn set_word(&mut self, address: u16, word: u16)
         ensures { self.new ≡ with_word_at address word self.old }
     {

@@ -156,7 +156,7 @@ impl Default for Cpu {
     ghost use Rattle.std.specs.Prelude.{◌≡◌};
     ghost use Rattle.z80_machine.specs.Cleared.{cleared};
 
-    /// The same as [`Cpu::new`].
+    /// Every register 0, interrupts not accepted, in mode 0, as [`Cpu::new`].
     fn default() -> Cpu
         ensures { result ≡ cleared }
     {

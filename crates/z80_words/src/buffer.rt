@@ -2,7 +2,7 @@
 
 use std::marker::Model;
 
-/// The letters of the longest word that names an operation.
+/// How many letters the longest word has that names an operation.
 const LONGEST: usize = 4;
 
 /// Up to four bytes.
@@ -14,22 +14,24 @@ pub(crate) struct Buffer {
 
 impl Model for Buffer {
     ghost use Rattle.std.specs.Prelude.{◌≤◌, List, ℕ, take};
+    ghost use Rattle.z80_words.specs.declared.buffer.TheConstants.{LONGEST};
 
     ghost Value = { List ℕ };
 
     ghost view = { λ b. take b.length b.bytes };
 
-    ghost invariant = { λ b. b.length ≤ 4 };
+    ghost invariant = { λ b. b.length ≤ LONGEST };
 }
 
 impl Buffer {
     ghost use Rattle.std.specs.Prelude.{◌≡◌, ◌≤◌, ◌<◌, IfSome, length, None, ◌↔◌, OnSome};
     ghost use Rattle.z80_words.specs.Words.{upper};
+    ghost use Rattle.z80_words.specs.declared.buffer.TheConstants.{LONGEST};
 
     /// The word in upper case; None where it is longer than any that is looked for.
     pub(crate) fn upper(word: &[u8]) -> Option<Buffer>
         ensures short { IfSome result (λ b. b ≡ upper word.now) }
-        ensures long { result ≡ None → 4 < length word.now }
+        ensures long { result ≡ None → LONGEST < length word.now }
     {
         if word.len() > LONGEST {
             return None;

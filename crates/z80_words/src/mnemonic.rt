@@ -63,7 +63,7 @@ pub fn mnemonic_of(name: &[u8]) -> Option<Mnemonic>
     read(buffer.as_slice())
 }
 
-/// The same of a word in upper case, by its first letter.
+/// The mnemonic that a word in upper case is. Its first letter leaves at most fifteen to compare it with.
 fn read(name: &[u8]) -> Option<Mnemonic>
     ensures { result ≡ mnemonic_read name.now }
 {

@@ -45,7 +45,7 @@ pub fn name_of(word: &[u8]) -> Option<Name>
     read(buffer.as_slice())
 }
 
-/// The same of a word in upper case.
+/// The register or condition that a word in upper case is.
 fn read(word: &[u8]) -> Option<Name>
     ensures { result ≡ name_read word.now }
 {

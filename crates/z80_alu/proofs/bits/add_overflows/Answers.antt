@@ -1,5 +1,5 @@
 use Rattle.std.proofs.Common.{◌∙◌, arith}
-use Rattle.z80_alu.proofs.Tests.{from_bool_le, xor_and_xor_is_set}
+use Rattle.z80_alu.proofs.Masks.{from_bool_le, xor_and_xor_is_set}
 use Rattle.z80_alu.proofs.Carries.{sum_overflows}
 use Rattle.z80_alu.proofs.bits.add_overflows.Goals as goal
 

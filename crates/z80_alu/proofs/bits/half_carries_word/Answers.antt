@@ -1,5 +1,5 @@
 use Rattle.std.proofs.Common.{◌∙◌, arith}
-use Rattle.z80_alu.proofs.Tests.{from_bool_le, xor_xor_is_set}
+use Rattle.z80_alu.proofs.Masks.{from_bool_le, xor_xor_is_set}
 use Rattle.z80_alu.proofs.Carries.{half_word_sum, half_word_difference}
 use Rattle.z80_alu.proofs.bits.half_carries_word.Goals as goal
 

@@ -1,5 +1,5 @@
 use Rattle.std.proofs.Common.{arith, ◌%◌}
-use Rattle.z80_alu.proofs.Tests.{from_bool_le, or_low}
+use Rattle.z80_alu.proofs.Masks.{from_bool_le, or_low}
 use Rattle.z80_alu.proofs.rotations.shifted_left.Goals as goal
 
 pub returns : goal.returns

@@ -1,5 +1,5 @@
 use Rattle.std.proofs.Common.{◌∙◌, refl, ap, Ok}
-use Rattle.z80_machine.proofs.Standing.{stands, is_read, done, turn_of}
+use Rattle.z80_machine.proofs.AtPc.{stands, is_read, done, turn_of}
 use Rattle.z80_machine.specs.Types.{Instr, Step}
 use Rattle.z80_machine.specs.State.{machine}
 use Rattle.z80_machine.proofs.turn.step.Goals as goal

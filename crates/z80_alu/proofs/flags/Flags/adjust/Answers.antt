@@ -1,5 +1,5 @@
 use Rattle.std.proofs.Common.{arith}
-use Rattle.z80_alu.proofs.Tests.{xor_is_set}
+use Rattle.z80_alu.proofs.Masks.{xor_is_set}
 use Rattle.z80_alu.proofs.Tables.{half_of_adjust}
 use Rattle.z80_alu.proofs.flags.Flags.adjust.Goals as goal
 

@@ -1,4 +1,4 @@
-use Rattle.z80_alu.proofs.Tests.{bit_is_set}
+use Rattle.z80_alu.proofs.Masks.{bit_is_set}
 use Rattle.z80_alu.proofs.flags.Flags.from_byte.Goals as goal
 
 pub returns : goal.returns

@@ -1,5 +1,5 @@
 use Rattle.std.proofs.Common.{arith, ap, ◌∙◌, false}
-use Rattle.z80_alu.proofs.Tests.{low_digit, digits_joined, low_digit_replaced}
+use Rattle.z80_alu.proofs.Masks.{low_digit, digits_joined, low_digit_replaced}
 use Rattle.z80_alu.specs.Bytes.{parity_flags}
 use Rattle.z80_alu.proofs.flags.Flags.rotate_digits_left.Goals as goal
 

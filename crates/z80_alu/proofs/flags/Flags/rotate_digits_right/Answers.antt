@@ -1,5 +1,5 @@
 use Rattle.std.proofs.Common.{arith, ◌%◌, refl}
-use Rattle.z80_alu.proofs.Tests.{low_digit, digits_joined, low_digit_replaced}
+use Rattle.z80_alu.proofs.Masks.{low_digit, digits_joined, low_digit_replaced}
 use Rattle.z80_alu.proofs.flags.Flags.rotate_digits_right.Goals as goal
 
 pub returns-clause-accumulator : goal.returns-clause-accumulator

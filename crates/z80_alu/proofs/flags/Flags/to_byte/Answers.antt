@@ -1,5 +1,5 @@
-use Rattle.z80_alu.proofs.Tests.{from_bool_le}
-use Rattle.z80_alu.proofs.Packed.{packed}
+use Rattle.z80_alu.proofs.Masks.{from_bool_le}
+use Rattle.z80_alu.proofs.FlagByte.{packed}
 use Rattle.z80_alu.proofs.flags.Flags.to_byte.Goals as goal
 
 pub returns : goal.returns

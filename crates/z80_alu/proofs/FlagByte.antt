@@ -1,6 +1,6 @@
 -- Eight flags shifted to their places make the byte that is their sum.
 use Rattle.std.proofs.Common.{◌≡◌, ℕ, ◌+◌, ◌*◌, ◌%◌, ◌≤◌, ap, ◌∙◌, arith, bit_or}
-use Rattle.z80_alu.proofs.Tests.{or_low}
+use Rattle.z80_alu.proofs.Masks.{or_low}
 
 pub packed : (s z y h x p n c : ℕ) → s ≤ 1 → z ≤ 1 → y ≤ 1 → h ≤ 1 → x ≤ 1 → p ≤ 1 → n ≤ 1 → c ≤ 1 →
     bit_or (bit_or (bit_or (bit_or (bit_or (bit_or (bit_or (s * 128 % 256) (z * 64 % 256)) (y * 32 % 256)) (h * 16 % 256)) (x * 8 % 256)) (p * 4 % 256)) (n * 2 % 256)) c
