@@ -4,7 +4,7 @@ use Rattle.std.specs.Prelude.{max, fold, filter}
 use Rattle.std.specs.List.{list_any, reduce}
 use Rattle.std.proofs.Math.Nat.{zero-max}
 use Rattle.cpm_directory.specs.Types.{Entry}
-use Rattle.cpm_directory.specs.Entries.{at, blank, is_extent, is_of}
+use Rattle.cpm_directory.specs.Entries.{at, blank, is_of}
 use Rattle.cpm_directory.specs.Rules.{IsSound}
 use Rattle.cpm_directory.specs.Searches.{is_file, size}
 use Rattle.cpm_directory.proofs.Names.{both_true}

@@ -51,6 +51,14 @@ IsFaultOf before e fault.BlockTwice = IsGood e × AreBlocks e × (HasOwnBlocks b
 IsFaultOf before e fault.NameTwice = IsGood e × AreBlocks e × HasOwnBlocks before e × (HasOwnName before e → ⊥)
 IsFaultOf before e _ = ⊥
 
+-- the faults of a directory
+abbrev pub IsRuleFault : DiskFault → Type 0
+IsRuleFault fault.BadEntry = ⊤
+IsRuleFault fault.BlockRange = ⊤
+IsRuleFault fault.BlockTwice = ⊤
+IsRuleFault fault.NameTwice = ⊤
+IsRuleFault _ = ⊥
+
 abbrev pub IsEntryJudged : List Entry → Entry → Result ⊤ DiskFault → Type 0
 IsEntryJudged before e (Ok _) = KeepsRules before e
 IsEntryJudged before e (Err f) = IsFaultOf before e f

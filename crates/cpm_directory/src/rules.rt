@@ -1,9 +1,9 @@
 //! The rules that a directory keeps.
 
-ghost use Rattle.std.specs.Prelude.{◌≡◌, ◌↔◌, IfOk, IsTrue, MatchBool, true};
+ghost use Rattle.std.specs.Prelude.{◌≡◌, ◌↔◌, IfErr, IfOk, IsTrue, MatchBool, true};
 ghost use Rattle.cpm_directory.specs.Entries.{is_extent};
 ghost use Rattle.cpm_directory.specs.Private.Marks.{AddsMarks, AreMarks};
-ghost use Rattle.cpm_directory.specs.Rules.{AreBlocks, HasOwnName, IsBlock, IsEntryJudged, IsGood, IsJudged};
+ghost use Rattle.cpm_directory.specs.Rules.{AreBlocks, HasOwnName, IsBlock, IsEntryJudged, IsGood, IsJudged, IsRuleFault};
 
 use crate::blocks::{Marks, mark};
 use crate::format::{BLOCK_COUNT, FIRST_BLOCK};
@@ -51,6 +51,7 @@ fn judge_entry(marks: &mut Marks, before: &[Entry], entry: &Entry) -> Result<(),
     requires marks { AreMarks marks.old before.now }
     requires extent { is_extent entry.now ≡ true }
     ensures judged { IsEntryJudged before.now entry.now result }
+    ensures refusals { IfErr result IsRuleFault }
     ensures marked { IfOk result (λ _. AddsMarks marks.old marks.new entry.now.blocks) }
 {
     if !is_good(entry) {
@@ -75,7 +76,8 @@ fn judge_entry(marks: &mut Marks, before: &[Entry], entry: &Entry) -> Result<(),
 /// The first rule that the first bad entry breaks: [`DiskFault::BadEntry`], [`DiskFault::BlockRange`],
 /// [`DiskFault::BlockTwice`], [`DiskFault::NameTwice`].
 pub fn judge(entries: &[Entry]) -> Result<(), DiskFault>
-    ensures { IsJudged entries.now result }
+    ensures judged { IsJudged entries.now result }
+    ensures refusals { IfErr result IsRuleFault }
 {
     let mut marks = [false; 256];
     for (number, entry) in entries.iter().enumerate() {

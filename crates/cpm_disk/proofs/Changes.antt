@@ -1,5 +1,5 @@
 -- The entries of a directory, changed one after the other.
-use Rattle.std.proofs.Common.{◌≡◌, ◌⊎◌, ◌<◌, ◌≤◌, ◌+◌, ℕ, zero, suc, Bool, true, false, List, [], ◌∷◌, ◌++◌, length, map, take, drop, slice_set, get_or, refl, sym, ap, subst, ◌∙◌, inl, inr, arith, take_all, drop_of_length-le, append-nil, if◌then◌else◌, length-set}
+use Rattle.std.proofs.Common.{◌≡◌, ◌⊎◌, ◌<◌, ◌≤◌, ◌+◌, ℕ, zero, suc, List, [], ◌∷◌, ◌++◌, length, map, take, drop, slice_set, get_or, refl, sym, ap, subst, ◌∙◌, inl, inr, arith, take_all, drop_of_length-le, append-nil, length-set}
 use Rattle.std.proofs.lemmas.List.{get_or_default, set-get_or}
 use Rattle.std.proofs.lemmas.List.Edits.{map_over_more}
 use Rattle.cpm_directory.specs.declared.entry.Entry.{Entry}

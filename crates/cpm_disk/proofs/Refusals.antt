@@ -1,5 +1,5 @@
 -- A write that is refused does not blame the device.
-use Rattle.std.proofs.Common.{◌≡◌, ◌%◌, ℕ, false, List, Result, Ok, Err, refl}
+use Rattle.std.proofs.Common.{◌≡◌, ◌%◌, ℕ, false, List, Result, Err, refl}
 use Rattle.cpm_directory.specs.declared.fault.DiskFault.{DiskFault}
 use Rattle.cpm_directory.specs.declared.fault.DiskFault.TheVariants as fault
 use Rattle.cpm_operations.specs.Refusals.{RefusesWriting}

@@ -1,17 +1,17 @@
 -- What a write that was stopped leaves of its file: the records that are there are those before or those after, whole.
-use Rattle.std.proofs.Common.{◌≡◌, ◌≢◌, ◌⊎◌, ◌<◌, ◌≤◌, ◌+◌, ◌*◌, ◌/◌, ◌%◌, ◌==◌, ℕ, max, Bool, true, false, ◌&&◌, not, List, find, replicate, slice_set, nat_lt, Option, Some, None, Ok, option_map, option_and_then, refl, sym, ap, subst, ◌∙◌, inl, inr, arith, if◌then◌else◌, true≢false, get_or-set_other, length-set, ltb-true}
+use Rattle.std.proofs.Common.{◌≡◌, ◌≢◌, ◌⊎◌, ◌<◌, ◌+◌, ◌*◌, ◌/◌, ◌%◌, ◌==◌, ℕ, max, true, false, ◌&&◌, not, List, find, replicate, slice_set, nat_lt, Option, Some, None, Ok, option_map, option_and_then, refl, sym, ap, subst, ◌∙◌, inl, inr, arith, if◌then◌else◌, true≢false, get_or-set_other, length-set, ltb-true}
 use Rattle.std.proofs.lemmas.Bool.{and_parts, cases_Bool, cases_eq}
 use Rattle.std.proofs.lemmas.List.{set-get_or}
 use Rattle.std.specs.List.{list_any}
 use Rattle.cpm_directory.specs.declared.entry.Entry.{Entry}
-use Rattle.cpm_directory.specs.Entries.{at, blank, block, has_record, is_extent, is_extent_of, is_of, is_read_only, is_system, place_on_disk, with_record}
+use Rattle.cpm_directory.specs.Entries.{at, blank, block, has_record, is_extent, is_extent_of, is_of, is_read_only, is_system}
 use Rattle.cpm_directory.specs.Rules.{IsSound}
 use Rattle.cpm_operations.proofs.Entries.{below_extent, found_at, of_file}
 use Rattle.cpm_operations.specs.declared.placement.Placement.{Placement}
 use Rattle.cpm_operations.specs.Kept.{IsBetween, IsKeptBy}
 use Rattle.cpm_operations.specs.Steps.{writing}
-use Rattle.cpm_disk.specs.Calls.{HasWritten, PartlyWritten, Written}
-use Rattle.cpm_disk.specs.Files.{HasRecord, HasSameRecords, count_of, file_record, in_block}
+use Rattle.cpm_disk.specs.Calls.{HasWritten, PartlyWritten}
+use Rattle.cpm_disk.specs.Files.{HasRecord, HasSameRecords, in_block}
 use Rattle.cpm_disk.specs.Image.{Image, IsOfBlock, IsOfDirectory, SameBut, directory, disk_record}
 use Rattle.cpm_disk.proofs.Files.{same_stored}
 use Rattle.cpm_disk.proofs.Maps.{range_of}

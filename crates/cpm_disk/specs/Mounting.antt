@@ -1,11 +1,11 @@
 -- What mounting a device answers, and the files of a mounted disk.
-use Rattle.std.specs.Prelude.{◌≡◌, ℕ, true, false, List, Result, Ok, Err}
+use Rattle.std.specs.Prelude.{◌≡◌, ℕ, true, false, List, Result, Ok, Err, ⊤}
 use Rattle.cpm_image.specs.Device.{HasRisen}
 use Rattle.cpm_directory.specs.declared.entry.Entry.{Entry}
 use Rattle.cpm_directory.specs.declared.fault.DiskFault.{DiskFault}
 use Rattle.cpm_directory.specs.declared.fault.DiskFault.TheVariants as fault
 use Rattle.cpm_directory.specs.declared.listing.Listed.{Listed}
-use Rattle.cpm_directory.specs.Rules.{IsFirstFault, IsSound}
+use Rattle.cpm_directory.specs.Rules.{IsFirstFault, IsRuleFault, IsSound}
 use Rattle.cpm_directory.specs.Searches.{IsListing}
 use Rattle.cpm_disk.specs.Calls.{Mounted}
 use Rattle.cpm_disk.specs.Image.{Image, directory}
@@ -16,6 +16,12 @@ abbrev pub IsMountFault : List Entry → ℕ → ℕ → DiskFault → Type 0
 IsMountFault entries before now fault.Fault = HasRisen before now
 IsMountFault entries before now fault.NoMemory = now ≡ before
 IsMountFault entries before now f = (now ≡ before) × IsFirstFault entries f
+
+-- the faults that mounting may answer
+abbrev pub RefusesMount : DiskFault → Type 0
+RefusesMount fault.Fault = ⊤
+RefusesMount fault.NoMemory = ⊤
+RefusesMount f = IsRuleFault f
 
 -- A disk is answered where the device did not fail and the directory keeps the rules, else the fault and the device. The device's
 -- sectors are as before.

@@ -51,7 +51,7 @@ impl<S: Sectors> Disk<S> {
     ghost use Rattle.cpm_disk.specs.Calls.{FailsOr};
     ghost use Rattle.cpm_disk.specs.Files.{HasRecord, HasSameRecords, IsEither, IsFile, IsMatched, IsMoved, IsNewFile, IsNoFile, OthersAreSame, file_record};
     ghost use Rattle.cpm_disk.specs.Image.{directory};
-    ghost use Rattle.cpm_disk.specs.Mounting.{IsListedBy, IsMountedFrom};
+    ghost use Rattle.cpm_disk.specs.Mounting.{IsListedBy, IsMountedFrom, RefusesMount};
     ghost use Rattle.cpm_disk.specs.Operations.{IsCreated, IsErased, IsRead, IsRenamed, IsWritten};
 
     /// Mounts a device of 2,002 sectors.
@@ -63,7 +63,8 @@ impl<S: Sectors> Disk<S> {
     /// [`DiskFault::BlockRange`], [`DiskFault::BlockTwice`], [`DiskFault::NameTwice`]. The device comes back with the fault.
     pub fn mount(alloc: Global, mut device: S) -> Result<Disk<S>, (DiskFault, S)>
         requires { length (S.sectors device) ≡ SECTOR_COUNT }
-        ensures { IsMountedFrom S.sectors S.faults device result }
+        ensures done { IsMountedFrom S.sectors S.faults device result }
+        ensures refusals { IfErr result (λ back. RefusesMount back.0) }
     {
         match read_entries(alloc, &mut device) {
             Ok(entries) => match judge(&entries) {

@@ -18,10 +18,10 @@ loop-number-preserved c = elim c.if-is_extent.branch [
 pub judge_entry-requires-clause-marks : goal.judge_entry-requires-clause-marks
 judge_entry-requires-clause-marks c = marks_before c.loop-number.invariant
 
-pub returns-in_err-judge_entry : goal.returns-in_err-judge_entry
-returns-in_err-judge_entry c =
+pub returns-in_err-judge_entry-clause-judged : goal.returns-in_err-judge_entry-clause-judged
+returns-in_err-judge_entry-clause-judged c =
     let p = err_from_is_err_and c.from_residual.result c.from_residual.ensures.1 in
     rw (p.1, p.2) (refused _ _ c.loop-number.invariant c.loop-number-test.true (sym c.is_extent.ensures ∙ c.if-is_extent.true) (c.in_err-judge_entry.ensures {u = tt}).judged)
 
-pub returns : goal.returns
-returns c = sound c.args.entries.now (λ k h. c.loop-number.invariant.kept k (omega arith))
+pub returns-clause-judged : goal.returns-clause-judged
+returns-clause-judged c = sound c.args.entries.now (λ k h. c.loop-number.invariant.kept k (omega arith))

@@ -1,4 +1,4 @@
-use Rattle.std.proofs.Common.{◌≡◌, ◌≤◌, length}
+use Rattle.std.proofs.Common.{◌≡◌, length}
 use Rattle.cpm_disk.specs.Private.Blocks.{Cleared}
 use Rattle.cpm_disk.proofs.block.clear_others.Given as goal
 

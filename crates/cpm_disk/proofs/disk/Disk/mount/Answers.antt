@@ -9,7 +9,7 @@ invariant_of-result g c =
     let entries : c.in-Ok.entries.items ≡ directory (g.S.Sectors.sectors c.read_entries.new.device) = c.in-Ok.ensures.entries ∙ ap directory (sym c.in-Ok.ensures.kept) in
     record {
       count = ap length c.in-Ok.ensures.kept ∙ c.requires;
-      sound = subst IsSound (c.deref.ensures.value ∙ entries) c.in-Ok-judge.ensures;
+      sound = subst IsSound (c.deref.ensures.value ∙ entries) c.in-Ok-judge.ensures.judged;
       size = ap length entries ∙ length_directory (g.S.Sectors.sectors c.read_entries.new.device);
       entries_are = λ _. entries;
     }
