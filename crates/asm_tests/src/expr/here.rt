@@ -1,0 +1,64 @@
+//! Operands that begin at `$`.
+
+use crate::expr::asserts::define;
+use asm_expr::{ExprFault, Meaning, Names, Offset, Unknown, is_defined, offset_from_here, parse};
+use asm_scan::tokens;
+use std::alloc::Global;
+use std::test::Fail;
+
+/// X at a statement of 3 bytes, Y behind it; N a name whose number is not known.
+fn module(alloc: Global) -> Result<Names, Fail> {
+    let mut names = Names::new(alloc);
+    names.pass_fixed(3)?;
+    define(alloc, &mut names, b"X", Meaning::Label(0))?;
+    define(alloc, &mut names, b"Y", Meaning::Label(1))?;
+    define(alloc, &mut names, b"N", Meaning::Unknown(Unknown::Number))?;
+    define(alloc, &mut names, b"V", Meaning::Unknown(Unknown::Varies))?;
+    Ok(names)
+}
+
+/// What an operand's text says.
+fn said(alloc: Global, text: &[u8], names: &Names) -> Result<Result<Offset, ExprFault>, Fail> {
+    let tree = parse(alloc, &tokens(alloc, text)?)?;
+    if !is_defined(&tree, names) {
+        return Err(Fail::from("a name that stands for nothing"));
+    }
+    match offset_from_here(alloc, &tree, names) {
+        Err(ExprFault::NoMemory) => Err(Fail::from("out of memory")),
+        answer => Ok(answer),
+    }
+}
+
+#[test]
+fn offsets(rt: HostRuntime) -> Result<(), Fail> {
+    let alloc = rt.alloc();
+    let names = module(alloc)?;
+    let rows: [(&[u8], Offset); 15] = [
+        (b"$", Offset::Number(0)),
+        (b"($)", Offset::Number(0)),
+        (b"$+2", Offset::Number(2)),
+        (b"$-3", Offset::Number(0xFFFD)),
+        (b"$+2*3", Offset::Number(6)),
+        (b"($)+2", Offset::Number(2)),
+        (b"$+(2+3)", Offset::Number(5)),
+        (b"$+N", Offset::Unknown),
+        (b"$+V", Offset::NotConstant),
+        (b"$+X", Offset::NotConstant),
+        (b"$-(Y-X)", Offset::NotConstant),
+        (b"$+2+3", Offset::Other),
+        (b"2+$", Offset::Other),
+        (b"$*2", Offset::Other),
+        (b"1/0", Offset::Other),
+    ];
+    for (text, want) in rows {
+        match said(alloc, text, &names)? {
+            Ok(offset) => assert!(rt; offset == want, "in {text:?}"),
+            Err(_) => return Err(Fail::from("a fault where an offset was wanted")),
+        }
+    }
+    match said(alloc, b"$+1/0", &names)? {
+        Err(fault) => assert_eq!(rt; fault, ExprFault::DivideByZero),
+        Ok(_) => return Err(Fail::from("an offset where a fault was wanted")),
+    }
+    Ok(())
+}

@@ -1,0 +1,145 @@
+//! Names, places and distances.
+
+use crate::expr::asserts::{Answer, assert_fault, assert_number, define, define_equ, made};
+use asm_expr::{ExprFault, Meaning, Names, constant, has_places, is_constant, items, parse, value};
+use asm_scan::tokens;
+use std::alloc::Global;
+use std::test::Fail;
+
+/// A module of five statements: W before 3 bytes, X before 4, a relaxable jump at Y, V before a byte, E at the end.
+fn module(alloc: Global) -> Result<Names, Fail> {
+    let mut names = Names::new(alloc);
+    names.pass_fixed(3)?;
+    names.pass_fixed(4)?;
+    names.pass_jump()?;
+    names.pass_fixed(1)?;
+    names.set_here(1);
+    let labels: [(&[u8], u16); 5] = [(b"W", 0), (b"X", 1), (b"Y", 2), (b"V", 3), (b"END", 4)];
+    for (name, statement) in labels {
+        define(alloc, &mut names, name, Meaning::Label(statement))?;
+    }
+    Ok(names)
+}
+
+#[test]
+fn distances(rt: HostRuntime) -> Result<(), Fail> {
+    let alloc = rt.alloc();
+    let names = module(alloc)?;
+    // No relaxable jump stands between W, X and Y, nor between V and END; one stands at Y itself.
+    let rows: [(&[u8], u16); 12] = [
+        (b"X-W", 3),
+        (b"W-X", 0xFFFD),
+        (b"Y-W", 7),
+        (b"Y-X", 4),
+        (b"END-V", 1),
+        (b"X-X", 0),
+        (b"$-W", 3),
+        (b"Y-$", 4),
+        (b"10/(Y-X)", 2),
+        (b"(X)-+(W)", 3),
+        (b"5+(X-W)", 8),
+        (b"NOT (Y-W)", 0xFFF8),
+    ];
+    for (text, want) in rows {
+        assert_number(&rt, alloc, text, &names, want)?;
+    }
+    Ok(())
+}
+
+#[test]
+fn varying(rt: HostRuntime) -> Result<(), Fail> {
+    let alloc = rt.alloc();
+    let names = module(alloc)?;
+    // A difference of what is no single place, over a jump or in a sum of places is not fixed.
+    let varying: [(&[u8], usize); 7] = [
+        (b"V-Y", 3),
+        (b"END-X", 3),
+        (b"X+5-W", 5),
+        (b"X", 1),
+        (b"X+Y", 3),
+        (b"2*3+X", 3),
+        (b"X-Y-W", 3),
+    ];
+    for (text, count) in varying {
+        match made(alloc, text, &names)? {
+            Answer::Expr(expr) => {
+                assert!(rt;
+                    constant(&expr).is_none() && items(&expr).len() == count,
+                    "in {text:?}"
+                );
+            }
+            _ => return Err(Fail::from("no expression where one was wanted")),
+        }
+    }
+    Ok(())
+}
+
+#[test]
+fn divisors(rt: HostRuntime) -> Result<(), Fail> {
+    let alloc = rt.alloc();
+    let names = module(alloc)?;
+    let rows: [(&[u8], ExprFault); 3] = [
+        (b"5/X", ExprFault::LabelDivisor),
+        (b"5/(V-Y)", ExprFault::LabelDivisor),
+        (b"5/(X-X)", ExprFault::DivideByZero),
+    ];
+    for (text, want) in rows {
+        assert_fault(&rt, alloc, text, &names, want)?;
+    }
+    Ok(())
+}
+
+#[test]
+fn values_at_places(rt: HostRuntime) -> Result<(), Fail> {
+    let alloc = rt.alloc();
+    let names = module(alloc)?;
+    let places = [0x0100, 0x0103, 0x0107, 0x010A, 0x010B];
+    let rows: [(&[u8], u16); 6] = [
+        (b"X", 0x0103),
+        (b"V-Y", 3),
+        (b"HIGH V", 0x01),
+        (b"LOW END", 0x0B),
+        (b"V*2-X", 0x0111),
+        (b"$+(Y-X)*2", 0x010B),
+    ];
+    for (text, want) in rows {
+        match made(alloc, text, &names)? {
+            Answer::Expr(expr) => {
+                if !has_places(&expr, places.len()) {
+                    return Err(Fail::from("a ref of no statement"));
+                }
+                assert_eq!(rt; value(&expr, &places), want, "in {text:?}");
+            }
+            _ => return Err(Fail::from("no expression where one was wanted")),
+        }
+    }
+    Ok(())
+}
+
+#[test]
+fn equ_names(rt: HostRuntime) -> Result<(), Fail> {
+    let alloc = rt.alloc();
+    let mut names = module(alloc)?;
+    let tree = parse(alloc, &tokens(alloc, b"Y-W")?)?;
+    assert!(rt; !is_constant(&tree, &names));
+    let sum = parse(alloc, &tokens(alloc, b"2+3*4")?)?;
+    assert!(rt; is_constant(&sum, &names));
+    define_equ(alloc, &mut names, b"LEN", b"Y-W")?;
+    define_equ(alloc, &mut names, b"FIVE", b"2+3")?;
+    define_equ(alloc, &mut names, b"PLACE", b"+X")?;
+    assert_number(&rt, alloc, b"LEN+FIVE", &names, 12)?;
+    assert_number(&rt, alloc, b"100 / len", &names, 14)?;
+    assert_number(&rt, alloc, b"PLACE-W", &names, 3)?;
+    assert_fault(&rt, alloc, b"FIVE/PLACE", &names, ExprFault::LabelDivisor)?;
+    // A constant counts one term; LEN counts its three terms and operators, though it is one number.
+    let mut text = Vec::from_slice(alloc, b"LEN+FIVE")?;
+    for _ in 0..15 {
+        text.extend_from_slice(b"+LEN")?;
+    }
+    assert_fault(&rt, alloc, &text, &names, ExprFault::TooLarge)?;
+    let mut text = Vec::from_slice(alloc, b"FIVE")?;
+    for _ in 0..31 {
+        text.extend_from_slice(b"+FIVE")?;
+    }
+    assert_number(&rt, alloc, &text, &names, 160)
+}

@@ -1,0 +1,122 @@
+//! Names and distances whose numbers are not known, since a line elsewhere is faulty.
+
+use crate::expr::asserts::{assert_fault, assert_number, assert_unknown, define, define_equ};
+use asm_expr::{ExprFault, Meaning, Names, Unknown, Worth};
+use std::alloc::Global;
+use std::test::Fail;
+
+/// PA before 3 bytes, PB before a size that is not known, PC before 2 bytes, PD at a relaxable jump, PE1 before a size
+/// that is not known, PF at the end; N a name whose number is not known.
+fn module(alloc: Global) -> Result<Names, Fail> {
+    let mut names = Names::new(alloc);
+    names.pass_fixed(3)?;
+    names.pass_unsized()?;
+    names.pass_fixed(2)?;
+    names.pass_jump()?;
+    names.pass_unsized()?;
+    names.set_here(2);
+    let labels: [(&[u8], u16); 6] = [
+        (b"PA", 0),
+        (b"PB", 1),
+        (b"PC", 2),
+        (b"PD", 3),
+        (b"PE1", 4),
+        (b"PF", 5),
+    ];
+    for (name, statement) in labels {
+        define(alloc, &mut names, name, Meaning::Label(statement))?;
+    }
+    define(alloc, &mut names, b"N", Meaning::Unknown(Unknown::Number))?;
+    Ok(names)
+}
+
+#[test]
+fn distances(rt: HostRuntime) -> Result<(), Fail> {
+    let names = module(rt.alloc())?;
+    // A relaxable jump between counts before a size that is not known.
+    let rows: [(u16, u16, Worth); 9] = [
+        (1, 0, Worth::Number(3)),
+        (0, 1, Worth::Number(0xFFFD)),
+        (2, 2, Worth::Number(0)),
+        (3, 2, Worth::Number(2)),
+        (2, 0, Worth::Unknown),
+        (1, 3, Worth::Unknown),
+        (5, 4, Worth::Unknown),
+        (5, 3, Worth::Varies),
+        (5, 6, Worth::Varies),
+    ];
+    for (p, q, want) in rows {
+        assert!(rt; names.distance(p, q) == want, "from {q} to {p}");
+    }
+    Ok(())
+}
+
+#[test]
+fn one_number(rt: HostRuntime) -> Result<(), Fail> {
+    let alloc = rt.alloc();
+    let names = module(alloc)?;
+    let rows: [&[u8]; 11] = [
+        b"N",
+        b"-N",
+        b"N*2+1",
+        b"N-N",
+        b"5/N",
+        b"5 MOD (N-N)",
+        b"5/(N+1)",
+        b"LOW N",
+        b"PC-PA",
+        b"5/(PC-PA)",
+        b"5/(PD-PA+2)",
+    ];
+    for text in rows {
+        assert_unknown(&rt, alloc, text, &names, Unknown::Number)?;
+    }
+    Ok(())
+}
+
+#[test]
+fn varying(rt: HostRuntime) -> Result<(), Fail> {
+    let alloc = rt.alloc();
+    let mut names = module(alloc)?;
+    // What an EQU stands for keeps whether it varies, and whether HIGH or LOW is its outermost operator.
+    define_equ(alloc, &mut names, b"K", b"PA+N")?;
+    define_equ(alloc, &mut names, b"KL", b"LOW (PA+N)")?;
+    let rows: [(&[u8], Unknown); 10] = [
+        (b"PA+N", Unknown::Varies),
+        (b"LOW (PF-PE1)+PA", Unknown::Varies),
+        (b"HIGH (PA+N)", Unknown::VariesInByte),
+        (b"LOW (PA+N)", Unknown::VariesInByte),
+        (b"+LOW (PA+N)", Unknown::VariesInByte),
+        (b"-LOW (PA+N)", Unknown::Varies),
+        (b"K", Unknown::Varies),
+        (b"KL", Unknown::VariesInByte),
+        (b"KL+1", Unknown::Varies),
+        (b"LOW K", Unknown::VariesInByte),
+    ];
+    for (text, want) in rows {
+        assert_unknown(&rt, alloc, text, &names, want)?;
+    }
+    // A divisor that varies has its fault, whatever the part that is not known.
+    assert_fault(&rt, alloc, b"5/K", &names, ExprFault::LabelDivisor)?;
+    assert_fault(&rt, alloc, b"5/KL", &names, ExprFault::LabelDivisor)
+}
+
+#[test]
+fn values_and_faults(rt: HostRuntime) -> Result<(), Fail> {
+    let alloc = rt.alloc();
+    let names = module(alloc)?;
+    assert_number(&rt, alloc, b"PB-PA", &names, 3)?;
+    assert_number(&rt, alloc, b"PD-$", &names, 2)?;
+    // An operator that has a fault whatever the number is has it.
+    let rows: [(&[u8], ExprFault); 5] = [
+        (b"N+1/0", ExprFault::DivideByZero),
+        (b"1/0+N", ExprFault::DivideByZero),
+        (b"5/(N+PA)", ExprFault::LabelDivisor),
+        (b"5/(PF-PD)", ExprFault::LabelDivisor),
+        (b"(PC-PA)/(PB-PB)", ExprFault::DivideByZero),
+    ];
+    for (text, want) in rows {
+        assert_fault(&rt, alloc, text, &names, want)?;
+    }
+    Ok(())
+}
