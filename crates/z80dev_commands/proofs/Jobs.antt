@@ -54,18 +54,6 @@ met_by a words m f same kinds has rows =
     let parsed = subst (λ a. is_simple_and_free a ≡ true → fault_of a words ≡ []) same kinds refl in
     met_of words f (subcommand_rows_of m) parsed (subst (λ a. HasMatchesOf a words m) same has refl).1 rows
 
-<<<<<<< HEAD
--- one of the paths is not there
-pub lacks : (words : List Text) (f : Found) → IsMet words f → IsCheckOf f None → LacksPath words
-lacks words f met is = (
-  met.rows,
-  met.checks,
-  elim is [
-    | inl e ↦ inl (sym (met.values (codes "SIZES")) ∙ e)
-    | inr e ↦ inr (sym (met.values (codes "CERT")) ∙ e)
-  ],
-)
-=======
 -- an argument that has to be given has a value
 pub has_value : (words : List Text) (f : Found) (id : Text) → list_all (requires_at (codes "check") id) (built z80dev).subs ≡ true → IsMet words f → is_some (first_value f id) ≡ true
 has_value words f id is met = ap (λ o. is_some o) (met.values id) ∙ required_value z80dev words (codes "check") id met.rows is met.checks met.parsed
@@ -74,4 +62,3 @@ has_value words f id is met = ap (λ o. is_some o) (met.values id) ∙ required_
 pub job_of : (words : List Text) (f : Found) (sizes cert : Bor Text) → IsMet words f → first_value f (codes "SIZES") ≡ Some sizes.now → first_value f (codes "CERT") ≡ Some cert.now
     → IsJob words (Check sizes cert)
 job_of words f sizes cert met is_sizes is_cert = (met.parsed, (met.rows, met.checks, sym (met.values (codes "SIZES")) ∙ is_sizes, sym (met.values (codes "CERT")) ∙ is_cert))
->>>>>>> h-cmd
