@@ -6,7 +6,7 @@ use Rattle.cpm_directory.specs.declared.fault.DiskFault.TheVariants as fault
 use Rattle.cpm_directory.specs.Entries.{at, is_extent, block}
 use Rattle.cpm_directory.specs.Letters.{letters}
 
--- at most 128 records, an extent number up to 31, and no more of them counted in S2
+-- at most 128 records, an extent number up to 31, and 0 in the low six bits of S2
 abbrev pub IsGood : Entry → Type 0
 IsGood e = (e.records ≤ 128) × (e.extent ≤ 31) × (e.s2 % 64 ≡ 0)
 

@@ -12,7 +12,7 @@ fn entries() -> [Entry; 5] {
     [
         Entry::new_extent(32, *b"A       COM", 0).with_record(0, 3),
         Entry::new_extent(1, *b"A       COM", 0),
-        Entry::blank(),
+        Entry::from_bytes(&[0xE5; 32]),
         Entry::new_extent(0, *b"A       \xC3OM", 1).with_record(4, 2),
         Entry::new_extent(0, *b"A       COM", 0).with_record(127, 4),
     ]

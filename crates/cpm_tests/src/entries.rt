@@ -6,7 +6,7 @@ use std::test::Fail;
 
 #[test]
 fn bytes(rt: HostRuntime) -> Result<(), Fail> {
-    assert_eq!(rt; Entry::blank().to_bytes(), [0xE5; 32]);
+    assert_eq!(rt; Entry::from_bytes(&[0xE5; 32]).to_bytes(), [0xE5; 32]);
     let entry = Entry::new_extent(3, *b"BIG     DAT", 1).with_record(0, 0x12);
     let bytes = *b"\x03BIG     DAT\x01\x00\x00\x01\x12\0\0\0\0\0\0\0\0\0\0\0\0\0\0\0";
     assert_eq!(rt; entry.to_bytes(), bytes);

@@ -88,7 +88,7 @@ fn each_entry_wholly(rt: HostRuntime) -> Result<(), Fail> {
         judge(&[first, out_of_range, named_twice]).err(),
         Some(DiskFault::BlockRange)
     );
-    assert!(rt; judge(&[Entry::blank(); 64]).is_ok());
+    assert!(rt; judge(&[Entry::from_bytes(&[0xE5; 32]); 64]).is_ok());
     assert!(rt; judge(&[]).is_ok());
     Ok(())
 }
