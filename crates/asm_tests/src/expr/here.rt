@@ -12,8 +12,10 @@ fn module(alloc: Global) -> Result<Names, Fail> {
     names.pass_fixed(3)?;
     define(alloc, &mut names, b"X", Meaning::Label(0))?;
     define(alloc, &mut names, b"Y", Meaning::Label(1))?;
-    define(alloc, &mut names, b"N", Meaning::Unknown(Unknown::Number))?;
-    define(alloc, &mut names, b"V", Meaning::Unknown(Unknown::Varies))?;
+    let unknown: [(&[u8], Unknown); 2] = [(b"N", Unknown::Number), (b"V", Unknown::Varies)];
+    for (name, what) in unknown {
+        define(alloc, &mut names, name, Meaning::Unknown(what))?;
+    }
     Ok(names)
 }
 

@@ -117,29 +117,60 @@ fn values_at_places(rt: HostRuntime) -> Result<(), Fail> {
 }
 
 #[test]
-fn equ_names(rt: HostRuntime) -> Result<(), Fail> {
+fn constants(rt: HostRuntime) -> Result<(), Fail> {
     let alloc = rt.alloc();
-    let mut names = module(alloc)?;
+    let names = module(alloc)?;
     let tree = parse(alloc, &tokens(alloc, b"Y-W")?)?;
     assert!(rt; !is_constant(&tree, &names));
     let sum = parse(alloc, &tokens(alloc, b"2+3*4")?)?;
     assert!(rt; is_constant(&sum, &names));
-    define_equ(alloc, &mut names, b"LEN", b"Y-W")?;
-    define_equ(alloc, &mut names, b"FIVE", b"2+3")?;
-    define_equ(alloc, &mut names, b"PLACE", b"+X")?;
-    assert_number(&rt, alloc, b"LEN+FIVE", &names, 12)?;
-    assert_number(&rt, alloc, b"100 / len", &names, 14)?;
-    assert_number(&rt, alloc, b"PLACE-W", &names, 3)?;
-    assert_fault(&rt, alloc, b"FIVE/PLACE", &names, ExprFault::LabelDivisor)?;
-    // A constant counts one term; LEN counts its three terms and operators, though it is one number.
-    let mut text = Vec::from_slice(alloc, b"LEN+FIVE")?;
-    for _ in 0..15 {
-        text.extend_from_slice(b"+LEN")?;
+    Ok(())
+}
+
+/// The module with names that EQU gives: a fixed one, a constant, a place, and four copies of the first two.
+fn with_equs(alloc: Global) -> Result<Names, Fail> {
+    let mut names = module(alloc)?;
+    let equs: [(&[u8], &[u8]); 5] = [
+        (b"LEN", b"Y-W"),
+        (b"FIVE", b"2+3"),
+        (b"PLACE", b"+X"),
+        (b"LENS", b"LEN+LEN+LEN+LEN+LEN"),
+        (b"FIVES", b"FIVE+FIVE+FIVE+FIVE+FIVE"),
+    ];
+    for (name, text) in equs {
+        define_equ(alloc, &mut names, name, text)?;
     }
-    assert_fault(&rt, alloc, &text, &names, ExprFault::TooLarge)?;
-    let mut text = Vec::from_slice(alloc, b"FIVE")?;
-    for _ in 0..31 {
-        text.extend_from_slice(b"+FIVE")?;
+    Ok(names)
+}
+
+#[test]
+fn equ_names(rt: HostRuntime) -> Result<(), Fail> {
+    let alloc = rt.alloc();
+    let names = with_equs(alloc)?;
+    let rows: [(&[u8], u16); 5] = [
+        (b"LEN+FIVE", 12),
+        (b"100 / len", 14),
+        (b"PLACE-W", 3),
+        (b"LENS", 35),
+        // A constant counts one term; LENS counts its 19 terms and operators, though it is one number.
+        (b"FIVES+FIVES+FIVES+FIVES", 100),
+    ];
+    for (text, want) in rows {
+        assert_number(&rt, alloc, text, &names, want)?;
     }
-    assert_number(&rt, alloc, &text, &names, 160)
+    Ok(())
+}
+
+#[test]
+fn equ_names_in_faults(rt: HostRuntime) -> Result<(), Fail> {
+    let alloc = rt.alloc();
+    let names = with_equs(alloc)?;
+    let rows: [(&[u8], ExprFault); 2] = [
+        (b"FIVE/PLACE", ExprFault::LabelDivisor),
+        (b"LENS+LENS+LENS+LENS", ExprFault::TooLarge),
+    ];
+    for (text, want) in rows {
+        assert_fault(&rt, alloc, text, &names, want)?;
+    }
+    Ok(())
 }

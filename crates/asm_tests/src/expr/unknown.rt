@@ -74,13 +74,20 @@ fn one_number(rt: HostRuntime) -> Result<(), Fail> {
     Ok(())
 }
 
+/// The module with names that EQU gives: each keeps whether it varies, and whether HIGH or LOW is its outermost operator.
+fn with_equs(alloc: Global) -> Result<Names, Fail> {
+    let mut names = module(alloc)?;
+    let equs: [(&[u8], &[u8]); 2] = [(b"K", b"PA+N"), (b"KL", b"LOW (PA+N)")];
+    for (name, text) in equs {
+        define_equ(alloc, &mut names, name, text)?;
+    }
+    Ok(names)
+}
+
 #[test]
 fn varying(rt: HostRuntime) -> Result<(), Fail> {
     let alloc = rt.alloc();
-    let mut names = module(alloc)?;
-    // What an EQU stands for keeps whether it varies, and whether HIGH or LOW is its outermost operator.
-    define_equ(alloc, &mut names, b"K", b"PA+N")?;
-    define_equ(alloc, &mut names, b"KL", b"LOW (PA+N)")?;
+    let names = with_equs(alloc)?;
     let rows: [(&[u8], Unknown); 10] = [
         (b"PA+N", Unknown::Varies),
         (b"LOW (PF-PE1)+PA", Unknown::Varies),
@@ -96,9 +103,18 @@ fn varying(rt: HostRuntime) -> Result<(), Fail> {
     for (text, want) in rows {
         assert_unknown(&rt, alloc, text, &names, want)?;
     }
+    Ok(())
+}
+
+#[test]
+fn varying_divisors(rt: HostRuntime) -> Result<(), Fail> {
+    let alloc = rt.alloc();
+    let names = with_equs(alloc)?;
     // A divisor that varies has its fault, whatever the part that is not known.
-    assert_fault(&rt, alloc, b"5/K", &names, ExprFault::LabelDivisor)?;
-    assert_fault(&rt, alloc, b"5/KL", &names, ExprFault::LabelDivisor)
+    for text in [b"5/K ", b"5/KL"] {
+        assert_fault(&rt, alloc, text, &names, ExprFault::LabelDivisor)?;
+    }
+    Ok(())
 }
 
 #[test]
