@@ -1,5 +1,5 @@
 -- What `pipe` prints of a source text, and how it ends.
-use Rattle.std.specs.Prelude.{◌≡◌, ℕ, ◌<◌, ◌≤◌, ◌⊎◌, Bool, true, List, [], ◌∷◌, ◌++◌, length, Option, None, Some, Result, Ok, Err}
+use Rattle.std.specs.Prelude.{◌≡◌, ℕ, ◌<◌, ◌≤◌, ◌⊎◌, Bool, true, List, [], ◌∷◌, ◌++◌, length, Option, None, Some, IfSome, Result, Ok, Err}
 use Rattle.std.specs.Io.KnownBytes.{Appends, Keeps}
 use Rattle.hex.specs.Hex.{encode_lower}
 use Rattle.zlink.specs.Built.{IsAnswer, IsFile, Links}
@@ -31,9 +31,20 @@ said_at (Err fault) = Some (fault_text fault)
 abbrev pub IsWithin : List ℕ → Type 0
 IsWithin text = length text ≤ TEXT_LIMIT
 
--- Reading came to no end: the reader failed, or was asked as often as it may be.
-abbrev pub IsCutShort : Bool → ℕ → Type 0
-IsCutShort failed reads = (failed ≡ true) ⊎ (reads ≡ READ_LIMIT)
+-- Reading came to no end: the reader failed, or was asked as often as it may be, and some of the reads were interrupted: so bytes
+-- in memory, which never fail and are never interrupted, always come to their end.
+abbrev pub IsCutShort : Bool → ℕ → ℕ → Type 0
+IsCutShort failed reads interruptions = (failed ≡ true) ⊎ ((reads ≡ READ_LIMIT) × (0 < interruptions))
+
+-- Why a text was not read: reading came to no end, or the text is too long where it is known; or memory ran out.
+abbrev pub IsUnread : Option (List ℕ) → Bool → ℕ → ℕ → Fault → Type 0
+IsUnread text failed reads interruptions fault.File = IsCutShort failed reads interruptions ⊎ IfSome text (λ t. TEXT_LIMIT < length t)
+IsUnread text failed reads interruptions (fault.Build refusal) = refusal ≡ build.Link link.NoMemory
+
+-- What is said of the text of an input: of all its bytes, where they are known, and else of some text.
+abbrev pub OfText : Option (List ℕ) → (List ℕ → Type 0) → Type 0
+OfText (Some text) P = P text
+OfText None P = (text : List ℕ) × P text
 
 -- the file is built of the text, with its sizes text and its certificate
 abbrev pub IsFileOf : List ℕ → List ℕ → Type 0
@@ -55,13 +66,13 @@ IsRefused text refusal = IsWithin text × IsAnswer text (Err refusal)
 
 -- Why there is a file fault: the text is too long, or reading it came to no end, and nothing was written; or the writer failed
 -- on the line of the text's file, of which a front was written.
-abbrev pub IsFileFault : List ℕ → Bool → ℕ → Option (List ℕ) → Option (List ℕ) → Bool → Type 0
-IsFileFault text unread reads old new unwritten =
-    (((TEXT_LIMIT < length text) ⊎ IsCutShort unread reads) × Keeps old new) ⊎ ((unwritten ≡ true) × WithFile text (AppendsFront old new))
+abbrev pub IsFileFault : List ℕ → Type 0 → Option (List ℕ) → Option (List ℕ) → Bool → Type 0
+IsFileFault text Cut old new unwritten =
+    (((TEXT_LIMIT < length text) ⊎ Cut) × Keeps old new) ⊎ ((unwritten ≡ true) × WithFile text (AppendsFront old new))
 
--- How printing the file of a text ends, by whether reading failed, how often it was asked for, what the writer held before and
--- holds after, and whether it failed.
-abbrev pub Ends : List ℕ → Bool → ℕ → Option (List ℕ) → Option (List ℕ) → Bool → Result Unit Fault → Type 0
-Ends text unread reads old new unwritten (Ok _) = WithFile text (Appends old new)
-Ends text unread reads old new unwritten (Err (fault.Build refusal)) = IsRefused text refusal × Keeps old new
-Ends text unread reads old new unwritten (Err fault.File) = IsFileFault text unread reads old new unwritten
+-- How printing the file of a text ends, by whether reading was cut short, what the writer held before and holds after, and whether it
+-- failed.
+abbrev pub Ends : List ℕ → Type 0 → Option (List ℕ) → Option (List ℕ) → Bool → Result Unit Fault → Type 0
+Ends text Cut old new unwritten (Ok _) = WithFile text (Appends old new)
+Ends text Cut old new unwritten (Err (fault.Build refusal)) = IsRefused text refusal × Keeps old new
+Ends text Cut old new unwritten (Err fault.File) = IsFileFault text Cut old new unwritten

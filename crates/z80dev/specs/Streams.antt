@@ -11,6 +11,12 @@ is_failure (Ok count) = false
 is_failure (Err Interrupted) = false
 is_failure (Err Failed) = true
 
+-- one for a read that was interrupted
+abbrev pub interruption_count : Result ℕ ReadFault → ℕ
+interruption_count (Ok count) = 0
+interruption_count (Err Interrupted) = 1
+interruption_count (Err Failed) = 0
+
 -- known bytes grow by a front of these
 abbrev pub AppendsFront : Option (List ℕ) → Option (List ℕ) → List ℕ → Type 0
 AppendsFront old new bytes = (n : ℕ) × Appends old new (take n bytes)

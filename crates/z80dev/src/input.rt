@@ -1,9 +1,9 @@
 //! Where a text is read from.
 
-ghost use Rattle.std.specs.Prelude.{◌≡◌, ◌+◌, ◌-◌, ◌^◌, ◌<◌, ℕ, Bool, false, List, Option};
+ghost use Rattle.std.specs.Prelude.{◌≡◌, ◌+◌, ◌-◌, ◌^◌, ◌<◌, ◌≤◌, ℕ, Bool, false, List, Option};
 ghost use Rattle.std.specs.Io.KnownBytes.{ReadConsumes};
 ghost use Rattle.std.specs.Io.{ReadsAtMost};
-ghost use Rattle.z80dev.specs.Streams.{is_failure};
+ghost use Rattle.z80dev.specs.Streams.{interruption_count, is_failure};
 
 use std::io::{ErrorKind, Read};
 
@@ -28,6 +28,9 @@ pub trait Input {
     /// How many reads there were.
     ghost reads: { Self → ℕ };
 
+    /// How many of them were interrupted.
+    ghost interruptions: { Self → ℕ };
+
     /// Reads some bytes into the front of a buffer, and returns how many: none only at the end, or where there is no
     /// room.
     ///
@@ -41,7 +44,8 @@ pub trait Input {
         ensures bound { ReadsAtMost result buffer.new }
         ensures bytes { ReadConsumes (remaining self.old) (remaining self.new) result buffer.new }
         ensures failed { failed self.new ≡ is_failure result }
-        ensures reads { reads self.new ≡ reads self.old + 1 };
+        ensures reads { reads self.new ≡ reads self.old + 1 }
+        ensures interruptions { interruptions self.new ≡ interruptions self.old + interruption_count result };
 }
 
 /// Bytes in memory.
@@ -73,6 +77,8 @@ impl Input for Bytes<'_> {
 
     ghost reads = { λ b. b.reads };
 
+    ghost interruptions = { λ _. 0 };
+
     fn read(&mut self, buffer: &mut [u8]) -> Result<usize, ReadFault> {
         self.reads += 1;
         match Read::read(&mut self.rest, buffer) {
@@ -82,12 +88,14 @@ impl Input for Bytes<'_> {
     }
 }
 
-/// A reader, whether it failed, and how often it was read.
+/// A reader, whether it failed, how often it was read, and how many of the reads were interrupted.
 #[derive(Drop)]
 pub struct Watched<R> {
     stream: R,
     failed: bool,
     reads: u64,
+    interruptions: u64,
+    ghost some: { interruptions ≤ reads },
 }
 
 impl<R> Watched<R> {
@@ -96,11 +104,13 @@ impl<R> Watched<R> {
         ensures stream { result.stream ≡ stream }
         ensures failed { result.failed ≡ false }
         ensures reads { result.reads ≡ 0 }
+        ensures interruptions { result.interruptions ≡ 0 }
     {
         Watched {
             stream,
             failed: false,
             reads: 0,
+            interruptions: 0,
         }
     }
 
@@ -126,11 +136,16 @@ impl<R: Read> Input for Watched<R> {
 
     ghost reads = { λ w. w.reads };
 
+    ghost interruptions = { λ w. w.interruptions };
+
     fn read(&mut self, buffer: &mut [u8]) -> Result<usize, ReadFault> {
         self.reads += 1;
         match self.stream.read(buffer) {
             Ok(count) => Ok(count),
-            Err(error) if error.kind() == ErrorKind::Interrupted => Err(ReadFault::Interrupted),
+            Err(error) if error.kind() == ErrorKind::Interrupted => {
+                self.interruptions += 1;
+                Err(ReadFault::Interrupted)
+            }
             Err(_) => {
                 self.failed = true;
                 Err(ReadFault::Failed)

@@ -1,7 +1,7 @@
 //! From a source text to the hexadecimal digits of its file.
 
-ghost use Rattle.std.specs.Prelude.{◌≡◌, ◌≤◌, ◌⊎◌, false, IfSome, Result};
-ghost use Rattle.z80dev.specs.Pipe.{Ends, said_at, status_at};
+ghost use Rattle.std.specs.Prelude.{◌≡◌, ◌≤◌, ◌⊎◌, false, Result};
+ghost use Rattle.z80dev.specs.Pipe.{Ends, IsCutShort, OfText, said_at, status_at};
 ghost use Rattle.z80dev.specs.Streams.{Says};
 ghost use Rattle.z80dev.specs.Private.Steps.{Writes};
 ghost use Rattle.z80dev.specs.declared.fault.Fault.{Fault};
@@ -28,7 +28,6 @@ fn write_file<W: Write>(alloc: Global, file: &[u8], output: &mut Output<W>) -> R
     }
 }
 
-#[tactic(auto, using(crate::proofs::Ends::unread))]
 /// Reads a text, builds it as the one source, named `MAIN`, and writes its file in lower-case hexadecimal, and a line
 /// feed.
 ///
@@ -43,9 +42,10 @@ pub fn print_file<I: Input, W: Write>(
 ) -> Result<(), Fault>
     requires sound { I.failed input.old ≡ false }
     requires unread { I.reads input.old ≡ 0 }
+    requires calm { I.interruptions input.old ≡ 0 }
     requires writable { output.old.failed ≡ false }
-    ensures ends { IfSome (I.remaining input.old) (λ text.
-        Ends text (I.failed input.new) (I.reads input.new) (W.contents output.old.stream) (W.contents output.new.stream) output.new.failed result) }
+    ensures ends { OfText (I.remaining input.old) (λ text.
+        Ends text (IsCutShort (I.failed input.new) (I.reads input.new) (I.interruptions input.new)) (W.contents output.old.stream) (W.contents output.new.stream) output.new.failed result) }
     ensures reads { I.reads input.new ≤ READ_LIMIT }
 {
     let text = read_text(alloc, input)?;
@@ -72,15 +72,16 @@ pub fn pipe<I: Input, W: Write, E: Write>(
 ) -> u8
     requires sound { I.failed input.old ≡ false }
     requires unread { I.reads input.old ≡ 0 }
+    requires calm { I.interruptions input.old ≡ 0 }
     requires writable { output.old.failed ≡ false }
     requires tellable { errors.old.failed ≡ false }
 
     ensures status { (result ≡ 0) ⊎ ((result ≡ 1) ⊎ (result ≡ 3)) }
 
     // There is one end that the status, the file that is written and the line on `errors` all speak of.
-    ensures ends { IfSome (I.remaining input.old) (λ text.
+    ensures ends { OfText (I.remaining input.old) (λ text.
         (end : Result Unit Fault) × (result ≡ status_at end)
-        × Ends text (I.failed input.new) (I.reads input.new) (W.contents output.old.stream) (W.contents output.new.stream) output.new.failed end
+        × Ends text (IsCutShort (I.failed input.new) (I.reads input.new) (I.interruptions input.new)) (W.contents output.old.stream) (W.contents output.new.stream) output.new.failed end
         × Says (said_at end) (E.contents errors.old.stream) (E.contents errors.new.stream) errors.new.failed) }
 
     // Whatever the input, it is asked for a bounded number of times.

@@ -2,9 +2,8 @@
 
 ghost use Rattle.std.specs.Prelude.{◌≡◌, ◌≤◌, false, IfErr, IfOk, OnOk, length};
 ghost use Rattle.std.specs.Io.KnownBytes.{Consumes, IsAtEnd};
-ghost use Rattle.z80dev.specs.Pipe.{IsWithin};
+ghost use Rattle.z80dev.specs.Pipe.{IsUnread, IsWithin};
 ghost use Rattle.z80dev.specs.declared.text.TheConstants.{READ_LIMIT};
-ghost use Rattle.z80dev.specs.Private.Steps.{IsUnread};
 
 use crate::fault::Fault;
 use crate::input::{Input, ReadFault};
@@ -30,10 +29,11 @@ const CHUNK: usize = 8192;
 pub fn read_text<I: Input>(alloc: Global, input: &mut I) -> Result<Vec<u8>, Fault>
     requires sound { I.failed input.old ≡ false }
     requires unread { I.reads input.old ≡ 0 }
+    requires calm { I.interruptions input.old ≡ 0 }
     ensures limit { IfOk result (λ text. IsWithin text.items) }
     ensures text { IfOk result (λ text. Consumes (I.remaining input.old) (I.remaining input.new) text.items) }
     ensures end { OnOk result (IsAtEnd (I.remaining input.new)) }
-    ensures err { IfErr result (IsUnread (I.remaining input.old) (I.failed input.new) (I.reads input.new)) }
+    ensures err { IfErr result (IsUnread (I.remaining input.old) (I.failed input.new) (I.reads input.new) (I.interruptions input.new)) }
     ensures reads { I.reads input.new ≤ READ_LIMIT }
 {
     let mut text = Vec::new(alloc);

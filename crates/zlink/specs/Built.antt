@@ -12,6 +12,7 @@ use Rattle.zlink.specs.declared.fault.LinkFault.TheVariants as link
 use Rattle.zlink.specs.declared.fault.BuildFault.{BuildFault}
 use Rattle.zlink.specs.declared.fault.BuildFault.TheVariants as fault
 use Rattle.zlink.specs.declared.source.Built.{Built}
+use Rattle.zlink.specs.Program.{IsProgram}
 use Rattle.zlink.specs.Source.{Assembles}
 use Rattle.zlink.specs.Reads.{Reads, shape}
 use Rattle.zlink.specs.Certified.{IsCertified}
@@ -20,6 +21,7 @@ use Rattle.zlink.specs.Certified.{IsCertified}
 -- jump that does not reach its target each time, until none is left. The verdict holds of the choice after that order, over
 -- all choices. And the two texts certify that order and that verdict.
 pub record IsJudged (program : List (Statement ℕ)) (order : List ℕ) (v : Verdict) (sizes cert : List ℕ) : Type 0 where
+  pub is_program : IsProgram program
   pub least_first : IsLeastFirst (shape program) order
   pub verdict : Holds (after order) (shape program) v
   pub certified : IsCertified (shape program) order v sizes cert
@@ -36,8 +38,8 @@ abbrev pub verdict_of : Misfit → Verdict
 verdict_of (misfit.Range k) = Range k
 verdict_of (misfit.TooLarge n) = TooLarge n
 
--- No choice makes a file of the program: a jump that is always short, the lowest, reaches its target in none, or all reach
--- theirs and every choice takes too many bytes; and the two texts certify that.
+-- No choice makes a file of the program: the lowest jump that is always short and misses reaches its target in no choice in which every
+-- short jump reaches its own, or each of them reaches and every such choice takes too many bytes; and the two texts certify that.
 pub record IsUnfit (program : List (Statement ℕ)) (why : Misfit) (sizes cert : List ℕ) : Type 0 where
   pub order : List ℕ
   pub judged : IsJudged program order (verdict_of why) sizes cert

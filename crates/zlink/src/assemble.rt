@@ -1,5 +1,6 @@
 //! From one source text to a program.
 
+ghost use Rattle.zlink.specs.declared.source.TheConstants.{MAX_TEXT};
 ghost use Rattle.std.specs.Prelude.{◌≤◌, length};
 ghost use Rattle.zlink.specs.Private.SecondPass.{IsAssembled};
 
@@ -11,7 +12,7 @@ use std::alloc::Global;
 
 /// The program that the text is, or its first fault.
 pub(crate) fn assemble(alloc: Global, text: &[u8]) -> Result<Vec<Body<u32>>, AsmStop>
-    requires { length text.now ≤ 16777216 }
+    requires { length text.now ≤ MAX_TEXT }
     ensures { IsAssembled text.now result }
 {
     let pass = first_pass(alloc, text)?;

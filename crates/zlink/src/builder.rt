@@ -1,5 +1,6 @@
 //! From sources to a file.
 
+ghost use Rattle.zlink.specs.declared.source.TheConstants.{MAX_TEXT};
 ghost use Rattle.std.specs.Prelude.{◌≡◌, ◌≤◌, ◌⊎◌, [], ◌∷◌, All, length, map};
 ghost use Rattle.zlink.specs.declared.fault.AsmFault.{AsmFault};
 ghost use Rattle.zlink.specs.declared.source.Source.{Source};
@@ -48,7 +49,7 @@ fn link(alloc: Global, program: &[Body<u32>]) -> Result<Built, LinkFault>
 
 /// The file of one text, or its fault.
 fn build_text(alloc: Global, text: &[u8]) -> Result<Built, BuildFault>
-    requires { length text.now ≤ 16777216 }
+    requires { length text.now ≤ MAX_TEXT }
     ensures { IsAnswer text.now result }
 {
     match assemble(alloc, text) {
@@ -69,7 +70,7 @@ fn build_text(alloc: Global, text: &[u8]) -> Result<Built, BuildFault>
 /// [`LinkFault::NoMemory`] where memory ran out.
 pub fn build(alloc: Global, sources: &[Source<'_>]) -> Result<Built, BuildFault>
     requires one { length sources.now ≡ 1 }
-    requires limit { All (λ source. length source.text.now ≤ 16777216) sources.now }
+    requires limit { All (λ source. length source.text.now ≤ MAX_TEXT) sources.now }
 
     // What is answered holds of the text.
     ensures answer { (source : Source) → sources.entry.now ≡ source ∷ [] → IsAnswer source.text.now result }

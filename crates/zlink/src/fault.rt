@@ -42,13 +42,13 @@ pub struct AsmFault {
 /// Why no choice of short and long jumps fits.
 #[derive(Clone, Copy, Debug, PartialEq, Eq, Error)]
 pub enum Misfit {
-    /// This statement, counted from 0, is the lowest jump that is always short and does not reach its target. It does so
-    /// in no choice.
-    #[error("statement {0} reaches its target in no choice")]
+    /// This statement, counted from 0, is the lowest jump that is always short and does not reach its target. It reaches it in no
+    /// choice in which every short jump reaches its own.
+    #[error("statement {0} reaches its target in no choice that fits")]
     Range(u32),
-    /// Each jump that is always short reaches its target, but every choice takes at least this many bytes, more than
-    /// 64,512.
-    #[error("every choice takes {0} bytes or more")]
+    /// Each jump that is always short reaches its target, but every choice in which all short jumps do takes at least this many
+    /// bytes, more than 64,512.
+    #[error("every choice in which all jumps reach takes {0} bytes or more")]
     TooLarge(u32),
 }
 

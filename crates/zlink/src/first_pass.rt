@@ -1,5 +1,6 @@
 //! The first pass over the lines: each is scanned and spelled, and its label is new.
 
+ghost use Rattle.zlink.specs.declared.source.TheConstants.{MAX_TEXT};
 ghost use Rattle.ruler.specs.declared.limits.TheConstants.{MAX_STATEMENTS};
 ghost use Rattle.std.specs.Prelude.{◌≡◌, ◌+◌, ◌≤◌, ◌++◌, List, ℕ, length, map, vec_len, false, if◌then◌else◌, is_some, nat_le, IfSome, IfErr, OnOk};
 ghost use Rattle.std.specs.Option.{option_map, option_map_or};
@@ -24,19 +25,19 @@ const MOST_STATEMENTS: u32 = MAX_STATEMENTS as u32;
 /// A statement, and the number of its line.
 #[derive(Drop)]
 pub(crate) struct Numbered {
-    pub line: u32,
-    pub body: Body<Vec<u8>>,
+    pub(crate) line: u32,
+    pub(crate) body: Body<Vec<u8>>,
 }
 
 /// What is kept of the lines that were taken up.
 #[derive(Drop)]
 pub(crate) struct FirstPass {
     /// The statements that take room, in order.
-    pub statements: Vec<Numbered>,
+    pub(crate) statements: Vec<Numbered>,
     /// Each label with the number of the statement that it stands for.
-    pub labels: Labels,
+    pub(crate) labels: Labels,
     /// How many statements there were, those of no room too.
-    pub count: u32,
+    pub(crate) count: u32,
 }
 
 /// What a line says by itself.
@@ -151,7 +152,7 @@ fn take_line(alloc: Global, pass: &mut FirstPass, number: u32, line: &[u8]) -> R
 
 /// Takes up the lines of a text, up to the first that is faulty.
 pub(crate) fn first_pass(alloc: Global, text: &[u8]) -> Result<FirstPass, AsmStop>
-    requires { length text.now ≤ 16777216 }
+    requires { length text.now ≤ MAX_TEXT }
     ensures { IsFirstPass text.now result }
 {
     let mut pass = FirstPass {

@@ -16,4 +16,4 @@ mod source;
 
 pub use builder::build;
 pub use fault::{AsmFault, BuildFault, LinkFault, Misfit, Why};
-pub use source::{Built, Source};
+pub use source::{Built, MAX_TEXT, Source};

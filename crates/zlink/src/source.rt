@@ -1,10 +1,13 @@
 //! What goes in, and what comes out.
 
+/// How many bytes a source text has at most.
+pub const MAX_TEXT: usize = 16_777_216;
+
 /// A source text, and the name under which its faults are reported.
 #[derive(Clone, Copy, Debug)]
 pub struct Source<'a> {
     pub name: &'a [u8],
-    /// At most 16,777,216 bytes.
+    /// At most [`MAX_TEXT`] bytes.
     pub text: &'a [u8],
 }
 

@@ -1,18 +1,12 @@
 -- How the steps of printing end.
-use Rattle.std.specs.Prelude.{◌≡◌, ℕ, ◌<◌, ◌≤◌, ◌⊎◌, Bool, true, false, List, Option, None, Some, IfSome, Result, Ok, Err, length, take}
+use Rattle.std.specs.Prelude.{◌≡◌, ℕ, ◌≤◌, Bool, true, false, List, Option, None, Some, Result, Ok, Err, length, take}
 use Rattle.std.specs.Io.KnownBytes.{Appends, Keeps}
 use Rattle.zlink.specs.declared.fault.LinkFault.TheVariants as link
 use Rattle.zlink.specs.declared.fault.BuildFault.TheVariants as build
 use Rattle.z80dev.specs.declared.fault.Fault.{Fault}
 use Rattle.z80dev.specs.declared.fault.Fault.TheVariants as fault
-use Rattle.z80dev.specs.declared.text.TheConstants.{TEXT_LIMIT}
 use Rattle.z80dev.specs.Streams.{AppendsFront}
-use Rattle.z80dev.specs.Pipe.{IsCutShort, file_line}
-
--- Why a text was not read: reading came to no end, or the text is too long where it is known; or memory ran out.
-abbrev pub IsUnread : Option (List ℕ) → Bool → ℕ → Fault → Type 0
-IsUnread text failed reads fault.File = IsCutShort failed reads ⊎ IfSome text (λ t. TEXT_LIMIT < length t)
-IsUnread text failed reads (fault.Build refusal) = refusal ≡ build.Link link.NoMemory
+use Rattle.z80dev.specs.Pipe.{file_line}
 
 -- How writing a file ends: its line stands behind what the writer held; or memory for it ran out and nothing is written; or
 -- the writer failed on it.

@@ -20,17 +20,17 @@ pub returns-in-Best : goal.returns-in-Best
 returns-in-Best c =
     let g = c.in_ok-growth.growth in
     let reads = subst (λ l. Reads c.in_ok-com-in-Best.com.items (map statement_in c.args.program.now) (chosen l)) c.deref-in-Best-2.ensures.value c.in_ok-com-in-Best.ensures in
-    linked (map statement_in c.args.program.now) g c.in-Best.field-0 _ _ _ c.in-Best.is (grows _ _ g c.in_ok-shape.ensures c.in_ok-growth.ensures.growth)
+    linked (map statement_in c.args.program.now) g c.in-Best.field-0 _ _ _ c.requires c.in-Best.is (grows _ _ g c.in_ok-shape.ensures c.in_ok-growth.ensures.growth)
     (certifies _ _ g _ _ c.in_ok-shape.ensures c.in_ok-sizes.ensures) reads
 
 pub returns-in-Range : goal.returns-in-Range
 returns-in-Range c =
     let g = c.in_ok-growth.growth in
-    unfit (map statement_in c.args.program.now) g (Range c.in-Range.statement) _ _ c.in-Range.is (grows _ _ g c.in_ok-shape.ensures c.in_ok-growth.ensures.growth)
+    unfit (map statement_in c.args.program.now) g (Range c.in-Range.statement) _ _ c.requires c.in-Range.is (grows _ _ g c.in_ok-shape.ensures c.in_ok-growth.ensures.growth)
     (certifies _ _ g _ _ c.in_ok-shape.ensures c.in_ok-sizes.ensures)
 
 pub returns : goal.returns
 returns c =
     let g = c.in_ok-growth.growth in
-    unfit (map statement_in c.args.program.now) g (TooLarge c.in-TooLarge.total) _ _ c.in-TooLarge.is (grows _ _ g c.in_ok-shape.ensures c.in_ok-growth.ensures.growth)
+    unfit (map statement_in c.args.program.now) g (TooLarge c.in-TooLarge.total) _ _ c.requires c.in-TooLarge.is (grows _ _ g c.in_ok-shape.ensures c.in_ok-growth.ensures.growth)
     (certifies _ _ g _ _ c.in_ok-shape.ensures c.in_ok-sizes.ensures)
