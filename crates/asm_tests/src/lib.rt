@@ -1,7 +1,5 @@
-//! Tests of the crates of the language's lines by their public calls: what lines are cut into, and what expressions are worth.
+//! Tests of the crate of expressions by its public calls: what they are worth, or what is wrong with them.
 #![tactic(auto)]
 
 #[cfg(test)]
 mod expr;
-#[cfg(test)]
-mod scan;

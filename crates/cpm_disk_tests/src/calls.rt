@@ -4,7 +4,7 @@ use cpm_disk::{Disk, DiskFault, Name, Pattern};
 use cpm_image::Sectors;
 
 /// A call of user 0.
-#[derive(Clone, Copy, Debug, PartialEq, Eq)]
+#[derive(Clone, Copy, Debug)]
 pub enum Call {
     Create([u8; 11]),
     Erase([u8; 11]),

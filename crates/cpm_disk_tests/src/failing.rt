@@ -5,7 +5,7 @@ ghost use Rattle.std.specs.Prelude.{◌≡◌};
 use cpm_image::{DeviceFault, MemoryImage, Sectors};
 
 /// How a device fails at a call.
-#[derive(Clone, Copy, Debug, PartialEq, Eq)]
+#[derive(Clone, Copy)]
 pub struct Failure {
     /// How many calls go well before that one.
     pub after: u32,

@@ -63,8 +63,8 @@ fn look_at(rt: &impl Abort, alloc: Global, image: MemoryImage) -> Result<Seen, F
     Ok(Seen { entries, records })
 }
 
-/// Asserts what a disk answers whose device has failed.
-fn assert_failed(rt: &impl Abort, alloc: Global, disk: &mut Disk<Failing>) -> Result<(), Fail> {
+/// Asserts that nothing is seen of a disk whose device has failed.
+fn assert_unseen(rt: &impl Abort, alloc: Global, disk: &Disk<Failing>) {
     let any = Pattern {
         name: *b"???????????",
         extent: 0x3F,
@@ -75,6 +75,10 @@ fn assert_failed(rt: &impl Abort, alloc: Global, disk: &mut Disk<Failing>) -> Re
     assert_eq!(rt; disk.find_extent(0, &Name::new(FILE), 0), None);
     assert_eq!(rt; disk.size(0, &Name::new(FILE)), None);
     assert!(rt; matches!(disk.list(alloc), Err(DiskFault::Failed)));
+}
+
+/// Asserts what a disk answers to calls whose device has failed.
+fn assert_failed(rt: &impl Abort, disk: &mut Disk<Failing>) {
     for call in [
         Call::Create(*b"FRESH   TXT"),
         Call::Create(OTHER),
@@ -87,7 +91,6 @@ fn assert_failed(rt: &impl Abort, alloc: Global, disk: &mut Disk<Failing>) -> Re
     ] {
         assert_eq!(rt; call.make(disk), Err(DiskFault::Failed), "{call:?}");
     }
-    Ok(())
 }
 
 /// Asserts that each entry is as before or as the finished call leaves it, and so are the file's records where the call is no
@@ -126,7 +129,8 @@ fn meets_fault(
     };
     let met = call.make(&mut disk) == Err(DiskFault::Fault);
     if met {
-        assert_failed(rt, alloc, &mut disk)?;
+        assert_unseen(rt, alloc, &disk);
+        assert_failed(rt, &mut disk);
     }
     let now = look_at(rt, alloc, disk.unmount().into_image())?;
     let before = if met { before } else { after };

@@ -1,7 +1,7 @@
 //! What the calls make of a directory.
 
 use crate::support::{BLANK, Row, assert_entries, disk_of, image_of, mounted};
-use cpm_disk::{Disk, DiskFault, Name, Pattern};
+use cpm_disk::{Disk, DiskFault, Listed, Name, Pattern};
 use cpm_image::{MemoryImage, Sectors, logical};
 use std::process::Abort;
 use std::test::Fail;
@@ -12,19 +12,31 @@ const FILE: [u8; 11] = *b"FILE    TXT";
 
 const OTHER: [u8; 11] = *b"OTHER   TXT";
 
+/// Writes the first 129 records of a file, all of whose bytes are its number.
+fn write_big(disk: &mut Disk<MemoryImage>, name: &Name) -> Result<(), DiskFault> {
+    for number in 0..129u8 {
+        disk.write_block_of(0, name, u32::from(number), &[number; 128])?;
+    }
+    Ok(())
+}
+
+/// Asserts that these are what the file has.
+fn assert_big(rt: &impl Abort, disk: &mut Disk<MemoryImage>, name: &Name) -> Result<(), Fail> {
+    for number in 0..129u8 {
+        let bytes = disk.read_block_of(0, name, u32::from(number))?;
+        assert_eq!(rt; bytes, [number; 128]);
+    }
+    assert_eq!(rt; disk.size(0, name), Some(129));
+    Ok(())
+}
+
 #[test]
 fn big_file(rt: HostRuntime) -> Result<(), Fail> {
     let mut disk = disk_of(&rt, rt.alloc(), &[])?;
     let name = Name::new(BIG);
     assert_eq!(rt; disk.create(0, &name), Ok(0));
-    for number in 0..129u8 {
-        disk.write_block_of(0, &name, u32::from(number), &[number; 128])?;
-    }
-    for number in 0..129u8 {
-        let bytes = disk.read_block_of(0, &name, u32::from(number))?;
-        assert_eq!(rt; bytes, [number; 128]);
-    }
-    assert_eq!(rt; disk.size(0, &name), Some(129));
+    write_big(&mut disk, &name)?;
+    assert_big(&rt, &mut disk, &name)?;
     let disk = mounted(&rt, rt.alloc(), disk.unmount())?;
     let rows = [
         (
@@ -296,6 +308,21 @@ fn sizes(rt: HostRuntime) -> Result<(), Fail> {
     Ok(())
 }
 
+/// A file of a list: its user, its name, how many records it has, whether it is read-only, and whether it is the system's.
+type ListedFile = (u8, [u8; 11], u32, bool, bool);
+
+/// Asserts what a file of a list is.
+fn assert_listed(rt: &impl Abort, file: &Listed, row: ListedFile) {
+    let (user, name, records, read_only, system) = row;
+    assert_eq!(rt; (file.user, file.name), (user, Name::new(name)));
+    assert_eq!(rt; file.records, records, "records of {name:?}");
+    assert_eq!(rt;
+        (file.read_only, file.system),
+        (read_only, system),
+        "bits of {name:?}"
+    );
+}
+
 #[test]
 fn listing(rt: HostRuntime) -> Result<(), Fail> {
     let rows = [
@@ -316,14 +343,8 @@ fn listing(rt: HostRuntime) -> Result<(), Fail> {
         (31, FILE, 384, false, false),
     ];
     assert_eq!(rt; listed.len(), rows.len());
-    for (file, (user, name, records, read_only, system)) in listed.iter().zip(rows) {
-        assert_eq!(rt; (file.user, file.name), (user, Name::new(name)));
-        assert_eq!(rt; file.records, records, "records of {name:?}");
-        assert_eq!(rt;
-            (file.read_only, file.system),
-            (read_only, system),
-            "bits of {name:?}"
-        );
+    for (file, row) in listed.iter().zip(rows) {
+        assert_listed(&rt, file, row);
     }
     Ok(())
 }

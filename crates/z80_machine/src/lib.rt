@@ -8,7 +8,6 @@ mod arithmetic;
 mod blocks;
 mod conditions;
 mod display;
-mod error;
 mod exchange;
 mod execute;
 mod jumps;
@@ -22,7 +21,6 @@ mod stack;
 mod turn;
 mod words;
 
-pub use error::NoMemory;
 pub use memory::{MEMORY_SIZE, Memory};
 pub use registers::{Cpu, Registers};
 pub use turn::step;

@@ -1,7 +1,6 @@
 //! The memory.
 
-use crate::error::NoMemory;
-use std::alloc::Global;
+use std::alloc::{AllocError, Global};
 use std::marker::Model;
 
 /// How many bytes there are: one for each address of 16 bits.
@@ -28,8 +27,8 @@ impl Memory {
     ghost use Rattle.std.specs.Prelude.{◌≡◌, IfOk, replicate, slice_index, slice_set, length};
     ghost use Rattle.z80_machine.specs.declared.memory.TheConstants.{MEMORY_SIZE};
 
-    /// Memory of zeros.
-    pub fn new(alloc: Global) -> Result<Memory, NoMemory>
+    /// Memory of zeros. Its only error is that memory runs out.
+    pub fn new(alloc: Global) -> Result<Memory, AllocError>
         ensures { IfOk result (λ memory. memory ≡ replicate MEMORY_SIZE 0) }
     {
         Ok(Memory {

@@ -7,12 +7,12 @@ use asm_expr::{
     settle,
 };
 use asm_scan::tokens;
-use std::alloc::Global;
+use std::alloc::{AllocError, Global};
 use std::process::Abort;
 use std::test::Fail;
 
 /// What an expression's text and the names make.
-#[derive(Debug, Drop)]
+#[derive(Drop)]
 pub(crate) enum Answer {
     Expr(Expr),
     Unknown(Unknown),
@@ -101,12 +101,50 @@ pub(crate) fn define(
 ) -> Result<(), Fail>
     requires { IsCounted meaning }
 {
-    let name = Vec::from_slice(alloc, name)?;
-    if names.meaning(&name).is_some() {
-        return Err(Fail::from("a name twice"));
+    match names.meaning(name) {
+        Some(_) => Err(Fail::from("a name twice")),
+        None => Ok(names.define(Vec::from_slice(alloc, name)?, meaning)?),
     }
-    names.define(name, meaning)?;
-    Ok(())
+}
+
+/// A statement that a module has.
+#[derive(Clone, Copy)]
+pub(crate) enum Passed {
+    Fixed(u16),
+    Jump,
+    Unsized,
+}
+
+/// Passes a statement.
+fn pass(names: &mut Names, statement: &Passed) -> Result<(), AllocError> {
+    match statement {
+        Passed::Fixed(size) => names.pass_fixed(*size),
+        Passed::Jump => names.pass_jump(),
+        Passed::Unsized => names.pass_unsized(),
+    }
+}
+
+/// The names of a module: its statements, the one that is `$`, and labels with the numbers of theirs.
+pub(crate) fn module_of(
+    alloc: Global,
+    statements: &[Passed],
+    here: u16,
+    labels: &[(&[u8], u16)],
+) -> Result<Names, Fail> {
+    let mut names = Names::new(alloc);
+    for statement in statements {
+        pass(&mut names, statement)?;
+    }
+    names.set_here(here);
+    for (name, statement) in labels {
+        define(alloc, &mut names, name, Meaning::Label(*statement))?;
+    }
+    Ok(names)
+}
+
+/// The tree of an expression.
+pub(crate) fn tree_of(alloc: Global, text: &[u8]) -> Result<Tree, Fail> {
+    Ok(parse(alloc, &tokens(alloc, text)?)?)
 }
 
 /// Defines a name by EQU.
@@ -116,7 +154,7 @@ pub(crate) fn define_equ(
     name: &[u8],
     text: &[u8],
 ) -> Result<(), Fail> {
-    let tree = parse(alloc, &tokens(alloc, text)?)?;
+    let tree = tree_of(alloc, text)?;
     if !is_defined(&tree, names) {
         return Err(Fail::from("a name that stands for nothing"));
     }

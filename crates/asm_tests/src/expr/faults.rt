@@ -76,14 +76,9 @@ fn repeated(
     back: &[u8],
     backs: usize,
 ) -> Result<Vec<u8>, Fail> {
-    let mut text = Vec::new(alloc);
-    for _ in 0..count {
-        text.extend_from_slice(front)?;
-    }
+    let mut text = front.repeat(alloc, count)?;
     text.extend_from_slice(middle)?;
-    for _ in 0..backs {
-        text.extend_from_slice(back)?;
-    }
+    text.extend_from_slice(&back.repeat(alloc, backs)?)?;
     Ok(text)
 }
 

@@ -1,17 +1,13 @@
 //! Operands that begin at `$`.
 
-use crate::expr::asserts::define;
-use asm_expr::{ExprFault, Meaning, Names, Offset, Unknown, is_defined, offset_from_here, parse};
-use asm_scan::tokens;
+use crate::expr::asserts::{Passed, define, module_of, tree_of};
+use asm_expr::{ExprFault, Meaning, Names, Offset, Tree, Unknown, is_defined, offset_from_here};
 use std::alloc::Global;
 use std::test::Fail;
 
 /// X at a statement of 3 bytes, Y behind it; N a name whose number is not known.
 fn module(alloc: Global) -> Result<Names, Fail> {
-    let mut names = Names::new(alloc);
-    names.pass_fixed(3)?;
-    define(alloc, &mut names, b"X", Meaning::Label(0))?;
-    define(alloc, &mut names, b"Y", Meaning::Label(1))?;
+    let mut names = module_of(alloc, &[Passed::Fixed(3)], 0, &[(b"X", 0), (b"Y", 1)])?;
     let unknown: [(&[u8], Unknown); 2] = [(b"N", Unknown::Number), (b"V", Unknown::Varies)];
     for (name, what) in unknown {
         define(alloc, &mut names, name, Meaning::Unknown(what))?;
@@ -19,13 +15,18 @@ fn module(alloc: Global) -> Result<Names, Fail> {
     Ok(names)
 }
 
-/// What an operand's text says.
-fn said(alloc: Global, text: &[u8], names: &Names) -> Result<Result<Offset, ExprFault>, Fail> {
-    let tree = parse(alloc, &tokens(alloc, text)?)?;
-    if !is_defined(&tree, names) {
+/// What a tree says.
+fn answer_of(alloc: Global, tree: &Tree, names: &Names) -> Result<Result<Offset, ExprFault>, Fail> {
+    if !is_defined(tree, names) {
         return Err(Fail::from("a name that stands for nothing"));
     }
-    match offset_from_here(alloc, &tree, names) {
+    Ok(offset_from_here(alloc, tree, names))
+}
+
+/// What an operand's text says.
+fn said(alloc: Global, text: &[u8], names: &Names) -> Result<Result<Offset, ExprFault>, Fail> {
+    let tree = tree_of(alloc, text)?;
+    match answer_of(alloc, &tree, names)? {
         Err(ExprFault::NoMemory) => Err(Fail::from("out of memory")),
         answer => Ok(answer),
     }

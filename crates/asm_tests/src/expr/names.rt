@@ -1,24 +1,18 @@
 //! Names, places and distances.
 
-use crate::expr::asserts::{Answer, assert_fault, assert_number, define, define_equ, made};
-use asm_expr::{ExprFault, Meaning, Names, constant, has_places, is_constant, items, parse, value};
-use asm_scan::tokens;
+use crate::expr::asserts::Passed::{Fixed, Jump};
+use crate::expr::asserts::{
+    Answer, assert_fault, assert_number, define_equ, made, module_of, tree_of,
+};
+use asm_expr::{ExprFault, Names, constant, has_places, is_constant, items, value};
 use std::alloc::Global;
 use std::test::Fail;
 
 /// A module of five statements: W before 3 bytes, X before 4, a relaxable jump at Y, V before a byte, E at the end.
 fn module(alloc: Global) -> Result<Names, Fail> {
-    let mut names = Names::new(alloc);
-    names.pass_fixed(3)?;
-    names.pass_fixed(4)?;
-    names.pass_jump()?;
-    names.pass_fixed(1)?;
-    names.set_here(1);
+    let statements = [Fixed(3), Fixed(4), Jump, Fixed(1)];
     let labels: [(&[u8], u16); 5] = [(b"W", 0), (b"X", 1), (b"Y", 2), (b"V", 3), (b"END", 4)];
-    for (name, statement) in labels {
-        define(alloc, &mut names, name, Meaning::Label(statement))?;
-    }
-    Ok(names)
+    module_of(alloc, &statements, 1, &labels)
 }
 
 #[test]
@@ -120,9 +114,9 @@ fn values_at_places(rt: HostRuntime) -> Result<(), Fail> {
 fn constants(rt: HostRuntime) -> Result<(), Fail> {
     let alloc = rt.alloc();
     let names = module(alloc)?;
-    let tree = parse(alloc, &tokens(alloc, b"Y-W")?)?;
+    let tree = tree_of(alloc, b"Y-W")?;
     assert!(rt; !is_constant(&tree, &names));
-    let sum = parse(alloc, &tokens(alloc, b"2+3*4")?)?;
+    let sum = tree_of(alloc, b"2+3*4")?;
     assert!(rt; is_constant(&sum, &names));
     Ok(())
 }

@@ -1,6 +1,9 @@
 //! Names and distances whose numbers are not known, since a line elsewhere is faulty.
 
-use crate::expr::asserts::{assert_fault, assert_number, assert_unknown, define, define_equ};
+use crate::expr::asserts::Passed::{Fixed, Jump, Unsized};
+use crate::expr::asserts::{
+    assert_fault, assert_number, assert_unknown, define, define_equ, module_of,
+};
 use asm_expr::{ExprFault, Meaning, Names, Unknown, Worth};
 use std::alloc::Global;
 use std::test::Fail;
@@ -8,13 +11,7 @@ use std::test::Fail;
 /// PA before 3 bytes, PB before a size that is not known, PC before 2 bytes, PD at a relaxable jump, PE1 before a size
 /// that is not known, PF at the end; N a name whose number is not known.
 fn module(alloc: Global) -> Result<Names, Fail> {
-    let mut names = Names::new(alloc);
-    names.pass_fixed(3)?;
-    names.pass_unsized()?;
-    names.pass_fixed(2)?;
-    names.pass_jump()?;
-    names.pass_unsized()?;
-    names.set_here(2);
+    let statements = [Fixed(3), Unsized, Fixed(2), Jump, Unsized];
     let labels: [(&[u8], u16); 6] = [
         (b"PA", 0),
         (b"PB", 1),
@@ -23,9 +20,7 @@ fn module(alloc: Global) -> Result<Names, Fail> {
         (b"PE1", 4),
         (b"PF", 5),
     ];
-    for (name, statement) in labels {
-        define(alloc, &mut names, name, Meaning::Label(statement))?;
-    }
+    let mut names = module_of(alloc, &statements, 2, &labels)?;
     define(alloc, &mut names, b"N", Meaning::Unknown(Unknown::Number))?;
     Ok(names)
 }

@@ -1,6 +1,6 @@
 //! Numbers of every base.
 
-use crate::scan::asserts::{assert_cut, assert_fault};
+use crate::asserts::{assert_cut, assert_fault};
 use asm_scan::Kind::Number;
 use asm_scan::ScanFault::BadNumber;
 use std::test::Fail;

@@ -1,6 +1,6 @@
 //! Whole lines.
 
-use crate::scan::asserts::{assert_cut, assert_fault};
+use crate::asserts::{assert_cut, assert_fault};
 use asm_scan::Kind::{self, Name, Number, OtherAf, Quoted};
 use asm_scan::Mark::{Close, Colon, Comma, Dollar, Minus, Open, Plus, Slash, Star};
 use asm_scan::ScanFault::{LineTooLong, OpenString};

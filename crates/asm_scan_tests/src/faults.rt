@@ -1,6 +1,6 @@
 //! Which fault a line has, and its name.
 
-use crate::scan::asserts::assert_fault;
+use crate::asserts::assert_fault;
 use asm_scan::ScanFault::{self, BadByte, BadNumber, LineTooLong, OpenString};
 use std::test::Fail;
 

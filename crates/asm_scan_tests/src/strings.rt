@@ -1,6 +1,6 @@
 //! Strings between both kinds of quotes.
 
-use crate::scan::asserts::{assert_cut, assert_fault};
+use crate::asserts::{assert_cut, assert_fault};
 use asm_scan::Kind::Quoted;
 use asm_scan::ScanFault::{BadByte, OpenString};
 use std::test::Fail;
