@@ -1,9 +1,9 @@
--- Numbers put in change neither the row nor the length of the bytes.
-use Rattle.std.proofs.Common.{◌≡◌, ℕ, List, [], ◌∷◌, refl, ap, ◌∙◌, length, ℤ}
+-- Numbers put in change neither the row, nor what is filled, nor the length of the bytes.
+use Rattle.std.proofs.Common.{◌≡◌, ℕ, List, [], ◌∷◌, refl, ap, ◌∙◌, length, ℤ, pos}
 use Rattle.z80_instr.specs.Table.{canonical}
 use Rattle.z80_form.specs.Types.{Memory, Operand, Pointer, RegisterPair, WordRegister, Octal, InterruptMode, Instr, Field, Mnemonic, Form, Name}
 use Rattle.z80_form.specs.Rows.{row, operand, memory, pointer, register, two, one, on_a}
-use Rattle.z80_form.specs.Numbers.{memory_at, operand_at, pointer_at, with_displacement, with_byte, with_word, with_distance, with_bit, with_mode, with_restart, with_number, with_numbers}
+use Rattle.z80_form.specs.Numbers.{memory_at, operand_at, pointer_at, with_displacement, with_byte, with_word, with_distance, with_bit, with_mode, with_restart, with_number, with_numbers, number_field, field_of, blank}
 
 -- Rows.
 
@@ -184,3 +184,76 @@ rows_steady (n ∷ ns) i = rows_steady ns (with_number n.0 n.1 i) ∙ row_steady
 pub sizes_steady : (ns : List (Field × ℕ)) (i : Instr) → length (canonical (with_numbers ns i)) ≡ length (canonical i)
 sizes_steady [] i = refl
 sizes_steady (n ∷ ns) i = sizes_steady ns (with_number n.0 n.1 i) ∙ size_steady n.0 n.1 i
+
+-- What an operand's expression fills.
+
+number_word : (nn : ℕ) (i : Instr) → number_field (with_word nn i) ≡ number_field i
+number_word nn (Instr.LoadA Pointer.Bc) = refl
+number_word nn (Instr.LoadA Pointer.De) = refl
+number_word nn (Instr.LoadA (Pointer.Address mm)) = refl
+number_word nn (Instr.StoreA Pointer.Bc) = refl
+number_word nn (Instr.StoreA Pointer.De) = refl
+number_word nn (Instr.StoreA (Pointer.Address mm)) = refl
+number_word nn _ = refl
+
+number_byte : (n : ℕ) (i : Instr) → number_field (with_byte n i) ≡ number_field i
+number_byte n (Instr.LoadByte m k) = refl
+number_byte n _ = refl
+
+number_displacement : (d : ℤ) (i : Instr) → number_field (with_displacement d i) ≡ number_field i
+number_displacement d (Instr.Load r s) = refl
+number_displacement d _ = refl
+
+number_distance : (e : ℤ) (i : Instr) → number_field (with_distance e i) ≡ number_field i
+number_distance e (Instr.Djnz k) = refl
+number_distance e _ = refl
+
+number_bit : (b : Octal) (i : Instr) → number_field (with_bit b i) ≡ number_field i
+number_bit b (Instr.Bit c m) = refl
+number_bit b _ = refl
+
+number_mode : (m : InterruptMode) (i : Instr) → number_field (with_mode m i) ≡ number_field i
+number_mode m (Instr.Im k) = refl
+number_mode m _ = refl
+
+number_restart : (t : Octal) (i : Instr) → number_field (with_restart t i) ≡ number_field i
+number_restart t (Instr.Restart u) = refl
+number_restart t _ = refl
+
+number_steady : (field : Field) (value : ℕ) (i : Instr) → number_field (with_number field value i) ≡ number_field i
+number_steady Field.Byte value i = number_byte _ i
+number_steady Field.Word value i = number_word _ i
+number_steady Field.Displacement value i = number_displacement _ i
+number_steady Field.Distance value i = number_distance _ i
+number_steady Field.Bit value i = number_bit _ i
+number_steady Field.Mode value i = number_mode _ i
+number_steady Field.Restart value i = number_restart _ i
+
+pub field_steady : (field : Field) (value : ℕ) (i : Instr) (form : Form) → field_of (with_number field value i) form ≡ field_of i form
+field_steady field value i (Form.Displaced x) = refl
+field_steady field value i Form.AtNumber = number_steady field value i
+field_steady field value i Form.Number = number_steady field value i
+field_steady field value i _ = refl
+
+-- Displacements of an instruction with zeros.
+
+memory_flat : (m : Memory) → memory_at (pos 0) (memory_at (pos 0) m) ≡ memory_at (pos 0) m
+memory_flat Memory.Hl = refl
+memory_flat (Memory.Indexed x d) = refl
+
+operand_flat : (s : Operand) → operand_at (pos 0) (operand_at (pos 0) s) ≡ operand_at (pos 0) s
+operand_flat (Operand.Register r) = refl
+operand_flat (Operand.Memory m) = ap Operand.Memory (memory_flat m)
+
+pub blank_is_flat : (i : Instr) → with_displacement (pos 0) (blank i) ≡ blank i
+blank_is_flat (Instr.Load r s) = ap (λ s. Instr.Load r s) (operand_flat s)
+blank_is_flat (Instr.Store m r) = ap (λ m. Instr.Store m r) (memory_flat m)
+blank_is_flat (Instr.LoadByte m n) = ap (λ s. Instr.LoadByte s 0) (operand_flat m)
+blank_is_flat (Instr.Alu operation s) = ap (λ s. Instr.Alu operation s) (operand_flat s)
+blank_is_flat (Instr.Inc m) = ap Instr.Inc (operand_flat m)
+blank_is_flat (Instr.Dec m) = ap Instr.Dec (operand_flat m)
+blank_is_flat (Instr.Rotate rotation m) = ap (λ s. Instr.Rotate rotation s) (operand_flat m)
+blank_is_flat (Instr.Bit b m) = ap (λ s. Instr.Bit Octal.Zero s) (operand_flat m)
+blank_is_flat (Instr.Set b m) = ap (λ s. Instr.Set Octal.Zero s) (operand_flat m)
+blank_is_flat (Instr.Res b m) = ap (λ s. Instr.Res Octal.Zero s) (operand_flat m)
+blank_is_flat _ = refl

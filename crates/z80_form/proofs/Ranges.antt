@@ -1,5 +1,5 @@
 -- Allowed numbers put in are of their types, and so are zeros.
-use Rattle.std.proofs.Common.{◌≡◌, ℕ, ◌%◌, ◌<◌, Bool, true, ◌&&◌, nat_lt, refl, arith, ℤ}
+use Rattle.std.proofs.Common.{◌≡◌, ℕ, ◌%◌, Bool, true, ◌&&◌, nat_lt, refl, arith, ℤ}
 use Rattle.std.specs.Int.{w8, cast_signed}
 use Rattle.std.proofs.lemmas.Bool.{lt-ltb, and_parts}
 use Rattle.z80_instr.specs.Codes.{in_range, is_signed_byte, memory_in_range, operand_in_range, pointer_in_range}

@@ -2,7 +2,8 @@
 use Rattle.std.proofs.Common.{◌≡◌, inl, inr, List, Option, Some, refl, ap, sym, ◌∙◌, map}
 use Rattle.z80_instr.proofs.Finite.{Finite, ◌⊗◌, registers, indexes, pairs, addends, conditions, short_conditions, operations, rotations, octals, block_operations, block_steps}
 use Rattle.z80_form.specs.Types.{Memory, Operand, Pointer, WordRegister, HlOrIndex, StackOperand, InterruptMode, Instr, Form, Mnemonic}
-use Rattle.z80_form.specs.Rows.{row, without_displacement, Spells}
+use Rattle.z80_form.specs.Rows.{row}
+use Rattle.z80_form.specs.Spelling.{without_displacement, Spells}
 use Rattle.z80_form.specs.Numbers.{blank}
 use Rattle.z80_form.specs.Private.Reading.{instruction_read}
 
@@ -133,5 +134,5 @@ found m operands instr spells =
     let word : instruction_read m operands ≡ instruction_read (row instr).mnemonic operands = ap (λ w. instruction_read w operands) (sym spells.mnemonic_is) in
     elim spells.operands_are as (λ _. instruction_read m operands ≡ Some (blank instr)) [
       | inl long ↦ word ∙ ap (instruction_read (row instr).mnemonic) long ∙ ap (λ (p : Option Instr × Option Instr). p.0) (both instr)
-      | inr short ↦ word ∙ ap (instruction_read (row instr).mnemonic) short ∙ ap (λ (p : Option Instr × Option Instr). p.1) (both instr)
+      | inr short ↦ word ∙ ap (instruction_read (row instr).mnemonic) short.0 ∙ ap (λ (p : Option Instr × Option Instr). p.1) (both instr)
     ]

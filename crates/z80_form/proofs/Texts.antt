@@ -1,19 +1,20 @@
 -- What is read has the row that was read: a test for each mnemonic over the forms.
-use Rattle.std.proofs.Common.{◌≡◌, ◌≢◌, not, arith, inl, inr, ◌⊎◌, ◌↔◌, List, [], ◌∷◌, Option, Some, None, Bool, true, false, ◌||◌, refl, ap, sym, ◌∙◌, map, cond, length}
+use Rattle.std.proofs.Common.{◌≡◌, ◌≢◌, not, arith, inl, inr, ◌↔◌, List, [], ◌∷◌, Option, Some, None, Bool, true, false, ◌||◌, refl, ap, sym, subst, ◌∙◌, map, cond, length, pos}
 use Rattle.std.specs.Option.{option_map, is_some, IfSome}
 use Rattle.std.specs.List.{list_all}
 use Rattle.std.proofs.lemmas.List.Elements.{All-cons}
 use Rattle.std.proofs.lemmas.Bool.{cases_Bool, and_parts}
 use Rattle.z80_instr.proofs.Finite.{◌⊗◌}
 use Rattle.z80_form.specs.Types.{AluOperation, Instr, Form, Mnemonic, Field}
-use Rattle.z80_form.specs.Rows.{row, without_displacement, Spells}
+use Rattle.z80_form.specs.Rows.{row}
+use Rattle.z80_form.specs.Spelling.{without_displacement, Spells, AreOperands, instruction_of}
 use Rattle.z80_instr.specs.Table.{canonical}
-use Rattle.z80_form.specs.Numbers.{zeros, blank, field_of, has_expression, HasFields}
+use Rattle.z80_form.specs.Numbers.{zeros, blank, with_displacement, field_of, has_expression, HasFields}
 use Rattle.z80_form.specs.Private.Reading.{instruction_read, two_read}
 use Rattle.z80_words.proofs.Finite.{mnemonics}
 use Rattle.z80_form.proofs.Finite.{operand_forms}
 use Rattle.z80_form.proofs.Rows.{found}
-use Rattle.z80_form.proofs.Kept.{sizes_steady}
+use Rattle.z80_form.proofs.Kept.{sizes_steady, blank_is_flat}
 
 -- whether (IX) or (IY) stands among the operands
 abbrev has_index : List Form → Bool
@@ -76,12 +77,13 @@ sound m (a ∷ b ∷ c ∷ forms) = refl
 spelled : (m : Mnemonic) (forms : List Form) (instr : Instr) → seen forms instr ≡ wanted m forms instr → Spells m forms instr × (blank instr ≡ instr) × (list_all (fills instr) forms ≡ true)
 spelled m forms instr e =
     let operands : written forms instr ≡ forms = ap (λ (s : Seen). s.1) e in
-    let split : (forms ≡ (row instr).operands) ⊎ (forms ≡ map without_displacement (row instr).operands) =
+    let zeros : blank instr ≡ instr = ap (λ (s : Seen). s.2) e in
+    let split : AreOperands forms instr =
     elim (cases_Bool (has_index forms)) [
-      | inl short ↦ inr (sym (rw short at operands))
+      | inl short ↦ inr (sym (rw short at operands), subst (λ i. with_displacement (pos 0) i ≡ i) zeros (blank_is_flat instr))
       | inr long ↦ inl (sym (rw long at operands))
     ] in
-    (record { mnemonic_is = ap (λ (s : Seen). s.0) e; operands_are = split }, ap (λ (s : Seen). s.2) e, ap (λ (s : Seen). s.3) e)
+    (record { mnemonic_is = ap (λ (s : Seen). s.0) e; operands_are = split }, zeros, ap (λ (s : Seen). s.3) e)
 
 is_spelled : (m : Mnemonic) (forms : List Form) (instr : Instr) (read : Option Instr) → IsSound m forms read → read ≡ Some instr → Spells m forms instr × (blank instr ≡ instr) × (list_all (fills instr) forms ≡ true)
 is_spelled m forms instr None e is = absurd cc
@@ -91,7 +93,7 @@ is_spelled m forms instr (Some found) e is =
     spelled m forms instr (rw same at whole)
 
 -- What is read of a mnemonic and operands is the one instruction that they spell.
-pub instruction_is : (m : Mnemonic) (forms : List Form) (instr : Instr) → (instruction_read m forms ≡ Some instr) ↔ (Spells m forms instr × (blank instr ≡ instr))
+instruction_is : (m : Mnemonic) (forms : List Form) (instr : Instr) → (instruction_read m forms ≡ Some instr) ↔ (Spells m forms instr × (blank instr ≡ instr))
 instruction_is m forms instr = (
   λ is. let all = is_spelled m forms instr (instruction_read m forms) (sound m forms) is in (all.0, all.1),
   λ spells. found m forms instr spells.0 ∙ ap Some spells.1,
@@ -133,3 +135,17 @@ one_blank m forms a b first second =
 pub one_size : (m : Mnemonic) (forms : List Form) (a b : Instr) → Spells m forms a → Spells m forms b → length (canonical a) ≡ length (canonical b)
 one_size m forms a b first second =
     sym (sizes_steady zeros a) ∙ ap (λ i. length (canonical i)) (one_blank m forms a b first second) ∙ sizes_steady zeros b
+
+-- The same of what is found.
+pub found_is_read : (m : Mnemonic) (forms : List Form) → instruction_of m forms ≡ instruction_read m forms
+unfolding instruction_of
+found_is_read m forms = refl
+
+pub found_is : (m : Mnemonic) (forms : List Form) (instr : Instr) → (instruction_of m forms ≡ Some instr) ↔ (Spells m forms instr × (blank instr ≡ instr))
+found_is m forms instr = rw (found_is_read m forms) (instruction_is m forms instr)
+
+pub found_none : (m : Mnemonic) (forms : List Form) → (instruction_of m forms ≡ None) ↔ ((instr : Instr) → Spells m forms instr → ⊥)
+found_none m forms = rw (found_is_read m forms) (none_is m forms)
+
+pub found_few : (m : Mnemonic) (a b c : Form) (more : List Form) → instruction_of m (a ∷ b ∷ c ∷ more) ≡ None
+found_few m a b c more = found_is_read m (a ∷ b ∷ c ∷ more)

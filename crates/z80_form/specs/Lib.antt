@@ -1,4 +1,5 @@
 pub mod Types
 pub mod Rows
 pub mod Numbers
+pub mod Spelling
 pub mod Private

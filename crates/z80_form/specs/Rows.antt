@@ -2,7 +2,7 @@
 --
 -- From the Z80 CPU User Manual (Zilog UM0080), "Z80 Instruction Description": the manual's groups, in its order. A row has the
 -- mnemonic and the forms of the operands, without their numbers. Where the manual has a row for IX and one for IY, here is one.
-use Rattle.std.specs.Prelude.{◌≡◌, ◌⊎◌, List, [], ◌∷◌, map}
+use Rattle.std.specs.Prelude.{List, [], ◌∷◌}
 use Rattle.z80_form.specs.Types.{Register, IndexRegister, Memory, Operand, Pointer, RegisterPair, WordRegister, HlOrIndex, Addend, StackOperand, Cond, ShortCond, AluOperation, Instr, Name, Pointed, Form, Mnemonic}
 
 -- Operands.
@@ -183,13 +183,3 @@ row (Instr.InA n) = two Mnemonic.In (Form.Name Name.A) Form.AtNumber  -- IN A,(n
 row (Instr.InC r) = two Mnemonic.In (register r) (Form.At Pointed.C)  -- IN r,(C)
 row (Instr.OutA n) = two Mnemonic.Out Form.AtNumber (Form.Name Name.A)  -- OUT (n),A
 row (Instr.OutC r) = two Mnemonic.Out (Form.At Pointed.C) (register r)  -- OUT (C),r
-
--- `(IX)` stands for `(IX+0)`
-abbrev pub without_displacement : Form → Form
-without_displacement (Form.Displaced x) = Form.AtIndex x
-without_displacement form = form
-
--- The mnemonic and the operands spell the instruction, whatever its numbers.
-pub record Spells (mnemonic : Mnemonic) (operands : List Form) (instr : Instr) : Type 0 where
-  pub mnemonic_is : (row instr).mnemonic ≡ mnemonic
-  pub operands_are : (operands ≡ (row instr).operands) ⊎ (operands ≡ map without_displacement (row instr).operands)

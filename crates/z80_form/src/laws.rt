@@ -1,14 +1,26 @@
 //! Laws of the rows, as functions that do nothing: their calls bring the clauses.
-ghost use Rattle.std.specs.Prelude.{◌≡◌, ◌%◌, ℕ, List, [], ◌∷◌, ◌++◌, Some, true, length, slice_set};
+ghost use Rattle.std.specs.Prelude.{◌≡◌, ◌↔◌, ◌%◌, ℕ, List, [], ◌∷◌, ◌++◌, Some, None, true, length, slice_set};
 ghost use Rattle.z80_instr.specs.Table.{canonical, word};
 ghost use Rattle.z80_instr.specs.Codes.{in_range};
 ghost use Rattle.z80_form.specs.Types.{Instr, Mnemonic, Form, Field};
-ghost use Rattle.z80_form.specs.Rows.{row, Spells};
-ghost use Rattle.z80_form.specs.Numbers.{allows, blank, number_field, with_number, but_last, has_displacement, HasNumbers};
+ghost use Rattle.z80_form.specs.Rows.{row};
+ghost use Rattle.z80_form.specs.Numbers.{allows, blank, field_of, number_field, with_number, but_last, has_displacement, HasNumbers};
+ghost use Rattle.z80_form.specs.Spelling.{Spells, instruction_of};
 
 /// Every instruction is that of its row with its numbers put in.
 pub fn complete()
     ensures { (instr : Instr) → in_range instr ≡ true → (numbers : List (Field × ℕ)) × HasNumbers instr numbers }
+{}
+
+/// The instruction that is found for a mnemonic and operands is the one with zeros in place of its numbers that they spell.
+pub fn spelled()
+    ensures instr { (mnemonic : Mnemonic) (operands : List Form) (instr : Instr) →
+        (instruction_of mnemonic operands ≡ Some instr) ↔ (Spells mnemonic operands instr × (blank instr ≡ instr)) }
+    ensures none { (mnemonic : Mnemonic) (operands : List Form) →
+        (instruction_of mnemonic operands ≡ None) ↔ ((instr : Instr) → Spells mnemonic operands instr → ⊥) }
+    // No instruction has three operands.
+    ensures few { (mnemonic : Mnemonic) (a b c : Form) (more : List Form) →
+        instruction_of mnemonic (a ∷ b ∷ c ∷ more) ≡ None }
 {}
 
 /// What a text spells is one instruction but for its numbers, and so is as many bytes whatever they are.
@@ -20,9 +32,12 @@ pub fn one_instruction()
         length (canonical first) ≡ length (canonical second) }
 {}
 
-/// A number put in leaves the text but for that number, and the count of bytes; an allowed one is of its type.
+/// A number put in leaves the text but for that number, what each operand's expression fills, and the count of bytes; an allowed one
+/// is of its type.
 pub fn kept()
     ensures row { (field : Field) (value : ℕ) (instr : Instr) → row (with_number field value instr) ≡ row instr }
+    ensures field { (field : Field) (value : ℕ) (instr : Instr) (form : Form) →
+        field_of (with_number field value instr) form ≡ field_of instr form }
     ensures size { (field : Field) (value : ℕ) (instr : Instr) →
         length (canonical (with_number field value instr)) ≡ length (canonical instr) }
     ensures range { (field : Field) (value : ℕ) (instr : Instr) → allows field value ≡ true →

@@ -2,7 +2,7 @@
 
 ghost use Rattle.std.specs.Prelude.{◌≡◌, ◌↔◌, Some, None, IfSome};
 ghost use Rattle.z80_form.specs.Types.{Instr};
-ghost use Rattle.z80_form.specs.Rows.{Spells};
+ghost use Rattle.z80_form.specs.Spelling.{Spells, instruction_of};
 ghost use Rattle.z80_form.specs.Numbers.{blank, HasFields};
 ghost use Rattle.z80_form.specs.Private.Reading as reading;
 
@@ -21,6 +21,7 @@ pub fn instruction(mnemonic: Mnemonic, operands: &[Form]) -> Option<Instr>
         (result ≡ Some instr) ↔ (Spells mnemonic operands.entry.now instr × (blank instr ≡ instr)) }
     ensures fields { IfSome result (λ instr. HasFields instr operands.entry.now) }
     ensures none { (result ≡ None) ↔ ((instr : Instr) → Spells mnemonic operands.entry.now instr → ⊥) }
+    ensures found { result ≡ instruction_of mnemonic operands.entry.now }
 {
     read(mnemonic, operands)
 }

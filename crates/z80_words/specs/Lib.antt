@@ -1,3 +1,4 @@
 pub mod Types
 pub mod Words
+pub mod Named
 pub mod Private

@@ -5,6 +5,7 @@
 #![tactic(auto)]
 
 mod buffer;
+pub mod laws;
 mod mnemonic;
 mod name;
 

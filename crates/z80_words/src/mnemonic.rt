@@ -3,6 +3,7 @@
 ghost use Rattle.std.specs.Prelude.{◌≡◌, ◌∷◌, ◌↔◌, Some};
 ghost use Rattle.z80_words.specs.Types.{Mnemonic};
 ghost use Rattle.z80_words.specs.Words.{upper, word};
+ghost use Rattle.z80_words.specs.Named.{mnemonic_named};
 ghost use Rattle.z80_words.specs.Private.Lists.{mnemonic_read};
 
 use crate::buffer::Buffer;
@@ -57,7 +58,8 @@ pub enum Mnemonic {
 
 /// The mnemonic that a word is, in upper case or lower.
 pub fn mnemonic_of(name: &[u8]) -> Option<Mnemonic>
-    ensures { (m : Mnemonic) → (result ≡ Some m) ↔ (upper name.now ≡ word m) }
+    ensures spelled { (m : Mnemonic) → (result ≡ Some m) ↔ (upper name.now ≡ word m) }
+    ensures named { result ≡ mnemonic_named name.now }
 {
     let buffer = Buffer::upper(name)?;
     read(buffer.as_slice())

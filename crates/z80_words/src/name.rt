@@ -3,6 +3,7 @@
 ghost use Rattle.std.specs.Prelude.{◌≡◌, ◌↔◌, Some};
 ghost use Rattle.z80_words.specs.Types.{Name};
 ghost use Rattle.z80_words.specs.Words.{upper, operand_word};
+ghost use Rattle.z80_words.specs.Named.{name_named};
 ghost use Rattle.z80_words.specs.Private.Lists.{name_read};
 
 use crate::buffer::Buffer;
@@ -39,7 +40,8 @@ pub enum Name {
 
 /// The register or condition that a word is, in upper case or lower.
 pub fn name_of(word: &[u8]) -> Option<Name>
-    ensures { (n : Name) → (result ≡ Some n) ↔ (upper word.now ≡ operand_word n) }
+    ensures spelled { (n : Name) → (result ≡ Some n) ↔ (upper word.now ≡ operand_word n) }
+    ensures named { result ≡ name_named word.now }
 {
     let buffer = Buffer::upper(word)?;
     read(buffer.as_slice())

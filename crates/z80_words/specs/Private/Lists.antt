@@ -1,112 +1,13 @@
--- The words as two lists with what each is, by their letters.
-use Rattle.std.specs.Prelude.{ℕ, List, [], ◌∷◌, Option, codes}
+-- What a word in upper case names.
+use Rattle.std.specs.Prelude.{ℕ, List, Option}
+use Rattle.std.specs.List.{find}
 use Rattle.std.specs.Str.{bytes_eq}
-use Rattle.std.specs.Map.{lookup}
-use Rattle.z80_instr.specs.declared.AluOperation.{AluOperation}
-use Rattle.z80_instr.specs.declared.Rotation.{Rotation}
-use Rattle.z80_instr.specs.declared.BlockOperation.{BlockOperation}
-use Rattle.z80_instr.specs.declared.BlockStep.{BlockStep}
 use Rattle.z80_words.specs.Types.{Name, Mnemonic}
-
-abbrev pub mnemonic_words : List (List ℕ × Mnemonic)
-mnemonic_words = (codes "ADC", Mnemonic.Alu AluOperation.Adc)
-    ∷ (codes "ADD", Mnemonic.Alu AluOperation.Add)
-    ∷ (codes "AND", Mnemonic.Alu AluOperation.And)
-    ∷ (codes "BIT", Mnemonic.Bit)
-    ∷ (codes "CALL", Mnemonic.Call)
-    ∷ (codes "CCF", Mnemonic.Ccf)
-    ∷ (codes "CP", Mnemonic.Alu AluOperation.Cp)
-    ∷ (codes "CPD", Mnemonic.Block BlockOperation.Compare BlockStep.Decrement)
-    ∷ (codes "CPDR", Mnemonic.Block BlockOperation.Compare BlockStep.DecrementRepeat)
-    ∷ (codes "CPI", Mnemonic.Block BlockOperation.Compare BlockStep.Increment)
-    ∷ (codes "CPIR", Mnemonic.Block BlockOperation.Compare BlockStep.IncrementRepeat)
-    ∷ (codes "CPL", Mnemonic.Cpl)
-    ∷ (codes "DAA", Mnemonic.Daa)
-    ∷ (codes "DEC", Mnemonic.Dec)
-    ∷ (codes "DI", Mnemonic.Di)
-    ∷ (codes "DJNZ", Mnemonic.Djnz)
-    ∷ (codes "EI", Mnemonic.Ei)
-    ∷ (codes "EX", Mnemonic.Ex)
-    ∷ (codes "EXX", Mnemonic.Exx)
-    ∷ (codes "HALT", Mnemonic.Halt)
-    ∷ (codes "IM", Mnemonic.Im)
-    ∷ (codes "IN", Mnemonic.In)
-    ∷ (codes "INC", Mnemonic.Inc)
-    ∷ (codes "IND", Mnemonic.Block BlockOperation.Input BlockStep.Decrement)
-    ∷ (codes "INDR", Mnemonic.Block BlockOperation.Input BlockStep.DecrementRepeat)
-    ∷ (codes "INI", Mnemonic.Block BlockOperation.Input BlockStep.Increment)
-    ∷ (codes "INIR", Mnemonic.Block BlockOperation.Input BlockStep.IncrementRepeat)
-    ∷ (codes "JP", Mnemonic.Jp)
-    ∷ (codes "JR", Mnemonic.Jr)
-    ∷ (codes "LD", Mnemonic.Ld)
-    ∷ (codes "LDD", Mnemonic.Block BlockOperation.Load BlockStep.Decrement)
-    ∷ (codes "LDDR", Mnemonic.Block BlockOperation.Load BlockStep.DecrementRepeat)
-    ∷ (codes "LDI", Mnemonic.Block BlockOperation.Load BlockStep.Increment)
-    ∷ (codes "LDIR", Mnemonic.Block BlockOperation.Load BlockStep.IncrementRepeat)
-    ∷ (codes "NEG", Mnemonic.Neg)
-    ∷ (codes "NOP", Mnemonic.Nop)
-    ∷ (codes "OR", Mnemonic.Alu AluOperation.Or)
-    ∷ (codes "OTDR", Mnemonic.Block BlockOperation.Output BlockStep.DecrementRepeat)
-    ∷ (codes "OTIR", Mnemonic.Block BlockOperation.Output BlockStep.IncrementRepeat)
-    ∷ (codes "OUT", Mnemonic.Out)
-    ∷ (codes "OUTD", Mnemonic.Block BlockOperation.Output BlockStep.Decrement)
-    ∷ (codes "OUTI", Mnemonic.Block BlockOperation.Output BlockStep.Increment)
-    ∷ (codes "POP", Mnemonic.Pop)
-    ∷ (codes "PUSH", Mnemonic.Push)
-    ∷ (codes "RES", Mnemonic.Res)
-    ∷ (codes "RET", Mnemonic.Ret)
-    ∷ (codes "RETI", Mnemonic.Reti)
-    ∷ (codes "RETN", Mnemonic.Retn)
-    ∷ (codes "RL", Mnemonic.Rotate Rotation.Rl)
-    ∷ (codes "RLA", Mnemonic.Rla)
-    ∷ (codes "RLC", Mnemonic.Rotate Rotation.Rlc)
-    ∷ (codes "RLCA", Mnemonic.Rlca)
-    ∷ (codes "RLD", Mnemonic.Rld)
-    ∷ (codes "RR", Mnemonic.Rotate Rotation.Rr)
-    ∷ (codes "RRA", Mnemonic.Rra)
-    ∷ (codes "RRC", Mnemonic.Rotate Rotation.Rrc)
-    ∷ (codes "RRCA", Mnemonic.Rrca)
-    ∷ (codes "RRD", Mnemonic.Rrd)
-    ∷ (codes "RST", Mnemonic.Rst)
-    ∷ (codes "SBC", Mnemonic.Alu AluOperation.Sbc)
-    ∷ (codes "SCF", Mnemonic.Scf)
-    ∷ (codes "SET", Mnemonic.Set)
-    ∷ (codes "SLA", Mnemonic.Rotate Rotation.Sla)
-    ∷ (codes "SRA", Mnemonic.Rotate Rotation.Sra)
-    ∷ (codes "SRL", Mnemonic.Rotate Rotation.Srl)
-    ∷ (codes "SUB", Mnemonic.Alu AluOperation.Sub)
-    ∷ (codes "XOR", Mnemonic.Alu AluOperation.Xor)
-    ∷ []
+use Rattle.z80_words.specs.Words.{word, operand_word}
+use Rattle.z80_words.specs.Named.{each_mnemonic, each_name}
 
 abbrev pub mnemonic_read : List ℕ → Option Mnemonic
-mnemonic_read name = lookup (bytes_eq name) mnemonic_words
-
-abbrev pub name_words : List (List ℕ × Name)
-name_words = (codes "A", Name.A)
-    ∷ (codes "B", Name.B)
-    ∷ (codes "C", Name.C)
-    ∷ (codes "D", Name.D)
-    ∷ (codes "E", Name.E)
-    ∷ (codes "H", Name.H)
-    ∷ (codes "L", Name.L)
-    ∷ (codes "I", Name.I)
-    ∷ (codes "R", Name.R)
-    ∷ (codes "AF", Name.Af)
-    ∷ (codes "AF'", Name.OtherAf)
-    ∷ (codes "BC", Name.Bc)
-    ∷ (codes "DE", Name.De)
-    ∷ (codes "HL", Name.Hl)
-    ∷ (codes "IX", Name.Ix)
-    ∷ (codes "IY", Name.Iy)
-    ∷ (codes "SP", Name.Sp)
-    ∷ (codes "NZ", Name.Nz)
-    ∷ (codes "Z", Name.Z)
-    ∷ (codes "NC", Name.Nc)
-    ∷ (codes "PO", Name.Po)
-    ∷ (codes "PE", Name.Pe)
-    ∷ (codes "P", Name.P)
-    ∷ (codes "M", Name.M)
-    ∷ []
+mnemonic_read name = find (λ m. bytes_eq name (word m)) each_mnemonic
 
 abbrev pub name_read : List ℕ → Option Name
-name_read word = lookup (bytes_eq word) name_words
+name_read name = find (λ n. bytes_eq name (operand_word n)) each_name

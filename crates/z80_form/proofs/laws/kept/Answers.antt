@@ -1,10 +1,13 @@
 use Rattle.z80_form.specs.Numbers.{zeros}
 use Rattle.z80_form.proofs.laws.kept.Goals as goal
-use Rattle.z80_form.proofs.Kept.{row_steady, rows_steady, size_steady}
+use Rattle.z80_form.proofs.Kept.{row_steady, rows_steady, field_steady, size_steady}
 use Rattle.z80_form.proofs.Ranges.{range_kept, blank_range}
 
 pub returns-clause-row : goal.returns-clause-row
 returns-clause-row c = row_steady
+
+pub returns-clause-field : goal.returns-clause-field
+returns-clause-field c = field_steady
 
 pub returns-clause-size : goal.returns-clause-size
 returns-clause-size c = size_steady

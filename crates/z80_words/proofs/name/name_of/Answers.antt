@@ -1,10 +1,17 @@
-use Rattle.std.proofs.Common.{◌≡◌, ◌∙◌, ap}
-use Rattle.z80_words.specs.Words.{upper}
+use Rattle.std.proofs.Common.{◌≡◌, ◌∙◌, ap, sym, refl}
+use Rattle.z80_words.specs.Named.{name_named}
 use Rattle.z80_words.specs.Private.Lists.{name_read}
 use Rattle.z80_words.proofs.name.name_of.Goals as goal
-use Rattle.z80_words.proofs.Lookup.{name_is}
+use Rattle.z80_words.proofs.Lookup.{name_named_is, name_spelled, long_name}
 
-pub returns : goal.returns
-returns c =
-    let read : c.read.result ≡ name_read (upper c.args.word.now) = c.read.ensures ∙ ap name_read (c.as_slice.ensures ∙ c.in_ok-buffer.ensures.short) in
-    λ n. rw read (name_is (upper c.args.word.now) n)
+read : (c : goal.After-read) → c.read.result ≡ name_named c.args.word.now
+read c = c.read.ensures ∙ ap name_read (c.as_slice.ensures ∙ c.in_ok-buffer.ensures.short) ∙ sym (name_named_is c.args.word.now)
+
+pub returns-clause-spelled : goal.returns-clause-spelled
+returns-clause-spelled c = λ n. rw (read c) (name_spelled c.args.word.now n)
+
+pub returns-clause-named : goal.returns-clause-named
+returns-clause-named c = read c
+
+pub returns-in_err-buffer-clause-named : goal.returns-in_err-buffer-clause-named
+returns-in_err-buffer-clause-named c = c.from_residual.ensures ∙ sym (long_name c.args.word.now (c.in_err-buffer.ensures.long refl))

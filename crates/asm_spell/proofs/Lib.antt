@@ -1,0 +1,7 @@
+mod Pieces
+mod Lists
+mod Entries
+mod Written
+mod Unworded
+mod Refusals
+mod Definable

@@ -1,0 +1,6 @@
+use Rattle.asm_scan.specs.Tokens.{lexemes}
+use Rattle.asm_spell.proofs.Refusals.{of_tokens, spelled_refusals}
+use Rattle.asm_spell.proofs.spelling.statement.Goals as goal
+
+pub returns-clause-faults : goal.returns-clause-faults
+returns-clause-faults c = of_tokens c.read.result _ (spelled_refusals (lexemes c.args.tokens.now)) c.read.ensures

@@ -1,0 +1,7 @@
+pub mod Faults
+pub mod Line
+pub mod Operands
+pub mod Directives
+pub mod Spelling
+pub mod Names
+pub mod Private

@@ -1,0 +1,127 @@
+-- Which line a list of tokens spells, or its first fault.
+use Rattle.std.specs.Prelude.{ℕ, Bool, false, List, [], ◌∷◌, Option, Some, None, Result, Ok, Err, if◌then◌else◌, map, ◌||◌}
+use Rattle.std.specs.Option.{option_map}
+use Rattle.std.specs.List.{list_any, filter_map}
+use Rattle.asm_scan.specs.Tokens.{Lexeme}
+use Rattle.asm_parse.specs.declared.item.Item.{Item}
+use Rattle.asm_parse.specs.Source.{Name}
+use Rattle.asm_words.specs.Results.{◌>>=◌}
+use Rattle.asm_words.specs.Words.{upper, is_reserved}
+use Rattle.asm_line.specs.Forms as front
+use Rattle.z80_instr.specs.declared.Cond.{Cond}
+use Rattle.z80_instr.specs.declared.ShortCond.{ShortCond}
+use Rattle.z80_instr.specs.declared.Instr.{Instr}
+use Rattle.z80_words.specs.declared.mnemonic.Mnemonic.{Mnemonic}
+use Rattle.z80_words.specs.Named.{mnemonic_named}
+use Rattle.z80_form.specs.declared.field.Field.{Field}
+use Rattle.z80_form.specs.Numbers.{field_of}
+use Rattle.z80_form.specs.Spelling.{instruction_of}
+use Rattle.asm_spell.specs.declared.fault.StmtFault.{StmtFault}
+use Rattle.asm_spell.specs.declared.directive.Directive.{Directive}
+use Rattle.asm_spell.specs.declared.jump.Jump as jump
+use Rattle.asm_spell.specs.declared.line.Branch.{Branch}
+use Rattle.asm_spell.specs.Faults.{value_or, each}
+use Rattle.asm_spell.specs.Line.{Expression, Body, Code, Jump, Short, Public, External, End, Line, Equ, Statement}
+use Rattle.asm_spell.specs.Operands.{operands, answered, Written, written}
+use Rattle.asm_spell.specs.Directives.{directive_named, directive}
+
+-- Instructions.
+
+-- the expressions of the operands, with what each fills
+abbrev pub number : Option Field → Option Expression → Option (Field × Expression)
+number (Some field) (Some e) = Some (field, e)
+number _ _ = None
+
+abbrev pub numbers : Instr → List Written → List (Field × Expression)
+numbers instr read = filter_map (λ w. number (field_of instr w.form) w.expression) read
+
+-- the condition that JR can take too
+abbrev pub short_condition : Cond → Option ShortCond
+short_condition Cond.NotZero = Some ShortCond.NotZero
+short_condition Cond.Zero = Some ShortCond.Zero
+short_condition Cond.NotCarry = Some ShortCond.NotCarry
+short_condition Cond.Carry = Some ShortCond.Carry
+short_condition _ = None
+
+-- an instruction that, with one name as its target, is a jump that may be coded both ways, or one that is always short
+abbrev pub jump_of : Instr → Option jump.Jump
+jump_of (Instr.Jump nn) = Some (jump.TheVariants.Relaxable None)
+jump_of (Instr.JumpIf cc nn) = option_map (λ c. jump.TheVariants.Relaxable (Some c)) (short_condition cc)
+jump_of (Instr.JumpRelative e) = Some (jump.TheVariants.Always (Branch.Relative None))
+jump_of (Instr.JumpRelativeIf cc e) = Some (jump.TheVariants.Always (Branch.Relative (Some cc)))
+jump_of (Instr.Djnz e) = Some (jump.TheVariants.Always Branch.CountDown)
+jump_of _ = None
+
+abbrev pub jump_to : jump.Jump → List ℕ → Body
+jump_to (jump.TheVariants.Relaxable condition) name = Jump condition name
+jump_to (jump.TheVariants.Always branch) name = Short branch name
+
+-- the name that an operand is, where it is one
+abbrev pub name_in : Option Expression → Option (List ℕ)
+name_in (Some (Item.Leaf (Name name) ∷ [])) = Some name
+name_in _ = None
+
+abbrev pub target_by : Written → Option (List ℕ)
+target_by w = if w.is_name then name_in w.expression else None
+
+-- .. of the last operand
+abbrev pub target : List Written → Option (List ℕ)
+target [] = None
+target (w ∷ []) = target_by w
+target (w ∷ v ∷ more) = target (v ∷ more)
+
+-- a jump to one name, or the instruction with its expressions
+abbrev pub coded : Option jump.Jump → Option (List ℕ) → Instr → List Written → Body
+coded (Some jump) (Some name) instr read = jump_to jump name
+coded _ _ instr read = Code instr (numbers instr read)
+
+abbrev pub instruction_by : Mnemonic → List Written → Result Body StmtFault
+instruction_by m read =
+    value_or StmtFault.BadOperands (instruction_of m (map (λ w. w.form) read)) >>= λ instr. Ok (coded (jump_of instr) (target read) instr read)
+
+-- what a mnemonic and the tokens behind it spell
+abbrev pub instruction : Mnemonic → List Lexeme → Result Body StmtFault
+instruction m tokens = each written (operands tokens) >>= instruction_by m
+
+-- Lines.
+
+abbrev pub word_by : Option Mnemonic → Option Directive → List Lexeme → Result Body StmtFault
+word_by (Some m) d tokens = instruction m tokens
+word_by None (Some d) tokens = directive d tokens
+word_by None None tokens = Err StmtFault.UnknownWord
+
+-- what a word and the tokens behind it spell
+abbrev pub operation : List ℕ → List Lexeme → Result Body StmtFault
+operation name tokens = word_by (mnemonic_named name) (directive_named name) tokens
+
+-- the names that a statement defines or passes on
+abbrev pub body_names : Body → List (List ℕ)
+body_names (Public list) = list
+body_names (External list) = list
+body_names (End (Some name)) = name ∷ []
+body_names _ = []
+
+abbrev pub has_reserved : Option (List ℕ) → Option Body → Bool
+has_reserved None None = false
+has_reserved None (Some body) = list_any is_reserved (body_names body)
+has_reserved (Some label) None = is_reserved label
+has_reserved (Some label) (Some body) = is_reserved label || list_any is_reserved (body_names body)
+
+-- a label and a statement, each if the line has one
+abbrev pub labelled : Option (List ℕ) → Option Body → Result Line StmtFault
+labelled label body = if has_reserved label body then Err StmtFault.ReservedName else Ok (Statement label body)
+
+-- the definition of a name
+abbrev pub defined : List ℕ → List Lexeme → Result Line StmtFault
+defined name tokens = answered tokens >>= λ e. if is_reserved name then Err StmtFault.ReservedName else Ok (Equ name e)
+
+-- by what the line says first; the words of macros and blocks are none here
+abbrev pub line_by : Option (List ℕ) → front.Head → List Lexeme → Result Line StmtFault
+line_by label (front.Equ name) rest = defined (upper name) rest
+line_by label (front.Word name) rest = operation name rest >>= λ body. labelled (option_map upper label) (Some body)
+line_by label front.Nothing [] = labelled (option_map upper label) None
+line_by label _ rest = Err StmtFault.UnknownWord
+
+-- which line the tokens spell, or its first fault
+abbrev pub spelled : List Lexeme → Result Line StmtFault
+spelled tokens = let f = front.form tokens in line_by f.label f.head f.rest

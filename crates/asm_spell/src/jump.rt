@@ -1,0 +1,59 @@
+//! Jumps to one name.
+
+ghost use Rattle.std.specs.Prelude.{◌≡◌};
+ghost use Rattle.asm_spell.specs.Spelling.{jump_of, jump_to, short_condition};
+ghost use Rattle.asm_spell.specs.Line.{body_of};
+
+use crate::line::{Body, Branch};
+use z80_instr::{Cond, Instr, ShortCond};
+
+/// How a jump to one name is coded.
+#[derive(Clone, Copy, Debug)]
+pub(crate) enum Jump {
+    /// `JP`, without a condition or on one that `JR` can take too: it may be coded both ways.
+    Relaxable(Option<ShortCond>),
+    /// `JR` and `DJNZ`: it is always short.
+    Always(Branch),
+}
+
+impl Jump {
+    ghost use Rattle.std.specs.Prelude.{◌≡◌};
+    ghost use Rattle.asm_spell.specs.Spelling.{jump_to};
+    ghost use Rattle.asm_spell.specs.Line.{body_of};
+
+    pub(crate) fn to(self, target: Vec<u8>) -> Body
+        ensures { body_of result ≡ jump_to self target.items }
+    {
+        match self {
+            Jump::Relaxable(condition) => Body::Jump { condition, target },
+            Jump::Always(branch) => Body::Short { branch, target },
+        }
+    }
+}
+
+/// The condition that `JR` can take too.
+fn short_condition(condition: Cond) -> Option<ShortCond>
+    ensures { result ≡ short_condition condition }
+{
+    match condition {
+        Cond::NotZero => Some(ShortCond::NotZero),
+        Cond::Zero => Some(ShortCond::Zero),
+        Cond::NotCarry => Some(ShortCond::NotCarry),
+        Cond::Carry => Some(ShortCond::Carry),
+        _ => None,
+    }
+}
+
+/// The jump that an instruction is with one name as its target.
+pub(crate) fn jump_of(instr: Instr) -> Option<Jump>
+    ensures { result ≡ jump_of instr }
+{
+    match instr {
+        Instr::Jump(_) => Some(Jump::Relaxable(None)),
+        Instr::JumpIf(cc, _) => short_condition(cc).map(|c| Jump::Relaxable(Some(c))),
+        Instr::JumpRelative(_) => Some(Jump::Always(Branch::Relative(None))),
+        Instr::JumpRelativeIf(cc, _) => Some(Jump::Always(Branch::Relative(Some(cc)))),
+        Instr::Djnz(_) => Some(Jump::Always(Branch::CountDown)),
+        _ => None,
+    }
+}

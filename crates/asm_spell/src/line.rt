@@ -1,0 +1,76 @@
+//! The forms of a line.
+
+use asm_parse::Tree;
+use z80_form::Field;
+use z80_instr::{Instr, ShortCond};
+
+/// How a jump that is always short branches.
+#[derive(Clone, Copy, Debug, PartialEq, Eq)]
+pub enum Branch {
+    /// `JR`, with its condition if it has one.
+    Relative(Option<ShortCond>),
+    /// `DJNZ`
+    CountDown,
+}
+
+/// A value of `DB`.
+#[derive(Debug, Drop)]
+pub enum Value {
+    /// The bytes of a string, at least one.
+    Text(Vec<u8>),
+    Byte(Tree),
+}
+
+/// A word and its operands. Names are in upper case.
+#[derive(Debug, Drop)]
+pub enum Body {
+    /// An instruction with zeros in place of its numbers, and the expressions of these.
+    Code {
+        instr: Instr,
+        numbers: Vec<(Field, Tree)>,
+    },
+    /// `JP`, to one name, without a condition or on one that `JR` can take too.
+    Jump {
+        condition: Option<ShortCond>,
+        target: Vec<u8>,
+    },
+    /// `JR` or `DJNZ`, to one name.
+    Short {
+        branch: Branch,
+        target: Vec<u8>,
+    },
+    /// `DB`
+    Bytes(Vec<Value>),
+    /// `DW`
+    Words(Vec<Tree>),
+    /// `DS`, with its fill if it has one.
+    Space {
+        size: Tree,
+        fill: Option<Tree>,
+    },
+    /// `PUBLIC`
+    Public(Vec<Vec<u8>>),
+    /// `EXTRN`
+    External(Vec<Vec<u8>>),
+    /// `ORG`
+    Origin(Tree),
+    /// `END`, with the name of the entry if it has one.
+    End(Option<Vec<u8>>),
+    /// `.Z80`
+    Z80,
+}
+
+/// What a line spells.
+#[derive(Debug, Drop)]
+pub enum Line {
+    /// `name EQU e`
+    Equ {
+        name: Vec<u8>,
+        value: Tree,
+    },
+    /// A label and a statement, each if it has one.
+    Statement {
+        label: Option<Vec<u8>>,
+        body: Option<Body>,
+    },
+}

@@ -1,0 +1,125 @@
+//! From tokens to a line.
+
+ghost use Rattle.std.specs.Prelude.{◌≡◌, IfErr, Some};
+ghost use Rattle.std.specs.Option.{option_map};
+ghost use Rattle.asm_scan.specs.Tokens.{lexemes};
+ghost use Rattle.std.specs.List.{list_any};
+ghost use Rattle.asm_words.specs.Words.{upper, is_reserved};
+ghost use Rattle.asm_spell.specs.Faults.{Gives, IsOfTokens};
+ghost use Rattle.asm_spell.specs.Line.{body_of, line_of, names_of};
+ghost use Rattle.asm_spell.specs.Spelling.{body_names, defined, has_reserved, labelled, operation, spelled};
+
+use crate::directive::{directive_named, spell_directive};
+use crate::fault::StmtFault;
+use crate::instruction::instruction;
+use crate::line::{Body, Line};
+use crate::operand::expression;
+use asm_line::{Form, Head, form_of};
+use asm_scan::Token;
+use asm_words::is_reserved;
+use std::alloc::Global;
+use z80_form::mnemonic_of;
+
+/// What a word and the tokens behind it spell.
+fn operation(alloc: Global, name: &[u8], tokens: &[Token<'_>]) -> Result<Body, StmtFault>
+    ensures { Gives body_of result (operation name.now (lexemes tokens.entry.now)) }
+{
+    if let Some(mnemonic) = mnemonic_of(name) {
+        return instruction(alloc, mnemonic, tokens);
+    }
+    match directive_named(name) {
+        Some(found) => spell_directive(alloc, found, tokens),
+        None => Err(StmtFault::UnknownWord),
+    }
+}
+
+fn any_reserved(names: &[Vec<u8>]) -> bool
+    ensures { result ≡ list_any is_reserved (names_of names.now) }
+{
+    for name in names {
+        if is_reserved(name) {
+            return true;
+        }
+    }
+    false
+}
+
+/// Whether one of the names that a statement defines or passes on is reserved.
+fn passes_reserved(body: &Body) -> bool
+    ensures { result ≡ list_any is_reserved (body_names (body_of body.now)) }
+{
+    match body {
+        Body::Public(names) | Body::External(names) => any_reserved(names),
+        Body::End(Some(name)) => is_reserved(name),
+        _ => false,
+    }
+}
+
+/// Whether the label of a line or a name in its statement is reserved.
+fn has_reserved(label: &Option<Vec<u8>>, body: &Option<Body>) -> bool
+    ensures { result ≡ has_reserved (option_map (λ name. name.items) label.now) (option_map body_of body.now) }
+{
+    match (label, body) {
+        (Some(label), Some(body)) => is_reserved(label) || passes_reserved(body),
+        (Some(label), None) => is_reserved(label),
+        (None, Some(body)) => passes_reserved(body),
+        (None, None) => false,
+    }
+}
+
+/// A label and a statement, each if the line has one.
+fn labelled(alloc: Global, name: Option<&[u8]>, body: Option<Body>) -> Result<Line, StmtFault>
+    ensures { Gives line_of result (labelled (option_map (λ name. upper name.now) name.entry) (option_map body_of body)) }
+{
+    let label = match name {
+        Some(name) => Some(name.to_ascii_uppercase(alloc)?),
+        None => None,
+    };
+    if has_reserved(&label, &body) {
+        return Err(StmtFault::ReservedName);
+    }
+    Ok(Line::Statement { label, body })
+}
+
+/// The definition of a name.
+fn defined(alloc: Global, name: &[u8], tokens: &[Token<'_>]) -> Result<Line, StmtFault>
+    ensures { Gives line_of result (defined (upper name.now) (lexemes tokens.entry.now)) }
+{
+    let value = expression(alloc, tokens)?;
+    let name = name.to_ascii_uppercase(alloc)?;
+    if is_reserved(&name) {
+        return Err(StmtFault::ReservedName);
+    }
+    Ok(Line::Equ { name, value })
+}
+
+/// The line that the tokens spell, by what it says first.
+fn read(alloc: Global, tokens: &[Token<'_>]) -> Result<Line, StmtFault>
+    ensures { Gives line_of result (spelled (lexemes tokens.entry.now)) }
+{
+    let Form { label, head, rest } = form_of(tokens);
+    match head {
+        Head::Equ(name) => defined(alloc, name, rest),
+        Head::Word(word) => labelled(alloc, label, Some(operation(alloc, word, rest)?)),
+        Head::Nothing => match rest {
+            [] => labelled(alloc, label, None),
+            [_, ..] => Err(StmtFault::UnknownWord),
+        },
+        Head::Macro(_) | Head::Block(_) => Err(StmtFault::UnknownWord),
+    }
+}
+
+/// The line that the tokens spell.
+///
+/// # Errors
+///
+/// [`StmtFault::UnknownWord`] where the word is none; else [`StmtFault::Expr`] of the first operand
+/// that is no expression; else [`StmtFault::BadOperands`] where the word does not take these
+/// operands; else [`StmtFault::ReservedName`]; [`StmtFault::NoMemory`] where a list or a name cannot
+/// grow.
+pub fn statement(alloc: Global, tokens: &[Token<'_>]) -> Result<Line, StmtFault>
+    ensures spelled { Gives line_of result (spelled (lexemes tokens.entry.now)) }
+    ensures faults { IfErr result IsOfTokens }
+{
+    read(alloc, tokens)
+}
