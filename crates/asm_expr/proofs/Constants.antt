@@ -2,7 +2,7 @@
 use Rattle.std.proofs.Common.{◌≡◌, ℕ, true, List, [], ◌∷◌, ◌++◌, Option, Some, None, refl, sym, ◌∙◌}
 use Rattle.std.specs.List.{list_all}
 use Rattle.std.proofs.lemmas.List.Folds.{list_all-append}
-use Rattle.asm_expr.specs.Types.{Item, Meaning, Unknown, Worth}
+use Rattle.asm_expr.specs.Types.{Item, Meaning, Worth}
 use Rattle.asm_expr.specs.Arithmetic.{unary, binary}
 use Rattle.asm_parse.specs.Expression.{Expression, Leaf, Prefix, Infix, postfix}
 use Rattle.asm_parse.specs.Source.{Operand, Number, Name, Here}
@@ -33,9 +33,8 @@ name_steady (Some (Meaning.Label s)) c t e = cc
 name_steady (Some (Meaning.External r)) c t e = cc
 name_steady (Some (Meaning.Constant n)) c t e = cc
 name_steady (Some (Meaning.Equ equated)) c t e = cc
-name_steady (Some (Meaning.Unknown Unknown.Number)) c t e = cc
-name_steady (Some (Meaning.Unknown Unknown.Varies)) c t e = cc
-name_steady (Some (Meaning.Unknown Unknown.VariesInByte)) c t e = cc
+name_steady (Some Meaning.UnknownConstant) c t e = cc
+name_steady (Some Meaning.Faulty) c t e = cc
 
 pub steady : (t : Table) (n : Expression Operand) → list_all (is_constant_item t) (postfix n) ≡ true → worth t (replaced t n) ≡ Worth.Varies → ⊥
 steady t (Leaf (Number k)) c e = cc

@@ -1,13 +1,14 @@
 -- Fixed expressions have one value, and reducing keeps every value.
-use Rattle.std.proofs.Common.{◌≡◌, ℕ, refl, sym, ap, ◌∙◌}
-use Rattle.asm_expr.specs.Types.{Unary, Binary, Atom, Worth, Unknown}
+use Rattle.std.proofs.Common.{◌≡◌, ℕ, List, true, false, if◌then◌else◌, nat_lt, length, refl, sym, ap, ◌∙◌}
+use Rattle.asm_expr.specs.Types.{Unary, Binary, Atom, Statement, Worth, Unknown}
 use Rattle.asm_expr.specs.declared.part.Part.{Part}
+use Rattle.asm_expr.specs.declared.single.Single.{Single}
 use Rattle.asm_expr.specs.Arithmetic.{unary, binary}
 use Rattle.asm_parse.specs.Expression.{Expression, Leaf, Prefix, Infix}
 use Rattle.asm_expr.specs.Items.{value}
-use Rattle.asm_expr.specs.Distances.{Step}
+use Rattle.asm_expr.specs.Distances.{Step, some_distance}
 use Rattle.asm_expr.specs.Names.{Table}
-use Rattle.asm_expr.specs.Settling.{known, difference, or_else, through, both, worth, leaf_or, reduced}
+use Rattle.asm_expr.specs.Settling.{known, single, distance_of, difference, or_else, through, both, worth, leaf_or, reduced}
 use Rattle.asm_expr.proofs.Places.{one_distance}
 
 through_number : (f : ℕ → ℕ) (w : Worth) (n : ℕ) → through f w ≡ Worth.Number n → (m : ℕ) × (w ≡ Worth.Number m) × (f m ≡ n)
@@ -62,16 +63,43 @@ prefix_known (Leaf (Atom.Ref r)) op a is = cc
 prefix_known (Prefix o x) op a is = let same : o ≡ op = cc in (x, ap (λ p. Prefix p x) same, cc)
 prefix_known (Infix o x y) op a is = cc
 
-infix_known : (e : Expression Atom) (op : Binary) (a b : Expression Part) → known e ≡ Infix op a b → (x : Expression Atom) × (y : Expression Atom) × (e ≡ Infix op x y) × (a ≡ known x) × (b ≡ known y)
+pub infix_known : (e : Expression Atom) (op : Binary) (a b : Expression Part) → known e ≡ Infix op a b → (x : Expression Atom) × (y : Expression Atom) × (e ≡ Infix op x y) × (a ≡ known x) × (b ≡ known y)
 infix_known (Leaf (Atom.Number m)) op a b is = cc
 infix_known (Leaf (Atom.Ref r)) op a b is = cc
 infix_known (Prefix o x) op a b is = cc
 infix_known (Infix o x y) op a b is = let same : o ≡ op = cc in (x, y, ap (λ p. Infix p x y) same, cc, cc)
 
+some_number : (statements : List Statement) (p n : ℕ) → some_distance statements p ≡ Worth.Number n → ⊥
+some_number statements p n is = elim (nat_lt (length statements) p) as (λ past. (if past then Worth.Varies else Worth.Unknown) ≡ Worth.Number n → ⊥) [
+  | true ↦ λ bad. cc
+  | false ↦ λ bad. cc
+] is
+
+-- A known difference is one of two places.
+two_places : (t : Table) (a b : Single) (n : ℕ) → distance_of t a b ≡ Worth.Number n → (p : ℕ) × (q : ℕ) × (a ≡ Single.Place p) × (b ≡ Single.Place q)
+two_places t (Single.Place p) (Single.Place q) n is = (p, q, refl, refl)
+two_places t (Single.Place p) Single.Anything n is = absurd (some_number t.statements p n is)
+two_places t (Single.Place p) Single.Other n is = cc
+two_places t Single.Anything (Single.Place q) n is = absurd (some_number t.statements q n is)
+two_places t Single.Anything Single.Anything n is = cc
+two_places t Single.Anything Single.Other n is = cc
+two_places t Single.Other b n is = cc
+
+one_place : (e : Expression Part) (p : ℕ) → single e ≡ Single.Place p → e ≡ Leaf (Part.Ref p)
+one_place (Leaf (Part.Number n)) p is = cc
+one_place (Leaf (Part.Ref r)) p is = let same : r ≡ p = cc in ap (λ k. Leaf (Part.Ref k)) same
+one_place (Leaf (Part.Unknown Unknown.Anything)) p is = cc
+one_place (Leaf (Part.Unknown Unknown.Number)) p is = cc
+one_place (Leaf (Part.Unknown Unknown.Varies)) p is = cc
+one_place (Leaf (Part.Unknown Unknown.VariesInByte)) p is = cc
+one_place (Prefix op a) p is = cc
+one_place (Infix op a b) p is = cc
+
 -- An expression that is a number has no part that is not known,
 number_known : (t : Table) (e : Expression Part) (n : ℕ) → worth t e ≡ Worth.Number n → (x : Expression Atom) × (e ≡ known x)
 number_known t (Leaf (Part.Number m)) n is = (Leaf (Atom.Number m), refl)
 number_known t (Leaf (Part.Ref r)) n is = cc
+number_known t (Leaf (Part.Unknown Unknown.Anything)) n is = cc
 number_known t (Leaf (Part.Unknown Unknown.Number)) n is = cc
 number_known t (Leaf (Part.Unknown Unknown.Varies)) n is = cc
 number_known t (Leaf (Part.Unknown Unknown.VariesInByte)) n is = cc
@@ -91,7 +119,11 @@ number_known t (Infix op a b) n is =
     ] refl is
   where
     distance_known : (t : Table) (op : Binary) (a b : Expression Part) (n : ℕ) → difference t op a b ≡ Worth.Number n → (x : Expression Atom) × (Infix op a b ≡ known x)
-    distance_known t Binary.Subtract (Leaf (Part.Ref p)) (Leaf (Part.Ref q)) n is = (Infix Binary.Subtract (Leaf (Atom.Ref p)) (Leaf (Atom.Ref q)), refl)
+    distance_known t Binary.Subtract a b n is =
+        let s = two_places t (single a) (single b) n is in
+        let left : Leaf (Part.Ref s.0) ≡ a = sym (one_place a s.0 s.2) in
+        let right : Leaf (Part.Ref s.1) ≡ b = sym (one_place b s.1 s.3) in
+        (Infix Binary.Subtract (Leaf (Atom.Ref s.0)) (Leaf (Atom.Ref s.1)), sym (ap (λ x. Infix Binary.Subtract x (Leaf (Part.Ref s.1))) left ∙ ap (Infix Binary.Subtract a) right))
     distance_known t op a b n is = cc
 
 -- nor has one that reduces to none, and it has the value of what it reduces to.

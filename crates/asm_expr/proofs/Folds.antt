@@ -1,15 +1,16 @@
 -- Reducing item by item is reducing the expression.
 use Rattle.std.proofs.Common.{◌≡◌, ℕ, ◌+◌, List, [], ◌∷◌, ◌++◌, Option, Some, None, Result, Ok, if◌then◌else◌, refl, sym, ap, ◌∙◌, arith, append_assoc, append-nil}
-use Rattle.asm_expr.specs.Types.{Unary, Binary, Item, ExprFault, Worth}
+use Rattle.asm_expr.specs.Types.{Unary, Binary, Item, ExprFault, Unknown, Worth}
 use Rattle.asm_expr.specs.declared.part.Part.{Part}
+use Rattle.asm_expr.specs.declared.single.Single.{Single}
 use Rattle.asm_words.specs.Results.{◌>>=◌}
 use Rattle.asm_parse.specs.Operators.{divides}
 use Rattle.asm_expr.specs.Arithmetic.{unary, binary}
 use Rattle.asm_parse.specs.Expression.{Expression, Leaf, Prefix, Infix, postfix}
 use Rattle.asm_parse.specs.Source.{Operand}
 use Rattle.asm_expr.specs.Names.{Table}
-use Rattle.asm_expr.specs.Settling.{stands_for, replaced, size, size_of, single_place, distance_of, difference, or_else, through, both, worth, leaf_or, reduced, first, divisor_fault, division_fault, divisions_fault, too_large, fault_behind}
-use Rattle.asm_expr.specs.Private.Folding.{root, worth_of, ref_of, difference_of, prefixed, joined, item_fault, unless, fold_one, fold_all, settling}
+use Rattle.asm_expr.specs.Settling.{stands_for, replaced, size, size_of, single, distance_of, difference, or_else, through, both, worth, leaf_or, reduced, first, divisor_fault, division_fault, divisions_fault, too_large, fault_behind}
+use Rattle.asm_expr.specs.Private.Folding.{root, worth_of, single_of, difference_of, prefixed, joined, item_fault, unless, fold_one, fold_all, settling}
 
 -- The last item of a reduced expression tells what is known of it, and whether it is a place.
 worth_root : (other : Expression Part) (o : Worth) → worth_of (root other) ≡ Worth.Varies → worth_of (root (leaf_or other o)) ≡ o
@@ -24,21 +25,24 @@ worth-reduced t (Leaf (Part.Unknown what)) = refl
 worth-reduced t (Prefix op a) = worth_root (Prefix op (reduced t a)) _ refl
 worth-reduced t (Infix op a b) = worth_root (Infix op (reduced t a) (reduced t b)) _ refl
 
-ref_root : (other : Expression Part) (o : Worth) → ref_of (root other) ≡ None → ref_of (root (leaf_or other o)) ≡ None
-ref_root other Worth.Varies none = none
-ref_root other Worth.Unknown none = refl
-ref_root other (Worth.Number n) none = refl
+single_root : (other : Expression Part) (o : Worth) → single_of (root other) ≡ Single.Other → single_of (root (leaf_or other o)) ≡ Single.Other
+single_root other Worth.Varies none = none
+single_root other Worth.Unknown none = refl
+single_root other (Worth.Number n) none = refl
 
-pub ref-reduced : (t : Table) (e : Expression Part) → ref_of (root (reduced t e)) ≡ single_place e
-ref-reduced t (Leaf (Part.Number n)) = refl
-ref-reduced t (Leaf (Part.Ref r)) = refl
-ref-reduced t (Leaf (Part.Unknown what)) = refl
-ref-reduced t (Prefix op a) = ref_root (Prefix op (reduced t a)) _ refl
-ref-reduced t (Infix op a b) = ref_root (Infix op (reduced t a) (reduced t b)) _ refl
+pub single-reduced : (t : Table) (e : Expression Part) → single_of (root (reduced t e)) ≡ single e
+single-reduced t (Leaf (Part.Number n)) = refl
+single-reduced t (Leaf (Part.Ref r)) = refl
+single-reduced t (Leaf (Part.Unknown Unknown.Anything)) = refl
+single-reduced t (Leaf (Part.Unknown Unknown.Number)) = refl
+single-reduced t (Leaf (Part.Unknown Unknown.Varies)) = refl
+single-reduced t (Leaf (Part.Unknown Unknown.VariesInByte)) = refl
+single-reduced t (Prefix op a) = single_root (Prefix op (reduced t a)) _ refl
+single-reduced t (Infix op a b) = single_root (Infix op (reduced t a) (reduced t b)) _ refl
 
 difference-reduced : (t : Table) (op : Binary) (a b : Expression Part) → difference_of t op (root (reduced t a)) (root (reduced t b)) ≡ difference t op a b
 difference-reduced t Binary.Subtract a b =
-    ap (λ p. distance_of t p (ref_of (root (reduced t b)))) (ref-reduced t a) ∙ ap (distance_of t (single_place a)) (ref-reduced t b)
+    ap (λ p. distance_of t p (single_of (root (reduced t b)))) (single-reduced t a) ∙ ap (distance_of t (single a)) (single-reduced t b)
 difference-reduced t op a b = refl
 
 pub prefixed-reduced : (t : Table) (op : Unary) (a : Expression Part) → prefixed op (reduced t a) ≡ reduced t (Prefix op a)

@@ -80,24 +80,22 @@ leaf_guarded other Worth.Varies g = g
 leaf_guarded other Worth.Unknown g = tt
 leaf_guarded other (Worth.Number n) g = tt
 
-pub reduced_fixed : (t : Table) (e : Expression Part) (w : Worth) → worth t e ≡ w → reduced t e ≡ leaf_or (reduced t e) w
-reduced_fixed t (Leaf (Part.Number m)) w is = ap (leaf_or (Leaf (Part.Number m))) is
-reduced_fixed t (Leaf (Part.Ref r)) w is = ap (leaf_or (Leaf (Part.Ref r))) is
-reduced_fixed t (Leaf (Part.Unknown Unknown.Number)) w is = ap (leaf_or (Leaf (Part.Unknown Unknown.Number))) is
-reduced_fixed t (Leaf (Part.Unknown Unknown.Varies)) w is = ap (leaf_or (Leaf (Part.Unknown Unknown.Varies))) is
-reduced_fixed t (Leaf (Part.Unknown Unknown.VariesInByte)) w is = ap (leaf_or (Leaf (Part.Unknown Unknown.VariesInByte))) is
-reduced_fixed t (Prefix op a) w is = again (Prefix op (reduced t a)) _ ∙ ap (leaf_or (reduced t (Prefix op a))) is
-  where
-    again : (e : Expression Part) (w : Worth) → leaf_or e w ≡ leaf_or (leaf_or e w) w
-    again e (Worth.Number n) = refl
-    again e Worth.Unknown = refl
-    again e Worth.Varies = refl
-reduced_fixed t (Infix op a b) w is = again (Infix op (reduced t a) (reduced t b)) _ ∙ ap (leaf_or (reduced t (Infix op a b))) is
-  where
-    again : (e : Expression Part) (w : Worth) → leaf_or e w ≡ leaf_or (leaf_or e w) w
-    again e (Worth.Number n) = refl
-    again e Worth.Unknown = refl
-    again e Worth.Varies = refl
+pub reduced_number : (t : Table) (e : Expression Part) (n : ℕ) → worth t e ≡ Worth.Number n → reduced t e ≡ Leaf (Part.Number n)
+reduced_number t (Leaf (Part.Number m)) n is = let same : m ≡ n = cc in ap (λ k. Leaf (Part.Number k)) same
+reduced_number t (Leaf (Part.Ref r)) n is = cc
+reduced_number t (Leaf (Part.Unknown Unknown.Anything)) n is = cc
+reduced_number t (Leaf (Part.Unknown Unknown.Number)) n is = cc
+reduced_number t (Leaf (Part.Unknown Unknown.Varies)) n is = cc
+reduced_number t (Leaf (Part.Unknown Unknown.VariesInByte)) n is = cc
+reduced_number t (Prefix op a) n is = ap (leaf_or (Prefix op (reduced t a))) is
+reduced_number t (Infix op a b) n is = ap (leaf_or (Infix op (reduced t a) (reduced t b))) is
+
+pub reduced_unknown : (t : Table) (e : Expression Part) → worth t e ≡ Worth.Unknown → (what : Unknown) × (reduced t e ≡ Leaf (Part.Unknown what))
+reduced_unknown t (Leaf (Part.Number m)) is = cc
+reduced_unknown t (Leaf (Part.Ref r)) is = cc
+reduced_unknown t (Leaf (Part.Unknown what)) is = (what, refl)
+reduced_unknown t (Prefix op a) is = (Unknown.Number, ap (leaf_or (Prefix op (reduced t a))) is)
+reduced_unknown t (Infix op a b) is = (Unknown.Number, ap (leaf_or (Infix op (reduced t a) (reduced t b))) is)
 
 divides_by : (t : Table) (op : Binary) (b : Expression Part) → division_fault t op b ≡ None → (not (divides op) || is_safe (root (reduced t b))) ≡ true
 divides_by t op b none =
@@ -105,10 +103,10 @@ divides_by t op b none =
       | false ↦ λ _. refl
       | true ↦ λ e. elim (worth t b) as (λ o. worth t b ≡ o → divisor_fault o ≡ None → is_safe (root (reduced t b)) ≡ true) [
         | Worth.Varies ↦ λ _ bad. cc
-        | Worth.Unknown ↦ λ is _. ap (λ x. is_safe (root x)) (reduced_fixed t b Worth.Unknown is)
+        | Worth.Unknown ↦ λ is _. ap (λ x. is_safe (root x)) (reduced_unknown t b is).1
         | Worth.Number n ↦ λ was good. elim n as (λ m. worth t b ≡ Worth.Number m → divisor_fault (Worth.Number m) ≡ None → is_safe (root (reduced t b)) ≡ true) [
           | zero ↦ λ _ bad. cc
-          | suc m ↦ λ is _. ap (λ x. is_safe (root x)) (reduced_fixed t b (Worth.Number (suc m)) is)
+          | suc m ↦ λ is _. ap (λ x. is_safe (root x)) (reduced_number t b (suc m) is)
         ] was good
       ] refl e
     ] none

@@ -18,3 +18,5 @@ pub mod Answers
 pub mod Heads
 pub mod Offsets
 pub mod Equates
+pub mod Origins
+pub mod Anywhere

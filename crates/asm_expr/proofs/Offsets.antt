@@ -1,22 +1,24 @@
 -- What an operand says that begins at `$`.
-use Rattle.std.proofs.Common.{◌≡◌, ◌≢◌, ℕ, Bool, true, false, List, [], ◌∷◌, ◌++◌, Option, Some, None, Ok, Err, map, if◌then◌else◌, refl, sym, ap, ◌∙◌}
+use Rattle.std.proofs.Common.{◌≡◌, ◌≢◌, ℕ, nat_lt, length, Bool, true, false, List, [], ◌∷◌, ◌++◌, Option, Some, None, Ok, Err, map, if◌then◌else◌, refl, sym, ap, ◌∙◌}
 use Rattle.std.specs.List.{list_all, list_any}
 use Rattle.std.proofs.lemmas.Bool.{false≢true}
 use Rattle.asm_expr.specs.Types.{Binary, Item, Atom, ExprFault, Settled, Unknown, Worth}
 use Rattle.asm_expr.specs.declared.part.Part.{Part}
+use Rattle.asm_expr.specs.declared.single.Single.{Single}
 use Rattle.asm_expr.specs.declared.here.Offset.{Offset}
 use Rattle.asm_expr.specs.Arithmetic.{unary, binary}
 use Rattle.asm_parse.specs.Expression.{Expression, Leaf, Prefix, Infix, postfix}
 use Rattle.asm_parse.specs.Source.{Operand, Number, Name, Here}
 use Rattle.asm_expr.specs.Names.{Table, found}
-use Rattle.asm_expr.specs.Settling.{known_item, meant, replaced, single_place, distance_of, difference, or_else, through, both, worth, leaf_or, reduced, fault, is_constant_item}
+use Rattle.asm_expr.specs.Settling.{known, known_item, meant, replaced, single, distance_of, difference, or_else, through, both, worth, leaf_or, reduced, fault, is_constant_item}
 use Rattle.asm_expr.specs.Private.Answers.{IsSettled, is_unknown}
-use Rattle.asm_expr.specs.Private.Folding.{leaf_of}
 use Rattle.asm_expr.proofs.Constants.{steady}
 use Rattle.asm_expr.specs.Offsets.{behind, constant_behind, offset, IsOffset}
 use Rattle.asm_expr.specs.Private.Heads.{is_sum, IsFromHere, IsNotFromHere, numbered}
 use Rattle.asm_expr.proofs.Postfix.{one_expression}
-use Rattle.asm_expr.proofs.Guards.{reduced_fixed}
+use Rattle.asm_expr.proofs.Guards.{reduced_number, reduced_unknown}
+use Rattle.asm_expr.proofs.Fixed.{infix_known, leaf_unknown}
+use Rattle.asm_expr.proofs.Known.{object_tree}
 
 -- by the operator
 sum_offset : (t : Table) (op : Binary) (n : Expression Operand) → is_sum op ≡ true → offset t (Infix op (Leaf Here) n) ≡ constant_behind t op n
@@ -40,35 +42,56 @@ other t (Infix Binary.Add (Leaf Here) b) alone none = absurd (none Binary.Add b 
 other t (Infix Binary.Subtract (Leaf Here) b) alone none = absurd (none Binary.Subtract b refl refl)
 other t (Infix op a b) alone none = refl
 
--- What is fixed is no place.
-no_place : (t : Table) (e : Expression Part) → (worth t e ≡ Worth.Varies → ⊥) → single_place e ≡ None
-no_place t (Leaf (Part.Number n)) h = refl
-no_place t (Leaf (Part.Ref r)) h = absurd (h refl)
-no_place t (Leaf (Part.Unknown what)) h = refl
-no_place t (Prefix op a) h = refl
-no_place t (Infix op a b) h = refl
+-- A number is no place.
+pub no_place : (t : Table) (e : Expression Part) (m : ℕ) → worth t e ≡ Worth.Number m → single e ≡ Single.Other
+no_place t (Leaf (Part.Number n)) m is = refl
+no_place t (Leaf (Part.Ref r)) m is = cc
+no_place t (Leaf (Part.Unknown Unknown.Anything)) m is = cc
+no_place t (Leaf (Part.Unknown Unknown.Number)) m is = refl
+no_place t (Leaf (Part.Unknown Unknown.Varies)) m is = refl
+no_place t (Leaf (Part.Unknown Unknown.VariesInByte)) m is = refl
+no_place t (Prefix op a) m is = refl
+no_place t (Infix op a b) m is = refl
 
-no_difference : (t : Table) (op : Binary) (here : ℕ) (e : Expression Part) → single_place e ≡ None → difference t op (Leaf (Part.Ref here)) e ≡ Worth.Varies
-no_difference t Binary.Subtract here e none = ap (distance_of t (Some here)) none
+no_difference : (t : Table) (op : Binary) (here : ℕ) (e : Expression Part) → single e ≡ Single.Other → difference t op (Leaf (Part.Ref here)) e ≡ Worth.Varies
+no_difference t Binary.Subtract here e none = ap (distance_of t (Single.Place here)) none
 no_difference t op here e none = refl
 
-leaf_steady : (w : Worth) (p : Part) → leaf_of w ≡ Some p → w ≡ Worth.Varies → ⊥
-leaf_steady (Worth.Number n) p leaf e = cc
-leaf_steady Worth.Unknown p leaf e = cc
-leaf_steady Worth.Varies p leaf e = cc
+-- The whole, where n is a number.
+whole_is : (t : Table) (op : Binary) (n : Expression Operand) (m : ℕ) → worth t (replaced t n) ≡ Worth.Number m
+    → reduced t (replaced t (Infix op (Leaf Here) n)) ≡ Infix op (Leaf (Part.Ref t.here)) (Leaf (Part.Number m))
+whole_is t op n m is =
+    ap (λ d. leaf_or (Infix op (Leaf (Part.Ref t.here)) (reduced t (replaced t n))) (or_else d Worth.Varies)) (no_difference t op t.here (replaced t n) (no_place t (replaced t n) m is))
+    ∙ ap (Infix op (Leaf (Part.Ref t.here))) (reduced_number t (replaced t n) m is)
 
-leaf_is : (other : Expression Part) (w : Worth) (p : Part) → leaf_of w ≡ Some p → leaf_or other w ≡ Leaf p
-leaf_is other (Worth.Number n) p is = let same : Part.Number n ≡ p = cc in ap Leaf same
-leaf_is other Worth.Unknown p is = let same : Part.Unknown Unknown.Number ≡ p = cc in ap Leaf same
-leaf_is other Worth.Varies p is = cc
+-- What is not known lies behind no place by a number.
+some_place : (t : Table) (p : ℕ) (op : Binary) (e : Expression Part) (m : ℕ) → worth t e ≡ Worth.Unknown → or_else (difference t op (Leaf (Part.Ref p)) e) Worth.Varies ≡ Worth.Number m → ⊥
+some_place t p Binary.Subtract (Leaf (Part.Number n)) m is bad = cc
+some_place t p Binary.Subtract (Leaf (Part.Ref r)) m is bad = cc
+some_place t p Binary.Subtract (Leaf (Part.Unknown Unknown.Anything)) m is bad =
+    elim (nat_lt (length t.statements) p) as (λ past. or_else (if past then Worth.Varies else Worth.Unknown) Worth.Varies ≡ Worth.Number m → ⊥) [
+      | true ↦ λ no. cc
+      | false ↦ λ no. cc
+    ] bad
+some_place t p Binary.Subtract (Leaf (Part.Unknown Unknown.Number)) m is bad = cc
+some_place t p Binary.Subtract (Leaf (Part.Unknown Unknown.Varies)) m is bad = cc
+some_place t p Binary.Subtract (Leaf (Part.Unknown Unknown.VariesInByte)) m is bad = cc
+some_place t p Binary.Subtract (Prefix u a) m is bad = cc
+some_place t p Binary.Subtract (Infix o a b) m is bad = cc
+some_place t p op e m is bad = cc
 
--- The whole, where n is fixed.
-whole_is : (t : Table) (op : Binary) (n : Expression Operand) (w : Worth) (p : Part) → worth t (replaced t n) ≡ w → leaf_of w ≡ Some p
-    → reduced t (replaced t (Infix op (Leaf Here) n)) ≡ Infix op (Leaf (Part.Ref t.here)) (Leaf p)
-whole_is t op n w p is leaf =
-    let none = no_place t (replaced t n) (λ varies. leaf_steady w p leaf (sym is ∙ varies)) in
-    ap (λ d. leaf_or (Infix op (Leaf (Part.Ref t.here)) (reduced t (replaced t n))) (or_else d Worth.Varies)) (no_difference t op t.here (replaced t n) none)
-    ∙ ap (Infix op (Leaf (Part.Ref t.here))) (reduced_fixed t (replaced t n) w is ∙ leaf_is (reduced t (replaced t n)) w p leaf)
+-- The whole is not known where n is not.
+whole_unknown : (t : Table) (op : Binary) (e : Expression Part) (x : Expression Atom) → worth t e ≡ Worth.Unknown → reduced t (Infix op (Leaf (Part.Ref t.here)) e) ≡ known x → ⊥
+whole_unknown t op e x is made =
+    let d = difference t op (Leaf (Part.Ref t.here)) e in
+    elim (or_else d Worth.Varies) as (λ w. or_else d Worth.Varies ≡ w → leaf_or (Infix op (Leaf (Part.Ref t.here)) (reduced t e)) w ≡ known x → ⊥) [
+      | Worth.Number m ↦ λ was _. some_place t t.here op e m is was
+      | Worth.Unknown ↦ λ _ bad. leaf_unknown x Unknown.Number (sym bad)
+      | Worth.Varies ↦ λ _ good.
+          let p = infix_known x op (Leaf (Part.Ref t.here)) (reduced t e) (sym good) in
+          let u = reduced_unknown t e is in
+          leaf_unknown p.1 u.0 (sym p.4 ∙ u.1)
+    ] refl made
 
 -- The items of the whole, where they are known.
 number_item : (x : Item Atom) (m : ℕ) → known_item x ≡ Item.Leaf (Part.Number m) → x ≡ Item.Leaf (Atom.Number m)
@@ -77,23 +100,12 @@ number_item (Item.Leaf (Atom.Ref r)) m e = cc
 number_item (Item.Unary op) m e = cc
 number_item (Item.Binary op) m e = cc
 
-unknown_item : (x : Item Atom) → known_item x ≡ Item.Leaf (Part.Unknown Unknown.Number) → ⊥
-unknown_item (Item.Leaf (Atom.Number n)) e = cc
-unknown_item (Item.Leaf (Atom.Ref r)) e = cc
-unknown_item (Item.Unary op) e = cc
-unknown_item (Item.Binary op) e = cc
-
 three_number : (op : Binary) (items : List (Item Atom)) (x z : Item Part) (m : ℕ) → map known_item items ≡ x ∷ Item.Leaf (Part.Number m) ∷ z ∷ [] → numbered op items ≡ Offset.Number (binary op 0 m)
 three_number op (a ∷ b ∷ c ∷ []) x z m e = let second : known_item b ≡ Item.Leaf (Part.Number m) = cc in ap (λ y. numbered op (a ∷ y ∷ c ∷ [])) (number_item b m second)
 three_number op [] x z m e = cc
 three_number op (a ∷ []) x z m e = cc
 three_number op (a ∷ b ∷ []) x z m e = cc
 three_number op (a ∷ b ∷ c ∷ d ∷ more) x z m e = cc
-
-three_unknown : (items : List (Item Atom)) (x z : Item Part) → map known_item items ≡ x ∷ Item.Leaf (Part.Unknown Unknown.Number) ∷ z ∷ [] → ⊥
-three_unknown [] x z e = cc
-three_unknown (a ∷ []) x z e = cc
-three_unknown (a ∷ b ∷ more) x z e = let second : known_item b ≡ Item.Leaf (Part.Unknown Unknown.Number) = cc in unknown_item b second
 
 -- What is found of an operand, put together.
 pub record Begins (e : Expression Operand) (op : Binary) (n : List (Item Operand)) : Type 0 where
@@ -133,7 +145,7 @@ unknown t e op n b all some =
     constant_says t e op n b all ∙ elim (worth t (replaced t b.tree)) as (λ w. worth t (replaced t b.tree) ≡ w → behind op w ≡ Offset.Unknown) [
       | Worth.Number m ↦ λ is.
           let none : list_any is_unknown (postfix (reduced t (replaced t e))) ≡ false =
-          ap (λ x. list_any is_unknown (postfix (reduced t (replaced t x)))) b.whole ∙ ap (λ x. list_any is_unknown (postfix x)) (whole_is t op b.tree (Worth.Number m) (Part.Number m) is refl) in
+          ap (λ x. list_any is_unknown (postfix (reduced t (replaced t x)))) b.whole ∙ ap (λ x. list_any is_unknown (postfix x)) (whole_is t op b.tree m is) in
           absurd (false≢true (sym none ∙ some))
       | Worth.Unknown ↦ λ _. refl
       | Worth.Varies ↦ λ _. refl
@@ -144,8 +156,10 @@ pub number : (t : Table) (e : Expression Operand) (op : Binary) (n : List (Item 
 number t e op n items b all made =
     let whole : map known_item items ≡ postfix (reduced t (replaced t (Infix op (Leaf Here) b.tree))) = made ∙ ap (λ x. postfix (reduced t (replaced t x))) b.whole in
     constant_says t e op n b all ∙ elim (worth t (replaced t b.tree)) as (λ w. worth t (replaced t b.tree) ≡ w → behind op w ≡ numbered op items) [
-      | Worth.Number m ↦ λ is. sym (three_number op items _ _ m (whole ∙ ap postfix (whole_is t op b.tree (Worth.Number m) (Part.Number m) is refl)))
-      | Worth.Unknown ↦ λ is. absurd (three_unknown items _ _ (whole ∙ ap postfix (whole_is t op b.tree Worth.Unknown (Part.Unknown Unknown.Number) is refl)))
+      | Worth.Number m ↦ λ is. sym (three_number op items _ _ m (whole ∙ ap postfix (whole_is t op b.tree m is)))
+      | Worth.Unknown ↦ λ is.
+          let object = object_tree items (reduced t (replaced t (Infix op (Leaf Here) b.tree))) whole in
+          absurd (whole_unknown t op (replaced t b.tree) object.0 is object.1)
       | Worth.Varies ↦ λ is. absurd (steady t b.tree (ap (list_all (is_constant_item t)) b.spelled ∙ all) is)
     ] refl
 

@@ -3,12 +3,13 @@ use Rattle.std.proofs.Common.{◌≡◌, ◌≤◌, ℕ, ◌-◌, List, [], ◌�
 use Rattle.std.proofs.Math.Seq.{take-append_seam}
 use Rattle.asm_expr.specs.Types.{Unary, Binary, Item, ExprFault, Unknown, Worth}
 use Rattle.asm_expr.specs.declared.part.Part.{Part}
+use Rattle.asm_expr.specs.declared.single.Single.{Single}
 use Rattle.asm_expr.specs.Arithmetic.{binary}
 use Rattle.asm_parse.specs.Expression.{Expression, Leaf, Prefix, Infix, postfix}
 use Rattle.asm_expr.specs.Postfix.{spread}
 use Rattle.asm_expr.specs.Names.{Table}
 use Rattle.asm_expr.specs.Settling.{distance_of, or_else, both, leaf_or}
-use Rattle.asm_expr.specs.Private.Folding.{root, worth_of, ref_of, leaf_of, folded_unary, folded_binary, fold_one, prefixed, joined, Folds}
+use Rattle.asm_expr.specs.Private.Folding.{root, worth_of, single_of, leaf_of, folded_unary, folded_binary, fold_one, prefixed, joined, Folds}
 
 -- what stands before the last item
 pub front : Expression Part → List (Item Part)
@@ -89,21 +90,22 @@ both_varies f (Worth.Number n) = refl
 both_varies f Worth.Unknown = refl
 both_varies f Worth.Varies = refl
 
-distance_none : (t : Table) (o : Option ℕ) → distance_of t o None ≡ Worth.Varies
-distance_none t None = refl
-distance_none t (Some n) = refl
+distance_none : (t : Table) (o : Single) → distance_of t o Single.Other ≡ Worth.Varies
+distance_none t (Single.Place p) = refl
+distance_none t Single.Anything = refl
+distance_none t Single.Other = refl
 
 -- An operand that is no leaf makes no leaf.
-right_operator : (t : Table) (op : Binary) (x y : Item Part) → worth_of y ≡ Worth.Varies → ref_of y ≡ None → folded_binary t op x y ≡ Worth.Varies
+right_operator : (t : Table) (op : Binary) (x y : Item Part) → worth_of y ≡ Worth.Varies → single_of y ≡ Single.Other → folded_binary t op x y ≡ Worth.Varies
 right_operator t Binary.Subtract x y varies ref =
-    ap (λ o. or_else (distance_of t (ref_of x) o) (both (binary Binary.Subtract) (worth_of x) (worth_of y))) ref
-    ∙ ap (λ o. or_else o (both (binary Binary.Subtract) (worth_of x) (worth_of y))) (distance_none t (ref_of x))
+    ap (λ o. or_else (distance_of t (single_of x) o) (both (binary Binary.Subtract) (worth_of x) (worth_of y))) ref
+    ∙ ap (λ o. or_else o (both (binary Binary.Subtract) (worth_of x) (worth_of y))) (distance_none t (single_of x))
     ∙ ap (both (binary Binary.Subtract) (worth_of x)) varies ∙ both_varies (binary Binary.Subtract) (worth_of x)
 right_operator t op x y varies ref = ap (both (binary op) (worth_of x)) varies ∙ both_varies (binary op) (worth_of x)
 
-left_operator : (t : Table) (op : Binary) (x y : Item Part) → worth_of x ≡ Worth.Varies → ref_of x ≡ None → folded_binary t op x y ≡ Worth.Varies
+left_operator : (t : Table) (op : Binary) (x y : Item Part) → worth_of x ≡ Worth.Varies → single_of x ≡ Single.Other → folded_binary t op x y ≡ Worth.Varies
 left_operator t Binary.Subtract x y varies ref =
-    ap (λ o. or_else (distance_of t o (ref_of y)) (both (binary Binary.Subtract) (worth_of x) (worth_of y))) ref
+    ap (λ o. or_else (distance_of t o (single_of y)) (both (binary Binary.Subtract) (worth_of x) (worth_of y))) ref
     ∙ ap (λ o. both (binary Binary.Subtract) o (worth_of y)) varies
 left_operator t op x y varies ref = ap (λ o. both (binary op) o (worth_of y)) varies
 

@@ -2,11 +2,11 @@
 use Rattle.std.proofs.Common.{◌≡◌, ℕ, ◌+◌, ◌≤◌, ◌<◌, List, [], ◌∷◌, ◌++◌, Option, Some, None, Result, Ok, Err, length, map, if◌then◌else◌, drop, get_or, refl, sym, ap, ◌∙◌, arith, length-append}
 use Rattle.std.proofs.lemmas.List.{at_drop_more, at_drop_all, length-map}
 use Rattle.std.proofs.lemmas.Bool.{lt-ltb, le-ltb}
-use Rattle.asm_expr.specs.Types.{Item, Atom, ExprFault, Unknown, Worth}
+use Rattle.asm_expr.specs.Types.{Item, Atom, ExprFault, Settled, Unknown, Worth}
 use Rattle.asm_expr.specs.declared.part.Part.{Part}
 use Rattle.asm_parse.specs.Expression.{Expression, Leaf, Prefix, Infix, postfix}
 use Rattle.asm_expr.specs.Postfix.{spread, put, run, only, tree}
-use Rattle.asm_expr.specs.Names.{AreCounted, IsCounted, Table, found}
+use Rattle.asm_expr.specs.Names.{AreCounted, IsCounted, Table, found, items_of}
 use Rattle.asm_words.specs.Results.{◌>>=◌}
 use Rattle.asm_expr.specs.declared.meaning.Meaning.{Meaning}
 use Rattle.asm_parse.specs.declared.item.Term.{Term}
@@ -14,11 +14,11 @@ use Rattle.std.proofs.Math.ListN.{get_or-map}
 use Rattle.asm_expr.specs.Items.{value}
 use Rattle.asm_parse.specs.Source.{Operand, Number, Name, Here, IsSource, source_item}
 use Rattle.asm_expr.specs.Postfix.{source}
-use Rattle.asm_expr.specs.Settling.{stands_for, meant, size_meant, size, known, known_item, replaced, reduced, worth, divisions_fault, too_large, fault, IsWorth}
+use Rattle.asm_expr.specs.Settling.{stands_for, standing, meant, size_meant, size, known, known_item, replaced, reduced, worth, divisions_fault, too_large, fault, IsWorth}
 use Rattle.asm_expr.specs.Private.Folding.{root, worth_of, item_fault, unless, fold_one, fold_all, joined, prefixed, Folds, IsReduced, items_for, item_size, settling}
 use Rattle.asm_expr.specs.Private.Steps.{arity}
 use Rattle.asm_expr.proofs.Folds.{fold-whole, settling-whole, worth-reduced}
-use Rattle.asm_expr.proofs.Guards.{positive, reduced_shorter, reduced_fixed, small, sound, guarded_postfix, guarded_reduced}
+use Rattle.asm_expr.proofs.Guards.{positive, reduced_shorter, reduced_number, reduced_unknown, small, sound, guarded_postfix, guarded_reduced}
 use Rattle.asm_expr.proofs.Fixed.{leaf_unknown, same}
 use Rattle.asm_expr.proofs.Constants.{steady}
 use Rattle.asm_expr.proofs.Known.{object_tree, known-postfix}
@@ -219,17 +219,23 @@ tree_short items n some h =
       | Some (e ∷ f ∷ more) ↦ λ _. some
     ] refl
 
+standing_short : (s : Settled) (n : ℕ) → 1 ≤ n → items_of s ≤ n → length (postfix (standing s)) ≤ n
+standing_short (Settled.Known items) n some few =
+    omega (arith, tree_short items n some few, ap length (known-postfix (tree items)), length-map (postfix (tree items)) known_item)
+standing_short (Settled.Unknown what) n some few = some
+
 meant_short : (m : Option Meaning) → ((what : Meaning) → m ≡ Some what → IsCounted what) → length (postfix (meant m)) ≤ size_meant m
 meant_short None counted = omega arith
 meant_short (Some (Meaning.Label s)) counted = omega arith
 meant_short (Some (Meaning.External r)) counted = omega arith
 meant_short (Some (Meaning.Constant n)) counted = omega arith
-meant_short (Some (Meaning.Unknown what)) counted = omega arith
+meant_short (Some Meaning.UnknownConstant) counted = omega arith
+meant_short (Some Meaning.Faulty) counted = omega arith
 meant_short (Some (Meaning.Equ equated)) counted =
     let c = counted (Meaning.Equ equated) refl in
-    omega (arith, tree_short equated.expr equated.size c.0 c.1, ap length (known-postfix (tree equated.expr)), length-map (postfix (tree equated.expr)) known_item)
+    standing_short equated.settled equated.size c.0 c.1
 
-replaced_short : (t : Table) → AreCounted t → (e : Expression Operand) → length (postfix (replaced t e)) ≤ size t e
+pub replaced_short : (t : Table) → AreCounted t → (e : Expression Operand) → length (postfix (replaced t e)) ≤ size t e
 replaced_short t counted (Leaf (Number n)) = omega arith
 replaced_short t counted (Leaf (Name name)) = meant_short (found t name) (counted name)
 replaced_short t counted (Leaf Here) = omega arith
@@ -244,14 +250,14 @@ leaf_known (Infix op a b) n is = cc
 
 one_item : (t : Table) (e : Expression Operand) (out : List (Item Atom)) (object : Expression Atom) (n : ℕ) → reduced t (replaced t e) ≡ known object → postfix object ≡ out → worth t (replaced t e) ≡ Worth.Number n
     → out ≡ Item.Leaf (Atom.Number n) ∷ []
-one_item t e out object n is spelled f = sym spelled ∙ leaf_known object n (sym (reduced_fixed t (replaced t e) (Worth.Number n) f) ∙ is)
+one_item t e out object n is spelled f = sym spelled ∙ leaf_known object n (sym (reduced_number t (replaced t e) n f) ∙ is)
 
 constant_number : (t : Table) (e : Expression Operand) (out : List (Item Atom)) (object : Expression Atom) → ((n : ℕ) → worth t (replaced t e) ≡ Worth.Number n → out ≡ Item.Leaf (Atom.Number n) ∷ [])
     → reduced t (replaced t e) ≡ known object → (worth t (replaced t e) ≡ Worth.Varies → ⊥) → (n : ℕ) × (out ≡ Item.Leaf (Atom.Number n) ∷ [])
 constant_number t e out object one is fixed =
     elim (worth t (replaced t e)) as (λ w. worth t (replaced t e) ≡ w → (n : ℕ) × (out ≡ Item.Leaf (Atom.Number n) ∷ [])) [
       | Worth.Number n ↦ λ was. (n, one n was)
-      | Worth.Unknown ↦ λ was. absurd (leaf_unknown object Unknown.Number (sym is ∙ reduced_fixed t (replaced t e) Worth.Unknown was))
+      | Worth.Unknown ↦ λ was. let u = reduced_unknown t (replaced t e) was in absurd (leaf_unknown object u.0 (sym is ∙ u.1))
       | Worth.Varies ↦ λ was. absurd (fixed was)
     ] refl
 

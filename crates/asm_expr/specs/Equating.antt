@@ -7,17 +7,21 @@ use Rattle.asm_parse.specs.Expression.{Expression, postfix}
 use Rattle.asm_parse.specs.Source.{Operand}
 use Rattle.asm_expr.specs.declared.answer.Settled.{Settled}
 use Rattle.asm_expr.specs.declared.meaning.Meaning.{Meaning}
+use Rattle.asm_expr.specs.declared.unknown.Unknown.{Unknown}
 use Rattle.asm_expr.specs.Items.{value}
 use Rattle.asm_expr.specs.Names.{Table}
 use Rattle.asm_expr.specs.Postfix.{tree}
 use Rattle.asm_expr.specs.Settling.{is_constant_item, settled, size}
 
--- Where no place and no external stands in it, its value, which is the same at any places; else its items, and how many terms and
+-- Where no place and no external stands in it, its value, which is the same at any places; else what it is, and how many terms and
 -- operators it stands for.
+abbrev pub constant_of : Settled → Meaning
+constant_of (Settled.Known items) = Meaning.Constant (value (λ r. 0) (tree items))
+constant_of (Settled.Unknown Unknown.Anything) = Meaning.Faulty
+constant_of (Settled.Unknown what) = Meaning.UnknownConstant
+
 abbrev pub meaning_of : Table → Expression Operand → Settled → Meaning
-meaning_of t e (Settled.Known items) =
-    if list_all (is_constant_item t) (postfix e) then Meaning.Constant (value (λ r. 0) (tree items)) else Meaning.Equ (record { expr = items; size = size t e })
-meaning_of t e (Settled.Unknown what) = Meaning.Unknown what
+meaning_of t e s = if list_all (is_constant_item t) (postfix e) then constant_of s else Meaning.Equ (record { settled = s; size = size t e })
 
 -- What a name stands for whose EQU has this expression; or the expression's first fault.
 abbrev pub equated : Table → Expression Operand → Result Meaning ExprFault

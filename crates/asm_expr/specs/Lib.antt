@@ -6,5 +6,6 @@ pub mod Distances
 pub mod Names
 pub mod Settling
 pub mod Equating
+pub mod Origins
 pub mod Offsets
 pub mod Private

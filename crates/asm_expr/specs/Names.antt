@@ -2,6 +2,7 @@
 use Rattle.std.specs.Prelude.{◌≡◌, ◌≤◌, ℕ, List, [], ◌∷◌, ◌++◌, Option, Some, length}
 use Rattle.std.specs.Map.{lookup}
 use Rattle.std.specs.Str.{bytes_eq}
+use Rattle.asm_expr.specs.declared.answer.Settled.{Settled}
 use Rattle.asm_expr.specs.declared.meaning.Meaning.{Meaning}
 use Rattle.asm_expr.specs.declared.statement.Statement.{Statement}
 
@@ -24,9 +25,14 @@ with_meaning name what t = record t { entries = t.entries ++ (name, what) ∷ []
 abbrev pub with_statement : Statement → Table → Table
 with_statement statement t = record t { statements = t.statements ++ statement ∷ [] }
 
+-- how many items an expression has; one without a value counts as one
+abbrev pub items_of : Settled → ℕ
+items_of (Settled.Known items) = length items
+items_of (Settled.Unknown what) = 1
+
 -- An EQU name's expression stands for as many terms and operators as it has items, at least, and for one.
 abbrev pub IsCounted : Meaning → Type 0
-IsCounted (Meaning.Equ equated) = (1 ≤ equated.size) × (length equated.expr ≤ equated.size)
+IsCounted (Meaning.Equ equated) = (1 ≤ equated.size) × (items_of equated.settled ≤ equated.size)
 IsCounted _ = Unit {0}
 
 -- Each name's does.

@@ -9,6 +9,7 @@ use Rattle.asm_parse.specs.declared.item.Item.{Item}
 use Rattle.asm_expr.specs.declared.atom.Atom.{Atom}
 use Rattle.asm_expr.specs.declared.answer.Settled.{Settled}
 use Rattle.asm_expr.specs.declared.part.Part.{Part}
+use Rattle.asm_expr.specs.declared.single.Single.{Single}
 use Rattle.asm_expr.specs.declared.unknown.Unknown.{Unknown}
 use Rattle.asm_expr.specs.declared.meaning.Meaning.{Meaning}
 use Rattle.asm_expr.specs.declared.worth.Worth.{Worth}
@@ -19,7 +20,7 @@ use Rattle.asm_parse.specs.Expression.{Expression, Leaf, Prefix, Infix, postfix,
 use Rattle.asm_expr.specs.Postfix.{tree}
 use Rattle.asm_parse.specs.Source.{Operand, Number, Name, Here}
 use Rattle.asm_expr.specs.Items.{IsExpr, value}
-use Rattle.asm_expr.specs.Distances.{distance, Step}
+use Rattle.asm_expr.specs.Distances.{distance, some_distance, Step}
 use Rattle.asm_expr.specs.Names.{Table, found}
 
 -- What is settled has one leaf more than an object: what has no value.
@@ -37,14 +38,19 @@ known_item (Item.Leaf atom) = Item.Leaf (part atom)
 known_item (Item.Unary op) = Item.Unary op
 known_item (Item.Binary op) = Item.Binary op
 
+abbrev pub standing : Settled → Expression Part
+standing (Settled.Known items) = known (tree items)
+standing (Settled.Unknown what) = Leaf (Part.Unknown what)
+
 -- Names are replaced by what they stand for. (That a name stands for something is the caller's to see to.)
 abbrev pub meant : Option Meaning → Expression Part
 meant (Some (Meaning.Label statement)) = Leaf (Part.Ref statement)
 meant (Some (Meaning.External ref)) = Leaf (Part.Ref ref)
 meant (Some (Meaning.Constant n)) = Leaf (Part.Number n)
-meant (Some (Meaning.Equ equated)) = known (tree equated.expr)
-meant (Some (Meaning.Unknown what)) = Leaf (Part.Unknown what)
-meant None = Leaf (Part.Unknown Unknown.Number)
+meant (Some Meaning.UnknownConstant) = Leaf (Part.Unknown Unknown.Number)
+meant (Some (Meaning.Equ equated)) = standing equated.settled
+meant (Some Meaning.Faulty) = Leaf (Part.Unknown Unknown.Anything)
+meant None = Leaf (Part.Unknown Unknown.Anything)
 
 abbrev pub stands_for : Table → Operand → Expression Part
 stands_for t (Number n) = Leaf (Part.Number n)
@@ -70,18 +76,21 @@ size t (Leaf operand) = size_of t operand
 size t (Prefix op a) = size t a + 1
 size t (Infix op a b) = (size t a + size t b) + 1
 
--- An expression that is one place.
-abbrev pub single_place : Expression Part → Option ℕ
-single_place (Leaf (Part.Ref r)) = Some r
-single_place _ = None
+-- An expression that is one place, or may be one.
+abbrev pub single : Expression Part → Single
+single (Leaf (Part.Ref r)) = Single.Place r
+single (Leaf (Part.Unknown Unknown.Anything)) = Single.Anything
+single _ = Single.Other
 
-abbrev pub distance_of : Table → Option ℕ → Option ℕ → Worth
-distance_of t (Some p) (Some q) = distance t.statements p q
+abbrev pub distance_of : Table → Single → Single → Worth
+distance_of t (Single.Place p) (Single.Place q) = distance t.statements p q
+distance_of t (Single.Place p) Single.Anything = some_distance t.statements p
+distance_of t Single.Anything (Single.Place q) = some_distance t.statements q
 distance_of t _ _ = Worth.Varies
 
 -- What a difference of two single places is: their distance. It varies for any other operator and operands.
 abbrev pub difference : Table → Binary → Expression Part → Expression Part → Worth
-difference t Binary.Subtract a b = distance_of t (single_place a) (single_place b)
+difference t Binary.Subtract a b = distance_of t (single a) (single b)
 difference t _ a b = Worth.Varies
 
 abbrev pub or_else : Worth → Worth → Worth
@@ -100,6 +109,7 @@ both f Worth.Unknown _ = Worth.Unknown
 both f Worth.Varies other = Worth.Varies
 
 abbrev pub worth_unknown : Unknown → Worth
+worth_unknown Unknown.Anything = Worth.Unknown
 worth_unknown Unknown.Number = Worth.Unknown
 worth_unknown Unknown.Varies = Worth.Varies
 worth_unknown Unknown.VariesInByte = Worth.Varies
@@ -194,10 +204,11 @@ abbrev pub settled : Table → Expression Operand → Result Settled ExprFault
 settled t e = let r = reduced t (replaced t e) in unless_fault (fault t e) (settled_as (items_known (postfix r)) (unknown_of r))
 
 -- An item stands for no place and no external. (An EQU name that is not constant stands for one at least. Nothing is
--- said against one that has no value, but that it may vary.)
+-- said against one whose own line is faulty.)
 abbrev pub is_constant_name : Option Meaning → Bool
 is_constant_name (Some (Meaning.Constant n)) = true
-is_constant_name (Some (Meaning.Unknown Unknown.Number)) = true
+is_constant_name (Some Meaning.UnknownConstant) = true
+is_constant_name (Some Meaning.Faulty) = true
 is_constant_name _ = false
 
 abbrev pub is_constant_item : Table → Item Operand → Bool

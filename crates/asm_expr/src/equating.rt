@@ -12,6 +12,7 @@ use crate::answer::{Settled, settle};
 use crate::expr::constant;
 use crate::meaning::{Equated, Meaning};
 use crate::names::Names;
+use crate::unknown::Unknown;
 use crate::weigh::{is_constant, size};
 use asm_parse::{ExprFault, Tree};
 use std::alloc::Global;
@@ -26,16 +27,19 @@ pub fn equate(alloc: Global, parsed: &Tree, names: &Names) -> Result<Meaning, Ex
     ensures equated { (result ≡ equated names.now (source parsed.now)) ⊎ (result ≡ Err ExprFault.NoMemory) }
     ensures counted { IfOk result IsCounted }
 {
-    let expr = match settle(alloc, parsed, names)? {
-        Settled::Known(expr) => expr,
-        Settled::Unknown(what) => return Ok(Meaning::Unknown(what)),
-    };
+    // Called for what it says of the table: an expression stands for one term or operator at least.
+    names.counted();
+    let settled = settle(alloc, parsed, names)?;
     if !is_constant(parsed, names) {
         let size = size(parsed, names);
-        return Ok(Meaning::Equ(Equated { expr, size }));
+        return Ok(Meaning::Equ(Equated { settled, size }));
     }
-    match constant(&expr) {
-        Some(n) => Ok(Meaning::Constant(n)),
-        None => unreachable!(),
+    match settled {
+        Settled::Known(expr) => match constant(&expr) {
+            Some(n) => Ok(Meaning::Constant(n)),
+            None => unreachable!(),
+        },
+        Settled::Unknown(Unknown::Anything) => Ok(Meaning::Faulty),
+        Settled::Unknown(_) => Ok(Meaning::UnknownConstant),
     }
 }

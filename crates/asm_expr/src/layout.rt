@@ -2,7 +2,7 @@
 
 ghost use Rattle.std.specs.Prelude.{◌≡◌, ◌++◌, ◌∷◌, [], List, OnOk, OnErr, MatchOption, ◌<◌, ◌≤◌, length, take};
 ghost use Rattle.asm_expr.specs.declared.statement.Statement.{Statement};
-ghost use Rattle.asm_expr.specs.Distances.{distance};
+ghost use Rattle.asm_expr.specs.Distances.{distance, some_distance};
 ghost use Rattle.asm_expr.specs.Private.Sums.{IsBefore, gap};
 
 use crate::statement::Statement;
@@ -109,6 +109,17 @@ impl Layout {
         match (self.before(p), self.before(q)) {
             (Some(p), Some(q)) => gap(p, q),
             _ => Worth::Varies,
+        }
+    }
+
+    /// How far a statement lies from a place that is not known.
+    pub(crate) fn some_distance(&self, p: u16) -> Worth
+        ensures { result ≡ some_distance self.now p }
+    {
+        if self.passed.len() < usize::from(p) {
+            Worth::Varies
+        } else {
+            Worth::Unknown
         }
     }
 }

@@ -14,6 +14,7 @@ mod names;
 mod part;
 mod parts;
 mod reduction;
+mod single;
 mod statement;
 mod unknown;
 mod weigh;

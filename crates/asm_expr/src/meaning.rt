@@ -1,12 +1,11 @@
 //! What a name stands for.
 
-use crate::expr::Expr;
-use crate::unknown::Unknown;
+use crate::answer::Settled;
 
-/// An EQU name's expression, and how many terms and operators it stands for.
+/// What an EQU's expression is, and how many terms and operators it stands for.
 #[derive(Debug, Drop)]
 pub struct Equated {
-    pub expr: Expr,
+    pub settled: Settled,
     pub size: u16,
 }
 
@@ -19,8 +18,10 @@ pub enum Meaning {
     External(u16),
     /// The value of an EQU's constant expression.
     Constant(u16),
+    /// The value of such an expression, which is not known, since the line of a name in it is faulty.
+    UnknownConstant,
     /// Any other EQU's expression.
     Equ(Equated),
-    /// What has no value, since a line that gives it is faulty.
-    Unknown(Unknown),
+    /// Anything, since the name's own line is faulty.
+    Faulty,
 }

@@ -2,7 +2,7 @@
 
 ghost use Rattle.std.specs.Prelude.{◌≡◌, None, OnOk, OnErr, option_copied};
 ghost use Rattle.asm_expr.specs.declared.statement.Statement.{Statement};
-ghost use Rattle.asm_expr.specs.Distances.{distance};
+ghost use Rattle.asm_expr.specs.Distances.{distance, some_distance};
 ghost use Rattle.asm_expr.specs.Names.{AreCounted, IsCounted, empty, found, with_meaning, with_statement};
 
 use crate::layout::Layout;
@@ -114,5 +114,12 @@ impl Names {
         ensures { result ≡ distance self.now.statements p q }
     {
         self.statements.distance(p, q)
+    }
+
+    /// How far a statement lies from a place that is not known.
+    pub(crate) fn some_distance(&self, p: u16) -> Worth
+        ensures { result ≡ some_distance self.now.statements p }
+    {
+        self.statements.some_distance(p)
     }
 }

@@ -7,12 +7,13 @@ ghost use Rattle.asm_parse.specs.declared.item.Item.{Item};
 ghost use Rattle.asm_parse.specs.Expression.{Expression, Leaf, postfix};
 ghost use Rattle.asm_expr.specs.Postfix.{source, spread, tree};
 ghost use Rattle.asm_parse.specs.Source.{operand, source_item};
-ghost use Rattle.asm_expr.specs.Names.{AreCounted};
+ghost use Rattle.asm_expr.specs.Names.{AreCounted, items_of};
 ghost use Rattle.asm_expr.specs.Arithmetic.{binary};
-ghost use Rattle.asm_expr.specs.Settling.{both, is_known, known_item, size_of};
+ghost use Rattle.asm_expr.specs.Settling.{both, distance_of, is_known, known_item, size_of, standing};
 ghost use Rattle.asm_expr.specs.Private.Steps.{arity};
-ghost use Rattle.asm_expr.specs.Private.Folding.{Folds, IsReduced, difference_of, fold_all, fold_one, folded_binary, folded_unary, item_fault, item_size, items_for, leaf_of, prefixed, ref_of, worth_of};
+ghost use Rattle.asm_expr.specs.Private.Folding.{Folds, IsReduced, difference_of, fold_all, fold_one, folded_binary, folded_unary, item_fault, item_size, items_for, leaf_of, prefixed, single_of, worth_of};
 
+use crate::answer::Settled;
 use crate::arithmetic::{apply_binary, apply_unary};
 use crate::atom::Atom;
 use crate::expr::{Expr, MOST_ITEMS, items};
@@ -20,6 +21,7 @@ use crate::meaning::Meaning;
 use crate::names::Names;
 use crate::part::Part;
 use crate::parts::Parts;
+use crate::single::Single;
 use crate::unknown::Unknown;
 use crate::weigh::item_size;
 use crate::worth::Worth;
@@ -30,17 +32,30 @@ fn worth_of(item: &Item<Part>) -> Worth
 {
     match item {
         Item::Leaf(Part::Number(n)) => Worth::Number(*n),
-        Item::Leaf(Part::Unknown(Unknown::Number)) => Worth::Unknown,
+        Item::Leaf(Part::Unknown(Unknown::Anything | Unknown::Number)) => Worth::Unknown,
         _ => Worth::Varies,
     }
 }
 
-fn ref_of(item: &Item<Part>) -> Option<u16>
-    ensures { result ≡ ref_of item.now }
+fn single_of(item: &Item<Part>) -> Single
+    ensures { result ≡ single_of item.now }
 {
     match item {
-        Item::Leaf(Part::Ref(r)) => Some(*r),
-        _ => None,
+        Item::Leaf(Part::Ref(r)) => Single::Place(*r),
+        Item::Leaf(Part::Unknown(Unknown::Anything)) => Single::Anything,
+        _ => Single::Other,
+    }
+}
+
+/// The difference of two operands, as far as it is the distance of two places.
+fn distance_of(names: &Names, x: Single, y: Single) -> Worth
+    ensures { result ≡ distance_of names.now x y }
+{
+    match (x, y) {
+        (Single::Place(p), Single::Place(q)) => names.distance(p, q),
+        (Single::Place(p), Single::Anything) | (Single::Anything, Single::Place(p)) =>
+            names.some_distance(p),
+        _ => Worth::Varies,
     }
 }
 
@@ -70,10 +85,7 @@ fn difference_of(names: &Names, op: Binary, x: &Item<Part>, y: &Item<Part>) -> W
     ensures { result ≡ difference_of names.now op x.now y.now }
 {
     match op {
-        Binary::Subtract => match (ref_of(x), ref_of(y)) {
-            (Some(p), Some(q)) => names.distance(p, q),
-            _ => Worth::Varies,
-        },
+        Binary::Subtract => distance_of(names, single_of(x), single_of(y)),
         _ => Worth::Varies,
     }
 }
@@ -224,6 +236,19 @@ fn put_part(out: &mut Parts, part: Part) -> Result<(), ExprFault>
     Ok(())
 }
 
+/// What an EQU name's expression is, behind items that are reduced.
+fn take_settled(out: &mut Parts, settled: &Settled, names: &Names) -> Result<(), ExprFault>
+    requires room { length out.old + items_of settled.now ≤ MOST_ITEMS }
+    ensures most { IfOk result (λ _. length out.new ≤ length out.old + items_of settled.now) }
+    ensures folds { (before : List (Expression Part)) → out.old ≡ spread before →
+        Folds (fold_all names.now (postfix (standing settled.now)) before) result out.new }
+{
+    match settled {
+        Settled::Known(expr) => take_expr(out, expr, names),
+        Settled::Unknown(what) => put_part(out, Part::Unknown(*what)),
+    }
+}
+
 /// What a term stands for, behind items that are reduced.
 fn take_term(out: &mut Parts, term: &Term, names: &Names) -> Result<(), ExprFault>
     requires known { is_known names.now (Item.Leaf (operand term.now)) ≡ true }
@@ -240,8 +265,9 @@ fn take_term(out: &mut Parts, term: &Term, names: &Names) -> Result<(), ExprFaul
             Some(Meaning::Label(statement)) => put_part(out, Part::Ref(*statement)),
             Some(Meaning::External(external)) => put_part(out, Part::Ref(*external)),
             Some(Meaning::Constant(n)) => put_part(out, Part::Number(*n)),
-            Some(Meaning::Equ(equated)) => take_expr(out, &equated.expr, names),
-            Some(Meaning::Unknown(what)) => put_part(out, Part::Unknown(*what)),
+            Some(Meaning::UnknownConstant) => put_part(out, Part::Unknown(Unknown::Number)),
+            Some(Meaning::Equ(equated)) => take_settled(out, &equated.settled, names),
+            Some(Meaning::Faulty) => put_part(out, Part::Unknown(Unknown::Anything)),
             None => unreachable!(),
         },
     }

@@ -1,9 +1,11 @@
 //! What is known of an expression of which a part has no value.
 
-/// What is known of an expression of which a part has no value, since the line that gives it is faulty: a name stands for no
-/// value, or the size of a statement is not known.
+/// What is known of an expression of which a part has no value, since the line that gives it is faulty: a name's, or that of a
+/// statement whose size is not known.
 #[derive(Clone, Copy, Debug, PartialEq, Eq)]
 pub enum Unknown {
+    /// It may be a place as well as any other expression.
+    Anything,
     /// It is one number in every choice of jumps.
     Number,
     /// It may be another number in another choice.

@@ -11,7 +11,6 @@ ghost use Rattle.asm_expr.specs.Private.Folding.{item_size};
 
 use crate::meaning::Meaning;
 use crate::names::Names;
-use crate::unknown::Unknown;
 use asm_parse::{Item, Term, Tree};
 
 /// How many terms and operators an item of a source stands for.
@@ -36,7 +35,7 @@ fn is_constant_item(item: &Item<Term>, names: &Names) -> bool
         Item::Leaf(Term::Name(name)) => {
             matches!(
                 names.meaning(name),
-                Some(Meaning::Constant(_) | Meaning::Unknown(Unknown::Number))
+                Some(Meaning::Constant(_) | Meaning::UnknownConstant | Meaning::Faulty)
             )
         }
         _ => true,
@@ -49,8 +48,8 @@ pub(crate) fn all_constant(items: &[Item<Term>], names: &Names) -> bool
     items.iter().all(|item| is_constant_item(item, names))
 }
 
-/// Whether an expression is constant: no place and no external stands in it after EQU names are replaced. A name that stands
-/// for one number which is not known counts as constant.
+/// Whether an expression is constant: no place and no external stands in it after EQU names are replaced. A name whose own line is
+/// faulty counts as constant.
 pub fn is_constant(parsed: &Tree, names: &Names) -> bool
     ensures { result ≡ list_all (is_constant_item names.now) (postfix (source parsed.now)) }
 {

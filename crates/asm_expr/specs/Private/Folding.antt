@@ -6,6 +6,7 @@ use Rattle.asm_parse.specs.declared.operator.Unary.{Unary}
 use Rattle.asm_parse.specs.declared.operator.Binary.{Binary}
 use Rattle.asm_parse.specs.declared.item.Item.{Item}
 use Rattle.asm_expr.specs.declared.part.Part.{Part}
+use Rattle.asm_expr.specs.declared.single.Single.{Single}
 use Rattle.asm_expr.specs.declared.unknown.Unknown.{Unknown}
 use Rattle.asm_expr.specs.declared.worth.Worth.{Worth}
 use Rattle.asm_parse.specs.Operators.{divides}
@@ -27,12 +28,13 @@ worth_of (Item.Leaf (Part.Number n)) = Worth.Number n
 worth_of (Item.Leaf (Part.Unknown what)) = worth_unknown what
 worth_of _ = Worth.Varies
 
-abbrev pub ref_of : Item Part → Option ℕ
-ref_of (Item.Leaf (Part.Ref r)) = Some r
-ref_of _ = None
+abbrev pub single_of : Item Part → Single
+single_of (Item.Leaf (Part.Ref r)) = Single.Place r
+single_of (Item.Leaf (Part.Unknown Unknown.Anything)) = Single.Anything
+single_of _ = Single.Other
 
 abbrev pub difference_of : Table → Binary → Item Part → Item Part → Worth
-difference_of t Binary.Subtract x y = distance_of t (ref_of x) (ref_of y)
+difference_of t Binary.Subtract x y = distance_of t (single_of x) (single_of y)
 difference_of t _ x y = Worth.Varies
 
 -- the leaf that a fixed part becomes

@@ -1,19 +1,17 @@
-use Rattle.std.proofs.Common.{◌≡◌, ◌≤◌, ◌+◌, ℕ, List, Result, Ok, Err, IfOk, Some, length, map, sym, ap, subst, arith, ◌∙◌}
+use Rattle.std.proofs.Common.{◌≡◌, ◌≤◌, ◌+◌, ℕ, List, Result, Ok, Err, IfOk, Some, sym, ap, subst, arith, ◌∙◌}
 use Rattle.asm_expr.specs.Types.{ExprFault}
 use Rattle.asm_parse.specs.Source.{Operand, operand, Name}
 use Rattle.asm_expr.specs.declared.meaning.Meaning.{Meaning}
 use Rattle.asm_expr.specs.declared.meaning.Equated.{Equated}
 use Rattle.asm_parse.specs.Expression.{postfix}
-use Rattle.asm_expr.specs.Settling.{stands_for, meant, known_item, size_meant, size_of}
-use Rattle.asm_expr.specs.Postfix.{tree}
-use Rattle.asm_expr.proofs.Known.{known-postfix}
+use Rattle.asm_expr.specs.Settling.{stands_for, meant, size_meant, size_of, standing}
 use Rattle.asm_expr.specs.Private.Folding.{Folds, fold_all}
-use Rattle.asm_expr.specs.Names.{AreCounted, Table, found}
+use Rattle.asm_expr.specs.Names.{AreCounted, Table, found, items_of}
 use Rattle.asm_expr.proofs.reduction.take_term.Goals as goal
 
 -- the name's expression, and how many terms and operators it stands for
-standing : (t : Table) (name : List ℕ) (o : Operand) (equ : Equated) → AreCounted t → o ≡ Name name → found t name ≡ Some (Meaning.Equ equ) → length equ.expr ≤ size_of t o
-standing t name o equ counted is known =
+enough : (t : Table) (name : List ℕ) (o : Operand) (equ : Equated) → AreCounted t → o ≡ Name name → found t name ≡ Some (Meaning.Equ equ) → items_of equ.settled ≤ size_of t o
+enough t name o equ counted is known =
     let few = counted name (Meaning.Equ equ) known in
     omega (arith, few.1, ap (size_of t) is, ap size_meant known)
 
@@ -21,12 +19,12 @@ at_most : (r : Result (Unit {0}) ExprFault) (new old m n : ℕ) → m ≤ n → 
 at_most (Ok x) new old m n few most = omega (arith, few, most)
 at_most (Err why) new old m n few most = tt
 
-pub take_expr-requires : goal.take_expr-requires
-take_expr-requires c =
+pub take_settled-requires : goal.take_settled-requires
+take_settled-requires c =
     let t = c.args.names.now in
     let known : found t c.in-Name.name.items ≡ Some (Meaning.Equ c.in-Some-Equ.equated) =
     ap (found t) (sym c.deref.ensures.value) ∙ sym c.in-Some-Equ.ensures ∙ ap Some c.in-Some-Equ.field-0-is in
-    let few = standing t c.in-Name.name.items (operand c.args.term.now) c.in-Some-Equ.equated c.requires.counted (ap operand c.in-Name.is) known in
+    let few = enough t c.in-Name.name.items (operand c.args.term.now) c.in-Some-Equ.equated c.requires.counted (ap operand c.in-Name.is) known in
     omega (arith, few, c.requires.room)
 
 pub returns-in-Some-Equ-clause-most : goal.returns-in-Some-Equ-clause-most
@@ -34,8 +32,8 @@ returns-in-Some-Equ-clause-most c =
     let t = c.args.names.now in
     let known : found t c.in-Name.name.items ≡ Some (Meaning.Equ c.in-Some-Equ.equated) =
     ap (found t) (sym c.deref.ensures.value) ∙ sym c.in-Some-Equ.ensures ∙ ap Some c.in-Some-Equ.field-0-is in
-    let few = standing t c.in-Name.name.items (operand c.args.term.now) c.in-Some-Equ.equated c.requires.counted (ap operand c.in-Name.is) known in
-    at_most c.take_expr.result _ _ _ _ few c.take_expr.ensures.most
+    let few = enough t c.in-Name.name.items (operand c.args.term.now) c.in-Some-Equ.equated c.requires.counted (ap operand c.in-Name.is) known in
+    at_most c.take_settled.result _ _ _ _ few c.take_settled.ensures.most
 
 pub returns-in-Some-Equ-clause-folds : goal.returns-in-Some-Equ-clause-folds
 returns-in-Some-Equ-clause-folds c = λ before is.
@@ -44,6 +42,6 @@ returns-in-Some-Equ-clause-folds c = λ before is.
     let name : operand c.args.term.now ≡ Name c.in-Name.name.items = ap operand c.in-Name.is in
     let known : found t c.in-Name.name.items ≡ Some (Meaning.Equ equ) =
     ap (found t) (sym c.deref.ensures.value) ∙ sym c.in-Some-Equ.ensures ∙ ap Some c.in-Some-Equ.field-0-is in
-    let stands : postfix (stands_for t (operand c.args.term.now)) ≡ map known_item equ.expr =
-    ap (λ o. postfix (stands_for t o)) name ∙ ap (λ m. postfix (meant m)) known ∙ known-postfix (tree equ.expr) ∙ ap (map known_item) c.take_expr.ensures.whole in
-    subst (λ items. Folds (fold_all t items before) c.take_expr.result c.take_expr.new.out) (sym stands) (c.take_expr.ensures.folds before is)
+    let stands : postfix (stands_for t (operand c.args.term.now)) ≡ postfix (standing equ.settled) =
+    ap (λ o. postfix (stands_for t o)) name ∙ ap (λ m. postfix (meant m)) known in
+    subst (λ items. Folds (fold_all t items before) c.take_settled.result c.take_settled.new.out) (sym stands) (c.take_settled.ensures.folds before is)

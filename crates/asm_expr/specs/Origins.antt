@@ -1,0 +1,35 @@
+-- What names and `$` bring into an expression: where its refs come from, and when it is a number.
+use Rattle.std.specs.Prelude.{◌≡◌, ℕ, Bool, true, false, List, Option, Some, All}
+use Rattle.asm_parse.specs.declared.item.Item.{Item}
+use Rattle.asm_parse.specs.Source.{Operand, Name, Here}
+use Rattle.asm_expr.specs.declared.answer.Settled.{Settled}
+use Rattle.asm_expr.specs.declared.meaning.Meaning.{Meaning}
+use Rattle.asm_expr.specs.Items.{refs}
+use Rattle.asm_expr.specs.Names.{Table, found}
+
+-- Each ref in what is settled has a property.
+abbrev pub AreRefs : (ℕ → Type 0) → Settled → Type 0
+AreRefs P (Settled.Known items) = All P (refs items)
+AreRefs P (Settled.Unknown what) = Unit {0}
+
+-- Each ref that a name stands for does.
+abbrev pub Brings : (ℕ → Type 0) → Meaning → Type 0
+Brings P (Meaning.Label statement) = P statement
+Brings P (Meaning.External ref) = P ref
+Brings P (Meaning.Equ equated) = AreRefs P equated.settled
+Brings P _ = Unit {0}
+
+-- The place of `$` does, and each ref that a name of the table stands for.
+pub record AllBring (P : ℕ → Type 0) (t : Table) : Type 0 where
+  pub here : P t.here
+  pub names : (name : List ℕ) (what : Meaning) → found t name ≡ Some what → Brings P what
+
+-- An item is a number, or a name that stands for one, or an operator.
+abbrev pub is_number_name : Option Meaning → Bool
+is_number_name (Some (Meaning.Constant n)) = true
+is_number_name _ = false
+
+abbrev pub is_number_item : Table → Item Operand → Bool
+is_number_item t (Item.Leaf (Name name)) = is_number_name (found t name)
+is_number_item t (Item.Leaf Here) = false
+is_number_item t _ = true
