@@ -1,14 +1,10 @@
 -- The entries of a map of names, and what they replace.
 use Rattle.std.proofs.Common.{◌≡◌, ◌∙◌, sym, ℕ, List, [], ◌∷◌, Option, Some, true, false, cond, refl, ap}
 use Rattle.std.specs.Map.{lookup}
-use Rattle.std.specs.Option.{option_map, unwrap_or}
+use Rattle.std.specs.Option.{option_map}
 use Rattle.std.specs.Str.{bytes_eq}
 use Rattle.std.specs.Global.{Global}
 use Rattle.std.specs.declared.vec.Vec.{Vec}
-use Rattle.asm_scan.specs.Tokens.{Lexeme}
-use Rattle.asm_words.specs.Words.{upper}
-use Rattle.asm_line.specs.Tokens.{is_name}
-use Rattle.asm_replace.specs.Replaced.{swapped}
 use Rattle.asm_replace.specs.Views.{table}
 
 abbrev pub Entries : Type 0
@@ -22,7 +18,5 @@ lookup-table (e ∷ es) name =
       | false ↦ lookup-table es name
     ]
 
--- a name is swapped for what the map has of it
-pub swapped_name : (entries : Entries) (t : Lexeme) (key : List ℕ) (found : Option (Vec ℕ Global)) → is_name t ≡ true → key ≡ upper t.text → found ≡ lookup (λ k. bytes_eq key k.items) entries → swapped (table entries) t ≡ unwrap_or (option_map (λ text. text.items) found) t.text
-swapped_name entries t key found named same e =
-    rw named (ap (λ o. unwrap_or o t.text) (lookup-table entries (upper t.text) ∙ ap (λ o. option_map (λ text. text.items) o) (sym (e ∙ ap (λ x. lookup (λ k. bytes_eq x k.items) entries) same))))
+pub looked_up : (entries : Entries) (name : List ℕ) (found : Option (Vec ℕ Global)) → found ≡ lookup (λ k. bytes_eq name k.items) entries → option_map (λ text. text.items) found ≡ lookup (bytes_eq name) (table entries)
+looked_up entries name found e = ap (λ o. option_map (λ text. text.items) o) e ∙ sym (lookup-table entries name)

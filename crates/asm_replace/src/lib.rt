@@ -2,6 +2,7 @@
 #![tactic(auto)]
 
 mod called;
+pub mod laws;
 mod local;
 mod whole_names;
 

@@ -1,7 +1,10 @@
 //! Whole names replaced.
 
-ghost use Rattle.std.specs.Prelude.{◌≡◌, ◌++◌, IfOk, OnOk};
+ghost use Rattle.std.specs.Prelude.{◌≡◌, ◌++◌, OnOk, option_copied};
+ghost use Rattle.std.specs.Map.{lookup};
+ghost use Rattle.std.specs.Str.{bytes_eq};
 ghost use Rattle.asm_scan.specs.Tokens.{lexeme, lexemes};
+ghost use Rattle.asm_words.specs.Words.{upper};
 ghost use Rattle.asm_replace.specs.Pieces.{behind};
 ghost use Rattle.asm_replace.specs.Replaced.{replaced, swapped};
 ghost use Rattle.asm_replace.specs.Views.{table};
@@ -9,7 +12,7 @@ ghost use Rattle.asm_replace.specs.Views.{table};
 use asm_line::is_name;
 use asm_scan::{Token, blank_len};
 use indexmap::IndexMap;
-use std::alloc::{AllocError, Global};
+use std::alloc::AllocError;
 
 /// What stands in the place of each name, which is in upper case.
 pub type Replacements = IndexMap<Vec<u8>, Vec<u8>>;
@@ -22,27 +25,43 @@ pub fn after<'a>(line: &'a [u8], token: &Token<'_>) -> &'a [u8]
     start.get(token.text.len()..).unwrap_or(&[])
 }
 
-/// A token as it stands, or what its name is replaced by.
-fn swapped<'a>(
-    alloc: Global,
-    names: &'a Replacements,
-    token: &Token<'a>,
-) -> Result<&'a [u8], AllocError>
-    ensures { IfOk result (λ text. text.now ≡ swapped (table names.now.entries) (lexeme token.now)) }
+/// Writes a name in upper case behind what was written.
+fn put_upper(name: &[u8], out: &mut Vec<u8>) -> Result<(), AllocError>
+    ensures { OnOk result (out.new.items ≡ out.old.items ++ upper name.now) }
+{
+    for byte in name {
+        out.push(byte.to_ascii_uppercase())?;
+    }
+    Ok(())
+}
+
+/// What a name in upper case is replaced by.
+fn replacement<'a>(names: &'a Replacements, name: &[u8]) -> Option<&'a [u8]>
+    ensures { option_copied result ≡ lookup (bytes_eq name.now) (table names.now.entries) }
+{
+    match names.get(name) {
+        Some(text) => Some(text.as_slice()),
+        None => None,
+    }
+}
+
+/// Writes a token behind what was written, or what its name is replaced by.
+fn put_swapped(names: &Replacements, token: &Token<'_>, out: &mut Vec<u8>) -> Result<(), AllocError>
+    ensures { OnOk result (out.new.items ≡ out.old.items ++ swapped (table names.now.entries) (lexeme token.now)) }
 {
     if !is_name(token) {
-        return Ok(token.text);
+        return out.extend_from_slice(token.text);
     }
-    let name = token.text.to_ascii_uppercase(alloc)?;
-    match names.get(name.as_slice()) {
-        Some(text) => Ok(text.as_slice()),
-        None => Ok(token.text),
-    }
+    // The name stands in upper case where its text is to stand, so that no memory is taken for it alone.
+    let start = out.len();
+    put_upper(token.text, out)?;
+    let text = replacement(names, out.get(start..).unwrap_or(&[])).unwrap_or(token.text);
+    out.truncate(start);
+    out.extend_from_slice(text)
 }
 
 /// Writes a line behind what was written, with each whole name of the table replaced. `tokens` are the line's.
 pub fn replace(
-    alloc: Global,
     names: &Replacements,
     line: &[u8],
     tokens: &[Token<'_>],
@@ -54,7 +73,7 @@ pub fn replace(
     for token in tokens {
         let (blanks, _) = rest.split_at(blank_len(rest));
         out.extend_from_slice(blanks)?;
-        out.extend_from_slice(swapped(alloc, names, token)?)?;
+        put_swapped(names, token, out)?;
         rest = after(rest, token);
     }
     out.extend_from_slice(rest)?;

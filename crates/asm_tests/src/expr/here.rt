@@ -1,16 +1,17 @@
 //! Operands that begin at `$`.
 
-use crate::expr::asserts::{Passed, define, module_of, tree_of};
-use asm_expr::{ExprFault, Meaning, Names, Offset, Tree, Unknown, is_defined, offset_from_here};
+use crate::expr::asserts::{Passed, define, define_equ, module_of, tree_of};
+use asm_expr::{ExprFault, Meaning, Names, Offset, Tree, is_defined, offset_from_here};
 use std::alloc::Global;
 use std::test::Fail;
 
-/// X at a statement of 3 bytes, Y behind it; N a name whose number is not known.
+/// X at a statement of 3 bytes, Y behind it; N a name whose own line is faulty, NC one more than it, V behind X by as much.
 fn module(alloc: Global) -> Result<Names, Fail> {
     let mut names = module_of(alloc, &[Passed::Fixed(3)], 0, &[(b"X", 0), (b"Y", 1)])?;
-    let unknown: [(&[u8], Unknown); 2] = [(b"N", Unknown::Number), (b"V", Unknown::Varies)];
-    for (name, what) in unknown {
-        define(alloc, &mut names, name, Meaning::Unknown(what))?;
+    define(alloc, &mut names, b"N", Meaning::Faulty)?;
+    let equs: [(&[u8], &[u8]); 2] = [(b"NC", b"N+1"), (b"V", b"X+N")];
+    for (name, text) in equs {
+        define_equ(alloc, &mut names, name, text)?;
     }
     Ok(names)
 }
@@ -36,7 +37,7 @@ fn said(alloc: Global, text: &[u8], names: &Names) -> Result<Result<Offset, Expr
 fn offsets(rt: HostRuntime) -> Result<(), Fail> {
     let alloc = rt.alloc();
     let names = module(alloc)?;
-    let rows: [(&[u8], Offset); 15] = [
+    let rows: [(&[u8], Offset); 17] = [
         (b"$", Offset::Number(0)),
         (b"($)", Offset::Number(0)),
         (b"$+2", Offset::Number(2)),
@@ -45,6 +46,8 @@ fn offsets(rt: HostRuntime) -> Result<(), Fail> {
         (b"($)+2", Offset::Number(2)),
         (b"$+(2+3)", Offset::Number(5)),
         (b"$+N", Offset::Unknown),
+        (b"$-N", Offset::Unknown),
+        (b"$-NC", Offset::Unknown),
         (b"$+V", Offset::NotConstant),
         (b"$+X", Offset::NotConstant),
         (b"$-(Y-X)", Offset::NotConstant),

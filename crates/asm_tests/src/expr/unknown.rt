@@ -2,14 +2,14 @@
 
 use crate::expr::asserts::Passed::{Fixed, Jump, Unsized};
 use crate::expr::asserts::{
-    assert_fault, assert_number, assert_unknown, define, define_equ, module_of,
+    assert_fault, assert_number, assert_unknown, define, define_equ, module_of, tree_of,
 };
-use asm_expr::{ExprFault, Meaning, Names, Unknown, Worth};
+use asm_expr::{ExprFault, Meaning, Names, Tree, Unknown, Worth, is_constant, is_defined, settle, size};
 use std::alloc::Global;
 use std::test::Fail;
 
 /// PA before 3 bytes, PB before a size that is not known, PC before 2 bytes, PD at a relaxable jump, PE1 before a size
-/// that is not known, PF at the end; N a name whose number is not known.
+/// that is not known, PF at the end; N a name whose own line is faulty.
 fn module(alloc: Global) -> Result<Names, Fail> {
     let statements = [Fixed(3), Unsized, Fixed(2), Jump, Unsized];
     let labels: [(&[u8], u16); 6] = [
@@ -21,7 +21,7 @@ fn module(alloc: Global) -> Result<Names, Fail> {
         (b"PF", 5),
     ];
     let mut names = module_of(alloc, &statements, 2, &labels)?;
-    define(alloc, &mut names, b"N", Meaning::Unknown(Unknown::Number))?;
+    define(alloc, &mut names, b"N", Meaning::Faulty)?;
     Ok(names)
 }
 
@@ -50,8 +50,11 @@ fn distances(rt: HostRuntime) -> Result<(), Fail> {
 fn one_number(rt: HostRuntime) -> Result<(), Fail> {
     let alloc = rt.alloc();
     let names = module(alloc)?;
-    let rows: [&[u8]; 11] = [
-        b"N",
+    // What is no single place is one number; a place less N is one where N is a place.
+    let rows: [&[u8]; 13] = [
+        b"PA-N",
+        b"5/(N-PB)",
+        b"N+0",
         b"-N",
         b"N*2+1",
         b"N-N",
@@ -80,16 +83,62 @@ fn with_equs(alloc: Global) -> Result<Names, Fail> {
 }
 
 #[test]
+fn anything(rt: HostRuntime) -> Result<(), Fail> {
+    let alloc = rt.alloc();
+    let mut names = module(alloc)?;
+    define_equ(alloc, &mut names, b"KN", b"(N)")?;
+    for text in [b"N ", b"+N", b"KN"] {
+        assert_unknown(&rt, alloc, text, &names, Unknown::Anything)?;
+    }
+    Ok(())
+}
+
+/// Whether an expression is constant, and how many terms and operators it stands for.
+fn judged(alloc: Global, tree: &Tree, names: &Names) -> Result<(bool, u16), Fail> {
+    if !is_defined(tree, names) {
+        return Err(Fail::from("a name that stands for nothing"));
+    }
+    settle(alloc, tree, names)?;
+    Ok((is_constant(tree, names), size(tree, names)))
+}
+
+/// The same of a name that EQU gives.
+fn equ_is(alloc: Global, text: &[u8]) -> Result<(bool, u16), Fail> {
+    let mut names = module(alloc)?;
+    define_equ(alloc, &mut names, b"K", text)?;
+    judged(alloc, &tree_of(alloc, b"K")?, &names)
+}
+
+#[test]
+fn equs_without_a_value(rt: HostRuntime) -> Result<(), Fail> {
+    let alloc = rt.alloc();
+    // Only what no place stands in is constant, and counts as one term.
+    let rows: [(&[u8], (bool, u16)); 6] = [
+        (b"N", (true, 1)),
+        (b"N+1", (true, 1)),
+        (b"PC-PA", (false, 3)),
+        (b"5/(PC-PA)", (false, 5)),
+        (b"PA+N", (false, 3)),
+        (b"PB-PA", (false, 3)),
+    ];
+    for (text, want) in rows {
+        assert!(rt; equ_is(alloc, text)? == want, "in {text:?}");
+    }
+    Ok(())
+}
+
+#[test]
 fn varying(rt: HostRuntime) -> Result<(), Fail> {
     let alloc = rt.alloc();
     let names = with_equs(alloc)?;
-    let rows: [(&[u8], Unknown); 10] = [
+    let rows: [(&[u8], Unknown); 11] = [
         (b"PA+N", Unknown::Varies),
         (b"LOW (PF-PE1)+PA", Unknown::Varies),
         (b"HIGH (PA+N)", Unknown::VariesInByte),
         (b"LOW (PA+N)", Unknown::VariesInByte),
         (b"+LOW (PA+N)", Unknown::VariesInByte),
         (b"-LOW (PA+N)", Unknown::Varies),
+        (b"PA-(N+1)", Unknown::Varies),
         (b"K", Unknown::Varies),
         (b"KL", Unknown::VariesInByte),
         (b"KL+1", Unknown::Varies),
@@ -119,7 +168,8 @@ fn values_and_faults(rt: HostRuntime) -> Result<(), Fail> {
     assert_number(&rt, alloc, b"PB-PA", &names, 3)?;
     assert_number(&rt, alloc, b"PD-$", &names, 2)?;
     // An operator that has a fault whatever the number is has it.
-    let rows: [(&[u8], ExprFault); 5] = [
+    let rows: [(&[u8], ExprFault); 6] = [
+        (b"5/(PA-(N+1))", ExprFault::LabelDivisor),
         (b"N+1/0", ExprFault::DivideByZero),
         (b"1/0+N", ExprFault::DivideByZero),
         (b"5/(N+PA)", ExprFault::LabelDivisor),
