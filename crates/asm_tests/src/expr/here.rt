@@ -5,11 +5,11 @@ use asm_expr::{ExprFault, Meaning, Names, Offset, Tree, is_defined, offset_from_
 use std::alloc::Global;
 use std::test::Fail;
 
-/// X at a statement of 3 bytes, Y behind it; N a name whose own line is faulty, NC one more than it, V behind X by as much.
+/// X at a statement of 3 bytes, Y behind it; N a name whose own line is faulty, NM one more than it, V behind X by as much.
 fn module(alloc: Global) -> Result<Names, Fail> {
     let mut names = module_of(alloc, &[Passed::Fixed(3)], 0, &[(b"X", 0), (b"Y", 1)])?;
     define(alloc, &mut names, b"N", Meaning::Faulty)?;
-    let equs: [(&[u8], &[u8]); 2] = [(b"NC", b"N+1"), (b"V", b"X+N")];
+    let equs: [(&[u8], &[u8]); 2] = [(b"NM", b"N+1"), (b"V", b"X+N")];
     for (name, text) in equs {
         define_equ(alloc, &mut names, name, text)?;
     }
@@ -47,7 +47,7 @@ fn offsets(rt: HostRuntime) -> Result<(), Fail> {
         (b"$+(2+3)", Offset::Number(5)),
         (b"$+N", Offset::Unknown),
         (b"$-N", Offset::Unknown),
-        (b"$-NC", Offset::Unknown),
+        (b"$-NM", Offset::Unknown),
         (b"$+V", Offset::NotConstant),
         (b"$+X", Offset::NotConstant),
         (b"$-(Y-X)", Offset::NotConstant),

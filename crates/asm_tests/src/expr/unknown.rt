@@ -4,7 +4,9 @@ use crate::expr::asserts::Passed::{Fixed, Jump, Unsized};
 use crate::expr::asserts::{
     assert_fault, assert_number, assert_unknown, define, define_equ, module_of, tree_of,
 };
-use asm_expr::{ExprFault, Meaning, Names, Tree, Unknown, Worth, is_constant, is_defined, settle, size};
+use asm_expr::{
+    ExprFault, Meaning, Names, Tree, Unknown, Worth, is_constant, is_defined, settle, size,
+};
 use std::alloc::Global;
 use std::test::Fail;
 
