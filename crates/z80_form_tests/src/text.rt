@@ -1,10 +1,11 @@
-//! A line as a word, forms of operands and their numbers.
+//! A line as an instruction with its numbers.
 
+use asm_parse::{Binary, Item, Term, Tree, Unary};
+use asm_scan::tokens;
+use asm_spell::{Body, Line, StmtFault, statement};
 use std::alloc::Global;
-use z80_form::{
-    Field, Form, Name, Pointed, field_of, instruction, mnemonic_of, name_of, with_numbers,
-};
-use z80_instr::{IndexRegister, Instr};
+use z80_form::{Field, with_numbers};
+use z80_instr::Instr;
 
 /// What a line is read as.
 #[derive(Debug)]
@@ -16,104 +17,76 @@ pub(crate) enum Reading {
     Number,
 }
 
-/// An operand, and its number if it has an expression.
-type Operand = (Form, Option<u16>);
-
-/// The number of a text: hexadecimal with an H behind, else decimal; with a minus, its remainder by 65,536.
-fn number_of(text: &str) -> Option<u16> {
-    match (text.strip_prefix("-"), text.strip_suffix("H")) {
-        (Some(digits), _) => Some(0u16.wrapping_sub(digits.parse::<u16>().ok()?)),
-        (None, Some(digits)) => u16::from_str_radix(digits, 16).ok(),
-        (None, None) => text.parse::<u16>().ok(),
+/// The value of `n`, `-n`, `+n`, `$`, `$+n` and `$-n`, `$` counting nothing; None of any other expression.
+fn value_of(tree: &Tree) -> Option<u16> {
+    match tree.items() {
+        [Item::Leaf(Term::Number(n))] => Some(*n),
+        [Item::Leaf(Term::Number(n)), Item::Unary(Unary::Negate)] => Some(0u16.wrapping_sub(*n)),
+        [Item::Leaf(Term::Here)] => Some(0),
+        [
+            Item::Leaf(Term::Here),
+            Item::Leaf(Term::Number(n)),
+            Item::Binary(Binary::Add),
+        ] => Some(*n),
+        [
+            Item::Leaf(Term::Here),
+            Item::Leaf(Term::Number(n)),
+            Item::Binary(Binary::Subtract),
+        ] => Some(0u16.wrapping_sub(*n)),
+        _ => None,
     }
 }
 
-/// The number of a text with a sign before it.
-fn signed_of(text: &str) -> Option<u16> {
-    match text.strip_prefix("+") {
-        Some(digits) => number_of(digits),
-        None => number_of(text),
+/// The number that an expression puts into a field. The goal of a relative jump counts from the jump, its distance from the
+/// instruction behind.
+fn number_of(field: Field, tree: &Tree) -> Option<u16> {
+    let value = value_of(tree)?;
+    match field {
+        Field::Distance => Some(value.wrapping_sub(2)),
+        _ => Some(value),
     }
 }
 
-/// What stands in parentheses and is no register alone.
-fn displaced(text: &str) -> Option<Operand> {
-    for (name, index) in [
-        ("IX", IndexRegister::Ix),
-        ("IY", IndexRegister::Iy),
-        ("ix", IndexRegister::Ix),
-    ] {
-        if let Some(rest) = text.strip_prefix(name) {
-            return Some((Form::Displaced(index), Some(signed_of(rest)?)));
-        }
-    }
-    Some((Form::AtNumber, Some(number_of(text)?)))
-}
-
-/// What stands in parentheses.
-fn inside(text: &str) -> Option<Operand> {
-    let form = match name_of(text.as_bytes()) {
-        None => return displaced(text),
-        Some(Name::Hl) => Form::At(Pointed::Hl),
-        Some(Name::Bc) => Form::At(Pointed::Bc),
-        Some(Name::De) => Form::At(Pointed::De),
-        Some(Name::Sp) => Form::At(Pointed::Sp),
-        Some(Name::C) => Form::At(Pointed::C),
-        Some(Name::Ix) => Form::AtIndex(IndexRegister::Ix),
-        Some(Name::Iy) => Form::AtIndex(IndexRegister::Iy),
-        Some(_) => return None,
-    };
-    Some((form, None))
-}
-
-fn operand(text: &str) -> Option<Operand> {
-    if let Some(name) = name_of(text.as_bytes()) {
-        return Some((Form::Name(name), None));
-    }
-    if let Some(rest) = text.strip_prefix("(") {
-        return inside(rest.strip_suffix(")")?);
-    }
-    // The goal of a relative jump counts from the jump, its distance from the instruction behind.
-    match text.strip_prefix("$") {
-        Some("") => Some((Form::Number, Some(0xFFFE))),
-        Some(goal) => Some((Form::Number, Some(signed_of(goal)?.wrapping_sub(2)))),
-        None => Some((Form::Number, Some(number_of(text)?))),
-    }
-}
-
-/// The instruction of a line, with its numbers.
-pub(crate) fn read(alloc: Global, line: &str) -> Result<Reading, anyhow::Error> {
-    let (word, rest) = line.split_once(" ").unwrap_or((line, ""));
-    let Some(mnemonic) = mnemonic_of(word.as_bytes()) else {
-        return Ok(Reading::None);
-    };
-    let mut operands: Vec<Operand> = Vec::new(alloc);
-    let mut forms: Vec<Form> = Vec::new(alloc);
-    if !rest.is_empty() {
-        for part in rest.split(",") {
-            let Some(operand) = operand(part) else {
-                return Ok(Reading::None);
-            };
-            operands.push(operand)?;
-            forms.push(operand.0)?;
-        }
-    }
-    let Some(instr) = instruction(mnemonic, &forms) else {
-        return Ok(Reading::None);
-    };
-    filled(alloc, instr, &operands)
-}
-
-fn filled(alloc: Global, instr: Instr, operands: &[Operand]) -> Result<Reading, anyhow::Error> {
+fn filled(
+    alloc: Global,
+    instr: Instr,
+    expressions: &[(Field, Tree)],
+) -> Result<Reading, anyhow::Error> {
     let mut numbers: Vec<(Field, u16)> = Vec::new(alloc);
-    for (form, value) in operands {
-        if let (Some(field), Some(value)) = (field_of(instr, *form), *value) {
-            numbers.push((field, value))?;
-        }
+    for (field, tree) in expressions {
+        let Some(value) = number_of(*field, tree) else {
+            return Ok(Reading::None);
+        };
+        numbers.push((*field, value))?;
     }
     if numbers.iter().all(|n| n.0.allows(n.1)) {
         Ok(Reading::Instr(with_numbers(instr, &numbers)))
     } else {
         Ok(Reading::Number)
+    }
+}
+
+/// The instruction that a line is, with the expressions of its numbers.
+fn code_of(line: &Line) -> Option<(Instr, &[(Field, Tree)])> {
+    let Line::Statement { label: _, body } = line else {
+        return None;
+    };
+    match body.as_ref()? {
+        Body::Code { instr, numbers } => Some((*instr, numbers.as_slice())),
+        _ => None,
+    }
+}
+
+/// The instruction of a line, with its numbers.
+pub(crate) fn read(alloc: Global, line: &str) -> Result<Reading, anyhow::Error> {
+    let tokens = tokens(alloc, line.as_bytes())?;
+    let spelled = match statement(alloc, &tokens) {
+        Ok(spelled) => spelled,
+        Err(StmtFault::NoMemory) => return Err(StmtFault::NoMemory.into()),
+        Err(_) => return Ok(Reading::None),
+    };
+    match code_of(&spelled) {
+        Some((instr, numbers)) => filled(alloc, instr, numbers),
+        None => Ok(Reading::None),
     }
 }
