@@ -2,7 +2,28 @@
 
 use asm_block::Role::{self, Else, EndBody, EndIf, OpensBody, OpensIf, Other};
 use asm_block::links_of;
+use std::alloc::Global;
+use std::process::Abort;
 use std::test::Fail;
+
+fn assert_links(
+    rt: &impl Abort,
+    alloc: Global,
+    roles: &[Role],
+    want: &[(u32, u32)],
+) -> Result<(), Fail> {
+    assert!(rt; roles.len() < 100);
+    let links = links_of(alloc, roles.to_vec(alloc)?)?;
+    assert_eq!(rt; links.len(), want.len(), "of {roles:?}");
+    for (line, to) in want {
+        assert_eq!(rt;
+            links.get(line).copied(),
+            Some(*to),
+            "line {line} of {roles:?}"
+        );
+    }
+    Ok(())
+}
 
 #[test]
 fn rows(rt: HostRuntime) -> Result<(), Fail> {
@@ -40,15 +61,7 @@ fn rows(rt: HostRuntime) -> Result<(), Fail> {
         (&[EndBody, OpensIf, EndBody, Else, EndIf], &[(1, 3), (3, 4)]),
     ];
     for (roles, want) in rows {
-        let links = links_of(alloc, roles.to_vec(alloc)?)?;
-        assert_eq!(rt; links.len(), want.len(), "of {roles:?}");
-        for (line, to) in want {
-            assert_eq!(rt;
-                links.get(line).copied(),
-                Some(*to),
-                "line {line} of {roles:?}"
-            );
-        }
+        assert_links(&rt, alloc, roles, want)?;
     }
     Ok(())
 }

@@ -2,7 +2,27 @@
 
 use asm_replace::{Replacements, arguments, local_name, replace};
 use asm_scan::tokens;
+use std::alloc::Global;
+use std::process::Abort;
 use std::test::Fail;
+
+fn assert_replaced(
+    rt: &impl Abort,
+    alloc: Global,
+    table: &[(&[u8], &[u8])],
+    line: &[u8],
+    want: &[u8],
+) -> Result<(), Fail> {
+    let mut names = Replacements::new(alloc);
+    for (name, text) in table {
+        names.insert(name.to_vec(alloc)?, text.to_vec(alloc)?)?;
+    }
+    let found = tokens(alloc, line)?;
+    let mut out = Vec::new(alloc);
+    replace(&names, line, &found, &mut out)?;
+    assert_eq!(rt; out.as_slice(), want, "of {line:?}");
+    Ok(())
+}
 
 #[test]
 fn replaced_lines(rt: HostRuntime) -> Result<(), Fail> {
@@ -44,14 +64,7 @@ fn replaced_lines(rt: HostRuntime) -> Result<(), Fail> {
         (&[(b"N", b"M")], b"  N\t N;N", b"  M\t M;N"),
     ];
     for (table, line, want) in rows {
-        let mut names = Replacements::new(alloc);
-        for (name, text) in table {
-            names.insert(name.to_vec(alloc)?, text.to_vec(alloc)?)?;
-        }
-        let found = tokens(alloc, line)?;
-        let mut out = Vec::new(alloc);
-        replace(&names, line, &found, &mut out)?;
-        assert_eq!(rt; out.as_slice(), want, "of {line:?}");
+        assert_replaced(&rt, alloc, table, line, want)?;
     }
     Ok(())
 }
@@ -59,33 +72,35 @@ fn replaced_lines(rt: HostRuntime) -> Result<(), Fail> {
 #[test]
 fn arguments_of_calls(rt: HostRuntime) -> Result<(), Fail> {
     let alloc = rt.alloc();
-    let rows: [(&[u8], &[&[u8]]); 16] = [
-        (b"", &[]),
-        (b"   ", &[]),
-        (b" ; none", &[]),
-        (b" 5", &[b"5"]),
-        (b" 5,6", &[b"5", b"6"]),
-        (b"\t5 ,\t 6 ; more", &[b"5", b"6"]),
-        (b" ,", &[b"", b""]),
-        (b" ,5", &[b"", b"5"]),
-        (b" 5,", &[b"5", b""]),
+    // What stands behind a name, and its arguments, each with a bar behind it.
+    let rows: [(&[u8], &[u8]); 16] = [
+        (b"", b""),
+        (b"   ", b""),
+        (b" ; none", b""),
+        (b" 5", b"5|"),
+        (b" 5,6", b"5|6|"),
+        (b"\t5 ,\t 6 ; more", b"5|6|"),
+        (b" ,", b"||"),
+        (b" ,5", b"|5|"),
+        (b" 5,", b"5||"),
         // blanks within an argument stay
-        (b"  LD  A,B ", &[b"LD  A", b"B"]),
-        (b" 'a,b',\"c,d\"", &[b"'a,b'", b"\"c,d\""]),
-        (b" (1,2),3", &[b"(1,2)", b"3"]),
-        (b" ((1,2),3),4", &[b"((1,2),3)", b"4"]),
+        (b"  LD  A,B ", b"LD  A|B|"),
+        (b" 'a,b',\"c,d\"", b"'a,b'|\"c,d\"|"),
+        (b" (1,2),3", b"(1,2)|3|"),
+        (b" ((1,2),3),4", b"((1,2),3)|4|"),
         // one that is not closed hides all commas, and one too many closes none
-        (b" (1,2,3", &[b"(1,2,3"]),
-        (b" 1),2", &[b"1)", b"2"]),
-        (b" 1)),(2,3),4", &[b"1))", b"(2,3)", b"4"]),
+        (b" (1,2,3", b"(1,2,3|"),
+        (b" 1),2", b"1)|2|"),
+        (b" 1)),(2,3),4", b"1))|(2,3)|4|"),
     ];
     for (line, want) in rows {
         let found = tokens(alloc, line)?;
-        let all = arguments(alloc, line, &found)?;
-        assert_eq!(rt; all.len(), want.len(), "in {line:?}");
-        for (argument, wanted) in all.iter().zip(want) {
-            assert_eq!(rt; argument.as_slice(), *wanted, "in {line:?}");
+        let mut joined = Vec::new(alloc);
+        for argument in &arguments(alloc, line, &found)? {
+            joined.extend_from_slice(argument)?;
+            joined.push(b'|')?;
         }
+        assert_eq!(rt; joined.as_slice(), want, "in {line:?}");
     }
     Ok(())
 }
