@@ -114,8 +114,9 @@ worth_unknown Unknown.Number = Worth.Unknown
 worth_unknown Unknown.Varies = Worth.Varies
 worth_unknown Unknown.VariesInByte = Worth.Varies
 
--- What is known of an expression. It is fixed, and so a number or not known, where no place stands in it but in differences of two single
--- places between which no relaxable jump stands.
+-- What is known of an expression: its number where it is fixed and each part has a value, that is where no place stands in it but in
+-- differences of two single places between which no relaxable jump stands; that it varies whatever parts without a value are; else
+-- nothing.
 abbrev pub worth : Table → Expression Part → Worth
 worth t (Leaf (Part.Number n)) = Worth.Number n
 worth t (Leaf (Part.Ref r)) = Worth.Varies
@@ -203,8 +204,8 @@ unless_fault (Some why) answer = Err why
 abbrev pub settled : Table → Expression Operand → Result Settled ExprFault
 settled t e = let r = reduced t (replaced t e) in unless_fault (fault t e) (settled_as (items_known (postfix r)) (unknown_of r))
 
--- An item stands for no place and no external. (An EQU name that is not constant stands for one at least. Nothing is
--- said against one whose own line is faulty.)
+-- An item stands for no place and no external. (An EQU name that is not constant has a place or an external in it. Nothing is said
+-- against a name whose own line is faulty.)
 abbrev pub is_constant_name : Option Meaning → Bool
 is_constant_name (Some (Meaning.Constant n)) = true
 is_constant_name (Some Meaning.UnknownConstant) = true
@@ -229,7 +230,7 @@ pub record IsWorth (t : Table) (e : Expression Operand) (items : List (Item Atom
   pub constant : list_all (is_constant_item t) (postfix e) ≡ true → (n : ℕ) × (items ≡ Item.Leaf (Atom.Number n) ∷ [])
   pub fixed : (n : ℕ) → (worth t (replaced t e) ≡ Worth.Number n) ↔ (items ≡ Item.Leaf (Atom.Number n) ∷ [])
 
--- Of what has a part without a value it is said whether it is one number.
+-- Of what has a part without a value it is said whether it varies whatever that value is.
 abbrev pub IsWorthOf : Table → Expression Operand → Settled → Type 0
 IsWorthOf t e (Settled.Known items) = IsWorth t e items
 IsWorthOf t e (Settled.Unknown what) = worth t (replaced t e) ≡ worth_unknown what

@@ -18,7 +18,7 @@ pub enum Meaning {
     External(u16),
     /// The value of an EQU's constant expression.
     Constant(u16),
-    /// The value of such an expression, which is not known, since the line of a name in it is faulty.
+    /// An EQU's expression without a known value, in which no place and no external stands but, perhaps, in faulty names.
     UnknownConstant,
     /// Any other EQU's expression.
     Equ(Equated),

@@ -4,9 +4,10 @@
 /// statement whose size is not known.
 #[derive(Clone, Copy, Debug, PartialEq, Eq)]
 pub enum Unknown {
-    /// It may be a place as well as any other expression.
+    /// It is a name whose line is faulty, and may be a place as well as any other expression.
     Anything,
-    /// It is one number in every choice of jumps.
+    /// It is no single place. It is one number in every choice of jumps, or would be but for a faulty name in it, of which
+    /// nothing is said.
     Number,
     /// It may be another number in another choice.
     Varies,
