@@ -4,9 +4,7 @@ use crate::expr::asserts::Passed::{Fixed, Jump, Unsized};
 use crate::expr::asserts::{
     assert_fault, assert_number, assert_unknown, define, define_equ, module_of, tree_of,
 };
-use asm_expr::{
-    ExprFault, Meaning, Names, Tree, Unknown, Worth, is_constant, is_defined, settle, size,
-};
+use asm_expr::{ExprFault, Meaning, Names, Unknown, Worth, is_constant};
 use std::alloc::Global;
 use std::test::Fail;
 
@@ -95,36 +93,27 @@ fn anything(rt: HostRuntime) -> Result<(), Fail> {
     Ok(())
 }
 
-/// Whether an expression is constant, and how many terms and operators it stands for.
-fn judged(alloc: Global, tree: &Tree, names: &Names) -> Result<(bool, u16), Fail> {
-    if !is_defined(tree, names) {
-        return Err(Fail::from("a name that stands for nothing"));
-    }
-    settle(alloc, tree, names)?;
-    Ok((is_constant(tree, names), size(tree, names)))
-}
-
-/// The same of a name that EQU gives.
-fn equ_is(alloc: Global, text: &[u8]) -> Result<(bool, u16), Fail> {
+/// Whether a name is constant that EQU gives.
+fn is_constant_equ(alloc: Global, text: &[u8]) -> Result<bool, Fail> {
     let mut names = module(alloc)?;
     define_equ(alloc, &mut names, b"K", text)?;
-    judged(alloc, &tree_of(alloc, b"K")?, &names)
+    Ok(is_constant(&tree_of(alloc, b"K")?, &names))
 }
 
 #[test]
 fn equs_without_a_value(rt: HostRuntime) -> Result<(), Fail> {
     let alloc = rt.alloc();
-    // Only what no place stands in is constant, and counts as one term.
-    let rows: [(&[u8], (bool, u16)); 6] = [
-        (b"N", (true, 1)),
-        (b"N+1", (true, 1)),
-        (b"PC-PA", (false, 3)),
-        (b"5/(PC-PA)", (false, 5)),
-        (b"PA+N", (false, 3)),
-        (b"PB-PA", (false, 3)),
+    // Only what no place stands in is constant, whether its value is known or not.
+    let rows: [(&[u8], bool); 6] = [
+        (b"N", true),
+        (b"N+1", true),
+        (b"PC-PA", false),
+        (b"5/(PC-PA)", false),
+        (b"PA+N", false),
+        (b"PB-PA", false),
     ];
     for (text, want) in rows {
-        assert!(rt; equ_is(alloc, text)? == want, "in {text:?}");
+        assert!(rt; is_constant_equ(alloc, text)? == want, "in {text:?}");
     }
     Ok(())
 }
