@@ -64,7 +64,7 @@ impl Names {
     }
 
     /// The statement whose place is `$`.
-    pub(crate) fn here(&self) -> u16
+    pub fn here(&self) -> u16
         ensures { result ≡ self.now.here }
     {
         self.here

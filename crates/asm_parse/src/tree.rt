@@ -1,9 +1,11 @@
 //! Expressions as a source has them.
 
-ghost use Rattle.std.specs.Prelude.{◌≡◌, map};
-ghost use Rattle.asm_parse.specs.Source.{IsSource, source_item};
+ghost use Rattle.std.specs.Prelude.{◌≡◌, [], ◌∷◌, IfOk, map};
+ghost use Rattle.asm_parse.specs.declared.item.Item.{Item};
+ghost use Rattle.asm_parse.specs.Source.{IsSource, Name, source_item};
 
 use crate::item::{Item, Term};
+use std::alloc::{AllocError, Global};
 use std::marker::Model;
 
 /// An expression as a source has it: a tree, kept as its items in postfix order.
@@ -31,6 +33,20 @@ impl Tree {
         ensures { result ≡ map source_item items.items }
     {
         Tree { items }
+    }
+
+    /// The tree of a name alone, which is in upper case.
+    ///
+    /// # Errors
+    ///
+    /// Where memory for it is refused.
+    pub fn name(alloc: Global, name: &[u8]) -> Result<Tree, AllocError>
+        ensures { IfOk result (λ tree. tree ≡ Item.Leaf (Name name.now) ∷ []) }
+    {
+        let mut items = Vec::with_capacity(alloc, 1)?;
+        let name = Vec::from_slice(alloc, name)?;
+        items.push(Item::Leaf(Term::Name(name)))?;
+        Ok(Tree::known(items))
     }
 
     /// The items in postfix order.

@@ -1,0 +1,4 @@
+pub mod Each
+pub mod Laying
+pub mod Coding
+pub mod Fields

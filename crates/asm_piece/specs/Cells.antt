@@ -1,0 +1,44 @@
+-- Fields laid end to end.
+use Rattle.std.specs.Prelude.{ℕ, ◌+◌, ◌%◌, Bool, true, false, List, [], ◌∷◌, ◌++◌, map}
+use Rattle.std.specs.List.{flat_map, list_all}
+use Rattle.z80_instr.specs.Table.{word}
+use Rattle.asm_piece.specs.declared.cell.Cell.{Cell}
+use Rattle.asm_piece.specs.declared.cell.Filling.{Filling}
+use Rattle.asm_piece.specs.declared.piece.Hole.{Hole}
+use Rattle.asm_piece.specs.declared.piece.Width.{Width}
+
+abbrev pub size_of : Width → ℕ
+size_of Width.Byte = 1
+size_of Width.Word = 2
+
+-- a number as the bytes of a field, a word's low byte first
+abbrev pub written : Width → ℕ → List ℕ
+written Width.Byte n = n % 256 ∷ []
+written Width.Word n = word n
+
+-- what stands there before places are known: 0 for a value that hangs on them
+abbrev pub number_or_0 : Filling → ℕ
+number_or_0 (Filling.Number n) = n
+number_or_0 _ = 0
+
+abbrev pub cell_bytes : Cell → List ℕ
+cell_bytes c = written c.width (number_or_0 c.filling)
+
+abbrev pub bytes : List Cell → List ℕ
+bytes cells = flat_map cell_bytes cells
+
+-- the hole of a field that has one, behind some number of bytes
+abbrev pub hole : ℕ → Width → Filling → List Hole
+hole at width (Filling.Varying e) = (record { offset = at; width = width; value = e }) ∷ []
+hole at width _ = []
+
+abbrev pub holes : ℕ → List Cell → List Hole
+holes at [] = []
+holes at (c ∷ cs) = hole at c.width c.filling ++ holes (at + size_of c.width) cs
+
+abbrev pub is_told : Filling → Bool
+is_told Filling.Unknown = false
+is_told _ = true
+
+abbrev pub all_told : List Cell → Bool
+all_told cells = list_all (λ c. is_told c.filling) cells

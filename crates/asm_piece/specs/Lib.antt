@@ -1,0 +1,4 @@
+pub mod Fields
+pub mod Cells
+pub mod Made
+pub mod Private

@@ -1,0 +1,138 @@
+//! Values of fields, and the rule of each for its range.
+
+ghost use Rattle.std.specs.Prelude.{◌≡◌, IfOk, true};
+ghost use Rattle.std.specs.List.{AllPass};
+ghost use Rattle.asm_expr.specs.Postfix.{source};
+ghost use Rattle.asm_expr.specs.Settling.{is_known};
+ghost use Rattle.asm_spell.specs.Faults.{Gives};
+ghost use Rattle.asm_piece.specs.Fields.{IsAllowed, byte, distance, ends_in_byte, filled, fixed, is_number_unknown, number, settled_in, word};
+ghost use Rattle.asm_piece.specs.Private.Views.{same};
+
+use crate::cell::Filling;
+use asm_expr::{
+    Atom, Expr, Item, Names, Offset, Settled, Tree, Unary, Unknown, items, offset_from_here,
+};
+use asm_spell::StmtFault;
+use std::alloc::Global;
+use z80_form::Field;
+
+/// The number that an expression is; None where it varies.
+pub(crate) fn number(expr: &Expr) -> Option<u16>
+    ensures { result ≡ number expr.now }
+{
+    match items(expr) {
+        [Item::Leaf(Atom::Number(n))] => Some(*n),
+        _ => None,
+    }
+}
+
+/// Whether HIGH or LOW is the outermost operator.
+fn ends_in_byte(expr: &Expr) -> bool
+    ensures { result ≡ ends_in_byte expr.now }
+{
+    matches!(
+        items(expr).last(),
+        Some(Item::Unary(Unary::High | Unary::Low))
+    )
+}
+
+/// Whether what has no value is one number all the same, as far as is known.
+fn is_number(what: Unknown) -> bool
+    ensures { result ≡ is_number_unknown what }
+{
+    matches!(what, Unknown::Anything | Unknown::Number)
+}
+
+/// What fills a byte: a number in range, or HIGH or LOW of what varies.
+fn byte(settled: Settled) -> Result<Filling, StmtFault>
+    ensures { result ≡ byte settled }
+{
+    match settled {
+        Settled::Known(expr) => match number(&expr) {
+            Some(n) if Field::Byte.allows(n) => Ok(Filling::Number(n)),
+            Some(_) => Err(StmtFault::ByteRange),
+            None if ends_in_byte(&expr) => Ok(Filling::Varying(expr)),
+            None => Err(StmtFault::NeedsLowOrHigh),
+        },
+        Settled::Unknown(Unknown::Varies) => Err(StmtFault::NeedsLowOrHigh),
+        Settled::Unknown(_) => Ok(Filling::Unknown),
+    }
+}
+
+/// What fills a word: any value.
+fn word(settled: Settled) -> Filling
+    ensures { result ≡ word settled }
+{
+    match settled {
+        Settled::Known(expr) => match number(&expr) {
+            Some(n) => Filling::Number(n),
+            None => Filling::Varying(expr),
+        },
+        Settled::Unknown(_) => Filling::Unknown,
+    }
+}
+
+/// What fills a field that takes a number in its range alone.
+pub(crate) fn fixed(field: Field, settled: Settled) -> Result<Filling, StmtFault>
+    ensures { result ≡ fixed field settled }
+{
+    match settled {
+        Settled::Known(expr) => match number(&expr) {
+            Some(n) if field.allows(n) => Ok(Filling::Number(n)),
+            Some(_) => Err(StmtFault::ByteRange),
+            None => Err(StmtFault::NeedsNumber),
+        },
+        Settled::Unknown(what) => {
+            if is_number(what) {
+                Ok(Filling::Unknown)
+            } else {
+                Err(StmtFault::NeedsNumber)
+            }
+        }
+    }
+}
+
+/// What an operand of JR or DJNZ fills, which is no name: the distance from the instruction's end.
+fn distance(offset: Offset) -> Result<Filling, StmtFault>
+    ensures { result ≡ distance offset }
+{
+    match offset {
+        Offset::Number(n) => {
+            let from_end = n.wrapping_sub(2);
+            if Field::Distance.allows(from_end) {
+                Ok(Filling::Number(from_end))
+            } else {
+                Err(StmtFault::ByteRange)
+            }
+        }
+        Offset::Unknown => Ok(Filling::Unknown),
+        Offset::NotConstant | Offset::Other => Err(StmtFault::ShortNeedsLabel),
+    }
+}
+
+/// What names make of an expression.
+pub(crate) fn settle_expr(alloc: Global, tree: &Tree, names: &Names) -> Result<Settled, StmtFault>
+    requires { AllPass (is_known names.now) tree.now }
+    ensures { Gives same result (settled_in names.now tree.now) }
+{
+    Ok(asm_expr::settle(alloc, tree, names)?)
+}
+
+/// What fills a field of an instruction, or a byte or word of data.
+pub(crate) fn fill(
+    alloc: Global,
+    field: Field,
+    tree: &Tree,
+    names: &Names,
+) -> Result<Filling, StmtFault>
+    requires { AllPass (is_known names.now) tree.now }
+    ensures filled { Gives same result (filled names.now field tree.now) }
+    ensures allowed { IfOk result (IsAllowed field) }
+{
+    match field {
+        Field::Distance => distance(offset_from_here(alloc, tree, names)?),
+        Field::Byte => byte(settle_expr(alloc, tree, names)?),
+        Field::Word => Ok(word(settle_expr(alloc, tree, names)?)),
+        _ => fixed(field, settle_expr(alloc, tree, names)?),
+    }
+}

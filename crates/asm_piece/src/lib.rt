@@ -1,0 +1,17 @@
+//! What names make of a statement: its bytes, with holes where a value hangs on places.
+//!
+//! [`settle`] returns the piece of a program that a word and its operands make, or the first fault of
+//! their values. Names are those handed in, and each name of the operands is one of them.
+#![tactic(auto)]
+
+mod cell;
+mod code;
+mod data;
+mod field;
+mod piece;
+mod settling;
+mod space;
+
+pub use asm_spell::{Body, Branch, StmtFault, Value};
+pub use piece::{Hole, Made, Piece, Width};
+pub use settling::settle;

@@ -1,0 +1,105 @@
+//! DS and ORG.
+
+ghost use Rattle.std.specs.Prelude.{◌≡◌, option_copied};
+ghost use Rattle.std.specs.Option.{IfSome};
+ghost use Rattle.asm_spell.specs.Faults.{Gives};
+ghost use Rattle.asm_piece.specs.Made.{IsDefined, is_origin, made_of, number_in, origin, sized_by, space, space_fill, space_size};
+ghost use Rattle.asm_piece.specs.Private.Views.{same};
+
+use crate::cell::Filling;
+use crate::field::{fixed, number, settle_expr};
+use crate::piece::{Made, Piece};
+use asm_expr::{Names, Settled, Tree, Unknown, is_constant};
+use asm_spell::StmtFault;
+use std::alloc::Global;
+use z80_form::Field;
+
+/// Where a program begins.
+const ORIGIN: u16 = 0x0100;
+
+/// The number that is settled, if one is.
+fn number_in(settled: &Settled) -> Option<u16>
+    ensures { result ≡ number_in settled.now }
+{
+    match settled {
+        Settled::Known(expr) => number(expr),
+        Settled::Unknown(_) => None,
+    }
+}
+
+/// The number of a DS.
+fn space_size(alloc: Global, size: &Tree, names: &Names) -> Result<Settled, StmtFault>
+    requires { IsDefined names.now size.now }
+    ensures { Gives same result (space_size names.now size.now) }
+{
+    let settled = settle_expr(alloc, size, names)?;
+    if is_constant(size, names) {
+        Ok(settled)
+    } else {
+        Err(StmtFault::SizeNamesLabel)
+    }
+}
+
+/// What fills a DS.
+fn space_fill(alloc: Global, fill: Option<&Tree>, names: &Names) -> Result<Filling, StmtFault>
+    requires { IfSome (option_copied fill) (IsDefined names.now) }
+    ensures { Gives same result (space_fill names.now (option_copied fill.entry)) }
+{
+    match fill {
+        Some(tree) => fixed(Field::Byte, settle_expr(alloc, tree, names)?),
+        None => Ok(Filling::Number(0)),
+    }
+}
+
+/// The space of a number that is known; 0 of it takes nothing up.
+fn sized(size: Option<u16>, fill: Filling) -> Made
+    ensures { made_of result ≡ sized_by size fill }
+{
+    match (size, fill) {
+        (Some(0), _) => Made::Nothing,
+        (Some(size), Filling::Number(fill)) => Made::Piece(Piece::Space {
+            size,
+            fill: (fill % 256) as u8,
+        }),
+        _ => Made::Unknown,
+    }
+}
+
+/// What DS makes.
+pub(crate) fn space(
+    alloc: Global,
+    size: &Tree,
+    fill: Option<&Tree>,
+    names: &Names,
+) -> Result<Made, StmtFault>
+    requires size { IsDefined names.now size.now }
+    requires fill { IfSome (option_copied fill) (IsDefined names.now) }
+    ensures { Gives made_of result (space names.now size.now (option_copied fill.entry)) }
+{
+    let settled = space_size(alloc, size, names)?;
+    let fill = space_fill(alloc, fill, names)?;
+    Ok(sized(number_in(&settled), fill))
+}
+
+/// Whether an expression is where a program begins, as far as is known.
+fn is_origin(settled: &Settled) -> bool
+    ensures { result ≡ is_origin settled.now }
+{
+    match settled {
+        Settled::Known(expr) => number(expr) == Some(ORIGIN),
+        Settled::Unknown(what) => matches!(what, Unknown::Anything | Unknown::Number),
+    }
+}
+
+/// What ORG makes.
+pub(crate) fn origin(alloc: Global, tree: &Tree, names: &Names) -> Result<Made, StmtFault>
+    requires { IsDefined names.now tree.now }
+    ensures { Gives made_of result (origin names.now tree.now) }
+{
+    let settled = settle_expr(alloc, tree, names)?;
+    if names.here() == 0 && is_origin(&settled) {
+        Ok(Made::Nothing)
+    } else {
+        Err(StmtFault::BadOrg)
+    }
+}
