@@ -3,5 +3,6 @@ mod Lists
 mod Entries
 mod Written
 mod Unworded
-mod Refusals
+mod Walk
+mod Numbered
 mod Definable

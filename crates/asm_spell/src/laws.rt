@@ -1,10 +1,27 @@
 //! Laws of statements, as functions that do nothing: their calls bring the clauses.
 
-ghost use Rattle.std.specs.Prelude.{◌≡◌, ◌∷◌, ◌++◌, [], ℕ, List};
-ghost use Rattle.asm_scan.specs.Tokens.{doubled};
+ghost use Rattle.std.specs.Prelude.{◌≡◌, ◌∷◌, ◌++◌, [], ℕ, List, Option, Some, Ok};
+ghost use Rattle.asm_scan.specs.Tokens.{Lexeme, doubled};
+ghost use Rattle.asm_line.specs.Forms.{form};
+ghost use Rattle.z80_instr.specs.declared.Instr.{Instr};
+ghost use Rattle.z80_form.specs.declared.field.Field.{Field};
 ghost use Rattle.asm_spell.specs.Directives.{content};
+ghost use Rattle.asm_spell.specs.Line.{Code, Expression, Statement};
+ghost use Rattle.asm_spell.specs.Numbered.{FillFields, IsNumbered};
+ghost use Rattle.asm_spell.specs.Spelling.{spelled};
 
 /// The content of a string is what stands between its quotes, which are doubled within.
 pub fn content()
     ensures { (quote : ℕ) (bytes : List ℕ) → content (quote ∷ doubled quote bytes ++ quote ∷ []) ≡ bytes }
 {}
+
+/// An instruction of a line has zeros in place of its numbers, and an expression for each of its fields.
+pub fn numbered()
+    ensures operands { (tokens : List Lexeme) (label : Option (List ℕ)) (instr : Instr) (numbers : List (Field × Expression)) →
+        spelled tokens ≡ Ok (Statement label (Some (Code instr numbers))) → IsNumbered (form tokens).rest instr numbers }
+    ensures fields { (tokens : List Lexeme) (label : Option (List ℕ)) (instr : Instr) (numbers : List (Field × Expression)) →
+        spelled tokens ≡ Ok (Statement label (Some (Code instr numbers))) → FillFields instr numbers }
+{
+    z80_form::laws::spelled();
+    z80_form::laws::fields();
+}

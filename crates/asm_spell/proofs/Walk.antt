@@ -1,0 +1,247 @@
+-- What is spelled, and what tokens alone are refused for: one walk through what is read of a line.
+use Rattle.std.proofs.Common.{◌≡◌, ℕ, Bool, true, false, List, [], ◌∷◌, Option, Some, None, Result, Ok, Err, All, cond, map, refl, sym, subst}
+use Rattle.std.specs.Result.{IfErr, IfOk}
+use Rattle.std.specs.Option.{option_map, is_some}
+use Rattle.std.specs.List.{list_any}
+use Rattle.std.proofs.lemmas.List.Elements.{All-nil, All-cons}
+use Rattle.asm_words.specs.Words.{upper, is_reserved}
+use Rattle.z80_words.specs.Named.{mnemonic_named}
+use Rattle.z80_form.specs.Spelling.{instruction_of}
+use Rattle.asm_words.specs.Results.{◌>>=◌}
+use Rattle.asm_scan.specs.Tokens.{Lexeme}
+use Rattle.asm_parse.specs.declared.fault.ExprFault.{ExprFault}
+use Rattle.asm_parse.specs.Parsed.{parsed_by}
+use Rattle.asm_parse.specs.Grammar.{Phrase, symbol}
+use Rattle.asm_parse.specs.Private.Parsing.{reading, start}
+use Rattle.asm_line.specs.Forms as front
+use Rattle.asm_line.specs.Lists.{names}
+use Rattle.z80_instr.specs.declared.IndexRegister.{IndexRegister}
+use Rattle.z80_words.specs.declared.name.Name.{Name}
+use Rattle.z80_words.specs.declared.mnemonic.Mnemonic.{Mnemonic}
+use Rattle.z80_form.specs.declared.form.Pointed.{Pointed}
+use Rattle.z80_instr.specs.declared.Instr.{Instr}
+use Rattle.z80_form.specs.declared.form.Form.{Form}
+use Rattle.z80_form.specs.declared.field.Field.{Field}
+use Rattle.z80_form.specs.Numbers.{has_expression}
+use Rattle.asm_spell.specs.declared.fault.StmtFault.{StmtFault}
+use Rattle.asm_spell.specs.declared.directive.Directive.{Directive}
+use Rattle.asm_spell.specs.declared.line.Line as line
+use Rattle.asm_spell.specs.declared.jump.Jump as jump
+use Rattle.asm_spell.specs.Faults.{IsOfTokens, Gives, value_or, each}
+use Rattle.asm_spell.specs.Line.{Expression, Value, Body, Code, Bytes, Line, Equ, Statement, line_of}
+use Rattle.asm_spell.specs.Operands as cut
+use Rattle.asm_spell.specs.Operands.{Written, answered, answered_by, is_one_name, name_of, name_alone, with_expression, at_expression, is_memory, inner, is_sign_kind, indexed, index_named, indexed_or, pointed, pointed_or, memory, named_or, written}
+use Rattle.asm_spell.specs.Directives.{directive, directive_named, value, text_or, text_alone, is_empty_text, bytes, words, space, origin, nothing, judged, names_or, names_in, entry, end}
+use Rattle.asm_spell.specs.Spelling as spelling
+use Rattle.asm_spell.specs.Spelling.{instruction, coded, jump_of, jump_to, target, word_by, operation, has_reserved, labelled, line_by, spelled}
+
+record Answers {A : Type 0} (P : A → Type 0) (r : Result A StmtFault) : Type 0 where
+  pub fault : IfErr r IsOfTokens
+  pub value : IfOk r P
+
+abbrev Refuses : {A : Type 0} → Result A StmtFault → Type 0
+Refuses {A} r = Answers {A = A} (λ _. Unit {0}) r
+
+then_known : {A B : Type 0} {P : A → Type 0} {Q : B → Type 0} (r : Result A StmtFault) (f : A → Result B StmtFault) → Answers P r → ((x : A) → r ≡ Ok x → P x → Answers Q (f x)) → Answers Q (r >>= f)
+then_known (Ok x) f p q = q x refl p.value
+then_known (Err fault) f p q = record { fault = p.fault; value = tt }
+
+then_answers : {A B : Type 0} {P : A → Type 0} {Q : B → Type 0} (r : Result A StmtFault) (f : A → Result B StmtFault) → Answers P r → ((x : A) → Answers Q (f x)) → Answers Q (r >>= f)
+then_answers r f p q = then_known r f p (λ x e given. q x)
+
+each_answers : {A B : Type 0} (P : B → Type 0) (read : A → Result B StmtFault) → ((x : A) → Answers P (read x)) → (xs : List A) → Answers (All P) (each read xs)
+each_answers P read p [] = record { fault = tt; value = All-nil P }
+each_answers P read p (x ∷ xs) = then_known (read x) _ (p x) (λ y _ first. then_known (each read xs) _ (each_answers P read p xs) (λ ys _ others. (record { fault = tt; value = All-cons P y ys first others })))
+
+each_refuses : {A B : Type 0} (read : A → Result B StmtFault) → ((x : A) → Refuses (read x)) → (xs : List A) → Answers (All (λ (y : B). Unit {0})) (each read xs)
+each_refuses read p xs = each_answers (λ _. Unit {0}) read p xs
+
+chosen : {A : Type 0} {P : A → Type 0} (b : Bool) (r s : Result A StmtFault) → Answers P r → Answers P s → Answers P (cond b r s)
+chosen true r s p q = p
+chosen false r s p q = q
+
+parsed_refuses : (phrase : Option Phrase) → Refuses (answered_by (parsed_by phrase))
+parsed_refuses None = record { fault = tt; value = tt }
+parsed_refuses (Some phrase) = too_deep _ _
+  where
+    too_deep : (b : Bool) (e : Expression) → Refuses (answered_by (cond b (Err ExprFault.TooDeep) (Ok e)))
+    too_deep true e = record { fault = tt; value = tt }
+    too_deep false e = record { fault = tt; value = tt }
+
+answered_refuses : (ts : List Lexeme) → Refuses (answered ts)
+answered_refuses ts = parsed_refuses (reading (map symbol ts) start)
+
+-- Operands of instructions: each has an expression exactly where its form is that of one.
+abbrev pub Fits : Written → Type 0
+Fits w = is_some w.expression ≡ has_expression w.form
+
+expression_fits : (form : Form) (is_name : Bool) (ts : List Lexeme) → has_expression form ≡ true → Answers Fits (with_expression form is_name ts)
+expression_fits form is_name ts has = then_answers (answered ts) _ (answered_refuses ts) (λ e. (record { fault = tt; value = sym has }))
+
+indexed_fits : (x : IndexRegister) (register : Lexeme) (rest : List Lexeme) → Answers Fits (indexed x register rest)
+indexed_fits x register [] = record { fault = tt; value = refl }
+indexed_fits x register (sign ∷ more) =
+    chosen (is_sign_kind sign.kind) (with_expression (Form.Displaced x) false (sign ∷ more)) (at_expression (register ∷ sign ∷ more))
+    (expression_fits (Form.Displaced x) false (sign ∷ more) refl) (expression_fits Form.AtNumber false (register ∷ sign ∷ more) refl)
+
+pointed_fits : (p : Option Pointed) (ts : List Lexeme) → Answers Fits (pointed_or p ts)
+pointed_fits (Some p) ts = record { fault = tt; value = refl }
+pointed_fits None ts = expression_fits Form.AtNumber false ts refl
+
+index_fits : (x : Option IndexRegister) (first : Lexeme) (rest : List Lexeme) → Answers Fits (indexed_or x first rest)
+index_fits (Some x) first rest = indexed_fits x first rest
+index_fits None first rest = pointed_fits (pointed (name_alone (first ∷ rest))) (first ∷ rest)
+
+memory_fits : (ts : List Lexeme) → Answers Fits (memory ts)
+memory_fits [] = expression_fits Form.AtNumber false [] refl
+memory_fits (first ∷ rest) = index_fits (index_named (name_of first)) first rest
+
+named_fits : (n : Option Name) (ts : List Lexeme) → Answers Fits (named_or n ts)
+named_fits (Some n) ts = record { fault = tt; value = refl }
+named_fits None ts =
+    chosen (is_memory ts) (memory (inner ts)) (with_expression Form.Number (is_one_name ts) ts) (memory_fits (inner ts)) (expression_fits Form.Number (is_one_name ts) ts refl)
+
+written_fits : (ts : List Lexeme) → Answers Fits (written ts)
+written_fits ts = named_fits (name_alone ts) ts
+
+-- Instructions.
+
+-- the mnemonic and the operands that an instruction is found by
+pub record IsFound (rest : List Lexeme) (instr : Instr) (numbers : List (Field × Expression)) : Type 0 where
+  pub mnemonic : Mnemonic
+  pub operands : List Written
+  pub read : each written (cut.operands rest) ≡ Ok operands
+  pub fit : All Fits operands
+  pub found : instruction_of mnemonic (map (λ w. w.form) operands) ≡ Some instr
+  pub numbers_are : numbers ≡ spelling.numbers instr operands
+
+abbrev pub BodyFound : List Lexeme → Body → Type 0
+BodyFound rest (Code instr numbers) = IsFound rest instr numbers
+BodyFound rest _ = Unit {0}
+
+jump_found : (ts : List Lexeme) (j : jump.Jump) (name : List ℕ) → BodyFound ts (jump_to j name)
+jump_found ts (jump.TheVariants.Relaxable condition) name = tt
+jump_found ts (jump.TheVariants.Always branch) name = tt
+
+coded_found : (ts : List Lexeme) (j : Option jump.Jump) (name : Option (List ℕ)) (instr : Instr) (read : List Written) → IsFound ts instr (spelling.numbers instr read) → BodyFound ts (coded j name instr read)
+coded_found ts (Some j) (Some name) instr read found = jump_found ts j name
+coded_found ts (Some j) None instr read found = found
+coded_found ts None name instr read found = found
+
+instruction_found : (m : Mnemonic) (ts : List Lexeme) (read : List Written) → each written (cut.operands ts) ≡ Ok read → All Fits read
+    → (o : Option Instr) → instruction_of m (map (λ w. w.form) read) ≡ o
+    → Answers (BodyFound ts) (value_or StmtFault.BadOperands o >>= λ instr. Ok (coded (jump_of instr) (target read) instr read))
+instruction_found m ts read e fit None is = record { fault = tt; value = tt }
+instruction_found m ts read e fit (Some instr) is = record {
+  fault = tt;
+  value = coded_found ts (jump_of instr) (target read) instr read (record { mnemonic = m; operands = read; read = e; fit = fit; found = is; numbers_are = refl });
+}
+
+instruction_answers : (m : Mnemonic) (ts : List Lexeme) → Answers (BodyFound ts) (instruction m ts)
+instruction_answers m ts = then_known _ _ (each_answers Fits written written_fits (cut.operands ts)) (λ read e fit. instruction_found m ts read e fit (instruction_of m (map (λ w. w.form) read)) refl)
+
+-- Directives.
+
+text_refuses : (text : Option (List ℕ)) (ts : List Lexeme) → Refuses (text_or text ts)
+text_refuses (Some text) ts = record { fault = tt; value = tt }
+text_refuses None ts = then_answers (answered ts) _ (answered_refuses ts) (λ e. (record { fault = tt; value = tt }))
+
+value_refuses : (ts : List Lexeme) → Refuses (value ts)
+value_refuses ts = text_refuses (text_alone ts) ts
+
+judged_refuses : (ts : List Lexeme) → Refuses (judged ts)
+judged_refuses ts = chosen (is_one_name ts) (Ok None) (answered ts >>= λ e. Ok (Some e)) (record { fault = tt; value = tt }) (then_answers (answered ts) _ (answered_refuses ts) (λ e. (record { fault = tt; value = tt })))
+
+names_refuse : (list : Option (List (List ℕ))) (ts : List Lexeme) → Refuses (names_or list ts)
+names_refuse (Some list) ts = record { fault = tt; value = tt }
+names_refuse None ts = then_answers _ _ (each_refuses judged judged_refuses (cut.operands ts)) (λ _. (record { fault = tt; value = tt }))
+
+-- what is answered is no instruction
+abbrev Directs : Result Body StmtFault → Type 0
+Directs r = (rest : List Lexeme) → Answers (BodyFound rest) r
+
+bytes_direct : (values : List Value) → Directs (bytes values)
+bytes_direct [] rest = record { fault = tt; value = tt }
+bytes_direct (v ∷ vs) rest = chosen (list_any is_empty_text (v ∷ vs)) (Err StmtFault.BadOperands) (Ok (Bytes (v ∷ vs))) (record { fault = tt; value = tt }) (record { fault = tt; value = tt })
+
+words_direct : (es : List Expression) → Directs (words es)
+words_direct [] rest = record { fault = tt; value = tt }
+words_direct (e ∷ es) rest = record { fault = tt; value = tt }
+
+space_direct : (es : List Expression) → Directs (space es)
+space_direct [] rest = record { fault = tt; value = tt }
+space_direct (a ∷ []) rest = record { fault = tt; value = tt }
+space_direct (a ∷ b ∷ []) rest = record { fault = tt; value = tt }
+space_direct (a ∷ b ∷ c ∷ es) rest = record { fault = tt; value = tt }
+
+origin_direct : (es : List Expression) → Directs (origin es)
+origin_direct [] rest = record { fault = tt; value = tt }
+origin_direct (e ∷ []) rest = record { fault = tt; value = tt }
+origin_direct (e ∷ f ∷ es) rest = record { fault = tt; value = tt }
+
+nothing_direct : (es : List Expression) → Directs (nothing es)
+nothing_direct [] rest = record { fault = tt; value = tt }
+nothing_direct (e ∷ es) rest = record { fault = tt; value = tt }
+
+entry_direct : (list : List (List ℕ)) → Directs (entry list)
+entry_direct [] rest = record { fault = tt; value = tt }
+entry_direct (name ∷ []) rest = record { fault = tt; value = tt }
+entry_direct (name ∷ other ∷ list) rest = record { fault = tt; value = tt }
+
+end_direct : (ts : List Lexeme) → Directs (end ts)
+end_direct [] rest = record { fault = tt; value = tt }
+end_direct (t ∷ ts) rest = then_answers (names_in (t ∷ ts)) entry (names_refuse (names (t ∷ ts)) (t ∷ ts)) (λ list. entry_direct list rest)
+
+expressions_direct : (ts : List Lexeme) (f : List Expression → Result Body StmtFault) → ((es : List Expression) → Directs (f es)) → Directs (each answered (cut.operands ts) >>= f)
+expressions_direct ts f p rest = then_answers _ f (each_refuses answered answered_refuses (cut.operands ts)) (λ es. p es rest)
+
+directive_direct : (d : Directive) (ts : List Lexeme) → Directs (directive d ts)
+directive_direct Directive.Bytes ts rest = then_answers _ bytes (each_refuses value value_refuses (cut.operands ts)) (λ values. bytes_direct values rest)
+directive_direct Directive.Words ts rest = expressions_direct ts words words_direct rest
+directive_direct Directive.Space ts rest = expressions_direct ts space space_direct rest
+directive_direct Directive.Public ts rest = then_answers (names_in ts) _ (names_refuse (names ts) ts) (λ list. (record { fault = tt; value = tt }))
+directive_direct Directive.External ts rest = then_answers (names_in ts) _ (names_refuse (names ts) ts) (λ list. (record { fault = tt; value = tt }))
+directive_direct Directive.Origin ts rest = expressions_direct ts origin origin_direct rest
+directive_direct Directive.End ts rest = end_direct ts rest
+directive_direct Directive.Z80 ts rest = expressions_direct ts nothing nothing_direct rest
+directive_direct Directive.Equ ts rest = expressions_direct ts _ (λ es rest. (record { fault = tt; value = tt })) rest
+
+-- Lines.
+
+word_answers : (m : Option Mnemonic) (d : Option Directive) (ts : List Lexeme) → Answers (BodyFound ts) (word_by m d ts)
+word_answers (Some m) d ts = instruction_answers m ts
+word_answers None (Some d) ts = directive_direct d ts ts
+word_answers None None ts = record { fault = tt; value = tt }
+
+abbrev pub LineFound : List Lexeme → Line → Type 0
+LineFound rest (Statement label (Some body)) = BodyFound rest body
+LineFound rest _ = Unit {0}
+
+labelled_answers : (ts : List Lexeme) (label : Option (List ℕ)) (body : Option Body) → LineFound ts (Statement label body) → Answers (LineFound ts) (labelled label body)
+labelled_answers ts label body found = chosen (has_reserved label body) (Err StmtFault.ReservedName) (Ok (Statement label body)) (record { fault = tt; value = tt }) (record { fault = tt; value = found })
+
+line_answers : (label : Option (List ℕ)) (head : front.Head) (rest : List Lexeme) → Answers (LineFound rest) (line_by label head rest)
+line_answers label (front.Equ name) rest = then_answers (answered rest) _ (answered_refuses rest) (λ e. chosen (is_reserved (upper name)) (Err StmtFault.ReservedName) (Ok (Equ (upper name) e)) (record { fault = tt; value = tt }) (record { fault = tt; value = tt }))
+line_answers label (front.Word name) rest = then_known (operation name rest) _ (word_answers (mnemonic_named name) (directive_named name) rest) (λ body e found. labelled_answers rest (option_map upper label) (Some body) found)
+line_answers label front.Nothing [] = labelled_answers [] (option_map upper label) None tt
+line_answers label front.Nothing (t ∷ ts) = record { fault = tt; value = tt }
+line_answers label (front.Macro name) rest = record { fault = tt; value = tt }
+line_answers label (front.Block word) rest = record { fault = tt; value = tt }
+
+spelled_answers : (ts : List Lexeme) → Answers (LineFound (front.form ts).rest) (spelled ts)
+spelled_answers ts = line_answers (front.form ts).label (front.form ts).head (front.form ts).rest
+
+-- Faults.
+
+pub spelled_refusals : (ts : List Lexeme) → IfErr (spelled ts) IsOfTokens
+spelled_refusals ts = (spelled_answers ts).fault
+
+-- What is answered of the tokens is a fault of these.
+pub of_tokens : (r : Result line.Line StmtFault) (s : Result Line StmtFault) → IfErr s IsOfTokens → Gives line_of r s → IfErr r IsOfTokens
+of_tokens (Ok l) s p g = tt
+of_tokens (Err StmtFault.NoMemory) s p g = tt
+of_tokens (Err _) s p g = subst (λ (t : Result Line StmtFault). IfErr t IsOfTokens) g p
+
+-- The instruction of a line.
+pub line_found : (ts : List Lexeme) (label : Option (List ℕ)) (instr : Instr) (numbers : List (Field × Expression)) → spelled ts ≡ Ok (Statement label (Some (Code instr numbers))) → IsFound (front.form ts).rest instr numbers
+line_found ts label instr numbers e = subst (λ (r : Result Line StmtFault). IfOk r (LineFound (front.form ts).rest)) e (spelled_answers ts).value
