@@ -5,4 +5,5 @@ mod Written
 mod Unworded
 mod Walk
 mod Numbered
+mod Named
 mod Definable

@@ -28,18 +28,18 @@ use Rattle.asm_spell.specs.declared.directive.Directive.{Directive}
 use Rattle.asm_spell.specs.declared.line.Line as line
 use Rattle.asm_spell.specs.declared.jump.Jump as jump
 use Rattle.asm_spell.specs.Faults.{IsOfTokens, Gives, value_or, each}
-use Rattle.asm_spell.specs.Line.{Expression, Value, Body, Code, Bytes, Line, Equ, Statement, line_of}
+use Rattle.asm_spell.specs.Line.{Expression, Value, Body, Code, Jump, Short, Bytes, Public, External, End, Line, Equ, Statement, line_of}
 use Rattle.asm_spell.specs.Operands as cut
 use Rattle.asm_spell.specs.Operands.{Written, answered, answered_by, is_one_name, name_of, name_alone, with_expression, at_expression, is_memory, inner, is_sign_kind, indexed, index_named, indexed_or, pointed, pointed_or, memory, named_or, written}
 use Rattle.asm_spell.specs.Directives.{directive, directive_named, value, text_or, text_alone, is_empty_text, bytes, words, space, origin, nothing, judged, names_or, names_in, entry, end}
 use Rattle.asm_spell.specs.Spelling as spelling
 use Rattle.asm_spell.specs.Spelling.{instruction, coded, jump_of, jump_to, target, word_by, operation, has_reserved, labelled, line_by, spelled}
 
-record Answers {A : Type 0} (P : A → Type 0) (r : Result A StmtFault) : Type 0 where
+pub record Answers {A : Type 0} (P : A → Type 0) (r : Result A StmtFault) : Type 0 where
   pub fault : IfErr r IsOfTokens
   pub value : IfOk r P
 
-abbrev Refuses : {A : Type 0} → Result A StmtFault → Type 0
+abbrev pub Refuses : {A : Type 0} → Result A StmtFault → Type 0
 Refuses {A} r = Answers {A = A} (λ _. Unit {0}) r
 
 then_known : {A B : Type 0} {P : A → Type 0} {Q : B → Type 0} (r : Result A StmtFault) (f : A → Result B StmtFault) → Answers P r → ((x : A) → r ≡ Ok x → P x → Answers Q (f x)) → Answers Q (r >>= f)
@@ -71,38 +71,44 @@ parsed_refuses (Some phrase) = too_deep _ _
 answered_refuses : (ts : List Lexeme) → Refuses (answered ts)
 answered_refuses ts = parsed_refuses (reading (map symbol ts) start)
 
--- Operands of instructions: each has an expression exactly where its form is that of one.
+-- Operands of instructions: what holds of one without a name or with it holds of what is read.
+module _ (P : Written → Type 0) (plain : (form : Form) (e : Option Expression) → is_some e ≡ has_expression form → P (record { form = form; expression = e; is_name = false })) where
+  plain_expression : (form : Form) (ts : List Lexeme) → has_expression form ≡ true → Answers P (with_expression form false ts)
+  plain_expression form ts has = then_answers (answered ts) _ (answered_refuses ts) (λ e. (record { fault = tt; value = plain form (Some e) (sym has) }))
+
+  indexed_answers : (x : IndexRegister) (register : Lexeme) (rest : List Lexeme) → Answers P (indexed x register rest)
+  indexed_answers x register [] = record { fault = tt; value = plain (Form.AtIndex x) None refl }
+  indexed_answers x register (sign ∷ more) =
+      chosen (is_sign_kind sign.kind) (with_expression (Form.Displaced x) false (sign ∷ more)) (at_expression (register ∷ sign ∷ more))
+      (plain_expression (Form.Displaced x) (sign ∷ more) refl) (plain_expression Form.AtNumber (register ∷ sign ∷ more) refl)
+
+  pointed_answers : (p : Option Pointed) (ts : List Lexeme) → Answers P (pointed_or p ts)
+  pointed_answers (Some p) ts = record { fault = tt; value = plain (Form.At p) None refl }
+  pointed_answers None ts = plain_expression Form.AtNumber ts refl
+
+  index_answers : (x : Option IndexRegister) (first : Lexeme) (rest : List Lexeme) → Answers P (indexed_or x first rest)
+  index_answers (Some x) first rest = indexed_answers x first rest
+  index_answers None first rest = pointed_answers (pointed (name_alone (first ∷ rest))) (first ∷ rest)
+
+  memory_answers : (ts : List Lexeme) → Answers P (memory ts)
+  memory_answers [] = plain_expression Form.AtNumber [] refl
+  memory_answers (first ∷ rest) = index_answers (index_named (name_of first)) first rest
+
+  named_answers : (n : Option Name) (ts : List Lexeme) → ((e : Expression) → answered ts ≡ Ok e → P (record { form = Form.Number; expression = Some e; is_name = is_one_name ts })) → Answers P (named_or n ts)
+  named_answers (Some n) ts number = record { fault = tt; value = plain (Form.Name n) None refl }
+  named_answers None ts number =
+      chosen (is_memory ts) (memory (inner ts)) (with_expression Form.Number (is_one_name ts) ts) (memory_answers (inner ts))
+      (then_known (answered ts) _ (answered_refuses ts) (λ e is given. (record { fault = tt; value = number e is })))
+
+  pub written_answers : (ts : List Lexeme) → ((e : Expression) → answered ts ≡ Ok e → P (record { form = Form.Number; expression = Some e; is_name = is_one_name ts })) → Answers P (written ts)
+  written_answers ts number = named_answers (name_alone ts) ts number
+
+-- Each has an expression exactly where its form is that of one.
 abbrev pub Fits : Written → Type 0
 Fits w = is_some w.expression ≡ has_expression w.form
 
-expression_fits : (form : Form) (is_name : Bool) (ts : List Lexeme) → has_expression form ≡ true → Answers Fits (with_expression form is_name ts)
-expression_fits form is_name ts has = then_answers (answered ts) _ (answered_refuses ts) (λ e. (record { fault = tt; value = sym has }))
-
-indexed_fits : (x : IndexRegister) (register : Lexeme) (rest : List Lexeme) → Answers Fits (indexed x register rest)
-indexed_fits x register [] = record { fault = tt; value = refl }
-indexed_fits x register (sign ∷ more) =
-    chosen (is_sign_kind sign.kind) (with_expression (Form.Displaced x) false (sign ∷ more)) (at_expression (register ∷ sign ∷ more))
-    (expression_fits (Form.Displaced x) false (sign ∷ more) refl) (expression_fits Form.AtNumber false (register ∷ sign ∷ more) refl)
-
-pointed_fits : (p : Option Pointed) (ts : List Lexeme) → Answers Fits (pointed_or p ts)
-pointed_fits (Some p) ts = record { fault = tt; value = refl }
-pointed_fits None ts = expression_fits Form.AtNumber false ts refl
-
-index_fits : (x : Option IndexRegister) (first : Lexeme) (rest : List Lexeme) → Answers Fits (indexed_or x first rest)
-index_fits (Some x) first rest = indexed_fits x first rest
-index_fits None first rest = pointed_fits (pointed (name_alone (first ∷ rest))) (first ∷ rest)
-
-memory_fits : (ts : List Lexeme) → Answers Fits (memory ts)
-memory_fits [] = expression_fits Form.AtNumber false [] refl
-memory_fits (first ∷ rest) = index_fits (index_named (name_of first)) first rest
-
-named_fits : (n : Option Name) (ts : List Lexeme) → Answers Fits (named_or n ts)
-named_fits (Some n) ts = record { fault = tt; value = refl }
-named_fits None ts =
-    chosen (is_memory ts) (memory (inner ts)) (with_expression Form.Number (is_one_name ts) ts) (memory_fits (inner ts)) (expression_fits Form.Number (is_one_name ts) ts refl)
-
 written_fits : (ts : List Lexeme) → Answers Fits (written ts)
-written_fits ts = named_fits (name_alone ts) ts
+written_fits ts = written_answers Fits (λ form e fits. fits) ts (λ e is. refl)
 
 -- Instructions.
 
@@ -115,18 +121,30 @@ pub record IsFound (rest : List Lexeme) (instr : Instr) (numbers : List (Field �
   pub found : instruction_of mnemonic (map (λ w. w.form) operands) ≡ Some instr
   pub numbers_are : numbers ≡ spelling.numbers instr operands
 
+-- the operands that a jump's name is read from
+pub record IsTarget (rest : List Lexeme) (name : List ℕ) : Type 0 where
+  pub operands : List Written
+  pub read : each written (cut.operands rest) ≡ Ok operands
+  pub target_is : target operands ≡ Some name
+
 abbrev pub BodyFound : List Lexeme → Body → Type 0
 BodyFound rest (Code instr numbers) = IsFound rest instr numbers
+BodyFound rest (Jump condition name) = IsTarget rest name
+BodyFound rest (Short branch name) = IsTarget rest name
+BodyFound rest (Public list) = names rest ≡ Some list
+BodyFound rest (External list) = names rest ≡ Some list
+BodyFound rest (End (Some name)) = names rest ≡ Some (name ∷ [])
 BodyFound rest _ = Unit {0}
 
-jump_found : (ts : List Lexeme) (j : jump.Jump) (name : List ℕ) → BodyFound ts (jump_to j name)
-jump_found ts (jump.TheVariants.Relaxable condition) name = tt
-jump_found ts (jump.TheVariants.Always branch) name = tt
+jump_found : (ts : List Lexeme) (j : jump.Jump) (name : List ℕ) → IsTarget ts name → BodyFound ts (jump_to j name)
+jump_found ts (jump.TheVariants.Relaxable condition) name found = found
+jump_found ts (jump.TheVariants.Always branch) name found = found
 
-coded_found : (ts : List Lexeme) (j : Option jump.Jump) (name : Option (List ℕ)) (instr : Instr) (read : List Written) → IsFound ts instr (spelling.numbers instr read) → BodyFound ts (coded j name instr read)
-coded_found ts (Some j) (Some name) instr read found = jump_found ts j name
-coded_found ts (Some j) None instr read found = found
-coded_found ts None name instr read found = found
+coded_found : (ts : List Lexeme) (j : Option jump.Jump) (name : Option (List ℕ)) (instr : Instr) (read : List Written) → each written (cut.operands ts) ≡ Ok read → target read ≡ name
+    → IsFound ts instr (spelling.numbers instr read) → BodyFound ts (coded j name instr read)
+coded_found ts (Some j) (Some name) instr read e t found = jump_found ts j name (record { operands = read; read = e; target_is = t })
+coded_found ts (Some j) None instr read e t found = found
+coded_found ts None name instr read e t found = found
 
 instruction_found : (m : Mnemonic) (ts : List Lexeme) (read : List Written) → each written (cut.operands ts) ≡ Ok read → All Fits read
     → (o : Option Instr) → instruction_of m (map (λ w. w.form) read) ≡ o
@@ -134,7 +152,7 @@ instruction_found : (m : Mnemonic) (ts : List Lexeme) (read : List Written) → 
 instruction_found m ts read e fit None is = record { fault = tt; value = tt }
 instruction_found m ts read e fit (Some instr) is = record {
   fault = tt;
-  value = coded_found ts (jump_of instr) (target read) instr read (record { mnemonic = m; operands = read; read = e; fit = fit; found = is; numbers_are = refl });
+  value = coded_found ts (jump_of instr) (target read) instr read e refl (record { mnemonic = m; operands = read; read = e; fit = fit; found = is; numbers_are = refl });
 }
 
 instruction_answers : (m : Mnemonic) (ts : List Lexeme) → Answers (BodyFound ts) (instruction m ts)
@@ -152,11 +170,11 @@ value_refuses ts = text_refuses (text_alone ts) ts
 judged_refuses : (ts : List Lexeme) → Refuses (judged ts)
 judged_refuses ts = chosen (is_one_name ts) (Ok None) (answered ts >>= λ e. Ok (Some e)) (record { fault = tt; value = tt }) (then_answers (answered ts) _ (answered_refuses ts) (λ e. (record { fault = tt; value = tt })))
 
-names_refuse : (list : Option (List (List ℕ))) (ts : List Lexeme) → Refuses (names_or list ts)
-names_refuse (Some list) ts = record { fault = tt; value = tt }
-names_refuse None ts = then_answers _ _ (each_refuses judged judged_refuses (cut.operands ts)) (λ _. (record { fault = tt; value = tt }))
+names_answer : (list : Option (List (List ℕ))) (ts : List Lexeme) → names ts ≡ list → Answers (λ found. names ts ≡ Some found) (names_or list ts)
+names_answer (Some list) ts is = record { fault = tt; value = is }
+names_answer None ts is = then_answers _ _ (each_refuses judged judged_refuses (cut.operands ts)) (λ _. (record { fault = tt; value = tt }))
 
--- what is answered is no instruction
+-- what is answered has no name and is no instruction
 abbrev Directs : Result Body StmtFault → Type 0
 Directs r = (rest : List Lexeme) → Answers (BodyFound rest) r
 
@@ -183,53 +201,68 @@ nothing_direct : (es : List Expression) → Directs (nothing es)
 nothing_direct [] rest = record { fault = tt; value = tt }
 nothing_direct (e ∷ es) rest = record { fault = tt; value = tt }
 
-entry_direct : (list : List (List ℕ)) → Directs (entry list)
-entry_direct [] rest = record { fault = tt; value = tt }
-entry_direct (name ∷ []) rest = record { fault = tt; value = tt }
-entry_direct (name ∷ other ∷ list) rest = record { fault = tt; value = tt }
+entry_answers : (list : List (List ℕ)) (ts : List Lexeme) → names ts ≡ Some list → Answers (BodyFound ts) (entry list)
+entry_answers [] ts is = record { fault = tt; value = tt }
+entry_answers (name ∷ []) ts is = record { fault = tt; value = is }
+entry_answers (name ∷ other ∷ list) ts is = record { fault = tt; value = tt }
 
-end_direct : (ts : List Lexeme) → Directs (end ts)
-end_direct [] rest = record { fault = tt; value = tt }
-end_direct (t ∷ ts) rest = then_answers (names_in (t ∷ ts)) entry (names_refuse (names (t ∷ ts)) (t ∷ ts)) (λ list. entry_direct list rest)
+end_answers : (ts : List Lexeme) → Answers (BodyFound ts) (end ts)
+end_answers [] = record { fault = tt; value = tt }
+end_answers (t ∷ ts) = then_known (names_in (t ∷ ts)) entry (names_answer (names (t ∷ ts)) (t ∷ ts) refl) (λ list e is. entry_answers list (t ∷ ts) is)
 
 expressions_direct : (ts : List Lexeme) (f : List Expression → Result Body StmtFault) → ((es : List Expression) → Directs (f es)) → Directs (each answered (cut.operands ts) >>= f)
 expressions_direct ts f p rest = then_answers _ f (each_refuses answered answered_refuses (cut.operands ts)) (λ es. p es rest)
 
-directive_direct : (d : Directive) (ts : List Lexeme) → Directs (directive d ts)
-directive_direct Directive.Bytes ts rest = then_answers _ bytes (each_refuses value value_refuses (cut.operands ts)) (λ values. bytes_direct values rest)
-directive_direct Directive.Words ts rest = expressions_direct ts words words_direct rest
-directive_direct Directive.Space ts rest = expressions_direct ts space space_direct rest
-directive_direct Directive.Public ts rest = then_answers (names_in ts) _ (names_refuse (names ts) ts) (λ list. (record { fault = tt; value = tt }))
-directive_direct Directive.External ts rest = then_answers (names_in ts) _ (names_refuse (names ts) ts) (λ list. (record { fault = tt; value = tt }))
-directive_direct Directive.Origin ts rest = expressions_direct ts origin origin_direct rest
-directive_direct Directive.End ts rest = end_direct ts rest
-directive_direct Directive.Z80 ts rest = expressions_direct ts nothing nothing_direct rest
-directive_direct Directive.Equ ts rest = expressions_direct ts _ (λ es rest. (record { fault = tt; value = tt })) rest
+directive_answers : (d : Directive) (ts : List Lexeme) → Answers (BodyFound ts) (directive d ts)
+directive_answers Directive.Bytes ts = then_answers _ bytes (each_refuses value value_refuses (cut.operands ts)) (λ values. bytes_direct values ts)
+directive_answers Directive.Words ts = expressions_direct ts words words_direct ts
+directive_answers Directive.Space ts = expressions_direct ts space space_direct ts
+directive_answers Directive.Public ts = then_known (names_in ts) _ (names_answer (names ts) ts refl) (λ list e is. (record { fault = tt; value = is }))
+directive_answers Directive.External ts = then_known (names_in ts) _ (names_answer (names ts) ts refl) (λ list e is. (record { fault = tt; value = is }))
+directive_answers Directive.Origin ts = expressions_direct ts origin origin_direct ts
+directive_answers Directive.End ts = end_answers ts
+directive_answers Directive.Z80 ts = expressions_direct ts nothing nothing_direct ts
+directive_answers Directive.Equ ts = expressions_direct ts _ (λ es rest. (record { fault = tt; value = tt })) ts
 
 -- Lines.
 
 word_answers : (m : Option Mnemonic) (d : Option Directive) (ts : List Lexeme) → Answers (BodyFound ts) (word_by m d ts)
 word_answers (Some m) d ts = instruction_answers m ts
-word_answers None (Some d) ts = directive_direct d ts ts
+word_answers None (Some d) ts = directive_answers d ts
 word_answers None None ts = record { fault = tt; value = tt }
 
-abbrev pub LineFound : List Lexeme → Line → Type 0
-LineFound rest (Statement label (Some body)) = BodyFound rest body
-LineFound rest _ = Unit {0}
+abbrev pub OptionFound : List Lexeme → Option Body → Type 0
+OptionFound rest None = Unit {0}
+OptionFound rest (Some body) = BodyFound rest body
 
-labelled_answers : (ts : List Lexeme) (label : Option (List ℕ)) (body : Option Body) → LineFound ts (Statement label body) → Answers (LineFound ts) (labelled label body)
-labelled_answers ts label body found = chosen (has_reserved label body) (Err StmtFault.ReservedName) (Ok (Statement label body)) (record { fault = tt; value = tt }) (record { fault = tt; value = found })
+-- what the line says first, as it is written, and what is found behind it
+abbrev pub LineFound : Option (List ℕ) → front.Head → List Lexeme → Line → Type 0
+LineFound label head rest (Equ name e) = (written : List ℕ) × (head ≡ front.Equ written) × (name ≡ upper written) × (is_reserved name ≡ false)
+LineFound label head rest (Statement name body) = (name ≡ option_map upper label) × (has_reserved name body ≡ false) × OptionFound rest body
 
-line_answers : (label : Option (List ℕ)) (head : front.Head) (rest : List Lexeme) → Answers (LineFound rest) (line_by label head rest)
-line_answers label (front.Equ name) rest = then_answers (answered rest) _ (answered_refuses rest) (λ e. chosen (is_reserved (upper name)) (Err StmtFault.ReservedName) (Ok (Equ (upper name) e)) (record { fault = tt; value = tt }) (record { fault = tt; value = tt }))
-line_answers label (front.Word name) rest = then_known (operation name rest) _ (word_answers (mnemonic_named name) (directive_named name) rest) (λ body e found. labelled_answers rest (option_map upper label) (Some body) found)
-line_answers label front.Nothing [] = labelled_answers [] (option_map upper label) None tt
+unless : {P : Line → Type 0} (reserved : Bool) (l : Line) → (reserved ≡ false → P l) → Answers P (cond reserved (Err StmtFault.ReservedName) (Ok l))
+unless true l found = record { fault = tt; value = tt }
+unless false l found = record { fault = tt; value = found refl }
+
+labelled_answers : (label : Option (List ℕ)) (head : front.Head) (ts : List Lexeme) (body : Option Body) → OptionFound ts body → Answers (LineFound label head ts) (labelled (option_map upper label) body)
+labelled_answers label head ts body found = unless (has_reserved (option_map upper label) body) (Statement (option_map upper label) body) (λ free. (refl, free, found))
+
+line_answers : (label : Option (List ℕ)) (head : front.Head) (rest : List Lexeme) → Answers (LineFound label head rest) (line_by label head rest)
+line_answers label (front.Equ name) rest = then_answers (answered rest) _ (answered_refuses rest) (λ e. unless (is_reserved (upper name)) (Equ (upper name) e) (λ free. (name, refl, refl, free)))
+line_answers label (front.Word name) rest = then_known (operation name rest) _ (word_answers (mnemonic_named name) (directive_named name) rest) (λ body e found. labelled_answers label (front.Word name) rest (Some body) found)
+line_answers label front.Nothing [] = labelled_answers label front.Nothing [] None tt
 line_answers label front.Nothing (t ∷ ts) = record { fault = tt; value = tt }
 line_answers label (front.Macro name) rest = record { fault = tt; value = tt }
 line_answers label (front.Block word) rest = record { fault = tt; value = tt }
 
-spelled_answers : (ts : List Lexeme) → Answers (LineFound (front.form ts).rest) (spelled ts)
+abbrev pub Found : List Lexeme → Line → Type 0
+Found ts l = LineFound (front.form ts).label (front.form ts).head (front.form ts).rest l
+
+spelled_answers : (ts : List Lexeme) → Answers (Found ts) (spelled ts)
 spelled_answers ts = line_answers (front.form ts).label (front.form ts).head (front.form ts).rest
+
+pub line_found : (ts : List Lexeme) (l : Line) → spelled ts ≡ Ok l → Found ts l
+line_found ts l e = subst (λ (r : Result Line StmtFault). IfOk r (Found ts)) e (spelled_answers ts).value
 
 -- Faults.
 
@@ -241,7 +274,3 @@ pub of_tokens : (r : Result line.Line StmtFault) (s : Result Line StmtFault) →
 of_tokens (Ok l) s p g = tt
 of_tokens (Err StmtFault.NoMemory) s p g = tt
 of_tokens (Err _) s p g = subst (λ (t : Result Line StmtFault). IfErr t IsOfTokens) g p
-
--- The instruction of a line.
-pub line_found : (ts : List Lexeme) (label : Option (List ℕ)) (instr : Instr) (numbers : List (Field × Expression)) → spelled ts ≡ Ok (Statement label (Some (Code instr numbers))) → IsFound (front.form ts).rest instr numbers
-line_found ts label instr numbers e = subst (λ (r : Result Line StmtFault). IfOk r (LineFound (front.form ts).rest)) e (spelled_answers ts).value

@@ -1,7 +1,7 @@
 -- Which line a list of tokens spells, or its first fault.
-use Rattle.std.specs.Prelude.{ℕ, Bool, false, List, [], ◌∷◌, Option, Some, None, Result, Ok, Err, if◌then◌else◌, map, ◌||◌}
+use Rattle.std.specs.Prelude.{ℕ, Bool, List, [], ◌∷◌, Option, Some, None, Result, Ok, Err, if◌then◌else◌, map}
 use Rattle.std.specs.Option.{option_map}
-use Rattle.std.specs.List.{list_any, filter_map}
+use Rattle.std.specs.List.{cons_option, list_any, filter_map}
 use Rattle.asm_scan.specs.Tokens.{Lexeme}
 use Rattle.asm_parse.specs.declared.item.Item.{Item}
 use Rattle.asm_parse.specs.Source.{Name}
@@ -101,11 +101,16 @@ body_names (External list) = list
 body_names (End (Some name)) = name ∷ []
 body_names _ = []
 
+abbrev pub option_names : Option Body → List (List ℕ)
+option_names None = []
+option_names (Some body) = body_names body
+
+-- .. and its label before them
+abbrev pub statement_names : Option (List ℕ) → Option Body → List (List ℕ)
+statement_names label body = cons_option label (option_names body)
+
 abbrev pub has_reserved : Option (List ℕ) → Option Body → Bool
-has_reserved None None = false
-has_reserved None (Some body) = list_any is_reserved (body_names body)
-has_reserved (Some label) None = is_reserved label
-has_reserved (Some label) (Some body) = is_reserved label || list_any is_reserved (body_names body)
+has_reserved label body = list_any is_reserved (statement_names label body)
 
 -- a label and a statement, each if the line has one
 abbrev pub labelled : Option (List ℕ) → Option Body → Result Line StmtFault

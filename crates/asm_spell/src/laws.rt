@@ -1,12 +1,14 @@
 //! Laws of statements, as functions that do nothing: their calls bring the clauses.
 
-ghost use Rattle.std.specs.Prelude.{◌≡◌, ◌∷◌, ◌++◌, [], ℕ, List, Option, Some, Ok};
+ghost use Rattle.std.specs.Prelude.{◌≡◌, ◌∷◌, ◌++◌, [], ℕ, List, Option, Some, Ok, All};
 ghost use Rattle.asm_scan.specs.Tokens.{Lexeme, doubled};
+ghost use Rattle.asm_scan.specs.Scanned.{scanned};
 ghost use Rattle.asm_line.specs.Forms.{form};
 ghost use Rattle.z80_instr.specs.declared.Instr.{Instr};
 ghost use Rattle.z80_form.specs.declared.field.Field.{Field};
 ghost use Rattle.asm_spell.specs.Directives.{content};
-ghost use Rattle.asm_spell.specs.Line.{Code, Expression, Statement};
+ghost use Rattle.asm_spell.specs.Line.{Code, Expression, Line, Statement};
+ghost use Rattle.asm_spell.specs.Names.{IsDefinable, line_names, line_targets};
 ghost use Rattle.asm_spell.specs.Numbered.{FillFields, IsNumbered};
 ghost use Rattle.asm_spell.specs.Spelling.{spelled};
 
@@ -24,4 +26,15 @@ pub fn numbered()
 {
     z80_form::laws::spelled();
     z80_form::laws::fields();
+}
+
+/// A program can define each name that a line defines or passes on, and the name that its jump branches to.
+pub fn names()
+    ensures defined { (line : List ℕ) (tokens : List Lexeme) (found : Line) → scanned line ≡ Ok tokens → spelled tokens ≡ Ok found →
+        All IsDefinable (line_names found) }
+    ensures targets { (line : List ℕ) (tokens : List Lexeme) (found : Line) → scanned line ≡ Ok tokens → spelled tokens ≡ Ok found →
+        All IsDefinable (line_targets found) }
+{
+    asm_scan::laws::scanned();
+    asm_parse::laws::parsed();
 }
