@@ -7,3 +7,4 @@ mod Walk
 mod Numbered
 mod Named
 mod Definable
+mod Cuts

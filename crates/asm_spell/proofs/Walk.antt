@@ -1,7 +1,8 @@
 -- What is spelled, and what tokens alone are refused for: one walk through what is read of a line.
-use Rattle.std.proofs.Common.{◌≡◌, ℕ, Bool, true, false, List, [], ◌∷◌, Option, Some, None, Result, Ok, Err, All, cond, map, refl, sym, subst}
+use Rattle.std.proofs.Common.{◌≡◌, ℕ, Bool, true, false, List, [], ◌∷◌, Option, Some, None, Result, Ok, Err, All, codes, cond, map, refl, sym, subst}
 use Rattle.std.specs.Result.{IfErr, IfOk}
-use Rattle.std.specs.Option.{option_map, is_some}
+use Rattle.std.specs.Option.{IfSome, is_some, option_and_then, option_map}
+use Rattle.std.specs.Str.{str_eq_ignore_ascii_case}
 use Rattle.std.specs.List.{list_any}
 use Rattle.std.proofs.lemmas.List.Elements.{All-nil, All-cons}
 use Rattle.asm_words.specs.Words.{upper, is_reserved}
@@ -20,20 +21,19 @@ use Rattle.z80_words.specs.declared.name.Name.{Name}
 use Rattle.z80_words.specs.declared.mnemonic.Mnemonic.{Mnemonic}
 use Rattle.z80_form.specs.declared.form.Pointed.{Pointed}
 use Rattle.z80_instr.specs.declared.Instr.{Instr}
+use Rattle.z80_instr.specs.declared.ShortCond.{ShortCond}
 use Rattle.z80_form.specs.declared.form.Form.{Form}
 use Rattle.z80_form.specs.declared.field.Field.{Field}
 use Rattle.z80_form.specs.Numbers.{has_expression}
 use Rattle.asm_spell.specs.declared.fault.StmtFault.{StmtFault}
-use Rattle.asm_spell.specs.declared.directive.Directive.{Directive}
 use Rattle.asm_spell.specs.declared.line.Line as line
-use Rattle.asm_spell.specs.declared.jump.Jump as jump
 use Rattle.asm_spell.specs.Faults.{IsOfTokens, Gives, value_or, each}
 use Rattle.asm_spell.specs.Line.{Expression, Value, Body, Code, Jump, Short, Bytes, Public, External, End, Line, Equ, Statement, line_of}
 use Rattle.asm_spell.specs.Operands as cut
 use Rattle.asm_spell.specs.Operands.{Written, answered, answered_by, is_one_name, name_of, name_alone, with_expression, at_expression, is_memory, inner, is_sign_kind, indexed, index_named, indexed_or, pointed, pointed_or, memory, named_or, written}
-use Rattle.asm_spell.specs.Directives.{directive, directive_named, value, text_or, text_alone, is_empty_text, bytes, words, space, origin, nothing, judged, names_or, names_in, entry, end}
+use Rattle.asm_spell.specs.Directives.{directive, external, nameless, of_bytes, of_nothing, of_origin, of_space, of_words, public, value, text_or, text_alone, is_empty_text, bytes, words, space, origin, nothing, judged, names_or, names_in, entry, end}
 use Rattle.asm_spell.specs.Spelling as spelling
-use Rattle.asm_spell.specs.Spelling.{instruction, coded, jump_of, jump_to, target, word_by, operation, has_reserved, labelled, line_by, spelled}
+use Rattle.asm_spell.specs.Spelling.{instruction, coded, jump_or, jump_to, short_condition, target, word_by, operation, has_reserved, labelled, line_by, spelled}
 
 pub record Answers {A : Type 0} (P : A → Type 0) (r : Result A StmtFault) : Type 0 where
   pub fault : IfErr r IsOfTokens
@@ -136,23 +136,40 @@ BodyFound rest (External list) = names rest ≡ Some list
 BodyFound rest (End (Some name)) = names rest ≡ Some (name ∷ [])
 BodyFound rest _ = Unit {0}
 
-jump_found : (ts : List Lexeme) (j : jump.Jump) (name : List ℕ) → IsTarget ts name → BodyFound ts (jump_to j name)
-jump_found ts (jump.TheVariants.Relaxable condition) name found = found
-jump_found ts (jump.TheVariants.Always branch) name found = found
+abbrev pub OptionFound : List Lexeme → Option Body → Type 0
+OptionFound rest None = Unit {0}
+OptionFound rest (Some body) = BodyFound rest body
 
-coded_found : (ts : List Lexeme) (j : Option jump.Jump) (name : Option (List ℕ)) (instr : Instr) (read : List Written) → each written (cut.operands ts) ≡ Ok read → target read ≡ name
-    → IsFound ts instr (spelling.numbers instr read) → BodyFound ts (coded j name instr read)
-coded_found ts (Some j) (Some name) instr read e t found = jump_found ts j name (record { operands = read; read = e; target_is = t })
-coded_found ts (Some j) None instr read e t found = found
-coded_found ts None name instr read e t found = found
+jump_found : (ts : List Lexeme) (instr : Instr) (name : List ℕ) (body : Body) → jump_to instr name ≡ Some body → IsTarget ts name → BodyFound ts body
+jump_found ts (Instr.Jump nn) name body is found = subst (OptionFound ts) is found
+jump_found ts (Instr.JumpIf cc nn) name body is found = subst (OptionFound ts) is (conditional (short_condition cc))
+  where
+    conditional : (c : Option ShortCond) → OptionFound ts (option_map (λ c. Jump (Some c) name) c)
+    conditional None = tt
+    conditional (Some c) = found
+jump_found ts (Instr.JumpRelative e) name body is found = subst (OptionFound ts) is found
+jump_found ts (Instr.JumpRelativeIf cc e) name body is found = subst (OptionFound ts) is found
+jump_found ts (Instr.Djnz e) name body is found = subst (OptionFound ts) is found
+jump_found ts _ name body is found = absurd cc
+
+coded_found : (ts : List Lexeme) (instr : Instr) (read : List Written) → each written (cut.operands ts) ≡ Ok read → IsFound ts instr (spelling.numbers instr read) → BodyFound ts (coded instr read)
+coded_found ts instr read e found = by_target (target read) refl
+  where
+    by_jump : (name : List ℕ) (jump : Option Body) → jump_to instr name ≡ jump → target read ≡ Some name → BodyFound ts (jump_or jump instr read)
+    by_jump name None is t = found
+    by_jump name (Some body) is t = jump_found ts instr name body is (record { operands = read; read = e; target_is = t })
+
+    by_target : (name : Option (List ℕ)) → target read ≡ name → BodyFound ts (jump_or (option_and_then (jump_to instr) name) instr read)
+    by_target None t = found
+    by_target (Some name) t = by_jump name (jump_to instr name) refl t
 
 instruction_found : (m : Mnemonic) (ts : List Lexeme) (read : List Written) → each written (cut.operands ts) ≡ Ok read → All Fits read
     → (o : Option Instr) → instruction_of m (map (λ w. w.form) read) ≡ o
-    → Answers (BodyFound ts) (value_or StmtFault.BadOperands o >>= λ instr. Ok (coded (jump_of instr) (target read) instr read))
+    → Answers (BodyFound ts) (value_or StmtFault.BadOperands o >>= λ instr. Ok (coded instr read))
 instruction_found m ts read e fit None is = record { fault = tt; value = tt }
 instruction_found m ts read e fit (Some instr) is = record {
   fault = tt;
-  value = coded_found ts (jump_of instr) (target read) instr read e refl (record { mnemonic = m; operands = read; read = e; fit = fit; found = is; numbers_are = refl });
+  value = coded_found ts instr read e (record { mnemonic = m; operands = read; read = e; fit = fit; found = is; numbers_are = refl });
 }
 
 instruction_answers : (m : Mnemonic) (ts : List Lexeme) → Answers (BodyFound ts) (instruction m ts)
@@ -213,27 +230,58 @@ end_answers (t ∷ ts) = then_known (names_in (t ∷ ts)) entry (names_answer (n
 expressions_direct : (ts : List Lexeme) (f : List Expression → Result Body StmtFault) → ((es : List Expression) → Directs (f es)) → Directs (each answered (cut.operands ts) >>= f)
 expressions_direct ts f p rest = then_answers _ f (each_refuses answered answered_refuses (cut.operands ts)) (λ es. p es rest)
 
-directive_answers : (d : Directive) (ts : List Lexeme) → Answers (BodyFound ts) (directive d ts)
-directive_answers Directive.Bytes ts = then_answers _ bytes (each_refuses value value_refuses (cut.operands ts)) (λ values. bytes_direct values ts)
-directive_answers Directive.Words ts = expressions_direct ts words words_direct ts
-directive_answers Directive.Space ts = expressions_direct ts space space_direct ts
-directive_answers Directive.Public ts = then_known (names_in ts) _ (names_answer (names ts) ts refl) (λ list e is. (record { fault = tt; value = is }))
-directive_answers Directive.External ts = then_known (names_in ts) _ (names_answer (names ts) ts refl) (λ list e is. (record { fault = tt; value = is }))
-directive_answers Directive.Origin ts = expressions_direct ts origin origin_direct ts
-directive_answers Directive.End ts = end_answers ts
-directive_answers Directive.Z80 ts = expressions_direct ts nothing nothing_direct ts
-directive_answers Directive.Equ ts = expressions_direct ts _ (λ es rest. (record { fault = tt; value = tt })) ts
+nameless_direct : (ts : List Lexeme) → Directs (nameless ts)
+nameless_direct ts rest = expressions_direct ts _ (λ es rest. (record { fault = tt; value = tt })) rest
+
+public_answers : (ts : List Lexeme) → Answers (BodyFound ts) (public ts)
+public_answers ts = then_known (names_in ts) _ (names_answer (names ts) ts refl) (λ list e is. (record { fault = tt; value = is }))
+
+external_answers : (ts : List Lexeme) → Answers (BodyFound ts) (external ts)
+external_answers ts = then_known (names_in ts) _ (names_answer (names ts) ts refl) (λ list e is. (record { fault = tt; value = is }))
+
+bytes_answers : (ts : List Lexeme) → Answers (BodyFound ts) (of_bytes ts)
+bytes_answers ts = then_answers _ bytes (each_refuses value value_refuses (cut.operands ts)) (λ values. bytes_direct values ts)
+
+-- what holds of each directive holds of the one that a word is
+abbrev Spells : (List Lexeme → Result Body StmtFault) → Type 0
+Spells d = (ts : List Lexeme) → Answers (BodyFound ts) (d ts)
+
+looked_up : (name : List ℕ) (b : Bool) (d : List Lexeme → Result Body StmtFault) (others : Option (List Lexeme → Result Body StmtFault)) → Spells d → IfSome others Spells → IfSome (cond b (Some d) others) Spells
+looked_up name true d others here later = here
+looked_up name false d others here later = later
+
+directive_answers : (name : List ℕ) → IfSome (directive name) Spells
+directive_answers name =
+    let same = str_eq_ignore_ascii_case name in
+    looked_up name (same (codes "DB")) of_bytes _ bytes_answers (looked_up name (same (codes "DEFB")) of_bytes _ bytes_answers (looked_up name (same (codes "DEFM")) of_bytes _ bytes_answers
+    (looked_up name (same (codes "DW")) of_words _ words_answers (looked_up name (same (codes "DEFW")) of_words _ words_answers
+    (looked_up name (same (codes "DS")) of_space _ space_answers (looked_up name (same (codes "DEFS")) of_space _ space_answers
+    (looked_up name (same (codes "PUBLIC")) public _ public_answers (looked_up name (same (codes "GLOBAL")) public _ public_answers
+    (looked_up name (same (codes "EXTRN")) external _ external_answers (looked_up name (same (codes "EXTERNAL")) external _ external_answers
+    (looked_up name (same (codes "ORG")) of_origin _ origin_answers (looked_up name (same (codes "END")) end _ end_answers
+    (looked_up name (same (codes ".Z80")) of_nothing _ nothing_answers (looked_up name (same (codes "EQU")) nameless _ nameless_answers tt))))))))))))))
+  where
+    words_answers : Spells of_words
+    words_answers ts = expressions_direct ts words words_direct ts
+
+    space_answers : Spells of_space
+    space_answers ts = expressions_direct ts space space_direct ts
+
+    origin_answers : Spells of_origin
+    origin_answers ts = expressions_direct ts origin origin_direct ts
+
+    nothing_answers : Spells of_nothing
+    nothing_answers ts = expressions_direct ts nothing nothing_direct ts
+
+    nameless_answers : Spells nameless
+    nameless_answers ts = nameless_direct ts ts
 
 -- Lines.
 
-word_answers : (m : Option Mnemonic) (d : Option Directive) (ts : List Lexeme) → Answers (BodyFound ts) (word_by m d ts)
-word_answers (Some m) d ts = instruction_answers m ts
-word_answers None (Some d) ts = directive_answers d ts
-word_answers None None ts = record { fault = tt; value = tt }
-
-abbrev pub OptionFound : List Lexeme → Option Body → Type 0
-OptionFound rest None = Unit {0}
-OptionFound rest (Some body) = BodyFound rest body
+word_answers : (m : Option Mnemonic) (d : Option (List Lexeme → Result Body StmtFault)) (ts : List Lexeme) → IfSome d Spells → Answers (BodyFound ts) (word_by m d ts)
+word_answers (Some m) d ts spells = instruction_answers m ts
+word_answers None (Some d) ts spells = spells ts
+word_answers None None ts spells = record { fault = tt; value = tt }
 
 -- what the line says first, as it is written, and what is found behind it
 abbrev pub LineFound : Option (List ℕ) → front.Head → List Lexeme → Line → Type 0
@@ -249,7 +297,7 @@ labelled_answers label head ts body found = unless (has_reserved (option_map upp
 
 line_answers : (label : Option (List ℕ)) (head : front.Head) (rest : List Lexeme) → Answers (LineFound label head rest) (line_by label head rest)
 line_answers label (front.Equ name) rest = then_answers (answered rest) _ (answered_refuses rest) (λ e. unless (is_reserved (upper name)) (Equ (upper name) e) (λ free. (name, refl, refl, free)))
-line_answers label (front.Word name) rest = then_known (operation name rest) _ (word_answers (mnemonic_named name) (directive_named name) rest) (λ body e found. labelled_answers label (front.Word name) rest (Some body) found)
+line_answers label (front.Word name) rest = then_known (operation name rest) _ (word_answers (mnemonic_named name) (directive name) rest (directive_answers name)) (λ body e found. labelled_answers label (front.Word name) rest (Some body) found)
 line_answers label front.Nothing [] = labelled_answers label front.Nothing [] None tt
 line_answers label front.Nothing (t ∷ ts) = record { fault = tt; value = tt }
 line_answers label (front.Macro name) rest = record { fault = tt; value = tt }

@@ -1,6 +1,7 @@
 pub mod Faults
 pub mod Line
 pub mod Operands
+pub mod Cuts
 pub mod Directives
 pub mod Spelling
 pub mod Names

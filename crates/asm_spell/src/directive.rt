@@ -6,7 +6,8 @@ ghost use Rattle.std.specs.List.{list_any};
 ghost use Rattle.asm_scan.specs.Tokens.{lexemes};
 ghost use Rattle.asm_spell.specs.Faults.{Gives};
 ghost use Rattle.asm_spell.specs.Line.{body_of, names_of, value_of};
-ghost use Rattle.asm_spell.specs.Directives.{content, directive, directive_named, end, entry, is_empty_text, names_in, text_alone, text_by};
+ghost use Rattle.asm_spell.specs.Directives.{content, directive, end, entry, is_empty_text, nameless, names_in, of_bytes, of_nothing, of_origin, of_space, of_words, text_alone, text_by};
+ghost use Rattle.asm_spell.specs.Private.Choices.{directs};
 
 use crate::cut::{Operand, each};
 use crate::fault::StmtFault;
@@ -41,7 +42,7 @@ pub(crate) enum Directive {
 
 /// The directive that a word is, in either case.
 pub(crate) fn directive_named(name: &[u8]) -> Option<Directive>
-    ensures { result ≡ directive_named name.now }
+    ensures { option_map directs result ≡ directive name.now }
 {
     if name.eq_ignore_ascii_case(b"DB") {
         Some(Directive::Bytes)
@@ -160,7 +161,7 @@ fn any_empty(values: &[Value]) -> bool
 
 /// `DB`
 fn bytes(alloc: Global, tokens: &[Token<'_>]) -> Result<Body, StmtFault>
-    ensures { Gives body_of result (directive Directive.Bytes (lexemes tokens.entry.now)) }
+    ensures { Gives body_of result (of_bytes (lexemes tokens.entry.now)) }
 {
     let values: Vec<Value> = each(alloc, tokens)?;
     if values.is_empty() || any_empty(&values) {
@@ -171,7 +172,7 @@ fn bytes(alloc: Global, tokens: &[Token<'_>]) -> Result<Body, StmtFault>
 
 /// `DW`
 fn words(alloc: Global, tokens: &[Token<'_>]) -> Result<Body, StmtFault>
-    ensures { Gives body_of result (directive Directive.Words (lexemes tokens.entry.now)) }
+    ensures { Gives body_of result (of_words (lexemes tokens.entry.now)) }
 {
     let fields: Vec<Tree> = each(alloc, tokens)?;
     if fields.is_empty() {
@@ -182,7 +183,7 @@ fn words(alloc: Global, tokens: &[Token<'_>]) -> Result<Body, StmtFault>
 
 /// `DS`
 fn space(alloc: Global, tokens: &[Token<'_>]) -> Result<Body, StmtFault>
-    ensures { Gives body_of result (directive Directive.Space (lexemes tokens.entry.now)) }
+    ensures { Gives body_of result (of_space (lexemes tokens.entry.now)) }
 {
     let mut fields: Vec<Tree> = each(alloc, tokens)?;
     let last = fields.pop();
@@ -196,7 +197,7 @@ fn space(alloc: Global, tokens: &[Token<'_>]) -> Result<Body, StmtFault>
 
 /// `ORG`
 fn origin(alloc: Global, tokens: &[Token<'_>]) -> Result<Body, StmtFault>
-    ensures { Gives body_of result (directive Directive.Origin (lexemes tokens.entry.now)) }
+    ensures { Gives body_of result (of_origin (lexemes tokens.entry.now)) }
 {
     let mut fields: Vec<Tree> = each(alloc, tokens)?;
     match fields.pop() {
@@ -207,7 +208,7 @@ fn origin(alloc: Global, tokens: &[Token<'_>]) -> Result<Body, StmtFault>
 
 /// `.Z80`
 fn nothing(alloc: Global, tokens: &[Token<'_>]) -> Result<Body, StmtFault>
-    ensures { Gives body_of result (directive Directive.Z80 (lexemes tokens.entry.now)) }
+    ensures { Gives body_of result (of_nothing (lexemes tokens.entry.now)) }
 {
     let fields: Vec<Tree> = each(alloc, tokens)?;
     if fields.is_empty() {
@@ -219,7 +220,7 @@ fn nothing(alloc: Global, tokens: &[Token<'_>]) -> Result<Body, StmtFault>
 
 /// `EQU` without a name: its operands are read for their faults.
 fn nameless(alloc: Global, tokens: &[Token<'_>]) -> Result<Body, StmtFault>
-    ensures { Gives body_of result (directive Directive.Equ (lexemes tokens.entry.now)) }
+    ensures { Gives body_of result (nameless (lexemes tokens.entry.now)) }
 {
     let _fields: Vec<Tree> = each(alloc, tokens)?;
     Err(StmtFault::BadOperands)
@@ -287,7 +288,7 @@ pub(crate) fn spell_directive(
     found: Directive,
     tokens: &[Token<'_>],
 ) -> Result<Body, StmtFault>
-    ensures { Gives body_of result (directive found (lexemes tokens.entry.now)) }
+    ensures { Gives body_of result (directs found (lexemes tokens.entry.now)) }
 {
     match found {
         Directive::Bytes => bytes(alloc, tokens),

@@ -1,14 +1,16 @@
 //! Laws of statements, as functions that do nothing: their calls bring the clauses.
 
-ghost use Rattle.std.specs.Prelude.{◌≡◌, ◌∷◌, ◌++◌, [], ℕ, List, Option, Some, Ok, All};
+ghost use Rattle.std.specs.Prelude.{◌≡◌, ◌↔◌, true, ◌∷◌, ◌++◌, [], ℕ, List, Option, Some, Ok, All};
 ghost use Rattle.asm_scan.specs.Tokens.{Lexeme, doubled};
 ghost use Rattle.asm_scan.specs.Scanned.{scanned};
 ghost use Rattle.asm_line.specs.Forms.{form};
 ghost use Rattle.z80_instr.specs.declared.Instr.{Instr};
 ghost use Rattle.z80_form.specs.declared.field.Field.{Field};
+ghost use Rattle.asm_spell.specs.Cuts.{AreCut, IsClosed};
 ghost use Rattle.asm_spell.specs.Directives.{content};
 ghost use Rattle.asm_spell.specs.Line.{Code, Expression, Line, Statement};
 ghost use Rattle.asm_spell.specs.Names.{IsDefinable, line_names, line_targets};
+ghost use Rattle.asm_spell.specs.Operands.{closed_by_last, pieces};
 ghost use Rattle.asm_spell.specs.Numbered.{FillFields, IsNumbered};
 ghost use Rattle.asm_spell.specs.Spelling.{spelled};
 
@@ -38,3 +40,14 @@ pub fn names()
     asm_scan::laws::scanned();
     asm_parse::laws::parsed();
 }
+
+/// Operands are the pieces that commas outside of parentheses separate, and no others.
+pub fn cut()
+    ensures is { (depth : ℕ) (tokens : List Lexeme) → AreCut depth tokens (pieces depth tokens) }
+    ensures only { (depth : ℕ) (tokens : List Lexeme) (cut : List (List Lexeme)) → AreCut depth tokens cut → cut ≡ pieces depth tokens }
+{}
+
+/// The partner of a parenthesis is the token that closes what is open.
+pub fn enclosed()
+    ensures { (depth : ℕ) (tokens : List Lexeme) → (closed_by_last depth tokens ≡ true) ↔ IsClosed depth tokens }
+{}
