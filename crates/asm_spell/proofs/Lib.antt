@@ -8,3 +8,5 @@ mod Numbered
 mod Named
 mod Definable
 mod Cuts
+mod Looked
+pub mod WrongWays

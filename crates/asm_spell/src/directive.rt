@@ -3,10 +3,13 @@
 ghost use Rattle.std.specs.Prelude.{◌≡◌, ◌==◌, if◌then◌else◌, IfOk, map};
 ghost use Rattle.std.specs.Option.{option_map};
 ghost use Rattle.std.specs.List.{list_any};
+ghost use Rattle.std.specs.Map.{lookup};
+ghost use Rattle.std.specs.Str.{str_eq_ignore_ascii_case};
 ghost use Rattle.asm_scan.specs.Tokens.{lexemes};
 ghost use Rattle.asm_spell.specs.Faults.{Gives};
 ghost use Rattle.asm_spell.specs.Line.{body_of, names_of, value_of};
 ghost use Rattle.asm_spell.specs.Directives.{content, directive, end, entry, is_empty_text, nameless, names_in, of_bytes, of_nothing, of_origin, of_space, of_words, text_alone, text_by};
+ghost use Rattle.asm_spell.specs.Private.Choices as choices;
 ghost use Rattle.asm_spell.specs.Private.Choices.{directs};
 
 use crate::cut::{Operand, each};
@@ -40,25 +43,60 @@ pub(crate) enum Directive {
     Equ,
 }
 
-/// The directive that a word is, in either case.
-pub(crate) fn directive_named(name: &[u8]) -> Option<Directive>
-    ensures { option_map directs result ≡ directive name.now }
+/// The directive that a word of two letters is.
+fn of_two(name: &[u8]) -> Option<Directive>
+    ensures { option_map directs result ≡ lookup (str_eq_ignore_ascii_case name.now) choices.of_two }
 {
     if name.eq_ignore_ascii_case(b"DB") {
         Some(Directive::Bytes)
-    } else if name.eq_ignore_ascii_case(b"DEFB") {
-        Some(Directive::Bytes)
-    } else if name.eq_ignore_ascii_case(b"DEFM") {
-        Some(Directive::Bytes)
     } else if name.eq_ignore_ascii_case(b"DW") {
-        Some(Directive::Words)
-    } else if name.eq_ignore_ascii_case(b"DEFW") {
         Some(Directive::Words)
     } else if name.eq_ignore_ascii_case(b"DS") {
         Some(Directive::Space)
+    } else {
+        None
+    }
+}
+
+/// The directive that a word of three letters is.
+fn of_three(name: &[u8]) -> Option<Directive>
+    ensures { option_map directs result ≡ lookup (str_eq_ignore_ascii_case name.now) choices.of_three }
+{
+    if name.eq_ignore_ascii_case(b"ORG") {
+        Some(Directive::Origin)
+    } else if name.eq_ignore_ascii_case(b"END") {
+        Some(Directive::End)
+    } else if name.eq_ignore_ascii_case(b"EQU") {
+        Some(Directive::Equ)
+    } else {
+        None
+    }
+}
+
+/// The directive that a word of four letters is.
+fn of_four(name: &[u8]) -> Option<Directive>
+    ensures { option_map directs result ≡ lookup (str_eq_ignore_ascii_case name.now) choices.of_four }
+{
+    if name.eq_ignore_ascii_case(b"DEFB") {
+        Some(Directive::Bytes)
+    } else if name.eq_ignore_ascii_case(b"DEFM") {
+        Some(Directive::Bytes)
+    } else if name.eq_ignore_ascii_case(b"DEFW") {
+        Some(Directive::Words)
     } else if name.eq_ignore_ascii_case(b"DEFS") {
         Some(Directive::Space)
-    } else if name.eq_ignore_ascii_case(b"PUBLIC") {
+    } else if name.eq_ignore_ascii_case(b".Z80") {
+        Some(Directive::Z80)
+    } else {
+        None
+    }
+}
+
+/// The directive that a word of more letters is.
+fn of_more(name: &[u8]) -> Option<Directive>
+    ensures { option_map directs result ≡ lookup (str_eq_ignore_ascii_case name.now) choices.of_more }
+{
+    if name.eq_ignore_ascii_case(b"PUBLIC") {
         Some(Directive::Public)
     } else if name.eq_ignore_ascii_case(b"GLOBAL") {
         Some(Directive::Public)
@@ -66,16 +104,24 @@ pub(crate) fn directive_named(name: &[u8]) -> Option<Directive>
         Some(Directive::External)
     } else if name.eq_ignore_ascii_case(b"EXTERNAL") {
         Some(Directive::External)
-    } else if name.eq_ignore_ascii_case(b"ORG") {
-        Some(Directive::Origin)
-    } else if name.eq_ignore_ascii_case(b"END") {
-        Some(Directive::End)
-    } else if name.eq_ignore_ascii_case(b".Z80") {
-        Some(Directive::Z80)
-    } else if name.eq_ignore_ascii_case(b"EQU") {
-        Some(Directive::Equ)
     } else {
         None
+    }
+}
+
+/// The directive that a word is, in either case. Its length leaves at most five words to compare it with.
+pub(crate) fn directive_named(name: &[u8]) -> Option<Directive>
+    ensures { option_map directs result ≡ directive name.now }
+{
+    let letters = name.len();
+    if letters == 2 {
+        of_two(name)
+    } else if letters == 3 {
+        of_three(name)
+    } else if letters == 4 {
+        of_four(name)
+    } else {
+        of_more(name)
     }
 }
 
