@@ -1,6 +1,7 @@
 -- Turns are given to the last definitions on the path.
 use Rattle.std.proofs.Common.{rules, ◌≡◌, ◌≢◌, ◌⊎◌, ◌↔◌, ◌<◌, ◌≤◌, ◌+◌, ◌-◌, ◌∙◌, sym, ap, refl, inl, inr, subst, ℕ, zero, suc, Bool, true, false, List, [], ◌∷◌, ◌++◌, Vec, length, reverse, take, map, slice_index, slice_index_or, slice_set, arith, get_or}
-use Rattle.std.specs.List.{All, Contains, push}
+use Rattle.std.specs.List.{All, Contains, push, sum_by}
+use Rattle.std.proofs.lemmas.List.Sums.{sum_by-set}
 use Rattle.std.specs.Global.{Global}
 use Rattle.std.proofs.lemmas.Bool.{cases_eq, cases_lt, false≢true}
 use Rattle.std.proofs.lemmas.List.{length-set, length_push, reverse-append, map-append, take-append-le, take_at, take_all, get_or_append_left, get_or_at}
@@ -12,7 +13,7 @@ use Rattle.asm_order.specs.declared.walk.Walk.{Walk}
 use Rattle.asm_order.specs.Circles.{LeadsTo, IsOnCircle}
 use Rattle.asm_order.specs.Circles.LeadsTo.{next, further}
 use Rattle.asm_order.specs.Order.{named_by, definitions, AreInOrder, Follows}
-use Rattle.asm_order.specs.Private.Standing.{Reaches, Stands, Standing, Closing, Draining, IsDraining, AreOnCircle, AreTold, AreFrames, IsFinished, IsTop, Turned, seen_at, low_of, starts, IsFollowed}
+use Rattle.asm_order.specs.Private.Standing.{Reaches, Stands, Standing, Closing, Draining, IsDraining, AreOnCircle, AreTold, AreFrames, IsFinished, IsTop, Turned, not_seen, seen_at, low_of, starts, IsFollowed}
 use Rattle.asm_order.proofs.Leading.{leads_on, reaches_leads, reaches_named}
 use Rattle.asm_order.proofs.Frames.{low_le, low_inside, low_below}
 use Rattle.asm_order.proofs.Opened.{push_before, push_last, seen_same, seen_other}
@@ -91,6 +92,11 @@ told count seen followed path turns d b was =
         | inl same ↦ rw same (contains_last turns t)
         | inr ne ↦ contains_push turns t k (was.turn k (sym (seen_other seen d k Seen.Done ne) ∙ e))
       ];
+      counted =
+          let same : sum_by not_seen (slice_set seen d Seen.Done) + 0 ≡ sum_by not_seen seen =
+          subst (λ n. sum_by not_seen (slice_set seen d Seen.Done) + n ≡ sum_by not_seen seen) (ap not_seen at)
+          (sum_by-set not_seen seen d Seen.Done Seen.Not room ∙ omega arith) in
+          omega (arith, same, was.counted, len, length_push turns t);
       turned = λ k h. elim (pushed_contains turns t k h) [
         | inl before ↦ (let old = was.turned k before in (old.0, grind (arith, common_steps, cases_eq k d, seen_same seen d Seen.Done, seen_other seen d k Seen.Done, old.1, room)))
         | inr last ↦ rw last (few, seen_same seen d Seen.Done room)

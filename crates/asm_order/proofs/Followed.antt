@@ -89,6 +89,7 @@ followed_more uses seen followed path frames turns p n to was lt is less names t
         placed = was.told.placed;
         turn = was.told.turn;
         turned = was.told.turned;
+        counted = was.told.counted;
         followed_all = length-set followed d (n + 1) ∙ was.told.followed_all;
         fresh = λ k e. elim (cases_eq k d) [
           | inl same ↦ absurd (not_open_is (sym e ∙ ap (seen_at seen) same ∙ (was.told.place p lt).1))

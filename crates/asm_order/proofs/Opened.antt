@@ -1,6 +1,7 @@
 -- A definition is put on the path.
 use Rattle.std.proofs.Common.{rules, ◌≡◌, ◌≢◌, ◌⊎◌, ◌<◌, ◌≤◌, ◌+◌, ◌∙◌, sym, ap, refl, inl, inr, subst, ℕ, zero, suc, List, [], ◌∷◌, ◌++◌, Vec, length, reverse, take, slice_index, slice_index_or, slice_set, arith, get_or, get_or-set_same, get_or-set_other}
-use Rattle.std.specs.List.{Contains, push}
+use Rattle.std.specs.List.{Contains, push, sum_by}
+use Rattle.std.proofs.lemmas.List.Sums.{sum_by-set}
 use Rattle.std.specs.Global.{Global}
 use Rattle.std.proofs.lemmas.Bool.{cases_eq, cases_lt, le-leb, lt-leb}
 use Rattle.std.proofs.lemmas.List.{length-set, length_push, places}
@@ -10,7 +11,7 @@ use Rattle.asm_order.specs.declared.walk.Seen.{Seen}
 use Rattle.asm_order.specs.declared.walk.Frame.{Frame}
 use Rattle.asm_order.specs.declared.walk.Turn.{Turn}
 use Rattle.asm_order.specs.Order.{named_by, definitions}
-use Rattle.asm_order.specs.Private.Standing.{Reaches, Stands, AreFrames, AreTold, seen_at, low_of, starts, IsFollowed}
+use Rattle.asm_order.specs.Private.Standing.{Reaches, Stands, AreFrames, AreTold, not_seen, seen_at, low_of, starts, IsFollowed}
 
 pub push_before : (path : List ℕ) (d p : ℕ) → p < length path → slice_index (push path d) p ≡ slice_index path p
 push_before path d p lt = search (rules, places)
@@ -34,6 +35,11 @@ told count seen followed path turns d was few new = record {
   place = λ p lt. grind (arith, common_steps, cases_lt p (length path), length_push path d, push_before path d p, push_last path d, cases_eq (slice_index path p) d, seen_same seen d (Seen.Open (length path)), seen_other seen d (slice_index path p) (Seen.Open (length path)), was.place p, was.seen_all);
   placed = λ k p e. grind (arith, common_steps, cases_eq k d, length_push path d, push_before path d p, push_last path d, seen_same seen d (Seen.Open (length path)), seen_other seen d k (Seen.Open (length path)), was.placed k p, was.seen_all);
   turn = λ k e. grind (arith, common_steps, cases_eq k d, seen_same seen d (Seen.Open (length path)), seen_other seen d k (Seen.Open (length path)), was.turn k, was.seen_all);
+  counted =
+      let fewer : sum_by not_seen (slice_set seen d (Seen.Open (length path))) + 1 ≡ sum_by not_seen seen =
+      subst (λ n. sum_by not_seen (slice_set seen d (Seen.Open (length path))) + n ≡ sum_by not_seen seen) (ap not_seen new)
+      (sum_by-set not_seen seen d (Seen.Open (length path)) Seen.Not (omega (arith, few, was.seen_all)) ∙ omega arith) in
+      omega (arith, fewer, was.counted, length_push path d);
   turned = λ k h. grind (arith, common_steps, cases_eq k d, seen_same seen d (Seen.Open (length path)), seen_other seen d k (Seen.Open (length path)), was.turned k h, was.seen_all);
 }
 

@@ -28,6 +28,7 @@ AreInOrder named turns = (k : ℕ) (d : Turn) → k < length turns → Follows n
 
 -- All definitions, so many, in order.
 pub record IsOrder (count : ℕ) (named : ℕ → List ℕ) (turns : List Turn) : Type 0 where
+  pub many : length turns ≡ count
   pub few : (k : ℕ) → Contains (definitions turns) k → k < count
   pub all : (k : ℕ) → k < count → Contains (definitions turns) k
   pub in_order : AreInOrder named turns

@@ -1,6 +1,6 @@
 -- How a walk stands.
 use Rattle.std.specs.Prelude.{◌≡◌, ◌⊎◌, ◌<◌, ◌≤◌, ◌+◌, ◌-◌, ◌*◌, ℕ, Bool, List, [], ◌∷◌, Vec, if◌then◌else◌, length, min, nat_le, reverse, slice_index, slice_index_or, slice_set, take, map}
-use Rattle.std.specs.List.{Contains, push}
+use Rattle.std.specs.List.{Contains, push, sum_by}
 use Rattle.std.specs.Global.{Global}
 use Rattle.asm_order.specs.declared.walk.Turn.{Turn}
 use Rattle.asm_order.specs.declared.walk.Seen.{Seen}
@@ -33,6 +33,10 @@ starts frames = map (λ f. f.start) frames
 abbrev pub IsFollowed : List Seen → ℕ → ℕ → Type 0
 IsFollowed seen low to = (seen_at seen to ≡ Seen.Done) ⊎ ((q : ℕ) × (seen_at seen to ≡ Seen.Open q) × (low ≤ q))
 
+abbrev pub not_seen : Seen → ℕ
+not_seen Seen.Not = 1
+not_seen s = 0
+
 -- What is told of each definition.
 pub record AreTold (count : ℕ) (seen : List Seen) (followed path : List ℕ) (turns : List Turn) : Type 0 where
   pub seen_all : length seen ≡ count
@@ -41,6 +45,7 @@ pub record AreTold (count : ℕ) (seen : List Seen) (followed path : List ℕ) (
   pub place : (p : ℕ) → p < length path → (slice_index path p < count) × (seen_at seen (slice_index path p) ≡ Seen.Open p)
   pub placed : (k p : ℕ) → seen_at seen k ≡ Seen.Open p → (p < length path) × (slice_index path p ≡ k)
   pub turn : (k : ℕ) → seen_at seen k ≡ Seen.Done → Contains (definitions turns) k
+  pub counted : (length turns + length path) + sum_by not_seen seen ≡ count
   pub turned : (k : ℕ) → Contains (definitions turns) k → (k < count) × (seen_at seen k ≡ Seen.Done)
 
 -- The frames here are the last one first.
