@@ -14,6 +14,7 @@ mod settling;
 mod space;
 
 pub use asm_spell::{Body, Branch, StmtFault, Value};
+pub use cell::{Cell, Filling};
 pub use defined::are_defined;
 pub use piece::{Hole, Made, Piece, Width};
 pub use settling::settle;
