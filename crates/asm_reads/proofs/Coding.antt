@@ -4,6 +4,7 @@ use Rattle.std.specs.List.{flat_map, list_all}
 use Rattle.asm_expr.specs.Distances.{Step}
 use Rattle.asm_expr.specs.Items.{value}
 use Rattle.asm_expr.specs.Names.{Table}
+use Rattle.asm_expr.proofs.Judgements.{and_parts}
 use Rattle.z80_instr.specs.declared.Instr.{Instr}
 use Rattle.z80_instr.specs.Codes.{in_range}
 use Rattle.z80_instr.specs.Table.{canonical}
@@ -18,12 +19,11 @@ use Rattle.asm_piece.specs.Fields as field
 use Rattle.asm_piece.specs.Made.{Fillings, code_hole, fillings, number_filled}
 use Rattle.asm_reads.specs.Linked.{filled}
 use Rattle.asm_reads.specs.Pieces.{valued}
-use Rattle.asm_reads.specs.Spelled.{AreFields}
+use Rattle.asm_reads.proofs.Fields.{AreFields}
 use Rattle.asm_reads.specs.Statement.{filling}
-use Rattle.asm_reads.proofs.Data.{and_parts}
 use Rattle.asm_reads.proofs.Fillings.{Fills, IsFit, bind_ok, fills, worth_at}
 use Rattle.asm_reads.proofs.Numbers as number
-use Rattle.asm_reads.proofs.Numbers.{IsField, no_displacement, number_range, swapped}
+use Rattle.asm_reads.proofs.Numbers.{IsField, number_range, swapped}
 use Rattle.asm_reads.proofs.Rows.{Rows}
 
 abbrev pub Spelled : Type 0
@@ -119,7 +119,7 @@ displacement_last : Rows → (t : Table) (instr : Instr) (g : Field) (d e : line
     → Reads t instr ((g, e) ∷ (Field.Displacement, d) ∷ []) ((g, y) ∷ (Field.Displacement, x) ∷ [])
 displacement_last rows t instr g d e x y ok is was told next told_too =
     let first = displacement_first rows t instr g d e x y ok is was told next told_too in
-    let other : g ≡ Field.Displacement → ⊥ = λ same. no_displacement instr (is ∙ ap (λ f. Some f) same) in
+    let other : g ≡ Field.Displacement → ⊥ = λ same. rows.number instr (is ∙ ap (λ f. Some f) same) in
     let to = λ (places : ℕ → ℕ). swapped (value places (filling t Field.Displacement d)) g (value places (filling t g e)) instr other in
     record {
       filled = λ places step. (

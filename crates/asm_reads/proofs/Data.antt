@@ -1,5 +1,5 @@
 -- Data: fields that are read of items, from left to right.
-use Rattle.std.proofs.Common.{◌≡◌, ℕ, ◌+◌, ◌%◌, Bool, true, false, ◌&&◌, List, [], ◌∷◌, ◌++◌, Result, Ok, if◌then◌else◌, length, map, refl, sym, ap, subst, ◌∙◌, arith, length-append}
+use Rattle.std.proofs.Common.{◌≡◌, ℕ, ◌+◌, ◌%◌, Bool, true, false, List, [], ◌∷◌, ◌++◌, Result, Ok, if◌then◌else◌, length, map, refl, sym, ap, subst, ◌∙◌, arith, length-append}
 use Rattle.std.specs.List.{flat_map, sum_by}
 use Rattle.std.proofs.lemmas.List.Concat.{flat_map-append}
 use Rattle.std.proofs.lemmas.List.Folds.{list_all-append}
@@ -8,6 +8,7 @@ use Rattle.asm_parse.specs.Expression.{Leaf}
 use Rattle.asm_expr.specs.declared.atom.Atom.{Atom}
 use Rattle.asm_expr.specs.Distances.{Step}
 use Rattle.asm_expr.specs.Names.{Table}
+use Rattle.asm_expr.proofs.Judgements.{and_parts}
 use Rattle.asm_expr.proofs.Sizes.{sum_by-cons}
 use Rattle.z80_form.specs.declared.field.Field.{Field}
 use Rattle.asm_spell.specs.declared.fault.StmtFault.{StmtFault}
@@ -25,11 +26,6 @@ use Rattle.asm_reads.specs.Statement as statement
 use Rattle.asm_reads.specs.Statement.{Datum, byte_items, word_item, whole}
 use Rattle.asm_reads.proofs.Fillings.{bind_ok, fills}
 use Rattle.asm_reads.proofs.Holes.{cell_at}
-
-pub and_parts : (a b : Bool) → (a && b) ≡ true → (a ≡ true) × (b ≡ true)
-and_parts true true e = (refl, refl)
-and_parts true false e = cc
-and_parts false b e = cc
 
 abbrev flat : List (List Cell) → List Cell
 flat cells = flat_map (λ some. some) cells

@@ -1,5 +1,5 @@
 -- What the law asks can be met: `LD A,LOW $` of an empty module, whose one place is 1234H.
-use Rattle.std.proofs.Common.{◌≡◌, ℕ, List, [], ◌∷◌, Ok, refl}
+use Rattle.std.proofs.Common.{◌≡◌, [], ◌∷◌, Ok, refl}
 use Rattle.asm_parse.specs.declared.item.Item.{Item}
 use Rattle.asm_parse.specs.declared.operator.Unary.{Unary}
 use Rattle.asm_parse.specs.Source.{Here}

@@ -34,7 +34,7 @@ use Rattle.asm_piece.specs.Made as made
 use Rattle.asm_piece.specs.Made.{Fillings, Made, Nothing, Piece, Some_piece, code_hole, coded, fillings, is_origin, laid, long_jump, number_in, ref_of, sized_by, space_fill, space_size}
 use Rattle.asm_reads.specs.Linked.{IsLinked, piece_sized}
 use Rattle.asm_reads.specs.Pieces.{IsPiece, LeadsTo, datum_bytes, short_jump, sized_as, takes, valued, width}
-use Rattle.asm_reads.specs.Spelled.{AreFields, IsSpelled}
+use Rattle.asm_reads.proofs.Fields.{AreFields, IsReady}
 use Rattle.asm_reads.specs.Statement as statement
 use Rattle.asm_reads.specs.Statement.{Datum, Statement, byte_items, fill_byte, filling, fixed, spaced, stated, word_item}
 use Rattle.asm_reads.proofs.Coding.{at_of, blank_of, reads}
@@ -180,10 +180,10 @@ origin_nothing t e m is =
 abbrev Answer : Table → line.Body → Piece → Type 0
 Answer t b p = (s : Statement) × (stated t b ≡ Some s) × Holds t p s
 
-pub holds : Rows → (t : Table) (b : line.Body) (p : Piece) → IsSpelled b → made.made t b ≡ Ok (Some_piece p) → Answer t b p
-holds rows t (line.Code instr numbers) p spelled is = (statement.Code instr (map (λ n. (n.0, filling t n.0 n.1)) numbers), refl, code_holds rows t instr numbers p spelled.0 spelled.1 is)
-holds rows t (line.Jump condition target) p spelled is = (statement.jump_by (ref_of (found t target)) t condition target, refl, jump_holds rows t condition target p (ref_of (found t target)) is)
-holds rows t (line.Short branch target) p spelled is = by_ref (ref_of (found t target)) refl is
+pub holds : Rows → (t : Table) (b : line.Body) (p : Piece) → IsReady b → made.made t b ≡ Ok (Some_piece p) → Answer t b p
+holds rows t (line.Code instr numbers) p ready is = (statement.Code instr (map (λ n. (n.0, filling t n.0 n.1)) numbers), refl, code_holds rows t instr numbers p ready.0 ready.1 is)
+holds rows t (line.Jump condition target) p ready is = (statement.jump_by (ref_of (found t target)) t condition target, refl, jump_holds rows t condition target p (ref_of (found t target)) is)
+holds rows t (line.Short branch target) p ready is = by_ref (ref_of (found t target)) refl is
   where
     by_ref : (o : Option ℕ) → ref_of (found t target) ≡ o → made.short_by o branch ≡ Ok (Some_piece p) → Answer t (line.Short branch target) p
     by_ref (Some r) was is =
@@ -193,12 +193,12 @@ holds rows t (line.Short branch target) p spelled is = by_ref (ref_of (found t t
           subst (λ q. Holds t q (statement.Short branch r)) same (record { size = refl; pieces = λ places step at long bs small linked. (linked, short_size branch linked.0 bs linked.2) }),
         )
     by_ref None was is = cc
-holds rows t (line.Bytes values) p spelled is = (statement.Data (flat_map (byte_items t) values), refl, data_holds t p (flat_map (byte_items t) values) (bytes_lay t values p is))
-holds rows t (line.Words fields) p spelled is =
+holds rows t (line.Bytes values) p ready is = (statement.Data (flat_map (byte_items t) values), refl, data_holds t p (flat_map (byte_items t) values) (bytes_lay t values p is))
+holds rows t (line.Words fields) p ready is =
     (statement.Data (map (word_item t) fields), refl, subst (λ items. Holds t p (statement.Data items)) (flat_map_single (word_item t) fields) (data_holds t p _ (words_lay t fields p is)))
-holds rows t (line.Space size fill) p spelled is = space_holds t size fill p is
-holds rows t (line.Origin e) p spelled is = let bad = origin_nothing t e (Some_piece p) is in cc
-holds rows t b p spelled is = cc
+holds rows t (line.Space size fill) p ready is = space_holds t size fill p is
+holds rows t (line.Origin e) p ready is = let bad = origin_nothing t e (Some_piece p) is in cc
+holds rows t b p ready is = cc
 
 -- What makes nothing states nothing.
 no_nothing : (b : Bool) (x : Piece) → (if b then Some_piece x else made.Unknown) ≡ Nothing → ⊥

@@ -3,6 +3,7 @@ pub mod Fillings
 pub mod Holes
 pub mod Data
 pub mod Rows
+pub mod Fields
 pub mod Numbers
 pub mod Coding
 pub mod Holding

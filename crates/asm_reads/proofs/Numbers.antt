@@ -9,7 +9,6 @@ use Rattle.z80_instr.specs.Codes.{in_range}
 use Rattle.z80_instr.specs.Table.{canonical, octal_of, word}
 use Rattle.z80_instr.specs.declared.InterruptMode.{InterruptMode}
 use Rattle.z80_instr.specs.declared.Octal.{Octal}
-use Rattle.z80_instr.specs.declared.Pointer.{Pointer}
 use Rattle.z80_instr.specs.declared.Instr.{Instr}
 use Rattle.z80_form.specs.declared.field.Field.{Field}
 use Rattle.z80_form.specs.Numbers.{allows, but_last, is_negative, mode_of, number_field, signed, with_bit, with_byte, with_displacement, with_distance, with_mode, with_number, with_restart, with_word}
@@ -56,11 +55,6 @@ swapped n Field.Distance a instr other = distance_first (signed n) (signed a) in
 swapped n Field.Bit a instr other = bit_first (signed n) (octal_of a) instr
 swapped n Field.Mode a instr other = mode_first (signed n) (mode_of a) instr
 swapped n Field.Restart a instr other = restart_first (signed n) (octal_of (a / 8)) instr
-
-pub no_displacement : (instr : Instr) → number_field instr ≡ Some Field.Displacement → ⊥
-no_displacement (Instr.LoadA (Pointer.Address nn)) is = cc
-no_displacement (Instr.StoreA (Pointer.Address nn)) is = cc
-no_displacement instr is = cc
 
 -- what a field of an instruction is: its displacement or its number
 abbrev pub IsField : Instr → Field → Type 0

@@ -19,6 +19,8 @@ pub fn at_places()
         IsLinked at long places p bytes → IsPiece at long places s bytes × (length bytes ≡ takes long (sized_as s))) }
     ensures nothing { (t : Table) (b : Body) → made t b ≡ Ok Nothing → stated t b ≡ None }
 {
+    asm_spell::laws::numbered();
+    z80_form::laws::fields();
     z80_form::laws::kept();
     z80_form::laws::places();
 }
