@@ -3,6 +3,8 @@
 #![tactic(auto)]
 
 #[cfg(test)]
+mod equs;
+#[cfg(test)]
 mod names;
 #[cfg(test)]
 mod orders;

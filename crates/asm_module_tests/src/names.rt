@@ -16,7 +16,11 @@ fn read(rt: &impl Abort, alloc: Global, number: u32, text: &[u8]) -> Result<Sour
 }
 
 /// The lines of a text, which are separated by ` / `.
-fn read_all(rt: &impl Abort, alloc: Global, texts: &[&[u8]]) -> Result<Vec<SourceLine>, Fail> {
+pub(crate) fn read_all(
+    rt: &impl Abort,
+    alloc: Global,
+    texts: &[&[u8]],
+) -> Result<Vec<SourceLine>, Fail> {
     let mut lines = Vec::new(alloc);
     let mut number = 1;
     for text in texts {
