@@ -20,8 +20,9 @@ use std::alloc::Global;
 /// The first fault of the operands, from left to right. Of one operand, those of its expression come first
 /// ([`StmtFault::Expr`]), then that of its range: [`StmtFault::ByteRange`]; [`StmtFault::NeedsLowOrHigh`] where a byte varies, and
 /// [`StmtFault::NeedsNumber`] where another field does that takes a number alone; [`StmtFault::ShortNeedsLabel`] where JR or DJNZ
-/// have neither a label nor `$` with a constant; [`StmtFault::SizeNamesLabel`] where the number of a DS is not constant;
-/// [`StmtFault::BadOrg`] for an ORG other than 0100H before any statement. [`StmtFault::NoMemory`] where memory is refused.
+/// have neither a label nor `$` with a constant (an operand of theirs that is none of `$`, `$+n` and `$-n` is judged for nothing
+/// else); [`StmtFault::SizeNamesLabel`] where the number of a DS is not constant; [`StmtFault::BadOrg`] for an ORG other than
+/// 0100H before any statement. [`StmtFault::NoMemory`] where memory is refused.
 pub fn settle(alloc: Global, body: &Body, names: &Names) -> Result<Made, StmtFault>
     requires { AreDefined names.now (body_of body.now) }
     ensures { Gives made_of result (made names.now (body_of body.now)) }
