@@ -1,0 +1,3 @@
+mod Unique
+mod Texts
+mod Branches

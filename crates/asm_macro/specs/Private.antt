@@ -1,0 +1,4 @@
+pub mod Stages
+pub mod Frames
+pub mod Ends
+pub mod Branches
