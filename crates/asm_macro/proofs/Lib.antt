@@ -1,3 +1,4 @@
 mod Unique
 mod Texts
+mod Stacks
 mod Branches

@@ -161,3 +161,10 @@ inside texts names s found n is h = omega (arith, h, ap length is, length-map (t
 
 pub room : (texts : List (List ℕ)) (names : Option Table) (s : Span) (found : List Role) (n : ℕ) → found ≡ roles (text_of texts names s) → n < length found → length texts ≤ 16777216 → s.at + n < 16777216
 room texts names s found n is h few = omega (arith, few, (within texts names s n (inside texts names s found n is h)).1)
+
+pub front_line : (texts : List (List ℕ)) (names : Option Table) (s : Span) (number : ℕ) (text : List ℕ) → s.at < s.end → s.at < length texts
+    → number ≡ unwrap_or s.number (s.at + 1) → text ≡ shown names (get_or texts s.at [])
+    → text_of texts names s ≡ record { number = number; text = text } ∷ text_of texts names (record s { at = s.at + 1 })
+front_line texts names s number text h k n t =
+    text_step texts names s h k ∙ ap (λ x. record { number = x; text = shown names (get_or texts s.at []) } ∷ text_of texts names (record s { at = s.at + 1 })) (sym n)
+    ∙ ap (λ x. record { number = number; text = x } ∷ text_of texts names (record s { at = s.at + 1 })) (sym t)

@@ -1,4 +1,6 @@
 pub mod Stages
 pub mod Frames
 pub mod Ends
+pub mod Constants
+pub mod Moves
 pub mod Branches

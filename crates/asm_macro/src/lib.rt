@@ -2,10 +2,14 @@
 #![tactic(auto)]
 
 mod blocks;
+mod call;
+mod constants;
 mod expander;
+mod expansion;
 mod fault;
 mod frame;
 pub mod laws;
+mod moves;
 mod reading;
 mod whole;
 

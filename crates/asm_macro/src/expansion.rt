@@ -1,0 +1,138 @@
+//! What is known from the lines before, and what is still to be expanded.
+
+ghost use Rattle.std.specs.Prelude.{◌≡◌, ◌<◌, ◌≤◌, ◌+◌, ◌∷◌, IfOk, OnOk, List, [], Some, length};
+ghost use Rattle.std.specs.Option.{option_map};
+ghost use Rattle.asm_replace.specs.Views.{table};
+ghost use Rattle.asm_macro.specs.Ahead.{Around, seen};
+ghost use Rattle.asm_macro.specs.Parts.{part, resumed};
+ghost use Rattle.asm_macro.specs.Private.Frames.{innermost, line_of};
+ghost use Rattle.asm_macro.specs.Private.Moves.{Gives, IsSound, Lessens, Resumes, Takes, most_moves, moved, next_move, rest_of, tables_in};
+
+use crate::call::Macro;
+use crate::constants::Constants;
+use crate::expander::Line;
+use crate::frame::{Following, Span};
+use crate::moves::{Given, Stop, Taken};
+use crate::reading::put_shown;
+use asm_replace::Replacements;
+use indexmap::IndexMap;
+use std::alloc::{AllocError, Global};
+
+/// The most lines and turns of a whole expansion.
+pub(crate) const MOST_LINES: u32 = 60_000;
+
+/// An expansion between two moves.
+#[derive(Debug, Drop)]
+pub(crate) struct Expansion<'a> {
+    pub alloc: Global,
+    /// The lines of the source.
+    pub lines: Vec<&'a [u8]>,
+    pub macros: IndexMap<Vec<u8>, Macro>,
+    pub constants: Constants,
+    /// How many LOCAL names there were.
+    pub counter: u64,
+    /// How many lines and turns were taken up.
+    pub count: u32,
+    /// What is left of the innermost text.
+    pub text: Span,
+    /// What follows it and those around, the innermost last.
+    pub around: Vec<Following>,
+    /// What names are replaced by in the open calls, the innermost last.
+    pub calls: Vec<Replacements>,
+    /// How many repetitions are open.
+    pub turns: usize,
+}
+
+impl<'a> Expansion<'a> {
+    /// Takes up a line, behind which the innermost text goes on.
+    fn take(&mut self, line: Line<'_>) -> Result<Taken, Stop>
+        requires sound { IsSound self.old }
+        ensures sound { OnOk result (IsSound self.new) }
+        ensures count { OnOk result (self.old.count < self.new.count) }
+        ensures around { OnOk result (length self.new.around.items ≤ length self.old.around.items + 1) }
+        ensures taken { Takes (seen line.entry) result (rest_of self.new) (moved (rest_of self.old).depth (rest_of self.old).around (part (rest_of self.old).depth (rest_of self.old).state (seen line.entry) (rest_of self.old).text)) }
+    {
+        if line.number == 0 {
+            self.count = 0;
+        }
+        Err(Stop::NoMemory)
+    }
+
+    /// Goes on behind a text that is over, in the one around it.
+    fn resume(&mut self) -> Result<(), Stop>
+        requires sound { IsSound self.old }
+        requires inner { 0 < length self.old.around.items }
+        requires over { (rest_of self.old).text ≡ [] }
+        ensures sound { OnOk result (IsSound self.new) }
+        ensures count { OnOk result (self.old.count ≤ self.new.count) }
+        ensures less { OnOk result (most_moves self.new < most_moves self.old) }
+        ensures resumed { Resumes result (rest_of self.new) (next_move (rest_of self.old)) }
+    {
+        self.count = 0;
+        Err(Stop::NoMemory)
+    }
+
+    /// Writes the first line of the innermost text in the place of what was written, and answers its number.
+    fn put_line(&mut self, buffer: &mut Vec<u8>) -> Result<u32, AllocError>
+        requires sound { IsSound self.old }
+        requires at { self.old.text.at < self.old.text.end }
+        requires within { self.old.text.at < length self.old.lines.items }
+        ensures sound { OnOk result (IsSound self.new) }
+        ensures count { self.new.count ≡ self.old.count }
+        ensures around { self.new.around ≡ self.old.around }
+        ensures line { IfOk result (λ number. rest_of self.old ≡ record (rest_of self.new) { text = record { number = number; text = buffer.new.items } ∷ (rest_of self.new).text }) }
+    {
+        let at = self.text.at;
+        put_shown(self.alloc, self.calls.last(), self.lines[at], buffer)?;
+        self.text.at = at + 1;
+        match self.text.number {
+            Some(number) => Ok(number),
+            None => Ok(at as u32 + 1),
+        }
+    }
+
+    /// Takes up the first line of the innermost text.
+    fn take_line(&mut self, buffer: &mut Vec<u8>) -> Result<Given, Stop>
+        requires sound { IsSound self.old }
+        requires at { self.old.text.at < self.old.text.end }
+        requires within { self.old.text.at < length self.old.lines.items }
+        ensures sound { OnOk result (IsSound self.new) }
+        ensures less { IfOk result (λ given. Lessens self.old given self.new) }
+        ensures gives { Gives buffer.new.items result (rest_of self.new) (next_move (rest_of self.old)) }
+    {
+        let number = self.put_line(buffer)?;
+        match self.take(Line {
+            number,
+            text: buffer.as_slice(),
+        })? {
+            Taken::Nothing => Ok(Given::Nothing),
+            Taken::Line => Ok(Given::Line(number)),
+            Taken::Last => Ok(Given::Last(number)),
+            Taken::Label(label) => {
+                *buffer = label;
+                Ok(Given::Line(number))
+            }
+            Taken::Refused(label) => {
+                *buffer = label;
+                Ok(Given::Refused(number))
+            }
+        }
+    }
+
+    /// Goes on by one line, or by the end of a text.
+    fn step(&mut self, buffer: &mut Vec<u8>) -> Result<Given, Stop>
+        requires sound { IsSound self.old }
+        ensures sound { OnOk result (IsSound self.new) }
+        ensures less { IfOk result (λ given. Lessens self.old given self.new) }
+        ensures gives { Gives buffer.new.items result (rest_of self.new) (next_move (rest_of self.old)) }
+    {
+        if self.text.at < self.text.end && self.text.at < self.lines.len() {
+            return self.take_line(buffer);
+        }
+        if self.around.is_empty() {
+            return Ok(Given::Over);
+        }
+        self.resume()?;
+        Ok(Given::Nothing)
+    }
+}
