@@ -1,4 +1,5 @@
 mod Unique
 mod Texts
 mod Stacks
+mod Remaining
 mod Branches

@@ -1,12 +1,13 @@
 //! What is known from the lines before, and what is still to be expanded.
 
-ghost use Rattle.std.specs.Prelude.{◌≡◌, ◌<◌, ◌≤◌, ◌+◌, ◌∷◌, IfOk, OnOk, List, [], Some, length};
+ghost use Rattle.std.specs.Prelude.{◌≡◌, ◌≢◌, ◌<◌, ◌≤◌, ◌+◌, ◌∷◌, IfOk, OnOk, List, [], Some, length};
 ghost use Rattle.std.specs.Option.{option_map};
 ghost use Rattle.asm_replace.specs.Views.{table};
 ghost use Rattle.asm_macro.specs.Ahead.{Around, seen};
 ghost use Rattle.asm_macro.specs.Parts.{part, resumed};
 ghost use Rattle.asm_macro.specs.Private.Frames.{innermost, line_of};
-ghost use Rattle.asm_macro.specs.Private.Moves.{Gives, IsSound, Lessens, Resumes, Takes, most_moves, moved, next_move, rest_of, tables_in};
+ghost use Rattle.asm_macro.specs.declared.moves.Given.{Given};
+ghost use Rattle.asm_macro.specs.Private.Moves.{Gives, Goes, IsSound, Lessens, Resumes, Takes, most_moves, moved, next_move, rest_of, tables_in};
 
 use crate::call::Macro;
 use crate::constants::Constants;
@@ -92,7 +93,7 @@ impl<'a> Expansion<'a> {
     }
 
     /// Takes up the first line of the innermost text.
-    fn take_line(&mut self, buffer: &mut Vec<u8>) -> Result<Given, Stop>
+    fn take_line(&mut self, buffer: &mut Vec<u8>) -> Result<Option<Given>, Stop>
         requires sound { IsSound self.old }
         requires at { self.old.text.at < self.old.text.end }
         requires within { self.old.text.at < length self.old.lines.items }
@@ -105,22 +106,22 @@ impl<'a> Expansion<'a> {
             number,
             text: buffer.as_slice(),
         })? {
-            Taken::Nothing => Ok(Given::Nothing),
-            Taken::Line => Ok(Given::Line(number)),
-            Taken::Last => Ok(Given::Last(number)),
+            Taken::Nothing => Ok(None),
+            Taken::Line => Ok(Some(Given::Line(number))),
+            Taken::Last => Ok(Some(Given::Last(number))),
             Taken::Label(label) => {
                 *buffer = label;
-                Ok(Given::Line(number))
+                Ok(Some(Given::Line(number)))
             }
             Taken::Refused(label) => {
                 *buffer = label;
-                Ok(Given::Refused(number))
+                Ok(Some(Given::Refused(number)))
             }
         }
     }
 
     /// Goes on by one line, or by the end of a text.
-    fn step(&mut self, buffer: &mut Vec<u8>) -> Result<Given, Stop>
+    fn step(&mut self, buffer: &mut Vec<u8>) -> Result<Option<Given>, Stop>
         requires sound { IsSound self.old }
         ensures sound { OnOk result (IsSound self.new) }
         ensures less { IfOk result (λ given. Lessens self.old given self.new) }
@@ -130,9 +131,24 @@ impl<'a> Expansion<'a> {
             return self.take_line(buffer);
         }
         if self.around.is_empty() {
-            return Ok(Given::Over);
+            return Ok(Some(Given::Over));
         }
         self.resume()?;
-        Ok(Given::Nothing)
+        Ok(None)
+    }
+
+    /// Goes on to the next line that is given.
+    pub(crate) fn go_on(&mut self, buffer: &mut Vec<u8>) -> Result<Given, Stop>
+        requires sound { IsSound self.old }
+        ensures sound { OnOk result (IsSound self.new) }
+        ensures count { IfOk result (λ given. given ≢ Given.Over → self.old.count < self.new.count) }
+        ensures goes { Goes (rest_of self.old) buffer.new.items result (rest_of self.new) }
+    {
+        loop {
+            match self.step(buffer)? {
+                Some(given) => return Ok(given),
+                None => {}
+            }
+        }
     }
 }

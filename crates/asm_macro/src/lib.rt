@@ -11,6 +11,7 @@ mod frame;
 pub mod laws;
 mod moves;
 mod reading;
+mod source;
 mod whole;
 
 pub use expander::{Expander, Line};

@@ -43,10 +43,9 @@ pub(crate) enum Taken {
     Refused(Vec<u8>),
 }
 
-/// What a move gives, with the number of the line.
+/// What an expansion gives next, with the number of the line.
 #[derive(Clone, Copy, Debug)]
 pub(crate) enum Given {
-    Nothing,
     Line(u32),
     Last(u32),
     /// A line, behind which the expansion stops at a stray one.

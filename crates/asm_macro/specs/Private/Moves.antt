@@ -1,5 +1,5 @@
 -- One move of an expansion: a line that is taken up, or what follows a text that is over.
-use Rattle.std.specs.Prelude.{◌≡◌, None, ◌+◌, ◌*◌, ◌-◌, ◌≤◌, ◌<◌, ℕ, List, [], ◌∷◌, Result, Ok, Err, length, map, reverse, All}
+use Rattle.std.specs.Prelude.{◌≡◌, Option, Some, None, ◌+◌, ◌*◌, ◌-◌, ◌≤◌, ◌<◌, ℕ, List, [], ◌∷◌, Result, Ok, Err, length, map, reverse, All}
 use Rattle.asm_replace.specs.Replaced.{Table}
 use Rattle.asm_replace.specs.Views as replaced
 use Rattle.asm_macro.specs.declared.call.Macro.{Macro}
@@ -11,7 +11,9 @@ use Rattle.asm_macro.specs.declared.fault.MacroFault.{MacroFault}
 use Rattle.asm_macro.specs.Texts.{Numbered}
 use Rattle.asm_macro.specs.State as state
 use Rattle.asm_macro.specs.Parts as parts
-use Rattle.asm_macro.specs.Ahead.{Around, Rest}
+use Rattle.asm_macro.specs.Expands.{Ended, Stopped, IsDone}
+use Rattle.asm_macro.specs.Expands as expands
+use Rattle.asm_macro.specs.Ahead.{Around, Rest, Remains, Within}
 use Rattle.asm_macro.specs.Private.Frames.{around_seen, innermost, text_of, turns_in}
 
 -- the lines of the source
@@ -89,20 +91,31 @@ Resumes (Err (Stop.At number why)) new move = move ≡ Fails [] number why
 Resumes (Ok done) new move = move ≡ On [] new
 
 -- what is answered of a move, with the line that is given
-abbrev pub Gives : List ℕ → Result Given Stop → Rest → Moved → Type 0
+abbrev pub Gives : List ℕ → Result (Option Given) Stop → Rest → Moved → Type 0
 Gives text (Err Stop.NoMemory) new move = Unit {0}
 Gives text (Err (Stop.At number why)) new move = move ≡ Fails [] number why
-Gives text (Ok Given.Nothing) new move = move ≡ On [] new
-Gives text (Ok (Given.Line number)) new move = move ≡ On (record { number = number; text = text } ∷ []) new
-Gives text (Ok (Given.Last number)) new move = move ≡ End (record { number = number; text = text })
-Gives text (Ok (Given.Refused number)) new move = move ≡ Fails (record { number = number; text = text } ∷ []) number MacroFault.Stray
-Gives text (Ok Given.Over) new move = move ≡ Done
+Gives text (Ok None) new move = move ≡ On [] new
+Gives text (Ok (Some (Given.Line number))) new move = move ≡ On (record { number = number; text = text } ∷ []) new
+Gives text (Ok (Some (Given.Last number))) new move = move ≡ End (record { number = number; text = text })
+Gives text (Ok (Some (Given.Refused number))) new move = move ≡ Fails (record { number = number; text = text } ∷ []) number MacroFault.Stray
+Gives text (Ok (Some Given.Over)) new move = move ≡ Done
 
 -- how many moves may still come, at most
 abbrev pub most_moves : Expansion → ℕ
 most_moves x = 2 * (60000 - x.count) + length x.around.items
 
-abbrev pub Lessens : Expansion → Given → Expansion → Type 0
-Lessens old Given.Nothing new = (most_moves new < most_moves old) × (old.count ≤ new.count)
-Lessens old Given.Over new = Unit {0}
-Lessens old _ new = old.count < new.count
+-- Fewer moves may still come, and a line that is given is counted.
+abbrev pub Lessens : Expansion → Option Given → Expansion → Type 0
+Lessens old None new = (most_moves new < most_moves old) × (old.count ≤ new.count)
+Lessens old (Some Given.Over) new = Unit {0}
+Lessens old (Some _) new = old.count < new.count
+
+-- What is answered of several moves: what is to come is the line given, and then what is to come behind it.
+abbrev pub Goes : Rest → List ℕ → Result Given Stop → Rest → Type 0
+Goes old text (Err Stop.NoMemory) new = Unit {0}
+Goes old text (Err (Stop.At number why)) new = Remains (Within old) [] (Stopped number why)
+Goes old text (Ok (Given.Line number)) new =
+    (lines : List Numbered) (end : expands.End) → Remains (Within new) lines end → Remains (Within old) (record { number = number; text = text } ∷ lines) end
+Goes old text (Ok (Given.Last number)) new = Remains (Within old) (record { number = number; text = text } ∷ []) Ended
+Goes old text (Ok (Given.Refused number)) new = Remains (Within old) (record { number = number; text = text } ∷ []) (Stopped number MacroFault.Stray)
+Goes old text (Ok Given.Over) new = (end : expands.End) × IsDone end × Remains (Within old) [] end
