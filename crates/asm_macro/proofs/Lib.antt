@@ -1,5 +1,6 @@
 mod Unique
 mod Texts
 mod Stacks
+mod Turned
 mod Remaining
 mod Branches

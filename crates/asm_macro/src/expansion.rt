@@ -4,15 +4,18 @@ ghost use Rattle.std.specs.Prelude.{◌≡◌, ◌≢◌, ◌<◌, ◌≤◌, �
 ghost use Rattle.std.specs.Option.{option_map};
 ghost use Rattle.asm_replace.specs.Views.{table};
 ghost use Rattle.asm_macro.specs.Ahead.{Around, seen};
-ghost use Rattle.asm_macro.specs.Parts.{part, resumed};
-ghost use Rattle.asm_macro.specs.Private.Frames.{innermost, line_of};
+ghost use Rattle.asm_macro.specs.Parts.{behind_first, part, resumed, turns};
+ghost use Rattle.asm_macro.specs.declared.frame.Following.{Following};
+ghost use Rattle.asm_macro.specs.Private.Frames.{body_seen, branches_seen, innermost, next_of};
 ghost use Rattle.asm_macro.specs.declared.moves.Given.{Given};
-ghost use Rattle.asm_macro.specs.Private.Moves.{Gives, Goes, IsSound, Lessens, Resumes, Takes, most_moves, moved, next_move, rest_of, tables_in};
+ghost use Rattle.asm_macro.specs.Private.Moves.{Gives, Goes, IsSound, Lessens, Resumes, Takes, most_moves, moved, next_move, rest_of, state_of, tables_in, texts_in};
 
 use crate::call::Macro;
 use crate::constants::Constants;
+use crate::closing::{closes, passes};
 use crate::expander::Line;
-use crate::frame::{Following, Span};
+use crate::fault::MacroFault;
+use crate::frame::{Block, Choice, Following, Span};
 use crate::moves::{Given, Stop, Taken};
 use crate::reading::put_shown;
 use asm_replace::Replacements;
@@ -59,6 +62,72 @@ impl<'a> Expansion<'a> {
         Err(Stop::NoMemory)
     }
 
+    /// Goes on behind the first branch of an IF.
+    fn behind_first(&mut self, choice: Choice) -> Result<(), Stop>
+        requires sound { IsSound self.old }
+        ensures sound { OnOk result (IsSound self.new) }
+        ensures kept { (self.new.count ≡ self.old.count) × (length self.new.around.items ≡ length self.old.around.items) }
+        ensures resumed { Resumes result (rest_of self.new)
+            (moved (rest_of self.old).depth (rest_of self.old).around (behind_first (branches_seen (texts_in self.old) (innermost (tables_in self.old)) choice) (state_of self.old))) }
+    {
+        closes(
+            self.alloc,
+            &self.lines,
+            self.calls.last(),
+            choice.first.end,
+        )?;
+        passes(self.alloc, &self.lines, self.calls.last(), &choice.others)?;
+        self.text = choice.after;
+        Ok(())
+    }
+
+    /// Goes on behind the second branch of an IF.
+    fn behind_second(&mut self, choice: Choice) -> Result<(), Stop>
+        requires sound { IsSound self.old }
+        ensures sound { OnOk result (IsSound self.new) }
+        ensures kept { (self.new.count ≡ self.old.count) × (length self.new.around.items ≡ length self.old.around.items) }
+        ensures resumed { Resumes result (rest_of self.new)
+            (moved (rest_of self.old).depth (rest_of self.old).around (resumed (rest_of self.old).depth (next_of (texts_in self.old) (innermost (tables_in self.old)) (Following.BehindSecond choice)) (state_of self.old))) }
+    {
+        passes(self.alloc, &self.lines, self.calls.last(), &choice.others)?;
+        self.text = choice.after;
+        Ok(())
+    }
+
+    /// Goes on with the next turn of a REPT, or behind it.
+    fn turn(&mut self, left: u16, number: u32, body: Block) -> Result<(), Stop>
+        requires sound { IsSound self.old }
+        requires shallow { length self.old.calls.items + self.old.turns < 16 }
+        ensures sound { OnOk result (IsSound self.new) }
+        ensures count { OnOk result (self.old.count ≤ self.new.count) }
+        ensures less { OnOk result (most_moves self.new ≤ most_moves self.old) }
+        ensures around { OnOk result (length self.new.around.items ≤ length self.old.around.items + 1) }
+        ensures resumed { Resumes result (rest_of self.new)
+            (moved (rest_of self.old).depth (rest_of self.old).around (turns (rest_of self.old).depth left number (body_seen (texts_in self.old) (innermost (tables_in self.old)) body) (state_of self.old))) }
+    {
+        if left == 0 {
+            closes(
+                self.alloc,
+                &self.lines,
+                self.calls.last(),
+                body.stretch.end,
+            )?;
+            self.text = body.after;
+            return Ok(());
+        }
+        if self.count >= MOST_LINES {
+            return Err(Stop::At(number, MacroFault::TooManyLines));
+        }
+        self.around.push(Following::Turns(left - 1, number, body))?;
+        self.count += 1;
+        self.turns += 1;
+        self.text = Span {
+            number: Some(number),
+            ..body.stretch.lines
+        };
+        Ok(())
+    }
+
     /// Goes on behind a text that is over, in the one around it.
     fn resume(&mut self) -> Result<(), Stop>
         requires sound { IsSound self.old }
@@ -69,8 +138,22 @@ impl<'a> Expansion<'a> {
         ensures less { OnOk result (most_moves self.new < most_moves self.old) }
         ensures resumed { Resumes result (rest_of self.new) (next_move (rest_of self.old)) }
     {
-        self.count = 0;
-        Err(Stop::NoMemory)
+        let Some(next) = self.around.pop() else {
+            return Ok(());
+        };
+        match next {
+            Following::Rest(text) => {
+                self.calls.pop();
+                self.text = text;
+                Ok(())
+            }
+            Following::BehindFirst(choice) => self.behind_first(choice),
+            Following::BehindSecond(choice) => self.behind_second(choice),
+            Following::Turns(left, number, body) => {
+                self.turns -= 1;
+                self.turn(left, number, body)
+            }
+        }
     }
 
     /// Writes the first line of the innermost text in the place of what was written, and answers its number.

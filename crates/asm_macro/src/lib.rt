@@ -3,6 +3,7 @@
 
 mod blocks;
 mod call;
+mod closing;
 mod constants;
 mod expander;
 mod expansion;

@@ -1,5 +1,5 @@
 -- What is given and what is to come, by what an expander keeps.
-use Rattle.std.specs.Prelude.{◌≡◌, ⊥, Unit, ℕ, List, [], Result, Ok, Err}
+use Rattle.std.specs.Prelude.{◌≡◌, ℕ, List, [], Result, Ok, Err}
 use Rattle.asm_macro.specs.declared.expander.Stage.{Stage}
 use Rattle.asm_macro.specs.declared.expansion.Expansion.{Expansion}
 use Rattle.asm_macro.specs.declared.fault.MacroFault.{MacroFault}
