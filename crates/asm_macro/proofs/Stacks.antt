@@ -2,9 +2,12 @@
 use Rattle.std.proofs.Common.{◌≡◌, ◌<◌, ◌-◌, ◌∙◌, sym, ap, refl, ℕ, List, [], ◌∷◌, ◌++◌, Option, Some, None, Bor, length, map, reverse, get_or, arith, option_copied}
 use Rattle.std.specs.List.{slice_get}
 use Rattle.std.specs.Option.{option_map}
-use Rattle.std.proofs.lemmas.List.{get_or-reverse, length-reverse, reverse-append}
+use Rattle.std.proofs.lemmas.List.{get_or-reverse, length-map, length-reverse, reverse-append}
 use Rattle.std.proofs.lemmas.Option.{slice_get-get_or}
 use Rattle.asm_replace.specs.Replaced.{Table}
+use Rattle.asm_replace.specs.Views as replaced
+use Rattle.asm_macro.specs.declared.expansion.Expansion.{Expansion}
+use Rattle.asm_macro.specs.Private.Moves.{tables_in}
 use Rattle.asm_macro.specs.Private.Frames.{innermost}
 
 first_table : {X : Type 0} (f : X → Table) (xs : List X) → innermost (map f xs) ≡ option_map f (slice_get xs 0)
@@ -30,3 +33,7 @@ last_table f xs o e = copied f o ∙ ap (option_map f) (e ∙ sym (first_last xs
 
 pub pushed : {X : Type 0} (xs : List X) (x : X) → reverse (xs ++ x ∷ []) ≡ x ∷ reverse xs
 pushed xs x = reverse-append xs (x ∷ [])
+
+-- so many calls are open
+pub depth_is : (x : Expansion) → length (tables_in x) ≡ length x.calls.items
+depth_is x = length-map (reverse x.calls.items) (λ names. replaced.table names.entries) ∙ length-reverse x.calls.items

@@ -4,7 +4,7 @@ ghost use Rattle.std.specs.Prelude.{◌≡◌, ◌≢◌, ◌<◌, ◌≤◌, �
 ghost use Rattle.std.specs.Option.{option_map};
 ghost use Rattle.asm_replace.specs.Views.{table};
 ghost use Rattle.asm_macro.specs.Ahead.{Around, seen};
-ghost use Rattle.asm_macro.specs.Parts.{behind_first, part, resumed, turns};
+ghost use Rattle.asm_macro.specs.Parts.{behind_first, resumed, turns};
 ghost use Rattle.asm_macro.specs.declared.frame.Following.{Following};
 ghost use Rattle.asm_macro.specs.Private.Frames.{body_seen, branches_seen, innermost, next_of};
 ghost use Rattle.asm_macro.specs.declared.moves.Given.{Given};
@@ -48,20 +48,6 @@ pub(crate) struct Expansion<'a> {
 }
 
 impl<'a> Expansion<'a> {
-    /// Takes up a line, behind which the innermost text goes on.
-    fn take(&mut self, line: Line<'_>) -> Result<Taken, Stop>
-        requires sound { IsSound self.old }
-        ensures sound { OnOk result (IsSound self.new) }
-        ensures count { OnOk result (self.old.count < self.new.count) }
-        ensures around { OnOk result (length self.new.around.items ≤ length self.old.around.items + 1) }
-        ensures taken { Takes (seen line.entry) result (rest_of self.new) (moved (rest_of self.old).depth (rest_of self.old).around (part (rest_of self.old).depth (rest_of self.old).state (seen line.entry) (rest_of self.old).text)) }
-    {
-        if line.number == 0 {
-            self.count = 0;
-        }
-        Err(Stop::NoMemory)
-    }
-
     /// Goes on behind the first branch of an IF.
     fn behind_first(&mut self, choice: Choice) -> Result<(), Stop>
         requires sound { IsSound self.old }
@@ -95,7 +81,7 @@ impl<'a> Expansion<'a> {
     }
 
     /// Goes on with the next turn of a REPT, or behind it.
-    fn turn(&mut self, left: u16, number: u32, body: Block) -> Result<(), Stop>
+    pub(crate) fn turn(&mut self, left: u16, number: u32, body: Block) -> Result<(), Stop>
         requires sound { IsSound self.old }
         requires shallow { length self.old.calls.items + self.old.turns < 16 }
         ensures sound { OnOk result (IsSound self.new) }

@@ -13,6 +13,7 @@ pub mod laws;
 mod moves;
 mod reading;
 mod source;
+mod take;
 mod whole;
 
 pub use expander::{Expander, Line};
