@@ -3,5 +3,6 @@ mod Texts
 mod Stacks
 mod Turned
 mod Taken
+mod Heads
 mod Remaining
 mod Branches

@@ -1,8 +1,8 @@
 //! The lines of a source text.
 
-ghost use Rattle.std.specs.Prelude.{◌≡◌, ◌≤◌, ◌==◌, length, not};
+ghost use Rattle.std.specs.Prelude.{◌≡◌, ◌≤◌, ◌==◌, IfOk, length, map, not};
 ghost use Rattle.std.specs.List.{prefix_len};
-ghost use Rattle.asm_macro.specs.Texts.{source_part};
+ghost use Rattle.asm_macro.specs.Texts.{source_lines, source_part};
 ghost use Rattle.asm_macro.specs.Private.Stages.{Begins};
 
 use crate::constants::Constants;
@@ -31,6 +31,18 @@ fn before_end(text: &[u8]) -> &[u8]
     &text[..end_of(text)]
 }
 
+/// The lines of a text.
+fn lines_of(alloc: Global, text: &[u8]) -> Result<Vec<&[u8]>, AllocError>
+    ensures lines { IfOk result (λ found. map (λ line. line.now) found.items ≡ source_lines text.now) }
+    ensures few { IfOk result (λ found. length found.items ≤ length text.now) }
+{
+    let mut found = Vec::new(alloc);
+    for line in before_end(text).lines() {
+        found.push(line)?;
+    }
+    Ok(found)
+}
+
 /// The expansion of a text, before its first line.
 pub(crate) fn begin(alloc: Global, text: &[u8]) -> Result<Expansion<'_>, MacroFault>
     ensures { Begins text.now result }
@@ -38,7 +50,22 @@ pub(crate) fn begin(alloc: Global, text: &[u8]) -> Result<Expansion<'_>, MacroFa
     if text.len() > LONGEST_TEXT {
         return Err(MacroFault::TooManyLines);
     }
-    let _part = before_end(text);
-    let _alloc = alloc;
-    Err(MacroFault::NoMemory)
+    let lines = lines_of(alloc, text)?;
+    let end = lines.len();
+    Ok(Expansion {
+        alloc,
+        lines,
+        macros: IndexMap::new(alloc),
+        constants: Constants::new(alloc),
+        counter: 0,
+        count: 0,
+        text: Span {
+            at: 0,
+            end,
+            number: None,
+        },
+        around: Vec::new(alloc),
+        calls: Vec::new(alloc),
+        turns: 0,
+    })
 }
