@@ -4,5 +4,6 @@ mod Stacks
 mod Turned
 mod Taken
 mod Heads
+mod Begun
 mod Remaining
 mod Branches
