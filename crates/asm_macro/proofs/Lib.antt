@@ -5,5 +5,6 @@ mod Turned
 mod Taken
 mod Heads
 mod Begun
+mod Worth
 mod Remaining
 mod Branches

@@ -1,6 +1,6 @@
 //! Lines that are taken up.
 
-ghost use Rattle.std.specs.Prelude.{◌≡◌, ◌≢◌, ◌<◌, ◌≤◌, ◌+◌, IfOk, OnOk, Ok, [], List, ℕ, None, Some, length, true};
+ghost use Rattle.std.specs.Prelude.{◌≡◌, ◌≢◌, ◌<◌, ◌≤◌, ◌+◌, ◌||◌, nat_lt, IfOk, OnOk, Ok, [], List, ℕ, None, Some, length, true};
 ghost use Rattle.std.specs.Option.{option_map};
 ghost use Rattle.asm_scan.specs.Tokens.{lexemes};
 ghost use Rattle.asm_scan.specs.Scanned.{scanned};
@@ -15,11 +15,11 @@ ghost use Rattle.asm_macro.specs.Judged.{is_counted, parameters};
 ghost use Rattle.asm_macro.specs.Parts.{chosen, conditional, definition, part, repeated, second_of, worded};
 ghost use Rattle.asm_macro.specs.Private.Allows.{stopped};
 ghost use Rattle.asm_macro.specs.Private.Frames.{branches_seen, innermost};
-ghost use Rattle.asm_macro.specs.Private.Heads.{by_head, constants_with, defined};
+ghost use Rattle.asm_macro.specs.Private.Heads.{by_head, defined, kept};
 ghost use Rattle.asm_macro.specs.Private.Moves.{IsSound, Resumes, Takes, moved, rest_of, state_of, tables_in, texts_in};
 
 use crate::blocks::{body_of, branches_of};
-use crate::call::Macro;
+use crate::call::{Macro, macro_of};
 use crate::closing::closes;
 use crate::expander::Line;
 use crate::expansion::{Expansion, MOST_LINES};
@@ -63,6 +63,13 @@ fn parameters(alloc: Global, tokens: &[Token<'_>]) -> Result<Option<Vec<Vec<u8>>
     } else {
         names(alloc, tokens)
     }
+}
+
+/// Whether a MACRO line may not stand: it has a label, stands in a call or repetition, or has a reserved name.
+fn may_not_stand(labelled: bool, depth: usize, reserved: bool) -> bool
+    ensures { result ≡ ((labelled || nat_lt 0 depth) || reserved) }
+{
+    labelled || depth > 0 || reserved
 }
 
 impl<'a> Expansion<'a> {
@@ -173,6 +180,41 @@ impl<'a> Expansion<'a> {
         Err(Stop::NoMemory)
     }
 
+    /// Keeps a macro, if its body ends.
+    fn keep(
+        &mut self,
+        line: Line<'_>,
+        key: Vec<u8>,
+        parameters: Vec<Vec<u8>>,
+    ) -> Result<(), Stop>
+        requires sound { IsSound self.old }
+        requires outside { length self.old.calls.items ≡ 0 }
+        requires new { macro_named (state_of self.old) key.items ≡ None }
+        ensures sound { OnOk result (IsSound self.new) }
+        ensures count { OnOk result (self.new.count ≡ self.old.count) }
+        ensures around { OnOk result (length self.new.around.items ≤ length self.old.around.items + 1) }
+        ensures taken { Resumes result (rest_of self.new) (moved (rest_of self.old).depth (rest_of self.old).around
+            (kept (state_of self.old) (seen line.entry) key.items (texts parameters.items) (body_of (rest_of self.old).text))) }
+    {
+        let found = body_of(self.alloc, &self.lines, self.calls.last(), self.text)?;
+        let Some(body) = found else {
+            return Err(Stop::At(line.number, MacroFault::Unclosed));
+        };
+        closes(
+            self.alloc,
+            &self.lines,
+            self.calls.last(),
+            body.stretch.end,
+        )?;
+        let called = Macro {
+            parameters,
+            body: body.stretch.lines,
+        };
+        self.macros.insert(key, called)?;
+        self.text = body.after;
+        Ok(())
+    }
+
     /// `name MACRO ..`.
     fn define(&mut self, line: Line<'_>, form: Form<'_>, name: &[u8]) -> Result<(), Stop>
         requires sound { IsSound self.old }
@@ -182,8 +224,19 @@ impl<'a> Expansion<'a> {
         ensures taken { Resumes result (rest_of self.new) (moved (rest_of self.old).depth (rest_of self.old).around
             (defined (rest_of self.old).depth (state_of self.old) (seen line.entry) (form_seen form.entry) name.now (rest_of self.old).text)) }
     {
-        self.count = 0;
-        Err(Stop::NoMemory)
+        let key = name.to_ascii_uppercase(self.alloc)?;
+        let depth = self.calls.len() + self.turns;
+        if may_not_stand(form.label.is_some(), depth, is_reserved(&key)) {
+            return Err(Stop::At(line.number, MacroFault::Stray));
+        }
+        let found = parameters(self.alloc, form.rest)?;
+        let Some(parameters) = found else {
+            return Err(Stop::At(line.number, MacroFault::Stray));
+        };
+        if macro_of(&self.macros, &key).is_some() {
+            return Err(Stop::At(line.number, MacroFault::Redefined));
+        }
+        self.keep(line, key, parameters)
     }
 
     /// Takes up a line that is counted, by its head.

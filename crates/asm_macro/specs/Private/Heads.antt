@@ -9,11 +9,11 @@ use Rattle.asm_line.specs.Forms.{Form, Head}
 use Rattle.asm_line.specs.Forms as line
 use Rattle.asm_macro.specs.declared.fault.MacroFault.{MacroFault}
 use Rattle.asm_macro.specs.Texts.{Numbered}
-use Rattle.asm_macro.specs.State.{State, is_known, macro_named, table}
+use Rattle.asm_macro.specs.State.{State, is_known, macro_named, table, with_macro}
 use Rattle.asm_macro.specs.Values.{worth}
-use Rattle.asm_macro.specs.Blocks.{body_of, branches_of}
+use Rattle.asm_macro.specs.Blocks.{Body, body_of, branches_of}
 use Rattle.asm_macro.specs.Judged.{is_stray, parameters}
-use Rattle.asm_macro.specs.Parts.{Part, Go, fails, learned, definition, repeated, conditional, equated, worded}
+use Rattle.asm_macro.specs.Parts.{Part, Go, closing, fails, texts, learned, definition, repeated, conditional, equated, worded}
 
 -- the constants, with a name that has a value if it is new
 abbrev pub with_worth : List ℕ → Result ℕ MacroFault → List (List ℕ × ℕ) → List (List ℕ × ℕ)
@@ -22,6 +22,11 @@ with_worth name (Err why) constants = constants
 
 abbrev pub constants_with : List (List ℕ × ℕ) → List ℕ → Result ℕ MacroFault → List (List ℕ × ℕ)
 constants_with constants name value = if is_some (lookup (bytes_eq name) constants) then constants else with_worth name value constants
+
+-- a macro is kept by its name in upper case, if its body ends
+abbrev pub kept : State → Numbered → List ℕ → List (List ℕ) → Option Body → Part
+kept e l key some (Some body) = closing body.section.end (Go [] (with_macro key (record { parameters = some; body = texts body.section.lines }) e) body.after)
+kept e l key some None = fails l MacroFault.Unclosed
 
 -- a macro, whose name is new
 abbrev pub unless_redefined : Bool → Numbered → Part → Part

@@ -1,5 +1,6 @@
 -- One move of an expansion: a line that is taken up, or what follows a text that is over.
-use Rattle.std.specs.Prelude.{◌≡◌, Option, Some, None, ◌+◌, ◌*◌, ◌-◌, ◌≤◌, ◌<◌, ℕ, List, [], ◌∷◌, Result, Ok, Err, length, map, reverse, All}
+use Rattle.std.specs.Prelude.{◌≡◌, Option, Some, None, ◌+◌, ◌*◌, ◌-◌, ◌≤◌, ◌<◌, ℕ, List, [], ◌∷◌, Result, Ok, Err, length, map, reverse, Vec}
+use Rattle.std.specs.Global.{Global}
 use Rattle.asm_replace.specs.Replaced.{Table}
 use Rattle.asm_replace.specs.Views as replaced
 use Rattle.asm_macro.specs.declared.call.Macro.{Macro}
@@ -27,9 +28,12 @@ tables_in x = map (λ names. replaced.table names.entries) (reverse x.calls.item
 abbrev pub macro_seen : List (List ℕ) → Macro → state.Macro
 macro_seen texts m = record { parameters = replaced.texts m.parameters.items; body = parts.texts (text_of texts None m.body) }
 
+abbrev pub macros_seen : List (List ℕ) → List (Vec ℕ Global × Macro) → List (List ℕ × state.Macro)
+macros_seen texts entries = map (λ m. (m.0.items, macro_seen texts m.1)) entries
+
 abbrev pub state_of : Expansion → state.State
 state_of x = record {
-  macros = map (λ m. (m.0.items, macro_seen (texts_in x) m.1)) x.macros.entries;
+  macros = macros_seen (texts_in x) x.macros.entries;
   constants = x.constants;
   counter = x.counter;
   count = x.count }
