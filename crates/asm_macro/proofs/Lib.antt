@@ -6,5 +6,6 @@ mod Taken
 mod Heads
 mod Begun
 mod Worth
+mod Macros
 mod Remaining
 mod Branches

@@ -24,7 +24,7 @@ first_last (x ∷ xs) =
     let same : length (x ∷ xs) - 1 - 0 ≡ length (x ∷ xs) - 1 = omega arith in
     slice_get-get_or (reverse (x ∷ xs)) 0 x also ∙ ap Some (get_or-reverse (x ∷ xs) 0 x some ∙ ap (λ j. get_or (x ∷ xs) j x) same) ∙ sym (slice_get-get_or (x ∷ xs) (length (x ∷ xs) - 1) x less)
 
-copied : {X Y : Type 0} (f : X → Y) (o : Option (Bor X)) → option_map (λ n. f n.now) o ≡ option_map f (option_copied o)
+pub copied : {X Y : Type 0} (f : X → Y) (o : Option (Bor X)) → option_map (λ n. f n.now) o ≡ option_map f (option_copied o)
 copied f None = refl
 copied f (Some x) = refl
 
