@@ -7,5 +7,7 @@ mod Heads
 mod Begun
 mod Worth
 mod Macros
+mod Openings
 mod Remaining
 mod Branches
+mod Entering

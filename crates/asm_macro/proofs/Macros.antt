@@ -17,14 +17,18 @@ use Rattle.asm_macro.specs.Private.Frames.{body_seen, innermost, line_of, text_o
 use Rattle.asm_macro.specs.Private.Heads.{kept}
 use Rattle.asm_macro.specs.Private.Moves.{On, macro_seen, macros_seen, moved, rest_of, state_of, tables_in, texts_in}
 
+pub lookup-seen : {V W : Type 0} (f : V → W) (entries : List (Vec ℕ Global × V)) (name : List ℕ)
+    → lookup (bytes_eq name) (map (λ e. (e.0.items, f e.1)) entries) ≡ option_map f (lookup (λ k. bytes_eq name k.items) entries)
+lookup-seen f [] name = refl
+lookup-seen {V} {W} f (e ∷ es) name =
+    elim (bytes_eq name e.0.items) as (λ b. cond b (Some (f e.1)) (lookup (bytes_eq name) (map (λ (e : Vec ℕ Global × V). (e.0.items, f e.1)) es)) ≡ option_map f (cond b (Some e.1) (lookup (λ k. bytes_eq name k.items) es))) [
+      | true ↦ refl
+      | false ↦ lookup-seen f es name
+    ]
+
 pub lookup-macros : (all : List (List ℕ)) (entries : List (Vec ℕ Global × Macro)) (name : List ℕ)
     → lookup (bytes_eq name) (macros_seen all entries) ≡ option_map (macro_seen all) (lookup (λ k. bytes_eq name k.items) entries)
-lookup-macros all [] name = refl
-lookup-macros all (e ∷ es) name =
-    elim (bytes_eq name e.0.items) as (λ b. cond b (Some (macro_seen all e.1)) (lookup (bytes_eq name) (macros_seen all es)) ≡ option_map (macro_seen all) (cond b (Some e.1) (lookup (λ k. bytes_eq name k.items) es))) [
-      | true ↦ refl
-      | false ↦ lookup-macros all es name
-    ]
+lookup-macros all entries name = lookup-seen (macro_seen all) entries name
 
 none_mapped : {X Y : Type 0} (f : X → Y) (o : Option X) → option_map f o ≡ None → o ≡ None
 none_mapped f None e = refl

@@ -3,6 +3,8 @@ pub mod Frames
 pub mod Ends
 pub mod Allows
 pub mod Heads
+pub mod Openings
+pub mod Entering
 pub mod Constants
 pub mod Moves
 pub mod Branches

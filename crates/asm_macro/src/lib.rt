@@ -11,6 +11,7 @@ mod fault;
 mod frame;
 pub mod laws;
 mod moves;
+mod open;
 mod reading;
 mod source;
 mod take;

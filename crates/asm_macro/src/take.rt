@@ -6,7 +6,10 @@ ghost use Rattle.asm_scan.specs.Tokens.{lexemes};
 ghost use Rattle.asm_scan.specs.Scanned.{scanned};
 ghost use Rattle.asm_words.specs.Words.{upper};
 ghost use Rattle.asm_line.specs.Views.{form_seen, head_seen};
-ghost use Rattle.asm_replace.specs.Views.{texts};
+ghost use Rattle.asm_replace.specs.Views.{table as table_seen, texts};
+ghost use Rattle.asm_replace.specs.Replaced.{Table};
+ghost use Rattle.asm_macro.specs.Private.Openings.{SaySame, body_texts};
+ghost use Rattle.asm_macro.specs.Private.Entering.{Entered};
 ghost use Rattle.asm_macro.specs.State.{macro_named, table};
 ghost use Rattle.asm_macro.specs.Values.{worth};
 ghost use Rattle.asm_macro.specs.Ahead.{seen};
@@ -24,9 +27,11 @@ use crate::closing::closes;
 use crate::expander::Line;
 use crate::expansion::{Expansion, MOST_LINES};
 use crate::fault::MacroFault;
-use crate::frame::{Choice, Following};
+use crate::frame::{Choice, Following, Span};
 use crate::moves::{Stop, Taken};
+use crate::open::{arguments_of, label_of, names_of, open};
 use asm_line::{BlockWord, Form, Head, form_of, names};
+use asm_replace::Replacements;
 use asm_scan::{ScanFault, Token, tokens};
 use asm_words::is_reserved;
 use std::alloc::{AllocError, Global};
@@ -161,6 +166,32 @@ impl<'a> Expansion<'a> {
         }
     }
 
+    /// Begins the body of a call.
+    fn enter(
+        &mut self,
+        line: Line<'_>,
+        body: Span,
+        names: Replacements,
+        counter: u64,
+    ) -> Result<(), AllocError>
+        requires sound { IsSound self.old }
+        requires shallow { length self.old.calls.items + self.old.turns < 16 }
+        ensures sound { OnOk result (IsSound self.new) }
+        ensures count { OnOk result (self.new.count ≡ self.old.count) }
+        ensures around { OnOk result (length self.new.around.items ≤ length self.old.around.items + 1) }
+        ensures entered { OnOk result ((names_said : Table) → SaySame (table_seen names.entries) names_said → Entered (rest_of self.old) (seen line.entry).number names_said (body_texts (texts_in self.old) body) counter (rest_of self.new)) }
+    {
+        asm_replace::laws::by_names();
+        self.around.push(Following::Rest(self.text))?;
+        self.calls.push(names)?;
+        self.counter = counter;
+        self.text = Span {
+            number: Some(line.number),
+            ..body
+        };
+        Ok(())
+    }
+
     /// A word: a call where a macro has that name, else END or any other.
     fn word(
         &mut self,
@@ -176,8 +207,41 @@ impl<'a> Expansion<'a> {
         ensures taken { Takes (seen line.entry) result (rest_of self.new) (moved (rest_of self.old).depth (rest_of self.old).around
             (worded (rest_of self.old).depth (state_of self.old) (seen line.entry) (form_seen form.entry) (lexemes tokens.entry.now) (rest_of self.old).text (upper name.now) (macro_named (state_of self.old) (upper name.now)))) }
     {
-        self.count = 0;
-        Err(Stop::NoMemory)
+        let key = name.to_ascii_uppercase(self.alloc)?;
+        let Some(called) = macro_of(&self.macros, &key) else {
+            if key.as_slice() == b"END".as_slice() {
+                return Ok(Taken::Last);
+            }
+            return Ok(Taken::Line);
+        };
+        if self.calls.len() + self.turns >= MOST_OPEN {
+            return Err(Stop::At(line.number, MacroFault::TooDeep));
+        }
+        let found = open(self.alloc, &self.lines, called.body)?;
+        let Some(opened) = found else {
+            if form.label.is_none() {
+                return Err(Stop::At(line.number, MacroFault::Stray));
+            }
+            return Ok(Taken::Refused(label_of(self.alloc, line.text, tokens)?));
+        };
+        let arguments = arguments_of(self.alloc, line.text, tokens, form.rest)?;
+        let Some(counter) = self.counter.checked_add(opened.locals.len() as u64) else {
+            return Err(Stop::NoMemory);
+        };
+        let names = names_of(
+            self.alloc,
+            &called.parameters,
+            &arguments,
+            &opened.locals,
+            self.counter,
+        )?;
+        if form.label.is_none() {
+            self.enter(line, opened.rest, names, counter)?;
+            return Ok(Taken::Nothing);
+        }
+        let label = label_of(self.alloc, line.text, tokens)?;
+        self.enter(line, opened.rest, names, counter)?;
+        Ok(Taken::Label(label))
     }
 
     /// Keeps a macro, if its body ends.

@@ -1,0 +1,15 @@
+-- The body of a call is begun.
+use Rattle.std.specs.Prelude.{◌≡◌, ◌+◌, ◌∷◌, ℕ, List}
+use Rattle.asm_replace.specs.Replaced.{Table}
+use Rattle.asm_macro.specs.Calls.{body_lines}
+use Rattle.asm_macro.specs.Parts as parts
+use Rattle.asm_macro.specs.Ahead.{Rest}
+
+-- the body is the innermost text, and what was that follows it
+abbrev pub Entered : Rest → ℕ → Table → List (List ℕ) → ℕ → Rest → Type 0
+Entered old number names texts counter new =
+    new ≡ record {
+      depth = old.depth + 1;
+      state = record old.state { counter = counter };
+      text = body_lines number names texts;
+      around = record { depth = old.depth; next = parts.Rest old.text } ∷ old.around }
