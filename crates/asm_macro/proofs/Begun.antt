@@ -31,8 +31,12 @@ pub begun_rest : (x : Expansion) → x.macros.entries ≡ [] → x.constants ≡
     → rest_of x ≡ record { depth = 0; state = start; text = numbered 1 (texts_in x); around = [] }
 begun_rest x m k c n calls around turns text all =
     let t = texts_in x in
-    ap (λ cs. record { depth = length (map (λ names. replaced.table names.entries) (reverse cs)) + x.turns; state = state_of x;
-      text = text_of t (innermost (map (λ names. replaced.table names.entries) (reverse cs))) x.text; around = around_seen t (map (λ names. replaced.table names.entries) (reverse cs)) (reverse x.around.items) }) calls
+    ap (λ cs. record {
+      depth = length (map (λ names. replaced.table names.entries) (reverse cs)) + x.turns;
+      state = state_of x;
+      text = text_of t (innermost (map (λ names. replaced.table names.entries) (reverse cs))) x.text;
+      around = around_seen t (map (λ names. replaced.table names.entries) (reverse cs)) (reverse x.around.items);
+    }) calls
     ∙ ap (λ fs. record { depth = 0 + x.turns; state = state_of x; text = text_of t None x.text; around = around_seen t [] (reverse fs) }) around
     ∙ ap (λ n. record { depth = 0 + n; state = state_of x; text = text_of t None x.text; around = [] }) turns
     ∙ ap (λ s. record { depth = 0; state = s; text = text_of t None x.text; around = [] }) (begun_state x m k c n)

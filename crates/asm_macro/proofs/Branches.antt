@@ -141,8 +141,7 @@ pub reached_start : (texts : List (List ℕ)) (names : Option Table) (span : Spa
     → Some (n, more) ≡ branch_end 0 0 all → n < length all → Reached texts names span all (behind_of span n) more (section_of texts names (front_of span n)) []
 reached_start texts names span all n more is end h =
     let place = inside texts names span all n is h in
-    let past : (span.at + n + 1) - span.at ≡ n + 1 = omega arith in
-    (
+    let past : (span.at + n + 1) - span.at ≡ n + 1 = omega arith in (
       omega arith,
       omega (arith, h),
       ap (λ j. drop j all) past ∙ ap (drop (n + 1)) is ∙ roles_drop (n + 1) (text_of texts names span) ∙ ap roles (sym (behind_is texts names span n place)),
@@ -156,8 +155,7 @@ pub reached_step : (texts : List (List ℕ)) (names : Option Table) (span : Span
     → Reached texts names span all (behind_of rest n) more first (others ++ section_of texts names (front_of rest n) ∷ [])
 reached_step texts names span all rest first others n more reached end h =
     let place = inside texts names rest (drop (rest.at - span.at) all) n reached.2 h in
-    let past : (rest.at + n + 1) - span.at ≡ (rest.at - span.at) + (n + 1) = omega (arith, reached.0) in
-    (
+    let past : (rest.at + n + 1) - span.at ≡ (rest.at - span.at) + (n + 1) = omega (arith, reached.0) in (
       omega (arith, reached.0),
       omega (arith, h, length-drop (rest.at - span.at) all, reached.0, reached.1),
       ap (λ j. drop j all) past ∙ sym (role_drop (rest.at - span.at) (n + 1) all) ∙ ap (drop (n + 1)) reached.2 ∙ roles_drop (n + 1) (text_of texts names rest) ∙ ap roles (sym (behind_is texts names rest n place)),

@@ -31,10 +31,11 @@ lines_are law t u same number at (x ∷ xs) =
 pub entered : Replaces → (x : Expansion) (tables : List Table) (around : List Following) (t u : Table) (number counter : ℕ) (body : Span) → IsSound x → SaySame t u
     → tables ≡ t ∷ tables_in x → around ≡ Following.Rest x.text ∷ reverse x.around.items
     → Entered (rest_of x) number u (body_texts (texts_in x) body) counter (record {
-        depth = length tables + x.turns;
-        state = record (state_of x) { counter = counter };
-        text = text_of (texts_in x) (innermost tables) (record body { number = Some number });
-        around = around_seen (texts_in x) tables around })
+      depth = length tables + x.turns;
+      state = record (state_of x) { counter = counter };
+      text = text_of (texts_in x) (innermost tables) (record body { number = Some number });
+      around = around_seen (texts_in x) tables around;
+    })
 entered law x tables around t u number counter body sound same is out =
     let depth : length (t ∷ tables_in x) + x.turns ≡ (length (tables_in x) + x.turns) + 1 = omega arith in
     let lines = lines_are law t u same number body.at (body_texts (texts_in x) body) in

@@ -24,7 +24,7 @@ has_parameters false (Some p) e = refl
 by_macro : (depth : ℕ) (e : State) (l : Numbered) (rest : List Numbered) (name : List ℕ) (s r : Bool) (b : Option Body) (ps : Option (List (List ℕ))) → (s ≡ false → is_some ps ≡ true)
     → read depth e l rest (scanned l.text) ≡ definition (counted e) l name ps b
     → judged depth e l rest (first ((if s then Some MacroFault.Stray else None) ∷ (if r then Some MacroFault.Redefined else None) ∷ unless_some (is_some b) ∷ []))
-      ≡ unless_stray s l (unless_redefined r l (definition (counted e) l name ps b))
+    ≡ unless_stray s l (unless_redefined r l (definition (counted e) l name ps b))
 by_macro depth e l rest name true r b ps h is = refl
 by_macro depth e l rest name false true b ps h is = refl
 by_macro depth e l rest name false false (Some b) ps h is = is
@@ -67,7 +67,7 @@ pub part_is : (depth : ℕ) (e : State) (l : Numbered) (rest : List Numbered) (t
 part_is depth e l rest tokens is k =
     let f = form tokens in
     let now : read depth e l rest (scanned l.text) ≡ headed f.head depth (counted e) l f tokens rest
-        = ap (λ s. read depth e l rest s) is ∙ ap (λ s. headed (form_by (tokens_in s)).head depth (counted e) l (form_by (tokens_in s)) tokens rest) is in
+    = ap (λ s. read depth e l rest s) is ∙ ap (λ s. headed (form_by (tokens_in s)).head depth (counted e) l (form_by (tokens_in s)) tokens rest) is in
     let scan : part depth e l rest ≡ judged depth e l rest (first (too_many e f.head ∷ None ∷ stray depth f ∷ redefined e f.head ∷ unclosed f.head rest ∷ []))
-        = ap (λ s. judged depth e l rest (first (too_many e (form_by (tokens_in s)).head ∷ unread s ∷ stray depth (form_by (tokens_in s)) ∷ redefined e (form_by (tokens_in s)).head ∷ unclosed (form_by (tokens_in s)).head rest ∷ []))) is in
+    = ap (λ s. judged depth e l rest (first (too_many e (form_by (tokens_in s)).head ∷ unread s ∷ stray depth (form_by (tokens_in s)) ∷ redefined e (form_by (tokens_in s)).head ∷ unclosed (form_by (tokens_in s)).head rest ∷ []))) is in
     scan ∙ ap (λ o. judged depth e l rest (first (o ∷ None ∷ stray depth f ∷ redefined e f.head ∷ unclosed f.head rest ∷ []))) (few e f.head k) ∙ by_each f.head f depth e l tokens rest now

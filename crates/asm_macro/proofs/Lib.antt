@@ -11,3 +11,4 @@ mod Openings
 mod Remaining
 mod Branches
 mod Entering
+mod Called

@@ -49,7 +49,7 @@ pub kept_is : (x : Expansion) (l : Numbered) (entries : List (Vec ℕ Global × 
     → ((p : Part) → closing (line_of (texts_in x) (innermost (tables_in x)) body.stretch.end) p ≡ p)
     → entries ≡ x.macros.entries ++ (key, record { parameters = parameters; body = body.stretch.lines }) ∷ []
     → moved (rest_of x).depth (rest_of x).around (kept (state_of x) l key.items (replaced.texts parameters.items) (body_of (rest_of x).text))
-      ≡ On [] (record (rest_of x) { state = record (state_of x) { macros = macros_seen (texts_in x) entries }; text = text_of (texts_in x) (innermost (tables_in x)) body.after })
+    ≡ On [] (record (rest_of x) { state = record (state_of x) { macros = macros_seen (texts_in x) entries }; text = text_of (texts_in x) (innermost (tables_in x)) body.after })
 kept_is x l entries key parameters body outside found closes is =
     let b = body_seen (texts_in x) (innermost (tables_in x)) body in
     let lines = ap (λ n. texts (text_of (texts_in x) n body.stretch.lines)) (no_tables x outside) in

@@ -30,8 +30,7 @@ part_on depth around (Within g s inner text next) given new e lines end r =
     let is : record { depth = inner; state = s; text = text; around = record { depth = depth; next = next } ∷ around } ≡ new = cc in
     let same : g ≡ given = cc in
     let now = subst (λ x. Remains (ahead.Within x) lines end) (sym is) r in
-    let behind = now.4 in
-    (
+    let behind = now.4 in (
       (given ++ now.0) ++ behind.0,
       behind.1,
       behind.2,

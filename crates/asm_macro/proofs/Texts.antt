@@ -63,7 +63,6 @@ drop-drop zero n texts = let e : n ≡ 0 + n = omega arith in ap (λ j. drop j t
 drop-drop (suc a) n [] = drop-nil n ∙ sym (drop-nil (suc a + n))
 drop-drop (suc a) n (t ∷ ts) = let e : suc (a + n) ≡ suc a + n = omega arith in drop-drop a n ts ∙ ap (λ j. drop j (t ∷ ts)) e
 
-
 pub length-text_of : (texts : List (List ℕ)) (names : Option Table) (s : Span) → length (text_of texts names s) ≡ length (take (s.end - s.at) (drop s.at texts))
 length-text_of texts names s = length-lines_from s.number s.at names (take (s.end - s.at) (drop s.at texts))
 
@@ -107,7 +106,7 @@ text_rest texts names s n h =
     let k : n + (s.end - (s.at + n)) ≡ s.end - s.at = omega arith in
     drop-lines_from s.number s.at names n (take (s.end - s.at) (drop s.at texts))
     ∙ ap (λ ts. lines_from s.number (s.at + n) names ts)
-        (ap (λ j. drop n (take j (drop s.at texts))) (sym k) ∙ drop-take n (s.end - (s.at + n)) (drop s.at texts) ∙ ap (take (s.end - (s.at + n))) (drop-drop s.at n texts))
+    (ap (λ j. drop n (take j (drop s.at texts))) (sym k) ∙ drop-take n (s.end - (s.at + n)) (drop s.at texts) ∙ ap (take (s.end - (s.at + n))) (drop-drop s.at n texts))
 
 -- a line of it
 pub text_line : (texts : List (List ℕ)) (names : Option Table) (s : Span) (n : ℕ) (d : Numbered) → n < length (text_of texts names s)

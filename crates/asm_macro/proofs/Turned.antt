@@ -30,7 +30,7 @@ not_many n h = lt-leb 60000 n h
 
 turns_more : (depth : ℕ) (around : List Around) (left number : ℕ) (body : Body) (e : State) → 0 < left → e.count < 60000
     → moved depth around (turns depth left number body e)
-      ≡ On [] (record { depth = depth + 1; state = counted e; text = renumbered number body.section.lines; around = record { depth = depth; next = Turns (left - 1) number body } ∷ around })
+    ≡ On [] (record { depth = depth + 1; state = counted e; text = renumbered number body.section.lines; around = record { depth = depth; next = Turns (left - 1) number body } ∷ around })
 turns_more depth around zero number body e h k = absurd (omega (arith, h))
 turns_more depth around (suc n) number body e h k =
     let less : n ≡ suc n - 1 = omega arith in
@@ -39,11 +39,12 @@ turns_more depth around (suc n) number body e h k =
 -- a turn of a REPT is begun
 pub turned : (x : Expansion) (after : List Following) (left number : ℕ) (body : Block) → IsSound x → 0 < left → x.count < 60000 → after ≡ x.around.items ++ Following.Turns (left - 1) number body ∷ []
     → moved (rest_of x).depth (rest_of x).around (turns (rest_of x).depth left number (body_seen (texts_in x) (innermost (tables_in x)) body) (state_of x))
-      ≡ On [] (record {
-          depth = length (tables_in x) + (x.turns + 1);
-          state = counted (state_of x);
-          text = text_of (texts_in x) (innermost (tables_in x)) (record body.stretch.lines { number = Some number });
-          around = around_seen (texts_in x) (tables_in x) (reverse after) })
+    ≡ On [] (record {
+      depth = length (tables_in x) + (x.turns + 1);
+      state = counted (state_of x);
+      text = text_of (texts_in x) (innermost (tables_in x)) (record body.stretch.lines { number = Some number });
+      around = around_seen (texts_in x) (tables_in x) (reverse after);
+    })
 turned x after left number body sound h k is =
     let depth = length (tables_in x) + x.turns in
     let seen = body_seen (texts_in x) (innermost (tables_in x)) body in
@@ -80,7 +81,7 @@ refused depth around new f p (moves.Stop.At n why) a = ap (moved depth around) (
 -- what follows a text that is over
 pub popped : (x : Expansion) (left : List Following) (f : Following) → (rest_of x).text ≡ [] → x.around.items ≡ left ++ f ∷ []
     → next_move (rest_of x) ≡ moved (length (outside f (tables_in x)) + turns_in (reverse left)) (around_seen (texts_in x) (outside f (tables_in x)) (reverse left))
-        (resumed (length (outside f (tables_in x)) + turns_in (reverse left)) (next_of (texts_in x) (innermost (outside f (tables_in x))) f) (state_of x))
+    (resumed (length (outside f (tables_in x)) + turns_in (reverse left)) (next_of (texts_in x) (innermost (outside f (tables_in x))) f) (state_of x))
 popped x left f over is =
     ap (λ t. in_text (rest_of x).depth (state_of x) t (rest_of x).around) over
     ∙ ap (λ fs. in_text (rest_of x).depth (state_of x) [] (around_seen (texts_in x) (tables_in x) fs)) (ap reverse is ∙ pushed left f)

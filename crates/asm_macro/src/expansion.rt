@@ -11,8 +11,8 @@ ghost use Rattle.asm_macro.specs.declared.moves.Given.{Given};
 ghost use Rattle.asm_macro.specs.Private.Moves.{Gives, Goes, IsSound, Lessens, Resumes, Takes, most_moves, moved, next_move, rest_of, state_of, tables_in, texts_in};
 
 use crate::call::Macro;
-use crate::constants::Constants;
 use crate::closing::{closes, passes};
+use crate::constants::Constants;
 use crate::expander::Line;
 use crate::fault::MacroFault;
 use crate::frame::{Block, Choice, Following, Span};
@@ -56,12 +56,7 @@ impl<'a> Expansion<'a> {
         ensures resumed { Resumes result (rest_of self.new)
             (moved (rest_of self.old).depth (rest_of self.old).around (behind_first (branches_seen (texts_in self.old) (innermost (tables_in self.old)) choice) (state_of self.old))) }
     {
-        closes(
-            self.alloc,
-            &self.lines,
-            self.calls.last(),
-            choice.first.end,
-        )?;
+        closes(self.alloc, &self.lines, self.calls.last(), choice.first.end)?;
         passes(self.alloc, &self.lines, self.calls.last(), &choice.others)?;
         self.text = choice.after;
         Ok(())
@@ -92,12 +87,7 @@ impl<'a> Expansion<'a> {
             (moved (rest_of self.old).depth (rest_of self.old).around (turns (rest_of self.old).depth left number (body_seen (texts_in self.old) (innermost (tables_in self.old)) body) (state_of self.old))) }
     {
         if left == 0 {
-            closes(
-                self.alloc,
-                &self.lines,
-                self.calls.last(),
-                body.stretch.end,
-            )?;
+            closes(self.alloc, &self.lines, self.calls.last(), body.stretch.end)?;
             self.text = body.after;
             return Ok(());
         }

@@ -12,6 +12,7 @@ mod frame;
 pub mod laws;
 mod moves;
 mod open;
+mod prepare;
 mod reading;
 mod source;
 mod take;

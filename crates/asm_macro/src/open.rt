@@ -65,11 +65,7 @@ fn local_line(alloc: Global, line: &[u8]) -> Result<Local, AllocError>
 }
 
 /// Opens a body: the names of its LOCAL lines, and the lines behind them; None where one of these has another form.
-pub(crate) fn open(
-    alloc: Global,
-    lines: &[&[u8]],
-    body: Span,
-) -> Result<Option<Opened>, AllocError>
+pub(crate) fn open(alloc: Global, lines: &[&[u8]], body: Span) -> Result<Option<Opened>, AllocError>
     ensures { IfOk result (λ found. option_map (opened_seen (map (λ line. line.now) lines.now)) found ≡ opened (body_texts (map (λ line. line.now) lines.now) body)) }
 {
     let mut locals = Vec::new(alloc);
@@ -108,7 +104,11 @@ fn add(replaced: &mut Replacements, name: Vec<u8>, text: Vec<u8>) -> Result<(), 
 fn text_at(alloc: Global, texts: &[Vec<u8>], at: usize) -> Result<Vec<u8>, AllocError>
     ensures { IfOk result (λ text. text.items ≡ slice_index_or (texts_seen texts.now) at []) }
 {
-    if at < texts.len() { texts[at].clone() } else { Ok(Vec::new(alloc)) }
+    if at < texts.len() {
+        texts[at].clone()
+    } else {
+        Ok(Vec::new(alloc))
+    }
 }
 
 /// What the parameters are replaced by: a missing argument is empty, one too many is dropped.

@@ -29,7 +29,7 @@ use crate::expansion::{Expansion, MOST_LINES};
 use crate::fault::MacroFault;
 use crate::frame::{Choice, Following, Span};
 use crate::moves::{Stop, Taken};
-use crate::open::{arguments_of, label_of, names_of, open};
+use crate::prepare::{begun, label_before, prepare, refused};
 use asm_line::{BlockWord, Form, Head, form_of, names};
 use asm_replace::Replacements;
 use asm_scan::{ScanFault, Token, tokens};
@@ -109,12 +109,7 @@ impl<'a> Expansion<'a> {
             (chosen value (rest_of self.old).depth (state_of self.old) (branches_seen (texts_in self.old) (innermost (tables_in self.old)) choice))) }
     {
         if value == 0 {
-            closes(
-                self.alloc,
-                &self.lines,
-                self.calls.last(),
-                choice.first.end,
-            )?;
+            closes(self.alloc, &self.lines, self.calls.last(), choice.first.end)?;
             return self.second(choice);
         }
         let text = choice.first.lines;
@@ -217,40 +212,27 @@ impl<'a> Expansion<'a> {
         if self.calls.len() + self.turns >= MOST_OPEN {
             return Err(Stop::At(line.number, MacroFault::TooDeep));
         }
-        let found = open(self.alloc, &self.lines, called.body)?;
-        let Some(opened) = found else {
-            if form.label.is_none() {
-                return Err(Stop::At(line.number, MacroFault::Stray));
-            }
-            return Ok(Taken::Refused(label_of(self.alloc, line.text, tokens)?));
-        };
-        let arguments = arguments_of(self.alloc, line.text, tokens, form.rest)?;
-        let Some(counter) = self.counter.checked_add(opened.locals.len() as u64) else {
-            return Err(Stop::NoMemory);
-        };
-        let names = names_of(
+        let label = label_before(self.alloc, line.text, tokens, form)?;
+        let prepared = prepare(
             self.alloc,
-            &called.parameters,
-            &arguments,
-            &opened.locals,
+            &self.lines,
+            called,
+            line.text,
+            tokens,
+            form.rest,
             self.counter,
         )?;
-        if form.label.is_none() {
-            self.enter(line, opened.rest, names, counter)?;
-            return Ok(Taken::Nothing);
+        match prepared {
+            None => refused(line.number, label),
+            Some(call) => {
+                self.enter(line, call.body, call.names, call.counter)?;
+                Ok(begun(label))
+            }
         }
-        let label = label_of(self.alloc, line.text, tokens)?;
-        self.enter(line, opened.rest, names, counter)?;
-        Ok(Taken::Label(label))
     }
 
     /// Keeps a macro, if its body ends.
-    fn keep(
-        &mut self,
-        line: Line<'_>,
-        key: Vec<u8>,
-        parameters: Vec<Vec<u8>>,
-    ) -> Result<(), Stop>
+    fn keep(&mut self, line: Line<'_>, key: Vec<u8>, parameters: Vec<Vec<u8>>) -> Result<(), Stop>
         requires sound { IsSound self.old }
         requires outside { length self.old.calls.items ≡ 0 }
         requires new { macro_named (state_of self.old) key.items ≡ None }
@@ -264,12 +246,7 @@ impl<'a> Expansion<'a> {
         let Some(body) = found else {
             return Err(Stop::At(line.number, MacroFault::Unclosed));
         };
-        closes(
-            self.alloc,
-            &self.lines,
-            self.calls.last(),
-            body.stretch.end,
-        )?;
+        closes(self.alloc, &self.lines, self.calls.last(), body.stretch.end)?;
         let called = Macro {
             parameters,
             body: body.stretch.lines,

@@ -36,7 +36,8 @@ state_of x = record {
   macros = macros_seen (texts_in x) x.macros.entries;
   constants = x.constants;
   counter = x.counter;
-  count = x.count }
+  count = x.count;
+}
 
 -- what is left to expand
 abbrev pub rest_of : Expansion → Rest
@@ -44,7 +45,8 @@ rest_of x = record {
   depth = length (tables_in x) + x.turns;
   state = state_of x;
   text = text_of (texts_in x) (innermost (tables_in x)) x.text;
-  around = around_seen (texts_in x) (tables_in x) (reverse x.around.items) }
+  around = around_seen (texts_in x) (tables_in x) (reverse x.around.items);
+}
 
 -- The source has no more lines than bytes; the open repetitions are counted; calls and repetitions nest to 16; no more lines
 -- are taken up than may be.

@@ -12,7 +12,6 @@ front-requires c =
     let seen = map (λ line. line.now) c.args.lines.now in
     room seen names c.args.span c.in_ok-roles.roles.items c.in-Some.len c.in_ok-roles.ensures (omega (arith, c.in-Some.ensures.within, ap length c.deref.ensures.value)) (omega (arith, c.requires, length-map c.args.lines.now (λ line. line.now)))
 
-
 pub behind-requires : goal.behind-requires
 behind-requires c =
     let names = option_map (λ n. table n.now.entries) c.args.names in

@@ -42,7 +42,7 @@ returns-in_default-branch_end c =
     let left = c.split_at.ensures.back ∙ ap (drop (c.loop-at_else.rest.at - c.args.span.at)) c.deref-in-loop-at_else.ensures.value ∙ i.2 in
     sym (i.3 ∙ ap (λ b. with_rest b (section_of seen names c.front-first.result) (map (section_of seen names) c.loop-at_else.others.items) (text_of seen names c.loop-at_else.rest)) c.loop-at_else-test.true
     ∙ step_none (section_of seen names c.front-first.result) (map (section_of seen names) c.loop-at_else.others.items) (text_of seen names c.loop-at_else.rest)
-        (ap (branch_end 0 0) (sym left) ∙ sym c.in_default-branch_end.ensures.is))
+    (ap (branch_end 0 0) (sym left) ∙ sym c.in_default-branch_end.ensures.is))
 
 pub front-requires : goal.front-requires
 front-requires c =
@@ -64,7 +64,7 @@ loop-at_else-preserved c =
     let seen = map (λ line. line.now) c.args.lines.now in
     let left = c.split_at.ensures.back ∙ ap (drop (c.loop-at_else.rest.at - c.args.span.at)) c.deref-in-loop-at_else.ensures.value in
     let now : Reached seen names c.args.span c.in_ok-roles.roles.items c.loop-at_else.rest true (section_of seen names c.front-first.result) (map (section_of seen names) c.loop-at_else.others.items)
-        = subst (λ b. Reached seen names c.args.span c.in_ok-roles.roles.items c.loop-at_else.rest b (section_of seen names c.front-first.result) (map (section_of seen names) c.loop-at_else.others.items)) c.loop-at_else-test.true c.loop-at_else.invariant in
+    = subst (λ b. Reached seen names c.args.span c.in_ok-roles.roles.items c.loop-at_else.rest b (section_of seen names c.front-first.result) (map (section_of seen names) c.loop-at_else.others.items)) c.loop-at_else-test.true c.loop-at_else.invariant in
     let pushed = ap (map (section_of seen names)) (c.in_ok-push.ensures.items ∙ ap (λ x. c.loop-at_else.others.items ++ x ∷ []) c.front.ensures) ∙ map-append (section_of seen names) c.loop-at_else.others.items (front_of c.loop-at_else.rest c.in-Some-branch_end.len ∷ []) in
     rw (c.behind-rest-in-loop-at_else.ensures, pushed) (reached_step seen names c.args.span c.in_ok-roles.roles.items c.loop-at_else.rest (section_of seen names c.front-first.result) (map (section_of seen names) c.loop-at_else.others.items)
-        c.in-Some-branch_end.len c.in-Some-branch_end.ends_at_else now (c.in-Some-branch_end.ensures.is ∙ ap (branch_end 0 0) left) (omega (arith, c.in-Some-branch_end.ensures.within, ap length left)))
+    c.in-Some-branch_end.len c.in-Some-branch_end.ends_at_else now (c.in-Some-branch_end.ensures.is ∙ ap (branch_end 0 0) left) (omega (arith, c.in-Some-branch_end.ensures.within, ap length left)))

@@ -16,5 +16,5 @@ loop-at-preserved c =
     let line = get_or-map (λ line. line.now) c.args.lines.now c.loop-at.at (record { ref_ptr = (0, 0); now = [] }) in
     let text = c.deref.ensures.value ∙ c.in_ok-put_shown.ensures ∙ ap (shown names) (sym line) in
     c.loop-at.invariant ∙ roles_step seen names (record c.args.span { at = c.loop-at.at }) c.loop-at.found.items c.push.new.self.items c.in_ok-role_of.field-0
-        c.loop-at-test.true (omega (arith, c.if-at-lines.true, length-map c.args.lines.now (λ line. line.now)))
-        (c.in_ok-role_of.ensures ∙ ap (λ t. role_of_head (form_of t).head) text) c.in_ok-push.ensures.items
+    c.loop-at-test.true (omega (arith, c.if-at-lines.true, length-map c.args.lines.now (λ line. line.now)))
+    (c.in_ok-role_of.ensures ∙ ap (λ t. role_of_head (form_of t).head) text) c.in_ok-push.ensures.items

@@ -15,10 +15,9 @@ use Rattle.asm_macro.proofs.open.arguments_of.Goals as goal
 pub loop-at-preserved : goal.loop-at-preserved
 loop-at-preserved c =
     let d : Token = record { kind = Kind.Name; text = record { ref_ptr = (0, 0); now = [] } } in
-    let count = length c.args.tokens.now - length c.args.rest.now in
-    (
+    let count = c.saturating_sub-count.result in (
       omega (arith, c.loop-at-test.true),
       c.loop-at.invariant.1 ∙ behind_step c.loop-at.behind.now (lexemes c.args.tokens.now) count c.loop-at.at (lexeme (get_or c.args.tokens.now c.loop-at.at d)) (lexeme d) (omega (arith, c.loop-at-test.true))
-          (omega (arith, c.loop-at-test.true, length-map c.args.tokens.now (λ t. lexeme t))) (get_or-map (λ t. lexeme t) c.args.tokens.now c.loop-at.at d)
+          (omega (arith, c.loop-at-test.true, c.saturating_sub-count.ensures, length-map c.args.tokens.now (λ t. lexeme t))) (get_or-map (λ t. lexeme t) c.args.tokens.now c.loop-at.at d)
           ∙ ap (λ b. behind_all b (take (count - (c.loop-at.at + 1)) (drop (c.loop-at.at + 1) (lexemes c.args.tokens.now)))) (sym c.after-behind.ensures),
     )

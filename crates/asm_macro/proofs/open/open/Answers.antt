@@ -32,4 +32,4 @@ loop-at-preserved c =
     let read = sym (get_or-map (λ (line : Bor (List ℕ)). line.now) c.args.lines.now c.loop-at.at d) in
     let inside : c.loop-at.at < length seen = omega (arith, c.if-at-lines.true, length-map c.args.lines.now (λ line. line.now)) in
     opened_names seen c.args.body (record c.args.body { at = c.loop-at.at }) (texts c.loop-at.locals.items) c.in-Names.found (texts c.append.new.self.items) c.loop-at.invariant c.loop-at-test.true inside
-        (subst (λ t. IsLocal t (Local.Names c.in-Names.found)) read (subst (λ l. IsLocal (get_or c.args.lines.now c.loop-at.at d).now l) c.in-Names.is c.in_ok-found.ensures)) (ap texts c.in_ok-append-in-Names.ensures.items ∙ map-append (λ text. text.items) c.loop-at.locals.items c.in-Names.found.items)
+    (subst (λ t. IsLocal t (Local.Names c.in-Names.found)) read (subst (λ l. IsLocal (get_or c.args.lines.now c.loop-at.at d).now l) c.in-Names.is c.in_ok-found.ensures)) (ap texts c.in_ok-append-in-Names.ensures.items ∙ map-append (λ text. text.items) c.loop-at.locals.items c.in-Names.found.items)

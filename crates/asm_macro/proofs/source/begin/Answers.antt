@@ -18,8 +18,7 @@ returns c =
     let x : Expansion = record { alloc = c.args.alloc; lines = c.in_ok-lines.lines; macros = c.new.result; constants = c.new-2.result; counter = 0; count = 0; text = record { at = 0; end = c.len-end.result; number = None }; around = c.new-3.result; calls = c.new-4.result; turns = 0 } in
     let n : c.len-end.result ≡ length c.in_ok-lines.lines.items = omega (arith, c.len-end.ensures, c.in_ok-lines.lines.ok) in
     let text : x.text ≡ record { at = 0; end = length c.in_ok-lines.lines.items; number = None } = ap (λ n. record { at = 0; end = n; number = None }) n in
-    let rest = begun_rest x c.new.ensures.empty c.new-2.ensures refl refl c.new-4.ensures.items c.new-3.ensures.items refl text (length-map c.in_ok-lines.lines.items (λ line. line.now)) in
-    (
+    let rest = begun_rest x c.new.ensures.empty c.new-2.ensures refl refl c.new-4.ensures.items c.new-3.ensures.items refl text (length-map c.in_ok-lines.lines.items (λ line. line.now)) in (
       record {
         short = omega (arith, c.in_ok-lines.ensures.few, c.if-text-gt-LONGEST_TEXT.false);
         turns = sym (ap (λ fs. turns_in (reverse fs)) c.new-3.ensures.items);

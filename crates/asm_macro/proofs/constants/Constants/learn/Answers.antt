@@ -22,7 +22,7 @@ returns-in-Ok c =
     let key = c.deref.ensures.value ∙ c.in_ok-key.ensures.ok in
     let w = worth (table_of c.args.self.now) (lexemes c.args.tokens.now) in
     let new = is_new c.args.self.now (upper c.args.name.now) w
-        (ap (λ t. is_some (found t (upper c.args.name.now))) (sym names) ∙ ap (λ k. is_some (found c.self.inside.names k)) (sym key) ∙ ap is_some (sym c.meaning.ensures) ∙ copied_some c.meaning.result ∙ sym c.is_some.ensures ∙ c.if-is_some.false) in
+    (ap (λ t. is_some (found t (upper c.args.name.now))) (sym names) ∙ ap (λ k. is_some (found c.self.inside.names k)) (sym key) ∙ ap is_some (sym c.meaning.ensures) ∙ copied_some c.meaning.result ∙ sym c.is_some.ensures ∙ c.if-is_some.false) in
     let value = value_is w c.in-Ok.value (c.in-Ok.ensures c.args.self.now names) in
     let d = c.in_ok-define-in-Ok.ensures in
     one_more c.self.inside.names.entries c.define.new.self.entries c.in_ok-key.key.items c.in-Ok.value (ap (λ t. t.entries) d.ok)

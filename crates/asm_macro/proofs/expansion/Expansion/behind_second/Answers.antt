@@ -21,11 +21,11 @@ returns-in_err-passes-clause-resumed c =
     let go = Go [] (state_of x) after in
     let same = ap (moved (rest_of x).depth (rest_of x).around) (behind_passed (rest_of x).depth others_seen after (state_of x)) in
     let others = subst (λ os. Allows (Err c.in_err-passes.field-0.0) (passed (map (section_of (texts_in x) (innermost (tables_in x))) os))) c.deref-3.ensures.value
-        (subst (λ ts. Allows (Err c.in_err-passes.field-0.0) (passed (map (section_of ts (innermost (tables_in x))) c.deref-3.result.now))) lines2
-        (subst (λ n. Allows (Err c.in_err-passes.field-0.0) (passed (map (section_of (map (λ line. line.now) c.deref.result.now) n) c.deref-3.result.now))) names2 c.in_err-passes.ensures)) in
+    (subst (λ ts. Allows (Err c.in_err-passes.field-0.0) (passed (map (section_of ts (innermost (tables_in x))) c.deref-3.result.now))) lines2
+    (subst (λ n. Allows (Err c.in_err-passes.field-0.0) (passed (map (section_of (map (λ line. line.now) c.deref.result.now) n) c.deref-3.result.now))) names2 c.in_err-passes.ensures)) in
     let p = err_from_is_err_and c.from_residual.result c.from_residual.ensures.1 in
     rw (p.1, p.2) (subst (Resumes (Err c.in_err-passes.field-0.0) (rest_of x)) (sym same)
-        (refused (rest_of x).depth (rest_of x).around (rest_of x) (passed others_seen) go c.in_err-passes.field-0.0 others))
+    (refused (rest_of x).depth (rest_of x).around (rest_of x) (passed others_seen) go c.in_err-passes.field-0.0 others))
 
 pub returns-clause-resumed : goal.returns-clause-resumed
 returns-clause-resumed c =
@@ -37,6 +37,6 @@ returns-clause-resumed c =
     let go = Go [] (state_of x) after in
     let same = ap (moved (rest_of x).depth (rest_of x).around) (behind_passed (rest_of x).depth others_seen after (state_of x)) in
     let others = subst (λ os. Allows (Ok c.in_ok-passes.field-0) (passed (map (section_of (texts_in x) (innermost (tables_in x))) os))) c.deref-3.ensures.value
-        (subst (λ ts. Allows (Ok c.in_ok-passes.field-0) (passed (map (section_of ts (innermost (tables_in x))) c.deref-3.result.now))) lines2
-        (subst (λ n. Allows (Ok c.in_ok-passes.field-0) (passed (map (section_of (map (λ line. line.now) c.deref.result.now) n) c.deref-3.result.now))) names2 c.in_ok-passes.ensures)) in
+    (subst (λ ts. Allows (Ok c.in_ok-passes.field-0) (passed (map (section_of ts (innermost (tables_in x))) c.deref-3.result.now))) lines2
+    (subst (λ n. Allows (Ok c.in_ok-passes.field-0) (passed (map (section_of (map (λ line. line.now) c.deref.result.now) n) c.deref-3.result.now))) names2 c.in_ok-passes.ensures)) in
     same ∙ ap (moved (rest_of x).depth (rest_of x).around) (others go)

@@ -19,12 +19,12 @@ returns-clause-taken c =
     let lines1 = ap (map (λ line. line.now)) c.deref.ensures.value in
     let names1 = last_table (λ n. table n.entries) x.calls.items c.last.result (c.last.ensures.value ∙ ap (λ xs. slice_get xs (length xs - 1)) c.deref-2.ensures.value) in
     let found = subst (λ n. body_of (text_of (texts_in x) n x.text) ≡ Some (body_seen (texts_in x) n c.in-Some.body)) names1
-        (subst (λ ts. body_of (text_of ts (option_map (λ n. table n.now.entries) c.last.result) x.text) ≡ Some (body_seen ts (option_map (λ n. table n.now.entries) c.last.result) c.in-Some.body)) lines1
-        (sym c.in_ok-found.ensures ∙ ap (option_map (body_seen (map (λ line. line.now) c.deref.result.now) (option_map (λ n. table n.now.entries) c.last.result))) c.in-Some.is)) in
+    (subst (λ ts. body_of (text_of ts (option_map (λ n. table n.now.entries) c.last.result) x.text) ≡ Some (body_seen ts (option_map (λ n. table n.now.entries) c.last.result) c.in-Some.body)) lines1
+    (sym c.in_ok-found.ensures ∙ ap (option_map (body_seen (map (λ line. line.now) c.deref.result.now) (option_map (λ n. table n.now.entries) c.last.result))) c.in-Some.is)) in
     let lines2 = ap (map (λ line. line.now)) c.deref-3.ensures.value in
     let names2 = last_table (λ n. table n.entries) x.calls.items c.last-2.result (c.last-2.ensures.value ∙ ap (λ xs. slice_get xs (length xs - 1)) c.deref-4.ensures.value) in
     let end = subst (λ ts. (p : Part) → closing (line_of ts (innermost (tables_in x)) c.in-Some.body.stretch.end) p ≡ p) lines2
-        (subst (λ n. (p : Part) → closing (line_of (map (λ line. line.now) c.deref-3.result.now) n c.in-Some.body.stretch.end) p ≡ p) names2 c.in_ok-closes.ensures) in
+    (subst (λ n. (p : Part) → closing (line_of (map (λ line. line.now) c.deref-3.result.now) n c.in-Some.body.stretch.end) p ≡ p) names2 c.in_ok-closes.ensures) in
     let called : Macro = record { parameters = c.args.parameters; body = c.in-Some.body.stretch.lines } in
     kept_is x (seen c.args.line) c.insert.new.self.entries c.args.key c.args.parameters c.in-Some.body c.requires.outside found end
     (c.in_ok-insert.ensures.entries ∙ insert_entry-new _ x.macros c.args.key called (absent (texts_in x) x.macros.entries c.args.key.items c.requires.new))
