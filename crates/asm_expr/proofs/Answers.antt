@@ -1,9 +1,9 @@
 -- What is answered of an expression, by its reduced items.
-use Rattle.std.proofs.Common.{◌≡◌, ◌-◌, ◌⊎◌, ◌||◌, inl, inr, ℕ, true, List, [], ◌∷◌, ◌++◌, Option, Some, None, Result, Ok, Err, length, map, slice_get, get_or, refl, sym, ap, subst, ◌∙◌, arith, length-append}
+use Rattle.std.proofs.Common.{◌≡◌, ◌-◌, ◌⊎◌, ◌||◌, inl, inr, true, List, [], ◌∷◌, Option, Some, None, Result, Ok, Err, length, map, slice_get, refl, sym, ap, subst, ◌∙◌, arith}
 use Rattle.std.specs.Option.{option_map}
 use Rattle.std.specs.List.{list_any}
 use Rattle.std.proofs.lemmas.Option.{slice_get-get_or}
-use Rattle.asm_expr.specs.Types.{Item, Atom, ExprFault, Settled, Unary, Unknown, Worth}
+use Rattle.asm_expr.specs.Types.{Item, Atom, ExprFault, Settled, Unary, Unknown}
 use Rattle.asm_expr.specs.declared.part.Part.{Part}
 use Rattle.asm_parse.specs.Expression.{Expression, Leaf, Prefix, Infix, postfix, and_then}
 use Rattle.asm_parse.specs.Source.{Operand}

@@ -1,20 +1,18 @@
 -- Constant expressions: the same is answered of them anywhere, and where their names are numbers they are numbers.
-use Rattle.std.proofs.Common.{◌≡◌, ℕ, ◌+◌, Bool, true, false, List, [], ◌∷◌, ◌++◌, Option, Some, None, Ok, if◌then◌else◌, refl, sym, ap, ◌∙◌, inl}
+use Rattle.std.proofs.Common.{◌≡◌, ℕ, Bool, true, List, [], ◌∷◌, ◌++◌, Option, Some, None, Ok, refl, sym, ap, ◌∙◌}
 use Rattle.std.specs.List.{list_all}
 use Rattle.std.proofs.lemmas.List.Folds.{list_all-append}
-use Rattle.asm_words.specs.Results.{◌>>=◌}
 use Rattle.asm_expr.specs.Types.{Atom, Binary, ExprFault, Item, Meaning, Settled, Statement, Unary, Unknown, Worth}
 use Rattle.asm_expr.specs.declared.part.Part.{Part}
 use Rattle.asm_expr.specs.declared.single.Single.{Single}
-use Rattle.asm_parse.specs.Operators.{divides}
 use Rattle.asm_expr.specs.Arithmetic.{unary, binary}
 use Rattle.asm_parse.specs.Expression.{Expression, Leaf, Prefix, Infix, postfix}
 use Rattle.asm_parse.specs.Source.{Operand, Number, Name, Here}
 use Rattle.asm_expr.specs.Names.{Table, found}
-use Rattle.asm_expr.specs.Settling.{both, difference, distance_of, division_fault, divisions_fault, divisor_fault, fault_behind, first, is_constant_item, is_constant_name, items_known, leaf_or, meant, or_else, reduced, replaced, settled, settled_as, single, size, size_of, through, too_large, unknown_of, unless_fault, worth}
-use Rattle.asm_expr.specs.Equating.{constant_of, equated, meaning_of}
+use Rattle.asm_expr.specs.Settling.{both, difference, distance_of, fault_behind, is_constant_item, is_constant_name, items_known, meant, or_else, replaced, settled, settled_as, single, through, unknown_of, unless_fault, worth}
+use Rattle.asm_expr.specs.Equating.{equated}
 use Rattle.asm_expr.specs.Origins.{is_number_item, is_number_name}
-use Rattle.asm_expr.proofs.Answers.{is_settled}
+use Rattle.asm_expr.proofs.Alike.{AreAlike, equated_alike, settled_alike}
 use Rattle.asm_expr.proofs.Guards.{reduced_number}
 use Rattle.asm_expr.proofs.Judgements.{and_parts}
 use Rattle.asm_expr.proofs.Offsets.{no_place}
@@ -59,30 +57,9 @@ bare_worth t here statements (Infix op a b) bare =
     ∙ ap (λ w. or_else (difference t op a b) (both (binary op) w (worth (at t here statements) b))) (bare_worth t here statements a bare.0)
     ∙ ap (λ w. or_else (difference t op a b) (both (binary op) (worth t a) w)) (bare_worth t here statements b bare.1)
 
-bare_reduced : (t : Table) (here : ℕ) (statements : List Statement) (e : Expression Part) → IsBare e → reduced (at t here statements) e ≡ reduced t e
-bare_reduced t here statements (Leaf part) bare = refl
-bare_reduced t here statements (Prefix op a) bare =
-    ap (λ x. leaf_or (Prefix op x) (worth (at t here statements) (Prefix op a))) (bare_reduced t here statements a bare)
-    ∙ ap (leaf_or (Prefix op (reduced t a))) (bare_worth t here statements (Prefix op a) bare)
-bare_reduced t here statements (Infix op a b) bare =
-    ap (λ x. leaf_or (Infix op x (reduced (at t here statements) b)) (worth (at t here statements) (Infix op a b))) (bare_reduced t here statements a bare.0)
-    ∙ ap (λ x. leaf_or (Infix op (reduced t a) x) (worth (at t here statements) (Infix op a b))) (bare_reduced t here statements b bare.1)
-    ∙ ap (leaf_or (Infix op (reduced t a) (reduced t b))) (bare_worth t here statements (Infix op a b) bare)
-
-bare_division : (t : Table) (here : ℕ) (statements : List Statement) (op : Binary) (b : Expression Part) → IsBare b → division_fault (at t here statements) op b ≡ division_fault t op b
-bare_division t here statements op b bare = ap (λ w. if divides op then divisor_fault w else None) (bare_worth t here statements b bare)
-
-bare_divisions : (t : Table) (here : ℕ) (statements : List Statement) (e : Expression Part) → IsBare e → divisions_fault (at t here statements) e ≡ divisions_fault t e
-bare_divisions t here statements (Leaf part) bare = refl
-bare_divisions t here statements (Prefix op a) bare = bare_divisions t here statements a bare
-bare_divisions t here statements (Infix op a b) bare =
-    ap (λ f. first f (first (divisions_fault (at t here statements) b) (division_fault (at t here statements) op b))) (bare_divisions t here statements a bare.0)
-    ∙ ap (λ f. first (divisions_fault t a) (first f (division_fault (at t here statements) op b))) (bare_divisions t here statements b bare.1)
-    ∙ ap (λ f. first (divisions_fault t a) (first (divisions_fault t b) f)) (bare_division t here statements op b bare.1)
-
 -- A constant expression is bare, and its names stand for the same anywhere.
 name_bare : (m : Option Meaning) → is_constant_name m ≡ true → IsBare (meant m)
-name_bare None c = cc
+name_bare None c = tt
 name_bare (Some (Meaning.Label s)) c = cc
 name_bare (Some (Meaning.External r)) c = cc
 name_bare (Some (Meaning.Constant n)) c = tt
@@ -99,67 +76,22 @@ of_infix f op a b c =
     let parts = and_parts _ _ (sym (list_all-append f (postfix a ++ postfix b) (Item.Binary op ∷ [])) ∙ c) in
     and_parts _ _ (sym (list_all-append f (postfix a) (postfix b)) ∙ parts.0)
 
-bare : (t : Table) (e : Expression Operand) → list_all (is_constant_item t) (postfix e) ≡ true → IsBare (replaced t e)
-bare t (Leaf (Number n)) c = tt
-bare t (Leaf Here) c = cc
-bare t (Leaf (Name name)) c = name_bare (found t name) (and_parts _ _ c).0
-bare t (Prefix op a) c = bare t a (of_prefix (is_constant_item t) op a c)
-bare t (Infix op a b) c = let sides = of_infix (is_constant_item t) op a b c in (bare t a sides.0, bare t b sides.1)
-
-same_replaced : (t : Table) (here : ℕ) (statements : List Statement) (e : Expression Operand) → list_all (is_constant_item t) (postfix e) ≡ true → replaced (at t here statements) e ≡ replaced t e
-same_replaced t here statements (Leaf (Number n)) c = refl
-same_replaced t here statements (Leaf Here) c = cc
-same_replaced t here statements (Leaf (Name name)) c = refl
-same_replaced t here statements (Prefix op a) c = ap (Prefix op) (same_replaced t here statements a (of_prefix (is_constant_item t) op a c))
-same_replaced t here statements (Infix op a b) c =
+alike : (t : Table) (here : ℕ) (statements : List Statement) (e : Expression Operand) → list_all (is_constant_item t) (postfix e) ≡ true → AreAlike (at t here statements) t (λ r. ⊥) e
+alike t here statements (Leaf (Number n)) c = record { part = refl; size = refl; constant = refl; places = tt }
+alike t here statements (Leaf Here) c = cc
+alike t here statements (Leaf (Name name)) c = record { part = refl; size = refl; constant = refl; places = name_bare (found t name) (and_parts _ _ c).0 }
+alike t here statements (Prefix op a) c = alike t here statements a (of_prefix (is_constant_item t) op a c)
+alike t here statements (Infix op a b) c =
     let sides = of_infix (is_constant_item t) op a b c in
-    ap (λ x. Infix op x (replaced (at t here statements) b)) (same_replaced t here statements a sides.0)
-    ∙ ap (Infix op (replaced t a)) (same_replaced t here statements b sides.1)
-
-same_size : (t : Table) (here : ℕ) (statements : List Statement) (e : Expression Operand) → size (at t here statements) e ≡ size t e
-same_size t here statements (Leaf (Number n)) = refl
-same_size t here statements (Leaf Here) = refl
-same_size t here statements (Leaf (Name name)) = refl
-same_size t here statements (Prefix op a) = ap (λ n. n + 1) (same_size t here statements a)
-same_size t here statements (Infix op a b) =
-    ap (λ n. (n + size (at t here statements) b) + 1) (same_size t here statements a) ∙ ap (λ n. (size t a + n) + 1) (same_size t here statements b)
-
-same_fault : (t : Table) (here : ℕ) (statements : List Statement) (n : ℕ) (e : Expression Operand) → list_all (is_constant_item t) (postfix e) ≡ true
-    → fault_behind n (at t here statements) e ≡ fault_behind n t e
-same_fault t here statements n (Leaf (Number k)) c = refl
-same_fault t here statements n (Leaf Here) c = cc
-same_fault t here statements n (Leaf (Name name)) c =
-    ap (first (too_large (n + size_of t (Name name)))) (bare_divisions t here statements (meant (found t name)) (name_bare (found t name) (and_parts _ _ c).0))
-same_fault t here statements n (Prefix op a) c =
-    ap (λ f. first f (too_large (n + size (at t here statements) (Prefix op a)))) (same_fault t here statements n a (of_prefix (is_constant_item t) op a c))
-    ∙ ap (λ k. first (fault_behind n t a) (too_large (n + k))) (same_size t here statements (Prefix op a))
-same_fault t here statements n (Infix op a b) c =
-    let u = at t here statements in
-    let sides = of_infix (is_constant_item t) op a b c in
-    let division : division_fault u op (replaced u b) ≡ division_fault t op (replaced t b) =
-    ap (division_fault u op) (same_replaced t here statements b sides.1) ∙ bare_division t here statements op (replaced t b) (bare t b sides.1) in
-    ap (λ f. first f (first (fault_behind (n + size u a) u b) (first (too_large (n + size u (Infix op a b))) (division_fault u op (replaced u b))))) (same_fault t here statements n a sides.0)
-    ∙ ap (λ k. first (fault_behind n t a) (first (fault_behind (n + k) u b) (first (too_large (n + size u (Infix op a b))) (division_fault u op (replaced u b))))) (same_size t here statements a)
-    ∙ ap (λ f. first (fault_behind n t a) (first f (first (too_large (n + size u (Infix op a b))) (division_fault u op (replaced u b))))) (same_fault t here statements (n + size t a) b sides.1)
-    ∙ ap (λ k. first (fault_behind n t a) (first (fault_behind (n + size t a) t b) (first (too_large (n + k)) (division_fault u op (replaced u b))))) (same_size t here statements (Infix op a b))
-    ∙ ap (λ f. first (fault_behind n t a) (first (fault_behind (n + size t a) t b) (first (too_large (n + size t (Infix op a b))) f))) division
+    (alike t here statements a sides.0, alike t here statements b sides.1)
 
 pub settled_anywhere : (t : Table) (e : Expression Operand) → list_all (is_constant_item t) (postfix e) ≡ true → (here : ℕ) (statements : List Statement)
     → settled (record t { here = here; statements = statements }) e ≡ settled t e
-settled_anywhere t e c here statements =
-    let r : reduced (at t here statements) (replaced (at t here statements) e) ≡ reduced t (replaced t e) =
-    ap (reduced (at t here statements)) (same_replaced t here statements e c) ∙ bare_reduced t here statements (replaced t e) (bare t e c) in
-    ap (λ f. unless_fault f (settled_as (items_known (postfix (reduced (at t here statements) (replaced (at t here statements) e)))) (unknown_of (reduced (at t here statements) (replaced (at t here statements) e))))) (same_fault t here statements 0 e c)
-    ∙ ap (λ x. unless_fault (fault_behind 0 t e) (settled_as (items_known (postfix x)) (unknown_of x))) r
+settled_anywhere t e c here statements = settled_alike (at t here statements) t (λ r. ⊥) (bare_worth t here statements) e (alike t here statements e c)
 
 pub equated_anywhere : (t : Table) (e : Expression Operand) → list_all (is_constant_item t) (postfix e) ≡ true → (here : ℕ) (statements : List Statement)
     → equated (record t { here = here; statements = statements }) e ≡ equated t e
-equated_anywhere t e c here statements =
-    ap (λ r. r >>= λ s. Ok (meaning_of (at t here statements) e s)) (settled_anywhere t e c here statements)
-    ∙ ap (λ k. settled t e >>= λ s. Ok (meaning_sized s k)) (same_size t here statements e)
-  where
-    meaning_sized : Settled → ℕ → Meaning
-    meaning_sized s k = if list_all (is_constant_item t) (postfix e) then constant_of s else Meaning.Equ (record { settled = s; size = k })
+equated_anywhere t e c here statements = equated_alike (at t here statements) t (λ r. ⊥) (bare_worth t here statements) e (alike t here statements e c)
 
 -- Numbers make numbers.
 number_name : (m : Option Meaning) → is_number_name m ≡ true → (n : ℕ) × (meant m ≡ Leaf (Part.Number n))

@@ -1,7 +1,7 @@
 -- What an EQU's expression stands for.
-use Rattle.std.proofs.Common.{◌≡◌, ◌≤◌, ℕ, length, ap, arith}
+use Rattle.std.proofs.Common.{◌≡◌, ◌≤◌, ℕ, arith}
 use Rattle.asm_expr.specs.Types.{Meaning, Settled}
-use Rattle.asm_parse.specs.Expression.{Expression, postfix}
+use Rattle.asm_parse.specs.Expression.{Expression}
 use Rattle.asm_parse.specs.Source.{Operand}
 use Rattle.asm_expr.specs.Names.{AreCounted, IsCounted, Table}
 use Rattle.asm_expr.specs.Settling.{IsWorthOf, replaced, size}

@@ -19,4 +19,7 @@ pub mod Heads
 pub mod Offsets
 pub mod Equates
 pub mod Origins
+pub mod Alike
 pub mod Anywhere
+pub mod ByNames
+pub mod Worths

@@ -1,16 +1,16 @@
 -- What an operand says that begins at `$`.
-use Rattle.std.proofs.Common.{◌≡◌, ◌≢◌, ℕ, nat_lt, length, Bool, true, false, List, [], ◌∷◌, ◌++◌, Option, Some, None, Ok, Err, map, if◌then◌else◌, refl, sym, ap, ◌∙◌}
+use Rattle.std.proofs.Common.{◌≡◌, ◌≢◌, ℕ, nat_lt, length, Bool, true, false, List, [], ◌∷◌, None, Ok, Err, map, if◌then◌else◌, refl, sym, ap, ◌∙◌}
 use Rattle.std.specs.List.{list_all, list_any}
 use Rattle.std.proofs.lemmas.Bool.{false≢true}
 use Rattle.asm_expr.specs.Types.{Binary, Item, Atom, ExprFault, Settled, Unknown, Worth}
 use Rattle.asm_expr.specs.declared.part.Part.{Part}
 use Rattle.asm_expr.specs.declared.single.Single.{Single}
 use Rattle.asm_expr.specs.declared.here.Offset.{Offset}
-use Rattle.asm_expr.specs.Arithmetic.{unary, binary}
+use Rattle.asm_expr.specs.Arithmetic.{binary}
 use Rattle.asm_parse.specs.Expression.{Expression, Leaf, Prefix, Infix, postfix}
 use Rattle.asm_parse.specs.Source.{Operand, Number, Name, Here}
-use Rattle.asm_expr.specs.Names.{Table, found}
-use Rattle.asm_expr.specs.Settling.{known, known_item, meant, replaced, single, distance_of, difference, or_else, through, both, worth, leaf_or, reduced, fault, is_constant_item}
+use Rattle.asm_expr.specs.Names.{Table}
+use Rattle.asm_expr.specs.Settling.{known, known_item, replaced, single, distance_of, difference, or_else, worth, leaf_or, reduced, fault, is_constant_item}
 use Rattle.asm_expr.specs.Private.Answers.{IsSettled, is_unknown}
 use Rattle.asm_expr.proofs.Constants.{steady}
 use Rattle.asm_expr.specs.Offsets.{behind, constant_behind, offset, IsOffset}

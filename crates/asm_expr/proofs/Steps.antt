@@ -2,7 +2,7 @@
 use Rattle.std.proofs.Common.{◌≡◌, ℕ, ◌+◌, ◌≤◌, ◌<◌, List, [], ◌∷◌, ◌++◌, Option, Some, None, Result, Ok, Err, length, map, if◌then◌else◌, drop, get_or, refl, sym, ap, ◌∙◌, arith, length-append}
 use Rattle.std.proofs.lemmas.List.{at_drop_more, at_drop_all, length-map}
 use Rattle.std.proofs.lemmas.Bool.{lt-ltb, le-ltb}
-use Rattle.asm_expr.specs.Types.{Item, Atom, ExprFault, Settled, Unknown, Worth}
+use Rattle.asm_expr.specs.Types.{Item, Atom, ExprFault, Settled, Worth}
 use Rattle.asm_expr.specs.declared.part.Part.{Part}
 use Rattle.asm_parse.specs.Expression.{Expression, Leaf, Prefix, Infix, postfix}
 use Rattle.asm_expr.specs.Postfix.{spread, put, run, only, tree}

@@ -1,5 +1,6 @@
--- What names and `$` bring into an expression: where its refs come from, and when it is a number.
+-- What names and `$` bring into an expression: where its refs come from, when it is a number, and that other names bring nothing.
 use Rattle.std.specs.Prelude.{◌≡◌, ℕ, Bool, true, false, List, Option, Some, All}
+use Rattle.std.specs.List.{Contains}
 use Rattle.asm_parse.specs.declared.item.Item.{Item}
 use Rattle.asm_parse.specs.Source.{Operand, Name, Here}
 use Rattle.asm_expr.specs.declared.answer.Settled.{Settled}
@@ -23,6 +24,12 @@ Brings P _ = Unit {0}
 pub record AllBring (P : ℕ → Type 0) (t : Table) : Type 0 where
   pub here : P t.here
   pub names : (name : List ℕ) (what : Meaning) → found t name ≡ Some what → Brings P what
+
+-- Two tables agree on the place of `$`, on the statements, and on each name that occurs in some items.
+pub record AgreeOn (items : List (Item Operand)) (t u : Table) : Type 0 where
+  pub here : t.here ≡ u.here
+  pub statements : t.statements ≡ u.statements
+  pub names : (name : List ℕ) → Contains items (Item.Leaf (Name name)) → found t name ≡ found u name
 
 -- An item is a number, or a name that stands for one, or an operator.
 abbrev pub is_number_name : Option Meaning → Bool

@@ -205,11 +205,12 @@ abbrev pub settled : Table → Expression Operand → Result Settled ExprFault
 settled t e = let r = reduced t (replaced t e) in unless_fault (fault t e) (settled_as (items_known (postfix r)) (unknown_of r))
 
 -- An item stands for no place and no external. (An EQU name that is not constant has a place or an external in it. Nothing is said
--- against a name whose own line is faulty.)
+-- against a name whose own line is faulty, nor against one that stands for nothing.)
 abbrev pub is_constant_name : Option Meaning → Bool
 is_constant_name (Some (Meaning.Constant n)) = true
 is_constant_name (Some Meaning.UnknownConstant) = true
 is_constant_name (Some Meaning.Faulty) = true
+is_constant_name None = true
 is_constant_name _ = false
 
 abbrev pub is_constant_item : Table → Item Operand → Bool

@@ -35,7 +35,7 @@ fn is_constant_item(item: &Item<Term>, names: &Names) -> bool
         Item::Leaf(Term::Name(name)) => {
             matches!(
                 names.meaning(name),
-                Some(Meaning::Constant(_) | Meaning::UnknownConstant | Meaning::Faulty)
+                None | Some(Meaning::Constant(_) | Meaning::UnknownConstant | Meaning::Faulty)
             )
         }
         _ => true,
@@ -49,7 +49,7 @@ pub(crate) fn all_constant(items: &[Item<Term>], names: &Names) -> bool
 }
 
 /// Whether an expression is constant: no place and no external stands in it after EQU names are replaced. A name whose own line is
-/// faulty counts as constant.
+/// faulty counts as constant, and so does one that stands for nothing.
 pub fn is_constant(parsed: &Tree, names: &Names) -> bool
     ensures { result ≡ list_all (is_constant_item names.now) (postfix (source parsed.now)) }
 {

@@ -1,12 +1,8 @@
 -- Fields and numbers put in, one behind the other.
-use Rattle.std.proofs.Common.{◌≡◌, ◌<◌, ℕ, suc, ◌+◌, ◌%◌, ◌/◌, slice_index, Bool, true, false, ◌&&◌, List, [], ◌∷◌, ◌++◌, length, map, refl, sym, ap, ◌∙◌, arith, append_assoc, append-nil, length-append}
-use Rattle.std.specs.List.{flat_map, list_all}
+use Rattle.std.proofs.Common.{◌≡◌, ◌<◌, ℕ, suc, ◌+◌, ◌%◌, slice_index, Bool, true, false, ◌&&◌, List, [], ◌∷◌, ◌++◌, length, map, refl, sym, ap, ◌∙◌, arith, append_assoc, append-nil, length-append}
 use Rattle.std.proofs.lemmas.List.Concat.{flat_map-append}
 use Rattle.std.proofs.lemmas.List.Folds.{list_all-append}
-use Rattle.std.proofs.lemmas.List.{map-append}
 use Rattle.asm_piece.specs.declared.cell.Cell.{Cell}
-use Rattle.asm_piece.specs.declared.cell.Filling.{Filling}
-use Rattle.asm_piece.specs.declared.piece.Hole.{Hole}
 use Rattle.asm_piece.specs.declared.piece.Width.{Width}
 use Rattle.asm_piece.specs.Cells.{all_told, bytes, cell_bytes, hole, holes, is_told, number_or_0, size_of, written}
 use Rattle.asm_piece.specs.declared.data.Laid.{Laid}

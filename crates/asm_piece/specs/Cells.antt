@@ -1,5 +1,5 @@
 -- Fields laid end to end.
-use Rattle.std.specs.Prelude.{ℕ, ◌+◌, ◌%◌, Bool, true, false, List, [], ◌∷◌, ◌++◌, map}
+use Rattle.std.specs.Prelude.{ℕ, ◌+◌, ◌%◌, Bool, true, false, List, [], ◌∷◌, ◌++◌}
 use Rattle.std.specs.List.{flat_map, list_all}
 use Rattle.z80_instr.specs.Table.{word}
 use Rattle.asm_piece.specs.declared.cell.Cell.{Cell}

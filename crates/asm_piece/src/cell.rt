@@ -1,11 +1,11 @@
-//! Fields, and what fills them.
+//! Fields, and what fills them: definitions speak of them, and no call hands them out.
 
 use crate::piece::Width;
 use asm_expr::Expr;
 
 /// What fills a field.
 #[derive(Debug, Drop)]
-pub(crate) enum Filling {
+pub enum Filling {
     Number(u16),
     /// An expression whose value hangs on places.
     Varying(Expr),
@@ -15,7 +15,7 @@ pub(crate) enum Filling {
 
 /// A field of one byte or two.
 #[derive(Debug, Drop)]
-pub(crate) struct Cell {
-    pub(crate) width: Width,
-    pub(crate) filling: Filling,
+pub struct Cell {
+    pub width: Width,
+    pub filling: Filling,
 }

@@ -40,7 +40,7 @@ fn size_of(width: Width) -> usize
 }
 
 /// An instruction with some of its numbers put in.
-#[derive(Debug, Drop)]
+#[derive(Drop)]
 struct Coded {
     instr: Instr,
     size: usize,

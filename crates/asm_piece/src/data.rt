@@ -79,7 +79,7 @@ pub(crate) fn put_hole(
 }
 
 /// Fields laid end to end.
-#[derive(Debug, Drop)]
+#[derive(Drop)]
 struct Laid {
     bytes: Vec<u8>,
     holes: Vec<Hole>,

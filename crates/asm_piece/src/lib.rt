@@ -7,11 +7,14 @@
 mod cell;
 mod code;
 mod data;
+mod defined;
 mod field;
 mod piece;
 mod settling;
 mod space;
 
 pub use asm_spell::{Body, Branch, StmtFault, Value};
+pub use cell::{Cell, Filling};
+pub use defined::are_defined;
 pub use piece::{Hole, Made, Piece, Width};
 pub use settling::settle;

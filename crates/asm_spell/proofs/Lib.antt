@@ -3,5 +3,10 @@ mod Lists
 mod Entries
 mod Written
 mod Unworded
-mod Refusals
+mod Walk
+mod Numbered
+mod Named
 mod Definable
+mod Cuts
+mod Looked
+pub mod WrongWays

@@ -8,22 +8,9 @@ use Rattle.asm_scan.specs.Tokens.{Lexeme}
 use Rattle.asm_words.specs.Results.{◌>>=◌}
 use Rattle.asm_line.specs.Lists.{names}
 use Rattle.asm_spell.specs.declared.fault.StmtFault.{StmtFault}
-use Rattle.asm_spell.specs.declared.directive.Directive.{Directive}
 use Rattle.asm_spell.specs.Faults.{each}
 use Rattle.asm_spell.specs.Line.{Expression, Value, Text, Byte, Body, Bytes, Words, Space, Public, External, Origin, End, Z80}
 use Rattle.asm_spell.specs.Operands.{operands, answered, is_one_name}
-
-abbrev pub directives : List (List ℕ × Directive)
-directives = (codes "DB", Directive.Bytes) ∷ (codes "DEFB", Directive.Bytes) ∷ (codes "DEFM", Directive.Bytes)
-    ∷ (codes "DW", Directive.Words) ∷ (codes "DEFW", Directive.Words)
-    ∷ (codes "DS", Directive.Space) ∷ (codes "DEFS", Directive.Space)
-    ∷ (codes "PUBLIC", Directive.Public) ∷ (codes "GLOBAL", Directive.Public)
-    ∷ (codes "EXTRN", Directive.External) ∷ (codes "EXTERNAL", Directive.External)
-    ∷ (codes "ORG", Directive.Origin) ∷ (codes "END", Directive.End) ∷ (codes ".Z80", Directive.Z80) ∷ (codes "EQU", Directive.Equ) ∷ []
-
--- the directive that a word is, in either case
-abbrev pub directive_named : List ℕ → Option Directive
-directive_named name = lookup (str_eq_ignore_ascii_case name) directives
 
 -- DB.
 
@@ -63,24 +50,43 @@ abbrev pub bytes : List Value → Result Body StmtFault
 bytes [] = Err StmtFault.BadOperands
 bytes (v ∷ vs) = if list_any is_empty_text (v ∷ vs) then Err StmtFault.BadOperands else Ok (Bytes (v ∷ vs))
 
--- DW, DS, ORG, .Z80, and EQU without a name.
+abbrev pub of_bytes : List Lexeme → Result Body StmtFault
+of_bytes tokens = each value (operands tokens) >>= bytes
+
+-- DW, DS, ORG, .Z80, EQU.
 
 abbrev pub words : List Expression → Result Body StmtFault
 words [] = Err StmtFault.BadOperands
 words (e ∷ es) = Ok (Words (e ∷ es))
+
+abbrev pub of_words : List Lexeme → Result Body StmtFault
+of_words tokens = each answered (operands tokens) >>= words
 
 abbrev pub space : List Expression → Result Body StmtFault
 space (size ∷ []) = Ok (Space size None)
 space (size ∷ fill ∷ []) = Ok (Space size (Some fill))
 space _ = Err StmtFault.BadOperands
 
+abbrev pub of_space : List Lexeme → Result Body StmtFault
+of_space tokens = each answered (operands tokens) >>= space
+
 abbrev pub origin : List Expression → Result Body StmtFault
 origin (e ∷ []) = Ok (Origin e)
 origin _ = Err StmtFault.BadOperands
 
+abbrev pub of_origin : List Lexeme → Result Body StmtFault
+of_origin tokens = each answered (operands tokens) >>= origin
+
 abbrev pub nothing : List Expression → Result Body StmtFault
 nothing [] = Ok Z80
 nothing _ = Err StmtFault.BadOperands
+
+abbrev pub of_nothing : List Lexeme → Result Body StmtFault
+of_nothing tokens = each answered (operands tokens) >>= nothing
+
+-- EQU without a name is refused once its operands are read.
+abbrev pub nameless : List Lexeme → Result Body StmtFault
+nameless tokens = each answered (operands tokens) >>= λ _. Err StmtFault.BadOperands
 
 -- PUBLIC, EXTRN, END.
 
@@ -96,6 +102,12 @@ names_or None tokens = each judged (operands tokens) >>= λ _. Err StmtFault.Bad
 abbrev pub names_in : List Lexeme → Result (List (List ℕ)) StmtFault
 names_in tokens = names_or (names tokens) tokens
 
+abbrev pub public : List Lexeme → Result Body StmtFault
+public tokens = names_in tokens >>= λ list. Ok (Public list)
+
+abbrev pub external : List Lexeme → Result Body StmtFault
+external tokens = names_in tokens >>= λ list. Ok (External list)
+
 -- one name at most
 abbrev pub entry : List (List ℕ) → Result Body StmtFault
 entry (name ∷ []) = Ok (End (Some name))
@@ -105,14 +117,13 @@ abbrev pub end : List Lexeme → Result Body StmtFault
 end [] = Ok (End None)
 end (t ∷ ts) = names_in (t ∷ ts) >>= entry
 
--- what a directive and the tokens behind it spell
-abbrev pub directive : Directive → List Lexeme → Result Body StmtFault
-directive Directive.Bytes tokens = each value (operands tokens) >>= bytes
-directive Directive.Words tokens = each answered (operands tokens) >>= words
-directive Directive.Space tokens = each answered (operands tokens) >>= space
-directive Directive.Public tokens = names_in tokens >>= λ list. Ok (Public list)
-directive Directive.External tokens = names_in tokens >>= λ list. Ok (External list)
-directive Directive.Origin tokens = each answered (operands tokens) >>= origin
-directive Directive.End tokens = end tokens
-directive Directive.Z80 tokens = each answered (operands tokens) >>= nothing
-directive Directive.Equ tokens = each answered (operands tokens) >>= λ _. Err StmtFault.BadOperands
+-- The words, each with what the tokens behind it spell.
+
+abbrev pub directives : List (List ℕ × (List Lexeme → Result Body StmtFault))
+directives = (codes "DB", of_bytes) ∷ (codes "DEFB", of_bytes) ∷ (codes "DEFM", of_bytes) ∷ (codes "DW", of_words) ∷ (codes "DEFW", of_words)
+    ∷ (codes "DS", of_space) ∷ (codes "DEFS", of_space) ∷ (codes "PUBLIC", public) ∷ (codes "GLOBAL", public) ∷ (codes "EXTRN", external) ∷ (codes "EXTERNAL", external)
+    ∷ (codes "ORG", of_origin) ∷ (codes "END", end) ∷ (codes ".Z80", of_nothing) ∷ (codes "EQU", nameless) ∷ []
+
+-- what the tokens behind a word spell, in either case, where it is a directive
+abbrev pub directive : List ℕ → Option (List Lexeme → Result Body StmtFault)
+directive name = lookup (str_eq_ignore_ascii_case name) directives

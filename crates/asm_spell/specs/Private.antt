@@ -1,3 +1,4 @@
 -- What private contracts alone cite: no reviewer need believe it.
 pub mod Cutting
 pub mod Named
+pub mod Choices

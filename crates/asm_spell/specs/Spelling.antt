@@ -1,7 +1,7 @@
 -- Which line a list of tokens spells, or its first fault.
-use Rattle.std.specs.Prelude.{ℕ, Bool, false, List, [], ◌∷◌, Option, Some, None, Result, Ok, Err, if◌then◌else◌, map, ◌||◌}
-use Rattle.std.specs.Option.{option_map}
-use Rattle.std.specs.List.{list_any, filter_map}
+use Rattle.std.specs.Prelude.{ℕ, Bool, List, [], ◌∷◌, Option, Some, None, Result, Ok, Err, if◌then◌else◌, map}
+use Rattle.std.specs.Option.{option_and_then, option_map}
+use Rattle.std.specs.List.{cons_option, list_any, filter_map}
 use Rattle.asm_scan.specs.Tokens.{Lexeme}
 use Rattle.asm_parse.specs.declared.item.Item.{Item}
 use Rattle.asm_parse.specs.Source.{Name}
@@ -17,13 +17,11 @@ use Rattle.z80_form.specs.declared.field.Field.{Field}
 use Rattle.z80_form.specs.Numbers.{field_of}
 use Rattle.z80_form.specs.Spelling.{instruction_of}
 use Rattle.asm_spell.specs.declared.fault.StmtFault.{StmtFault}
-use Rattle.asm_spell.specs.declared.directive.Directive.{Directive}
-use Rattle.asm_spell.specs.declared.jump.Jump as jump
 use Rattle.asm_spell.specs.declared.line.Branch.{Branch}
 use Rattle.asm_spell.specs.Faults.{value_or, each}
 use Rattle.asm_spell.specs.Line.{Expression, Body, Code, Jump, Short, Public, External, End, Line, Equ, Statement}
 use Rattle.asm_spell.specs.Operands.{operands, answered, Written, written}
-use Rattle.asm_spell.specs.Directives.{directive_named, directive}
+use Rattle.asm_spell.specs.Directives.{directive}
 
 -- Instructions.
 
@@ -43,18 +41,14 @@ short_condition Cond.NotCarry = Some ShortCond.NotCarry
 short_condition Cond.Carry = Some ShortCond.Carry
 short_condition _ = None
 
--- an instruction that, with one name as its target, is a jump that may be coded both ways, or one that is always short
-abbrev pub jump_of : Instr → Option jump.Jump
-jump_of (Instr.Jump nn) = Some (jump.TheVariants.Relaxable None)
-jump_of (Instr.JumpIf cc nn) = option_map (λ c. jump.TheVariants.Relaxable (Some c)) (short_condition cc)
-jump_of (Instr.JumpRelative e) = Some (jump.TheVariants.Always (Branch.Relative None))
-jump_of (Instr.JumpRelativeIf cc e) = Some (jump.TheVariants.Always (Branch.Relative (Some cc)))
-jump_of (Instr.Djnz e) = Some (jump.TheVariants.Always Branch.CountDown)
-jump_of _ = None
-
-abbrev pub jump_to : jump.Jump → List ℕ → Body
-jump_to (jump.TheVariants.Relaxable condition) name = Jump condition name
-jump_to (jump.TheVariants.Always branch) name = Short branch name
+-- what an instruction is with one name as its target: a jump that may be coded both ways, or one that is always short
+abbrev pub jump_to : Instr → List ℕ → Option Body
+jump_to (Instr.Jump nn) name = Some (Jump None name)
+jump_to (Instr.JumpIf cc nn) name = option_map (λ c. Jump (Some c) name) (short_condition cc)
+jump_to (Instr.JumpRelative e) name = Some (Short (Branch.Relative None) name)
+jump_to (Instr.JumpRelativeIf cc e) name = Some (Short (Branch.Relative (Some cc)) name)
+jump_to (Instr.Djnz e) name = Some (Short Branch.CountDown name)
+jump_to _ name = None
 
 -- the name that an operand is, where it is one
 abbrev pub name_in : Option Expression → Option (List ℕ)
@@ -71,13 +65,15 @@ target (w ∷ []) = target_by w
 target (w ∷ v ∷ more) = target (v ∷ more)
 
 -- a jump to one name, or the instruction with its expressions
-abbrev pub coded : Option jump.Jump → Option (List ℕ) → Instr → List Written → Body
-coded (Some jump) (Some name) instr read = jump_to jump name
-coded _ _ instr read = Code instr (numbers instr read)
+abbrev pub jump_or : Option Body → Instr → List Written → Body
+jump_or (Some jump) instr read = jump
+jump_or None instr read = Code instr (numbers instr read)
+
+abbrev pub coded : Instr → List Written → Body
+coded instr read = jump_or (option_and_then (jump_to instr) (target read)) instr read
 
 abbrev pub instruction_by : Mnemonic → List Written → Result Body StmtFault
-instruction_by m read =
-    value_or StmtFault.BadOperands (instruction_of m (map (λ w. w.form) read)) >>= λ instr. Ok (coded (jump_of instr) (target read) instr read)
+instruction_by m read = value_or StmtFault.BadOperands (instruction_of m (map (λ w. w.form) read)) >>= λ instr. Ok (coded instr read)
 
 -- what a mnemonic and the tokens behind it spell
 abbrev pub instruction : Mnemonic → List Lexeme → Result Body StmtFault
@@ -85,14 +81,14 @@ instruction m tokens = each written (operands tokens) >>= instruction_by m
 
 -- Lines.
 
-abbrev pub word_by : Option Mnemonic → Option Directive → List Lexeme → Result Body StmtFault
-word_by (Some m) d tokens = instruction m tokens
-word_by None (Some d) tokens = directive d tokens
+abbrev pub word_by : Option Mnemonic → Option (List Lexeme → Result Body StmtFault) → List Lexeme → Result Body StmtFault
+word_by (Some m) found tokens = instruction m tokens
+word_by None (Some directive) tokens = directive tokens
 word_by None None tokens = Err StmtFault.UnknownWord
 
--- what a word and the tokens behind it spell
+-- what a word and the tokens behind it spell: an instruction, else a directive
 abbrev pub operation : List ℕ → List Lexeme → Result Body StmtFault
-operation name tokens = word_by (mnemonic_named name) (directive_named name) tokens
+operation name tokens = word_by (mnemonic_named name) (directive name) tokens
 
 -- the names that a statement defines or passes on
 abbrev pub body_names : Body → List (List ℕ)
@@ -101,11 +97,16 @@ body_names (External list) = list
 body_names (End (Some name)) = name ∷ []
 body_names _ = []
 
+abbrev pub option_names : Option Body → List (List ℕ)
+option_names None = []
+option_names (Some body) = body_names body
+
+-- .. and its label before them
+abbrev pub statement_names : Option (List ℕ) → Option Body → List (List ℕ)
+statement_names label body = cons_option label (option_names body)
+
 abbrev pub has_reserved : Option (List ℕ) → Option Body → Bool
-has_reserved None None = false
-has_reserved None (Some body) = list_any is_reserved (body_names body)
-has_reserved (Some label) None = is_reserved label
-has_reserved (Some label) (Some body) = is_reserved label || list_any is_reserved (body_names body)
+has_reserved label body = list_any is_reserved (statement_names label body)
 
 -- a label and a statement, each if the line has one
 abbrev pub labelled : Option (List ℕ) → Option Body → Result Line StmtFault

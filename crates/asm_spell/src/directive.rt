@@ -3,10 +3,14 @@
 ghost use Rattle.std.specs.Prelude.{◌≡◌, ◌==◌, if◌then◌else◌, IfOk, map};
 ghost use Rattle.std.specs.Option.{option_map};
 ghost use Rattle.std.specs.List.{list_any};
+ghost use Rattle.std.specs.Map.{lookup};
+ghost use Rattle.std.specs.Str.{str_eq_ignore_ascii_case};
 ghost use Rattle.asm_scan.specs.Tokens.{lexemes};
 ghost use Rattle.asm_spell.specs.Faults.{Gives};
 ghost use Rattle.asm_spell.specs.Line.{body_of, names_of, value_of};
-ghost use Rattle.asm_spell.specs.Directives.{content, directive, directive_named, end, entry, is_empty_text, names_in, text_alone, text_by};
+ghost use Rattle.asm_spell.specs.Directives.{content, directive, end, entry, is_empty_text, nameless, names_in, of_bytes, of_nothing, of_origin, of_space, of_words, text_alone, text_by};
+ghost use Rattle.asm_spell.specs.Private.Choices as choices;
+ghost use Rattle.asm_spell.specs.Private.Choices.{directs};
 
 use crate::cut::{Operand, each};
 use crate::fault::StmtFault;
@@ -39,25 +43,60 @@ pub(crate) enum Directive {
     Equ,
 }
 
-/// The directive that a word is, in either case.
-pub(crate) fn directive_named(name: &[u8]) -> Option<Directive>
-    ensures { result ≡ directive_named name.now }
+/// The directive that a word of two letters is.
+fn of_two(name: &[u8]) -> Option<Directive>
+    ensures { option_map directs result ≡ lookup (str_eq_ignore_ascii_case name.now) choices.of_two }
 {
     if name.eq_ignore_ascii_case(b"DB") {
         Some(Directive::Bytes)
-    } else if name.eq_ignore_ascii_case(b"DEFB") {
-        Some(Directive::Bytes)
-    } else if name.eq_ignore_ascii_case(b"DEFM") {
-        Some(Directive::Bytes)
     } else if name.eq_ignore_ascii_case(b"DW") {
-        Some(Directive::Words)
-    } else if name.eq_ignore_ascii_case(b"DEFW") {
         Some(Directive::Words)
     } else if name.eq_ignore_ascii_case(b"DS") {
         Some(Directive::Space)
+    } else {
+        None
+    }
+}
+
+/// The directive that a word of three letters is.
+fn of_three(name: &[u8]) -> Option<Directive>
+    ensures { option_map directs result ≡ lookup (str_eq_ignore_ascii_case name.now) choices.of_three }
+{
+    if name.eq_ignore_ascii_case(b"ORG") {
+        Some(Directive::Origin)
+    } else if name.eq_ignore_ascii_case(b"END") {
+        Some(Directive::End)
+    } else if name.eq_ignore_ascii_case(b"EQU") {
+        Some(Directive::Equ)
+    } else {
+        None
+    }
+}
+
+/// The directive that a word of four letters is.
+fn of_four(name: &[u8]) -> Option<Directive>
+    ensures { option_map directs result ≡ lookup (str_eq_ignore_ascii_case name.now) choices.of_four }
+{
+    if name.eq_ignore_ascii_case(b"DEFB") {
+        Some(Directive::Bytes)
+    } else if name.eq_ignore_ascii_case(b"DEFM") {
+        Some(Directive::Bytes)
+    } else if name.eq_ignore_ascii_case(b"DEFW") {
+        Some(Directive::Words)
     } else if name.eq_ignore_ascii_case(b"DEFS") {
         Some(Directive::Space)
-    } else if name.eq_ignore_ascii_case(b"PUBLIC") {
+    } else if name.eq_ignore_ascii_case(b".Z80") {
+        Some(Directive::Z80)
+    } else {
+        None
+    }
+}
+
+/// The directive that a word of more letters is.
+fn of_more(name: &[u8]) -> Option<Directive>
+    ensures { option_map directs result ≡ lookup (str_eq_ignore_ascii_case name.now) choices.of_more }
+{
+    if name.eq_ignore_ascii_case(b"PUBLIC") {
         Some(Directive::Public)
     } else if name.eq_ignore_ascii_case(b"GLOBAL") {
         Some(Directive::Public)
@@ -65,16 +104,24 @@ pub(crate) fn directive_named(name: &[u8]) -> Option<Directive>
         Some(Directive::External)
     } else if name.eq_ignore_ascii_case(b"EXTERNAL") {
         Some(Directive::External)
-    } else if name.eq_ignore_ascii_case(b"ORG") {
-        Some(Directive::Origin)
-    } else if name.eq_ignore_ascii_case(b"END") {
-        Some(Directive::End)
-    } else if name.eq_ignore_ascii_case(b".Z80") {
-        Some(Directive::Z80)
-    } else if name.eq_ignore_ascii_case(b"EQU") {
-        Some(Directive::Equ)
     } else {
         None
+    }
+}
+
+/// The directive that a word is, in either case. Its length leaves at most five words to compare it with.
+pub(crate) fn directive_named(name: &[u8]) -> Option<Directive>
+    ensures { option_map directs result ≡ directive name.now }
+{
+    let letters = name.len();
+    if letters == 2 {
+        of_two(name)
+    } else if letters == 3 {
+        of_three(name)
+    } else if letters == 4 {
+        of_four(name)
+    } else {
+        of_more(name)
     }
 }
 
@@ -160,7 +207,7 @@ fn any_empty(values: &[Value]) -> bool
 
 /// `DB`
 fn bytes(alloc: Global, tokens: &[Token<'_>]) -> Result<Body, StmtFault>
-    ensures { Gives body_of result (directive Directive.Bytes (lexemes tokens.entry.now)) }
+    ensures { Gives body_of result (of_bytes (lexemes tokens.entry.now)) }
 {
     let values: Vec<Value> = each(alloc, tokens)?;
     if values.is_empty() || any_empty(&values) {
@@ -171,7 +218,7 @@ fn bytes(alloc: Global, tokens: &[Token<'_>]) -> Result<Body, StmtFault>
 
 /// `DW`
 fn words(alloc: Global, tokens: &[Token<'_>]) -> Result<Body, StmtFault>
-    ensures { Gives body_of result (directive Directive.Words (lexemes tokens.entry.now)) }
+    ensures { Gives body_of result (of_words (lexemes tokens.entry.now)) }
 {
     let fields: Vec<Tree> = each(alloc, tokens)?;
     if fields.is_empty() {
@@ -182,7 +229,7 @@ fn words(alloc: Global, tokens: &[Token<'_>]) -> Result<Body, StmtFault>
 
 /// `DS`
 fn space(alloc: Global, tokens: &[Token<'_>]) -> Result<Body, StmtFault>
-    ensures { Gives body_of result (directive Directive.Space (lexemes tokens.entry.now)) }
+    ensures { Gives body_of result (of_space (lexemes tokens.entry.now)) }
 {
     let mut fields: Vec<Tree> = each(alloc, tokens)?;
     let last = fields.pop();
@@ -196,7 +243,7 @@ fn space(alloc: Global, tokens: &[Token<'_>]) -> Result<Body, StmtFault>
 
 /// `ORG`
 fn origin(alloc: Global, tokens: &[Token<'_>]) -> Result<Body, StmtFault>
-    ensures { Gives body_of result (directive Directive.Origin (lexemes tokens.entry.now)) }
+    ensures { Gives body_of result (of_origin (lexemes tokens.entry.now)) }
 {
     let mut fields: Vec<Tree> = each(alloc, tokens)?;
     match fields.pop() {
@@ -207,7 +254,7 @@ fn origin(alloc: Global, tokens: &[Token<'_>]) -> Result<Body, StmtFault>
 
 /// `.Z80`
 fn nothing(alloc: Global, tokens: &[Token<'_>]) -> Result<Body, StmtFault>
-    ensures { Gives body_of result (directive Directive.Z80 (lexemes tokens.entry.now)) }
+    ensures { Gives body_of result (of_nothing (lexemes tokens.entry.now)) }
 {
     let fields: Vec<Tree> = each(alloc, tokens)?;
     if fields.is_empty() {
@@ -219,7 +266,7 @@ fn nothing(alloc: Global, tokens: &[Token<'_>]) -> Result<Body, StmtFault>
 
 /// `EQU` without a name: its operands are read for their faults.
 fn nameless(alloc: Global, tokens: &[Token<'_>]) -> Result<Body, StmtFault>
-    ensures { Gives body_of result (directive Directive.Equ (lexemes tokens.entry.now)) }
+    ensures { Gives body_of result (nameless (lexemes tokens.entry.now)) }
 {
     let _fields: Vec<Tree> = each(alloc, tokens)?;
     Err(StmtFault::BadOperands)
@@ -287,7 +334,7 @@ pub(crate) fn spell_directive(
     found: Directive,
     tokens: &[Token<'_>],
 ) -> Result<Body, StmtFault>
-    ensures { Gives body_of result (directive found (lexemes tokens.entry.now)) }
+    ensures { Gives body_of result (directs found (lexemes tokens.entry.now)) }
 {
     match found {
         Directive::Bytes => bytes(alloc, tokens),

@@ -7,7 +7,7 @@ ghost use Rattle.asm_scan.specs.Tokens.{lexemes};
 ghost use Rattle.z80_form.specs.Spelling.{instruction_of};
 ghost use Rattle.asm_spell.specs.Faults.{Gives};
 ghost use Rattle.asm_spell.specs.Line.{body_of};
-ghost use Rattle.asm_spell.specs.Spelling.{coded, instruction, jump_of, name_in, number, numbers, target, target_by};
+ghost use Rattle.asm_spell.specs.Spelling.{coded, instruction, name_in, number, numbers, target, target_by};
 ghost use Rattle.asm_spell.specs.Private.Cutting.{holds};
 
 use crate::cut::each;
@@ -100,7 +100,7 @@ fn numbers(
 
 /// A jump to one name, or the instruction with its expressions.
 fn coded(alloc: Global, instr: Instr, read: Vec<Written>) -> Result<Body, StmtFault>
-    ensures { Gives body_of result (Ok (coded (jump_of instr) (target (map holds read.items)) instr (map holds read.items))) }
+    ensures { Gives body_of result (Ok (coded instr (map holds read.items))) }
 {
     if let (Some(jump), Some(name)) = (jump_of(instr), target(&read)) {
         return Ok(jump.to(Vec::from_slice(alloc, name)?));

@@ -1,8 +1,9 @@
 //! Jumps to one name.
 
-ghost use Rattle.std.specs.Prelude.{◌≡◌};
-ghost use Rattle.asm_spell.specs.Spelling.{jump_of, jump_to, short_condition};
-ghost use Rattle.asm_spell.specs.Line.{body_of};
+ghost use Rattle.std.specs.Prelude.{◌≡◌, ℕ, List};
+ghost use Rattle.std.specs.Option.{option_map};
+ghost use Rattle.asm_spell.specs.Spelling.{jump_to, short_condition};
+ghost use Rattle.asm_spell.specs.Private.Choices.{jumps};
 
 use crate::line::{Body, Branch};
 use z80_instr::{Cond, Instr, ShortCond};
@@ -18,11 +19,11 @@ pub(crate) enum Jump {
 
 impl Jump {
     ghost use Rattle.std.specs.Prelude.{◌≡◌};
-    ghost use Rattle.asm_spell.specs.Spelling.{jump_to};
     ghost use Rattle.asm_spell.specs.Line.{body_of};
+    ghost use Rattle.asm_spell.specs.Private.Choices.{jumps};
 
     pub(crate) fn to(self, target: Vec<u8>) -> Body
-        ensures { body_of result ≡ jump_to self target.items }
+        ensures { body_of result ≡ jumps self target.items }
     {
         match self {
             Jump::Relaxable(condition) => Body::Jump { condition, target },
@@ -46,7 +47,7 @@ fn short_condition(condition: Cond) -> Option<ShortCond>
 
 /// The jump that an instruction is with one name as its target.
 pub(crate) fn jump_of(instr: Instr) -> Option<Jump>
-    ensures { result ≡ jump_of instr }
+    ensures { (name : List ℕ) → option_map (λ jump. jumps jump name) result ≡ jump_to instr name }
 {
     match instr {
         Instr::Jump(_) => Some(Jump::Relaxable(None)),

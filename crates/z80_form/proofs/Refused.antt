@@ -5,9 +5,9 @@ use Rattle.z80_form.specs.Spelling.{Spells}
 use Rattle.z80_form.specs.Numbers.{with_number}
 use Rattle.z80_form.proofs.Texts.{none_is}
 
--- EX HL,HL
-pub ex_hl_hl : (instr : Instr) → Spells Mnemonic.Ex (Form.Name Name.Hl ∷ Form.Name Name.Hl ∷ []) instr → ⊥
-ex_hl_hl = (none_is Mnemonic.Ex (Form.Name Name.Hl ∷ Form.Name Name.Hl ∷ [])).0 refl
+-- EX HL,DE
+pub ex_hl_de : (instr : Instr) → Spells Mnemonic.Ex (Form.Name Name.Hl ∷ Form.Name Name.De ∷ []) instr → ⊥
+ex_hl_de = (none_is Mnemonic.Ex (Form.Name Name.Hl ∷ Form.Name Name.De ∷ [])).0 refl
 
 -- CALL NZ,nn is no CALL nn
 pub call_nz : Spells Mnemonic.Call (Form.Name Name.Nz ∷ Form.Number ∷ []) (Instr.Call 0) → ⊥

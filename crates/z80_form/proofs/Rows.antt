@@ -1,18 +1,31 @@
 -- Each instruction is read from its row, with (IX+d) and with (IX): a test for each row of the table.
-use Rattle.std.proofs.Common.{◌≡◌, inl, inr, List, Option, Some, refl, ap, sym, ◌∙◌, map}
+use Rattle.std.proofs.Common.{◌≡◌, ◌⊎◌, ◌++◌, inl, inr, List, Option, Some, refl, ap, sym, ◌∙◌, map}
 use Rattle.z80_instr.proofs.Finite.{Finite, ◌⊗◌, registers, indexes, pairs, addends, conditions, short_conditions, operations, rotations, octals, block_operations, block_steps}
-use Rattle.z80_form.specs.Types.{Memory, Operand, Pointer, WordRegister, HlOrIndex, StackOperand, InterruptMode, Instr, Form, Mnemonic}
+use Rattle.z80_form.specs.Types.{Memory, Operand, Pointer, WordRegister, HlOrIndex, StackOperand, InterruptMode, Instr, Form, Field, Mnemonic}
 use Rattle.z80_form.specs.Rows.{row}
 use Rattle.z80_form.specs.Spelling.{without_displacement, Spells}
-use Rattle.z80_form.specs.Numbers.{blank}
+use Rattle.z80_form.specs.Numbers.{blank, fields, fields_of, displacement_fields, number_fields}
 use Rattle.z80_form.specs.Private.Reading.{instruction_read}
 
--- what is read of both texts of an instruction, and what is to be
-abbrev reading : Instr → Option Instr × Option Instr
-reading instr = (instruction_read (row instr).mnemonic (row instr).operands, instruction_read (row instr).mnemonic (map without_displacement (row instr).operands))
+-- the bit stands before the displacement, a byte behind it
+abbrev ordered : Instr → List Field
+ordered (Instr.Bit b m) = number_fields (Instr.Bit b m) ++ displacement_fields (Instr.Bit b m)
+ordered (Instr.Set b m) = number_fields (Instr.Set b m) ++ displacement_fields (Instr.Set b m)
+ordered (Instr.Res b m) = number_fields (Instr.Res b m) ++ displacement_fields (Instr.Res b m)
+ordered instr = displacement_fields instr ++ number_fields instr
 
-abbrev answer : Instr → Option Instr × Option Instr
-answer instr = (Some (blank instr), Some (blank instr))
+-- what is read of both texts of an instruction, and what their expressions fill; and what that is to be
+abbrev Texts : Type 0
+Texts = Option Instr × Option Instr × List Field × List Field
+
+abbrev short : Instr → List Form
+short instr = map without_displacement (row instr).operands
+
+abbrev reading : Instr → Texts
+reading instr = (instruction_read (row instr).mnemonic (row instr).operands, instruction_read (row instr).mnemonic (short instr), fields instr, fields_of instr (short instr))
+
+abbrev answer : Instr → Texts
+answer instr = (Some (blank instr), Some (blank instr), ordered instr, number_fields instr)
 
 -- the rows of a family over a finite type
 over : {A : Type 0} (V : Finite A) (f : A → Instr) → V.values _ (λ a. reading (f a)) ≡ V.values _ (λ a. answer (f a)) → (a : A) → reading (f a) ≡ answer (f a)
@@ -133,6 +146,24 @@ pub found : (m : Mnemonic) (operands : List Form) (instr : Instr) → Spells m o
 found m operands instr spells =
     let word : instruction_read m operands ≡ instruction_read (row instr).mnemonic operands = ap (λ w. instruction_read w operands) (sym spells.mnemonic_is) in
     elim spells.operands_are as (λ _. instruction_read m operands ≡ Some (blank instr)) [
-      | inl long ↦ word ∙ ap (instruction_read (row instr).mnemonic) long ∙ ap (λ (p : Option Instr × Option Instr). p.0) (both instr)
-      | inr short ↦ word ∙ ap (instruction_read (row instr).mnemonic) short.0 ∙ ap (λ (p : Option Instr × Option Instr). p.1) (both instr)
+      | inl long ↦ word ∙ ap (instruction_read (row instr).mnemonic) long ∙ ap (λ (p : Texts). p.0) (both instr)
+      | inr flat ↦ word ∙ ap (instruction_read (row instr).mnemonic) flat.0 ∙ ap (λ (p : Texts). p.1) (both instr)
     ]
+
+-- What the expressions of both texts fill.
+either_order : (instr : Instr) → (ordered instr ≡ displacement_fields instr ++ number_fields instr) ⊎ (ordered instr ≡ number_fields instr ++ displacement_fields instr)
+either_order (Instr.Bit b m) = inr refl
+either_order (Instr.Set b m) = inr refl
+either_order (Instr.Res b m) = inr refl
+either_order _ = inl refl
+
+pub row_fields : (instr : Instr) → (fields instr ≡ displacement_fields instr ++ number_fields instr) ⊎ (fields instr ≡ number_fields instr ++ displacement_fields instr)
+row_fields instr =
+    let are : fields instr ≡ ordered instr = ap (λ (p : Texts). p.2) (both instr) in
+    elim (either_order instr) [ inl e ↦ inl (are ∙ e) | inr e ↦ inr (are ∙ e) ]
+
+pub spelled_fields : (m : Mnemonic) (operands : List Form) (instr : Instr) → Spells m operands instr → (fields_of instr operands ≡ fields instr) ⊎ (fields_of instr operands ≡ number_fields instr)
+spelled_fields m operands instr spells = elim spells.operands_are [
+  | inl long ↦ inl (ap (fields_of instr) long)
+  | inr flat ↦ inr (ap (fields_of instr) flat.0 ∙ ap (λ (p : Texts). p.3) (both instr))
+]

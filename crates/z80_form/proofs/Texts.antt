@@ -149,3 +149,6 @@ found_none m forms = rw (found_is_read m forms) (none_is m forms)
 
 pub found_few : (m : Mnemonic) (a b c : Form) (more : List Form) → instruction_of m (a ∷ b ∷ c ∷ more) ≡ None
 found_few m a b c more = found_is_read m (a ∷ b ∷ c ∷ more)
+
+pub found_fields : (m : Mnemonic) (forms : List Form) (instr : Instr) → instruction_of m forms ≡ Some instr → HasFields instr forms
+found_fields m forms instr e = fields_filled m forms (Some instr) (sym (found_is_read m forms) ∙ e)

@@ -1,5 +1,5 @@
 -- The numbers of an instruction: which of them an operand's expression fills, and the instruction with a number put in.
-use Rattle.std.specs.Prelude.{◌≡◌, ◌≢◌, ℕ, zero, suc, ◌-◌, ◌/◌, ◌%◌, Bool, true, false, ◌&&◌, ◌||◌, ◌==◌, nat_lt, nat_le, List, [], ◌∷◌, Option, Some, None, ℤ, map, take, length, All}
+use Rattle.std.specs.Prelude.{◌≡◌, ◌≢◌, ℕ, zero, suc, ◌-◌, ◌/◌, ◌%◌, Bool, true, false, ◌&&◌, ◌||◌, ◌==◌, nat_lt, nat_le, List, [], ◌∷◌, Option, Some, None, ℤ, map, take, length, All, option_to_list, if◌then◌else◌}
 use Rattle.std.specs.List.{filter_map}
 use Rattle.std.specs.Int.{w8, cast_signed}
 use Rattle.z80_instr.specs.Table.{octal_of}
@@ -49,9 +49,13 @@ has_expression _ = false
 abbrev pub HasFields : Instr → List Form → Type 0
 HasFields instr operands = All (λ form. has_expression form ≡ true → field_of instr form ≢ None) operands
 
--- what the expressions of an instruction fill, from left to right
+-- what the expressions of operands fill, from left to right
+abbrev pub fields_of : Instr → List Form → List Field
+fields_of instr operands = filter_map (field_of instr) operands
+
+-- .. those of the instruction's row
 abbrev pub fields : Instr → List Field
-fields instr = filter_map (field_of instr) (row instr).operands
+fields instr = fields_of instr (row instr).operands
 
 -- A number is one of 16 bits; the negative ones are their remainders by 65,536.
 
@@ -201,3 +205,11 @@ has_displacement (Instr.Bit b m) = operand_is_displaced m
 has_displacement (Instr.Set b m) = operand_is_displaced m
 has_displacement (Instr.Res b m) = operand_is_displaced m
 has_displacement _ = false
+
+-- The numbers of an instruction are a displacement and one other number, if it has them.
+
+abbrev pub displacement_fields : Instr → List Field
+displacement_fields instr = if has_displacement instr then Field.Displacement ∷ [] else []
+
+abbrev pub number_fields : Instr → List Field
+number_fields instr = option_to_list (number_field instr)

@@ -1,10 +1,11 @@
 //! Laws of the rows, as functions that do nothing: their calls bring the clauses.
-ghost use Rattle.std.specs.Prelude.{◌≡◌, ◌↔◌, ◌%◌, ℕ, List, [], ◌∷◌, ◌++◌, Some, None, true, length, slice_set};
+ghost use Rattle.std.specs.Prelude.{◌≡◌, ◌≢◌, ◌⊎◌, ◌↔◌, ◌%◌, ℕ, List, [], ◌∷◌, ◌++◌, Some, None, All, true, length, slice_set};
+ghost use Rattle.std.specs.List.{Contains};
 ghost use Rattle.z80_instr.specs.Table.{canonical, word};
 ghost use Rattle.z80_instr.specs.Codes.{in_range};
 ghost use Rattle.z80_form.specs.Types.{Instr, Mnemonic, Form, Field};
 ghost use Rattle.z80_form.specs.Rows.{row};
-ghost use Rattle.z80_form.specs.Numbers.{allows, blank, field_of, number_field, with_number, but_last, has_displacement, HasNumbers};
+ghost use Rattle.z80_form.specs.Numbers.{allows, blank, field_of, fields, fields_of, number_field, number_fields, displacement_fields, with_number, with_numbers, but_last, has_displacement, HasFields, HasNumbers};
 ghost use Rattle.z80_form.specs.Spelling.{Spells, instruction_of};
 
 /// Every instruction is that of its row with its numbers put in.
@@ -18,6 +19,9 @@ pub fn spelled()
         (instruction_of mnemonic operands ≡ Some instr) ↔ (Spells mnemonic operands instr × (blank instr ≡ instr)) }
     ensures none { (mnemonic : Mnemonic) (operands : List Form) →
         (instruction_of mnemonic operands ≡ None) ↔ ((instr : Instr) → Spells mnemonic operands instr → ⊥) }
+    // Each expression fills a field.
+    ensures fields { (mnemonic : Mnemonic) (operands : List Form) (instr : Instr) →
+        instruction_of mnemonic operands ≡ Some instr → HasFields instr operands }
     // No instruction has three operands.
     ensures few { (mnemonic : Mnemonic) (a b c : Form) (more : List Form) →
         instruction_of mnemonic (a ∷ b ∷ c ∷ more) ≡ None }
@@ -32,6 +36,16 @@ pub fn one_instruction()
         length (canonical first) ≡ length (canonical second) }
 {}
 
+/// What the expressions of an instruction fill: a displacement and one other number, if it has them; where `(IX)` stands for
+/// `(IX+0)`, the other number alone.
+pub fn fields()
+    ensures row { (instr : Instr) → (fields instr ≡ displacement_fields instr ++ number_fields instr)
+        ⊎ (fields instr ≡ number_fields instr ++ displacement_fields instr) }
+    ensures number { (instr : Instr) → number_field instr ≢ Some Field.Displacement }
+    ensures spelled { (mnemonic : Mnemonic) (operands : List Form) (instr : Instr) → Spells mnemonic operands instr →
+        (fields_of instr operands ≡ fields instr) ⊎ (fields_of instr operands ≡ number_fields instr) }
+{}
+
 /// A number put in leaves the text but for that number, what each operand's expression fills, and the count of bytes; an allowed one
 /// is of its type.
 pub fn kept()
@@ -43,6 +57,10 @@ pub fn kept()
     ensures range { (field : Field) (value : ℕ) (instr : Instr) → allows field value ≡ true →
         in_range instr ≡ true → in_range (with_number field value instr) ≡ true }
     ensures zeros { (instr : Instr) → (row (blank instr) ≡ row instr) × (in_range (blank instr) ≡ true) }
+    // What a text spells is spelled by it also with numbers in its operands' fields.
+    ensures spells { (mnemonic : Mnemonic) (operands : List Form) (instr : Instr) (numbers : List (Field × ℕ)) →
+        Spells mnemonic operands instr → All (λ n. Contains (fields_of instr operands) n.0) numbers →
+        Spells mnemonic operands (with_numbers numbers instr) }
 {}
 
 /// Where a number stands: a byte, a word and a distance last in the bytes, a displacement third.

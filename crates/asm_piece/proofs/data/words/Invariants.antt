@@ -1,4 +1,4 @@
-use Rattle.std.proofs.Common.{map, drop}
+use Rattle.std.proofs.Common.{drop}
 use Rattle.asm_piece.specs.Made.{word_cells}
 use Rattle.asm_piece.proofs.Each.{Reads}
 use Rattle.asm_piece.proofs.data.words.Given as goal

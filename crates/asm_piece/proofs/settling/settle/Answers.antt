@@ -1,4 +1,4 @@
-use Rattle.std.proofs.Common.{length, arith, subst}
+use Rattle.std.proofs.Common.{arith, subst}
 use Rattle.std.proofs.lemmas.List.{length-map}
 use Rattle.std.proofs.Math.ListN.{get_or-map}
 use Rattle.asm_spell.specs.Line.{value_of}

@@ -1,5 +1,5 @@
 use Rattle.asm_scan.specs.Tokens.{lexemes}
-use Rattle.asm_spell.proofs.Refusals.{of_tokens, spelled_refusals}
+use Rattle.asm_spell.proofs.Walk.{of_tokens, spelled_refusals}
 use Rattle.asm_spell.proofs.spelling.statement.Goals as goal
 
 pub returns-clause-faults : goal.returns-clause-faults

@@ -1,0 +1,44 @@
+-- Definitions and lines taken up one after the other.
+use Rattle.std.specs.Prelude.{◌≡◌, ◌<◌, ◌≤◌, ◌+◌, true, false, ℕ, List, [], ◌∷◌, ◌++◌, Option, Some, None, Result, Ok, Err, if◌then◌else◌, count_by, length, map}
+use Rattle.asm_spell.specs.Line.{Line}
+use Rattle.asm_names.specs.declared.fault.NameFault.{NameFault}
+use Rattle.asm_names.specs.declared.naming.Naming.{Naming}
+use Rattle.asm_names.specs.declared.naming.TheConstants.{MOST_STATEMENTS}
+use Rattle.asm_names.specs.declared.kind.Kind.{Kind}
+use Rattle.asm_names.specs.Lines.{Taken, has_statement}
+use Rattle.asm_names.specs.Names.{Names, clashes, kind_of, names, repeats, with_name, with_names}
+use Rattle.asm_names.specs.Faults.{line_fault}
+
+-- What is left where definitions are taken up, or refused; nothing is said where memory is out.
+abbrev pub TakesUp : Names → Names → Result (Unit {0}) NameFault → Names → Type 0
+TakesUp old more (Ok done) new = (repeats old more ≡ false) × (new ≡ with_names old more)
+TakesUp old more (Err NameFault.Duplicate) new = repeats old more ≡ true
+TakesUp old more (Err NameFault.NoMemory) new = Unit {0}
+TakesUp old more (Err why) new = ⊥
+
+-- the names of an EXTRN
+abbrev pub externals : List (List ℕ) → Names
+externals names = map (λ name. (name, Kind.External)) names
+
+-- What some names come to, others come to with more.
+pub record Goes_on (old all new rest : Names) : Type 0 where
+  pub names : with_names new rest ≡ with_names old all
+  pub repeated : repeats new rest ≡ repeats old all
+
+-- .. where a line's statement is counted
+abbrev pub Counts : Naming → Line → Result (Unit {0}) NameFault → Naming → Type 0
+Counts old l (Ok done) new = (has_statement l ≡ true → old.statements < MOST_STATEMENTS) × (new ≡ record old { statements = if has_statement l then old.statements + 1 else old.statements })
+Counts old l (Err NameFault.TooManyStatements) new = (has_statement l ≡ true) × (MOST_STATEMENTS ≤ old.statements)
+Counts old l (Err why) new = ⊥
+
+-- The names and the count are those of the lines before.
+pub record IsBehind (before : List Taken) (at : ℕ) (naming : Naming) : Type 0 where
+  pub count : at ≡ length before
+  pub table : naming.table ≡ names before
+  pub statements : naming.statements ≡ count_by (λ l. has_statement l.line) before
+
+-- What is left where a line is taken.
+abbrev pub Goes : List Taken → Taken → Result (Unit {0}) NameFault → Naming → Type 0
+Goes before l (Ok done) new = (line_fault before l ≡ None) × IsBehind (before ++ l ∷ []) (length before + 1) new
+Goes before l (Err NameFault.NoMemory) new = Unit {0}
+Goes before l (Err why) new = line_fault before l ≡ Some why

@@ -1,0 +1,96 @@
+//! The names of all lines.
+
+ghost use Rattle.std.specs.Prelude.{◌≡◌, List};
+ghost use Rattle.asm_spell.specs.Line.{body_of, line_of};
+ghost use Rattle.asm_names.specs.Faults.{IsNamed};
+ghost use Rattle.asm_names.specs.Lines.{Taken, has_statement, is_statement, lines_of, taken_of};
+ghost use Rattle.asm_names.specs.Private.Steps.{Counts, Goes, IsBehind};
+
+use crate::fault::NameFault;
+use crate::kind::SourceLine;
+use crate::table::NameTable;
+use asm_spell::{Body, Line};
+use std::alloc::Global;
+
+/// The most statements that a module may have.
+pub const MOST_STATEMENTS: usize = 20_000;
+
+/// The most labels, externals and names of EQU that a module may have.
+pub const MOST_NAMES: usize = 40_000;
+
+/// Whether a word takes a place in the program, as far as its own line tells: `DS 0` too.
+fn is_statement(body: &Body) -> bool
+    ensures { result ≡ is_statement (body_of body.now) }
+{
+    !matches!(
+        body,
+        Body::Public(_) | Body::External(_) | Body::Origin(_) | Body::End(_) | Body::Z80
+    )
+}
+
+/// Whether a line has such a word.
+fn has_statement(line: &Line) -> bool
+    ensures { result ≡ has_statement (line_of line.now) }
+{
+    match line {
+        Line::Statement {
+            body: Some(body),
+            ..
+        } => is_statement(body),
+        _ => false,
+    }
+}
+
+/// The names of the lines so far, and how many statements these have.
+#[derive(Drop)]
+pub(crate) struct Naming {
+    table: NameTable,
+    statements: usize,
+}
+
+impl Naming {
+    /// Counts the statement of a line, if it has one.
+    fn count(&mut self, line: &Line) -> Result<(), NameFault>
+        ensures { Counts self.old (line_of line.now) result self.new }
+    {
+        if has_statement(line) {
+            if self.statements >= MOST_STATEMENTS {
+                return Err(NameFault::TooManyStatements);
+            }
+            self.statements += 1;
+        }
+        Ok(())
+    }
+
+    /// Takes the line behind so many lines.
+    fn take(&mut self, at: usize, line: &SourceLine) -> Result<(), NameFault>
+        ensures { (before : List Taken) → IsBehind before at self.old → Goes before (taken_of line.now) result self.new }
+    {
+        self.table.define(at, &line.line)?;
+        self.count(&line.line)?;
+        if self.table.len() > MOST_NAMES {
+            return Err(NameFault::TooManyNames);
+        }
+        Ok(())
+    }
+}
+
+/// The names of a source's lines.
+///
+/// # Errors
+///
+/// The number of the first line that is faulty by the lines before it, and its first fault.
+pub fn names_of(alloc: Global, lines: &[SourceLine]) -> Result<NameTable, (u32, NameFault)>
+    ensures { IsNamed (lines_of lines.now) result }
+{
+    let mut naming = Naming {
+        table: NameTable::new(alloc),
+        statements: 0,
+    };
+    for (at, line) in lines.iter().enumerate() {
+        if let Err(why) = naming.take(at, line) {
+            return Err((line.number, why));
+        }
+    }
+    Ok(naming.table)
+}

@@ -1,0 +1,116 @@
+//! The names of a source, looked up.
+
+ghost use Rattle.std.specs.Prelude.{◌≡◌, List, [], ◌∷◌, ◌++◌, ℕ, Option, None, OnOk, length, map, option_copied, Vec};
+ghost use Rattle.std.specs.Option.{option_map};
+ghost use Rattle.asm_spell.specs.Line.{body_of, line_of, names_of};
+ghost use Rattle.asm_names.specs.declared.kind.Kind.{Kind};
+ghost use Rattle.asm_names.specs.Names.{Names, declared, defines, kind_of, labelled};
+ghost use Rattle.asm_names.specs.Private.Steps.{TakesUp, externals};
+
+use crate::fault::NameFault;
+use crate::kind::Kind;
+use asm_spell::{Body, Line};
+use indexmap::IndexMap;
+use std::alloc::{AllocError, Global};
+use std::marker::Model;
+
+/// The names of a source with what they are, in the order in which they are first defined.
+#[derive(Debug, Drop)]
+pub struct NameTable {
+    alloc: Global,
+    kinds: IndexMap<Vec<u8>, Kind>,
+}
+
+impl Model for NameTable {
+    ghost use Rattle.asm_expr.specs.Private.Entries.{named};
+    ghost use Rattle.asm_names.specs.Names.{Names};
+
+    ghost Value = { Names };
+
+    ghost view = { λ t. named t.kinds.entries };
+}
+
+impl NameTable {
+    /// No names.
+    pub(crate) fn new(alloc: Global) -> NameTable
+        ensures { result ≡ [] }
+    {
+        NameTable {
+            alloc,
+            kinds: IndexMap::new(alloc),
+        }
+    }
+
+    /// How many names there are.
+    pub fn len(&self) -> usize
+        ensures { result ≡ length self.now }
+    {
+        self.kinds.len()
+    }
+
+    /// What a name in upper case is, if it is defined.
+    pub fn kind(&self, name: &[u8]) -> Option<Kind>
+        ensures { result ≡ kind_of self.now name.now }
+    {
+        self.kinds.get(name).copied()
+    }
+
+    /// Adds a name that is not there.
+    fn insert(&mut self, name: &[u8], kind: Kind) -> Result<(), AllocError>
+        requires { kind_of self.old name.now ≡ None }
+        ensures { OnOk result (self.new ≡ self.old ++ (name.now, kind) ∷ []) }
+    {
+        self.kinds.insert(name.to_vec(self.alloc)?, kind)?;
+        Ok(())
+    }
+
+    /// Adds a name with what it is, but for an external that is there.
+    fn add(&mut self, name: &[u8], kind: Kind) -> Result<(), NameFault>
+        ensures { TakesUp self.old ((name.now, kind) ∷ []) result self.new }
+    {
+        match self.kind(name) {
+            None => {
+                self.insert(name, kind)?;
+                Ok(())
+            }
+            Some(Kind::External) if kind == Kind::External => Ok(()),
+            Some(_) => Err(NameFault::Duplicate),
+        }
+    }
+
+    /// Adds the names of an EXTRN.
+    fn declare(&mut self, names: &[Vec<u8>]) -> Result<(), NameFault>
+        ensures { TakesUp self.old (externals (names_of names.now)) result self.new }
+    {
+        for name in names {
+            self.add(name, Kind::External)?;
+        }
+        Ok(())
+    }
+
+    /// Adds the label of a line, behind so many lines.
+    fn label(&mut self, at: usize, label: Option<&Vec<u8>>) -> Result<(), NameFault>
+        ensures { TakesUp self.old (labelled at (option_map (λ name. name.items) (option_copied label.entry))) result self.new }
+    {
+        match label {
+            Some(name) => self.add(name, Kind::Label(at)),
+            None => Ok(()),
+        }
+    }
+
+    /// Adds the names that a line defines, behind so many lines.
+    pub(crate) fn define(&mut self, at: usize, line: &Line) -> Result<(), NameFault>
+        ensures { TakesUp self.old (defines at (line_of line.now)) result self.new }
+    {
+        match line {
+            Line::Equ { name, .. } => self.add(name, Kind::Equ(at)),
+            Line::Statement { label, body } => {
+                self.label(at, label.as_ref())?;
+                match body {
+                    Some(Body::External(names)) => self.declare(names),
+                    _ => Ok(()),
+                }
+            }
+        }
+    }
+}

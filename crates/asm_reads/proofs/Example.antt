@@ -1,0 +1,28 @@
+-- What the law asks can be met: `LD A,LOW $` of an empty module, whose one place is 1234H.
+use Rattle.std.proofs.Common.{◌≡◌, [], ◌∷◌, Ok, refl}
+use Rattle.asm_parse.specs.declared.item.Item.{Item}
+use Rattle.asm_parse.specs.declared.operator.Unary.{Unary}
+use Rattle.asm_parse.specs.Source.{Here}
+use Rattle.asm_expr.specs.declared.atom.Atom.{Atom}
+use Rattle.asm_expr.specs.Names.{empty}
+use Rattle.z80_instr.specs.declared.Instr.{Instr}
+use Rattle.z80_instr.specs.declared.Operand.{Operand}
+use Rattle.z80_instr.specs.declared.Register.{Register}
+use Rattle.z80_form.specs.declared.field.Field.{Field}
+use Rattle.asm_spell.specs.Line as line
+use Rattle.asm_piece.specs.declared.piece.Hole.{Hole}
+use Rattle.asm_piece.specs.declared.piece.Width.{Width}
+use Rattle.asm_piece.specs.Made as made
+use Rattle.asm_reads.specs.Linked.{filled}
+
+abbrev spelled : line.Body
+spelled = line.Code (Instr.LoadByte (Operand.Register Register.A) 0) ((Field.Byte, Item.Leaf Here ∷ Item.Unary Unary.Low ∷ []) ∷ [])
+
+abbrev hole : Hole
+hole = record { offset = 1; width = Width.Byte; value = Item.Leaf (Atom.Ref 0) ∷ Item.Unary Unary.Low ∷ [] }
+
+pub makes : made.made empty spelled ≡ Ok (made.Some_piece (made.Bytes (0x3E ∷ 0 ∷ []) (hole ∷ [])))
+makes = refl
+
+pub is_filled : filled (λ r. 0x1234) (0x3E ∷ 0 ∷ []) (hole ∷ []) ≡ 0x3E ∷ 0x34 ∷ []
+is_filled = refl

@@ -1,0 +1,4 @@
+pub mod Statement
+pub mod Pieces
+pub mod Linked
+pub mod Spelled

@@ -1,0 +1,36 @@
+-- What a linker makes of a piece: holes are filled, jumps are coded.
+use Rattle.std.specs.Prelude.{◌≡◌, ℕ, ◌+◌, Bool, List, [], ◌∷◌, ◌++◌, length, take, drop}
+use Rattle.asm_expr.specs.declared.statement.Statement as sized
+use Rattle.asm_expr.specs.Items.{value}
+use Rattle.asm_expr.specs.Postfix.{tree}
+use Rattle.asm_piece.specs.declared.piece.Hole.{Hole}
+use Rattle.asm_piece.specs.Cells.{written}
+use Rattle.asm_piece.specs.Made as made
+use Rattle.asm_piece.specs.Made.{Piece}
+use Rattle.asm_reads.specs.Statement as statement
+use Rattle.asm_reads.specs.Pieces.{IsPiece}
+
+-- bytes with one hole filled
+abbrev pub fill_one : (ℕ → ℕ) → List ℕ → Hole → List ℕ
+fill_one places bytes h =
+    let new = written h.width (value places (tree h.value)) in
+    take h.offset bytes ++ (new ++ drop (h.offset + length new) bytes)
+
+-- bytes with all holes filled by the values of their expressions
+abbrev pub filled : (ℕ → ℕ) → List ℕ → List Hole → List ℕ
+filled places bytes [] = bytes
+filled places bytes (h ∷ hs) = filled places (fill_one places bytes h) hs
+
+-- The bytes are what is made of a piece at a place, long or short, where each ref has its place.
+abbrev pub IsLinked : ℕ → Bool → (ℕ → ℕ) → Piece → List ℕ → Type 0
+IsLinked at long places (made.Bytes blank holes) bytes = bytes ≡ filled places blank holes
+IsLinked at long places (made.Space n fill) bytes = IsPiece at long places (statement.Space n fill) bytes
+IsLinked at long places (made.Jump condition target) bytes = IsPiece at long places (statement.Jump condition target) bytes
+IsLinked at long places (made.Short branch target) bytes = IsPiece at long places (statement.Short branch target) bytes
+
+-- a piece as far as its size matters
+abbrev pub piece_sized : Piece → sized.Statement
+piece_sized (made.Bytes blank holes) = sized.TheVariants.Sized (length blank)
+piece_sized (made.Space n fill) = sized.TheVariants.Sized n
+piece_sized (made.Jump condition target) = sized.TheVariants.Relaxable
+piece_sized (made.Short branch target) = sized.TheVariants.Sized 2

@@ -1,0 +1,62 @@
+-- When bytes are a statement's, at places.
+use Rattle.std.specs.Prelude.{◌≡◌, ℕ, ◌+◌, ◌/◌, ◌%◌, Bool, List, [], ◌∷◌, Some, None, if◌then◌else◌, length, map, replicate, ℤ, pos, ◌+ℤ◌}
+use Rattle.std.specs.Bool.{MatchBool}
+use Rattle.std.specs.List.{flat_map, sum_by}
+use Rattle.asm_parse.specs.Expression.{Expression}
+use Rattle.asm_expr.specs.declared.atom.Atom.{Atom}
+use Rattle.asm_expr.specs.declared.statement.Statement as sized
+use Rattle.asm_expr.specs.Items.{value}
+use Rattle.z80_instr.specs.declared.Instr.{Instr}
+use Rattle.z80_instr.specs.Table.{canonical}
+use Rattle.z80_instr.specs.Codes.{Codes}
+use Rattle.z80_form.specs.declared.field.Field.{Field}
+use Rattle.z80_form.specs.Numbers.{with_numbers}
+use Rattle.asm_spell.specs.declared.line.Branch.{Branch}
+use Rattle.asm_piece.specs.Made.{long_jump}
+use Rattle.asm_reads.specs.Statement as statement
+use Rattle.asm_reads.specs.Statement.{Datum, Statement}
+
+-- JR or DJNZ by a displacement
+abbrev pub short_jump : Branch → ℤ → Instr
+short_jump (Branch.Relative None) e = Instr.JumpRelative e
+short_jump (Branch.Relative (Some condition)) e = Instr.JumpRelativeIf condition e
+short_jump Branch.CountDown e = Instr.Djnz e
+
+-- a short jump at one place whose displacement, counted from its end, leads to another
+abbrev pub LeadsTo : ℕ → ℕ → Branch → List ℕ → Type 0
+LeadsTo from to branch bytes = (e : ℤ) × (pos (from + 2) +ℤ e ≡ pos to) × Codes (short_jump branch e) bytes
+
+-- an item's bytes: a word has its low byte first
+abbrev pub datum_bytes : (ℕ → ℕ) → Datum → List ℕ
+datum_bytes places (statement.Byte e) = value places e % 256 ∷ []
+datum_bytes places (statement.Word e) = value places e % 256 ∷ value places e / 256 ∷ []
+
+-- what the expressions of numbers are worth
+abbrev pub valued : (ℕ → ℕ) → List (Field × Expression Atom) → List (Field × ℕ)
+valued places numbers = map (λ n. (n.0, value places n.1)) numbers
+
+-- The bytes are a statement's: at a place, long or short, where each ref has its place.
+abbrev pub IsPiece : ℕ → Bool → (ℕ → ℕ) → Statement → List ℕ → Type 0
+IsPiece at long places (statement.Code instr numbers) bytes = Codes (with_numbers (valued places numbers) instr) bytes
+IsPiece at long places (statement.Data items) bytes = bytes ≡ flat_map (datum_bytes places) items
+IsPiece at long places (statement.Space n fill) bytes = bytes ≡ replicate n fill
+IsPiece at long places (statement.Jump condition target) bytes = MatchBool long (Codes (long_jump condition (places target)) bytes) (LeadsTo at (places target) (Branch.Relative condition) bytes)
+IsPiece at long places (statement.Short branch target) bytes = LeadsTo at (places target) branch bytes
+
+-- A statement as far as its size matters.
+abbrev pub width : Datum → ℕ
+width (statement.Byte e) = 1
+width (statement.Word e) = 2
+
+abbrev pub sized_as : Statement → sized.Statement
+sized_as (statement.Code instr numbers) = sized.TheVariants.Sized (length (canonical instr))
+sized_as (statement.Data items) = sized.TheVariants.Sized (sum_by width items)
+sized_as (statement.Space n fill) = sized.TheVariants.Sized n
+sized_as (statement.Jump condition target) = sized.TheVariants.Relaxable
+sized_as (statement.Short branch target) = sized.TheVariants.Sized 2
+
+-- how many bytes a statement takes, long or short
+abbrev pub takes : Bool → sized.Statement → ℕ
+takes long (sized.TheVariants.Sized n) = n
+takes long sized.TheVariants.Relaxable = if long then 3 else 2
+takes long sized.TheVariants.Unsized = 0

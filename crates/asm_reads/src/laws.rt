@@ -1,0 +1,26 @@
+//! Laws of pieces, as functions that do nothing: their calls bring the clauses.
+
+ghost use Rattle.std.specs.Prelude.{◌≡◌, ◌<◌, ℕ, All, Bool, List, Some, None, Ok, length};
+ghost use Rattle.asm_expr.specs.Distances.{Step};
+ghost use Rattle.asm_expr.specs.Names.{Table};
+ghost use Rattle.asm_spell.specs.Line.{Body};
+ghost use Rattle.asm_piece.specs.Made.{Nothing, Piece, Some_piece, made};
+ghost use Rattle.asm_reads.specs.Linked.{IsLinked, piece_sized};
+ghost use Rattle.asm_reads.specs.Pieces.{IsPiece, sized_as, takes};
+ghost use Rattle.asm_reads.specs.Spelled.{IsSpelled};
+ghost use Rattle.asm_reads.specs.Statement.{Statement, stated};
+
+/// What names make of a spelled line is what it states: at all places that step by the known sizes, the bytes that are made of its piece
+/// are those of its statement, and as many as that takes.
+pub fn at_places()
+    ensures piece { (t : Table) (b : Body) (p : Piece) → IsSpelled b → made t b ≡ Ok (Some_piece p) →
+        (s : Statement) × (stated t b ≡ Some s) × (piece_sized p ≡ sized_as s) ×
+        ((places : ℕ → ℕ) → Step t.statements places → (at : ℕ) (long : Bool) (bytes : List ℕ) → All (λ b. b < 256) bytes →
+        IsLinked at long places p bytes → IsPiece at long places s bytes × (length bytes ≡ takes long (sized_as s))) }
+    ensures nothing { (t : Table) (b : Body) → made t b ≡ Ok Nothing → stated t b ≡ None }
+{
+    asm_spell::laws::numbered();
+    z80_form::laws::fields();
+    z80_form::laws::kept();
+    z80_form::laws::places();
+}
