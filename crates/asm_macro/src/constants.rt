@@ -14,7 +14,7 @@ ghost use Rattle.std.specs.Str.{bytes_eq};
 ghost use Rattle.asm_macro.specs.Private.Constants.{constants_in, table_of};
 
 use crate::fault::MacroFault;
-use asm_expr::{Meaning, Names, Settled, constant, is_constant, parse, settle};
+use asm_expr::{Meaning, Names, Settled, constant, is_constant, is_defined, parse, settle};
 use asm_scan::Token;
 use std::alloc::{AllocError, Global};
 use std::marker::Model;
@@ -56,6 +56,9 @@ fn value_of(alloc: Global, names: &Names, tokens: &[Token<'_>]) -> Result<u16, M
 {
     let tree = parse(alloc, tokens)?;
     if !is_constant(&tree, names) {
+        return Err(MacroFault::ConditionNamesLabel);
+    }
+    if !is_defined(&tree, names) {
         return Err(MacroFault::ConditionNamesLabel);
     }
     let settled = settle(alloc, &tree, names)?;
