@@ -1,5 +1,5 @@
-//! Tests of the crates below the expander by their public calls: what a line says first, whole names replaced and the
-//! arguments of a call, and which line closes which. Each of these calls may answer that memory is out, so a body that always
+//! Tests of the expander and of the crates below it by their public calls: what a line says first, whole names replaced and
+//! the arguments of a call, which line closes which, and whole expansions. Each of these calls may answer that memory is out, so a body that always
 //! does meets its contract: with ample memory, these tests refuse it.
 #![tactic(auto)]
 
@@ -9,3 +9,5 @@ mod blocks;
 mod calls;
 #[cfg(test)]
 mod lines;
+#[cfg(test)]
+mod whole;

@@ -1,0 +1,47 @@
+-- The body of a call is begun.
+use Rattle.std.proofs.Common.{◌≡◌, ◌+◌, ◌-◌, ◌∙◌, sym, ap, refl, ℕ, List, [], ◌∷◌, ◌++◌, Option, Some, None, map, reverse, length, arith, take, drop}
+use Rattle.asm_scan.specs.Tokens.{Lexeme}
+use Rattle.asm_replace.specs.Replaced.{Table, replaced}
+use Rattle.asm_macro.specs.declared.expansion.Expansion.{Expansion}
+use Rattle.asm_macro.specs.declared.frame.Span.{Span}
+use Rattle.asm_macro.specs.declared.frame.Following.{Following}
+use Rattle.asm_macro.specs.Texts.{heard}
+use Rattle.asm_macro.specs.Calls.{body_lines, replaced_by, replaced_line}
+use Rattle.asm_macro.specs.Parts as parts
+use Rattle.asm_macro.specs.Ahead.{Around, Rest}
+use Rattle.asm_macro.specs.Private.Entering.{Entered}
+use Rattle.asm_macro.specs.Private.Frames.{around_seen, innermost, lines_from, text_of, turns_in}
+use Rattle.asm_macro.specs.Private.Moves.{IsSound, rest_of, state_of, tables_in, texts_in}
+use Rattle.asm_macro.specs.Private.Openings.{SaySame, body_texts}
+use Rattle.asm_macro.proofs.Stacks.{pushed}
+
+abbrev pub Replaces : Type 0
+Replaces = (t u : Table) → SaySame t u → (line : List ℕ) (tokens : List Lexeme) → replaced t line tokens ≡ replaced u line tokens
+
+by_tokens : Replaces → (t u : Table) → SaySame t u → (line : List ℕ) (tokens : Option (List Lexeme)) → replaced_by t line tokens ≡ replaced_by u line tokens
+by_tokens law t u same line (Some tokens) = law t u same line tokens
+by_tokens law t u same line None = refl
+
+lines_are : Replaces → (t u : Table) → SaySame t u → (number at : ℕ) (texts : List (List ℕ)) → lines_from (Some number) at (Some t) texts ≡ body_lines number u texts
+lines_are law t u same number at [] = refl
+lines_are law t u same number at (x ∷ xs) =
+    ap (λ y. record { number = number; text = y } ∷ lines_from (Some number) (at + 1) (Some t) xs) (by_tokens law t u same x (heard x))
+    ∙ ap (λ ls. record { number = number; text = replaced_line u x } ∷ ls) (lines_are law t u same number (at + 1) xs)
+
+pub entered : Replaces → (x : Expansion) (tables : List Table) (around : List Following) (t u : Table) (number counter : ℕ) (body : Span) → IsSound x → SaySame t u
+    → tables ≡ t ∷ tables_in x → around ≡ Following.Rest x.text ∷ reverse x.around.items
+    → Entered (rest_of x) number u (body_texts (texts_in x) body) counter (record {
+      depth = length tables + x.turns;
+      state = record (state_of x) { counter = counter };
+      text = text_of (texts_in x) (innermost tables) (record body { number = Some number });
+      around = around_seen (texts_in x) tables around;
+    })
+entered law x tables around t u number counter body sound same is out =
+    let depth : length (t ∷ tables_in x) + x.turns ≡ (length (tables_in x) + x.turns) + 1 = omega arith in
+    let lines = lines_are law t u same number body.at (body_texts (texts_in x) body) in
+    let next = parts.Rest (text_of (texts_in x) (innermost (tables_in x)) x.text) in
+    ap (λ ts. record { depth = length ts + x.turns; state = record (state_of x) { counter = counter }; text = text_of (texts_in x) (innermost ts) (record body { number = Some number }); around = around_seen (texts_in x) ts around }) is
+    ∙ ap (λ fs. record { depth = length (t ∷ tables_in x) + x.turns; state = record (state_of x) { counter = counter }; text = text_of (texts_in x) (Some t) (record body { number = Some number }); around = around_seen (texts_in x) (t ∷ tables_in x) fs }) out
+    ∙ ap (λ d. record { depth = d; state = record (state_of x) { counter = counter }; text = text_of (texts_in x) (Some t) (record body { number = Some number }); around = record { depth = length (tables_in x) + turns_in (reverse x.around.items); next = next } ∷ (rest_of x).around }) depth
+    ∙ ap (λ ls. record { depth = (rest_of x).depth + 1; state = record (state_of x) { counter = counter }; text = ls; around = record { depth = length (tables_in x) + turns_in (reverse x.around.items); next = next } ∷ (rest_of x).around }) lines
+    ∙ ap (λ n. record { depth = (rest_of x).depth + 1; state = record (state_of x) { counter = counter }; text = body_lines number u (body_texts (texts_in x) body); around = record { depth = length (tables_in x) + n; next = next } ∷ (rest_of x).around }) (sym sound.turns)

@@ -1,0 +1,73 @@
+-- A line that is met comes to what its head says, where it is read and counted.
+use Rattle.std.proofs.Common.{◌≡◌, ◌<◌, ◌∙◌, ◌||◌, ◌&&◌, if◌then◌else◌, sym, ap, refl, ℕ, Bool, true, false, not, nat_le, nat_lt, is_some, List, [], ◌∷◌, Option, Some, None, Result, Ok, Err, arith}
+use Rattle.std.proofs.lemmas.Bool.{lt-leb}
+use Rattle.asm_scan.specs.Tokens.{Lexeme}
+use Rattle.asm_scan.specs.Scanned.{scanned}
+use Rattle.asm_words.specs.Words.{upper, is_reserved}
+use Rattle.asm_line.specs.declared.forms.BlockWord.{BlockWord}
+use Rattle.asm_line.specs.Forms.{Form, Head, form}
+use Rattle.asm_line.specs.Forms as line
+use Rattle.asm_macro.specs.declared.fault.MacroFault.{MacroFault}
+use Rattle.asm_macro.specs.Texts.{Numbered, form_by, form_of, tokens_in}
+use Rattle.asm_macro.specs.State.{State, counted, macro_named, table}
+use Rattle.asm_macro.specs.Blocks.{Body, Branches, body_of, branches_of}
+use Rattle.asm_macro.specs.Judged.{first, is_counted, is_stray, line_fault, parameters, redefined, stray, too_many, unclosed, unless_some, unread}
+use Rattle.asm_macro.specs.Parts.{Part, conditional, definition, fails, headed, judged, part, read, repeated}
+use Rattle.asm_macro.specs.Values.{worth}
+use Rattle.asm_macro.specs.Private.Heads.{by_head, unless_redefined, unless_stray}
+
+has_parameters : (some : Bool) (ps : Option (List (List ℕ))) → (some || not (is_some ps)) ≡ false → is_some ps ≡ true
+has_parameters true ps e = absurd (cc)
+has_parameters false None e = absurd (cc)
+has_parameters false (Some p) e = refl
+
+by_macro : (depth : ℕ) (e : State) (l : Numbered) (rest : List Numbered) (name : List ℕ) (s r : Bool) (b : Option Body) (ps : Option (List (List ℕ))) → (s ≡ false → is_some ps ≡ true)
+    → read depth e l rest (scanned l.text) ≡ definition (counted e) l name ps b
+    → judged depth e l rest (first ((if s then Some MacroFault.Stray else None) ∷ (if r then Some MacroFault.Redefined else None) ∷ unless_some (is_some b) ∷ []))
+    ≡ unless_stray s l (unless_redefined r l (definition (counted e) l name ps b))
+by_macro depth e l rest name true r b ps h is = refl
+by_macro depth e l rest name false true b ps h is = refl
+by_macro depth e l rest name false false (Some b) ps h is = is
+by_macro depth e l rest name false false None (Some ps) h is = refl
+by_macro depth e l rest name false false None None h is = let no : false ≡ true = h refl in absurd (cc)
+
+-- a block, whose word has a label or none
+by_block : {B : Type 0} (depth : ℕ) (e : State) (l : Numbered) (rest : List Numbered) (s : Bool) (b : Option B) (f : Option B → Part) → f None ≡ fails l MacroFault.Unclosed
+    → read depth e l rest (scanned l.text) ≡ f b
+    → judged depth e l rest (first ((if s then Some MacroFault.Stray else None) ∷ None ∷ unless_some (is_some b) ∷ [])) ≡ unless_stray s l (f b)
+by_block depth e l rest true b f u is = refl
+by_block depth e l rest false None f u is = sym u
+by_block depth e l rest false (Some b) f u is = is
+
+by_each : (h : Head) (f : Form) (depth : ℕ) (e : State) (l : Numbered) (tokens : List Lexeme) (rest : List Numbered) → read depth e l rest (scanned l.text) ≡ headed h depth (counted e) l f tokens rest
+    → judged depth e l rest (first ((if is_stray depth f h then Some MacroFault.Stray else None) ∷ redefined e h ∷ unclosed h rest ∷ [])) ≡ by_head h depth (counted e) l f tokens rest
+by_each (line.Equ name) f depth e l tokens rest is = is
+by_each (line.Macro name) f depth e l tokens rest is =
+    by_macro depth e l rest name (is_stray depth f (line.Macro name)) (is_some (macro_named e (upper name))) (body_of rest) (parameters f.rest)
+    (λ h. has_parameters ((is_some f.label || nat_lt 0 depth) || is_reserved (upper name)) (parameters f.rest) h) is
+by_each (line.Block BlockWord.Macro) f depth e l tokens rest is = refl
+by_each (line.Block BlockWord.Local) f depth e l tokens rest is = refl
+by_each (line.Block BlockWord.Else) f depth e l tokens rest is = refl
+by_each (line.Block BlockWord.EndIf) f depth e l tokens rest is = refl
+by_each (line.Block BlockWord.EndM) f depth e l tokens rest is = refl
+by_each (line.Block BlockWord.Rept) f depth e l tokens rest is = by_block depth e l rest (is_some f.label) (body_of rest) (λ b. repeated depth (counted e) l b (worth (table (counted e)) f.rest)) refl is
+by_each (line.Block BlockWord.If) f depth e l tokens rest is = by_block depth e l rest (is_some f.label) (branches_of rest) (λ b. conditional depth (counted e) l b (worth (table (counted e)) f.rest)) refl is
+by_each (line.Word name) f depth e l tokens rest is = is
+by_each line.Nothing f depth e l tokens rest is = is
+
+none_of : (c m : Bool) → m ≡ false → (if c && m then Some MacroFault.TooManyLines else None) ≡ None
+none_of true m e = rw e refl
+none_of false m e = refl
+
+few : (e : State) (h : Head) → e.count < 60000 → too_many e h ≡ None
+few e h k = let less : nat_le 60000 e.count ≡ false = lt-leb 60000 e.count k in none_of (is_counted h) (nat_le 60000 e.count) less
+
+pub part_is : (depth : ℕ) (e : State) (l : Numbered) (rest : List Numbered) (tokens : List Lexeme) → scanned l.text ≡ Ok tokens → e.count < 60000
+    → part depth e l rest ≡ by_head (form tokens).head depth (counted e) l (form tokens) tokens rest
+part_is depth e l rest tokens is k =
+    let f = form tokens in
+    let now : read depth e l rest (scanned l.text) ≡ headed f.head depth (counted e) l f tokens rest
+    = ap (λ s. read depth e l rest s) is ∙ ap (λ s. headed (form_by (tokens_in s)).head depth (counted e) l (form_by (tokens_in s)) tokens rest) is in
+    let scan : part depth e l rest ≡ judged depth e l rest (first (too_many e f.head ∷ None ∷ stray depth f ∷ redefined e f.head ∷ unclosed f.head rest ∷ []))
+    = ap (λ s. judged depth e l rest (first (too_many e (form_by (tokens_in s)).head ∷ unread s ∷ stray depth (form_by (tokens_in s)) ∷ redefined e (form_by (tokens_in s)).head ∷ unclosed (form_by (tokens_in s)).head rest ∷ []))) is in
+    scan ∙ ap (λ o. judged depth e l rest (first (o ∷ None ∷ stray depth f ∷ redefined e f.head ∷ unclosed f.head rest ∷ []))) (few e f.head k) ∙ by_each f.head f depth e l tokens rest now

@@ -1,0 +1,14 @@
+mod Unique
+mod Texts
+mod Stacks
+mod Turned
+mod Taken
+mod Heads
+mod Begun
+mod Worth
+mod Macros
+mod Openings
+mod Remaining
+mod Branches
+mod Entering
+mod Called

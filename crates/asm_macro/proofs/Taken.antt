@@ -1,0 +1,52 @@
+-- What lines that are taken up come to.
+use Rattle.std.proofs.Common.{◌≡◌, ◌⊎◌, inl, inr, ◌<◌, ◌≤◌, ◌+◌, ◌∙◌, sym, ap, refl, subst, ℕ, Bool, true, false, nat_le, List, [], ◌∷◌, Option, Some, None, Result, Ok, Err, arith}
+use Rattle.std.proofs.lemmas.Bool.{lt-leb}
+use Rattle.asm_macro.specs.declared.fault.MacroFault.{MacroFault}
+use Rattle.asm_macro.specs.declared.moves.Stop as moves
+use Rattle.asm_macro.specs.Texts.{Numbered}
+use Rattle.asm_macro.specs.State.{State}
+use Rattle.asm_macro.specs.Blocks.{Body, Branches}
+use Rattle.asm_macro.specs.Parts.{Part, chosen, conditional, fails, repeated, turns}
+use Rattle.asm_macro.specs.Ahead.{Around, Rest}
+use Rattle.asm_macro.specs.Private.Allows.{stopped}
+use Rattle.asm_macro.specs.Private.Moves.{Fails, Moved, Resumes, moved}
+
+stopped_fails : (n : ℕ) (why : MacroFault) (new : Rest) → Resumes (Err (stopped n why)) new (Fails [] n why)
+stopped_fails n MacroFault.Unclosed new = refl
+stopped_fails n MacroFault.Stray new = refl
+stopped_fails n MacroFault.TooDeep new = refl
+stopped_fails n MacroFault.TooManyLines new = refl
+stopped_fails n MacroFault.Redefined new = refl
+stopped_fails n MacroFault.ConditionNamesLabel new = refl
+stopped_fails n MacroFault.LineTooLong new = refl
+stopped_fails n (MacroFault.Scan why) new = refl
+stopped_fails n (MacroFault.Expr why) new = refl
+stopped_fails n MacroFault.NoMemory new = tt
+
+-- a value that is answered
+pub value_is : (w : Result ℕ MacroFault) (n : ℕ) → (◌≡◌ {A = Result ℕ MacroFault} (Ok n) w) ⊎ (◌≡◌ {A = Result ℕ MacroFault} (Ok n) (Err MacroFault.NoMemory)) → w ≡ Ok n
+value_is w n (inl e) = sym e
+value_is w n (inr e) = absurd (cc)
+
+-- a fault of a value that is answered, of what has that fault
+pub value_fails : (w : Result ℕ MacroFault) (n : ℕ) (why : MacroFault) (new : Rest) (move : Moved) → (◌≡◌ {A = Result ℕ MacroFault} (Err why) w) ⊎ (◌≡◌ {A = Result ℕ MacroFault} (Err why) (Err MacroFault.NoMemory))
+    → (w ≡ Err why → move ≡ Fails [] n why) → Resumes (Err (stopped n why)) new move
+value_fails w n why new move (inl e) f = subst (Resumes (Err (stopped n why)) new) (sym (f (sym e))) (stopped_fails n why new)
+value_fails w n why new move (inr e) f = let none : why ≡ MacroFault.NoMemory = cc in rw none tt
+
+pub conditional_ok : (depth : ℕ) (e : State) (l : Numbered) (found : Option Branches) (w : Result ℕ MacroFault) (b : Branches) (n : ℕ) → found ≡ Some b → w ≡ Ok n → conditional depth e l found w ≡ chosen n depth e b
+conditional_ok depth e l found w b n f v = rw (f, v) refl
+
+pub conditional_err : (depth : ℕ) (around : List Around) (e : State) (l : Numbered) (found : Option Branches) (w : Result ℕ MacroFault) (b : Branches) (why : MacroFault) → found ≡ Some b → w ≡ Err why
+    → moved depth around (conditional depth e l found w) ≡ Fails [] l.number why
+conditional_err depth around e l found w b why f v = rw (f, v) refl
+
+not_deep : (n : ℕ) → n < 16 → nat_le 16 n ≡ false
+not_deep n h = lt-leb 16 n h
+
+pub repeated_ok : (depth : ℕ) (e : State) (l : Numbered) (found : Option Body) (w : Result ℕ MacroFault) (b : Body) (n : ℕ) → found ≡ Some b → w ≡ Ok n → depth < 16 → repeated depth e l found w ≡ turns depth n l.number b e
+repeated_ok depth e l found w b n f v h = rw (f, v, not_deep depth h) refl
+
+pub repeated_err : (depth : ℕ) (around : List Around) (e : State) (l : Numbered) (found : Option Body) (w : Result ℕ MacroFault) (b : Body) (why : MacroFault) → found ≡ Some b → w ≡ Err why
+    → moved depth around (repeated depth e l found w) ≡ Fails [] l.number why
+repeated_err depth around e l found w b why f v = rw (f, v) refl

@@ -1,0 +1,16 @@
+use Rattle.std.proofs.Common.{◌≤◌, List}
+use Rattle.asm_macro.specs.Texts.{Numbered}
+use Rattle.asm_macro.specs.Expands.{End}
+use Rattle.asm_macro.specs.Ahead.{Remains, Within}
+use Rattle.asm_macro.specs.Private.Moves.{IsSound, most_moves, rest_of}
+use Rattle.asm_macro.proofs.Remaining.{remains_on}
+use Rattle.asm_macro.proofs.expansion.Expansion.go_on.Given as goal
+
+-- What is to come now was to come before.
+abbrev pub invariant-loop-given : goal.invariant-loop-given
+invariant-loop-given l =
+    IsSound l.self × (l.initial.self.count ≤ l.self.count)
+    × ((lines : List Numbered) (end : End) → Remains (Within (rest_of l.self)) lines end → Remains (Within (rest_of l.initial.self)) lines end)
+
+abbrev pub decreases-loop-given : goal.decreases-loop-given
+decreases-loop-given l = most_moves l.self

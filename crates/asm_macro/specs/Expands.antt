@@ -1,0 +1,50 @@
+-- The expansion of a text.
+use Rattle.std.specs.Prelude.{◌<◌, ◌≤◌, ℕ, List, [], ◌∷◌, ◌++◌, Result, Ok, Err, length}
+use Rattle.asm_macro.specs.declared.fault.MacroFault.{MacroFault}
+use Rattle.asm_macro.specs.Texts.{Numbered, numbered, source_lines}
+use Rattle.asm_macro.specs.State.{State, start}
+use Rattle.asm_macro.specs.Parts.{Next, Part, Stop, Last, Go, Within, part, resumed}
+
+-- How an expansion ends: it is whole, and leaves a state; an END was taken up; or it stops at a line with a fault.
+pub data End : Type 0 where
+  Whole : State → End
+  Ended : End
+  Stopped : ℕ → MacroFault → End
+
+mutual
+  -- A text, at a depth of calls and repetitions and from a state, comes to these lines and ends so.
+  pub data Expands : ℕ → State → List Numbered → List Numbered → End → Type 0 where
+    nothing : {depth : ℕ} {e : State} → Expands depth e [] [] (Whole e)
+    line : {depth : ℕ} {e : State} {l : Numbered} {rest lines : List Numbered} {end : End} → Comes depth (part depth e l rest) lines end → Expands depth e (l ∷ rest) lines end
+
+  -- So does a part, with all that follows it.
+  pub data Comes : ℕ → Part → List Numbered → End → Type 0 where
+    stop : {depth number : ℕ} {given : List Numbered} {why : MacroFault} → Comes depth (Stop given number why) given (Stopped number why)
+    last : {depth : ℕ} {l : Numbered} → Comes depth (Last l) (l ∷ []) Ended
+    go : {depth : ℕ} {given rest : List Numbered} {e : State} {end : End} (lines : List Numbered) → Expands depth e rest lines end → Comes depth (Go given e rest) (given ++ lines) end
+    within : {depth inner : ℕ} {given text : List Numbered} {e : State} {next : Next} {end : End} (lines more : List Numbered) (middle : End)
+        → Expands inner e text lines middle → Follows depth middle next more end → Comes depth (Within given e inner text next) ((given ++ lines) ++ more) end
+
+  -- So does what follows a text that ended somehow: nothing more is given, unless that is whole.
+  pub data Follows : ℕ → End → Next → List Numbered → End → Type 0 where
+    whole : {depth : ℕ} {e : State} {next : Next} {lines : List Numbered} {end : End} → Comes depth (resumed depth next e) lines end → Follows depth (Whole e) next lines end
+    ended : {depth : ℕ} {next : Next} → Follows depth Ended next [] Ended
+    stopped : {depth number : ℕ} {why : MacroFault} {next : Next} → Follows depth (Stopped number why) next [] (Stopped number why)
+
+-- An expansion that does not stop with a fault.
+abbrev pub IsDone : End → Type 0
+IsDone (Whole e) = Unit {0}
+IsDone Ended = Unit {0}
+IsDone (Stopped number why) = ⊥
+
+-- A source text comes to these lines, with their numbers, and ends so. One above 16,777,216 bytes is not read.
+pub data IsExpansion (text : List ℕ) : List Numbered → End → Type 0 where
+  long : 16777216 < length text → IsExpansion text [] (Stopped 1 MacroFault.TooManyLines)
+  short : {lines : List Numbered} {end : End} → length text ≤ 16777216 → Expands 0 start (numbered 1 (source_lines text)) lines end → IsExpansion text lines end
+
+-- What is answered of a whole text: its lines, or the line at which it stops and the fault. Want of memory alone has no
+-- cause in the text.
+abbrev pub IsExpanded : List ℕ → Result (List Numbered) (ℕ × MacroFault) → Type 0
+IsExpanded text (Ok lines) = (end : End) × IsDone end × IsExpansion text lines end
+IsExpanded text (Err (number, MacroFault.NoMemory)) = Unit {0}
+IsExpanded text (Err (number, why)) = (lines : List Numbered) × IsExpansion text lines (Stopped number why)

@@ -1,0 +1,13 @@
+pub mod Faults
+pub mod Texts
+pub mod State
+pub mod Blocks
+pub mod Values
+pub mod Calls
+pub mod Judged
+pub mod Parts
+pub mod Expands
+pub mod Ahead
+pub mod Views
+pub mod Given
+pub mod Private

@@ -1,0 +1,127 @@
+-- One move of an expansion: a line that is taken up, or what follows a text that is over.
+use Rattle.std.specs.Prelude.{◌≡◌, Option, Some, None, ◌+◌, ◌*◌, ◌-◌, ◌≤◌, ◌<◌, ℕ, List, [], ◌∷◌, Result, Ok, Err, length, map, reverse, Vec}
+use Rattle.std.specs.Global.{Global}
+use Rattle.asm_replace.specs.Replaced.{Table}
+use Rattle.asm_replace.specs.Views as replaced
+use Rattle.asm_macro.specs.declared.call.Macro.{Macro}
+use Rattle.asm_macro.specs.declared.expansion.Expansion.{Expansion}
+use Rattle.asm_macro.specs.declared.moves.Given.{Given}
+use Rattle.asm_macro.specs.declared.moves.Taken.{Taken}
+use Rattle.asm_macro.specs.declared.moves.Stop.{Stop}
+use Rattle.asm_macro.specs.declared.fault.MacroFault.{MacroFault}
+use Rattle.asm_macro.specs.Texts.{Numbered}
+use Rattle.asm_macro.specs.State as state
+use Rattle.asm_macro.specs.Parts as parts
+use Rattle.asm_macro.specs.Expands.{Ended, Stopped, IsDone}
+use Rattle.asm_macro.specs.Expands as expands
+use Rattle.asm_macro.specs.Ahead.{Around, Rest, Remains, Within}
+use Rattle.asm_macro.specs.Private.Frames.{around_seen, innermost, text_of, turns_in}
+
+-- the lines of the source
+abbrev pub texts_in : Expansion → List (List ℕ)
+texts_in x = map (λ line. line.now) x.lines.items
+
+-- the names of the open calls, the innermost first
+abbrev pub tables_in : Expansion → List Table
+tables_in x = map (λ names. replaced.table names.entries) (reverse x.calls.items)
+
+abbrev pub macro_seen : List (List ℕ) → Macro → state.Macro
+macro_seen texts m = record { parameters = replaced.texts m.parameters.items; body = parts.texts (text_of texts None m.body) }
+
+abbrev pub macros_seen : List (List ℕ) → List (Vec ℕ Global × Macro) → List (List ℕ × state.Macro)
+macros_seen texts entries = map (λ m. (m.0.items, macro_seen texts m.1)) entries
+
+abbrev pub state_of : Expansion → state.State
+state_of x = record {
+  macros = macros_seen (texts_in x) x.macros.entries;
+  constants = x.constants;
+  counter = x.counter;
+  count = x.count;
+}
+
+-- what is left to expand
+abbrev pub rest_of : Expansion → Rest
+rest_of x = record {
+  depth = length (tables_in x) + x.turns;
+  state = state_of x;
+  text = text_of (texts_in x) (innermost (tables_in x)) x.text;
+  around = around_seen (texts_in x) (tables_in x) (reverse x.around.items);
+}
+
+-- The source has no more lines than bytes; the open repetitions are counted; calls and repetitions nest to 16; no more lines
+-- are taken up than may be.
+pub record IsSound (x : Expansion) : Type 0 where
+  pub short : length x.lines.items ≤ 16777216
+  pub turns : x.turns ≡ turns_in (reverse x.around.items)
+  pub shallow : length x.calls.items + x.turns ≤ 16
+  pub few : x.count ≤ 60000
+
+-- Lines are given, and then the rest is to come; a line is given as the last; lines are given, and then comes a fault; or all is
+-- expanded.
+pub data Moved : Type 0 where
+  On : List Numbered → Rest → Moved
+  End : Numbered → Moved
+  Fails : List Numbered → ℕ → MacroFault → Moved
+  Done : Moved
+
+-- what a part comes to, at a depth and with what follows it
+abbrev pub moved : ℕ → List Around → parts.Part → Moved
+moved depth around (parts.Stop given number why) = Fails given number why
+moved depth around (parts.Last l) = End l
+moved depth around (parts.Go given e text) = On given (record { depth = depth; state = e; text = text; around = around })
+moved depth around (parts.Within given e inner text next) =
+    On given (record { depth = inner; state = e; text = text; around = record { depth = depth; next = next } ∷ around })
+
+abbrev pub in_text : ℕ → state.State → List Numbered → List Around → Moved
+in_text depth e (l ∷ text) around = moved depth around (parts.part depth e l text)
+in_text depth e [] (a ∷ around) = moved a.depth around (parts.resumed a.depth a.next e)
+in_text depth e [] [] = Done
+
+abbrev pub next_move : Rest → Moved
+next_move r = in_text r.depth r.state r.text r.around
+
+-- what is answered of a line that is taken up, and what is left behind it
+abbrev pub Takes : Numbered → Result Taken Stop → Rest → Moved → Type 0
+Takes l (Err Stop.NoMemory) new move = Unit {0}
+Takes l (Err (Stop.At number why)) new move = move ≡ Fails [] number why
+Takes l (Ok Taken.Nothing) new move = move ≡ On [] new
+Takes l (Ok Taken.Line) new move = move ≡ On (l ∷ []) new
+Takes l (Ok Taken.Last) new move = move ≡ End l
+Takes l (Ok (Taken.Label text)) new move = move ≡ On (record { number = l.number; text = text.items } ∷ []) new
+Takes l (Ok (Taken.Refused text)) new move = move ≡ Fails (record { number = l.number; text = text.items } ∷ []) l.number MacroFault.Stray
+
+-- the same where nothing is given
+abbrev pub Resumes : Result (Unit {0}) Stop → Rest → Moved → Type 0
+Resumes (Err Stop.NoMemory) new move = Unit {0}
+Resumes (Err (Stop.At number why)) new move = move ≡ Fails [] number why
+Resumes (Ok done) new move = move ≡ On [] new
+
+-- what is answered of a move, with the line that is given
+abbrev pub Gives : List ℕ → Result (Option Given) Stop → Rest → Moved → Type 0
+Gives text (Err Stop.NoMemory) new move = Unit {0}
+Gives text (Err (Stop.At number why)) new move = move ≡ Fails [] number why
+Gives text (Ok None) new move = move ≡ On [] new
+Gives text (Ok (Some (Given.Line number))) new move = move ≡ On (record { number = number; text = text } ∷ []) new
+Gives text (Ok (Some (Given.Last number))) new move = move ≡ End (record { number = number; text = text })
+Gives text (Ok (Some (Given.Refused number))) new move = move ≡ Fails (record { number = number; text = text } ∷ []) number MacroFault.Stray
+Gives text (Ok (Some Given.Over)) new move = move ≡ Done
+
+-- how many moves may still come, at most
+abbrev pub most_moves : Expansion → ℕ
+most_moves x = 2 * (60000 - x.count) + length x.around.items
+
+-- Fewer moves may still come, and a line that is given is counted.
+abbrev pub Lessens : Expansion → Option Given → Expansion → Type 0
+Lessens old None new = (most_moves new < most_moves old) × (old.count ≤ new.count)
+Lessens old (Some Given.Over) new = Unit {0}
+Lessens old (Some _) new = old.count < new.count
+
+-- What is answered of several moves: what is to come is the line given, and then what is to come behind it.
+abbrev pub Goes : Rest → List ℕ → Result Given Stop → Rest → Type 0
+Goes old text (Err Stop.NoMemory) new = Unit {0}
+Goes old text (Err (Stop.At number why)) new = Remains (Within old) [] (Stopped number why)
+Goes old text (Ok (Given.Line number)) new =
+    (lines : List Numbered) (end : expands.End) → Remains (Within new) lines end → Remains (Within old) (record { number = number; text = text } ∷ lines) end
+Goes old text (Ok (Given.Last number)) new = Remains (Within old) (record { number = number; text = text } ∷ []) Ended
+Goes old text (Ok (Given.Refused number)) new = Remains (Within old) (record { number = number; text = text } ∷ []) (Stopped number MacroFault.Stray)
+Goes old text (Ok Given.Over) new = (end : expands.End) × IsDone end × Remains (Within old) [] end

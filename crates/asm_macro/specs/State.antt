@@ -1,0 +1,41 @@
+-- What an expansion knows at a line.
+use Rattle.std.specs.Prelude.{ℕ, ◌+◌, Bool, List, [], ◌∷◌, ◌++◌, Option, map, is_some}
+use Rattle.std.specs.Map.{lookup}
+use Rattle.std.specs.Str.{bytes_eq}
+use Rattle.asm_expr.specs.declared.meaning.Meaning.{Meaning}
+use Rattle.asm_expr.specs.Names as names
+
+-- a macro: its parameters in upper case, and the lines of its body
+pub record Macro : Type 0 where
+  pub parameters : List (List ℕ)
+  pub body : List (List ℕ)
+
+-- The macros by their names; the names that EQU gave a value that is known here; how many LOCAL names there were; how many
+-- lines were taken up. Names are in upper case.
+pub record State : Type 0 where
+  pub macros : List (List ℕ × Macro)
+  pub constants : List (List ℕ × ℕ)
+  pub counter : ℕ
+  pub count : ℕ
+
+abbrev pub start : State
+start = record { macros = []; constants = []; counter = 0; count = 0 }
+
+abbrev pub macro_named : State → List ℕ → Option Macro
+macro_named e name = lookup (bytes_eq name) e.macros
+
+abbrev pub with_macro : List ℕ → Macro → State → State
+with_macro name m e = record e { macros = e.macros ++ (name, m) ∷ [] }
+
+-- the constants as the names of expressions
+abbrev pub table : State → names.Table
+table e = record names.empty { entries = map (λ c. (c.0, Meaning.Constant c.1)) e.constants }
+
+abbrev pub is_known : State → List ℕ → Bool
+is_known e name = is_some (lookup (bytes_eq name) e.constants)
+
+abbrev pub with_constant : List ℕ → ℕ → State → State
+with_constant name value e = record e { constants = e.constants ++ (name, value) ∷ [] }
+
+abbrev pub counted : State → State
+counted e = record e { count = e.count + 1 }

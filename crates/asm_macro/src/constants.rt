@@ -1,0 +1,106 @@
+//! The names that EQU gave a value.
+
+ghost use Rattle.std.specs.Prelude.{◌≡◌, ◌⊎◌, ◌∷◌, [], Err, List, Ok, OnOk, ℕ};
+ghost use Rattle.asm_parse.specs.declared.item.Item.{Item};
+ghost use Rattle.asm_expr.specs.declared.atom.Atom.{Atom};
+ghost use Rattle.asm_expr.specs.declared.answer.Settled.{Settled};
+ghost use Rattle.asm_words.specs.Words.{upper};
+ghost use Rattle.asm_scan.specs.Tokens.{lexemes};
+ghost use Rattle.asm_macro.specs.declared.fault.MacroFault.{MacroFault};
+ghost use Rattle.asm_macro.specs.Values.{worth};
+ghost use Rattle.asm_macro.specs.Private.Heads.{constants_with};
+ghost use Rattle.std.specs.Map.{lookup};
+ghost use Rattle.std.specs.Str.{bytes_eq};
+ghost use Rattle.asm_macro.specs.Private.Constants.{constants_in, table_of};
+
+use crate::fault::MacroFault;
+use asm_expr::{Meaning, Names, Settled, constant, is_constant, is_defined, parse, settle};
+use asm_scan::Token;
+use std::alloc::{AllocError, Global};
+use std::marker::Model;
+
+/// The names that EQU gave a value that is known here. Clauses see each with its value.
+#[derive(Debug, Drop)]
+pub(crate) struct Constants {
+    names: Names,
+}
+
+impl Model for Constants {
+    ghost use Rattle.std.specs.Prelude.{◌≡◌, ℕ, List};
+    ghost use Rattle.asm_macro.specs.Private.Constants.{constants_in, table_of};
+
+    ghost Value = { List (List ℕ × ℕ) };
+
+    ghost view = { λ c. constants_in c.names.entries };
+
+    ghost invariant = { λ c. c.names ≡ table_of (constants_in c.names.entries) };
+}
+
+/// The number of an expression that is settled, of names that are constants.
+fn number_in(settled: &Settled) -> Result<u16, MacroFault>
+    ensures { (n : ℕ) → settled.now ≡ Settled.Known (Item.Leaf (Atom.Number n) ∷ []) → result ≡ Ok n }
+{
+    match settled {
+        Settled::Known(expr) => match constant(expr) {
+            Some(value) => Ok(value),
+            None => Err(MacroFault::ConditionNamesLabel),
+        },
+        Settled::Unknown(_) => Err(MacroFault::ConditionNamesLabel),
+    }
+}
+
+/// What an expression is worth, of names that are constants.
+fn value_of(alloc: Global, names: &Names, tokens: &[Token<'_>]) -> Result<u16, MacroFault>
+    ensures { (constants : List (List ℕ × ℕ)) → names.now ≡ table_of constants →
+        (result ≡ worth (table_of constants) (lexemes tokens.entry.now)) ⊎ (result ≡ Err MacroFault.NoMemory) }
+{
+    let tree = parse(alloc, tokens)?;
+    if !is_constant(&tree, names) {
+        return Err(MacroFault::ConditionNamesLabel);
+    }
+    if !is_defined(&tree, names) {
+        return Err(MacroFault::ConditionNamesLabel);
+    }
+    let settled = settle(alloc, &tree, names)?;
+    number_in(&settled)
+}
+
+impl Constants {
+    pub(crate) fn new(alloc: Global) -> Constants
+        ensures { result ≡ [] }
+    {
+        Constants {
+            names: Names::new(alloc),
+        }
+    }
+
+    /// What an expression is worth.
+    pub(crate) fn value_of(&self, alloc: Global, tokens: &[Token<'_>]) -> Result<u16, MacroFault>
+        ensures { (result ≡ worth (table_of self.now) (lexemes tokens.entry.now)) ⊎ (result ≡ Err MacroFault.NoMemory) }
+    {
+        value_of(alloc, &self.names, tokens)
+    }
+
+    /// Remembers a name that an EQU line defines, where it is the first of that name with a value.
+    pub(crate) fn learn(
+        &mut self,
+        alloc: Global,
+        name: &[u8],
+        tokens: &[Token<'_>],
+    ) -> Result<(), AllocError>
+        ensures { OnOk result (self.new ≡ constants_with self.old (upper name.now) (worth (table_of self.old) (lexemes tokens.entry.now))) }
+    {
+        let key = name.to_ascii_uppercase(alloc)?;
+        if self.names.meaning(&key).is_some() {
+            return Ok(());
+        }
+        match value_of(alloc, &self.names, tokens) {
+            Ok(value) => {
+                self.names.define(key, Meaning::Constant(value))?;
+                Ok(())
+            }
+            Err(MacroFault::NoMemory) => Err(AllocError),
+            Err(_) => Ok(()),
+        }
+    }
+}

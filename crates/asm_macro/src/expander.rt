@@ -1,0 +1,175 @@
+//! The lines of an expansion, one after the other.
+
+ghost use Rattle.std.specs.Prelude.{◌≡◌, ℕ, Ok, Err, None, false};
+ghost use Rattle.asm_macro.specs.Ahead.{begun, Halted, IsNext, Over, seen};
+
+use crate::expansion::Expansion;
+use crate::fault::MacroFault;
+use crate::moves::{Given, Stop};
+use crate::source::begin;
+use std::alloc::Global;
+use std::marker::Model;
+
+/// A line, and the number in the source of the line from which it comes: its own, or that of the outermost call or REPT.
+#[derive(Clone, Copy, Debug, PartialEq, Eq)]
+pub struct Line<'a> {
+    pub number: u32,
+    pub text: &'a [u8],
+}
+
+/// The most bytes of a source text.
+const LONGEST_TEXT: usize = 16_777_216;
+
+/// How far the expansion is.
+#[derive(Debug, Drop)]
+enum Stage<'a> {
+    /// Nothing is read yet.
+    Before(&'a [u8]),
+    Within(Expansion<'a>),
+    Over,
+    Halted(u32, MacroFault),
+}
+
+/// The expansion of a source text, line by line.
+#[derive(Debug, Drop)]
+pub struct Expander<'a> {
+    alloc: Global,
+    stage: Stage<'a>,
+    /// The line that was given last, and its number.
+    buffer: Vec<u8>,
+    number: u32,
+}
+
+impl<'a> Model for Expander<'a> {
+    ghost use Rattle.asm_macro.specs.Ahead.{Standing};
+    ghost use Rattle.asm_macro.specs.Private.Stages.{IsSoundStage, standing};
+
+    ghost Value = { Standing };
+
+    ghost view = { λ e. standing e.number e.buffer.items e.stage };
+
+    ghost invariant = { λ e. IsSoundStage e.stage };
+
+    ghost use Rattle.asm_macro.specs.contracts.fault.MacroFault as fault;
+    ghost use Rattle.std.specs.Coded.{codes};
+
+    ghost coded = { Prim.hlevel (codes, fault.the_row.coded) };
+}
+
+impl<'a> Expander<'a> {
+    ghost use Rattle.asm_macro.specs.contracts.expander.Expander.{the_row};
+    ghost use Rattle.std.specs.Borrow.{follows_so, sem};
+    ghost use Rattle.std.specs.Prelude.{[], ⊤};
+    ghost use mir.Syntax.{named};
+    ghost use mathlib.Core.Option.{none};
+    ghost use Rattle.asm_macro.specs.Given.{IsNextLine};
+    ghost use Rattle.asm_macro.specs.Private.Stages.{IsStarted, Starts};
+
+    /// Nothing is read before the first line is asked for.
+    pub fn new(alloc: Global, text: &'a [u8]) -> Expander<'a>
+        ensures { result ≡ begun text.now }
+    {
+        Expander {
+            alloc,
+            stage: Stage::Before(text),
+            buffer: Vec::new(alloc),
+            number: 0,
+        }
+    }
+
+    /// Reads the text, where that is not done yet.
+    fn start(&mut self)
+        ensures { Starts self.old self.new }
+    {
+        let Stage::Before(text) = self.stage else {
+            return;
+        };
+        self.stage = match begin(self.alloc, text) {
+            Ok(expansion) => Stage::Within(expansion),
+            Err(why) => Stage::Halted(1, why),
+        };
+    }
+
+    /// The same, once the text is read.
+    fn go(&mut self) -> Result<bool, (u32, MacroFault)>
+        requires { IsStarted self.old }
+        ensures next { IsNext self.old result self.new }
+        ensures over { self.old.ahead ≡ Over → result ≡ Ok false }
+        ensures halted { (number : ℕ) (why : MacroFault) → self.old.ahead ≡ Halted number why → result ≡ Err (number, why) }
+    {
+        let reached = match &mut self.stage {
+            Stage::Within(expansion) => expansion.go_on(&mut self.buffer),
+            Stage::Halted(number, why) => return Err((*number, *why)),
+            Stage::Before(_) | Stage::Over => return Ok(false),
+        };
+        match reached {
+            Ok(Given::Line(number)) => {
+                self.number = number;
+                Ok(true)
+            }
+            Ok(Given::Last(number)) => {
+                self.number = number;
+                self.stage = Stage::Over;
+                Ok(true)
+            }
+            Ok(Given::Refused(number)) => {
+                self.number = number;
+                self.stage = Stage::Halted(number, MacroFault::Stray);
+                Ok(true)
+            }
+            Ok(Given::Over) => {
+                self.stage = Stage::Over;
+                Ok(false)
+            }
+            Err(Stop::At(number, why)) => {
+                self.stage = Stage::Halted(number, why);
+                Err((number, why))
+            }
+            Err(Stop::NoMemory) => {
+                self.stage = Stage::Halted(self.number, MacroFault::NoMemory);
+                Err((self.number, MacroFault::NoMemory))
+            }
+        }
+    }
+
+    /// Goes on to the next line; false behind the last, and from then on.
+    ///
+    /// # Errors
+    ///
+    /// The line on which the expansion stops, and why; from then on every call answers it again.
+    fn advance(&mut self) -> Result<bool, (u32, MacroFault)>
+        ensures next { IsNext self.old result self.new }
+        ensures over { self.old.ahead ≡ Over → result ≡ Ok false }
+        ensures halted { (number : ℕ) (why : MacroFault) → self.old.ahead ≡ Halted number why → result ≡ Err (number, why) }
+    {
+        self.start();
+        self.go()
+    }
+
+    /// The next line; None behind the last, and from then on.
+    ///
+    /// # Errors
+    ///
+    /// The line on which the expansion stops, and why; from then on every call answers it again.
+    pub fn next_line(&mut self) -> Result<Option<Line<'_>>, (u32, MacroFault)>
+        ensures* next { sem 𝓛 (follows_so (the_row (record { mir = named 1; lft = [] })) (the_row (record { mir = named 1; lft = [] })) self.entry.ghost_name none (λ _ _. ⊤) (λ after. IsNextLine self.old result after)) }
+        ensures over { self.old.ahead ≡ Over → result ≡ Ok None }
+        ensures halted { (number : ℕ) (why : MacroFault) → self.old.ahead ≡ Halted number why → result ≡ Err (number, why) }
+    {
+        if self.advance()? {
+            Ok(Some(self.line()))
+        } else {
+            Ok(None)
+        }
+    }
+
+    /// The line that was given last.
+    fn line(&self) -> Line<'_>
+        ensures { seen result ≡ self.now.given }
+    {
+        Line {
+            number: self.number,
+            text: self.buffer.as_slice(),
+        }
+    }
+}

@@ -1,0 +1,213 @@
+//! What is known from the lines before, and what is still to be expanded.
+
+ghost use Rattle.std.specs.Prelude.{◌≡◌, ◌≢◌, ◌<◌, ◌≤◌, ◌+◌, ◌∷◌, IfOk, OnOk, List, [], Some, length};
+ghost use Rattle.std.specs.Option.{option_map};
+ghost use Rattle.asm_replace.specs.Views.{table};
+ghost use Rattle.asm_macro.specs.Ahead.{Around, seen};
+ghost use Rattle.asm_macro.specs.Parts.{behind_first, resumed, turns};
+ghost use Rattle.asm_macro.specs.declared.frame.Following.{Following};
+ghost use Rattle.asm_macro.specs.Private.Frames.{body_seen, branches_seen, innermost, next_of};
+ghost use Rattle.asm_macro.specs.declared.moves.Given.{Given};
+ghost use Rattle.asm_macro.specs.Private.Moves.{Gives, Goes, IsSound, Lessens, Resumes, Takes, most_moves, moved, next_move, rest_of, state_of, tables_in, texts_in};
+
+use crate::call::Macro;
+use crate::closing::{closes, passes};
+use crate::constants::Constants;
+use crate::expander::Line;
+use crate::fault::MacroFault;
+use crate::frame::{Block, Choice, Following, Span};
+use crate::moves::{Given, Stop, Taken};
+use crate::reading::put_shown;
+use asm_replace::Replacements;
+use indexmap::IndexMap;
+use std::alloc::{AllocError, Global};
+
+/// The most lines and turns of a whole expansion.
+pub(crate) const MOST_LINES: u32 = 60_000;
+
+/// An expansion between two moves.
+#[derive(Debug, Drop)]
+pub(crate) struct Expansion<'a> {
+    pub alloc: Global,
+    /// The lines of the source.
+    pub lines: Vec<&'a [u8]>,
+    pub macros: IndexMap<Vec<u8>, Macro>,
+    pub constants: Constants,
+    /// How many LOCAL names there were.
+    pub counter: u64,
+    /// How many lines and turns were taken up.
+    pub count: u32,
+    /// What is left of the innermost text.
+    pub text: Span,
+    /// What follows it and those around, the innermost last.
+    pub around: Vec<Following>,
+    /// What names are replaced by in the open calls, the innermost last.
+    pub calls: Vec<Replacements>,
+    /// How many repetitions are open.
+    pub turns: usize,
+}
+
+impl<'a> Expansion<'a> {
+    /// Goes on behind the first branch of an IF.
+    fn behind_first(&mut self, choice: Choice) -> Result<(), Stop>
+        requires sound { IsSound self.old }
+        ensures sound { OnOk result (IsSound self.new) }
+        ensures kept { (self.new.count ≡ self.old.count) × (length self.new.around.items ≡ length self.old.around.items) }
+        ensures resumed { Resumes result (rest_of self.new)
+            (moved (rest_of self.old).depth (rest_of self.old).around (behind_first (branches_seen (texts_in self.old) (innermost (tables_in self.old)) choice) (state_of self.old))) }
+    {
+        closes(self.alloc, &self.lines, self.calls.last(), choice.first.end)?;
+        passes(self.alloc, &self.lines, self.calls.last(), &choice.others)?;
+        self.text = choice.after;
+        Ok(())
+    }
+
+    /// Goes on behind the second branch of an IF.
+    fn behind_second(&mut self, choice: Choice) -> Result<(), Stop>
+        requires sound { IsSound self.old }
+        ensures sound { OnOk result (IsSound self.new) }
+        ensures kept { (self.new.count ≡ self.old.count) × (length self.new.around.items ≡ length self.old.around.items) }
+        ensures resumed { Resumes result (rest_of self.new)
+            (moved (rest_of self.old).depth (rest_of self.old).around (resumed (rest_of self.old).depth (next_of (texts_in self.old) (innermost (tables_in self.old)) (Following.BehindSecond choice)) (state_of self.old))) }
+    {
+        passes(self.alloc, &self.lines, self.calls.last(), &choice.others)?;
+        self.text = choice.after;
+        Ok(())
+    }
+
+    /// Goes on with the next turn of a REPT, or behind it.
+    pub(crate) fn turn(&mut self, left: u16, number: u32, body: Block) -> Result<(), Stop>
+        requires sound { IsSound self.old }
+        requires shallow { length self.old.calls.items + self.old.turns < 16 }
+        ensures sound { OnOk result (IsSound self.new) }
+        ensures count { OnOk result (self.old.count ≤ self.new.count) }
+        ensures less { OnOk result (most_moves self.new ≤ most_moves self.old) }
+        ensures around { OnOk result (length self.new.around.items ≤ length self.old.around.items + 1) }
+        ensures resumed { Resumes result (rest_of self.new)
+            (moved (rest_of self.old).depth (rest_of self.old).around (turns (rest_of self.old).depth left number (body_seen (texts_in self.old) (innermost (tables_in self.old)) body) (state_of self.old))) }
+    {
+        if left == 0 {
+            closes(self.alloc, &self.lines, self.calls.last(), body.stretch.end)?;
+            self.text = body.after;
+            return Ok(());
+        }
+        if self.count >= MOST_LINES {
+            return Err(Stop::At(number, MacroFault::TooManyLines));
+        }
+        self.around.push(Following::Turns(left - 1, number, body))?;
+        self.count += 1;
+        self.turns += 1;
+        self.text = Span {
+            number: Some(number),
+            ..body.stretch.lines
+        };
+        Ok(())
+    }
+
+    /// Goes on behind a text that is over, in the one around it.
+    fn resume(&mut self) -> Result<(), Stop>
+        requires sound { IsSound self.old }
+        requires inner { 0 < length self.old.around.items }
+        requires over { (rest_of self.old).text ≡ [] }
+        ensures sound { OnOk result (IsSound self.new) }
+        ensures count { OnOk result (self.old.count ≤ self.new.count) }
+        ensures less { OnOk result (most_moves self.new < most_moves self.old) }
+        ensures resumed { Resumes result (rest_of self.new) (next_move (rest_of self.old)) }
+    {
+        let Some(next) = self.around.pop() else {
+            return Ok(());
+        };
+        match next {
+            Following::Rest(text) => {
+                self.calls.pop();
+                self.text = text;
+                Ok(())
+            }
+            Following::BehindFirst(choice) => self.behind_first(choice),
+            Following::BehindSecond(choice) => self.behind_second(choice),
+            Following::Turns(left, number, body) => {
+                self.turns -= 1;
+                self.turn(left, number, body)
+            }
+        }
+    }
+
+    /// Writes the first line of the innermost text in the place of what was written, and answers its number.
+    fn put_line(&mut self, buffer: &mut Vec<u8>) -> Result<u32, AllocError>
+        requires sound { IsSound self.old }
+        requires at { self.old.text.at < self.old.text.end }
+        requires within { self.old.text.at < length self.old.lines.items }
+        ensures sound { OnOk result (IsSound self.new) }
+        ensures count { self.new.count ≡ self.old.count }
+        ensures around { self.new.around ≡ self.old.around }
+        ensures line { IfOk result (λ number. rest_of self.old ≡ record (rest_of self.new) { text = record { number = number; text = buffer.new.items } ∷ (rest_of self.new).text }) }
+    {
+        let at = self.text.at;
+        put_shown(self.alloc, self.calls.last(), self.lines[at], buffer)?;
+        self.text.at = at + 1;
+        match self.text.number {
+            Some(number) => Ok(number),
+            None => Ok(at as u32 + 1),
+        }
+    }
+
+    /// Takes up the first line of the innermost text.
+    fn take_line(&mut self, buffer: &mut Vec<u8>) -> Result<Option<Given>, Stop>
+        requires sound { IsSound self.old }
+        requires at { self.old.text.at < self.old.text.end }
+        requires within { self.old.text.at < length self.old.lines.items }
+        ensures sound { OnOk result (IsSound self.new) }
+        ensures less { IfOk result (λ given. Lessens self.old given self.new) }
+        ensures gives { Gives buffer.new.items result (rest_of self.new) (next_move (rest_of self.old)) }
+    {
+        let number = self.put_line(buffer)?;
+        match self.take(Line {
+            number,
+            text: buffer.as_slice(),
+        })? {
+            Taken::Nothing => Ok(None),
+            Taken::Line => Ok(Some(Given::Line(number))),
+            Taken::Last => Ok(Some(Given::Last(number))),
+            Taken::Label(label) => {
+                *buffer = label;
+                Ok(Some(Given::Line(number)))
+            }
+            Taken::Refused(label) => {
+                *buffer = label;
+                Ok(Some(Given::Refused(number)))
+            }
+        }
+    }
+
+    /// Goes on by one line, or by the end of a text.
+    fn step(&mut self, buffer: &mut Vec<u8>) -> Result<Option<Given>, Stop>
+        requires sound { IsSound self.old }
+        ensures sound { OnOk result (IsSound self.new) }
+        ensures less { IfOk result (λ given. Lessens self.old given self.new) }
+        ensures gives { Gives buffer.new.items result (rest_of self.new) (next_move (rest_of self.old)) }
+    {
+        if self.text.at < self.text.end && self.text.at < self.lines.len() {
+            return self.take_line(buffer);
+        }
+        if self.around.is_empty() {
+            return Ok(Some(Given::Over));
+        }
+        self.resume()?;
+        Ok(None)
+    }
+
+    /// Goes on to the next line that is given.
+    pub(crate) fn go_on(&mut self, buffer: &mut Vec<u8>) -> Result<Given, Stop>
+        requires sound { IsSound self.old }
+        ensures sound { OnOk result (IsSound self.new) }
+        ensures count { IfOk result (λ given. given ≢ Given.Over → self.old.count < self.new.count) }
+        ensures goes { Goes (rest_of self.old) buffer.new.items result (rest_of self.new) }
+    {
+        loop {
+            match self.step(buffer)? {
+                Some(given) => return Ok(given),
+                None => {}
+            }
+        }
+    }
+}

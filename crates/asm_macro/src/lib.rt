@@ -1,0 +1,23 @@
+//! The lines of Z80 assembler source with macros called, repetitions repeated and conditions chosen.
+#![tactic(auto)]
+
+mod blocks;
+mod call;
+mod closing;
+mod constants;
+mod expander;
+mod expansion;
+mod fault;
+mod frame;
+pub mod laws;
+mod moves;
+mod open;
+mod prepare;
+mod reading;
+mod source;
+mod take;
+mod whole;
+
+pub use expander::{Expander, Line};
+pub use fault::MacroFault;
+pub use whole::{Expanded, ExpandedLine, expand};

@@ -1,0 +1,55 @@
+//! What one move of an expansion comes to.
+
+ghost use Rattle.std.specs.Prelude.{◌≡◌};
+ghost use Rattle.asm_macro.specs.declared.moves.Stop.TheVariants.{NoMemory};
+
+use crate::fault::MacroFault;
+use std::alloc::{AllocError, AllocFailed};
+
+/// Why an expansion stops: a fault at a line's number, or no memory is left.
+#[derive(Clone, Copy, Debug)]
+pub(crate) enum Stop {
+    At(u32, MacroFault),
+    NoMemory,
+}
+
+impl From<AllocError> for Stop {
+    ghost from_gives = { λ _ e. e ≡ NoMemory };
+
+    fn from(_e: AllocError) -> Stop {
+        Stop::NoMemory
+    }
+}
+
+impl<T: Drop> From<AllocFailed<T>> for Stop {
+    ghost from_gives = { λ _ e. e ≡ NoMemory };
+
+    fn from(_e: AllocFailed<T>) -> Stop {
+        Stop::NoMemory
+    }
+}
+
+/// What a line that is taken up gives.
+#[derive(Debug, Drop)]
+pub(crate) enum Taken {
+    Nothing,
+    /// The line itself.
+    Line,
+    /// The line itself, with which the expansion ends.
+    Last,
+    /// The line's label alone.
+    Label(Vec<u8>),
+    /// The line's label, and then the line is a stray one.
+    Refused(Vec<u8>),
+}
+
+/// What an expansion gives next, with the number of the line.
+#[derive(Clone, Copy, Debug)]
+pub(crate) enum Given {
+    Line(u32),
+    Last(u32),
+    /// A line, behind which the expansion stops at a stray one.
+    Refused(u32),
+    /// Nothing is left.
+    Over,
+}

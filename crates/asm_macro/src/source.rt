@@ -1,0 +1,71 @@
+//! The lines of a source text.
+
+ghost use Rattle.std.specs.Prelude.{◌≡◌, ◌≤◌, ◌==◌, IfOk, length, map, not};
+ghost use Rattle.std.specs.List.{prefix_len};
+ghost use Rattle.asm_macro.specs.Texts.{source_lines, source_part};
+ghost use Rattle.asm_macro.specs.Private.Stages.{Begins};
+
+use crate::constants::Constants;
+use crate::expansion::Expansion;
+use crate::fault::MacroFault;
+use crate::frame::Span;
+use bstr::ByteSlice;
+use indexmap::IndexMap;
+use std::alloc::{AllocError, Global};
+
+/// The most bytes of a source text.
+const LONGEST_TEXT: usize = 16_777_216;
+
+/// How many bytes stand before the first byte 1AH.
+fn end_of(text: &[u8]) -> usize
+    ensures value { result ≡ prefix_len (λ byte. not (byte == 0x1A)) text.now }
+    ensures within { result ≤ length text.now }
+{
+    text.iter().take_while(|byte| **byte != 0x1A).count()
+}
+
+/// The text up to its first byte 1AH, CP/M's end of a text file.
+fn before_end(text: &[u8]) -> &[u8]
+    ensures { result.now ≡ source_part text.now }
+{
+    &text[..end_of(text)]
+}
+
+/// The lines of a text.
+fn lines_of(alloc: Global, text: &[u8]) -> Result<Vec<&[u8]>, AllocError>
+    ensures lines { IfOk result (λ found. map (λ line. line.now) found.items ≡ source_lines text.now) }
+    ensures few { IfOk result (λ found. length found.items ≤ length text.now) }
+{
+    let mut found = Vec::new(alloc);
+    for line in before_end(text).lines() {
+        found.push(line)?;
+    }
+    Ok(found)
+}
+
+/// The expansion of a text, before its first line.
+pub(crate) fn begin(alloc: Global, text: &[u8]) -> Result<Expansion<'_>, MacroFault>
+    ensures { Begins text.now result }
+{
+    if text.len() > LONGEST_TEXT {
+        return Err(MacroFault::TooManyLines);
+    }
+    let lines = lines_of(alloc, text)?;
+    let end = lines.len();
+    Ok(Expansion {
+        alloc,
+        lines,
+        macros: IndexMap::new(alloc),
+        constants: Constants::new(alloc),
+        counter: 0,
+        count: 0,
+        text: Span {
+            at: 0,
+            end,
+            number: None,
+        },
+        around: Vec::new(alloc),
+        calls: Vec::new(alloc),
+        turns: 0,
+    })
+}

@@ -1,0 +1,361 @@
+//! Lines that are taken up.
+
+ghost use Rattle.std.specs.Prelude.{◌≡◌, ◌≢◌, ◌<◌, ◌≤◌, ◌+◌, ◌||◌, nat_lt, IfOk, OnOk, Ok, [], List, ℕ, None, Some, length, true};
+ghost use Rattle.std.specs.Option.{option_map};
+ghost use Rattle.asm_scan.specs.Tokens.{lexemes};
+ghost use Rattle.asm_scan.specs.Scanned.{scanned};
+ghost use Rattle.asm_words.specs.Words.{upper};
+ghost use Rattle.asm_line.specs.Views.{form_seen, head_seen};
+ghost use Rattle.asm_replace.specs.Views.{table as table_seen, texts};
+ghost use Rattle.asm_replace.specs.Replaced.{Table};
+ghost use Rattle.asm_macro.specs.Private.Openings.{SaySame, body_texts};
+ghost use Rattle.asm_macro.specs.Private.Entering.{Entered};
+ghost use Rattle.asm_macro.specs.State.{macro_named, table};
+ghost use Rattle.asm_macro.specs.Values.{worth};
+ghost use Rattle.asm_macro.specs.Ahead.{seen};
+ghost use Rattle.asm_macro.specs.Blocks.{body_of, branches_of};
+ghost use Rattle.asm_macro.specs.Judged.{is_counted, parameters};
+ghost use Rattle.asm_macro.specs.Parts.{chosen, conditional, definition, part, repeated, second_of, worded};
+ghost use Rattle.asm_macro.specs.Private.Allows.{stopped};
+ghost use Rattle.asm_macro.specs.Private.Frames.{branches_seen, innermost};
+ghost use Rattle.asm_macro.specs.Private.Heads.{by_head, defined, kept};
+ghost use Rattle.asm_macro.specs.Private.Moves.{IsSound, Resumes, Takes, moved, rest_of, state_of, tables_in, texts_in};
+
+use crate::blocks::{body_of, branches_of};
+use crate::call::{Macro, macro_of};
+use crate::closing::closes;
+use crate::expander::Line;
+use crate::expansion::{Expansion, MOST_LINES};
+use crate::fault::MacroFault;
+use crate::frame::{Choice, Following, Span};
+use crate::moves::{Stop, Taken};
+use crate::prepare::{begun, label_before, prepare, refused};
+use asm_line::{BlockWord, Form, Head, form_of, names};
+use asm_replace::Replacements;
+use asm_scan::{ScanFault, Token, tokens};
+use asm_words::is_reserved;
+use std::alloc::{AllocError, Global};
+
+/// The most calls and repetitions within one another.
+const MOST_OPEN: usize = 16;
+
+/// A fault at a line; want of memory has no line.
+fn stopped(number: u32, why: MacroFault) -> Stop
+    ensures { result ≡ stopped number why }
+{
+    match why {
+        MacroFault::NoMemory => Stop::NoMemory,
+        _ => Stop::At(number, why),
+    }
+}
+
+/// Whether a line is counted: any but LOCAL and the words that close or divide.
+fn is_counted(head: Head<'_>) -> bool
+    ensures { result ≡ is_counted (head_seen head.entry) }
+{
+    !matches!(
+        head,
+        Head::Block(BlockWord::Local | BlockWord::Else | BlockWord::EndIf | BlockWord::EndM)
+    )
+}
+
+/// A macro's parameters, in upper case: none, or names divided by commas; None where the tokens are no such list.
+fn parameters(alloc: Global, tokens: &[Token<'_>]) -> Result<Option<Vec<Vec<u8>>>, AllocError>
+    ensures { IfOk result (λ found. option_map (λ all. texts all.items) found ≡ parameters (lexemes tokens.entry.now)) }
+{
+    if tokens.is_empty() {
+        Ok(Some(Vec::new(alloc)))
+    } else {
+        names(alloc, tokens)
+    }
+}
+
+/// Whether a MACRO line may not stand: it has a label, stands in a call or repetition, or has a reserved name.
+fn may_not_stand(labelled: bool, depth: usize, reserved: bool) -> bool
+    ensures { result ≡ ((labelled || nat_lt 0 depth) || reserved) }
+{
+    labelled || depth > 0 || reserved
+}
+
+impl<'a> Expansion<'a> {
+    /// Goes on with the second branch of an IF, if there is one.
+    fn second(&mut self, choice: Choice) -> Result<(), Stop>
+        requires sound { IsSound self.old }
+        ensures sound { OnOk result (IsSound self.new) }
+        ensures count { OnOk result (self.new.count ≡ self.old.count) }
+        ensures around { OnOk result (length self.new.around.items ≤ length self.old.around.items + 1) }
+        ensures chosen { Resumes result (rest_of self.new) (moved (rest_of self.old).depth (rest_of self.old).around
+            (second_of (rest_of self.old).depth (state_of self.old) (branches_seen (texts_in self.old) (innermost (tables_in self.old)) choice).others (branches_seen (texts_in self.old) (innermost (tables_in self.old)) choice).after)) }
+    {
+        let text = match choice.others.as_slice() {
+            [] => {
+                self.text = choice.after;
+                return Ok(());
+            }
+            [second, ..] => second.lines,
+        };
+        self.around.push(Following::BehindSecond(choice))?;
+        self.text = text;
+        Ok(())
+    }
+
+    /// Goes on with a branch of an IF, by its value.
+    fn choose(&mut self, value: u16, choice: Choice) -> Result<(), Stop>
+        requires sound { IsSound self.old }
+        ensures sound { OnOk result (IsSound self.new) }
+        ensures count { OnOk result (self.new.count ≡ self.old.count) }
+        ensures around { OnOk result (length self.new.around.items ≤ length self.old.around.items + 1) }
+        ensures chosen { Resumes result (rest_of self.new) (moved (rest_of self.old).depth (rest_of self.old).around
+            (chosen value (rest_of self.old).depth (state_of self.old) (branches_seen (texts_in self.old) (innermost (tables_in self.old)) choice))) }
+    {
+        if value == 0 {
+            closes(self.alloc, &self.lines, self.calls.last(), choice.first.end)?;
+            return self.second(choice);
+        }
+        let text = choice.first.lines;
+        self.around.push(Following::BehindFirst(choice))?;
+        self.text = text;
+        Ok(())
+    }
+
+    /// `IF e`.
+    fn condition(&mut self, line: Line<'_>, tokens: &[Token<'_>]) -> Result<(), Stop>
+        requires sound { IsSound self.old }
+        ensures sound { OnOk result (IsSound self.new) }
+        ensures count { OnOk result (self.new.count ≡ self.old.count) }
+        ensures around { OnOk result (length self.new.around.items ≤ length self.old.around.items + 1) }
+        ensures taken { Resumes result (rest_of self.new) (moved (rest_of self.old).depth (rest_of self.old).around
+            (conditional (rest_of self.old).depth (state_of self.old) (seen line.entry) (branches_of (rest_of self.old).text) (worth (table (state_of self.old)) (lexemes tokens.entry.now)))) }
+    {
+        let found = branches_of(self.alloc, &self.lines, self.calls.last(), self.text)?;
+        let Some(choice) = found else {
+            return Err(Stop::At(line.number, MacroFault::Unclosed));
+        };
+        match self.constants.value_of(self.alloc, tokens) {
+            Ok(value) => self.choose(value, choice),
+            Err(why) => Err(stopped(line.number, why)),
+        }
+    }
+
+    /// `REPT n`.
+    fn repetition(&mut self, line: Line<'_>, tokens: &[Token<'_>]) -> Result<(), Stop>
+        requires sound { IsSound self.old }
+        ensures sound { OnOk result (IsSound self.new) }
+        ensures count { OnOk result (self.old.count ≤ self.new.count) }
+        ensures around { OnOk result (length self.new.around.items ≤ length self.old.around.items + 1) }
+        ensures taken { Resumes result (rest_of self.new) (moved (rest_of self.old).depth (rest_of self.old).around
+            (repeated (rest_of self.old).depth (state_of self.old) (seen line.entry) (body_of (rest_of self.old).text) (worth (table (state_of self.old)) (lexemes tokens.entry.now)))) }
+    {
+        let found = body_of(self.alloc, &self.lines, self.calls.last(), self.text)?;
+        let Some(body) = found else {
+            return Err(Stop::At(line.number, MacroFault::Unclosed));
+        };
+        match self.constants.value_of(self.alloc, tokens) {
+            Ok(value) => {
+                if self.calls.len() + self.turns >= MOST_OPEN {
+                    return Err(Stop::At(line.number, MacroFault::TooDeep));
+                }
+                self.turn(value, line.number, body)
+            }
+            Err(why) => Err(stopped(line.number, why)),
+        }
+    }
+
+    /// Begins the body of a call.
+    fn enter(
+        &mut self,
+        line: Line<'_>,
+        body: Span,
+        names: Replacements,
+        counter: u64,
+    ) -> Result<(), AllocError>
+        requires sound { IsSound self.old }
+        requires shallow { length self.old.calls.items + self.old.turns < 16 }
+        ensures sound { OnOk result (IsSound self.new) }
+        ensures count { OnOk result (self.new.count ≡ self.old.count) }
+        ensures around { OnOk result (length self.new.around.items ≤ length self.old.around.items + 1) }
+        ensures entered { OnOk result ((names_said : Table) → SaySame (table_seen names.entries) names_said → Entered (rest_of self.old) (seen line.entry).number names_said (body_texts (texts_in self.old) body) counter (rest_of self.new)) }
+    {
+        asm_replace::laws::by_names();
+        self.around.push(Following::Rest(self.text))?;
+        self.calls.push(names)?;
+        self.counter = counter;
+        self.text = Span {
+            number: Some(line.number),
+            ..body
+        };
+        Ok(())
+    }
+
+    /// A word: a call where a macro has that name, else END or any other.
+    fn word(
+        &mut self,
+        line: Line<'_>,
+        tokens: &[Token<'_>],
+        form: Form<'_>,
+        name: &[u8],
+    ) -> Result<Taken, Stop>
+        requires sound { IsSound self.old }
+        ensures sound { OnOk result (IsSound self.new) }
+        ensures count { OnOk result (self.new.count ≡ self.old.count) }
+        ensures around { OnOk result (length self.new.around.items ≤ length self.old.around.items + 1) }
+        ensures taken { Takes (seen line.entry) result (rest_of self.new) (moved (rest_of self.old).depth (rest_of self.old).around
+            (worded (rest_of self.old).depth (state_of self.old) (seen line.entry) (form_seen form.entry) (lexemes tokens.entry.now) (rest_of self.old).text (upper name.now) (macro_named (state_of self.old) (upper name.now)))) }
+    {
+        let key = name.to_ascii_uppercase(self.alloc)?;
+        let Some(called) = macro_of(&self.macros, &key) else {
+            if key.as_slice() == b"END".as_slice() {
+                return Ok(Taken::Last);
+            }
+            return Ok(Taken::Line);
+        };
+        if self.calls.len() + self.turns >= MOST_OPEN {
+            return Err(Stop::At(line.number, MacroFault::TooDeep));
+        }
+        let label = label_before(self.alloc, line.text, tokens, form)?;
+        let prepared = prepare(
+            self.alloc,
+            &self.lines,
+            called,
+            line.text,
+            tokens,
+            form.rest,
+            self.counter,
+        )?;
+        match prepared {
+            None => refused(line.number, label),
+            Some(call) => {
+                self.enter(line, call.body, call.names, call.counter)?;
+                Ok(begun(label))
+            }
+        }
+    }
+
+    /// Keeps a macro, if its body ends.
+    fn keep(&mut self, line: Line<'_>, key: Vec<u8>, parameters: Vec<Vec<u8>>) -> Result<(), Stop>
+        requires sound { IsSound self.old }
+        requires outside { length self.old.calls.items ≡ 0 }
+        requires new { macro_named (state_of self.old) key.items ≡ None }
+        ensures sound { OnOk result (IsSound self.new) }
+        ensures count { OnOk result (self.new.count ≡ self.old.count) }
+        ensures around { OnOk result (length self.new.around.items ≤ length self.old.around.items + 1) }
+        ensures taken { Resumes result (rest_of self.new) (moved (rest_of self.old).depth (rest_of self.old).around
+            (kept (state_of self.old) (seen line.entry) key.items (texts parameters.items) (body_of (rest_of self.old).text))) }
+    {
+        let found = body_of(self.alloc, &self.lines, self.calls.last(), self.text)?;
+        let Some(body) = found else {
+            return Err(Stop::At(line.number, MacroFault::Unclosed));
+        };
+        closes(self.alloc, &self.lines, self.calls.last(), body.stretch.end)?;
+        let called = Macro {
+            parameters,
+            body: body.stretch.lines,
+        };
+        self.macros.insert(key, called)?;
+        self.text = body.after;
+        Ok(())
+    }
+
+    /// `name MACRO ..`.
+    fn define(&mut self, line: Line<'_>, form: Form<'_>, name: &[u8]) -> Result<(), Stop>
+        requires sound { IsSound self.old }
+        ensures sound { OnOk result (IsSound self.new) }
+        ensures count { OnOk result (self.new.count ≡ self.old.count) }
+        ensures around { OnOk result (length self.new.around.items ≤ length self.old.around.items + 1) }
+        ensures taken { Resumes result (rest_of self.new) (moved (rest_of self.old).depth (rest_of self.old).around
+            (defined (rest_of self.old).depth (state_of self.old) (seen line.entry) (form_seen form.entry) name.now (rest_of self.old).text)) }
+    {
+        let key = name.to_ascii_uppercase(self.alloc)?;
+        let depth = self.calls.len() + self.turns;
+        if may_not_stand(form.label.is_some(), depth, is_reserved(&key)) {
+            return Err(Stop::At(line.number, MacroFault::Stray));
+        }
+        let found = parameters(self.alloc, form.rest)?;
+        let Some(parameters) = found else {
+            return Err(Stop::At(line.number, MacroFault::Stray));
+        };
+        if macro_of(&self.macros, &key).is_some() {
+            return Err(Stop::At(line.number, MacroFault::Redefined));
+        }
+        self.keep(line, key, parameters)
+    }
+
+    /// Takes up a line that is counted, by its head.
+    fn take_head(
+        &mut self,
+        line: Line<'_>,
+        tokens: &[Token<'_>],
+        form: Form<'_>,
+    ) -> Result<Taken, Stop>
+        requires sound { IsSound self.old }
+        ensures sound { OnOk result (IsSound self.new) }
+        ensures count { OnOk result (self.old.count ≤ self.new.count) }
+        ensures around { OnOk result (length self.new.around.items ≤ length self.old.around.items + 1) }
+        ensures taken { Takes (seen line.entry) result (rest_of self.new) (moved (rest_of self.old).depth (rest_of self.old).around
+            (by_head (head_seen form.entry.head) (rest_of self.old).depth (state_of self.old) (seen line.entry) (form_seen form.entry) (lexemes tokens.entry.now) (rest_of self.old).text)) }
+    {
+        match form.head {
+            Head::Equ(name) => {
+                self.constants.learn(self.alloc, name, form.rest)?;
+                Ok(Taken::Line)
+            }
+            Head::Macro(name) => {
+                self.define(line, form, name)?;
+                Ok(Taken::Nothing)
+            }
+            Head::Block(BlockWord::Rept) if form.label.is_none() => {
+                self.repetition(line, form.rest)?;
+                Ok(Taken::Nothing)
+            }
+            Head::Block(BlockWord::If) if form.label.is_none() => {
+                self.condition(line, form.rest)?;
+                Ok(Taken::Nothing)
+            }
+            Head::Block(_) => Err(Stop::At(line.number, MacroFault::Stray)),
+            Head::Word(name) => self.word(line, tokens, form, name),
+            Head::Nothing => Ok(Taken::Line),
+        }
+    }
+
+    /// Takes up a line that is read.
+    fn take_form(&mut self, line: Line<'_>, tokens: &[Token<'_>]) -> Result<Taken, Stop>
+        requires sound { IsSound self.old }
+        requires scanned { scanned line.text.now ≡ Ok (lexemes tokens.now) }
+        ensures sound { OnOk result (IsSound self.new) }
+        ensures count { OnOk result (self.old.count < self.new.count) }
+        ensures around { OnOk result (length self.new.around.items ≤ length self.old.around.items + 1) }
+        ensures taken { Takes (seen line.entry) result (rest_of self.new) (moved (rest_of self.old).depth (rest_of self.old).around
+            (part (rest_of self.old).depth (state_of self.old) (seen line.entry) (rest_of self.old).text)) }
+    {
+        let form = form_of(tokens);
+        if !is_counted(form.head) {
+            return Err(Stop::At(line.number, MacroFault::Stray));
+        }
+        if self.count >= MOST_LINES {
+            return Err(Stop::At(line.number, MacroFault::TooManyLines));
+        }
+        self.count += 1;
+        self.take_head(line, tokens, form)
+    }
+
+    /// Takes up a line, behind which the innermost text goes on.
+    pub(crate) fn take(&mut self, line: Line<'_>) -> Result<Taken, Stop>
+        requires sound { IsSound self.old }
+        ensures sound { OnOk result (IsSound self.new) }
+        ensures count { OnOk result (self.old.count < self.new.count) }
+        ensures around { OnOk result (length self.new.around.items ≤ length self.old.around.items + 1) }
+        ensures taken { Takes (seen line.entry) result (rest_of self.new) (moved (rest_of self.old).depth (rest_of self.old).around
+            (part (rest_of self.old).depth (state_of self.old) (seen line.entry) (rest_of self.old).text)) }
+    {
+        match tokens(self.alloc, line.text) {
+            Ok(found) => self.take_form(line, &found),
+            Err(ScanFault::NoMemory) => Err(Stop::NoMemory),
+            Err(why) => {
+                if self.count >= MOST_LINES {
+                    return Err(Stop::At(line.number, MacroFault::TooManyLines));
+                }
+                Err(stopped(line.number, MacroFault::from(why)))
+            }
+        }
+    }
+}
