@@ -145,7 +145,7 @@ fn limits(rt: HostRuntime) -> Result<(), Fail> {
         fault(alloc, &more),
         Some((20_001, NameFault::TooManyStatements))
     );
-    let none = repeated(&rt, alloc, 20_001, b".Z80")?;
+    let none = repeated(&rt, alloc, 60_000, b".Z80")?;
     assert_eq!(rt; fault(alloc, &none), None);
     Ok(())
 }
