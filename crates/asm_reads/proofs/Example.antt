@@ -1,5 +1,6 @@
 -- What the law asks can be met: `LD A,LOW $` of an empty module, whose one place is 1234H.
-use Rattle.std.proofs.Common.{◌≡◌, [], ◌∷◌, Ok, refl}
+use Rattle.std.proofs.Common.{◌≡◌, [], ◌∷◌, List, None, Ok, refl}
+use Rattle.std.specs.Prelude.{codes}
 use Rattle.asm_parse.specs.declared.item.Item.{Item}
 use Rattle.asm_parse.specs.declared.operator.Unary.{Unary}
 use Rattle.asm_parse.specs.Source.{Here}
@@ -13,10 +14,25 @@ use Rattle.asm_spell.specs.Line as line
 use Rattle.asm_piece.specs.declared.piece.Hole.{Hole}
 use Rattle.asm_piece.specs.declared.piece.Width.{Width}
 use Rattle.asm_piece.specs.Made as made
+use Rattle.asm_scan.specs.declared.token.Kind.{Kind}
+use Rattle.asm_scan.specs.declared.token.Mark.{Mark}
+use Rattle.asm_scan.specs.Tokens.{Lexeme}
+use Rattle.z80_words.specs.Named.{mnemonic_named, name_named}
+use Rattle.z80_form.specs.Spelling.{instruction_of}
 use Rattle.asm_reads.specs.Linked.{filled}
+use Rattle.asm_reads.specs.Spelled.{IsSpelled}
 
 abbrev spelled : line.Body
 spelled = line.Code (Instr.LoadByte (Operand.Register Register.A) 0) ((Field.Byte, Item.Leaf Here ∷ Item.Unary Unary.Low ∷ []) ∷ [])
+
+-- the line
+abbrev tokens : List Lexeme
+tokens = record { kind = Kind.Name; text = codes "LD" } ∷ record { kind = Kind.Name; text = codes "A" } ∷ record { kind = Kind.Mark Mark.Comma; text = [] }
+    ∷ record { kind = Kind.Name; text = codes "LOW" } ∷ record { kind = Kind.Mark Mark.Dollar; text = [] } ∷ []
+
+pub is_spelled : IsSpelled spelled
+unfolding mnemonic_named name_named instruction_of
+is_spelled = record { tokens = tokens; label = None; is = refl }
 
 abbrev hole : Hole
 hole = record { offset = 1; width = Width.Byte; value = Item.Leaf (Atom.Ref 0) ∷ Item.Unary Unary.Low ∷ [] }
