@@ -15,7 +15,7 @@ fn read(rt: &impl Abort, alloc: Global, number: u32, text: &[u8]) -> Result<Sour
     Ok(SourceLine { number, line })
 }
 
-/// The lines of a text, which are separated by ` / `.
+/// The lines that some texts spell, numbered from 1.
 pub(crate) fn read_all(
     rt: &impl Abort,
     alloc: Global,
