@@ -1,1 +1,4 @@
-mod Waits
+mod Nested
+mod Cut
+mod Linked
+mod Walked

@@ -1,5 +1,5 @@
--- Which line closes which. A text is here what its lines are to blocks.
-use Rattle.std.specs.Prelude.{ℕ, zero, suc, List, [], ◌∷◌, Option, Some, None}
+-- Where the blocks of a text end. A text is here what its lines are to blocks.
+use Rattle.std.specs.Prelude.{ℕ, zero, suc, ◌-◌, List, [], ◌∷◌, Option, Some, None, take, drop}
 use Rattle.std.specs.Option.{option_map}
 use Rattle.asm_block.specs.declared.matching.Role.{Role}
 
@@ -37,35 +37,6 @@ branch_lengths zero zero (Role.EndIf ∷ roles) = Some (0, [])
 branch_lengths zero (suc ifs) (Role.EndIf ∷ roles) = option_map longer (branch_lengths zero ifs roles)
 branch_lengths bodies ifs (_ ∷ roles) = option_map longer (branch_lengths bodies ifs roles)
 
--- What follows a line of a body, up to the end of the body; so many bodies are open within it. All, where none ends it.
-abbrev pub up_to_end : ℕ → List Role → List Role
-up_to_end inner [] = []
-up_to_end inner (Role.OpensBody ∷ roles) = Role.OpensBody ∷ up_to_end (suc inner) roles
-up_to_end zero (Role.EndBody ∷ roles) = []
-up_to_end (suc inner) (Role.EndBody ∷ roles) = Role.EndBody ∷ up_to_end inner roles
-up_to_end inner (role ∷ roles) = role ∷ up_to_end inner roles
-
--- What follows a line in its text, where so many bodies are open: the rest of the whole, or of the innermost body.
-abbrev pub text_behind : ℕ → List Role → List Role
-text_behind zero roles = roles
-text_behind (suc bodies) roles = up_to_end 0 roles
-
--- How many bodies are open behind a line. An ENDM that closes none counts for nothing.
-abbrev pub open_behind : ℕ → Role → ℕ
-open_behind bodies Role.OpensBody = suc bodies
-open_behind (suc bodies) Role.EndBody = bodies
-open_behind bodies _ = bodies
-
--- How many lines stand between a line and the one to which it leads, where so many bodies are open: MACRO and REPT lead to
--- their ENDM, IF and ELSE to the next ELSE or the ENDIF of their block, where an ENDIF closes it.
-abbrev pub gap : ℕ → Role → List Role → Option ℕ
-gap bodies Role.OpensBody roles = body_length 0 roles
-gap bodies Role.OpensIf roles = option_map (λ lengths. lengths.0) (branch_lengths 0 0 (text_behind bodies roles))
-gap bodies Role.Else roles = option_map (λ lengths. lengths.0) (branch_lengths 0 0 (text_behind bodies roles))
-gap bodies _ roles = None
-
--- The line to which a line leads, both by their numbers from 0, where so many bodies are open before the first.
-abbrev pub leads : ℕ → List Role → ℕ → Option ℕ
-leads bodies [] line = None
-leads bodies (role ∷ roles) zero = option_map suc (gap bodies role roles)
-leads bodies (role ∷ roles) (suc line) = option_map suc (leads (open_behind bodies role) roles line)
+-- the lines from one on and before another, by their numbers from 0
+abbrev pub between : ℕ → ℕ → List Role → List Role
+between from to roles = take (to - from) (drop from roles)

@@ -1,7 +1,9 @@
-//! Which line of a text closes which: the bodies of macros and repetitions, and the branches of conditions.
+//! Where the blocks of a text end: the bodies of macros and repetitions, and the branches of conditions.
 #![tactic(auto)]
 
+mod ends;
+mod links;
 mod matching;
-mod waiting;
 
-pub use matching::{Links, Role, links_of};
+pub use links::{Branches, Links, links_of};
+pub use matching::Role;

@@ -1,2 +1,5 @@
 mod Below
 mod Uses
+mod Rounds
+mod Placing
+mod Turning

@@ -1,3 +1,4 @@
+mod Lacking
 pub mod Postfix
 pub mod Stack
 pub mod Judgements

@@ -1,29 +1,28 @@
 -- A call of a macro.
-use Rattle.std.proofs.Common.{◌≡◌, ◌<◌, ◌+◌, ◌-◌, ◌∙◌, sym, ap, refl, ℕ, false, nat_le, List, [], ◌∷◌, ◌++◌, Option, Some, None, map, length, take, drop}
+use Rattle.std.proofs.Common.{◌≡◌, ◌<◌, ◌+◌, ◌∙◌, ap, refl, ℕ, false, nat_le, List, [], ◌∷◌, Option, Some, None, length}
 use Rattle.std.proofs.lemmas.Bool.{lt-leb}
 use Rattle.asm_scan.specs.Tokens.{Lexeme}
 use Rattle.asm_line.specs.Forms.{Form}
-use Rattle.asm_macro.specs.declared.call.Macro.{Macro}
-use Rattle.asm_macro.specs.declared.expansion.Expansion.{Expansion}
+use Rattle.asm_texts.specs.declared.call.Macro as kept
 use Rattle.asm_macro.specs.declared.fault.MacroFault.{MacroFault}
-use Rattle.asm_macro.specs.declared.frame.Span.{Span}
-use Rattle.asm_macro.specs.Texts.{Numbered}
+use Rattle.asm_texts.specs.Lines.{Numbered}
 use Rattle.asm_macro.specs.State as state
-use Rattle.asm_macro.specs.Calls.{Opened, arguments_in, body_lines, label_lines, opened, table_of}
+use Rattle.asm_texts.specs.Calls.{Macro, Opened, arguments_in, body_lines, label_lines, opened, table_of}
 use Rattle.asm_macro.specs.Parts as parts
-use Rattle.asm_macro.specs.Ahead.{Around, Rest}
-use Rattle.asm_macro.specs.Private.Frames.{lines_from, text_of}
-use Rattle.asm_macro.specs.Private.Moves.{Fails, On, macro_seen, moved, rest_of, state_of, texts_in}
-use Rattle.asm_macro.specs.Private.Openings.{body_texts}
+use Rattle.asm_macro.specs.Ahead.{Around}
+use Rattle.asm_texts.specs.Spans.{lines_from}
+use Rattle.asm_macro.specs.Private.Moves.{Fails, On, moved}
+use Rattle.asm_texts.specs.Prepared.{macro_seen}
+use Rattle.asm_texts.specs.Prepared.{body_texts}
 
 texts_from : (at : ℕ) (number : Option ℕ) (texts : List (List ℕ)) → parts.texts (lines_from number at None texts) ≡ texts
 texts_from at number [] = refl
 texts_from at number (t ∷ ts) = ap (λ xs. t ∷ xs) (texts_from (at + 1) number ts)
 
-pub opened_is : (all : List (List ℕ)) (m : Macro) (o : Option Opened) → opened (body_texts all m.body) ≡ o → opened (macro_seen all m).body ≡ o
+pub opened_is : (all : List (List ℕ)) (m : kept.Macro) (o : Option Opened) → opened (body_texts all m.body) ≡ o → opened (macro_seen all m).body ≡ o
 opened_is all m o e = ap opened (texts_from m.body.at m.body.number (body_texts all m.body)) ∙ e
 
-pub called_on : (depth : ℕ) (around : List Around) (e : state.State) (l : Numbered) (f : Form) (tokens : List Lexeme) (rest : List Numbered) (name : List ℕ) (found : Option state.Macro) (m : state.Macro) (o : Opened)
+pub called_on : (depth : ℕ) (around : List Around) (e : state.State) (l : Numbered) (f : Form) (tokens : List Lexeme) (rest : List Numbered) (name : List ℕ) (found : Option Macro) (m : Macro) (o : Opened)
     → found ≡ Some m → depth < 16 → opened m.body ≡ Some o
     → moved depth around (parts.worded depth e l f tokens rest name found) ≡ On (label_lines f.label l tokens) (record {
       depth = depth + 1;
@@ -33,7 +32,7 @@ pub called_on : (depth : ℕ) (around : List Around) (e : state.State) (l : Numb
     })
 called_on depth around e l f tokens rest name found m o is h op = let deep : nat_le 16 depth ≡ false = lt-leb 16 depth h in rw (is, deep, op) refl
 
-pub called_off : (depth : ℕ) (around : List Around) (e : state.State) (l : Numbered) (f : Form) (tokens : List Lexeme) (rest : List Numbered) (name : List ℕ) (found : Option state.Macro) (m : state.Macro)
+pub called_off : (depth : ℕ) (around : List Around) (e : state.State) (l : Numbered) (f : Form) (tokens : List Lexeme) (rest : List Numbered) (name : List ℕ) (found : Option Macro) (m : Macro)
     → found ≡ Some m → depth < 16 → opened m.body ≡ None
     → moved depth around (parts.worded depth e l f tokens rest name found) ≡ Fails (label_lines f.label l tokens) l.number MacroFault.Stray
 called_off depth around e l f tokens rest name found m is h op = let deep : nat_le 16 depth ≡ false = lt-leb 16 depth h in rw (is, deep, op) refl

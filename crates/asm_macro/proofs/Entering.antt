@@ -1,19 +1,18 @@
 -- The body of a call is begun.
-use Rattle.std.proofs.Common.{◌≡◌, ◌+◌, ◌-◌, ◌∙◌, sym, ap, refl, ℕ, List, [], ◌∷◌, ◌++◌, Option, Some, None, map, reverse, length, arith, take, drop}
+use Rattle.std.proofs.Common.{◌≡◌, ◌+◌, ◌∙◌, sym, ap, refl, ℕ, List, [], ◌∷◌, Option, Some, None, reverse, length, arith}
 use Rattle.asm_scan.specs.Tokens.{Lexeme}
 use Rattle.asm_replace.specs.Replaced.{Table, replaced}
 use Rattle.asm_macro.specs.declared.expansion.Expansion.{Expansion}
-use Rattle.asm_macro.specs.declared.frame.Span.{Span}
+use Rattle.asm_texts.specs.declared.span.Span.{Span}
 use Rattle.asm_macro.specs.declared.frame.Following.{Following}
-use Rattle.asm_macro.specs.Texts.{heard}
-use Rattle.asm_macro.specs.Calls.{body_lines, replaced_by, replaced_line}
+use Rattle.asm_texts.specs.Lines.{heard}
+use Rattle.asm_texts.specs.Calls.{body_lines, replaced_by, replaced_line}
 use Rattle.asm_macro.specs.Parts as parts
-use Rattle.asm_macro.specs.Ahead.{Around, Rest}
 use Rattle.asm_macro.specs.Private.Entering.{Entered}
-use Rattle.asm_macro.specs.Private.Frames.{around_seen, innermost, lines_from, text_of, turns_in}
+use Rattle.asm_macro.specs.Private.Frames.{around_seen, innermost, turns_in}
+use Rattle.asm_texts.specs.Spans.{lines_from, text_of}
 use Rattle.asm_macro.specs.Private.Moves.{IsSound, rest_of, state_of, tables_in, texts_in}
-use Rattle.asm_macro.specs.Private.Openings.{SaySame, body_texts}
-use Rattle.asm_macro.proofs.Stacks.{pushed}
+use Rattle.asm_texts.specs.Prepared.{SaySame, body_texts}
 
 abbrev pub Replaces : Type 0
 Replaces = (t u : Table) → SaySame t u → (line : List ℕ) (tokens : List Lexeme) → replaced t line tokens ≡ replaced u line tokens

@@ -1,6 +1,7 @@
 -- A line that is met comes to what its head says, where it is read and counted.
-use Rattle.std.proofs.Common.{◌≡◌, ◌<◌, ◌∙◌, ◌||◌, ◌&&◌, if◌then◌else◌, sym, ap, refl, ℕ, Bool, true, false, not, nat_le, nat_lt, is_some, List, [], ◌∷◌, Option, Some, None, Result, Ok, Err, arith}
+use Rattle.std.proofs.Common.{◌≡◌, ◌<◌, ◌∙◌, ◌||◌, ◌&&◌, if◌then◌else◌, sym, ap, refl, ℕ, Bool, true, false, not, nat_le, nat_lt, is_some, List, [], ◌∷◌, Option, Some, None, Ok}
 use Rattle.std.proofs.lemmas.Bool.{lt-leb}
+use Rattle.std.specs.Option.{option_map}
 use Rattle.asm_scan.specs.Tokens.{Lexeme}
 use Rattle.asm_scan.specs.Scanned.{scanned}
 use Rattle.asm_words.specs.Words.{upper, is_reserved}
@@ -8,13 +9,13 @@ use Rattle.asm_line.specs.declared.forms.BlockWord.{BlockWord}
 use Rattle.asm_line.specs.Forms.{Form, Head, form}
 use Rattle.asm_line.specs.Forms as line
 use Rattle.asm_macro.specs.declared.fault.MacroFault.{MacroFault}
-use Rattle.asm_macro.specs.Texts.{Numbered, form_by, form_of, tokens_in}
+use Rattle.asm_texts.specs.Lines.{Numbered, form_by, tokens_in}
 use Rattle.asm_macro.specs.State.{State, counted, macro_named, table}
-use Rattle.asm_macro.specs.Blocks.{Body, Branches, body_of, branches_of}
-use Rattle.asm_macro.specs.Judged.{first, is_counted, is_stray, line_fault, parameters, redefined, stray, too_many, unclosed, unless_some, unread}
+use Rattle.asm_texts.specs.Blocks.{Body, body_of, branches_of}
+use Rattle.asm_macro.specs.Judged.{first, is_counted, is_stray, parameters, redefined, stray, too_many, unclosed, unless_some, unread}
 use Rattle.asm_macro.specs.Parts.{Part, conditional, definition, fails, headed, judged, part, read, repeated}
 use Rattle.asm_macro.specs.Values.{worth}
-use Rattle.asm_macro.specs.Private.Heads.{by_head, unless_redefined, unless_stray}
+use Rattle.asm_macro.specs.Private.Heads.{by_head, defined, kept, unless_redefined, unless_stray}
 
 has_parameters : (some : Bool) (ps : Option (List (List ℕ))) → (some || not (is_some ps)) ≡ false → is_some ps ≡ true
 has_parameters true ps e = absurd (cc)
@@ -71,3 +72,24 @@ part_is depth e l rest tokens is k =
     let scan : part depth e l rest ≡ judged depth e l rest (first (too_many e f.head ∷ None ∷ stray depth f ∷ redefined e f.head ∷ unclosed f.head rest ∷ []))
     = ap (λ s. judged depth e l rest (first (too_many e (form_by (tokens_in s)).head ∷ unread s ∷ stray depth (form_by (tokens_in s)) ∷ redefined e (form_by (tokens_in s)).head ∷ unclosed (form_by (tokens_in s)).head rest ∷ []))) is in
     scan ∙ ap (λ o. judged depth e l rest (first (o ∷ None ∷ stray depth f ∷ redefined e f.head ∷ unclosed f.head rest ∷ []))) (few e f.head k) ∙ by_each f.head f depth e l tokens rest now
+
+definition_kept : (e : State) (l : Numbered) (name key : List ℕ) (some : List (List ℕ)) (found : Option Body) → key ≡ upper name → definition e l name (Some some) found ≡ kept e l key some found
+definition_kept e l name key some (Some body) same = ap (λ k. kept e l k some (Some body)) (sym same)
+definition_kept e l name key some None same = refl
+
+-- a macro that may stand, and is new
+pub defined_is : (depth : ℕ) (e : State) (l : Numbered) (f : Form) (name key : List ℕ) (rest : List Numbered) (some : List (List ℕ)) → key ≡ upper name → parameters f.rest ≡ Some some
+    → ((is_some f.label || nat_lt 0 depth) || is_reserved (upper name)) ≡ false → macro_named e (upper name) ≡ None → defined depth e l f name rest ≡ kept e l key some (body_of rest)
+defined_is depth e l f name key rest some same found stands new =
+    let stray : is_stray depth f (line.Macro name) ≡ false = ap (λ b. b || not (is_some (parameters f.rest))) stands ∙ ap (λ o. false || not (is_some o)) found in
+    ap (λ b. unless_stray b l (unless_redefined (is_some (macro_named e (upper name))) l (definition e l name (parameters f.rest) (body_of rest)))) stray
+    ∙ ap (λ o. unless_redefined (is_some o) l (definition e l name (parameters f.rest) (body_of rest))) new
+    ∙ ap (λ o. definition e l name o (body_of rest)) found ∙ definition_kept e l name key some (body_of rest) same
+
+pub none_new : {X Y : Type 0} (f : X → Y) (o : Option X) (found : Option Y) → option_map f o ≡ found → is_some o ≡ false → found ≡ None
+none_new f None found e n = sym e
+none_new f (Some x) found e n = absurd (cc)
+
+pub some_mapped : {X Y : Type 0} (f : X → Y) (o : Option X) → is_some (option_map f o) ≡ is_some o
+some_mapped f None = refl
+some_mapped f (Some x) = refl

@@ -1,5 +1,5 @@
 mod Unique
-mod Texts
+mod FewLines
 mod Stacks
 mod Turned
 mod Taken
@@ -7,8 +7,6 @@ mod Heads
 mod Begun
 mod Worth
 mod Macros
-mod Openings
 mod Remaining
-mod Branches
 mod Entering
 mod Called

@@ -3,10 +3,10 @@ use Rattle.std.proofs.Common.{◌≡◌, ◌∙◌, sym, ap, refl, subst, ℕ, L
 use Rattle.asm_macro.specs.declared.fault.MacroFault.{MacroFault}
 use Rattle.asm_macro.specs.declared.moves.Given.{Given}
 use Rattle.asm_macro.specs.declared.moves.Stop as moved_by
-use Rattle.asm_macro.specs.Texts.{Numbered}
+use Rattle.asm_texts.specs.Lines.{Numbered}
 use Rattle.asm_macro.specs.State.{State}
-use Rattle.asm_macro.specs.Parts.{Next, Part, Stop, Last, Go, Within, part, resumed}
-use Rattle.asm_macro.specs.Expands.{End, Whole, Ended, Stopped, Expands, nothing, line, Comes, stop, last, go, within, Follows, whole, ended, stopped, IsDone}
+use Rattle.asm_macro.specs.Parts.{Part, Stop, Last, Go, Within, part, resumed}
+use Rattle.asm_macro.specs.Expands.{End, Whole, Ended, Stopped, nothing, line, Comes, stop, last, go, within, whole, ended, stopped}
 use Rattle.asm_macro.specs.Ahead.{Around, Rest, Remains, Resumes}
 use Rattle.asm_macro.specs.Ahead as ahead
 use Rattle.asm_macro.specs.Private.Moves.{Moved, On, Fails, Done, Gives, Goes, moved, in_text, next_move}

@@ -1,12 +1,11 @@
 -- What lines that are taken up come to.
-use Rattle.std.proofs.Common.{◌≡◌, ◌⊎◌, inl, inr, ◌<◌, ◌≤◌, ◌+◌, ◌∙◌, sym, ap, refl, subst, ℕ, Bool, true, false, nat_le, List, [], ◌∷◌, Option, Some, None, Result, Ok, Err, arith}
+use Rattle.std.proofs.Common.{◌≡◌, ◌⊎◌, inl, inr, ◌<◌, sym, refl, subst, ℕ, false, nat_le, List, [], Option, Some, Result, Ok, Err}
 use Rattle.std.proofs.lemmas.Bool.{lt-leb}
 use Rattle.asm_macro.specs.declared.fault.MacroFault.{MacroFault}
-use Rattle.asm_macro.specs.declared.moves.Stop as moves
-use Rattle.asm_macro.specs.Texts.{Numbered}
+use Rattle.asm_texts.specs.Lines.{Numbered}
 use Rattle.asm_macro.specs.State.{State}
-use Rattle.asm_macro.specs.Blocks.{Body, Branches}
-use Rattle.asm_macro.specs.Parts.{Part, chosen, conditional, fails, repeated, turns}
+use Rattle.asm_texts.specs.Blocks.{Body, Branches}
+use Rattle.asm_macro.specs.Parts.{chosen, conditional, repeated, turns}
 use Rattle.asm_macro.specs.Ahead.{Around, Rest}
 use Rattle.asm_macro.specs.Private.Allows.{stopped}
 use Rattle.asm_macro.specs.Private.Moves.{Fails, Moved, Resumes, moved}

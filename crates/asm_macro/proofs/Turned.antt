@@ -1,21 +1,23 @@
 -- What moves leave.
-use Rattle.std.proofs.Common.{◌≡◌, ◌<◌, ◌≤◌, ◌+◌, ◌-◌, ◌∙◌, sym, ap, refl, ℕ, zero, suc, Bool, true, false, nat_le, List, [], ◌∷◌, ◌++◌, Option, Some, None, map, reverse, take, drop, length, arith, Ok, Err}
+use Rattle.std.proofs.Common.{◌≡◌, ◌<◌, ◌+◌, ◌-◌, ◌∙◌, sym, ap, refl, ℕ, zero, suc, true, false, nat_le, List, [], ◌∷◌, ◌++◌, Option, Some, reverse, take, drop, length, arith, Err}
 use Rattle.std.proofs.lemmas.Bool.{lt-leb}
 use Rattle.asm_replace.specs.Replaced.{Table}
 use Rattle.asm_macro.specs.declared.expansion.Expansion.{Expansion}
-use Rattle.asm_macro.specs.declared.frame.Block.{Block}
-use Rattle.asm_macro.specs.declared.frame.Span.{Span}
+use Rattle.asm_texts.specs.declared.span.Block.{Block}
+use Rattle.asm_texts.specs.declared.span.Span.{Span}
 use Rattle.asm_macro.specs.declared.frame.Following.{Following}
-use Rattle.asm_macro.specs.Texts.{Numbered, form_of}
+use Rattle.asm_texts.specs.Lines.{Numbered, form_of}
 use Rattle.asm_macro.specs.declared.fault.MacroFault.{MacroFault}
 use Rattle.asm_macro.specs.State.{State, counted}
-use Rattle.asm_macro.specs.Blocks.{Body, Branches, Section}
-use Rattle.asm_macro.specs.Parts.{Part, Stop, Turns, Go, is_alone, renumbered, turns, closing, passed, resumed, behind_first}
+use Rattle.asm_texts.specs.Blocks.{Body, Branches, Section}
+use Rattle.asm_texts.specs.Blocks.{is_alone}
+use Rattle.asm_macro.specs.Parts.{Part, Stop, Turns, Go, renumbered, turns, closing, passed, resumed, behind_first}
 use Rattle.asm_macro.specs.Ahead.{Around, Rest}
-use Rattle.asm_macro.specs.Private.Frames.{around_seen, behind_other, body_seen, innermost, lines_from, next_of, outside, text_of, turns_in}
+use Rattle.asm_macro.specs.Private.Frames.{around_seen, behind_other, innermost, next_of, outside, turns_in}
+use Rattle.asm_texts.specs.Spans.{body_seen, lines_from, text_of}
 use Rattle.asm_macro.specs.Private.Allows.{Allows}
 use Rattle.asm_macro.specs.declared.moves.Stop as moves
-use Rattle.asm_macro.specs.Private.Moves.{IsSound, Moved, On, Resumes, in_text, moved, next_move, rest_of, state_of, tables_in, texts_in}
+use Rattle.asm_macro.specs.Private.Moves.{IsSound, On, Resumes, in_text, moved, next_move, rest_of, state_of, tables_in, texts_in}
 use Rattle.asm_macro.proofs.Stacks.{pushed}
 
 renumbered-from : (n : ℕ) (number : Option ℕ) (at : ℕ) (names : Option Table) (texts : List (List ℕ)) → renumbered n (lines_from number at names texts) ≡ lines_from (Some n) at names texts

@@ -1,5 +1,5 @@
 -- What tokens are worth where each name is a constant.
-use Rattle.std.proofs.Common.{◌≡◌, ◌⊎◌, inl, inr, ◌∙◌, ◌&&◌, cond, sym, ap, refl, subst, ℕ, Bool, true, false, is_some, List, [], ◌∷◌, ◌++◌, Option, Some, None, Result, Ok, Err, map, Bor, option_copied}
+use Rattle.std.proofs.Common.{◌≡◌, ◌⊎◌, inl, inr, ◌∙◌, ◌&&◌, cond, sym, ap, refl, ℕ, Bool, true, false, is_some, List, [], ◌∷◌, ◌++◌, Option, Some, None, Result, Ok, Err, map, Bor, option_copied}
 use Rattle.std.specs.List.{AllPass, list_all}
 use Rattle.std.specs.Prelude.{IsTrue, ◌↔◌}
 use Rattle.std.proofs.lemmas.List.Sums.{AllPass-from_list_all, list_all-from_AllPass}
@@ -8,7 +8,7 @@ use Rattle.std.specs.Str.{bytes_eq}
 use Rattle.std.proofs.lemmas.List.{map-append}
 use Rattle.std.proofs.lemmas.Bool.{false≢true}
 use Rattle.asm_scan.specs.Tokens.{Lexeme}
-use Rattle.asm_parse.specs.Source.{IsSource, Operand, Number, Name, Here}
+use Rattle.asm_parse.specs.Source.{Operand, Number, Name, Here}
 use Rattle.asm_parse.specs.Parsed.{parsed}
 use Rattle.asm_parse.specs.Expression.{postfix}
 use Rattle.asm_parse.specs.declared.fault.ExprFault.{ExprFault}

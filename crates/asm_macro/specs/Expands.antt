@@ -1,7 +1,8 @@
 -- The expansion of a text.
 use Rattle.std.specs.Prelude.{◌<◌, ◌≤◌, ℕ, List, [], ◌∷◌, ◌++◌, Result, Ok, Err, length}
 use Rattle.asm_macro.specs.declared.fault.MacroFault.{MacroFault}
-use Rattle.asm_macro.specs.Texts.{Numbered, numbered, source_lines}
+use Rattle.asm_texts.specs.Lines.{Numbered}
+use Rattle.asm_macro.specs.Texts.{numbered, source_lines}
 use Rattle.asm_macro.specs.State.{State, start}
 use Rattle.asm_macro.specs.Parts.{Next, Part, Stop, Last, Go, Within, part, resumed}
 

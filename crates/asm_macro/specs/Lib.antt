@@ -1,9 +1,7 @@
 pub mod Faults
 pub mod Texts
 pub mod State
-pub mod Blocks
 pub mod Values
-pub mod Calls
 pub mod Judged
 pub mod Parts
 pub mod Expands

@@ -1,5 +1,5 @@
 -- What a line that is met comes to, with the lines behind it in its text.
-use Rattle.std.specs.Prelude.{ℕ, zero, suc, ◌+◌, ◌&&◌, Bool, not, List, [], ◌∷◌, Option, Some, None, Result, Ok, Err, if◌then◌else◌, nat_le, is_some, length, map, codes}
+use Rattle.std.specs.Prelude.{ℕ, zero, suc, ◌+◌, List, [], ◌∷◌, Option, Some, None, Result, Ok, Err, if◌then◌else◌, nat_le, length, map, codes}
 use Rattle.std.specs.Str.{bytes_eq}
 use Rattle.asm_scan.specs.declared.fault.ScanFault.{ScanFault}
 use Rattle.asm_scan.specs.Tokens.{Lexeme}
@@ -9,11 +9,12 @@ use Rattle.asm_line.specs.Forms.{Form, Head}
 use Rattle.asm_line.specs.Forms as line
 use Rattle.asm_scan.specs.Scanned.{scanned}
 use Rattle.asm_macro.specs.declared.fault.MacroFault.{MacroFault}
-use Rattle.asm_macro.specs.Texts.{Numbered, form_of}
-use Rattle.asm_macro.specs.State.{Macro, State, macro_named, with_macro, is_known, with_constant, counted, table}
+use Rattle.asm_texts.specs.Lines.{Numbered, form_of}
+use Rattle.asm_texts.specs.Calls.{Macro}
+use Rattle.asm_macro.specs.State.{State, macro_named, with_macro, is_known, with_constant, counted, table}
 use Rattle.asm_macro.specs.Values.{worth}
-use Rattle.asm_macro.specs.Blocks.{Section, Body, Branches, body_of, branches_of}
-use Rattle.asm_macro.specs.Calls.{Opened, opened, body_lines, arguments_in, table_of, label_lines}
+use Rattle.asm_texts.specs.Blocks.{is_alone, Section, Body, Branches, body_of, branches_of}
+use Rattle.asm_texts.specs.Calls.{Opened, opened, body_lines, arguments_in, table_of, label_lines}
 use Rattle.asm_macro.specs.Judged.{most_lines, parameters, line_fault}
 
 -- What follows a text within another: the rest of that; what stands behind the first branch of an IF, or behind the branch of
@@ -33,10 +34,6 @@ pub data Part : Type 0 where
   Go : List Numbered → State → List Numbered → Part
   -- these lines are given; then a text is expanded, at some depth; and then comes what follows it
   Within : List Numbered → State → ℕ → List Numbered → Next → Part
-
--- an ELSE, ENDIF or ENDM of an open block: it stands alone on its line
-abbrev pub is_alone : Form → Bool
-is_alone form = not (is_some form.label) && nat_le (length form.rest) 0
 
 abbrev pub fails : Numbered → MacroFault → Part
 fails l why = Stop [] l.number why

@@ -1,10 +1,7 @@
 pub mod Stages
 pub mod Frames
-pub mod Ends
 pub mod Allows
 pub mod Heads
-pub mod Openings
 pub mod Entering
 pub mod Constants
 pub mod Moves
-pub mod Branches

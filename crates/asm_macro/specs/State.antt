@@ -4,11 +4,7 @@ use Rattle.std.specs.Map.{lookup}
 use Rattle.std.specs.Str.{bytes_eq}
 use Rattle.asm_expr.specs.declared.meaning.Meaning.{Meaning}
 use Rattle.asm_expr.specs.Names as names
-
--- a macro: its parameters in upper case, and the lines of its body
-pub record Macro : Type 0 where
-  pub parameters : List (List ℕ)
-  pub body : List (List ℕ)
+use Rattle.asm_texts.specs.Calls.{Macro}
 
 -- The macros by their names; the names that EQU gave a value that is known here; how many LOCAL names there were; how many
 -- lines were taken up. Names are in upper case.

@@ -5,13 +5,12 @@ ghost use Rattle.std.specs.Option.{option_map};
 ghost use Rattle.asm_replace.specs.Views.{table};
 ghost use Rattle.asm_macro.specs.Parts.{closing, passed};
 ghost use Rattle.asm_macro.specs.Private.Allows.{Allows, stopped};
-ghost use Rattle.asm_macro.specs.Private.Frames.{line_of, section_of};
+ghost use Rattle.asm_texts.specs.Spans.{line_of, section_of};
 
 use crate::fault::MacroFault;
-use crate::frame::{Place, Stretch};
 use crate::moves::Stop;
-use crate::reading::{is_alone, line_at, put_shown};
 use asm_replace::Replacements;
+use asm_texts::{Place, Stretch, is_alone, line_at, put_shown};
 use std::alloc::Global;
 
 /// Tests a line that closes or divides a block: it stands alone.

@@ -17,9 +17,6 @@ pub struct Line<'a> {
     pub text: &'a [u8],
 }
 
-/// The most bytes of a source text.
-const LONGEST_TEXT: usize = 16_777_216;
-
 /// How far the expansion is.
 #[derive(Debug, Drop)]
 enum Stage<'a> {

@@ -1,24 +1,26 @@
 //! What is known from the lines before, and what is still to be expanded.
 
-ghost use Rattle.std.specs.Prelude.{◌≡◌, ◌≢◌, ◌<◌, ◌≤◌, ◌+◌, ◌∷◌, IfOk, OnOk, List, [], Some, length};
+ghost use Rattle.std.specs.Prelude.{◌≡◌, ◌≢◌, ◌<◌, ◌≤◌, ◌+◌, ◌∷◌, ℕ, IfOk, OnOk, List, [], Some, length, reverse};
+ghost use Rattle.asm_replace.specs.Replaced.{Table};
+ghost use Rattle.asm_texts.specs.Books.{IsBook};
 ghost use Rattle.std.specs.Option.{option_map};
 ghost use Rattle.asm_replace.specs.Views.{table};
 ghost use Rattle.asm_macro.specs.Ahead.{Around, seen};
 ghost use Rattle.asm_macro.specs.Parts.{behind_first, resumed, turns};
 ghost use Rattle.asm_macro.specs.declared.frame.Following.{Following};
-ghost use Rattle.asm_macro.specs.Private.Frames.{body_seen, branches_seen, innermost, next_of};
+ghost use Rattle.asm_texts.specs.Spans.{body_seen, branches_seen};
+ghost use Rattle.asm_macro.specs.Private.Frames.{AreBooks, below, innermost, next_of};
 ghost use Rattle.asm_macro.specs.declared.moves.Given.{Given};
 ghost use Rattle.asm_macro.specs.Private.Moves.{Gives, Goes, IsSound, Lessens, Resumes, Takes, most_moves, moved, next_move, rest_of, state_of, tables_in, texts_in};
 
-use crate::call::Macro;
 use crate::closing::{closes, passes};
 use crate::constants::Constants;
 use crate::expander::Line;
 use crate::fault::MacroFault;
-use crate::frame::{Block, Choice, Following, Span};
+use crate::frame::Following;
 use crate::moves::{Given, Stop, Taken};
-use crate::reading::put_shown;
 use asm_replace::Replacements;
+use asm_texts::{Block, Book, Choice, Macro, Span, put_shown};
 use indexmap::IndexMap;
 use std::alloc::{AllocError, Global};
 
@@ -45,6 +47,21 @@ pub(crate) struct Expansion<'a> {
     pub calls: Vec<Replacements>,
     /// How many repetitions are open.
     pub turns: usize,
+    /// Where the blocks end of the innermost call's text, or of the source, as far as they were looked for.
+    pub book: Book,
+    /// And of the texts around the open calls, the innermost last.
+    pub books: Vec<Book>,
+}
+
+/// Where the blocks end of the text around a call that is over.
+fn outer_book(alloc: Global, books: &mut Vec<Book>) -> Book
+    ensures { (texts : List (List ℕ)) (tables : List Table) → AreBooks texts tables (reverse books.old.items)
+        → IsBook texts (innermost (below tables)) result × AreBooks texts (below tables) (reverse books.new.items) }
+{
+    match books.pop() {
+        Some(book) => book,
+        None => Book::new(alloc),
+    }
 }
 
 impl<'a> Expansion<'a> {
@@ -120,6 +137,7 @@ impl<'a> Expansion<'a> {
         match next {
             Following::Rest(text) => {
                 self.calls.pop();
+                self.book = outer_book(self.alloc, &mut self.books);
                 self.text = text;
                 Ok(())
             }

@@ -2,7 +2,6 @@
 #![tactic(auto)]
 
 mod blocks;
-mod call;
 mod closing;
 mod constants;
 mod expander;
@@ -11,9 +10,6 @@ mod fault;
 mod frame;
 pub mod laws;
 mod moves;
-mod open;
-mod prepare;
-mod reading;
 mod source;
 mod take;
 mod whole;

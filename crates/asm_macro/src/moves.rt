@@ -1,6 +1,11 @@
 //! What one move of an expansion comes to.
 
-ghost use Rattle.std.specs.Prelude.{◌≡◌};
+ghost use Rattle.std.specs.Prelude.{◌≡◌, Ok, ℕ};
+ghost use Rattle.asm_texts.specs.Lines.{Numbered};
+ghost use Rattle.asm_texts.specs.Prepared.{labels};
+ghost use Rattle.asm_macro.specs.declared.fault.MacroFault.{MacroFault};
+ghost use Rattle.asm_macro.specs.Ahead.{Rest};
+ghost use Rattle.asm_macro.specs.Private.Moves.{Fails, On, Takes};
 ghost use Rattle.asm_macro.specs.declared.moves.Stop.TheVariants.{NoMemory};
 
 use crate::fault::MacroFault;
@@ -52,4 +57,24 @@ pub(crate) enum Given {
     Refused(u32),
     /// Nothing is left.
     Over,
+}
+
+/// What a call gives whose body is begun.
+pub(crate) fn begun(label: Option<Vec<u8>>) -> Taken
+    ensures { (l : Numbered) (new : Rest) → Takes l (Ok result) new (On (labels l.number label) new) }
+{
+    match label {
+        None => Taken::Nothing,
+        Some(text) => Taken::Label(text),
+    }
+}
+
+/// What a call gives whose body may not stand.
+pub(crate) fn refused(number: u32, label: Option<Vec<u8>>) -> Result<Taken, Stop>
+    ensures { (l : Numbered) (new : Rest) → l.number ≡ number → Takes l result new (Fails (labels number label) number MacroFault.Stray) }
+{
+    match label {
+        None => Err(Stop::At(number, MacroFault::Stray)),
+        Some(text) => Ok(Taken::Refused(text)),
+    }
 }

@@ -8,7 +8,7 @@ ghost use Rattle.asm_macro.specs.Private.Stages.{Begins};
 use crate::constants::Constants;
 use crate::expansion::Expansion;
 use crate::fault::MacroFault;
-use crate::frame::Span;
+use asm_texts::{Book, Span};
 use bstr::ByteSlice;
 use indexmap::IndexMap;
 use std::alloc::{AllocError, Global};
@@ -67,5 +67,7 @@ pub(crate) fn begin(alloc: Global, text: &[u8]) -> Result<Expansion<'_>, MacroFa
         around: Vec::new(alloc),
         calls: Vec::new(alloc),
         turns: 0,
+        book: Book::new(alloc),
+        books: Vec::new(alloc),
     })
 }

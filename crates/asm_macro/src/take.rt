@@ -8,33 +8,33 @@ ghost use Rattle.asm_words.specs.Words.{upper};
 ghost use Rattle.asm_line.specs.Views.{form_seen, head_seen};
 ghost use Rattle.asm_replace.specs.Views.{table as table_seen, texts};
 ghost use Rattle.asm_replace.specs.Replaced.{Table};
-ghost use Rattle.asm_macro.specs.Private.Openings.{SaySame, body_texts};
+ghost use Rattle.asm_texts.specs.Prepared.{SaySame, body_texts};
 ghost use Rattle.asm_macro.specs.Private.Entering.{Entered};
 ghost use Rattle.asm_macro.specs.State.{macro_named, table};
 ghost use Rattle.asm_macro.specs.Values.{worth};
 ghost use Rattle.asm_macro.specs.Ahead.{seen};
-ghost use Rattle.asm_macro.specs.Blocks.{body_of, branches_of};
+ghost use Rattle.asm_texts.specs.Blocks.{body_of, branches_of};
 ghost use Rattle.asm_macro.specs.Judged.{is_counted, parameters};
 ghost use Rattle.asm_macro.specs.Parts.{chosen, conditional, definition, part, repeated, second_of, worded};
 ghost use Rattle.asm_macro.specs.Private.Allows.{stopped};
-ghost use Rattle.asm_macro.specs.Private.Frames.{branches_seen, innermost};
+ghost use Rattle.asm_texts.specs.Spans.{branches_seen};
+ghost use Rattle.asm_macro.specs.Private.Frames.{innermost};
 ghost use Rattle.asm_macro.specs.Private.Heads.{by_head, defined, kept};
 ghost use Rattle.asm_macro.specs.Private.Moves.{IsSound, Resumes, Takes, moved, rest_of, state_of, tables_in, texts_in};
 
-use crate::blocks::{body_of, branches_of};
-use crate::call::{Macro, macro_of};
 use crate::closing::closes;
 use crate::expander::Line;
 use crate::expansion::{Expansion, MOST_LINES};
 use crate::fault::MacroFault;
-use crate::frame::{Choice, Following, Span};
-use crate::moves::{Stop, Taken};
-use crate::prepare::{begun, label_before, prepare, refused};
+use crate::frame::Following;
+use crate::moves::{Stop, Taken, begun, refused};
 use asm_line::{BlockWord, Form, Head, form_of, names};
 use asm_replace::Replacements;
 use asm_scan::{ScanFault, Token, tokens};
+use asm_texts::{Book, Choice, Macro, Span, label_before, macro_of, prepare};
 use asm_words::is_reserved;
 use std::alloc::{AllocError, Global};
+use std::mem;
 
 /// The most calls and repetitions within one another.
 const MOST_OPEN: usize = 16;
@@ -127,7 +127,7 @@ impl<'a> Expansion<'a> {
         ensures taken { Resumes result (rest_of self.new) (moved (rest_of self.old).depth (rest_of self.old).around
             (conditional (rest_of self.old).depth (state_of self.old) (seen line.entry) (branches_of (rest_of self.old).text) (worth (table (state_of self.old)) (lexemes tokens.entry.now)))) }
     {
-        let found = branches_of(self.alloc, &self.lines, self.calls.last(), self.text)?;
+        let found = self.branches()?;
         let Some(choice) = found else {
             return Err(Stop::At(line.number, MacroFault::Unclosed));
         };
@@ -146,7 +146,7 @@ impl<'a> Expansion<'a> {
         ensures taken { Resumes result (rest_of self.new) (moved (rest_of self.old).depth (rest_of self.old).around
             (repeated (rest_of self.old).depth (state_of self.old) (seen line.entry) (body_of (rest_of self.old).text) (worth (table (state_of self.old)) (lexemes tokens.entry.now)))) }
     {
-        let found = body_of(self.alloc, &self.lines, self.calls.last(), self.text)?;
+        let found = self.body()?;
         let Some(body) = found else {
             return Err(Stop::At(line.number, MacroFault::Unclosed));
         };
@@ -179,6 +179,8 @@ impl<'a> Expansion<'a> {
         asm_replace::laws::by_names();
         self.around.push(Following::Rest(self.text))?;
         self.calls.push(names)?;
+        let book = mem::replace(&mut self.book, Book::new(self.alloc));
+        self.books.push(book)?;
         self.counter = counter;
         self.text = Span {
             number: Some(line.number),
@@ -242,7 +244,7 @@ impl<'a> Expansion<'a> {
         ensures taken { Resumes result (rest_of self.new) (moved (rest_of self.old).depth (rest_of self.old).around
             (kept (state_of self.old) (seen line.entry) key.items (texts parameters.items) (body_of (rest_of self.old).text))) }
     {
-        let found = body_of(self.alloc, &self.lines, self.calls.last(), self.text)?;
+        let found = self.body()?;
         let Some(body) = found else {
             return Err(Stop::At(line.number, MacroFault::Unclosed));
         };

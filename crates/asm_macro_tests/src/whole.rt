@@ -101,6 +101,95 @@ fn limits(rt: HostRuntime) -> Result<(), Fail> {
     assert_expands(&rt, alloc, &long, "fault 1 TooManyLines")
 }
 
+/// A text with so many copies of one text, then another, and then as many copies of a third.
+fn around(
+    alloc: Global,
+    before: &[u8],
+    middle: &[u8],
+    behind: &[u8],
+    count: u32,
+) -> Result<Vec<u8>, Fail> {
+    let mut text = Vec::new(alloc);
+    for _ in 0..count {
+        text.extend_from_slice(before)?;
+    }
+    text.extend_from_slice(middle)?;
+    for _ in 0..count {
+        text.extend_from_slice(behind)?;
+    }
+    Ok(text)
+}
+
+/// Blocks by the ten thousand. A test has sixty seconds; were lines looked at again by each block around or before them, each of
+/// these texts would take many minutes.
+#[test]
+fn nested_conditions(rt: HostRuntime) -> Result<(), Fail> {
+    let alloc = rt.alloc();
+    let text = around(alloc, b"IF 1\n", b" NOP\n", b"ENDIF\n", 30_000)?;
+    assert_expands(&rt, alloc, &text, "30001  NOP|")
+}
+
+#[test]
+fn conditions_in_a_row(rt: HostRuntime) -> Result<(), Fail> {
+    let alloc = rt.alloc();
+    let text = around(alloc, b"IF 1\nENDIF\n", b" NOP\n", b"", 59_999)?;
+    assert_expands(&rt, alloc, &text, "119999  NOP|")
+}
+
+#[test]
+fn conditions_before_a_long_branch(rt: HostRuntime) -> Result<(), Fail> {
+    let alloc = rt.alloc();
+    let text = around(alloc, b"IF 0\nENDIF\n", b"IF 0\n", b" NOP\n", 50_000)?;
+    assert_expands(&rt, alloc, &text, "fault 100001 Unclosed")
+}
+
+#[test]
+fn branches_not_taken(rt: HostRuntime) -> Result<(), Fail> {
+    let alloc = rt.alloc();
+    let text = around(alloc, b"IF 1\n", b" NOP\n", b"ELSE\n RET\nENDIF\n", 30_000)?;
+    assert_expands(&rt, alloc, &text, "30001  NOP|")
+}
+
+#[test]
+fn branches_of_a_repetition(rt: HostRuntime) -> Result<(), Fail> {
+    let alloc = rt.alloc();
+    let mut text = b"REPT 20000\nIF 0\n".to_vec(alloc)?;
+    let rest = around(alloc, b" NOP\n", b"ENDIF\nENDM\n RET\n", b"", 30_000)?;
+    text.extend_from_slice(&rest)?;
+    assert_expands(&rt, alloc, &text, "30005  RET|")?;
+    let text = b"REPT 65535\nIF 0\n NOP\nELSE\nENDIF\nENDM\n";
+    assert_expands(&rt, alloc, text, "fault 1 TooManyLines")
+}
+
+#[test]
+fn conditions_of_calls(rt: HostRuntime) -> Result<(), Fail> {
+    let alloc = rt.alloc();
+    // what closes a block may be an argument
+    let rows: [(&[u8], &str); 4] = [
+        (
+            b"K MACRO W\nIF 0\n A\nW\n B\nENDM\n K ENDIF\n K ELSE\n",
+            "fault 8 Unclosed",
+        ),
+        (
+            b"K MACRO W\nIF 0\n A\nW\n B\nENDIF\nENDM\n K ELSE\n K NOP\nIF 1\n C\nENDIF\n",
+            "8  B|11  C|",
+        ),
+        // blocks of the text around a call go on behind it
+        (
+            b"K MACRO\nIF 1\n A\nENDIF\nENDM\nREPT 2\nIF 1\n K\nELSE\n B\nENDIF\nENDM\nIF 0\nELSE\n C\nENDIF\n",
+            "6  A|6  A|15  C|",
+        ),
+        (
+            b"K MACRO\nIF 0\nREPT 2\n Q\nENDIF\nENDM\nENDM\nQ MACRO\nENDM\n K\n",
+            "fault 10 Unclosed",
+        ),
+    ];
+    for (text, want) in rows {
+        assert_expands(&rt, alloc, text, want)?;
+    }
+    Ok(())
+}
+
 /// The next line is this one, with its number; or, of an empty text, there is none.
 fn assert_next(rt: &impl Abort, expander: &mut Expander<'_>, number: u32, text: &[u8]) {
     match expander.next_line() {

@@ -5,6 +5,12 @@
 #[cfg(test)]
 mod equs;
 #[cfg(test)]
+mod meanings;
+#[cfg(test)]
 mod names;
 #[cfg(test)]
 mod orders;
+#[cfg(test)]
+mod sources;
+#[cfg(test)]
+mod states;

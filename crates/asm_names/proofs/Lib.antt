@@ -1,1 +1,4 @@
-mod TakenUp
+pub mod TakenUp
+mod Few
+mod Distinct
+mod Given

@@ -29,7 +29,7 @@ repeats_on old (d ∷ ds) more =
     ap (λ b. clashes d.1 (kind_of old d.0) || b) (repeats_on (with_name old d) ds more)
     ∙ sym (or_assoc (clashes d.1 (kind_of old d.0)) (repeats (with_name old d) ds) (repeats (with_names (with_name old d) ds) more))
 
-enumerate_more : (n : ℕ) (before : List Taken) (l : Taken) → enumerate_from n (before ++ l ∷ []) ≡ enumerate_from n before ++ (n + length before, l) ∷ []
+pub enumerate_more : (n : ℕ) (before : List Taken) (l : Taken) → enumerate_from n (before ++ l ∷ []) ≡ enumerate_from n before ++ (n + length before, l) ∷ []
 enumerate_more n [] l = ap (λ k. (k, l) ∷ []) (omega arith)
 enumerate_more n (x ∷ xs) l = ap (λ rest. (n, x) ∷ rest) (enumerate_more (n + 1) xs l ∙ ap (λ k. enumerate_from (n + 1) xs ++ (k, l) ∷ []) (omega arith))
 

@@ -5,6 +5,7 @@
 
 mod fault;
 mod kind;
+pub mod laws;
 mod naming;
 mod table;
 

@@ -1,6 +1,6 @@
 //! The names of a source, looked up.
 
-ghost use Rattle.std.specs.Prelude.{◌≡◌, List, [], ◌∷◌, ◌++◌, ℕ, Option, None, OnOk, length, map, option_copied, Vec};
+ghost use Rattle.std.specs.Prelude.{◌≡◌, List, [], ◌∷◌, ◌++◌, ℕ, Option, None, OnOk, length, map, option_copied, slice_get, Vec};
 ghost use Rattle.std.specs.Option.{option_map};
 ghost use Rattle.asm_spell.specs.Line.{body_of, line_of, names_of};
 ghost use Rattle.asm_names.specs.declared.kind.Kind.{Kind};
@@ -53,6 +53,14 @@ impl NameTable {
         ensures { result ≡ kind_of self.now name.now }
     {
         self.kinds.get(name).copied()
+    }
+
+    /// The name that is first defined behind so many others, in upper case, and what it is.
+    pub fn get(&self, index: usize) -> Option<(&[u8], Kind)>
+        ensures { option_map (λ d. (d.0.now, d.1)) result ≡ slice_get self.now index }
+    {
+        let (name, kind) = self.kinds.get_index(index)?;
+        Some((name, *kind))
     }
 
     /// Adds a name that is not there.

@@ -4,3 +4,4 @@ pub mod Depths
 pub mod Stacks
 pub mod Readers
 pub mod Parsed
+mod Definable

@@ -2,3 +2,4 @@
 pub mod Parsing
 pub mod Stacks
 pub mod Readers
+pub mod Named

@@ -4,6 +4,7 @@
 mod fault;
 mod item;
 pub mod laws;
+mod name;
 mod operator;
 mod reader;
 mod sign;
@@ -12,6 +13,7 @@ mod tree;
 pub use asm_words::is_reserved;
 pub use fault::ExprFault;
 pub use item::{Item, Term};
+pub use name::is_name;
 pub use operator::{Binary, Unary};
 pub use reader::{MOST_OPEN, parse};
 pub use tree::Tree;

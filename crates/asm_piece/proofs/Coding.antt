@@ -10,7 +10,8 @@ use Rattle.z80_form.specs.declared.field.Field.{Field}
 use Rattle.z80_form.specs.Numbers.{with_number, with_numbers}
 use Rattle.asm_piece.specs.declared.cell.Filling.{Filling}
 use Rattle.asm_piece.specs.declared.code.Coded.{Coded}
-use Rattle.asm_piece.specs.Cells.{hole, is_told, number_or_0, size_of}
+use Rattle.asm_piece.specs.Cells.{hole, is_told, number_or_0}
+use Rattle.zmo_module.specs.Holes.{size_of}
 use Rattle.asm_piece.specs.Made.{Fillings, code_hole, width_of}
 use Rattle.asm_piece.specs.Private.Laying.{Codes}
 use Rattle.asm_piece.proofs.Laying.{and_true}

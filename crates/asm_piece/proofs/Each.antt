@@ -2,7 +2,6 @@
 use Rattle.std.proofs.Common.{◌≡◌, List, [], ◌∷◌, ◌++◌, Result, Ok, Err, refl, sym, ap, subst, ◌∙◌, append_assoc, append-nil}
 use Rattle.asm_words.specs.Results.{◌>>=◌}
 use Rattle.asm_spell.specs.declared.fault.StmtFault.{StmtFault}
-use Rattle.std.specs.List.{flat_map}
 use Rattle.std.proofs.lemmas.List.Concat.{flat_map-append}
 use Rattle.asm_spell.specs.Faults.{Fails, each}
 use Rattle.asm_piece.specs.declared.cell.Cell.{Cell}
@@ -10,6 +9,7 @@ use Rattle.asm_piece.specs.declared.data.Laid.{Laid}
 use Rattle.asm_piece.specs.Made.{Fillings, Made, all_laid, laid, number_filled}
 use Rattle.asm_piece.specs.Private.Laying.{Codes, Lays, Puts}
 use Rattle.asm_piece.specs.declared.code.Coded.{Coded}
+use Rattle.asm_piece.proofs.Making.{flat}
 use Rattle.asm_expr.specs.Names.{Table}
 use Rattle.asm_spell.specs.Line.{Expression}
 use Rattle.z80_instr.specs.declared.Instr.{Instr}
@@ -53,9 +53,6 @@ fails_so StmtFault.ReservedName r s so f = so f
 fails_so (StmtFault.Expr why) r s so f = so f
 
 -- The fields that are read, laid end to end.
-abbrev pub flat : List (List Cell) → List Cell
-flat cells = flat_map (λ some. some) cells
-
 pub record Reads {A : Type 0} (read : A → Result (List Cell) StmtFault) (all rest : List A) (l : Laid) : Type 0 where
   pub done : List (List Cell)
   pub goes : Goes read all done rest

@@ -3,8 +3,9 @@ use Rattle.std.proofs.Common.{◌≡◌, ◌<◌, ℕ, suc, ◌+◌, ◌%◌, sl
 use Rattle.std.proofs.lemmas.List.Concat.{flat_map-append}
 use Rattle.std.proofs.lemmas.List.Folds.{list_all-append}
 use Rattle.asm_piece.specs.declared.cell.Cell.{Cell}
-use Rattle.asm_piece.specs.declared.piece.Width.{Width}
-use Rattle.asm_piece.specs.Cells.{all_told, bytes, cell_bytes, hole, holes, is_told, number_or_0, size_of, written}
+use Rattle.zmo_module.specs.declared.hole.Width.{Width}
+use Rattle.asm_piece.specs.Cells.{all_told, bytes, cell_bytes, hole, holes, is_told, number_or_0, written}
+use Rattle.zmo_module.specs.Holes.{size_of}
 use Rattle.asm_piece.specs.declared.data.Laid.{Laid}
 use Rattle.asm_piece.specs.Private.Laying.{Lays}
 use Rattle.asm_piece.specs.Made.{text_cell}

@@ -3,3 +3,7 @@ pub mod Laying
 pub mod Coding
 pub mod Fields
 pub mod Passing
+pub mod Making
+pub mod Sizes
+pub mod Likes
+mod Unsized

@@ -4,12 +4,9 @@ use Rattle.std.specs.List.{flat_map, list_all}
 use Rattle.z80_instr.specs.Table.{word}
 use Rattle.asm_piece.specs.declared.cell.Cell.{Cell}
 use Rattle.asm_piece.specs.declared.cell.Filling.{Filling}
-use Rattle.asm_piece.specs.declared.piece.Hole.{Hole}
-use Rattle.asm_piece.specs.declared.piece.Width.{Width}
-
-abbrev pub size_of : Width → ℕ
-size_of Width.Byte = 1
-size_of Width.Word = 2
+use Rattle.zmo_module.specs.Holes.{size_of}
+use Rattle.zmo_module.specs.declared.hole.Hole.{Hole}
+use Rattle.zmo_module.specs.declared.hole.Width.{Width}
 
 -- a number as the bytes of a field, a word's low byte first
 abbrev pub written : Width → ℕ → List ℕ

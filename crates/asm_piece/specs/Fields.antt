@@ -1,9 +1,8 @@
 -- What fills a field: its value, or the fault that its rule finds.
-use Rattle.std.specs.Prelude.{◌≡◌, ℕ, ◌+◌, ◌-◌, ◌%◌, Bool, true, false, List, [], ◌∷◌, Option, Some, None, Result, Ok, Err, if◌then◌else◌, length, slice_get}
+use Rattle.std.specs.Prelude.{◌≡◌, ℕ, ◌+◌, ◌%◌, Bool, true, false, List, [], ◌∷◌, Option, Some, None, Result, Ok, Err, if◌then◌else◌}
 use Rattle.asm_words.specs.Results.{◌>>=◌}
 use Rattle.asm_parse.specs.declared.fault.ExprFault.{ExprFault}
 use Rattle.asm_parse.specs.declared.item.Item.{Item}
-use Rattle.asm_parse.specs.declared.operator.Unary.{Unary}
 use Rattle.asm_expr.specs.declared.atom.Atom.{Atom}
 use Rattle.asm_expr.specs.declared.answer.Settled.{Settled}
 use Rattle.asm_expr.specs.declared.unknown.Unknown.{Unknown}
@@ -18,20 +17,12 @@ use Rattle.asm_spell.specs.declared.fault.StmtFault.{StmtFault}
 use Rattle.asm_spell.specs.Faults.{of_expression}
 use Rattle.asm_spell.specs.Line.{Expression}
 use Rattle.asm_piece.specs.declared.cell.Filling.{Filling}
+use Rattle.zmo_module.specs.Holes.{ends_in_byte}
 
 -- an expression that is one number
 abbrev pub number : List (Item Atom) → Option ℕ
 number (Item.Leaf (Atom.Number n) ∷ []) = Some n
 number _ = None
-
--- HIGH or LOW is the outermost operator
-abbrev pub is_byte_operator : Option (Item Atom) → Bool
-is_byte_operator (Some (Item.Unary Unary.High)) = true
-is_byte_operator (Some (Item.Unary Unary.Low)) = true
-is_byte_operator _ = false
-
-abbrev pub ends_in_byte : List (Item Atom) → Bool
-ends_in_byte items = is_byte_operator (slice_get items (length items - 1))
 
 -- what has no value is one number all the same, as far as is known
 abbrev pub is_number_unknown : Unknown → Bool

@@ -1,4 +1,5 @@
 pub mod Fields
 pub mod Cells
 pub mod Made
+pub mod Sized
 pub mod Private

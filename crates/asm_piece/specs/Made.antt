@@ -18,17 +18,18 @@ use Rattle.z80_instr.specs.Table.{canonical}
 use Rattle.z80_form.specs.declared.field.Field.{Field}
 use Rattle.z80_form.specs.Numbers.{with_numbers}
 use Rattle.asm_spell.specs.declared.fault.StmtFault.{StmtFault}
-use Rattle.asm_spell.specs.declared.line.Branch.{Branch}
+use Rattle.z80_instr.specs.declared.Branch.{Branch}
 use Rattle.asm_spell.specs.Faults.{each}
 use Rattle.asm_spell.specs.Line as line
 use Rattle.asm_spell.specs.Line.{Body, Expression, Value}
 use Rattle.asm_piece.specs.declared.cell.Cell.{Cell}
 use Rattle.asm_piece.specs.declared.cell.Filling.{Filling}
-use Rattle.asm_piece.specs.declared.piece.Hole.{Hole}
+use Rattle.zmo_module.specs.declared.hole.Hole.{Hole}
 use Rattle.asm_piece.specs.declared.piece.Made as answer
 use Rattle.asm_piece.specs.declared.piece.Piece as piece
-use Rattle.asm_piece.specs.declared.piece.Width.{Width}
-use Rattle.asm_piece.specs.Cells.{all_told, bytes, hole, holes, is_told, number_or_0, size_of}
+use Rattle.zmo_module.specs.declared.hole.Width.{Width}
+use Rattle.asm_piece.specs.Cells.{all_told, bytes, hole, holes, is_told, number_or_0}
+use Rattle.zmo_module.specs.Holes.{size_of}
 use Rattle.asm_piece.specs.Fields.{filled, fixed, is_number_unknown, number, settled_in}
 
 -- what one statement takes up in a program: bytes with holes, a jump to the place of a ref, one that is always short, or space

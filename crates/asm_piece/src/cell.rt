@@ -1,10 +1,10 @@
 //! Fields, and what fills them: definitions speak of them, and no call hands them out.
 
-use crate::piece::Width;
 use asm_expr::Expr;
+use zmo_module::Width;
 
 /// What fills a field.
-#[derive(Debug, Drop)]
+#[derive(Drop)]
 pub enum Filling {
     Number(u16),
     /// An expression whose value hangs on places.
@@ -14,7 +14,7 @@ pub enum Filling {
 }
 
 /// A field of one byte or two.
-#[derive(Debug, Drop)]
+#[derive(Drop)]
 pub struct Cell {
     pub width: Width,
     pub filling: Filling,

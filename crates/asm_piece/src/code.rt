@@ -5,20 +5,21 @@ ghost use Rattle.z80_form.specs.declared.field.Field.{Field};
 ghost use Rattle.asm_expr.specs.Names.{found};
 ghost use Rattle.asm_spell.specs.Faults.{Gives};
 ghost use Rattle.asm_piece.specs.Made.{Fillings, IsDefined, code, coded, jump_by, long_jump, made_of, ref_of, short_by, widened, width_of};
-ghost use Rattle.asm_piece.specs.Cells.{size_of};
+ghost use Rattle.zmo_module.specs.Holes.{size_of};
 ghost use Rattle.asm_piece.specs.Fields.{IsAllowed};
 ghost use Rattle.asm_piece.specs.Private.Laying.{Codes};
 
 use crate::cell::Filling;
 use crate::data::{number_or_0, put_hole, still_told};
 use crate::field::fill;
-use crate::piece::{Hole, Made, Piece, Width};
+use crate::piece::{Made, Piece};
 use asm_expr::{Meaning, Names, Tree};
 use asm_spell::{Branch, StmtFault};
 use std::alloc::{AllocError, Global};
 use z80_encode::{encode, size};
 use z80_form::{Field, with_number};
 use z80_instr::{Cond, Instr, ShortCond};
+use zmo_module::{Hole, Width};
 
 /// How many bytes a number takes that may vary.
 fn width_of(field: Field) -> Width
@@ -138,7 +139,7 @@ fn long_jump(condition: Option<ShortCond>) -> Instr
 }
 
 /// A label's or an external's place.
-fn ref_of(meaning: Option<&Meaning>) -> Option<u16>
+pub(crate) fn ref_of(meaning: Option<&Meaning>) -> Option<u16>
     ensures { result ≡ ref_of (option_copied meaning.entry) }
 {
     match meaning {

@@ -10,11 +10,12 @@ ghost use Rattle.asm_piece.specs.Private.Laying.{Lays, Puts};
 
 use crate::cell::{Cell, Filling};
 use crate::field::fill;
-use crate::piece::{Hole, Made, Piece, Width};
+use crate::piece::{Made, Piece};
 use asm_expr::{Names, Tree};
 use asm_spell::{StmtFault, Value};
 use std::alloc::{AllocError, Global};
 use z80_form::Field;
+use zmo_module::{Hole, Width};
 
 /// What stands in a field before places are known.
 pub(crate) fn number_or_0(filling: &Filling) -> u16

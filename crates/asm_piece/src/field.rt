@@ -5,16 +5,15 @@ ghost use Rattle.std.specs.List.{AllPass};
 ghost use Rattle.asm_expr.specs.Postfix.{source};
 ghost use Rattle.asm_expr.specs.Settling.{is_known};
 ghost use Rattle.asm_spell.specs.Faults.{Gives};
-ghost use Rattle.asm_piece.specs.Fields.{IsAllowed, byte, distance, ends_in_byte, filled, fixed, is_number_unknown, number, settled_in, word};
+ghost use Rattle.asm_piece.specs.Fields.{IsAllowed, byte, distance, filled, fixed, is_number_unknown, number, settled_in, word};
 ghost use Rattle.asm_piece.specs.Private.Views.{same};
 
 use crate::cell::Filling;
-use asm_expr::{
-    Atom, Expr, Item, Names, Offset, Settled, Tree, Unary, Unknown, items, offset_from_here,
-};
+use asm_expr::{Atom, Expr, Item, Names, Offset, Settled, Tree, Unknown, items, offset_from_here};
 use asm_spell::StmtFault;
 use std::alloc::Global;
 use z80_form::Field;
+use zmo_module::ends_in_byte;
 
 /// The number that an expression is; None where it varies.
 pub(crate) fn number(expr: &Expr) -> Option<u16>
@@ -24,16 +23,6 @@ pub(crate) fn number(expr: &Expr) -> Option<u16>
         [Item::Leaf(Atom::Number(n))] => Some(*n),
         _ => None,
     }
-}
-
-/// Whether HIGH or LOW is the outermost operator.
-fn ends_in_byte(expr: &Expr) -> bool
-    ensures { result ≡ ends_in_byte expr.now }
-{
-    matches!(
-        items(expr).last(),
-        Some(Item::Unary(Unary::High | Unary::Low))
-    )
 }
 
 /// Whether what has no value is one number all the same, as far as is known.

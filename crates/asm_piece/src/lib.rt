@@ -9,12 +9,16 @@ mod code;
 mod data;
 mod defined;
 mod field;
+pub mod laws;
 mod piece;
 mod settling;
+mod size;
 mod space;
 
 pub use asm_spell::{Body, Branch, StmtFault, Value};
 pub use cell::{Cell, Filling};
 pub use defined::are_defined;
-pub use piece::{Hole, Made, Piece, Width};
+pub use piece::{Made, Piece};
 pub use settling::settle;
+pub use size::size_of;
+pub use zmo_module::{Hole, Width};

@@ -1,25 +1,7 @@
 //! Pieces of a program.
 
-use asm_expr::Expr;
-use asm_spell::Branch;
-use z80_instr::ShortCond;
-
-/// How many bytes a field takes.
-#[derive(Clone, Copy, Debug, PartialEq, Eq)]
-pub enum Width {
-    Byte,
-    /// Two bytes, the low one first.
-    Word,
-}
-
-/// Where a value is to be put that hangs on places.
-#[derive(Debug, Drop)]
-pub struct Hole {
-    /// The bytes before it.
-    pub offset: usize,
-    pub width: Width,
-    pub value: Expr,
-}
+use z80_instr::{Branch, ShortCond};
+use zmo_module::Hole;
 
 /// What one statement takes up in a program.
 #[derive(Debug, Drop)]

@@ -18,7 +18,7 @@ use z80_form::Field;
 const ORIGIN: u16 = 0x0100;
 
 /// The number that is settled, if one is.
-fn number_in(settled: &Settled) -> Option<u16>
+pub(crate) fn number_in(settled: &Settled) -> Option<u16>
     ensures { result ≡ number_in settled.now }
 {
     match settled {
@@ -28,7 +28,7 @@ fn number_in(settled: &Settled) -> Option<u16>
 }
 
 /// The number of a DS.
-fn space_size(alloc: Global, size: &Tree, names: &Names) -> Result<Settled, StmtFault>
+pub(crate) fn space_size(alloc: Global, size: &Tree, names: &Names) -> Result<Settled, StmtFault>
     requires { IsDefined names.now size.now }
     ensures { Gives same result (space_size names.now size.now) }
 {

@@ -1,6 +1,6 @@
 //! Pieces and faults as text.
 
-use asm_expr::{Atom, Item, items};
+use asm_expr::{Atom, Item, Statement, items};
 use asm_piece::{Hole, Made, Piece, StmtFault};
 use std::io::Write;
 
@@ -48,6 +48,19 @@ pub(crate) fn show_made<W: Write>(out: &mut W, made: &Made) -> Result<(), anyhow
         Made::Nothing => write!(out, " nothing")?,
         Made::Piece(piece) => show_piece(out, piece)?,
         Made::Unknown => write!(out, " unknown")?,
+    }
+    Ok(())
+}
+
+pub(crate) fn show_size<W: Write>(
+    out: &mut W,
+    size: Option<Statement>,
+) -> Result<(), anyhow::Error> {
+    match size {
+        None => write!(out, " nothing")?,
+        Some(Statement::Sized(size)) => write!(out, " {size} bytes")?,
+        Some(Statement::Relaxable) => write!(out, " 2 or 3 bytes")?,
+        Some(Statement::Unsized) => write!(out, " unsized")?,
     }
     Ok(())
 }

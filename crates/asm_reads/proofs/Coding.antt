@@ -21,7 +21,8 @@ use Rattle.asm_reads.specs.Linked.{filled}
 use Rattle.asm_reads.specs.Pieces.{valued}
 use Rattle.asm_reads.proofs.Fields.{AreFields}
 use Rattle.asm_reads.specs.Statement.{filling}
-use Rattle.asm_reads.proofs.Fillings.{Fills, IsFit, bind_ok, fills, worth_at}
+use Rattle.asm_piece.proofs.Making.{bind_ok, blank_of}
+use Rattle.asm_reads.proofs.Fillings.{Fills, IsFit, fills, worth_at}
 use Rattle.asm_reads.proofs.Numbers as number
 use Rattle.asm_reads.proofs.Numbers.{IsField, number_range, swapped}
 use Rattle.asm_reads.proofs.Rows.{Rows}
@@ -29,10 +30,7 @@ use Rattle.asm_reads.proofs.Rows.{Rows}
 abbrev pub Spelled : Type 0
 Spelled = List (Field × line.Expression)
 
--- the instruction with what stands there before places are known, and at places
-abbrev pub blank_of : Fillings → Instr → Instr
-blank_of ns instr = with_numbers (map (λ n. (n.0, number_or_0 n.1)) ns) instr
-
+-- the instruction with the values at places
 abbrev pub at_of : (ℕ → ℕ) → Table → Spelled → Instr → Instr
 at_of places t numbers instr = with_numbers (valued places (map (λ n. (n.0, filling t n.0 n.1)) numbers)) instr
 
@@ -43,13 +41,13 @@ pub record Reads (t : Table) (instr : Instr) (numbers : Spelled) (ns : Fillings)
   pub range : (places : ℕ → ℕ) → Step t.statements places → All (λ b. b < 256) (canonical (at_of places t numbers instr)) → in_range (at_of places t numbers instr) ≡ true
 
 -- no number
-none : (t : Table) (instr : Instr) → in_range instr ≡ true → Reads t instr [] []
-none t instr ok = record { filled = λ places step. refl; range = λ places step all. ok }
+read_none : (t : Table) (instr : Instr) → in_range instr ≡ true → Reads t instr [] []
+read_none t instr ok = record { filled = λ places step. refl; range = λ places step all. ok }
 
 -- one number
-one : Rows → (t : Table) (instr : Instr) (f : Field) (e : line.Expression) (x : Filling) → in_range instr ≡ true → IsField instr f → field.filled t f e ≡ Ok x → is_told x ≡ true
+read_one : Rows → (t : Table) (instr : Instr) (f : Field) (e : line.Expression) (x : Filling) → in_range instr ≡ true → IsField instr f → field.filled t f e ≡ Ok x → is_told x ≡ true
     → Reads t instr ((f, e) ∷ []) ((f, x) ∷ [])
-one rows t instr f e x ok is was told = record {
+read_one rows t instr f e x ok is was told = record {
   filled = λ places step. (
       let fill = fills t places step f e x was told in
       ap (λ hs. filled places (canonical (with_number f (number_or_0 x) instr)) hs) (append-nil (code_hole (length (canonical instr)) (f, x)))
@@ -69,7 +67,7 @@ displaced (Filling.Number n) fit = (n, refl, fit)
 displaced (Filling.Varying items) fit = absurd fit
 displaced Filling.Unknown fit = absurd fit
 
-kept_field : Rows → (instr : Instr) (n : ℕ) (f : Field) → number_field instr ≡ Some f → IsField (with_number Field.Displacement n instr) f
+pub kept_field : Rows → (instr : Instr) (n : ℕ) (f : Field) → number_field instr ≡ Some f → IsField (with_number Field.Displacement n instr) f
 kept_field rows instr n f is = inr (rows.field Field.Displacement n instr Form.Number ∙ is)
 
 -- a displacement and a number behind it
@@ -118,7 +116,7 @@ displacement_last : Rows → (t : Table) (instr : Instr) (g : Field) (d e : line
     → field.filled t Field.Displacement d ≡ Ok x → is_told x ≡ true → field.filled t g e ≡ Ok y → is_told y ≡ true
     → Reads t instr ((g, e) ∷ (Field.Displacement, d) ∷ []) ((g, y) ∷ (Field.Displacement, x) ∷ [])
 displacement_last rows t instr g d e x y ok is was told next told_too =
-    let first = displacement_first rows t instr g d e x y ok is was told next told_too in
+    let before = displacement_first rows t instr g d e x y ok is was told next told_too in
     let other : g ≡ Field.Displacement → ⊥ = λ same. rows.number instr (is ∙ ap (λ f. Some f) same) in
     let to = λ (places : ℕ → ℕ). swapped (value places (filling t Field.Displacement d)) g (value places (filling t g e)) instr other in
     record {
@@ -127,10 +125,10 @@ displacement_last rows t instr g d e x y ok is was told next told_too =
           ap (λ z. filled places (canonical (blank_of ((g, y) ∷ (Field.Displacement, z) ∷ []) instr)) (flat_map (code_hole (length (canonical instr))) ((g, y) ∷ (Field.Displacement, z) ∷ []))) n.1
           ∙ ap (λ i. filled places (canonical i) (code_hole (length (canonical instr)) (g, y) ++ [])) (swapped n.0 g (number_or_0 y) instr other)
           ∙ ap (λ z. filled places (canonical (blank_of ((Field.Displacement, z) ∷ (g, y) ∷ []) instr)) (flat_map (code_hole (length (canonical instr))) ((Field.Displacement, z) ∷ (g, y) ∷ []))) (sym n.1)
-          ∙ first.filled places step
+          ∙ before.filled places step
           ∙ ap canonical (sym (to places))
           );
-      range = λ places step all. (ap in_range (to places) ∙ first.range places step (subst (λ i. All (λ b. b < 256) (canonical i)) (to places) all));
+      range = λ places step all. (ap in_range (to places) ∙ before.range places step (subst (λ i. All (λ b. b < 256) (canonical i)) (to places) all));
     }
 
 -- Each number is filled, from left to right.
@@ -140,32 +138,46 @@ one_filling t n y is = let b = bind_ok (field.filled t n.0 n.1) _ y is in (b.0, 
 abbrev pub are_told : Fillings → Bool
 are_told ns = list_all (λ n. is_told n.1) ns
 
-pub reads : Rows → (t : Table) (instr : Instr) (numbers : Spelled) (ns : Fillings) → AreFields instr (map (λ n. n.0) numbers) → in_range instr ≡ true → fillings t numbers ≡ Ok ns → are_told ns ≡ true
-    → Reads t instr numbers ns
-reads rows t instr [] ns fields ok is told = let same : [] ≡ ns = cc in subst (Reads t instr []) same (none t instr ok)
-reads rows t instr (n ∷ []) ns fields ok is told =
+-- How numbers stand that are filled and told: none, one, or a displacement and a number, in either order.
+pub data Shape (t : Table) (instr : Instr) : Spelled → Fillings → Type 0 where
+  none : Shape t instr [] []
+  one : (f : Field) (e : line.Expression) (x : Filling) → IsField instr f → field.filled t f e ≡ Ok x → is_told x ≡ true → Shape t instr ((f, e) ∷ []) ((f, x) ∷ [])
+  first : (g : Field) (d e : line.Expression) (x y : Filling) → number_field instr ≡ Some g → field.filled t Field.Displacement d ≡ Ok x → is_told x ≡ true
+      → field.filled t g e ≡ Ok y → is_told y ≡ true → Shape t instr ((Field.Displacement, d) ∷ (g, e) ∷ []) ((Field.Displacement, x) ∷ (g, y) ∷ [])
+  last : (g : Field) (d e : line.Expression) (x y : Filling) → number_field instr ≡ Some g → field.filled t Field.Displacement d ≡ Ok x → is_told x ≡ true
+      → field.filled t g e ≡ Ok y → is_told y ≡ true → Shape t instr ((g, e) ∷ (Field.Displacement, d) ∷ []) ((g, y) ∷ (Field.Displacement, x) ∷ [])
+
+pub shape : (t : Table) (instr : Instr) (numbers : Spelled) (ns : Fillings) → AreFields instr (map (λ n. n.0) numbers) → fillings t numbers ≡ Ok ns → are_told ns ≡ true → Shape t instr numbers ns
+shape t instr [] ns fields is told = let same : [] ≡ ns = cc in subst (Shape t instr []) same none
+shape t instr (n ∷ []) ns fields is told =
     let a = bind_ok (number_filled t n) _ ns is in
     let same : a.0 ∷ [] ≡ ns = cc in
     let x = one_filling t n a.0 a.1 in
     let all : (n.0, x.0) ∷ [] ≡ ns = ap (λ y. y ∷ []) x.2 ∙ same in
-    subst (Reads t instr (n ∷ [])) all (one rows t instr n.0 n.1 x.0 ok fields x.1 (and_parts (is_told x.0) true (ap are_told all ∙ told)).0)
-reads rows t instr (n ∷ m ∷ []) ns fields ok is told =
+    subst (Shape t instr (n ∷ [])) all (one n.0 n.1 x.0 fields x.1 (and_parts (is_told x.0) true (ap are_told all ∙ told)).0)
+shape t instr (n ∷ m ∷ []) ns fields is told =
     let a = bind_ok (number_filled t n) _ ns is in
     let b = bind_ok (each (number_filled t) (m ∷ [])) _ ns a.2 in
     let c = bind_ok (number_filled t m) _ b.0 b.1 in
-    let last : c.0 ∷ [] ≡ b.0 = cc in
+    let end : c.0 ∷ [] ≡ b.0 = cc in
     let same : a.0 ∷ b.0 ≡ ns = cc in
     let x = one_filling t n a.0 a.1 in
     let y = one_filling t m c.0 c.1 in
-    let all : (n.0, x.0) ∷ (m.0, y.0) ∷ [] ≡ ns = ap (λ z. z ∷ (m.0, y.0) ∷ []) x.2 ∙ ap (λ z. a.0 ∷ z ∷ []) y.2 ∙ ap (λ zs. a.0 ∷ zs) last ∙ same in
-    let first = and_parts (is_told x.0) (is_told y.0 && true) (ap are_told all ∙ told) in
-    let second = and_parts (is_told y.0) true first.1 in
-    subst (Reads t instr (n ∷ m ∷ [])) all (two n.0 m.0 n.1 m.1 x.0 y.0 fields x.1 first.0 y.1 second.0)
+    let all : (n.0, x.0) ∷ (m.0, y.0) ∷ [] ≡ ns = ap (λ z. z ∷ (m.0, y.0) ∷ []) x.2 ∙ ap (λ z. a.0 ∷ z ∷ []) y.2 ∙ ap (λ zs. a.0 ∷ zs) end ∙ same in
+    let one_told = and_parts (is_told x.0) (is_told y.0 && true) (ap are_told all ∙ told) in
+    let other_told = and_parts (is_told y.0) true one_told.1 in
+    subst (Shape t instr (n ∷ m ∷ [])) all (two n.0 m.0 n.1 m.1 x.0 y.0 fields x.1 one_told.0 y.1 other_told.0)
   where
     two : (f g : Field) (d e : line.Expression) (x y : Filling) → AreFields instr (f ∷ g ∷ []) → field.filled t f d ≡ Ok x → is_told x ≡ true → field.filled t g e ≡ Ok y → is_told y ≡ true
-        → Reads t instr ((f, d) ∷ (g, e) ∷ []) ((f, x) ∷ (g, y) ∷ [])
+        → Shape t instr ((f, d) ∷ (g, e) ∷ []) ((f, x) ∷ (g, y) ∷ [])
     two f g d e x y (inl (at, is)) was told next told_too =
-        subst (λ h. Reads t instr ((h, d) ∷ (g, e) ∷ []) ((h, x) ∷ (g, y) ∷ [])) (sym at) (displacement_first rows t instr g d e x y ok is (ap (λ h. field.filled t h d) (sym at) ∙ was) told next told_too)
+        subst (λ h. Shape t instr ((h, d) ∷ (g, e) ∷ []) ((h, x) ∷ (g, y) ∷ [])) (sym at) (first g d e x y is (ap (λ h. field.filled t h d) (sym at) ∙ was) told next told_too)
     two f g d e x y (inr (at, is)) was told next told_too =
-        subst (λ h. Reads t instr ((f, d) ∷ (h, e) ∷ []) ((f, x) ∷ (h, y) ∷ [])) (sym at) (displacement_last rows t instr f e d y x ok is (ap (λ h. field.filled t h e) (sym at) ∙ next) told_too was told)
-reads rows t instr (n ∷ m ∷ o ∷ more) ns fields ok is told = absurd fields
+        subst (λ h. Shape t instr ((f, d) ∷ (h, e) ∷ []) ((f, x) ∷ (h, y) ∷ [])) (sym at) (last f e d y x is (ap (λ h. field.filled t h e) (sym at) ∙ next) told_too was told)
+shape t instr (n ∷ m ∷ o ∷ more) ns fields is told = absurd fields
+
+pub reads : Rows → (t : Table) (instr : Instr) (numbers : Spelled) (ns : Fillings) → in_range instr ≡ true → Shape t instr numbers ns → Reads t instr numbers ns
+reads rows t instr _ _ ok none = read_none t instr ok
+reads rows t instr _ _ ok (one f e x is was told) = read_one rows t instr f e x ok is was told
+reads rows t instr _ _ ok (first g d e x y is was told next told_too) = displacement_first rows t instr g d e x y ok is was told next told_too
+reads rows t instr _ _ ok (last g d e x y is was told next told_too) = displacement_last rows t instr g d e x y ok is was told next told_too

@@ -1,5 +1,5 @@
 -- Data: fields that are read of items, from left to right.
-use Rattle.std.proofs.Common.{◌≡◌, ℕ, ◌+◌, ◌%◌, Bool, true, false, List, [], ◌∷◌, ◌++◌, Result, Ok, if◌then◌else◌, length, map, refl, sym, ap, subst, ◌∙◌, arith, length-append}
+use Rattle.std.proofs.Common.{◌≡◌, ℕ, ◌+◌, ◌%◌, true, List, [], ◌∷◌, ◌++◌, Result, Ok, length, map, refl, sym, ap, subst, ◌∙◌, arith, length-append}
 use Rattle.std.specs.List.{flat_map, sum_by}
 use Rattle.std.proofs.lemmas.List.Concat.{flat_map-append}
 use Rattle.std.proofs.lemmas.List.Folds.{list_all-append}
@@ -16,7 +16,7 @@ use Rattle.asm_spell.specs.Faults.{each}
 use Rattle.asm_spell.specs.Line as line
 use Rattle.asm_piece.specs.declared.cell.Cell.{Cell}
 use Rattle.asm_piece.specs.declared.cell.Filling.{Filling}
-use Rattle.asm_piece.specs.declared.piece.Width.{Width}
+use Rattle.zmo_module.specs.declared.hole.Width.{Width}
 use Rattle.asm_piece.specs.Cells.{all_told, bytes, cell_bytes, holes, is_told}
 use Rattle.asm_piece.specs.Fields as field
 use Rattle.asm_piece.specs.Made as made
@@ -24,23 +24,16 @@ use Rattle.asm_piece.specs.Made.{Made, Piece, Some_piece, all_laid, cells, laid,
 use Rattle.asm_reads.specs.Pieces.{datum_bytes, width}
 use Rattle.asm_reads.specs.Statement as statement
 use Rattle.asm_reads.specs.Statement.{Datum, byte_items, word_item, whole}
-use Rattle.asm_reads.proofs.Fillings.{bind_ok, fills}
+use Rattle.asm_piece.proofs.Making.{bind_ok, data_made, each_holds, flat}
+use Rattle.asm_reads.proofs.Fillings.{fills}
 use Rattle.asm_reads.proofs.Holes.{cell_at}
 
-abbrev flat : List (List Cell) → List Cell
-flat cells = flat_map (λ some. some) cells
-
 -- What holds of each item's fields holds of all.
-each_holds : {A : Type 0} (P : List Cell → List Datum → Type 0) (read : A → Result (List Cell) StmtFault) (items : A → List Datum) → P [] []
+each_items : {A : Type 0} (P : List Cell → List Datum → Type 0) (read : A → Result (List Cell) StmtFault) (items : A → List Datum) → P [] []
     → ((a b : List Cell) (c d : List Datum) → P a c → P b d → P (a ++ b) (c ++ d)) → ((x : A) (cs : List Cell) → read x ≡ Ok cs → P cs (items x))
     → (xs : List A) (all : List (List Cell)) → each read xs ≡ Ok all → P (flat all) (flat_map items xs)
-each_holds P read items none more one [] all is = let same : [] ≡ all = cc in subst (λ cs. P (flat cs) []) same none
-each_holds P read items none more one (x ∷ xs) all is =
-    let first = bind_ok (read x) _ all is in
-    let rest = bind_ok (each read xs) _ all first.2 in
-    let same : first.0 ∷ rest.0 ≡ all = cc in
-    subst (λ cs. P (flat cs) (flat_map items (x ∷ xs))) same
-    (more first.0 (flat rest.0) (items x) (flat_map items xs) (one x first.0 first.1) (each_holds P read items none more one xs rest.0 rest.1))
+each_items P read items none more one =
+    each_holds (λ cs xs. P cs (flat_map items xs)) read none (λ x cs rest xs is so. more cs rest (items x) (flat_map items xs) (one x cs is) so)
 
 -- They are worth the items,
 abbrev AtPlaces : (ℕ → ℕ) → List Cell → List Datum → Type 0
@@ -101,11 +94,6 @@ word_places t places step e cs is =
 word_size : (t : Table) (e : line.Expression) (cs : List Cell) → word_cells t e ≡ Ok cs → SameSize cs (word_item t e ∷ [])
 word_size t e cs is = let c = word_item_of t e cs is in subst (λ xs. SameSize xs (word_item t e ∷ [])) c.2 refl
 
--- Fields that are laid are told, and are a piece.
-pub laid_piece : (b : Bool) (x p : Piece) → (if b then Some_piece x else made.Unknown) ≡ Some_piece p → (b ≡ true) × (x ≡ p)
-laid_piece true x p is = (refl, cc)
-laid_piece false x p is = cc
-
 pub record Lays (p : Piece) (items : List Datum) (t : Table) : Type 0 where
   pub fields : List Cell
   pub piece : made.Bytes (bytes fields) (holes 0 fields) ≡ p
@@ -116,14 +104,12 @@ lays : {A : Type 0} (t : Table) (read : A → Result (List Cell) StmtFault) (ite
     → ((places : ℕ → ℕ) → Step t.statements places → (x : A) (cs : List Cell) → read x ≡ Ok cs → AtPlaces places cs (items x))
     → (xs : List A) (p : Piece) → all_laid (each read xs) ≡ Ok (Some_piece p) → Lays p (flat_map items xs) t
 lays t read items sizes worth xs p is =
-    let all = bind_ok (each read xs) _ (Some_piece p) is in
-    let whole : laid (flat all.0) ≡ Some_piece p = cc in
-    let piece = laid_piece (all_told (flat all.0)) (made.Bytes (bytes (flat all.0)) (holes 0 (flat all.0))) p whole in
+    let d = data_made read xs p is in
     record {
-      fields = flat all.0;
-      piece = piece.1;
-      size = each_holds SameSize read items refl more_size sizes xs all.0 all.1;
-      places = λ places step. each_holds (AtPlaces places) read items (λ _. refl) (more_places places) (worth places step) xs all.0 all.1 piece.0;
+      fields = flat d.cells;
+      piece = d.piece;
+      size = each_items SameSize read items refl more_size sizes xs d.cells d.is;
+      places = λ places step. each_items (AtPlaces places) read items (λ _. refl) (more_places places) (worth places step) xs d.cells d.is d.told;
     }
 
 pub bytes_lay : (t : Table) (values : List line.Value) (p : Piece) → made.bytes_made t values ≡ Ok (Some_piece p) → Lays p (flat_map (byte_items t) values) t

@@ -1,18 +1,19 @@
--- What the law asks can be met: `LD A,LOW $` of an empty module, whose one place is 1234H.
-use Rattle.std.proofs.Common.{◌≡◌, [], ◌∷◌, List, None, Ok, refl}
+-- What the laws ask can be met: `LD A,LOW $` of an empty module, whose one place is 1234H.
+use Rattle.std.proofs.Common.{◌≡◌, ◌<◌, [], ◌∷◌, List, None, Ok, refl, arith}
 use Rattle.std.specs.Prelude.{codes}
 use Rattle.asm_parse.specs.declared.item.Item.{Item}
 use Rattle.asm_parse.specs.declared.operator.Unary.{Unary}
 use Rattle.asm_parse.specs.Source.{Here}
 use Rattle.asm_expr.specs.declared.atom.Atom.{Atom}
-use Rattle.asm_expr.specs.Names.{empty}
+use Rattle.asm_expr.specs.Names.{AreCounted, empty}
+use Rattle.asm_expr.specs.Origins.{AllBring}
 use Rattle.z80_instr.specs.declared.Instr.{Instr}
 use Rattle.z80_instr.specs.declared.Operand.{Operand}
 use Rattle.z80_instr.specs.declared.Register.{Register}
 use Rattle.z80_form.specs.declared.field.Field.{Field}
 use Rattle.asm_spell.specs.Line as line
-use Rattle.asm_piece.specs.declared.piece.Hole.{Hole}
-use Rattle.asm_piece.specs.declared.piece.Width.{Width}
+use Rattle.zmo_module.specs.declared.hole.Hole.{Hole}
+use Rattle.zmo_module.specs.declared.hole.Width.{Width}
 use Rattle.asm_piece.specs.Made as made
 use Rattle.asm_scan.specs.declared.token.Kind.{Kind}
 use Rattle.asm_scan.specs.declared.token.Mark.{Mark}
@@ -42,3 +43,10 @@ makes = refl
 
 pub is_filled : filled (λ r. 0x1234) (0x3E ∷ 0 ∷ []) (hole ∷ []) ≡ 0x3E ∷ 0x34 ∷ []
 is_filled = refl
+
+-- The module has one ref, its end.
+pub counted : AreCounted empty
+counted name what is = cc
+
+pub brings : AllBring (λ r. r < 1) empty
+brings = record { here = omega arith; names = λ name what is. cc }

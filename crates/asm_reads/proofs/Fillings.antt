@@ -26,7 +26,9 @@ use Rattle.asm_spell.specs.declared.fault.StmtFault.{StmtFault}
 use Rattle.asm_spell.specs.Line as line
 use Rattle.asm_piece.specs.declared.cell.Filling.{Filling}
 use Rattle.asm_piece.specs.Cells.{is_told}
-use Rattle.asm_piece.specs.Fields.{as_stmt, byte, byte_by, distance_or, ends_in_byte, filled, fixed, fixed_by, from_end, is_number_unknown, number, settled_in, word, word_by}
+use Rattle.asm_piece.specs.Fields.{byte, byte_by, distance_or, filled, fixed, fixed_by, from_end, is_number_unknown, number, settled_in, word, word_by}
+use Rattle.zmo_module.specs.Holes.{ends_in_byte}
+use Rattle.asm_piece.proofs.Making.{as_stmt_ok, bind_ok, chosen_ok}
 use Rattle.asm_reads.specs.Statement.{end_of, filling, whole, with_meant}
 use Rattle.asm_reads.proofs.Values.{fixed_value, number_value, settled_value}
 
@@ -47,19 +49,6 @@ IsFit field _ = ⊥
 pub record Fills (places : ℕ → ℕ) (field : Field) (f : Filling) (x : Expression Atom) : Type 0 where
   pub worth : worth_at places f ≡ value places x
   pub fit : IsFit field f
-
--- Steps that another follows.
-pub bind_ok : {A B : Type 0} (r : Result A StmtFault) (g : A → Result B StmtFault) (y : B) → (r >>= g) ≡ Ok y → (x : A) × (r ≡ Ok x) × (g x ≡ Ok y)
-bind_ok (Ok x) g y is = (x, refl, is)
-bind_ok (Err why) g y is = cc
-
-pub as_stmt_ok : (r : Result Settled ExprFault) (s : Settled) → as_stmt r ≡ Ok s → r ≡ Ok s
-as_stmt_ok (Ok x) s is = cc
-as_stmt_ok (Err why) s is = cc
-
-pub chosen_ok : {A : Type 0} (b : Bool) (x y : A) (why : StmtFault) → (if b then Ok x else Err why) ≡ Ok y → (b ≡ true) × (x ≡ y)
-chosen_ok true x y why is = (refl, cc)
-chosen_ok false x y why is = cc
 
 abbrev answer : Filling → Result Filling StmtFault
 answer f = Ok f
@@ -133,7 +122,7 @@ offset_value t places step (Infix Binary.Subtract (Leaf Here) a) n is =
     ∙ from_here (places t.here) (65536 - c.0) ∙ ap from_end c.2
 offset_value t places step (Infix op a b) n is = cc
 
-distance_from : (why : Option ExprFault) (o : Offset) (f : Filling) → distance_or why o ≡ Ok f → is_told f ≡ true
+pub distance_from : (why : Option ExprFault) (o : Offset) (f : Filling) → distance_or why o ≡ Ok f → is_told f ≡ true
     → (n : ℕ) × (o ≡ Offset.Number n) × (f ≡ Filling.Number (from_end n)) × (allows Field.Distance (from_end n) ≡ true)
 distance_from why Offset.Other f is told = cc
 distance_from (Some why) (Offset.Number n) f is told = cc

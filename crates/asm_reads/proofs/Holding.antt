@@ -1,45 +1,42 @@
 -- What is made of a line is a piece of what it states.
-use Rattle.std.proofs.Common.{◌≡◌, inl, inr, ◌<◌, ℕ, zero, suc, ◌%◌, ◌==◌, ◌&&◌, Bool, true, false, List, [], ◌∷◌, Option, Some, None, Result, Ok, ℤ, All, if◌then◌else◌, length, map, refl, sym, ap, subst, ◌∙◌, arith}
+use Rattle.std.proofs.Common.{◌≡◌, inl, inr, ◌<◌, ℕ, suc, ◌%◌, Bool, true, false, List, [], ◌∷◌, Option, Some, None, Ok, ℤ, All, if◌then◌else◌, length, map, refl, sym, ap, subst, ◌∙◌, arith}
 use Rattle.std.specs.Bool.{MatchBool}
-use Rattle.std.specs.List.{flat_map, list_all, sum_by}
+use Rattle.std.specs.List.{flat_map, sum_by}
 use Rattle.std.proofs.lemmas.List.{length-replicate}
 use Rattle.std.proofs.lemmas.List.Concat.{flat_map_single}
 use Rattle.asm_parse.specs.declared.item.Item.{Item}
-use Rattle.asm_parse.specs.Expression.{postfix}
 use Rattle.asm_parse.specs.Source.{Name}
 use Rattle.asm_expr.specs.declared.answer.Settled.{Settled}
-use Rattle.asm_expr.specs.declared.atom.Atom.{Atom}
 use Rattle.asm_expr.specs.declared.statement.Statement.TheVariants.{Sized}
 use Rattle.asm_expr.specs.Distances.{Step}
 use Rattle.asm_expr.specs.Names.{Table, found}
 use Rattle.asm_expr.specs.Postfix.{source}
-use Rattle.asm_expr.specs.Settling.{is_constant_item, settled}
+use Rattle.asm_expr.specs.Settling.{settled}
 use Rattle.asm_expr.proofs.Sizes.{sum_by-cons}
 use Rattle.z80_instr.specs.declared.Instr.{Instr}
 use Rattle.z80_instr.specs.declared.ShortCond.{ShortCond}
 use Rattle.z80_instr.specs.Codes.{Codes, in_range}
 use Rattle.z80_instr.specs.Table.{canonical}
 use Rattle.z80_form.specs.declared.field.Field.{Field}
-use Rattle.z80_form.specs.Numbers.{number_field, with_number, with_numbers}
-use Rattle.asm_spell.specs.declared.fault.StmtFault.{StmtFault}
-use Rattle.asm_spell.specs.declared.line.Branch.{Branch}
-use Rattle.asm_spell.specs.Faults.{each}
+use Rattle.z80_form.specs.Numbers.{number_field}
+use Rattle.z80_instr.specs.declared.Branch.{Branch}
 use Rattle.asm_spell.specs.Line as line
-use Rattle.asm_piece.specs.declared.cell.Cell.{Cell}
 use Rattle.asm_piece.specs.declared.cell.Filling.{Filling}
-use Rattle.asm_piece.specs.Cells.{all_told, bytes, holes, is_told, number_or_0}
+use Rattle.asm_piece.specs.Cells.{is_told, number_or_0}
 use Rattle.asm_piece.specs.Fields as field
 use Rattle.asm_piece.specs.Fields.{number, settled_in}
 use Rattle.asm_piece.specs.Made as made
 use Rattle.asm_piece.specs.Made.{Fillings, Made, Nothing, Piece, Some_piece, code_hole, coded, fillings, is_origin, laid, long_jump, number_in, ref_of, sized_by, space_fill, space_size}
-use Rattle.asm_reads.specs.Linked.{IsLinked, piece_sized}
+use Rattle.asm_piece.specs.Sized.{piece_sized}
+use Rattle.asm_piece.proofs.Making.{as_stmt_ok, bind_ok, code_made, code_something, is_space, jump_something, laid_something, no_space, number_in_ok, origin_nothing, short_something, size_kept, space_made, space_settled}
+use Rattle.asm_reads.specs.Linked.{IsLinked}
 use Rattle.asm_reads.specs.Pieces.{IsPiece, LeadsTo, datum_bytes, short_jump, sized_as, takes, valued, width}
 use Rattle.asm_reads.proofs.Fields.{AreFields, IsReady}
 use Rattle.asm_reads.specs.Statement as statement
 use Rattle.asm_reads.specs.Statement.{Datum, Statement, byte_items, fill_byte, filling, fixed, spaced, stated, word_item}
-use Rattle.asm_reads.proofs.Coding.{at_of, blank_of, reads}
-use Rattle.asm_reads.proofs.Data.{Lays, bytes_lay, laid_piece, words_lay}
-use Rattle.asm_reads.proofs.Fillings.{as_stmt_ok, bind_ok, chosen_ok, fixed_from}
+use Rattle.asm_reads.proofs.Coding.{at_of, reads, shape}
+use Rattle.asm_reads.proofs.Data.{Lays, bytes_lay, words_lay}
+use Rattle.asm_reads.proofs.Fillings.{fixed_from}
 use Rattle.asm_reads.proofs.Holes.{cells_filled}
 use Rattle.asm_reads.proofs.Rows.{Rows}
 use Rattle.asm_reads.proofs.Values.{settled_worth}
@@ -50,24 +47,16 @@ pub record Holds (t : Table) (p : Piece) (s : Statement) : Type 0 where
       → IsPiece at long places s bs × (length bs ≡ takes long (sized_as s))
 
 -- Instructions.
-size_kept : Rows → (ns : List (Field × ℕ)) (instr : Instr) → length (canonical (with_numbers ns instr)) ≡ length (canonical instr)
-size_kept rows [] instr = refl
-size_kept rows (n ∷ ns) instr = size_kept rows ns (with_number n.0 n.1 instr) ∙ rows.size n.0 n.1 instr
-
 code_holds : Rows → (t : Table) (instr : Instr) (numbers : List (Field × line.Expression)) (p : Piece) → AreFields instr (map (λ n. n.0) numbers) → in_range instr ≡ true
     → made.code t instr numbers ≡ Ok (Some_piece p) → Holds t p (statement.Code instr (map (λ n. (n.0, filling t n.0 n.1)) numbers))
 code_holds rows t instr numbers p fields ok is =
-    let all = bind_ok (fillings t numbers) (λ read. Ok (coded instr read)) (Some_piece p) is in
-    let whole : coded instr all.0 ≡ Some_piece p = cc in
-    let blank = canonical (blank_of all.0 instr) in
-    let empty = flat_map (code_hole (length (canonical instr))) all.0 in
-    let piece = laid_piece (list_all (λ n. is_told n.1) all.0) (made.Bytes blank empty) p whole in
-    let read = reads rows t instr numbers all.0 fields ok all.1 piece.0 in
+    let c = code_made t instr numbers p is in
+    let read = reads rows t instr numbers c.read ok (shape t instr numbers c.read fields c.is c.told) in
     record {
-      size = ap piece_sized (sym piece.1) ∙ ap Sized (size_kept rows (map (λ n. (n.0, number_or_0 n.1)) all.0) instr);
+      size = ap piece_sized (sym c.piece) ∙ ap Sized (size_kept rows.size (map (λ n. (n.0, number_or_0 n.1)) c.read) instr);
       pieces = λ places step at long bs small linked. (
-          let same : bs ≡ canonical (at_of places t numbers instr) = subst (λ q. IsLinked at long places q bs) (sym piece.1) linked ∙ read.filled places step in
-          (record { numbers = read.range places step (subst (All (λ b. b < 256)) same small); spelled = inl same }, ap length same ∙ size_kept rows (valued places (map (λ n. (n.0, filling t n.0 n.1)) numbers)) instr)
+          let same : bs ≡ canonical (at_of places t numbers instr) = subst (λ q. IsLinked at long places q bs) (sym c.piece) linked ∙ read.filled places step in
+          (record { numbers = read.range places step (subst (All (λ b. b < 256)) same small); spelled = inl same }, ap length same ∙ size_kept rows.size (valued places (map (λ n. (n.0, filling t n.0 n.1)) numbers)) instr)
           );
     }
 
@@ -100,7 +89,7 @@ jump_size : (at to : ℕ) (long : Bool) (condition : Option ShortCond) (bs : Lis
 jump_size at to true condition bs codes = long_size condition to bs codes
 jump_size at to false condition bs leads = short_size (Branch.Relative condition) leads.0 bs leads.2
 
-jump_fields : (condition : Option ShortCond) → number_field (long_jump condition 0) ≡ Some Field.Word
+pub jump_fields : (condition : Option ShortCond) → number_field (long_jump condition 0) ≡ Some Field.Word
 jump_fields None = refl
 jump_fields (Some condition) = refl
 
@@ -117,31 +106,11 @@ jump_holds rows t condition target p None is =
     code_holds rows t (long_jump condition 0) ((Field.Word, Item.Leaf (Name target) ∷ []) ∷ []) p (inr (jump_fields condition)) (jump_range condition) is
 
 -- Space.
-record IsSpace (o : Option ℕ) (f : Filling) (p : Piece) : Type 0 where
-  pub last : ℕ
-  pub byte : ℕ
-  pub size : o ≡ Some (suc last)
-  pub fill : f ≡ Filling.Number byte
-  pub piece : made.Space (suc last) (byte % 256) ≡ p
-
-is_space : (o : Option ℕ) (f : Filling) (p : Piece) → sized_by o f ≡ Some_piece p → IsSpace o f p
-is_space None f p is = cc
-is_space (Some zero) f p is = cc
-is_space (Some (suc n)) (Filling.Number k) p is = record { last = n; byte = k; size = refl; fill = refl; piece = cc }
-is_space (Some (suc n)) (Filling.Varying items) p is = cc
-is_space (Some (suc n)) Filling.Unknown p is = cc
-
-number_in_ok : (s : Settled) (n : ℕ) → number_in s ≡ Some n → (items : List (Item Atom)) × (s ≡ Settled.Known items) × (number items ≡ Some n)
-number_in_ok (Settled.Known items) n is = (items, refl, is)
-number_in_ok (Settled.Unknown what) n is = cc
-
 -- the number of a DS
 size_fixed : (t : Table) (e : line.Expression) (s : Settled) (n : ℕ) → space_size t e ≡ Ok s → number_in s ≡ Some n → fixed t e ≡ n
 size_fixed t e s n is one =
-    let first = bind_ok (settled_in t e) _ s is in
-    let chosen = chosen_ok (list_all (is_constant_item t) (postfix (source e))) first.0 s StmtFault.SizeNamesLabel first.2 in
     let known = number_in_ok s n one in
-    ap statement.number_of (settled_worth t (source e) known.0 n (as_stmt_ok (settled t (source e)) s (first.1 ∙ ap (λ x. Ok x) chosen.1) ∙ ap (λ x. Ok x) known.1) known.2)
+    ap statement.number_of (settled_worth t (source e) known.0 n ((space_settled t e s is).0 ∙ ap (λ x. Ok x) known.1) known.2)
 
 -- and its fill
 fill_fixed : (t : Table) (fill : Option line.Expression) (f : Filling) (k : ℕ) → space_fill t fill ≡ Ok f → f ≡ Filling.Number k → fill_byte t fill ≡ k % 256
@@ -159,22 +128,14 @@ space_piece t n b p same =
 space_holds : (t : Table) (size : line.Expression) (fill : Option line.Expression) (p : Piece) → made.space t size fill ≡ Ok (Some_piece p)
     → (s : Statement) × (stated t (line.Space size fill) ≡ Some s) × Holds t p s
 space_holds t size fill p is =
-    let first = bind_ok (space_size t size) _ (Some_piece p) is in
-    let second = bind_ok (space_fill t fill) (λ f. Ok (sized_by (number_in first.0) f)) (Some_piece p) first.2 in
-    let whole : sized_by (number_in first.0) second.0 ≡ Some_piece p = cc in
-    let space = is_space (number_in first.0) second.0 p whole in
+    let m = space_made t size fill (Some_piece p) is in
+    let space = is_space (number_in m.settled) m.filling p m.is in
     let n = suc space.last in
     let b = space.byte % 256 in (
       statement.Space n b,
-      ap (λ k. spaced k (fill_byte t fill)) (size_fixed t size first.0 n first.1 space.size) ∙ ap (spaced n) (fill_fixed t fill second.0 space.byte second.1 space.fill),
+      ap (λ k. spaced k (fill_byte t fill)) (size_fixed t size m.settled n m.size space.size) ∙ ap (spaced n) (fill_fixed t fill m.filling space.byte m.fill space.fill),
       space_piece t n b p space.piece,
     )
-
--- An ORG is no piece.
-origin_nothing : (t : Table) (e : line.Expression) (m : Made) → made.origin t e ≡ Ok m → Nothing ≡ m
-origin_nothing t e m is =
-    let first = bind_ok (settled_in t e) _ m is in
-    (chosen_ok ((t.here == 0) && is_origin first.0) Nothing m StmtFault.BadOrg first.2).1
 
 -- The whole.
 abbrev Answer : Table → line.Body → Piece → Type 0
@@ -201,44 +162,10 @@ holds rows t (line.Origin e) p ready is = let bad = origin_nothing t e (Some_pie
 holds rows t b p ready is = cc
 
 -- What makes nothing states nothing.
-no_nothing : (b : Bool) (x : Piece) → (if b then Some_piece x else made.Unknown) ≡ Nothing → ⊥
-no_nothing true x is = cc
-no_nothing false x is = cc
-
-laid_something : {A : Type 0} (read : A → Result (List Cell) StmtFault) (xs : List A) → made.all_laid (each read xs) ≡ Ok Nothing → ⊥
-laid_something read xs is =
-    let all = bind_ok (each read xs) _ Nothing is in
-    let cells = flat_map (λ some. some) all.0 in
-    let whole : laid cells ≡ Nothing = cc in
-    no_nothing (all_told cells) (made.Bytes (bytes cells) (holes 0 cells)) whole
-
-code_something : (t : Table) (instr : Instr) (numbers : List (Field × line.Expression)) → made.code t instr numbers ≡ Ok Nothing → ⊥
-code_something t instr numbers is =
-    let all = bind_ok (fillings t numbers) (λ read. Ok (coded instr read)) Nothing is in
-    let whole : coded instr all.0 ≡ Nothing = cc in
-    no_nothing (list_all (λ n. is_told n.1) all.0) (made.Bytes (canonical (blank_of all.0 instr)) (flat_map (code_hole (length (canonical instr))) all.0)) whole
-
-jump_something : (t : Table) (condition : Option ShortCond) (target : List ℕ) (o : Option ℕ) → made.jump_by o t condition target ≡ Ok Nothing → ⊥
-jump_something t condition target (Some r) is = cc
-jump_something t condition target None is = code_something t (long_jump condition 0) ((Field.Word, Item.Leaf (Name target) ∷ []) ∷ []) is
-
-short_something : (o : Option ℕ) (branch : Branch) → made.short_by o branch ≡ Ok Nothing → ⊥
-short_something (Some r) branch is = cc
-short_something None branch is = cc
-
-no_space : (o : Option ℕ) (f : Filling) → sized_by o f ≡ Nothing → o ≡ Some 0
-no_space None f is = cc
-no_space (Some zero) f is = refl
-no_space (Some (suc n)) (Filling.Number k) is = cc
-no_space (Some (suc n)) (Filling.Varying items) is = cc
-no_space (Some (suc n)) Filling.Unknown is = cc
-
 space_nothing : (t : Table) (size : line.Expression) (fill : Option line.Expression) → made.space t size fill ≡ Ok Nothing → stated t (line.Space size fill) ≡ None
 space_nothing t size fill is =
-    let first = bind_ok (space_size t size) _ Nothing is in
-    let second = bind_ok (space_fill t fill) (λ f. Ok (sized_by (number_in first.0) f)) Nothing first.2 in
-    let whole : sized_by (number_in first.0) second.0 ≡ Nothing = cc in
-    ap (λ k. spaced k (fill_byte t fill)) (size_fixed t size first.0 0 first.1 (no_space (number_in first.0) second.0 whole))
+    let m = space_made t size fill Nothing is in
+    ap (λ k. spaced k (fill_byte t fill)) (size_fixed t size m.settled 0 m.size (no_space (number_in m.settled) m.filling m.is))
 
 pub nothing : (t : Table) (b : line.Body) → made.made t b ≡ Ok Nothing → stated t b ≡ None
 nothing t (line.Code instr numbers) is = absurd (code_something t instr numbers is)

@@ -6,9 +6,10 @@ use Rattle.asm_expr.specs.Items.{value}
 use Rattle.asm_expr.specs.Postfix.{tree}
 use Rattle.asm_piece.specs.declared.cell.Cell.{Cell}
 use Rattle.asm_piece.specs.declared.cell.Filling.{Filling}
-use Rattle.asm_piece.specs.declared.piece.Hole.{Hole}
-use Rattle.asm_piece.specs.declared.piece.Width.{Width}
-use Rattle.asm_piece.specs.Cells.{bytes, hole, holes, number_or_0, size_of, written}
+use Rattle.zmo_module.specs.declared.hole.Hole.{Hole}
+use Rattle.zmo_module.specs.declared.hole.Width.{Width}
+use Rattle.asm_piece.specs.Cells.{bytes, hole, holes, number_or_0, written}
+use Rattle.zmo_module.specs.Holes.{size_of}
 use Rattle.asm_reads.specs.Linked.{filled}
 use Rattle.asm_reads.proofs.Fillings.{worth_at}
 

@@ -7,4 +7,5 @@ pub mod Fields
 pub mod Numbers
 pub mod Coding
 pub mod Holding
+pub mod Keeping
 mod Example

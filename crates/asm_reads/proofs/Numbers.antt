@@ -13,8 +13,9 @@ use Rattle.z80_instr.specs.declared.Instr.{Instr}
 use Rattle.z80_form.specs.declared.field.Field.{Field}
 use Rattle.z80_form.specs.Numbers.{allows, but_last, is_negative, mode_of, number_field, signed, with_bit, with_byte, with_displacement, with_distance, with_mode, with_number, with_restart, with_word}
 use Rattle.asm_piece.specs.declared.cell.Filling.{Filling}
-use Rattle.asm_piece.specs.declared.piece.Width.{Width}
-use Rattle.asm_piece.specs.Cells.{hole, number_or_0, size_of, written}
+use Rattle.zmo_module.specs.declared.hole.Width.{Width}
+use Rattle.asm_piece.specs.Cells.{hole, number_or_0, written}
+use Rattle.zmo_module.specs.Holes.{size_of}
 use Rattle.asm_piece.specs.Made.{code_hole}
 use Rattle.asm_reads.specs.Linked.{filled}
 use Rattle.asm_reads.proofs.Fillings.{IsFit, worth_at}
@@ -60,11 +61,11 @@ swapped n Field.Restart a instr other = restart_first (signed n) (octal_of (a / 
 abbrev pub IsField : Instr → Field → Type 0
 IsField instr f = (f ≡ Field.Displacement) ⊎ (number_field instr ≡ Some f)
 
-byte_field : (instr : Instr) → IsField instr Field.Byte → number_field instr ≡ Some Field.Byte
+pub byte_field : (instr : Instr) → IsField instr Field.Byte → number_field instr ≡ Some Field.Byte
 byte_field instr (inl bad) = cc
 byte_field instr (inr is) = is
 
-word_field : (instr : Instr) → IsField instr Field.Word → number_field instr ≡ Some Field.Word
+pub word_field : (instr : Instr) → IsField instr Field.Word → number_field instr ≡ Some Field.Word
 word_field instr (inl bad) = cc
 word_field instr (inr is) = is
 

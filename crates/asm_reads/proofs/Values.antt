@@ -1,6 +1,5 @@
 -- What is settled is worth what the whole is.
 use Rattle.std.proofs.Common.{◌≡◌, ℕ, List, [], ◌∷◌, Option, Some, None, Ok, sym, ap, ◌∙◌}
-use Rattle.asm_parse.specs.declared.fault.ExprFault.{ExprFault}
 use Rattle.asm_parse.specs.declared.item.Item.{Item}
 use Rattle.asm_parse.specs.Expression.{Expression, Leaf, Prefix, Infix, postfix}
 use Rattle.asm_parse.specs.Source.{Operand, Number, Name, Here}
@@ -13,7 +12,7 @@ use Rattle.asm_expr.specs.Distances.{Step}
 use Rattle.asm_expr.specs.Items.{value}
 use Rattle.asm_expr.specs.Names.{Table, found}
 use Rattle.asm_expr.specs.Postfix.{tree}
-use Rattle.asm_expr.specs.Settling.{fault, items_known, known, meant, reduced, replaced, settled, settled_as, standing, unknown_of, unless_fault, worth}
+use Rattle.asm_expr.specs.Settling.{fault, items_known, known, meant, reduced, replaced, settled, standing, unknown_of, worth}
 use Rattle.asm_expr.specs.Private.Folding.{root, worth_of}
 use Rattle.asm_expr.proofs.Answers.{items_back}
 use Rattle.asm_expr.proofs.Fixed.{same}
@@ -22,6 +21,7 @@ use Rattle.asm_expr.proofs.Guards.{reduced_number}
 use Rattle.asm_expr.proofs.Known.{object_tree}
 use Rattle.asm_expr.proofs.Postfix.{one_expression, tree-postfix}
 use Rattle.asm_piece.specs.Fields.{number}
+use Rattle.asm_piece.proofs.Making.{answered_items}
 use Rattle.asm_reads.specs.Statement as statement
 use Rattle.asm_reads.specs.Statement.{of_settled, with_meant}
 
@@ -95,11 +95,6 @@ whole_same t (Infix op a b) (Infix o y z) is =
     ap (λ p. Infix p (with_meant t a) (with_meant t b)) operator ∙ ap (λ x. Infix o x (with_meant t b)) (whole_same t a y left) ∙ ap (Infix o y) (whole_same t b z right)
 
 -- What is settled,
-answered_items : (f : Option ExprFault) (o : Option (List (Item Atom))) (what : Unknown) (items : List (Item Atom)) → unless_fault f (settled_as o what) ≡ Ok (Settled.Known items) → o ≡ Some items
-answered_items (Some why) o what items is = cc
-answered_items None None what items is = cc
-answered_items None (Some xs) what items is = cc
-
 pub settled_value : (t : Table) (e : Expression Operand) (items : List (Item Atom)) → settled t e ≡ Ok (Settled.Known items) → (places : ℕ → ℕ) → Step t.statements places
     → value places (tree items) ≡ value places (with_meant t e)
 settled_value t e items is places step =

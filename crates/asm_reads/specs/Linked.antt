@@ -1,9 +1,8 @@
 -- What a linker makes of a piece: holes are filled, jumps are coded.
 use Rattle.std.specs.Prelude.{◌≡◌, ℕ, ◌+◌, Bool, List, [], ◌∷◌, ◌++◌, length, take, drop}
-use Rattle.asm_expr.specs.declared.statement.Statement as sized
 use Rattle.asm_expr.specs.Items.{value}
 use Rattle.asm_expr.specs.Postfix.{tree}
-use Rattle.asm_piece.specs.declared.piece.Hole.{Hole}
+use Rattle.zmo_module.specs.declared.hole.Hole.{Hole}
 use Rattle.asm_piece.specs.Cells.{written}
 use Rattle.asm_piece.specs.Made as made
 use Rattle.asm_piece.specs.Made.{Piece}
@@ -27,10 +26,3 @@ IsLinked at long places (made.Bytes blank holes) bytes = bytes ≡ filled places
 IsLinked at long places (made.Space n fill) bytes = IsPiece at long places (statement.Space n fill) bytes
 IsLinked at long places (made.Jump condition target) bytes = IsPiece at long places (statement.Jump condition target) bytes
 IsLinked at long places (made.Short branch target) bytes = IsPiece at long places (statement.Short branch target) bytes
-
--- a piece as far as its size matters
-abbrev pub piece_sized : Piece → sized.Statement
-piece_sized (made.Bytes blank holes) = sized.TheVariants.Sized (length blank)
-piece_sized (made.Space n fill) = sized.TheVariants.Sized n
-piece_sized (made.Jump condition target) = sized.TheVariants.Relaxable
-piece_sized (made.Short branch target) = sized.TheVariants.Sized 2

@@ -11,7 +11,7 @@ use Rattle.z80_instr.specs.Table.{canonical}
 use Rattle.z80_instr.specs.Codes.{Codes}
 use Rattle.z80_form.specs.declared.field.Field.{Field}
 use Rattle.z80_form.specs.Numbers.{with_numbers}
-use Rattle.asm_spell.specs.declared.line.Branch.{Branch}
+use Rattle.z80_instr.specs.declared.Branch.{Branch}
 use Rattle.asm_piece.specs.Made.{long_jump}
 use Rattle.asm_reads.specs.Statement as statement
 use Rattle.asm_reads.specs.Statement.{Datum, Statement}

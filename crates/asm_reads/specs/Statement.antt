@@ -15,7 +15,7 @@ use Rattle.asm_expr.specs.Settling.{replaced, worth}
 use Rattle.z80_instr.specs.declared.Instr.{Instr}
 use Rattle.z80_instr.specs.declared.ShortCond.{ShortCond}
 use Rattle.z80_form.specs.declared.field.Field.{Field}
-use Rattle.asm_spell.specs.declared.line.Branch.{Branch}
+use Rattle.z80_instr.specs.declared.Branch.{Branch}
 use Rattle.asm_spell.specs.Line as line
 use Rattle.asm_piece.specs.Made.{long_jump, ref_of}
 

@@ -2,11 +2,14 @@
 
 ghost use Rattle.std.specs.Prelude.{◌≡◌, ◌<◌, ℕ, All, Bool, List, Some, None, Ok, length};
 ghost use Rattle.asm_expr.specs.Distances.{Step};
-ghost use Rattle.asm_expr.specs.Names.{Table};
+ghost use Rattle.asm_expr.specs.Names.{AreCounted, Table};
+ghost use Rattle.asm_expr.specs.Origins.{AllBring};
 ghost use Rattle.asm_spell.specs.Line.{Body};
 ghost use Rattle.asm_piece.specs.Made.{Nothing, Piece, Some_piece, made};
-ghost use Rattle.asm_reads.specs.Linked.{IsLinked, piece_sized};
+ghost use Rattle.asm_piece.specs.Sized.{piece_sized};
+ghost use Rattle.asm_reads.specs.Linked.{IsLinked};
 ghost use Rattle.asm_reads.specs.Pieces.{IsPiece, sized_as, takes};
+ghost use Rattle.asm_reads.specs.Rules.{KeepsRules};
 ghost use Rattle.asm_reads.specs.Spelled.{IsSpelled};
 ghost use Rattle.asm_reads.specs.Statement.{Statement, stated};
 
@@ -19,6 +22,19 @@ pub fn at_places()
         IsLinked at long places p bytes → IsPiece at long places s bytes × (length bytes ≡ takes long (sized_as s))) }
     ensures nothing { (t : Table) (b : Body) → made t b ≡ Ok Nothing → stated t b ≡ None }
 {
+    asm_spell::laws::numbered();
+    z80_form::laws::fields();
+    z80_form::laws::kept();
+    z80_form::laws::places();
+}
+
+/// The piece of a spelled line keeps the rules of an object with so many refs, where the place of `$` and the names bring no others.
+pub fn keeps_rules()
+    ensures { (t : Table) (b : Body) (p : Piece) (refs : ℕ) → AreCounted t → AllBring (λ r. r < refs) t → IsSpelled b → made t b ≡ Ok (Some_piece p) →
+        KeepsRules refs p }
+{
+    asm_expr::laws::worth_of_settled();
+    asm_expr::laws::no_other_refs();
     asm_spell::laws::numbered();
     z80_form::laws::fields();
     z80_form::laws::kept();

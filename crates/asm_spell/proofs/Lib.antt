@@ -6,7 +6,7 @@ mod Unworded
 mod Walk
 mod Numbered
 mod Named
-mod Definable
+mod Few
 mod Cuts
 mod Looked
 pub mod WrongWays

@@ -1,8 +1,9 @@
 -- The names of a line, from the tokens of a line that scans.
-use Rattle.std.proofs.Common.{◌≡◌, ◌||◌, not, arith, ℕ, Bool, true, false, List, [], ◌∷◌, Option, Some, None, Result, Ok, Err, All, cond, ◌==◌, ◌&&◌, ◌⊎◌, ◌++◌, map, refl, sym, ap, ◌∙◌, inl, inr, subst, codes}
+use Rattle.std.proofs.Common.{◌≡◌, ◌≤◌, ◌+◌, length, length-append, length-drop, ◌||◌, not, arith, ℕ, Bool, true, false, List, [], ◌∷◌, Option, Some, None, Result, Ok, Err, All, cond, ◌==◌, ◌&&◌, ◌⊎◌, ◌++◌, map, refl, sym, ap, ◌∙◌, inl, inr, subst, codes}
 use Rattle.std.specs.Option.{IfSome, option_map}
 use Rattle.std.specs.Result.{IfOk}
-use Rattle.std.specs.List.{cons_option, list_any, range_with_len}
+use Rattle.std.specs.List.{cons_option, list_any, prefix_len, range_with_len}
+use Rattle.std.proofs.lemmas.List.{length-map}
 use Rattle.std.specs.Char.{to_ascii_uppercase}
 use Rattle.std.proofs.lemmas.Bool.{and_parts, cases_Bool, cases_lt, le-ltb}
 use Rattle.z80_instr.proofs.Finite.{agree_below}
@@ -12,9 +13,9 @@ use Rattle.std.proofs.lemmas.Str.Ascii.{uppercase-uppercase}
 use Rattle.asm_words.specs.Results.{◌>>=◌}
 use Rattle.asm_words.specs.Words.{upper, is_reserved}
 use Rattle.asm_scan.specs.declared.token.Kind.{Kind}
-use Rattle.asm_scan.specs.Classes.{begins_name, continues_name}
+use Rattle.asm_scan.specs.Classes.{begins_name, continues_name, is_blank}
 use Rattle.asm_scan.specs.Tokens.{IsName, IsToken, Lexeme}
-use Rattle.asm_scan.specs.Lines.{BeginsTokens, Scans}
+use Rattle.asm_scan.specs.Lines.{BeginsTokens, Scans, without_blanks}
 use Rattle.asm_scan.specs.Scanned.{scanned}
 use Rattle.asm_line.specs.Forms as front
 use Rattle.asm_line.specs.Lists.{names}
@@ -34,13 +35,20 @@ use Rattle.asm_spell.specs.Line.{Expression, Body, Jump, Short, Public, External
 use Rattle.asm_spell.specs.Operands as cut
 use Rattle.asm_spell.specs.Operands.{Written, answered, answered_by, is_one_name, pieces, with_first, written}
 use Rattle.asm_spell.specs.Spelling.{body_names, name_in, option_names, spelled, statement_names, target, target_by}
-use Rattle.asm_spell.specs.Names.{IsDefinable, body_targets, line_names, line_targets}
+use Rattle.asm_parse.specs.Names.{IsDefinable}
+use Rattle.asm_spell.specs.Names.{body_targets, line_names, line_targets}
 use Rattle.asm_spell.proofs.Walk.{Answers, BodyFound, Found, IsTarget, OptionFound, line_found, written_answers}
 
--- Tokens that are names have the text of one.
+-- Tokens are short, and those that are names have the text of one.
 
-abbrev HasName : Lexeme → Type 0
-HasName t = is_name t ≡ true → IsName t.text
+abbrev pub IsShort : List ℕ → Type 0
+IsShort text = length text ≤ 255
+
+abbrev pub IsShortName : List ℕ → Type 0
+IsShortName text = IsName text × IsShort text
+
+abbrev pub HasName : Lexeme → Type 0
+HasName t = IsShort t.text × (is_name t ≡ true → IsShortName t.text)
 
 abbrev pub HaveNames : List Lexeme → Type 0
 HaveNames ts = All HasName ts
@@ -52,17 +60,21 @@ token_name (Kind.Number n) text after token name = absurd cc
 token_name Kind.Quoted text after token name = absurd cc
 token_name (Kind.Mark m) text after token name = absurd cc
 
-begun_names : (line : List ℕ) (ts : List Lexeme) (rest : List ℕ) → BeginsTokens line ts rest → HaveNames ts
-begun_names line [] rest begins = All-nil HasName
-begun_names line (t ∷ ts) rest begins = All-cons HasName t ts (token_name t.kind t.text begins.0 begins.1.token_is) (begun_names begins.0 ts rest begins.2)
+begun_names : (line : List ℕ) (ts : List Lexeme) (rest : List ℕ) → length line ≤ 255 → BeginsTokens line ts rest → HaveNames ts
+begun_names line [] rest short begins = All-nil HasName
+begun_names line (t ∷ ts) rest short begins =
+    let all : length t.text + length begins.0 ≡ length (without_blanks line) = sym (ap length begins.1.bytes_are ∙ length-append t.text begins.0) in
+    let front : length (without_blanks line) ≤ length line = omega (arith, length-drop (prefix_len is_blank line) line) in
+    let first : IsShort t.text = omega (arith, all, front, short) in
+    All-cons HasName t ts (first, λ is. (token_name t.kind t.text begins.0 begins.1.token_is is, first)) (begun_names begins.0 ts rest (omega (arith, all, front, short)) begins.2)
 
 scanned_names : (line : List ℕ) (ts : List Lexeme) → Scans line (Ok ts) → HaveNames ts
-scanned_names line ts scans = begun_names line ts scans.1.rest scans.1.begins
+scanned_names line ts scans = begun_names line ts scans.1.rest scans.0 scans.1.begins
 
 -- Upper case.
 
 pub record IsUpperName (text : List ℕ) : Type 0 where
-  pub name : IsName text
+  pub name : IsShortName text
   pub upper_case : upper text ≡ text
 
 upper_twice : (text : List ℕ) → upper (upper text) ≡ upper text
@@ -87,17 +99,20 @@ name_upper (b ∷ more) name = (
       (All-weaker (λ c. continues_name c ≡ true) (λ c. continues_name (to_ascii_uppercase c) ≡ true) (λ c passes. upper_keeps continues_name refl c passes) more name.1),
 )
 
-upper_named : (text : List ℕ) → IsName text → IsUpperName (upper text)
-upper_named text name = record { name = name_upper text name; upper_case = upper_twice text }
+upper_short : (text : List ℕ) → IsShort text → IsShort (upper text)
+upper_short text short = omega (arith, length-map text to_ascii_uppercase, short)
+
+upper_named : (text : List ℕ) → IsShortName text → IsUpperName (upper text)
+upper_named text name = record { name = (name_upper text name.0, upper_short text name.1); upper_case = upper_twice text }
 
 -- What a line says first.
 
-abbrev HeadNamed : front.Head → Type 0
-HeadNamed (front.Equ name) = IsName name
+abbrev pub HeadNamed : front.Head → Type 0
+HeadNamed (front.Equ name) = IsShortName name
 HeadNamed head = Unit {0}
 
-record FormNamed (f : front.Form) : Type 0 where
-  pub label : IfSome f.label IsName
+pub record FormNamed (f : front.Form) : Type 0 where
+  pub label : IfSome f.label IsShortName
   pub head : HeadNamed f.head
   pub rest : HaveNames f.rest
 
@@ -109,46 +124,46 @@ block_head : (name : List ℕ) (block : Option BlockWord) → HeadNamed (front.h
 block_head name None = tt
 block_head name (Some block) = tt
 
-worded_named : (label : Option (List ℕ)) (word : Lexeme) (rest : List Lexeme) → IfSome label IsName → HaveNames (word ∷ rest) → FormNamed (front.worded label word rest)
+worded_named : (label : Option (List ℕ)) (word : Lexeme) (rest : List Lexeme) → IfSome label IsShortName → HaveNames (word ∷ rest) → FormNamed (front.worded label word rest)
 worded_named label word rest named have = either_form (is_name word) _ _
     (λ _. (record { label = named; head = block_head word.text (front.block_named word.text); rest = All-tail HasName word rest have }))
     (record { label = named; head = tt; rest = have })
 
-headed_named : (label : Option (List ℕ)) (ts : List Lexeme) → IfSome label IsName → HaveNames ts → FormNamed (front.headed label ts)
+headed_named : (label : Option (List ℕ)) (ts : List Lexeme) → IfSome label IsShortName → HaveNames ts → FormNamed (front.headed label ts)
 headed_named label [] named have = record { label = named; head = tt; rest = have }
 headed_named label (word ∷ []) named have = worded_named label word [] named have
 headed_named label (name ∷ word ∷ rest) named have = either_form (is_name name && is_word (codes "MACRO") word) _ _
     (λ _. (record { label = named; head = tt; rest = All-tail HasName word rest (All-tail HasName name (word ∷ rest) have) }))
     (worded_named label name (word ∷ rest) named have)
 
-defined_named : (name : List ℕ) (rest : List Lexeme) → IsName name → HaveNames rest → FormNamed (front.defined name rest)
+defined_named : (name : List ℕ) (rest : List Lexeme) → IsShortName name → HaveNames rest → FormNamed (front.defined name rest)
 defined_named name rest named have = record { label = tt; head = named; rest = have }
 
-labelled_named : (name : List ℕ) (rest : List Lexeme) → IsName name → HaveNames rest → FormNamed (front.labelled name rest)
+labelled_named : (name : List ℕ) (rest : List Lexeme) → IsShortName name → HaveNames rest → FormNamed (front.labelled name rest)
 labelled_named name [] named have = headed_named (Some name) [] named have
 labelled_named name (word ∷ rest) named have = either_form (is_word (codes "EQU") word) _ _
     (λ _. defined_named name rest named (All-tail HasName word rest have)) (headed_named (Some name) (word ∷ rest) named have)
 
-form_named : (ts : List Lexeme) → HaveNames ts → FormNamed (front.form ts)
+pub form_named : (ts : List Lexeme) → HaveNames ts → FormNamed (front.form ts)
 form_named [] have = headed_named None [] tt have
 form_named (word ∷ []) have = headed_named None (word ∷ []) tt have
 form_named (name ∷ second ∷ rest) have =
     let first = All-head HasName name (second ∷ rest) have in
     let others = All-tail HasName second rest (All-tail HasName name (second ∷ rest) have) in
     either_form (is_name name && is_word (codes "EQU") second) _ _
-    (λ both. defined_named name.text rest (first (and_parts (is_name name) _ both).0) others)
+    (λ both. defined_named name.text rest (first.1 (and_parts (is_name name) _ both).0) others)
     (either_form (is_name name && is_colon second) _ _
-    (λ both. labelled_named name.text rest (first (and_parts (is_name name) _ both).0) others) (headed_named None (name ∷ second ∷ rest) tt have))
+    (λ both. labelled_named name.text rest (first.1 (and_parts (is_name name) _ both).0) others) (headed_named None (name ∷ second ∷ rest) tt have))
 
 -- Names separated by commas.
 
-one_listed : (b : Bool) (name : List ℕ) (list : List (List ℕ)) → (b ≡ true → IsName name) → cond b (Some (upper name ∷ [])) None ≡ Some list → All IsUpperName list
+one_listed : (b : Bool) (name : List ℕ) (list : List (List ℕ)) → (b ≡ true → IsShortName name) → cond b (Some (upper name ∷ [])) None ≡ Some list → All IsUpperName list
 one_listed false name list named e = absurd cc
 one_listed true name list named e =
     let same : upper name ∷ [] ≡ list = cc in
     subst (All IsUpperName) same (All-cons IsUpperName (upper name) [] (upper_named name (named refl)) (All-nil IsUpperName))
 
-more_listed : (b : Bool) (name : List ℕ) (others : Option (List (List ℕ))) (list : List (List ℕ)) → (b ≡ true → IsName name) → ((found : List (List ℕ)) → others ≡ Some found → All IsUpperName found)
+more_listed : (b : Bool) (name : List ℕ) (others : Option (List (List ℕ))) (list : List (List ℕ)) → (b ≡ true → IsShortName name) → ((found : List (List ℕ)) → others ≡ Some found → All IsUpperName found)
     → cond b (option_map (λ ns. upper name ∷ ns) others) None ≡ Some list → All IsUpperName list
 more_listed false name others list named behind e = absurd cc
 more_listed true name None list named behind e = absurd cc
@@ -158,10 +173,10 @@ more_listed true name (Some found) list named behind e =
 
 names_listed : (ts : List Lexeme) (list : List (List ℕ)) → HaveNames ts → names ts ≡ Some list → All IsUpperName list
 names_listed [] list have e = absurd cc
-names_listed (name ∷ []) list have e = one_listed (is_name name) name.text list (All-head HasName name [] have) e
+names_listed (name ∷ []) list have e = one_listed (is_name name) name.text list (All-head HasName name [] have).1 e
 names_listed (name ∷ comma ∷ rest) list have e =
     let first = All-head HasName name (comma ∷ rest) have in
-    more_listed (is_name name && is_comma comma) name.text (names rest) list (λ both. first (and_parts (is_name name) _ both).0)
+    more_listed (is_name name && is_comma comma) name.text (names rest) list (λ both. first.1 (and_parts (is_name name) _ both).0)
     (λ found is. names_listed rest found (All-tail HasName comma rest (All-tail HasName name (comma ∷ rest) have)) is) e
 
 -- The target of a jump: one token, which is a name. What spells an expression of one symbol is that symbol.
@@ -198,7 +213,7 @@ one_symbol s (Prefixed p a) e = absurd (some_symbol a (tail_of e))
     tail_of same = cc
 one_symbol s (Joined o a b) e = absurd (no_second s (spelling a) _ _ (some_symbol a) e)
 
-abbrev Parses : Type 0
+abbrev pub Parses : Type 0
 Parses = (symbols : List Symbol) → IsParsed symbols (parsed_symbols symbols)
 
 parsed_ok : (r : Result Expression ExprFault) (e : Expression) → answered_by r ≡ Ok e → r ≡ Ok e
@@ -235,20 +250,23 @@ one_name parses t e name is answer found =
     let text : name ≡ upper t.text = cc in
     (text, rw text token.1)
 
-definable : (text : List ℕ) → IsUpperName text → is_reserved text ≡ false → IsDefinable text
-definable text named free = record { name = named.name; upper_case = named.upper_case; free = free }
+abbrev IsShortDefinable : List ℕ → Type 0
+IsShortDefinable text = IsDefinable text × IsShort text
+
+definable : (text : List ℕ) → IsUpperName text → is_reserved text ≡ false → IsShortDefinable text
+definable text named free = (record { name = named.name.0; upper_case = named.upper_case; free = free }, named.name.1)
 
 abbrev IsNamed : List Lexeme → Written → Type 0
-IsNamed ts w = (name : List ℕ) → target_by w ≡ Some name → HaveNames ts → IsDefinable name
+IsNamed ts w = (name : List ℕ) → target_by w ≡ Some name → HaveNames ts → IsShortDefinable name
 
 number_named : Parses → (ts : List Lexeme) (e : Expression) → answered ts ≡ Ok e → IsNamed ts (record { form = Form.Number; expression = Some e; is_name = is_one_name ts })
 number_named parses [] e answer name found have = absurd cc
 number_named parses (t ∷ u ∷ ts) e answer name found have = absurd cc
-number_named parses (t ∷ []) e answer name found have = elim (cases_Bool (is_name t)) as (λ _. IsDefinable name) [
+number_named parses (t ∷ []) e answer name found have = elim (cases_Bool (is_name t)) as (λ _. IsShortDefinable name) [
   | inl is ↦
       let here : cond (is_name t) (name_in (Some e)) None ≡ Some name = found in
       let one = one_name parses t e name is answer (rw is at here) in
-      let upper_name : IsUpperName (upper t.text) = upper_named t.text (All-head HasName t [] have is) in
+      let upper_name : IsUpperName (upper t.text) = upper_named t.text ((All-head HasName t [] have).1 is) in
       definable name (subst IsUpperName (sym one.0) upper_name) one.1
   | inr other ↦
       let here : cond (is_name t) (name_in (Some e)) None ≡ Some name = found in
@@ -277,14 +295,14 @@ pieces_named depth (t ∷ ts) have =
     (All-cons HaveNames [] (pieces 0 ts) (All-nil HasName) (pieces_named 0 ts others))
     (first_named t (pieces (open_behind depth t.kind) ts) (All-head HasName t ts have) (pieces_named (open_behind depth t.kind) ts others))
 
-operands_named : (ts : List Lexeme) → HaveNames ts → All HaveNames (cut.operands ts)
+pub operands_named : (ts : List Lexeme) → HaveNames ts → All HaveNames (cut.operands ts)
 operands_named [] have = All-nil HaveNames
 operands_named (t ∷ ts) have = pieces_named 0 (t ∷ ts) have
 
-abbrev Parts : {A B : Type 0} → (A → Result B StmtFault) → A → List A → List B → Type 0
+abbrev pub Parts : {A B : Type 0} → (A → Result B StmtFault) → A → List A → List B → Type 0
 Parts {A} {B} read x xs ys = (y : B) × (rest : List B) × (read x ≡ Ok y) × (each read xs ≡ Ok rest) × (ys ≡ y ∷ rest)
 
-each_parts : {A B : Type 0} (read : A → Result B StmtFault) (x : A) (xs : List A) (ys : List B) → each read (x ∷ xs) ≡ Ok ys → Parts read x xs ys
+pub each_parts : {A B : Type 0} (read : A → Result B StmtFault) (x : A) (xs : List A) (ys : List B) → each read (x ∷ xs) ≡ Ok ys → Parts read x xs ys
 each_parts {A} {B} read x xs ys e = by_first (read x) refl (each read xs) refl e
   where
     by_first : (r : Result B StmtFault) → read x ≡ r → (s : Result (List B) StmtFault) → each read xs ≡ s → (r >>= λ y. s >>= λ ys. Ok (y ∷ ys)) ≡ Ok ys → Parts read x xs ys
@@ -296,14 +314,14 @@ last_or_later : (w : Written) (rest : List Written) (name : List ℕ) → target
 last_or_later w [] name e = inl e
 last_or_later w (v ∷ more) name e = inr e
 
-named_target : Parses → (ps : List (List Lexeme)) (read : List Written) (name : List ℕ) → All HaveNames ps → each written ps ≡ Ok read → target read ≡ Some name → IsDefinable name
+named_target : Parses → (ps : List (List Lexeme)) (read : List Written) (name : List ℕ) → All HaveNames ps → each written ps ≡ Ok read → target read ≡ Some name → IsShortDefinable name
 named_target parses [] read name have e found =
     let same : [] ≡ read = cc in
     let none : None ≡ Some name = ap target same ∙ found in
     absurd cc
 named_target parses (p ∷ ps) read name have e found =
     let parts = each_parts written p ps read e in
-    elim (last_or_later parts.0 parts.1 name (ap target (sym parts.4) ∙ found)) as (λ _. IsDefinable name) [
+    elim (last_or_later parts.0 parts.1 name (ap target (sym parts.4) ∙ found)) as (λ _. IsShortDefinable name) [
       | inl last ↦
           let named : IsNamed p parts.0 = subst (λ (r : Result Written StmtFault). IfOk r (IsNamed p)) parts.2 (written_named parses p).value in
           named name last (All-head HaveNames p ps have)
@@ -312,11 +330,11 @@ named_target parses (p ∷ ps) read name have e found =
 
 -- Names that are not reserved.
 
-none_reserved : (list : List (List ℕ)) → list_any is_reserved list ≡ false → All IsUpperName list → All IsDefinable list
-none_reserved [] free named = All-nil IsDefinable
+none_reserved : (list : List (List ℕ)) → list_any is_reserved list ≡ false → All IsUpperName list → All IsShortDefinable list
+none_reserved [] free named = All-nil IsShortDefinable
 none_reserved (name ∷ list) free named =
     let parts = neither (is_reserved name) (list_any is_reserved list) free in
-    All-cons IsDefinable name list (definable name (All-head IsUpperName name list named) parts.0) (none_reserved list parts.1 (All-tail IsUpperName name list named))
+    All-cons IsShortDefinable name list (definable name (All-head IsUpperName name list named) parts.0) (none_reserved list parts.1 (All-tail IsUpperName name list named))
   where
     neither : (a b : Bool) → (a || b) ≡ false → (a ≡ false) × (b ≡ false)
     neither true b e = absurd cc
@@ -332,42 +350,55 @@ option_named : (rest : List Lexeme) (body : Option Body) → HaveNames rest → 
 option_named rest None have found = All-nil IsUpperName
 option_named rest (Some body) have found = body_named rest body have found
 
-label_named : (label : Option (List ℕ)) (others : List (List ℕ)) → IfSome label IsName → All IsUpperName others → All IsUpperName (cons_option (option_map upper label) others)
+label_named : (label : Option (List ℕ)) (others : List (List ℕ)) → IfSome label IsShortName → All IsUpperName others → All IsUpperName (cons_option (option_map upper label) others)
 label_named None others named all = all
 label_named (Some name) others named all = All-cons IsUpperName (upper name) others (upper_named name named) all
 
-found_names : (ts : List Lexeme) (l : Line) → HaveNames ts → Found ts l → All IsDefinable (line_names l)
+found_names : (ts : List Lexeme) (l : Line) → HaveNames ts → Found ts l → All IsShortDefinable (line_names l)
 found_names ts (Equ name e) have found =
-    let written : IsName found.0 = subst HeadNamed found.1 (form_named ts have).head in
-    All-cons IsDefinable name [] (definable name (subst IsUpperName (sym found.2) (upper_named found.0 written)) found.3) (All-nil IsDefinable)
+    let written : IsShortName found.0 = subst HeadNamed found.1 (form_named ts have).head in
+    All-cons IsShortDefinable name [] (definable name (subst IsUpperName (sym found.2) (upper_named found.0 written)) found.3) (All-nil IsShortDefinable)
 found_names ts (Statement name body) have found =
     let f = form_named ts have in
     let all : All IsUpperName (cons_option (option_map upper (front.form ts).label) (option_names body)) = label_named (front.form ts).label (option_names body) f.label (option_named (front.form ts).rest body f.rest found.2) in
     none_reserved (statement_names name body) found.1 (subst (λ n. All IsUpperName (statement_names n body)) (sym found.0) all)
 
-target_found : Parses → (rest : List Lexeme) (name : List ℕ) → HaveNames rest → IsTarget rest name → All IsDefinable (name ∷ [])
-target_found parses rest name have t = All-cons IsDefinable name [] (named_target parses (cut.operands rest) t.operands name (operands_named rest have) t.read t.target_is) (All-nil IsDefinable)
+target_found : Parses → (rest : List Lexeme) (name : List ℕ) → HaveNames rest → IsTarget rest name → All IsShortDefinable (name ∷ [])
+target_found parses rest name have t = All-cons IsShortDefinable name [] (named_target parses (cut.operands rest) t.operands name (operands_named rest have) t.read t.target_is) (All-nil IsShortDefinable)
 
-body_jumps : Parses → (rest : List Lexeme) (body : Body) → HaveNames rest → BodyFound rest body → All IsDefinable (body_targets body)
+body_jumps : Parses → (rest : List Lexeme) (body : Body) → HaveNames rest → BodyFound rest body → All IsShortDefinable (body_targets body)
 body_jumps parses rest (Jump condition name) have t = target_found parses rest name have t
 body_jumps parses rest (Short branch name) have t = target_found parses rest name have t
-body_jumps parses rest _ have t = All-nil IsDefinable
+body_jumps parses rest _ have t = All-nil IsShortDefinable
 
-found_targets : Parses → (ts : List Lexeme) (l : Line) → HaveNames ts → Found ts l → All IsDefinable (line_targets l)
-found_targets parses ts (Equ name e) have found = All-nil IsDefinable
-found_targets parses ts (Statement name None) have found = All-nil IsDefinable
+found_targets : Parses → (ts : List Lexeme) (l : Line) → HaveNames ts → Found ts l → All IsShortDefinable (line_targets l)
+found_targets parses ts (Equ name e) have found = All-nil IsShortDefinable
+found_targets parses ts (Statement name None) have found = All-nil IsShortDefinable
 found_targets parses ts (Statement name (Some body)) have found = body_jumps parses (front.form ts).rest body (form_named ts have).rest found.2
 
 -- A line that scans.
 
-abbrev ScanAnswers : Type 0
+abbrev pub ScanAnswers : Type 0
 ScanAnswers = (line : List ℕ) → Scans line (scanned line)
 
-scanned_have : ScanAnswers → (line : List ℕ) (ts : List Lexeme) → scanned line ≡ Ok ts → HaveNames ts
+pub scanned_have : ScanAnswers → (line : List ℕ) (ts : List Lexeme) → scanned line ≡ Ok ts → HaveNames ts
 scanned_have scans line ts e = scanned_names line ts (subst (Scans line) e (scans line))
 
+line_short : ScanAnswers → (line : List ℕ) (ts : List Lexeme) (l : Line) → scanned line ≡ Ok ts → spelled ts ≡ Ok l → All IsShortDefinable (line_names l)
+line_short scans line ts l e s = found_names ts l (scanned_have scans line ts e) (line_found ts l s)
+
+targets_short : ScanAnswers → Parses → (line : List ℕ) (ts : List Lexeme) (l : Line) → scanned line ≡ Ok ts → spelled ts ≡ Ok l → All IsShortDefinable (line_targets l)
+targets_short scans parses line ts l e s = found_targets parses ts l (scanned_have scans line ts e) (line_found ts l s)
+
 pub names_defined : ScanAnswers → (line : List ℕ) (ts : List Lexeme) (l : Line) → scanned line ≡ Ok ts → spelled ts ≡ Ok l → All IsDefinable (line_names l)
-names_defined scans line ts l e s = found_names ts l (scanned_have scans line ts e) (line_found ts l s)
+names_defined scans line ts l e s = All-weaker IsShortDefinable IsDefinable (λ x is. is.0) (line_names l) (line_short scans line ts l e s)
 
 pub targets_defined : ScanAnswers → Parses → (line : List ℕ) (ts : List Lexeme) (l : Line) → scanned line ≡ Ok ts → spelled ts ≡ Ok l → All IsDefinable (line_targets l)
-targets_defined scans parses line ts l e s = found_targets parses ts l (scanned_have scans line ts e) (line_found ts l s)
+targets_defined scans parses line ts l e s = All-weaker IsShortDefinable IsDefinable (λ x is. is.0) (line_targets l) (targets_short scans parses line ts l e s)
+
+-- .. and have as many bytes as a line, at most.
+pub names_short : ScanAnswers → (line : List ℕ) (ts : List Lexeme) (l : Line) → scanned line ≡ Ok ts → spelled ts ≡ Ok l → All IsShort (line_names l)
+names_short scans line ts l e s = All-weaker IsShortDefinable IsShort (λ x is. is.1) (line_names l) (line_short scans line ts l e s)
+
+pub branches_short : ScanAnswers → Parses → (line : List ℕ) (ts : List Lexeme) (l : Line) → scanned line ≡ Ok ts → spelled ts ≡ Ok l → All IsShort (line_targets l)
+branches_short scans parses line ts l e s = All-weaker IsShortDefinable IsShort (λ x is. is.1) (line_targets l) (targets_short scans parses line ts l e s)

@@ -1,5 +1,5 @@
 -- What is spelled, and what tokens alone are refused for: one walk through what is read of a line.
-use Rattle.std.proofs.Common.{◌≡◌, ℕ, Bool, true, false, List, [], ◌∷◌, Option, Some, None, Result, Ok, Err, All, codes, cond, map, refl, sym, subst}
+use Rattle.std.proofs.Common.{◌≡◌, ◌≢◌, ℕ, Bool, true, false, List, [], ◌∷◌, Option, Some, None, Result, Ok, Err, All, codes, cond, map, refl, sym, subst}
 use Rattle.std.specs.Result.{IfErr, IfOk}
 use Rattle.std.specs.Option.{IfSome, is_some, option_and_then, option_map}
 use Rattle.std.specs.Str.{str_eq_ignore_ascii_case}
@@ -28,7 +28,7 @@ use Rattle.z80_form.specs.Numbers.{has_expression}
 use Rattle.asm_spell.specs.declared.fault.StmtFault.{StmtFault}
 use Rattle.asm_spell.specs.declared.line.Line as line
 use Rattle.asm_spell.specs.Faults.{IsOfTokens, Gives, value_or, each}
-use Rattle.asm_spell.specs.Line.{Expression, Value, Body, Code, Jump, Short, Bytes, Public, External, End, Line, Equ, Statement, line_of}
+use Rattle.asm_spell.specs.Line.{Expression, Value, Body, Code, Jump, Short, Bytes, Words, Public, External, End, Line, Equ, Statement, line_of}
 use Rattle.asm_spell.specs.Operands as cut
 use Rattle.asm_spell.specs.Operands.{Written, answered, answered_by, is_one_name, name_of, name_alone, with_expression, at_expression, is_memory, inner, is_sign_kind, indexed, index_named, indexed_or, pointed, pointed_or, memory, named_or, written}
 use Rattle.asm_spell.specs.Directives.{directive, external, nameless, of_bytes, of_nothing, of_origin, of_space, of_words, public, value, text_or, text_alone, is_empty_text, bytes, words, space, origin, nothing, judged, names_or, names_in, entry, end}
@@ -131,6 +131,8 @@ abbrev pub BodyFound : List Lexeme → Body → Type 0
 BodyFound rest (Code instr numbers) = IsFound rest instr numbers
 BodyFound rest (Jump condition name) = IsTarget rest name
 BodyFound rest (Short branch name) = IsTarget rest name
+BodyFound rest (Bytes values) = (each value (cut.operands rest) ≡ Ok values) × (values ≢ []) × (list_any is_empty_text values ≡ false)
+BodyFound rest (Words fields) = (each answered (cut.operands rest) ≡ Ok fields) × (fields ≢ [])
 BodyFound rest (Public list) = names rest ≡ Some list
 BodyFound rest (External list) = names rest ≡ Some list
 BodyFound rest (End (Some name)) = names rest ≡ Some (name ∷ [])
@@ -195,13 +197,17 @@ names_answer None ts is = then_answers _ _ (each_refuses judged judged_refuses (
 abbrev Directs : Result Body StmtFault → Type 0
 Directs r = (rest : List Lexeme) → Answers (BodyFound rest) r
 
-bytes_direct : (values : List Value) → Directs (bytes values)
-bytes_direct [] rest = record { fault = tt; value = tt }
-bytes_direct (v ∷ vs) rest = chosen (list_any is_empty_text (v ∷ vs)) (Err StmtFault.BadOperands) (Ok (Bytes (v ∷ vs))) (record { fault = tt; value = tt }) (record { fault = tt; value = tt })
+bytes_found : (ts : List Lexeme) (values : List Value) → each value (cut.operands ts) ≡ Ok values → Answers (BodyFound ts) (bytes values)
+bytes_found ts [] is = record { fault = tt; value = tt }
+bytes_found ts (v ∷ vs) is = by_test (list_any is_empty_text (v ∷ vs)) refl
+  where
+    by_test : (b : Bool) → list_any is_empty_text (v ∷ vs) ≡ b → Answers (BodyFound ts) (cond b (Err StmtFault.BadOperands) (Ok (Bytes (v ∷ vs))))
+    by_test true was = record { fault = tt; value = tt }
+    by_test false was = record { fault = tt; value = (is, λ bad. cc, was) }
 
-words_direct : (es : List Expression) → Directs (words es)
-words_direct [] rest = record { fault = tt; value = tt }
-words_direct (e ∷ es) rest = record { fault = tt; value = tt }
+words_found : (ts : List Lexeme) (es : List Expression) → each answered (cut.operands ts) ≡ Ok es → Answers (BodyFound ts) (words es)
+words_found ts [] is = record { fault = tt; value = tt }
+words_found ts (e ∷ es) is = record { fault = tt; value = (is, λ bad. cc) }
 
 space_direct : (es : List Expression) → Directs (space es)
 space_direct [] rest = record { fault = tt; value = tt }
@@ -240,7 +246,7 @@ external_answers : (ts : List Lexeme) → Answers (BodyFound ts) (external ts)
 external_answers ts = then_known (names_in ts) _ (names_answer (names ts) ts refl) (λ list e is. (record { fault = tt; value = is }))
 
 bytes_answers : (ts : List Lexeme) → Answers (BodyFound ts) (of_bytes ts)
-bytes_answers ts = then_answers _ bytes (each_refuses value value_refuses (cut.operands ts)) (λ values. bytes_direct values ts)
+bytes_answers ts = then_known _ bytes (each_refuses value value_refuses (cut.operands ts)) (λ values is _. bytes_found ts values is)
 
 -- what holds of each directive holds of the one that a word is
 abbrev Spells : (List Lexeme → Result Body StmtFault) → Type 0
@@ -262,7 +268,7 @@ directive_answers name =
     (looked_up name (same (codes ".Z80")) of_nothing _ nothing_answers (looked_up name (same (codes "EQU")) nameless _ nameless_answers tt))))))))))))))
   where
     words_answers : Spells of_words
-    words_answers ts = expressions_direct ts words words_direct ts
+    words_answers ts = then_known _ words (each_refuses answered answered_refuses (cut.operands ts)) (λ es is _. words_found ts es is)
 
     space_answers : Spells of_space
     space_answers ts = expressions_direct ts space space_direct ts

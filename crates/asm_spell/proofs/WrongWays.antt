@@ -14,7 +14,7 @@ use Rattle.z80_instr.specs.declared.ShortCond.{ShortCond}
 use Rattle.z80_words.specs.Named.{mnemonic_named, name_named}
 use Rattle.z80_form.specs.declared.field.Field.{Field}
 use Rattle.z80_form.specs.Spelling.{instruction_of}
-use Rattle.asm_spell.specs.declared.line.Branch.{Branch}
+use Rattle.z80_instr.specs.declared.Branch.{Branch}
 use Rattle.asm_spell.specs.Line.{Code, Short, Statement}
 use Rattle.asm_spell.specs.Spelling.{spelled}
 

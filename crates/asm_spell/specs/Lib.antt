@@ -5,5 +5,6 @@ pub mod Cuts
 pub mod Directives
 pub mod Spelling
 pub mod Names
+pub mod Few
 pub mod Numbered
 pub mod Private

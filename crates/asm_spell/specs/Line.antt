@@ -7,7 +7,7 @@ use Rattle.asm_parse.specs.Source.{Operand}
 use Rattle.z80_instr.specs.declared.Instr.{Instr}
 use Rattle.z80_instr.specs.declared.ShortCond.{ShortCond}
 use Rattle.z80_form.specs.declared.field.Field.{Field}
-use Rattle.asm_spell.specs.declared.line.Branch.{Branch}
+use Rattle.z80_instr.specs.declared.Branch.{Branch}
 use Rattle.asm_spell.specs.declared.line.Value as value
 use Rattle.asm_spell.specs.declared.line.Body as body
 use Rattle.asm_spell.specs.declared.line.Line as line

@@ -1,15 +1,7 @@
--- Names that a program can define, as an object has them; and those that a line has.
-use Rattle.std.specs.Prelude.{◌≡◌, ℕ, false, List, [], ◌∷◌, Some}
-use Rattle.asm_scan.specs.Tokens.{IsName}
-use Rattle.asm_words.specs.Words.{upper, is_reserved}
+-- The names that a line has.
+use Rattle.std.specs.Prelude.{ℕ, List, [], ◌∷◌, Some}
 use Rattle.asm_spell.specs.Line.{Body, Jump, Short, Line, Equ, Statement}
 use Rattle.asm_spell.specs.Spelling.{statement_names}
-
--- The whole text is one name, in upper case, and not reserved.
-pub record IsDefinable (text : List ℕ) : Type 0 where
-  pub name : IsName text
-  pub upper_case : upper text ≡ text
-  pub free : is_reserved text ≡ false
 
 -- the names that a line defines or passes on
 abbrev pub line_names : Line → List (List ℕ)

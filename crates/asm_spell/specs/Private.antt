@@ -1,4 +1,3 @@
 -- What private contracts alone cite: no reviewer need believe it.
 pub mod Cutting
-pub mod Named
 pub mod Choices

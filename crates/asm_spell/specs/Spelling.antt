@@ -17,7 +17,7 @@ use Rattle.z80_form.specs.declared.field.Field.{Field}
 use Rattle.z80_form.specs.Numbers.{field_of}
 use Rattle.z80_form.specs.Spelling.{instruction_of}
 use Rattle.asm_spell.specs.declared.fault.StmtFault.{StmtFault}
-use Rattle.asm_spell.specs.declared.line.Branch.{Branch}
+use Rattle.z80_instr.specs.declared.Branch.{Branch}
 use Rattle.asm_spell.specs.Faults.{value_or, each}
 use Rattle.asm_spell.specs.Line.{Expression, Body, Code, Jump, Short, Public, External, End, Line, Equ, Statement}
 use Rattle.asm_spell.specs.Operands.{operands, answered, Written, written}

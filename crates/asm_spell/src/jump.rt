@@ -5,8 +5,8 @@ ghost use Rattle.std.specs.Option.{option_map};
 ghost use Rattle.asm_spell.specs.Spelling.{jump_to, short_condition};
 ghost use Rattle.asm_spell.specs.Private.Choices.{jumps};
 
-use crate::line::{Body, Branch};
-use z80_instr::{Cond, Instr, ShortCond};
+use crate::line::Body;
+use z80_instr::{Branch, Cond, Instr, ShortCond};
 
 /// How a jump to one name is coded.
 #[derive(Clone, Copy, Debug)]

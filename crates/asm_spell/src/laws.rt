@@ -1,6 +1,6 @@
 //! Laws of statements, as functions that do nothing: their calls bring the clauses.
 
-ghost use Rattle.std.specs.Prelude.{◌≡◌, ◌↔◌, true, ◌∷◌, ◌++◌, [], ℕ, List, Option, Some, Ok, All};
+ghost use Rattle.std.specs.Prelude.{◌≡◌, ◌≤◌, ◌↔◌, length, true, ◌∷◌, ◌++◌, [], ℕ, List, Option, Some, Ok, All};
 ghost use Rattle.asm_scan.specs.Tokens.{Lexeme, doubled};
 ghost use Rattle.asm_scan.specs.Scanned.{scanned};
 ghost use Rattle.asm_line.specs.Forms.{form};
@@ -8,8 +8,10 @@ ghost use Rattle.z80_instr.specs.declared.Instr.{Instr};
 ghost use Rattle.z80_form.specs.declared.field.Field.{Field};
 ghost use Rattle.asm_spell.specs.Cuts.{AreCut, IsClosed};
 ghost use Rattle.asm_spell.specs.Directives.{content};
-ghost use Rattle.asm_spell.specs.Line.{Code, Expression, Line, Statement};
-ghost use Rattle.asm_spell.specs.Names.{IsDefinable, line_names, line_targets};
+ghost use Rattle.asm_spell.specs.Few.{IsFew};
+ghost use Rattle.asm_spell.specs.Line.{Body, Code, Expression, Line, Statement};
+ghost use Rattle.asm_parse.specs.Names.{IsDefinable};
+ghost use Rattle.asm_spell.specs.Names.{line_names, line_targets};
 ghost use Rattle.asm_spell.specs.Operands.{closed_by_last, pieces};
 ghost use Rattle.asm_spell.specs.Numbered.{FillFields, IsNumbered};
 ghost use Rattle.asm_spell.specs.Spelling.{spelled};
@@ -36,6 +38,19 @@ pub fn names()
         All IsDefinable (line_names found) }
     ensures targets { (line : List ℕ) (tokens : List Lexeme) (found : Line) → scanned line ≡ Ok tokens → spelled tokens ≡ Ok found →
         All IsDefinable (line_targets found) }
+{
+    asm_scan::laws::scanned();
+    asm_parse::laws::parsed();
+}
+
+/// The names of a line have 255 bytes at most, and its data takes from 1 to 65,535.
+pub fn few()
+    ensures names { (line : List ℕ) (tokens : List Lexeme) (found : Line) → scanned line ≡ Ok tokens → spelled tokens ≡ Ok found →
+        All (λ name. length name ≤ 255) (line_names found) }
+    ensures targets { (line : List ℕ) (tokens : List Lexeme) (found : Line) → scanned line ≡ Ok tokens → spelled tokens ≡ Ok found →
+        All (λ name. length name ≤ 255) (line_targets found) }
+    ensures data { (line : List ℕ) (tokens : List Lexeme) (label : Option (List ℕ)) (body : Body) → scanned line ≡ Ok tokens →
+        spelled tokens ≡ Ok (Statement label (Some body)) → IsFew body }
 {
     asm_scan::laws::scanned();
     asm_parse::laws::parsed();

@@ -11,11 +11,11 @@ mod instruction;
 mod jump;
 pub mod laws;
 mod line;
-mod name;
 mod operand;
 mod spelling;
 
+pub use asm_parse::is_name;
 pub use fault::StmtFault;
-pub use line::{Body, Branch, Line, Value};
-pub use name::is_name;
+pub use line::{Body, Line, Value};
 pub use spelling::statement;
+pub use z80_instr::Branch;

@@ -2,16 +2,7 @@
 
 use asm_parse::Tree;
 use z80_form::Field;
-use z80_instr::{Instr, ShortCond};
-
-/// How a jump that is always short branches.
-#[derive(Clone, Copy, Debug, PartialEq, Eq)]
-pub enum Branch {
-    /// `JR`, with its condition if it has one.
-    Relative(Option<ShortCond>),
-    /// `DJNZ`
-    CountDown,
-}
+use z80_instr::{Branch, Instr, ShortCond};
 
 /// A value of `DB`.
 #[derive(Debug, Drop)]

@@ -2,7 +2,7 @@
 
 use crate::calls::Call;
 use crate::failing::{Failing, Failure};
-use crate::support::{copy_of, disk_of, mount, mounted};
+use crate::support::{copy_of, disk_of, mount, mounted, read, write};
 use cpm_disk::{Disk, DiskFault, Name, Pattern};
 use cpm_image::MemoryImage;
 use std::alloc::Global;
@@ -29,14 +29,9 @@ fn base(rt: &impl Abort, alloc: Global) -> Result<MemoryImage, Fail> {
         ],
     )?;
     for number in [0, 1, 2, 3, 9, 10, 128, 130] {
-        disk.write_block_of(
-            0,
-            &Name::new(FILE),
-            number,
-            &[(number % 100) as u8 + 1; 128],
-        )?;
+        write(&mut disk, &[(FILE, number, (number % 100) as u8 + 1)])?;
     }
-    disk.write_block_of(0, &Name::new(OTHER), 0, &[0xAA; 128])?;
+    write(&mut disk, &[(OTHER, 0, 0xAA)])?;
     Ok(disk.unmount())
 }
 
@@ -58,7 +53,7 @@ fn look_at(rt: &impl Abort, alloc: Global, image: MemoryImage) -> Result<Seen, F
     for number in [
         0, 1, 2, 3, 4, 7, 8, 9, 10, 11, 15, 16, 23, 24, 128, 129, 130, 131, 256, 300, 303,
     ] {
-        records.push(disk.read_block_of(0, &Name::new(FILE), number))?;
+        records.push(read(&mut disk, FILE, number))?;
     }
     Ok(Seen { entries, records })
 }

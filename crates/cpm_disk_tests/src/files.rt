@@ -1,8 +1,10 @@
 //! What the calls make of a directory.
 
-use crate::support::{BLANK, Row, assert_entries, disk_of, image_of, mounted};
-use cpm_disk::{Disk, DiskFault, Listed, Name, Pattern};
+use crate::calls::Call;
+use crate::support::{BLANK, Row, assert_entries, disk_of, erase, image_of, mounted, read, write};
+use cpm_disk::{Disk, DiskFault, Listed, Name};
 use cpm_image::{MemoryImage, Sectors, logical};
+use std::alloc::Global;
 use std::process::Abort;
 use std::test::Fail;
 
@@ -13,30 +15,29 @@ const FILE: [u8; 11] = *b"FILE    TXT";
 const OTHER: [u8; 11] = *b"OTHER   TXT";
 
 /// Writes the first 129 records of a file, all of whose bytes are its number.
-fn write_big(disk: &mut Disk<MemoryImage>, name: &Name) -> Result<(), DiskFault> {
+fn write_big(disk: &mut Disk<MemoryImage>) -> Result<(), DiskFault> {
     for number in 0..129u8 {
-        disk.write_block_of(0, name, u32::from(number), &[number; 128])?;
+        write(disk, &[(BIG, u32::from(number), number)])?;
     }
     Ok(())
 }
 
 /// Asserts that these are what the file has.
-fn assert_big(rt: &impl Abort, disk: &mut Disk<MemoryImage>, name: &Name) -> Result<(), Fail> {
+fn assert_big(rt: &impl Abort, disk: &mut Disk<MemoryImage>) -> Result<(), Fail> {
     for number in 0..129u8 {
-        let bytes = disk.read_block_of(0, name, u32::from(number))?;
+        let bytes = read(disk, BIG, u32::from(number))?;
         assert_eq!(rt; bytes, [number; 128]);
     }
-    assert_eq!(rt; disk.size(0, name), Some(129));
+    assert_eq!(rt; disk.size(0, &Name::new(BIG)), Some(129));
     Ok(())
 }
 
 #[test]
 fn big_file(rt: HostRuntime) -> Result<(), Fail> {
     let mut disk = disk_of(&rt, rt.alloc(), &[])?;
-    let name = Name::new(BIG);
-    assert_eq!(rt; disk.create(0, &name), Ok(0));
-    write_big(&mut disk, &name)?;
-    assert_big(&rt, &mut disk, &name)?;
+    assert_eq!(rt; Call::Create(BIG).make(&mut disk), Ok(0));
+    write_big(&mut disk)?;
+    assert_big(&rt, &mut disk)?;
     let disk = mounted(&rt, rt.alloc(), disk.unmount())?;
     let rows = [
         (
@@ -81,9 +82,7 @@ fn new_block(rt: HostRuntime) -> Result<(), Fail> {
     let mut disk = disk_of(&rt, rt.alloc(), &rows)?;
     // The records of a new block are zeros but for the one that is written. A record before the last leaves the count. In a
     // block that was there a record between is what the disk holds.
-    for (name, number) in [(OTHER, 10u8), (OTHER, 8), (FILE, 5)] {
-        disk.write_block_of(0, &Name::new(name), u32::from(number), &[number; 128])?;
-    }
+    write(&mut disk, &[(OTHER, 10, 10), (OTHER, 8, 8), (FILE, 5, 5)])?;
     assert_entries(
         &rt,
         &disk,
@@ -100,8 +99,7 @@ fn new_block(rt: HostRuntime) -> Result<(), Fail> {
         (11, Err(DiskFault::Unwritten)),
     ];
     for (number, wanted) in rows {
-        let read = disk.read_block_of(0, &Name::new(OTHER), number);
-        assert_eq!(rt; read, wanted, "record {number}");
+        assert_eq!(rt; read(&mut disk, OTHER, number), wanted, "record {number}");
     }
     let mut image = disk.unmount();
     let rows = [
@@ -132,10 +130,7 @@ fn new_extent(rt: HostRuntime) -> Result<(), Fail> {
         (7, 0, FILE, 0, 2, [2, 0, 0, 0]),
     ];
     let mut disk = disk_of(&rt, rt.alloc(), &rows)?;
-    let name = Name::new(FILE);
-    for number in [256 + 17, 31 * 128 + 24] {
-        disk.write_block_of(0, &name, number, &[1; 128])?;
-    }
+    write(&mut disk, &[(FILE, 256 + 17, 1), (FILE, 31 * 128 + 24, 1)])?;
     assert_entries(&rt, &disk, &rows);
     assert_entries(
         &rt,
@@ -146,9 +141,9 @@ fn new_extent(rt: HostRuntime) -> Result<(), Fail> {
         ],
     );
     // The last record that a file may have.
-    disk.write_block_of(0, &name, 4_095, &[2; 128])?;
-    assert_eq!(rt; disk.read_block_of(0, &name, 4_095), Ok([2; 128]));
-    assert_eq!(rt; disk.size(0, &name), Some(4_096));
+    write(&mut disk, &[(FILE, 4_095, 2)])?;
+    assert_eq!(rt; read(&mut disk, FILE, 4_095), Ok([2; 128]));
+    assert_eq!(rt; disk.size(0, &Name::new(FILE)), Some(4_096));
     Ok(())
 }
 
@@ -160,13 +155,8 @@ fn erase_by_user(rt: HostRuntime) -> Result<(), Fail> {
         (2, 1, FILE, 1, 1, [4, 0, 0, 0]),
     ];
     let mut disk = disk_of(&rt, rt.alloc(), &rows)?;
-    let name = Name::new(FILE);
-    let pattern = Pattern {
-        name: FILE,
-        extent: 9,
-    };
-    disk.write_block_of(0, &name, 0, &[10; 128])?;
-    assert_eq!(rt; disk.erase(1, &pattern), Ok(2));
+    write(&mut disk, &[(FILE, 0, 10)])?;
+    assert_eq!(rt; erase(&rt, &mut disk, 1, FILE, 9), Ok(2));
     assert_entries(
         &rt,
         &disk,
@@ -176,11 +166,11 @@ fn erase_by_user(rt: HostRuntime) -> Result<(), Fail> {
             (2, 0xE5, FILE, 1, 1, [4, 0, 0, 0]),
         ],
     );
-    assert_eq!(rt; disk.read_block_of(0, &name, 0), Ok([10; 128]));
-    assert_eq!(rt; disk.erase(1, &pattern), Err(DiskFault::NotFound));
+    assert_eq!(rt; read(&mut disk, FILE, 0), Ok([10; 128]));
+    assert_eq!(rt; erase(&rt, &mut disk, 1, FILE, 9), Err(DiskFault::NotFound));
     // The lowest free entry and the lowest free block are taken again.
-    assert_eq!(rt; disk.create(2, &name), Ok(1));
-    disk.write_block_of(2, &name, 0, &[13; 128])?;
+    assert_eq!(rt; Call::Create(FILE).make_for(2, &mut disk), Ok(1));
+    Call::Write(FILE, 0, 13).make_for(2, &mut disk)?;
     assert_entries(&rt, &disk, &[(1, 2, FILE, 0, 1, [3, 0, 0, 0])]);
     Ok(())
 }
@@ -197,11 +187,7 @@ fn erase_by_pattern(rt: HostRuntime) -> Result<(), Fail> {
         (5, 0x20, *b"A5      TXT", 0, 0, [0; 4]),
     ];
     let mut disk = disk_of(&rt, rt.alloc(), &rows)?;
-    let pattern = Pattern {
-        name: *b"A?      TXT",
-        extent: 0,
-    };
-    assert_eq!(rt; disk.erase(0, &pattern), Ok(3));
+    assert_eq!(rt; erase(&rt, &mut disk, 0, *b"A?      TXT", 0), Ok(3));
     assert_entries(
         &rt,
         &disk,
@@ -228,7 +214,7 @@ fn rename_keeps_attributes(rt: HostRuntime) -> Result<(), Fail> {
         (7, 0x21, FILE, 0, 0, [0; 4]),
     ];
     let mut disk = disk_of(&rt, rt.alloc(), &rows)?;
-    disk.rename(0, &Name::new(FILE), &Name::new(*b"NEWNAME\xC1COM"))?;
+    Call::Rename(FILE, *b"NEWNAME\xC1COM").make(&mut disk)?;
     let renamed = *b"\xCE\xC5\xD7\xCE\xC1\xCD\xC5\xC1C\xCF\xCD";
     assert_entries(
         &rt,
@@ -245,20 +231,12 @@ fn rename_keeps_attributes(rt: HostRuntime) -> Result<(), Fail> {
 
 /// Calls of user 0 that change, rename and erase a file.
 fn work(disk: &mut Disk<MemoryImage>) -> Result<(), DiskFault> {
-    let name = Name::new(OTHER);
-    let renamed = Name::new(BIG);
-    let pattern = Pattern {
-        name: *b"B??????????",
-        extent: 0,
-    };
-    disk.create(0, &name)?;
-    for number in [0, 9, 200] {
-        disk.write_block_of(0, &name, number, &[3; 128])?;
-    }
-    disk.rename(0, &name, &renamed)?;
-    disk.read_block_of(0, &renamed, 9)?;
-    disk.erase(0, &pattern)?;
-    disk.create(0, &name)?;
+    Call::Create(OTHER).make(disk)?;
+    write(disk, &[(OTHER, 0, 3), (OTHER, 9, 3), (OTHER, 200, 3)])?;
+    Call::Rename(OTHER, BIG).make(disk)?;
+    Call::Read(BIG, 9).make(disk)?;
+    Call::Erase(*b"B??????????").make(disk)?;
+    Call::Create(OTHER).make(disk)?;
     Ok(())
 }
 
@@ -308,6 +286,11 @@ fn sizes(rt: HostRuntime) -> Result<(), Fail> {
     Ok(())
 }
 
+/// The list of a disk's files.
+fn list(alloc: Global, disk: &Disk<MemoryImage>) -> Result<Vec<Listed>, DiskFault> {
+    disk.list(alloc)
+}
+
 /// A file of a list: its user, its name, how many records it has, whether it is read-only, and whether it is the system's.
 type ListedFile = (u8, [u8; 11], u32, bool, bool);
 
@@ -335,7 +318,7 @@ fn listing(rt: HostRuntime) -> Result<(), Fail> {
         (6, 31, *b"\xC6ILE    TX\xD4", 3, 0, [0; 4]),
     ];
     let disk = disk_of(&rt, rt.alloc(), &rows)?;
-    let listed = disk.list(rt.alloc())?;
+    let listed = list(rt.alloc(), &disk)?;
     let rows = [
         (0, *b"FILE    TXT", 5, false, true),
         (0, OTHER, 131, true, false),
@@ -352,7 +335,7 @@ fn listing(rt: HostRuntime) -> Result<(), Fail> {
 #[test]
 fn blank_disk(rt: HostRuntime) -> Result<(), Fail> {
     let disk = disk_of(&rt, rt.alloc(), &[])?;
-    assert_eq!(rt; disk.list(rt.alloc())?.len(), 0);
+    assert_eq!(rt; list(rt.alloc(), &disk)?.len(), 0);
     assert_eq!(rt; disk.size(0, &Name::new(FILE)), None);
     Ok(())
 }

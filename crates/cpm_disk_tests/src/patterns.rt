@@ -1,12 +1,18 @@
 //! What is found in a directory.
 
 use crate::support::disk_of;
-use cpm_disk::{Name, Pattern};
+use cpm_disk::{Disk, Name, Pattern};
+use cpm_image::MemoryImage;
 use std::test::Fail;
 
 const FILE: [u8; 11] = *b"FILE    TXT";
 
 const ANY: [u8; 11] = *b"???????????";
+
+/// The number of the first entry from a number on that a pattern finds.
+fn find(disk: &Disk<MemoryImage>, user: u8, name: [u8; 11], extent: u8, from: u16) -> Option<u16> {
+    disk.find(user, &Pattern { name, extent }, from)
+}
 
 #[test]
 fn entries_found(rt: HostRuntime) -> Result<(), Fail> {
@@ -48,21 +54,19 @@ fn entries_found(rt: HostRuntime) -> Result<(), Fail> {
         (*b"FILE       ", 0x3F, 0, None),
     ];
     for (name, extent, from, wanted) in rows {
-        let pattern = Pattern { name, extent };
-        assert_eq!(rt;
-            disk.find(0, &pattern, from),
-            wanted,
-            "{pattern:?} from {from}"
-        );
+        let found = find(&disk, 0, name, extent, from);
+        assert_eq!(rt; found, wanted, "{name:?} in {extent} from {from}");
     }
-    let pattern = Pattern {
-        name: ANY,
-        extent: 0x3F,
-    };
-    assert_eq!(rt; disk.find(1, &pattern, 0), Some(4));
-    assert_eq!(rt; disk.find(1, &pattern, 5), None);
-    assert_eq!(rt; disk.find(2, &pattern, 0), None);
+    for (user, from, wanted) in [(1, 0, Some(4)), (1, 5, None), (2, 0, None)] {
+        let found = find(&disk, user, ANY, 0x3F, from);
+        assert_eq!(rt; found, wanted, "user {user} from {from}");
+    }
     Ok(())
+}
+
+/// The number of a file's entry for an extent.
+fn find_extent(disk: &Disk<MemoryImage>, user: u8, name: [u8; 11], extent: u8) -> Option<u16> {
+    disk.find_extent(user, &Name::new(name), extent)
 }
 
 #[test]
@@ -93,7 +97,7 @@ fn extents_found(rt: HostRuntime) -> Result<(), Fail> {
     ];
     for (user, name, extent, wanted) in rows {
         assert_eq!(rt;
-            disk.find_extent(user, &Name::new(name), extent),
+            find_extent(&disk, user, name, extent),
             wanted,
             "extent {extent} of user {user}"
         );

@@ -1,6 +1,6 @@
 //! Images, entries and mounted disks for the tests.
 
-use cpm_disk::{Disk, DiskFault};
+use cpm_disk::{Disk, DiskFault, Name, Pattern};
 use cpm_image::{MemoryImage, Sectors, logical};
 use std::alloc::Global;
 use std::process::Abort;
@@ -92,4 +92,36 @@ pub fn assert_entries(rt: &impl Abort, disk: &Disk<MemoryImage>, rows: &[Row]) {
         assert!(rt; at < 64);
         assert_eq!(rt; disk.entry(at), bytes_of_row(row), "entry {at}");
     }
+}
+
+/// Reads a record of a file of user 0.
+pub fn read(
+    disk: &mut Disk<MemoryImage>,
+    name: [u8; 11],
+    number: u32,
+) -> Result<[u8; 128], DiskFault> {
+    disk.read_block_of(0, &Name::new(name), number)
+}
+
+/// Writes records of files of user 0, each of whose bytes are all one number.
+pub fn write(
+    disk: &mut Disk<MemoryImage>,
+    records: &[([u8; 11], u32, u8)],
+) -> Result<(), DiskFault> {
+    for (name, number, byte) in records {
+        disk.write_block_of(0, &Name::new(*name), *number, &[*byte; 128])?;
+    }
+    Ok(())
+}
+
+/// Erases a user's files.
+pub fn erase(
+    rt: &impl Abort,
+    disk: &mut Disk<MemoryImage>,
+    user: u8,
+    name: [u8; 11],
+    extent: u8,
+) -> Result<u16, DiskFault> {
+    assert!(rt; user < 32);
+    disk.erase(user, &Pattern { name, extent })
 }

@@ -118,6 +118,15 @@ pub enum ShortCond {
     Carry,
 }
 
+/// How a jump that is always short branches.
+#[derive(Clone, Copy, Debug, PartialEq, Eq)]
+pub enum Branch {
+    /// `JR`, with its condition if it has one.
+    Relative(Option<ShortCond>),
+    /// `DJNZ`
+    CountDown,
+}
+
 /// An operation of the arithmetic and logic unit on A and a byte.
 #[derive(Clone, Copy, Debug, PartialEq, Eq)]
 pub enum AluOperation {

@@ -1,5 +1,5 @@
 -- Tests of lines that close or divide blocks.
-use Rattle.std.specs.Prelude.{◌≡◌, List, [], Result, Ok, Err}
+use Rattle.std.specs.Prelude.{◌≡◌, [], Result, Ok, Err}
 use Rattle.asm_macro.specs.declared.moves.Stop as moves
 use Rattle.asm_macro.specs.declared.fault.MacroFault.{MacroFault}
 use Rattle.asm_macro.specs.Parts.{Part, Stop}

@@ -8,12 +8,12 @@ use Rattle.asm_line.specs.declared.forms.BlockWord.{BlockWord}
 use Rattle.asm_line.specs.Forms.{Form, Head}
 use Rattle.asm_line.specs.Forms as line
 use Rattle.asm_macro.specs.declared.fault.MacroFault.{MacroFault}
-use Rattle.asm_macro.specs.Texts.{Numbered}
-use Rattle.asm_macro.specs.State.{State, is_known, macro_named, table, with_macro}
+use Rattle.asm_texts.specs.Lines.{Numbered}
+use Rattle.asm_macro.specs.State.{State, macro_named, table, with_macro}
 use Rattle.asm_macro.specs.Values.{worth}
-use Rattle.asm_macro.specs.Blocks.{Body, body_of, branches_of}
+use Rattle.asm_texts.specs.Blocks.{Body, body_of, branches_of}
 use Rattle.asm_macro.specs.Judged.{is_stray, parameters}
-use Rattle.asm_macro.specs.Parts.{Part, Go, closing, fails, texts, learned, definition, repeated, conditional, equated, worded}
+use Rattle.asm_macro.specs.Parts.{Part, Go, closing, fails, texts, definition, repeated, conditional, equated, worded}
 
 -- the constants, with a name that has a value if it is new
 abbrev pub with_worth : List ℕ → Result ℕ MacroFault → List (List ℕ × ℕ) → List (List ℕ × ℕ)

@@ -1,21 +1,24 @@
 -- One move of an expansion: a line that is taken up, or what follows a text that is over.
-use Rattle.std.specs.Prelude.{◌≡◌, Option, Some, None, ◌+◌, ◌*◌, ◌-◌, ◌≤◌, ◌<◌, ℕ, List, [], ◌∷◌, Result, Ok, Err, length, map, reverse, Vec}
-use Rattle.std.specs.Global.{Global}
+use Rattle.std.specs.Prelude.{◌≡◌, Option, Some, None, ◌+◌, ◌*◌, ◌-◌, ◌≤◌, ◌<◌, ℕ, List, [], ◌∷◌, Result, Ok, Err, length, map, reverse}
 use Rattle.asm_replace.specs.Replaced.{Table}
 use Rattle.asm_replace.specs.Views as replaced
-use Rattle.asm_macro.specs.declared.call.Macro.{Macro}
+use Rattle.asm_texts.specs.declared.book.Book.{Book}
 use Rattle.asm_macro.specs.declared.expansion.Expansion.{Expansion}
+use Rattle.asm_macro.specs.declared.frame.Following.{Following}
 use Rattle.asm_macro.specs.declared.moves.Given.{Given}
 use Rattle.asm_macro.specs.declared.moves.Taken.{Taken}
 use Rattle.asm_macro.specs.declared.moves.Stop.{Stop}
 use Rattle.asm_macro.specs.declared.fault.MacroFault.{MacroFault}
-use Rattle.asm_macro.specs.Texts.{Numbered}
+use Rattle.asm_texts.specs.Lines.{Numbered}
 use Rattle.asm_macro.specs.State as state
 use Rattle.asm_macro.specs.Parts as parts
 use Rattle.asm_macro.specs.Expands.{Ended, Stopped, IsDone}
 use Rattle.asm_macro.specs.Expands as expands
 use Rattle.asm_macro.specs.Ahead.{Around, Rest, Remains, Within}
-use Rattle.asm_macro.specs.Private.Frames.{around_seen, innermost, text_of, turns_in}
+use Rattle.asm_texts.specs.Spans.{text_of}
+use Rattle.asm_texts.specs.Prepared.{macros_seen}
+use Rattle.asm_texts.specs.Books.{IsBook}
+use Rattle.asm_macro.specs.Private.Frames.{AreBooks, around_seen, innermost, turns_in}
 
 -- the lines of the source
 abbrev pub texts_in : Expansion → List (List ℕ)
@@ -24,12 +27,6 @@ texts_in x = map (λ line. line.now) x.lines.items
 -- the names of the open calls, the innermost first
 abbrev pub tables_in : Expansion → List Table
 tables_in x = map (λ names. replaced.table names.entries) (reverse x.calls.items)
-
-abbrev pub macro_seen : List (List ℕ) → Macro → state.Macro
-macro_seen texts m = record { parameters = replaced.texts m.parameters.items; body = parts.texts (text_of texts None m.body) }
-
-abbrev pub macros_seen : List (List ℕ) → List (Vec ℕ Global × Macro) → List (List ℕ × state.Macro)
-macros_seen texts entries = map (λ m. (m.0.items, macro_seen texts m.1)) entries
 
 abbrev pub state_of : Expansion → state.State
 state_of x = record {
@@ -49,12 +46,17 @@ rest_of x = record {
 }
 
 -- The source has no more lines than bytes; the open repetitions are counted; calls and repetitions nest to 16; no more lines
--- are taken up than may be.
-pub record IsSound (x : Expansion) : Type 0 where
-  pub short : length x.lines.items ≤ 16777216
-  pub turns : x.turns ≡ turns_in (reverse x.around.items)
-  pub shallow : length x.calls.items + x.turns ≤ 16
-  pub few : x.count ≤ 60000
+-- are taken up than may be; and the books of the innermost text and of those around are so.
+pub record Sound (texts : List (List ℕ)) (tables : List Table) (around : List Following) (lines calls repeated taken : ℕ) (own : Book) (others : List Book) : Type 0 where
+  pub short : lines ≤ 16777216
+  pub turns : repeated ≡ turns_in around
+  pub shallow : calls + repeated ≤ 16
+  pub few : taken ≤ 60000
+  pub book : IsBook texts (innermost tables) own
+  pub books : AreBooks texts tables others
+
+abbrev pub IsSound : Expansion → Type 0
+IsSound x = Sound (texts_in x) (tables_in x) (reverse x.around.items) (length x.lines.items) (length x.calls.items) x.turns x.count x.book (reverse x.books.items)
 
 -- Lines are given, and then the rest is to come; a line is given as the last; lines are given, and then comes a fault; or all is
 -- expanded.

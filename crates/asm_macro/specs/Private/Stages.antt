@@ -4,8 +4,8 @@ use Rattle.asm_macro.specs.declared.expander.Stage.{Stage}
 use Rattle.asm_macro.specs.declared.expansion.Expansion.{Expansion}
 use Rattle.asm_macro.specs.declared.fault.MacroFault.{MacroFault}
 use Rattle.asm_macro.specs.Expands.{End, Stopped, IsExpansion}
-use Rattle.asm_macro.specs.Texts.{Numbered}
-use Rattle.asm_macro.specs.Ahead.{Ahead, Before, Within, Over, Halted, Standing, Remains, most_left}
+use Rattle.asm_texts.specs.Lines.{Numbered}
+use Rattle.asm_macro.specs.Ahead.{Ahead, Before, Within, Over, Halted, Standing, Remains}
 use Rattle.asm_macro.specs.Private.Moves.{IsSound, rest_of}
 
 abbrev pub ahead : Stage → Ahead

@@ -1,7 +1,7 @@
-use Rattle.std.proofs.Common.{◌≡◌, ◌∙◌, ap, sym, map}
-use Rattle.asm_macro.specs.Texts.{form_of}
-use Rattle.asm_macro.specs.Parts.{is_alone}
-use Rattle.asm_macro.specs.Private.Frames.{line_of, shown}
+use Rattle.std.proofs.Common.{◌∙◌, ap, sym, map}
+use Rattle.asm_texts.specs.Lines.{form_of}
+use Rattle.asm_texts.specs.Blocks.{is_alone}
+use Rattle.asm_texts.specs.Spans.{line_of, shown}
 use Rattle.std.specs.Option.{option_map}
 use Rattle.asm_replace.specs.Views.{table}
 use Rattle.asm_macro.proofs.Turned.{closing_true, closing_false}

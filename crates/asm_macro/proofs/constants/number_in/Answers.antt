@@ -1,4 +1,4 @@
-use Rattle.std.proofs.Common.{◌≡◌, ◌∙◌, ap, sym, ℕ, [], ◌∷◌, Ok}
+use Rattle.std.proofs.Common.{◌≡◌, ◌∙◌, ap, sym, [], ◌∷◌, Ok}
 use Rattle.asm_parse.specs.declared.item.Item.{Item}
 use Rattle.asm_expr.specs.declared.atom.Atom.{Atom}
 use Rattle.asm_expr.specs.Items.{value}

@@ -1,15 +1,14 @@
-use Rattle.std.proofs.Common.{◌≡◌, ◌⊎◌, inl, inr, ◌∙◌, ap, sym, subst, ℕ, List, true, false}
+use Rattle.std.proofs.Common.{◌≡◌, inl, ◌∙◌, ap, sym, subst, true, false}
 use Rattle.std.specs.List.{list_all}
 use Rattle.std.proofs.lemmas.Result.{err_from_is_err_and}
 use Rattle.asm_scan.specs.Tokens.{lexemes}
 use Rattle.asm_parse.specs.Parsed.{parsed}
 use Rattle.asm_parse.specs.Source.{IsSource}
 use Rattle.asm_parse.specs.Expression.{postfix}
-use Rattle.asm_expr.specs.Names.{Table}
 use Rattle.asm_expr.specs.Postfix.{source}
 use Rattle.asm_expr.specs.Settling.{is_constant_item, is_known}
 use Rattle.asm_expr.proofs.Steps.{source_whole}
-use Rattle.asm_macro.specs.Private.Constants.{is_plain_item, table_of}
+use Rattle.asm_macro.specs.Private.Constants.{table_of}
 use Rattle.asm_macro.proofs.Worth.{all_known, all_plain, items_read, no_constant, no_number, not_known, settled_err, settled_ok}
 use Rattle.asm_macro.proofs.constants.value_of.Goals as goal
 

@@ -1,12 +1,12 @@
-use Rattle.std.proofs.Common.{◌≡◌, ◌∙◌, ◌++◌, sym, ap, subst, refl, map, length, reverse, arith, List, [], append-nil, None}
+use Rattle.std.proofs.Common.{◌≡◌, ◌∙◌, sym, ap, subst, refl, length, reverse, arith, [], None}
 use Rattle.std.proofs.lemmas.List.{length-map}
 use Rattle.asm_macro.specs.declared.expansion.Expansion.{Expansion}
-use Rattle.asm_macro.specs.Texts.{Numbered, numbered, source_lines}
+use Rattle.asm_macro.specs.Texts.{numbered}
 use Rattle.asm_macro.specs.State.{start}
-use Rattle.asm_macro.specs.Expands.{End, IsExpansion, Expands, long, short}
+use Rattle.asm_macro.specs.Expands.{long, short}
 use Rattle.asm_macro.specs.Ahead.{Remains, Within}
-use Rattle.asm_macro.specs.Private.Frames.{turns_in}
-use Rattle.asm_macro.specs.Private.Moves.{IsSound, rest_of}
+use Rattle.asm_macro.specs.Private.Frames.{AreBooks, innermost, turns_in}
+use Rattle.asm_macro.specs.Private.Moves.{tables_in, texts_in}
 use Rattle.asm_macro.proofs.Begun.{begun_rest, from_begin}
 use Rattle.asm_macro.proofs.source.begin.Goals as goal
 
@@ -15,7 +15,7 @@ returns-then-text-gt-LONGEST_TEXT c = long c.if-text-gt-LONGEST_TEXT.true
 
 pub returns : goal.returns
 returns c =
-    let x : Expansion = record { alloc = c.args.alloc; lines = c.in_ok-lines.lines; macros = c.new.result; constants = c.new-2.result; counter = 0; count = 0; text = record { at = 0; end = c.len-end.result; number = None }; around = c.new-3.result; calls = c.new-4.result; turns = 0 } in
+    let x : Expansion = record { alloc = c.args.alloc; lines = c.in_ok-lines.lines; macros = c.new.result; constants = c.new-2.result; counter = 0; count = 0; text = record { at = 0; end = c.len-end.result; number = None }; around = c.new-3.result; calls = c.new-4.result; turns = 0; book = c.new-5.result; books = c.new-6.result } in
     let n : c.len-end.result ≡ length c.in_ok-lines.lines.items = omega (arith, c.len-end.ensures, c.in_ok-lines.lines.ok) in
     let text : x.text ≡ record { at = 0; end = length c.in_ok-lines.lines.items; number = None } = ap (λ n. record { at = 0; end = n; number = None }) n in
     let rest = begun_rest x c.new.ensures.empty c.new-2.ensures refl refl c.new-4.ensures.items c.new-3.ensures.items refl text (length-map c.in_ok-lines.lines.items (λ line. line.now)) in (
@@ -24,6 +24,8 @@ returns c =
         turns = sym (ap (λ fs. turns_in (reverse fs)) c.new-3.ensures.items);
         shallow = omega (arith, ap length c.new-4.ensures.items);
         few = omega arith;
+        book = c.new-5.ensures (texts_in x) (innermost (tables_in x));
+        books = subst (λ bs. AreBooks (texts_in x) (tables_in x) (reverse bs)) (sym c.new-6.ensures.items) tt;
       },
       refl,
       λ lines end r. short (omega (arith, c.if-text-gt-LONGEST_TEXT.false)) (from_begin c.args.text.now lines end (subst (λ y. Remains (Within y) lines end) (rest ∙ ap (λ ts. record { depth = 0; state = start; text = numbered 1 ts; around = [] }) c.in_ok-lines.ensures.lines) r)),

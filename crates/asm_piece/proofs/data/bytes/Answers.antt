@@ -2,7 +2,8 @@ use Rattle.std.proofs.Common.{◌+◌, ◌∷◌, map, drop, sym, ap, subst, ◌
 use Rattle.std.proofs.lemmas.List.{drop_more}
 use Rattle.asm_spell.specs.Line.{value_of}
 use Rattle.asm_piece.specs.Made.{value_cells}
-use Rattle.asm_piece.proofs.Each.{Reads, flat, reads_step}
+use Rattle.asm_piece.proofs.Each.{Reads, reads_step}
+use Rattle.asm_piece.proofs.Making.{flat}
 use Rattle.asm_piece.proofs.data.bytes.Goals as goal
 
 pub loop-value-preserved : goal.loop-value-preserved

@@ -1,7 +1,8 @@
 use Rattle.std.proofs.Common.{◌+◌, ◌∷◌, drop, sym, ap, subst, ◌∙◌}
 use Rattle.std.proofs.lemmas.List.{drop_more}
 use Rattle.asm_piece.specs.Made.{word_cells}
-use Rattle.asm_piece.proofs.Each.{Reads, flat, reads_step}
+use Rattle.asm_piece.proofs.Each.{Reads, reads_step}
+use Rattle.asm_piece.proofs.Making.{flat}
 use Rattle.asm_piece.proofs.data.words.Goals as goal
 
 pub loop-tree-preserved : goal.loop-tree-preserved

@@ -1,4 +1,4 @@
-use Rattle.std.proofs.Common.{◌≡◌, ◌∙◌, ◌++◌, ◌∷◌, [], ap, sym, is_some, Ok}
+use Rattle.std.proofs.Common.{◌∙◌, ◌++◌, ◌∷◌, [], ap, sym, is_some}
 use Rattle.asm_scan.specs.Tokens.{lexemes}
 use Rattle.asm_words.specs.Words.{upper}
 use Rattle.asm_expr.specs.Names.{found}

@@ -1,15 +1,26 @@
-use Rattle.std.proofs.Common.{◌≡◌, ◌∙◌, ◌-◌, ap, sym, subst, map, length, Ok, Err, List, ℕ, []}
+use Rattle.std.proofs.Common.{◌≡◌, ◌∙◌, ◌-◌, ap, sym, subst, map, length, Ok, Err, []}
 use Rattle.std.specs.List.{slice_get}
-use Rattle.std.specs.Option.{option_map}
 use Rattle.std.proofs.lemmas.Result.{err_from_is_err_and}
 use Rattle.asm_replace.specs.Views.{table}
 use Rattle.asm_macro.specs.Parts.{Part, Go, closing, passed}
 use Rattle.asm_macro.specs.Private.Allows.{Allows}
-use Rattle.asm_macro.specs.Private.Frames.{branches_seen, innermost, line_of, section_of, text_of}
+use Rattle.asm_texts.specs.Spans.{branches_seen, line_of, section_of}
+use Rattle.asm_macro.specs.Private.Frames.{innermost}
 use Rattle.asm_macro.specs.Private.Moves.{Resumes, moved, rest_of, state_of, tables_in, texts_in}
 use Rattle.asm_macro.proofs.Stacks.{last_table}
-use Rattle.asm_macro.proofs.Turned.{behind_passed, first_both, refused}
+use Rattle.asm_macro.proofs.Turned.{first_both, refused}
 use Rattle.asm_macro.proofs.expansion.Expansion.behind_first.Goals as goal
+
+pub returns-in_err-closes-clause-resumed : goal.returns-in_err-closes-clause-resumed
+returns-in_err-closes-clause-resumed c =
+    let x = c.args.self.now in
+    let lines1 = ap (map (λ line. line.now)) c.deref.ensures.value in
+    let names1 = last_table (λ n. table n.entries) x.calls.items c.last.result (c.last.ensures.value ∙ ap (λ xs. slice_get xs (length xs - 1)) c.deref-2.ensures.value) in
+    let end = subst (λ ts. Allows (Err c.in_err-closes.field-0.0) (closing (line_of ts (innermost (tables_in x)) c.args.choice.first.end))) lines1
+    (subst (λ n. Allows (Err c.in_err-closes.field-0.0) (closing (line_of (map (λ line. line.now) c.deref.result.now) n c.args.choice.first.end))) names1 c.in_err-closes.ensures) in
+    let b = branches_seen (texts_in x) (innermost (tables_in x)) c.args.choice in
+    let p = err_from_is_err_and c.from_residual.result c.from_residual.ensures.1 in
+    rw (p.1, p.2) (refused (rest_of x).depth (rest_of x).around (rest_of x) (closing b.first.end) (passed b.others (Go [] (state_of x) b.after)) c.in_err-closes.field-0.0 end)
 
 pub returns-in_err-passes-clause-resumed : goal.returns-in_err-passes-clause-resumed
 returns-in_err-passes-clause-resumed c =

@@ -1,14 +1,14 @@
-use Rattle.std.proofs.Common.{◌≡◌, ◌∙◌, ◌-◌, ap, sym, subst, map, length, Ok, Err, List, ℕ, []}
+use Rattle.std.proofs.Common.{◌∙◌, ◌-◌, ap, sym, subst, map, length, Ok, Err, []}
 use Rattle.std.specs.List.{slice_get}
-use Rattle.std.specs.Option.{option_map}
 use Rattle.std.proofs.lemmas.Result.{err_from_is_err_and}
 use Rattle.asm_replace.specs.Views.{table}
-use Rattle.asm_macro.specs.Parts.{Part, Go, closing, passed}
+use Rattle.asm_macro.specs.Parts.{Go, passed}
 use Rattle.asm_macro.specs.Private.Allows.{Allows}
-use Rattle.asm_macro.specs.Private.Frames.{branches_seen, innermost, line_of, section_of, text_of}
+use Rattle.asm_texts.specs.Spans.{section_of, text_of}
+use Rattle.asm_macro.specs.Private.Frames.{innermost}
 use Rattle.asm_macro.specs.Private.Moves.{Resumes, moved, rest_of, state_of, tables_in, texts_in}
 use Rattle.asm_macro.proofs.Stacks.{last_table}
-use Rattle.asm_macro.proofs.Turned.{behind_passed, first_both, refused}
+use Rattle.asm_macro.proofs.Turned.{behind_passed, refused}
 use Rattle.asm_macro.proofs.expansion.Expansion.behind_second.Goals as goal
 
 pub returns-in_err-passes-clause-resumed : goal.returns-in_err-passes-clause-resumed

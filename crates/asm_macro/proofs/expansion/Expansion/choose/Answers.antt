@@ -1,11 +1,11 @@
 use Rattle.std.proofs.Common.{◌≡◌, ◌∙◌, ◌-◌, ap, sym, subst, map, length, arith, Ok, Err}
 use Rattle.std.specs.List.{slice_get}
-use Rattle.std.specs.Option.{option_map}
 use Rattle.std.proofs.lemmas.Result.{err_from_is_err_and}
 use Rattle.asm_replace.specs.Views.{table}
 use Rattle.asm_macro.specs.Parts.{chosen, closing, second_of}
 use Rattle.asm_macro.specs.Private.Allows.{Allows}
-use Rattle.asm_macro.specs.Private.Frames.{branches_seen, innermost, line_of}
+use Rattle.asm_texts.specs.Spans.{branches_seen, line_of}
+use Rattle.asm_macro.specs.Private.Frames.{innermost}
 use Rattle.asm_macro.specs.Private.Moves.{Resumes, moved, rest_of, state_of, tables_in, texts_in}
 use Rattle.asm_macro.proofs.Stacks.{last_table}
 use Rattle.asm_macro.proofs.Turned.{refused}

@@ -1,6 +1,6 @@
-use Rattle.std.proofs.Common.{◌≤◌, ◌∙◌, ap, arith, subst, sym, Ok, Err, Some, None}
+use Rattle.std.proofs.Common.{arith, subst, Ok}
 use Rattle.std.proofs.lemmas.Result.{err_from_is_err_and}
-use Rattle.asm_macro.specs.Private.Moves.{Gives, Goes, Lessens, next_move, rest_of}
+use Rattle.asm_macro.specs.Private.Moves.{Gives, Lessens, next_move, rest_of}
 use Rattle.asm_macro.proofs.Remaining.{goes_some, goes_err, leads_on}
 use Rattle.asm_macro.proofs.expansion.Expansion.go_on.Goals as goal
 

@@ -1,9 +1,8 @@
 use Rattle.std.proofs.Common.{◌≤◌, List}
-use Rattle.asm_macro.specs.Texts.{Numbered}
+use Rattle.asm_texts.specs.Lines.{Numbered}
 use Rattle.asm_macro.specs.Expands.{End}
 use Rattle.asm_macro.specs.Ahead.{Remains, Within}
 use Rattle.asm_macro.specs.Private.Moves.{IsSound, most_moves, rest_of}
-use Rattle.asm_macro.proofs.Remaining.{remains_on}
 use Rattle.asm_macro.proofs.expansion.Expansion.go_on.Given as goal
 
 -- What is to come now was to come before.

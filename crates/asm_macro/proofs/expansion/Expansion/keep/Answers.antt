@@ -1,30 +1,61 @@
-use Rattle.std.proofs.Common.{◌≡◌, ◌∙◌, ◌-◌, ap, sym, subst, map, length, Some}
+use Rattle.std.proofs.Common.{◌≡◌, ◌∙◌, ◌-◌, ap, sym, subst, map, length, None, Some, Err, []}
 use Rattle.std.specs.List.{slice_get}
 use Rattle.std.specs.Option.{option_map}
+use Rattle.std.proofs.lemmas.Result.{err_from_is_err_and}
 use Rattle.indexmap.proofs.CallerLemmas.{insert_entry-new}
-use Rattle.asm_replace.specs.Views.{table}
-use Rattle.asm_macro.specs.declared.call.Macro.{Macro}
+use Rattle.asm_replace.specs.Views.{table, texts}
+use Rattle.asm_texts.specs.declared.call.Macro.{Macro}
+use Rattle.asm_texts.specs.Blocks.{body_of}
+use Rattle.asm_texts.specs.Spans.{body_seen, line_of}
+use Rattle.asm_macro.specs.State.{macro_named, with_macro}
 use Rattle.asm_macro.specs.Ahead.{seen}
-use Rattle.asm_macro.specs.Blocks.{body_of}
-use Rattle.asm_macro.specs.Parts.{Part, closing}
-use Rattle.asm_macro.specs.Private.Frames.{body_seen, innermost, line_of, text_of}
-use Rattle.asm_macro.specs.Private.Moves.{tables_in, texts_in}
+use Rattle.asm_macro.specs.Parts.{Part, Go, closing}
+use Rattle.asm_macro.specs.Parts as parts
+use Rattle.asm_macro.specs.Private.Allows.{Allows}
+use Rattle.asm_macro.specs.Private.Frames.{innermost}
+use Rattle.asm_macro.specs.Private.Heads.{kept}
+use Rattle.asm_macro.specs.Private.Moves.{Resumes, moved, rest_of, state_of, tables_in, texts_in}
 use Rattle.asm_macro.proofs.Stacks.{last_table}
-use Rattle.asm_macro.proofs.Macros.{absent, kept_is}
+use Rattle.asm_macro.proofs.Turned.{refused}
+use Rattle.asm_texts.proofs.Macros.{absent}
+use Rattle.asm_macro.proofs.Macros.{kept_is}
 use Rattle.asm_macro.proofs.expansion.Expansion.keep.Goals as goal
+
+pub returns-in_err-closes-clause-taken : goal.returns-in_err-closes-clause-taken
+returns-in_err-closes-clause-taken c =
+    let x = c.args.self.now in
+    let y = c.body.new.self in
+    let same = c.in_ok-found.ensures.kept in
+    let found = subst (λ z. body_of (rest_of z).text ≡ Some (body_seen (texts_in z) (innermost (tables_in z)) c.in-Some.body)) (sym same)
+    (sym c.in_ok-found.ensures.body ∙ ap (option_map (body_seen (texts_in x) (innermost (tables_in x)))) c.in-Some.is) in
+    let lines = ap (map (λ line. line.now)) c.deref.ensures.value in
+    let names = last_table (λ n. table n.entries) y.calls.items c.last.result (c.last.ensures.value ∙ ap (λ xs. slice_get xs (length xs - 1)) c.deref-2.ensures.value) in
+    let why = c.in_err-closes.field-0.0 in
+    let end = subst (λ ts. Allows (Err why) (closing (line_of ts (innermost (tables_in y)) c.in-Some.body.stretch.end))) lines
+    (subst (λ n. Allows (Err why) (closing (line_of (map (λ line. line.now) c.deref.result.now) n c.in-Some.body.stretch.end))) names c.in_err-closes.ensures) in
+    let b = body_seen (texts_in y) (innermost (tables_in y)) c.in-Some.body in
+    let some = texts c.args.parameters.items in
+    let p = err_from_is_err_and c.from_residual-in_err-closes.result c.from_residual-in_err-closes.ensures.1 in
+    rw (p.1, p.2)
+    (subst (λ z. Resumes (Err why) (rest_of y) (moved (rest_of z).depth (rest_of z).around (kept (state_of z) (seen c.args.line) c.args.key.items some (body_of (rest_of z).text)))) same
+    (subst (λ o. Resumes (Err why) (rest_of y) (moved (rest_of y).depth (rest_of y).around (kept (state_of y) (seen c.args.line) c.args.key.items some o))) (sym found)
+    (refused (rest_of y).depth (rest_of y).around (rest_of y) (closing b.section.end)
+    (Go [] (with_macro c.args.key.items (record { parameters = some; body = parts.texts b.section.lines }) (state_of y)) b.after) why end)))
 
 pub returns-clause-taken : goal.returns-clause-taken
 returns-clause-taken c =
     let x = c.args.self.now in
-    let lines1 = ap (map (λ line. line.now)) c.deref.ensures.value in
-    let names1 = last_table (λ n. table n.entries) x.calls.items c.last.result (c.last.ensures.value ∙ ap (λ xs. slice_get xs (length xs - 1)) c.deref-2.ensures.value) in
-    let found = subst (λ n. body_of (text_of (texts_in x) n x.text) ≡ Some (body_seen (texts_in x) n c.in-Some.body)) names1
-    (subst (λ ts. body_of (text_of ts (option_map (λ n. table n.now.entries) c.last.result) x.text) ≡ Some (body_seen ts (option_map (λ n. table n.now.entries) c.last.result) c.in-Some.body)) lines1
-    (sym c.in_ok-found.ensures ∙ ap (option_map (body_seen (map (λ line. line.now) c.deref.result.now) (option_map (λ n. table n.now.entries) c.last.result))) c.in-Some.is)) in
-    let lines2 = ap (map (λ line. line.now)) c.deref-3.ensures.value in
-    let names2 = last_table (λ n. table n.entries) x.calls.items c.last-2.result (c.last-2.ensures.value ∙ ap (λ xs. slice_get xs (length xs - 1)) c.deref-4.ensures.value) in
-    let end = subst (λ ts. (p : Part) → closing (line_of ts (innermost (tables_in x)) c.in-Some.body.stretch.end) p ≡ p) lines2
-    (subst (λ n. (p : Part) → closing (line_of (map (λ line. line.now) c.deref-3.result.now) n c.in-Some.body.stretch.end) p ≡ p) names2 c.in_ok-closes.ensures) in
+    let y = c.body.new.self in
+    let same = c.in_ok-found.ensures.kept in
+    let found = subst (λ z. body_of (rest_of z).text ≡ Some (body_seen (texts_in z) (innermost (tables_in z)) c.in-Some.body)) (sym same)
+    (sym c.in_ok-found.ensures.body ∙ ap (option_map (body_seen (texts_in x) (innermost (tables_in x)))) c.in-Some.is) in
+    let lines = ap (map (λ line. line.now)) c.deref.ensures.value in
+    let names = last_table (λ n. table n.entries) y.calls.items c.last.result (c.last.ensures.value ∙ ap (λ xs. slice_get xs (length xs - 1)) c.deref-2.ensures.value) in
+    let end = subst (λ ts. (p : Part) → closing (line_of ts (innermost (tables_in y)) c.in-Some.body.stretch.end) p ≡ p) lines
+    (subst (λ n. (p : Part) → closing (line_of (map (λ line. line.now) c.deref.result.now) n c.in-Some.body.stretch.end) p ≡ p) names c.in_ok-closes.ensures) in
     let called : Macro = record { parameters = c.args.parameters; body = c.in-Some.body.stretch.lines } in
-    kept_is x (seen c.args.line) c.insert.new.self.entries c.args.key c.args.parameters c.in-Some.body c.requires.outside found end
-    (c.in_ok-insert.ensures.entries ∙ insert_entry-new _ x.macros c.args.key called (absent (texts_in x) x.macros.entries c.args.key.items c.requires.new))
+    let outside = subst (λ z. length z.calls.items ≡ 0) (sym same) c.requires.outside in
+    let new = subst (λ z. macro_named (state_of z) c.args.key.items ≡ None) (sym same) c.requires.new in
+    ap (λ z. moved (rest_of z).depth (rest_of z).around (kept (state_of z) (seen c.args.line) c.args.key.items (texts c.args.parameters.items) (body_of (rest_of z).text))) (sym same)
+    ∙ kept_is y (seen c.args.line) c.insert.new.self.entries c.args.key c.args.parameters c.in-Some.body outside found end
+    (c.in_ok-insert.ensures.entries ∙ insert_entry-new _ y.macros c.args.key called (absent (texts_in y) y.macros.entries c.args.key.items new))

@@ -1,12 +1,13 @@
-use Rattle.std.proofs.Common.{◌≡◌, ◌∙◌, ◌+◌, ap, sym, map, List, ℕ, [], Some, None, arith, length, ◌-◌}
+use Rattle.std.proofs.Common.{◌∙◌, ◌+◌, ap, sym, [], arith, length, ◌-◌}
 use Rattle.std.proofs.lemmas.List.{get_or-map, length-map}
 use Rattle.std.specs.Option.{unwrap_or}
 use Rattle.std.specs.List.{slice_get}
 use Rattle.asm_replace.specs.Views.{table}
 use Rattle.asm_macro.proofs.Stacks.{last_table}
-use Rattle.asm_macro.proofs.Texts.{front_line}
+use Rattle.asm_texts.proofs.Texts.{front_line}
 use Rattle.asm_macro.specs.Private.Moves.{rest_of, tables_in, texts_in}
-use Rattle.asm_macro.specs.Private.Frames.{innermost, shown}
+use Rattle.asm_macro.specs.Private.Frames.{innermost}
+use Rattle.asm_texts.specs.Spans.{shown}
 use Rattle.asm_macro.proofs.expansion.Expansion.put_line.Goals as goal
 
 pub returns-in-Some-clause-line : goal.returns-in-Some-clause-line

@@ -1,8 +1,13 @@
-use Rattle.std.proofs.Common.{◌≡◌, ◌∙◌, ◌+◌, ◌-◌, ◌++◌, ◌∷◌, [], ap, sym, subst, length, reverse}
+use Rattle.std.proofs.Common.{◌≡◌, ◌∙◌, ◌+◌, ◌-◌, ◌++◌, ◌∷◌, [], ap, sym, subst, length, reverse, length-take, arith, take}
+use Rattle.std.specs.Vec.{vec_len}
 use Rattle.asm_macro.specs.declared.frame.Following.{Following}
 use Rattle.asm_macro.specs.Parts.{turns}
-use Rattle.asm_macro.specs.Private.Frames.{around_seen, body_seen, innermost}
+use Rattle.asm_macro.specs.Private.Frames.{AreBooks, around_seen, innermost, turns_in}
+use Rattle.asm_texts.specs.Spans.{body_seen}
 use Rattle.asm_macro.specs.Private.Moves.{Resumes, moved, rest_of, state_of, tables_in, texts_in}
+use Rattle.asm_replace.specs.Views.{table}
+use Rattle.asm_texts.specs.Books.{IsBook}
+use Rattle.asm_macro.proofs.Stacks.{popped_tables, pushed}
 use Rattle.asm_macro.proofs.Turned.{popped, turns_popped}
 use Rattle.asm_macro.proofs.expansion.Expansion.resume.Goals as goal
 
@@ -16,3 +21,22 @@ returns-in-Turns-clause-resumed c =
     let same = turns_popped x left c.in-Turns.left c.in-Turns.number c.in-Turns.body c.requires.sound is in
     subst (Resumes c.turn.result (rest_of c.turn.new.self))
     (sym (one ∙ ap (λ t. moved (length (tables_in x) + t) (around_seen (texts_in x) (tables_in x) (reverse left)) (turns (length (tables_in x) + t) c.in-Turns.left c.in-Turns.number body (state_of x))) same)) c.turn.ensures.resumed
+
+pub returns-in-Rest-clause-sound : goal.returns-in-Rest-clause-sound
+returns-in-Rest-clause-sound c =
+    let x = c.args.self.now in
+    let sound = c.requires.sound in
+    let left = c.pop.new.self.items in
+    let around = ap reverse (c.in-Some.ensures.items ∙ ap (λ f. left ++ f ∷ []) c.in-Rest.is) ∙ pushed left (Following.Rest c.in-Rest.text) in
+    let len : vec_len x.calls - 1 ≡ length x.calls.items - 1 = omega (arith, x.calls.ok) in
+    let rest = c.pop-in-Rest.ensures.rest ∙ ap (λ n. take n x.calls.items) len in
+    let tables = popped_tables (λ names. table names.entries) x.calls.items c.pop-in-Rest.new.self.items rest in
+    let books = c.outer_book.ensures (texts_in x) (tables_in x) sound.books in
+    record {
+      short = sound.short;
+      turns = sound.turns ∙ ap turns_in around;
+      shallow = omega (arith, sound.shallow, ap length rest, length-take (length x.calls.items - 1) x.calls.items);
+      few = sound.few;
+      book = subst (λ ts. IsBook (texts_in x) (innermost ts) c.outer_book.result) (sym tables) books.0;
+      books = subst (λ ts. AreBooks (texts_in x) ts (reverse c.outer_book.new.books.items)) (sym tables) books.1;
+    }

@@ -1,7 +1,5 @@
-use Rattle.std.proofs.Common.{◌≡◌, ◌∙◌, ap, sym, subst, arith}
+use Rattle.std.proofs.Common.{◌∙◌, ap, sym, subst, arith}
 use Rattle.asm_scan.specs.Tokens.{lexemes}
-use Rattle.asm_line.specs.Forms as line
-use Rattle.asm_line.specs.Views.{form_seen}
 use Rattle.asm_macro.specs.State.{counted}
 use Rattle.asm_macro.specs.Ahead.{seen}
 use Rattle.asm_macro.specs.Private.Heads.{by_head}

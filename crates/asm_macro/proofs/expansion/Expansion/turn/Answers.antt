@@ -1,5 +1,5 @@
-use Rattle.std.proofs.Common.{◌≡◌, ◌∙◌, ap, sym, arith}
-use Rattle.asm_macro.proofs.Turned.{turned, behind_passed}
+use Rattle.std.proofs.Common.{arith}
+use Rattle.asm_macro.proofs.Turned.{turned}
 use Rattle.asm_macro.proofs.expansion.Expansion.turn.Goals as goal
 
 pub returns-clause-resumed : goal.returns-clause-resumed

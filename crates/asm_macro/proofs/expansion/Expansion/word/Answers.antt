@@ -6,12 +6,13 @@ use Rattle.asm_words.specs.Words.{upper}
 use Rattle.asm_line.specs.Views.{form_seen}
 use Rattle.asm_macro.specs.declared.fault.MacroFault.{MacroFault}
 use Rattle.asm_macro.specs.State.{macro_named}
-use Rattle.asm_macro.specs.Calls.{arguments_in, body_lines, label_lines, table_of}
+use Rattle.asm_texts.specs.Calls.{arguments_in, body_lines, label_lines, table_of}
 use Rattle.asm_macro.specs.Parts as parts
 use Rattle.asm_macro.specs.Ahead.{seen}
-use Rattle.asm_macro.specs.Private.Entering.{Prepares}
-use Rattle.asm_macro.specs.Private.Openings.{body_texts}
-use Rattle.asm_macro.specs.Private.Moves.{Fails, On, Takes, macro_seen, macros_seen, moved, rest_of, state_of, texts_in}
+use Rattle.asm_texts.specs.Prepared.{Prepares}
+use Rattle.asm_texts.specs.Prepared.{body_texts}
+use Rattle.asm_macro.specs.Private.Moves.{Fails, On, Takes, rest_of, state_of, texts_in}
+use Rattle.asm_texts.specs.Prepared.{macro_seen, macros_seen}
 use Rattle.asm_macro.proofs.Called.{called_off, called_on, opened_is}
 use Rattle.asm_macro.proofs.Stacks.{depth_is}
 use Rattle.asm_macro.proofs.expansion.Expansion.word.Goals as goal

@@ -1,6 +1,7 @@
 use Rattle.std.proofs.Common.{◌-◌, ◌++◌, refl, ap, ◌∙◌}
 use Rattle.z80_form.specs.Numbers.{with_number}
-use Rattle.asm_piece.specs.Cells.{hole, size_of}
+use Rattle.asm_piece.specs.Cells.{hole}
+use Rattle.zmo_module.specs.Holes.{size_of}
 use Rattle.asm_piece.proofs.Coding.{one_more}
 use Rattle.asm_piece.proofs.code.Coded.put.Goals as goal
 

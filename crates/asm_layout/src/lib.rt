@@ -1,0 +1,10 @@
+//! Where the statements of a source stand, before its names have their places.
+//!
+//! [`lay`] answers which lines have a statement and how many bytes each takes, as far as that is known.
+#![tactic(auto)]
+
+mod laying;
+pub mod laws;
+
+pub use asm_equ::Layout;
+pub use laying::lay;

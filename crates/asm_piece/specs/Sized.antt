@@ -1,0 +1,73 @@
+-- How many bytes a statement takes, which its names alone decide: no place in the program does.
+use Rattle.std.specs.Prelude.{◌≡◌, ◌≤◌, ℕ, zero, suc, ◌*◌, List, Option, Some, None, Result, Ok, Err, length}
+use Rattle.std.specs.List.{sum_by}
+use Rattle.asm_expr.specs.declared.answer.Settled.{Settled}
+use Rattle.asm_expr.specs.declared.meaning.Meaning.{Meaning}
+use Rattle.asm_expr.specs.declared.statement.Statement as statement
+use Rattle.asm_expr.specs.declared.statement.Statement.{Statement}
+use Rattle.asm_expr.specs.Names.{Table, found}
+use Rattle.z80_instr.specs.Table.{canonical}
+use Rattle.asm_spell.specs.declared.fault.StmtFault.{StmtFault}
+use Rattle.asm_spell.specs.Few.{IsCount, value_size}
+use Rattle.asm_spell.specs.Line as line
+use Rattle.asm_spell.specs.Line.{Body}
+use Rattle.asm_piece.specs.Made as made
+use Rattle.asm_piece.specs.Made.{Piece, number_in, ref_of, space_size}
+
+-- a piece as far as its size matters
+abbrev pub piece_sized : Piece → Statement
+piece_sized (made.Bytes blank holes) = statement.TheVariants.Sized (length blank)
+piece_sized (made.Space n fill) = statement.TheVariants.Sized n
+piece_sized (made.Jump condition target) = statement.TheVariants.Relaxable
+piece_sized (made.Short branch target) = statement.TheVariants.Sized 2
+
+-- JP to a name may be coded short where that is a label or an external.
+abbrev pub jump_sized : Option ℕ → Statement
+jump_sized (Some r) = statement.TheVariants.Relaxable
+jump_sized None = statement.TheVariants.Sized 3
+
+-- the number of a DS, where one is known
+abbrev pub size_in : Result Settled StmtFault → Option ℕ
+size_in (Ok s) = number_in s
+size_in (Err why) = None
+
+-- DS 0 is no statement.
+abbrev pub space_sized : Option ℕ → Option Statement
+space_sized (Some zero) = None
+space_sized (Some (suc n)) = Some (statement.TheVariants.Sized (suc n))
+space_sized None = Some statement.TheVariants.Unsized
+
+-- The statement that a word and its operands make, as far as its size matters. A DS of which no number is known, since it is faulty or
+-- a name in it has no value, is one whose size is not known. The other directives make none.
+abbrev pub sized : Table → Body → Option Statement
+sized t (line.Code instr numbers) = Some (statement.TheVariants.Sized (length (canonical instr)))
+sized t (line.Jump condition target) = Some (jump_sized (ref_of (found t target)))
+sized t (line.Short branch target) = Some (statement.TheVariants.Sized 2)
+sized t (line.Bytes values) = Some (statement.TheVariants.Sized (sum_by value_size values))
+sized t (line.Words fields) = Some (statement.TheVariants.Sized (2 * length fields))
+sized t (line.Space size fill) = space_sized (size_in (space_size t size))
+sized t _ = None
+
+-- The bytes of a piece are from 1 to 65,535, and space is a byte at least.
+abbrev pub TakesFew : Piece → Type 0
+TakesFew (made.Bytes blank holes) = IsCount (length blank)
+TakesFew (made.Space n fill) = 1 ≤ n
+TakesFew (made.Jump condition target) = Unit {0}
+TakesFew (made.Short branch target) = Unit {0}
+
+-- What of a name's meaning a size hangs on: that it is a place, or a number; or it is neither, as a name whose EQU is not constant, and
+-- one of which nothing is known.
+pub data Kind : Type 0 where
+  Place : Kind
+  Number : ℕ → Kind
+  Neither : Kind
+
+abbrev pub kind : Option Meaning → Kind
+kind (Some (Meaning.Label r)) = Place
+kind (Some (Meaning.External r)) = Place
+kind (Some (Meaning.Constant n)) = Number n
+kind _ = Neither
+
+-- Each name is of the same kind in both tables, with the same number.
+abbrev pub IsLike : Table → Table → Type 0
+IsLike t u = (name : List ℕ) → kind (found t name) ≡ kind (found u name)

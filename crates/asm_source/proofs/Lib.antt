@@ -1,0 +1,4 @@
+mod Ends
+mod Kept
+mod Taking
+mod Texts

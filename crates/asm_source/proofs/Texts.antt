@@ -1,0 +1,32 @@
+-- What an expansion says of its text.
+use Rattle.std.proofs.Common.{◌≤◌, ℕ, List, Ok, Err, length, subst, sym}
+use Rattle.asm_macro.specs.declared.fault.MacroFault.{MacroFault}
+use Rattle.asm_macro.specs.Expands.{IsDone, IsExpanded, IsExpansion, End, long, short}
+use Rattle.asm_texts.specs.Lines.{Numbered}
+use Rattle.asm_source.specs.Private.Steps.{IsReading}
+use Rattle.asm_source.specs.Source.{IsSourceText}
+
+short_by : (text : List ℕ) (lines : List Numbered) (end : End) → IsDone end → IsExpansion text lines end → length text ≤ 16777216
+short_by text lines end done (long above) = absurd done
+short_by text lines end done (short below expands) = below
+
+-- A text that has an expansion is no longer than one may be.
+pub short_text : (text : List ℕ) (lines : List Numbered) → IsExpanded text (Ok lines) → length text ≤ 16777216
+short_text text lines (end, done, is) = short_by text lines end done is
+
+-- What stops the expansion stops the reading.
+pub stopped : (text : List ℕ) (fault : ℕ × MacroFault) → IsExpanded text (Err fault) → IsSourceText text (Err fault)
+stopped text (number, MacroFault.Unclosed) is = is
+stopped text (number, MacroFault.Stray) is = is
+stopped text (number, MacroFault.TooDeep) is = is
+stopped text (number, MacroFault.TooManyLines) is = is
+stopped text (number, MacroFault.Redefined) is = is
+stopped text (number, MacroFault.ConditionNamesLabel) is = is
+stopped text (number, MacroFault.LineTooLong) is = is
+stopped text (number, MacroFault.Scan fault) is = is
+stopped text (number, MacroFault.Expr fault) is = is
+stopped text (number, MacroFault.NoMemory) is = tt
+
+-- So does want of memory.
+pub refused : (text : List ℕ) (lines : List Numbered) (fault : ℕ × MacroFault) → IsReading lines (Err fault) → IsSourceText text (Err fault)
+refused text lines (number, why) is = subst (λ w. IsSourceText text (Err (number, w))) (sym is) tt

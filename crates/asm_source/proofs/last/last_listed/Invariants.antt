@@ -1,0 +1,7 @@
+use Rattle.std.proofs.Common.{◌≡◌, drop}
+use Rattle.asm_names.specs.Lines.{lines_of}
+use Rattle.asm_source.specs.Source.{last_listed}
+use Rattle.asm_source.proofs.last.last_listed.Given as goal
+
+abbrev pub invariant-loop-line : goal.invariant-loop-line
+invariant-loop-line l = last_listed l.last (lines_of l.lines) ≡ last_listed l.last (lines_of (drop l.line-index l.lines))

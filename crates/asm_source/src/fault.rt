@@ -1,0 +1,14 @@
+//! Why a line spells nothing.
+
+use asm_scan::ScanFault;
+use asm_spell::StmtFault;
+use thiserror::Error;
+
+/// Why a line spells nothing.
+#[derive(Clone, Copy, Debug, PartialEq, Eq, Error)]
+pub enum LineFault {
+    #[error("{0}")]
+    Scan(ScanFault),
+    #[error("{0}")]
+    Stmt(StmtFault),
+}

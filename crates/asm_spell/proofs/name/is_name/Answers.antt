@@ -1,5 +1,0 @@
-use Rattle.asm_spell.proofs.Definable.{definable}
-use Rattle.asm_spell.proofs.name.is_name.Goals as goal
-
-pub returns : goal.returns
-returns c = definable c.args.text.now c.passes.result c.passes.ensures

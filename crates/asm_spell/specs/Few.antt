@@ -1,0 +1,20 @@
+-- How many bytes the items of DB and of DW take: those of a line are few.
+use Rattle.std.specs.Prelude.{◌≤◌, ℕ, ◌*◌, length}
+use Rattle.std.specs.List.{sum_by}
+use Rattle.asm_spell.specs.Line as line
+use Rattle.asm_spell.specs.Line.{Body, Value}
+
+-- how many bytes an item of DB is
+abbrev pub value_size : Value → ℕ
+value_size (line.Text text) = length text
+value_size (line.Byte e) = 1
+
+-- from 1 to 65,535
+abbrev pub IsCount : ℕ → Type 0
+IsCount n = (1 ≤ n) × (n ≤ 65535)
+
+-- Data, if the body is that, takes so many bytes.
+abbrev pub IsFew : Body → Type 0
+IsFew (line.Bytes values) = IsCount (sum_by value_size values)
+IsFew (line.Words fields) = IsCount (2 * length fields)
+IsFew _ = Unit {0}

@@ -1,0 +1,3 @@
+pub mod Missing_names
+pub mod In_order
+mod Found

@@ -1,0 +1,82 @@
+//! All lines.
+
+ghost use Rattle.std.specs.Prelude.{◌≡◌, ℕ, List, None};
+ghost use Rattle.asm_expr.specs.Names.{found};
+ghost use Rattle.asm_names.specs.Lines.{lines_of};
+ghost use Rattle.asm_names.specs.Names.{kind_of};
+ghost use Rattle.asm_equ.specs.Layout.{layout_of};
+ghost use Rattle.asm_states.specs.Stated.{IsStated};
+
+use crate::fault::StateFault;
+use crate::judging::judge;
+use asm_equ::Layout;
+use asm_expr::Names;
+use asm_names::{NameTable, SourceLine};
+use std::alloc::Global;
+use zmo_module::Statement;
+
+/// What lines state.
+#[derive(Debug, Drop)]
+pub struct Stated {
+    pub statements: Vec<Statement>,
+    /// Of each statement the number that its line bears.
+    pub lines: Vec<u32>,
+}
+
+impl Stated {
+    ghost use Rattle.std.specs.Prelude.{◌≡◌, ℕ, List, None};
+    ghost use Rattle.asm_expr.specs.Names.{found};
+    ghost use Rattle.asm_names.specs.Lines.{taken_of};
+    ghost use Rattle.asm_names.specs.Names.{kind_of};
+    ghost use Rattle.asm_states.specs.Private.Steps.{Takes};
+
+    /// Puts what a line comes to behind the others.
+    fn take(
+        &mut self,
+        alloc: Global,
+        line: &SourceLine,
+        table: &NameTable,
+        names: &Names,
+        grow: bool,
+    ) -> Result<(), StateFault>
+        requires { (name : List ℕ) → found names.now name ≡ None → kind_of table.now name ≡ None }
+        ensures { Takes grow table.now names.now (taken_of line.now) self.old result self.new }
+    {
+        if let Some(statement) = judge(alloc, &line.line, table, names, grow)? {
+            self.statements.push(statement)?;
+            self.lines.push(line.number)?;
+        }
+        Ok(())
+    }
+}
+
+/// The statements of lines, by what the names stand for. Where a written `JR` may grow it is a marked jump.
+///
+/// # Errors
+///
+/// The number of the first line other than an EQU that is faulty, and its first fault: a name that is nowhere defined, then the faults of its
+/// values from left to right, then a name in PUBLIC or END that is no label.
+pub fn state_lines(
+    alloc: Global,
+    lines: &[SourceLine],
+    table: &NameTable,
+    names: Names,
+    layout: &Layout,
+    grow: bool,
+) -> Result<Stated, (u32, StateFault)>
+    requires { (name : List ℕ) → found names name ≡ None → kind_of table.now name ≡ None }
+    ensures { IsStated grow table.now names (layout_of layout.now) (lines_of lines.now) result }
+{
+    let mut names = names;
+    let mut stated = Stated {
+        statements: Vec::new(alloc),
+        lines: Vec::new(alloc),
+    };
+    for (at, line) in lines.iter().enumerate() {
+        names.set_here(layout.next_at(at));
+        if let Err(why) = stated.take(alloc, line, table, &names, grow) {
+            return Err((line.number, why));
+        }
+    }
+    Ok(stated)
+}

@@ -1,0 +1,99 @@
+//! What an expression's text and the names make, as text.
+
+use crate::tree_of;
+use asm_expr::{
+    Expr, ExprFault, Names, Settled, Tree, Unknown, constant, has_places, is_defined, items,
+    offset_from_here, parse, settle, value,
+};
+use asm_scan::tokens;
+use std::alloc::Global;
+use std::io::Write;
+
+/// What an expression's text and the names make.
+#[derive(Drop)]
+enum Answer {
+    Expr(Expr),
+    Unknown(Unknown),
+    Fault(ExprFault),
+}
+
+/// What names make of a tree. Memory that is refused ends the program.
+fn made_of_tree(alloc: Global, tree: &Tree, names: &Names) -> Result<Answer, anyhow::Error> {
+    if !is_defined(tree, names) {
+        return Err(anyhow::anyhow!("a name that stands for nothing"));
+    }
+    match settle(alloc, tree, names) {
+        Ok(Settled::Known(expr)) => Ok(Answer::Expr(expr)),
+        Ok(Settled::Unknown(what)) => Ok(Answer::Unknown(what)),
+        Err(ExprFault::NoMemory) => Err(ExprFault::NoMemory.into()),
+        Err(fault) => Ok(Answer::Fault(fault)),
+    }
+}
+
+/// What an expression's text and the names make.
+fn made(alloc: Global, text: &[u8], names: &Names) -> Result<Answer, anyhow::Error> {
+    match parse(alloc, &tokens(alloc, text)?) {
+        Ok(tree) => made_of_tree(alloc, &tree, names),
+        Err(ExprFault::NoMemory) => Err(ExprFault::NoMemory.into()),
+        Err(fault) => Ok(Answer::Fault(fault)),
+    }
+}
+
+/// The number of a fixed expression, or of how many items another is made.
+fn show_expr<W: Write>(out: &mut W, expr: &Expr) -> Result<(), anyhow::Error> {
+    match constant(expr) {
+        Some(number) => write!(out, "{number:04X}H")?,
+        None => write!(out, "{} items", items(expr).len())?,
+    }
+    Ok(())
+}
+
+pub(crate) fn report_made<W: Write>(
+    alloc: Global,
+    out: &mut W,
+    text: &[u8],
+    names: &Names,
+) -> Result<(), anyhow::Error> {
+    match made(alloc, text, names)? {
+        Answer::Expr(expr) => show_expr(out, &expr),
+        Answer::Unknown(what) => Ok(write!(out, "unknown, {what:?}")?),
+        Answer::Fault(fault) => Ok(write!(out, "{fault:?}")?),
+    }
+}
+
+/// What an expression is worth where the statements stand at five places.
+pub(crate) fn report_value<W: Write>(
+    alloc: Global,
+    out: &mut W,
+    text: &[u8],
+    names: &Names,
+) -> Result<(), anyhow::Error> {
+    let places = [0x0100, 0x0103, 0x0107, 0x010A, 0x010B];
+    match made(alloc, text, names)? {
+        Answer::Expr(expr) => {
+            if !has_places(&expr, places.len()) {
+                return Err(anyhow::anyhow!("a ref of no statement"));
+            }
+            Ok(write!(out, "{:04X}H", value(&expr, &places))?)
+        }
+        _ => Err(anyhow::anyhow!("no expression where one was wanted")),
+    }
+}
+
+/// How far the operand of a short jump lies from `$`.
+pub(crate) fn report_offset<W: Write>(
+    alloc: Global,
+    out: &mut W,
+    text: &[u8],
+    names: &Names,
+) -> Result<(), anyhow::Error> {
+    let tree = tree_of(alloc, text)?;
+    if !is_defined(&tree, names) {
+        return Err(anyhow::anyhow!("a name that stands for nothing"));
+    }
+    match offset_from_here(alloc, &tree, names) {
+        Ok(offset) => Ok(write!(out, "{offset:?}")?),
+        Err(ExprFault::NoMemory) => Err(ExprFault::NoMemory.into()),
+        Err(fault) => Ok(write!(out, "{fault:?}")?),
+    }
+}

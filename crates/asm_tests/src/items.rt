@@ -1,0 +1,41 @@
+//! Lists of items that make an expression, and lists that make none.
+
+use asm_expr::{Atom, Binary, Expr, Item, Unary, constant, items};
+use std::alloc::Global;
+use std::io::Write;
+
+/// The item that a byte stands for: a number, a ref as a letter, or an operator.
+fn item_of(byte: u8) -> Item<Atom> {
+    match byte {
+        b'0'..=b'9' => Item::Leaf(Atom::Number(u16::from(byte % 16))),
+        b'_' => Item::Unary(Unary::Negate),
+        b'!' => Item::Unary(Unary::Not),
+        b'+' => Item::Binary(Binary::Add),
+        b'-' => Item::Binary(Binary::Subtract),
+        b'/' => Item::Binary(Binary::Divide),
+        b'%' => Item::Binary(Binary::Modulo),
+        b'<' => Item::Binary(Binary::ShiftLeft),
+        _ => Item::Leaf(Atom::Ref(u16::from(byte % 16))),
+    }
+}
+
+/// The items that the bytes of a text stand for.
+fn items_of(alloc: Global, text: &[u8]) -> Result<Vec<Item<Atom>>, anyhow::Error> {
+    let mut list = Vec::new(alloc);
+    for byte in text {
+        list.push(item_of(*byte))?;
+    }
+    Ok(list)
+}
+
+/// The items of the expression that a list makes, and the number where it is fixed.
+pub(crate) fn report_items<W: Write>(
+    alloc: Global,
+    out: &mut W,
+    text: &[u8],
+) -> Result<(), anyhow::Error> {
+    match Expr::of(items_of(alloc, text)?) {
+        Some(expr) => Ok(write!(out, "{:?}, {:?}", items(&expr), constant(&expr))?),
+        None => Ok(write!(out, "no expression")?),
+    }
+}

@@ -1,0 +1,169 @@
+//! Tables of names.
+
+ghost use Rattle.asm_expr.specs.Names.{IsCounted};
+
+use crate::tree_of;
+use asm_expr::{Meaning, Names, equate, is_defined};
+use std::alloc::{AllocError, Global};
+
+/// Defines a name.
+fn define(
+    alloc: Global,
+    names: &mut Names,
+    name: &[u8],
+    meaning: Meaning,
+) -> Result<(), anyhow::Error>
+    requires { IsCounted meaning }
+{
+    match names.meaning(name) {
+        Some(_) => Err(anyhow::anyhow!("a name twice")),
+        None => Ok(names.define(Vec::from_slice(alloc, name)?, meaning)?),
+    }
+}
+
+/// Defines a name by EQU.
+pub(crate) fn define_equ(
+    alloc: Global,
+    names: &mut Names,
+    name: &[u8],
+    text: &[u8],
+) -> Result<(), anyhow::Error> {
+    let tree = tree_of(alloc, text)?;
+    if !is_defined(&tree, names) {
+        return Err(anyhow::anyhow!("a name that stands for nothing"));
+    }
+    let meaning = equate(alloc, &tree, names)?;
+    define(alloc, names, name, meaning)
+}
+
+/// A statement that a module has.
+#[derive(Clone, Copy)]
+enum Passed {
+    Fixed(u16),
+    Jump,
+    Unsized,
+}
+
+/// Passes a statement.
+fn pass(names: &mut Names, statement: &Passed) -> Result<(), AllocError> {
+    match statement {
+        Passed::Fixed(size) => names.pass_fixed(*size),
+        Passed::Jump => names.pass_jump(),
+        Passed::Unsized => names.pass_unsized(),
+    }
+}
+
+/// The names of a module: its statements, the one that is `$`, labels with the numbers of theirs, and names of faulty lines.
+fn module_of(
+    alloc: Global,
+    statements: &[Passed],
+    here: u16,
+    labels: &[(&[u8], u16)],
+) -> Result<Names, anyhow::Error> {
+    let mut names = Names::new(alloc);
+    for statement in statements {
+        pass(&mut names, statement)?;
+    }
+    names.set_here(here);
+    for (name, statement) in labels {
+        define(alloc, &mut names, name, Meaning::Label(*statement))?;
+    }
+    Ok(names)
+}
+
+/// Defines names by EQU.
+fn with_equs(
+    alloc: Global,
+    mut names: Names,
+    equs: &[(&[u8], &[u8])],
+) -> Result<Names, anyhow::Error> {
+    for (name, text) in equs {
+        define_equ(alloc, &mut names, name, text)?;
+    }
+    Ok(names)
+}
+
+/// A module of five statements: W before 3 bytes, X before 4, a relaxable jump at Y, V before a byte, END at the end.
+fn five(alloc: Global) -> Result<Names, anyhow::Error> {
+    module_of(
+        alloc,
+        &[
+            Passed::Fixed(3),
+            Passed::Fixed(4),
+            Passed::Jump,
+            Passed::Fixed(1),
+        ],
+        1,
+        &[(b"W", 0), (b"X", 1), (b"Y", 2), (b"V", 3), (b"END", 4)],
+    )
+}
+
+/// That module with names that EQU gives: a fixed one, a constant, a place, and five copies of the first two.
+fn five_with_equs(alloc: Global) -> Result<Names, anyhow::Error> {
+    with_equs(
+        alloc,
+        five(alloc)?,
+        &[
+            (b"LEN", b"Y-W"),
+            (b"FIVE", b"2+3"),
+            (b"PLACE", b"+X"),
+            (b"LENS", b"LEN+LEN+LEN+LEN+LEN"),
+            (b"FIVES", b"FIVE+FIVE+FIVE+FIVE+FIVE"),
+        ],
+    )
+}
+
+/// X at a statement of 3 bytes, Y behind it; N a name whose own line is faulty, NM one more than it, V behind X by as much.
+fn beside_faulty(alloc: Global) -> Result<Names, anyhow::Error> {
+    let mut names = module_of(alloc, &[Passed::Fixed(3)], 0, &[(b"X", 0), (b"Y", 1)])?;
+    define(alloc, &mut names, b"N", Meaning::Faulty)?;
+    with_equs(alloc, names, &[(b"NM", b"N+1"), (b"V", b"X+N")])
+}
+
+/// PA before 3 bytes, PB before a size that is not known, PC before 2 bytes, PD at a relaxable jump, PE1 before a size
+/// that is not known, PF at the end; N a name whose own line is faulty.
+fn unsized_ones(alloc: Global) -> Result<Names, anyhow::Error> {
+    let mut names = module_of(
+        alloc,
+        &[
+            Passed::Fixed(3),
+            Passed::Unsized,
+            Passed::Fixed(2),
+            Passed::Jump,
+            Passed::Unsized,
+        ],
+        2,
+        &[
+            (b"PA", 0),
+            (b"PB", 1),
+            (b"PC", 2),
+            (b"PD", 3),
+            (b"PE1", 4),
+            (b"PF", 5),
+        ],
+    )?;
+    define(alloc, &mut names, b"N", Meaning::Faulty)?;
+    Ok(names)
+}
+
+/// That module with names that EQU gives: K and KL keep whether they vary, and whether HIGH or LOW is their outermost operator;
+/// KN is N.
+fn unsized_with_equs(alloc: Global) -> Result<Names, anyhow::Error> {
+    with_equs(
+        alloc,
+        unsized_ones(alloc)?,
+        &[(b"K", b"PA+N"), (b"KL", b"LOW (PA+N)"), (b"KN", b"(N)")],
+    )
+}
+
+/// The table of a number: 0 has no names.
+pub(crate) fn table(alloc: Global, number: u8) -> Result<Names, anyhow::Error> {
+    match number {
+        b'1' => five(alloc),
+        b'2' => five_with_equs(alloc),
+        b'3' => beside_faulty(alloc),
+        b'4' => unsized_ones(alloc),
+        b'5' => unsized_with_equs(alloc),
+        _ => Ok(Names::new(alloc)),
+    }
+}

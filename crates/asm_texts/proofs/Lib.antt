@@ -1,0 +1,5 @@
+pub mod Texts
+pub mod Macros
+mod Openings
+mod Branches
+mod Books

@@ -1,0 +1,20 @@
+use Rattle.std.proofs.Common.{ap, ◌∙◌, sym, arith, map, []}
+use Rattle.std.proofs.Math.ListN.{get_or-map}
+use Rattle.std.specs.Option.{option_map}
+use Rattle.std.proofs.lemmas.List.{length-map}
+use Rattle.asm_replace.specs.Views.{table}
+use Rattle.asm_texts.specs.Lines.{form_of}
+use Rattle.asm_texts.specs.Blocks.{role_of_head}
+use Rattle.asm_texts.specs.Spans.{shown}
+use Rattle.asm_texts.proofs.Texts.{roles_step}
+use Rattle.asm_texts.proofs.book.roles_of.Goals as goal
+
+pub loop-at-preserved : goal.loop-at-preserved
+loop-at-preserved c =
+    let names = option_map (λ n. table n.now.entries) c.args.names in
+    let seen = map (λ line. line.now) c.args.lines.now in
+    let line = get_or-map (λ line. line.now) c.args.lines.now c.loop-at.at (record { ref_ptr = (0, 0); now = [] }) in
+    let text = c.deref.ensures.value ∙ c.in_ok-put_shown.ensures ∙ ap (shown names) (sym line) in
+    c.loop-at.invariant ∙ roles_step seen names (record c.args.span { at = c.loop-at.at }) c.loop-at.found.items c.push.new.self.items c.in_ok-role_of.field-0
+    c.loop-at-test.true (omega (arith, c.if-at-lines.true, length-map c.args.lines.now (λ line. line.now)))
+    (c.in_ok-role_of.ensures ∙ ap (λ t. role_of_head (form_of t).head) text) c.in_ok-push.ensures.items

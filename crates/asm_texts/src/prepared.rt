@@ -1,0 +1,73 @@
+//! A call of a macro, made ready.
+
+ghost use Rattle.std.specs.Prelude.{◌≡◌, IfOk, Ok, map, ℕ};
+ghost use Rattle.asm_scan.specs.Tokens.{lexemes};
+ghost use Rattle.asm_line.specs.Views.{form_seen};
+ghost use Rattle.asm_texts.specs.Calls.{label_lines};
+ghost use Rattle.asm_texts.specs.Prepared.{Prepares, labels};
+
+use crate::call::Macro;
+use crate::open::{arguments_of, label_of, names_of, open};
+use crate::span::Span;
+use asm_line::Form;
+use asm_replace::Replacements;
+use asm_scan::Token;
+use std::alloc::{AllocError, Global};
+
+/// What names are replaced by, the lines of the body, and the number of the next LOCAL name.
+#[derive(Debug, Drop)]
+pub struct Prepared {
+    pub names: Replacements,
+    pub body: Span,
+    pub counter: u64,
+}
+
+/// Makes a call ready; None where a LOCAL line of its body has another form. `tokens` are those of the line, and `rest` those
+/// behind the macro's name.
+pub fn prepare(
+    alloc: Global,
+    lines: &[&[u8]],
+    called: &Macro,
+    line: &[u8],
+    tokens: &[Token<'_>],
+    rest: &[Token<'_>],
+    counter: u64,
+) -> Result<Option<Prepared>, AllocError>
+    ensures { IfOk result (λ found. Prepares (map (λ line. line.now) lines.now) called.now line.now (lexemes tokens.entry.now) (lexemes rest.entry.now) counter found) }
+{
+    let found = open(alloc, lines, called.body)?;
+    let Some(opened) = found else {
+        return Ok(None);
+    };
+    let arguments = arguments_of(alloc, line, tokens, rest)?;
+    let Some(next) = counter.checked_add(opened.locals.len() as u64) else {
+        return Err(AllocError);
+    };
+    let names = names_of(
+        alloc,
+        &called.parameters,
+        &arguments,
+        &opened.locals,
+        counter,
+    )?;
+    Ok(Some(Prepared {
+        names,
+        body: opened.rest,
+        counter: next,
+    }))
+}
+
+/// The label of a line, as it stands.
+pub fn label_before(
+    alloc: Global,
+    line: &[u8],
+    tokens: &[Token<'_>],
+    form: Form<'_>,
+) -> Result<Option<Vec<u8>>, AllocError>
+    ensures { IfOk result (λ label. (number : ℕ) → labels number label ≡ label_lines (form_seen form.entry).label (record { number = number; text = line.now }) (lexemes tokens.entry.now)) }
+{
+    match form.label {
+        None => Ok(None),
+        Some(_) => Ok(Some(label_of(alloc, line, tokens)?)),
+    }
+}

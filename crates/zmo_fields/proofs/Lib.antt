@@ -1,0 +1,4 @@
+pub mod Items
+pub mod Many
+pub mod Taken
+pub mod Spelled

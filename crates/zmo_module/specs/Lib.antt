@@ -1,0 +1,3 @@
+pub mod Holes
+pub mod Modules
+pub mod Rules

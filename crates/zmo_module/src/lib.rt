@@ -1,0 +1,14 @@
+//! Modules: what the assembler makes of one source, an object file holds, and the linker joins.
+//!
+//! A [`Module`] is numbers, bytes and names. Which of them an object may hold is a definition, `IsModule`.
+#![tactic(auto)]
+
+mod hole;
+mod module;
+mod statement;
+
+pub use asm_expr::Expr;
+pub use hole::{Hole, Width, ends_in_byte};
+pub use module::{Label, MOST_NAMES, MOST_STATEMENTS, Module};
+pub use statement::{MOST_BYTES, Statement};
+pub use z80_instr::{Branch, ShortCond};

@@ -1,0 +1,8 @@
+pub mod Definable
+pub mod Fits
+pub mod Seen
+pub mod Values
+pub mod Stated
+pub mod Listed
+pub mod Headed
+pub mod Whole

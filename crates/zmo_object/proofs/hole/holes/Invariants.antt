@@ -1,0 +1,11 @@
+use Rattle.std.proofs.Common.{◌-◌, ◌+◌}
+use Rattle.zmo_module.specs.Holes.{size_of}
+use Rattle.zmo_fields.specs.Fields.{many}
+use Rattle.zmo_fields.proofs.Many.{GoesOn}
+use Rattle.zmo_object.specs.Reading.{hole_at}
+use Rattle.zmo_object.proofs.hole.holes.Given as goal
+
+abbrev pub invariant-loop : goal.invariant-loop
+invariant-loop l =
+    GoesOn (hole_at l.refs l.content) (λ _ h. h.offset + size_of h.width) l.holes.items l.from (l.count - l.counter) l.rest
+    (many (hole_at l.refs l.content) (λ _ h. h.offset + size_of h.width) 0 l.count l.bytes)

@@ -1,0 +1,7 @@
+use Rattle.std.proofs.Common.{◌≡◌, ◌++◌, take}
+use Rattle.std.specs.List.{flat_map}
+use Rattle.zmo_fields.specs.Texts.{word}
+use Rattle.zmo_object.proofs.label.put_publics.Given as goal
+
+abbrev pub invariant-loop-label : goal.invariant-loop-label
+invariant-loop-label l = l.text.items ≡ l.initial.text.items ++ flat_map word (take l.label-index l.publics)

@@ -1,0 +1,4 @@
+pub mod Codes
+pub mod Texts
+pub mod Reading
+pub mod Private

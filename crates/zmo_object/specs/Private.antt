@@ -1,0 +1,52 @@
+-- What private contracts alone cite.
+use Rattle.std.specs.Prelude.{◌≡◌, ◌≤◌, ℕ, List, [], ◌∷◌, ◌++◌, Result, Ok, Err, All, length, map}
+use Rattle.zmo_module.specs.Modules as object
+use Rattle.zmo_module.specs.Modules.{Label, Module, Statement, label_of, module_of}
+use Rattle.zmo_fields.specs.declared.fault.FieldFault.{FieldFault}
+use Rattle.zmo_fields.specs.Fields.{Fails, Field}
+use Rattle.zmo_module.specs.declared.module.Module as whole
+use Rattle.zmo_object.specs.declared.fault.ObjectFault.{ObjectFault}
+use Rattle.zmo_object.specs.declared.header.Counts as count
+use Rattle.zmo_object.specs.declared.header.Header as head
+use Rattle.zmo_object.specs.declared.label.Lists as list
+use Rattle.zmo_object.specs.Reading.{Counts, Header, Lists, with_label}
+
+-- the numbers of a statement fit two bytes
+abbrev pub FitsWords : Statement → Type 0
+FitsWords (object.Bytes bytes holes) = (length bytes ≤ 65535) × (length holes ≤ 65535) × All (λ h. h.offset ≤ 65535) holes
+FitsWords (object.Jump marked condition target) = Unit {0}
+FitsWords (object.Short branch target) = Unit {0}
+FitsWords (object.Space size fill) = Unit {0}
+
+-- A label was read behind names, and its name is the last now.
+abbrev pub Labelled : {X : Type 0} → (X → Label × List ℕ) → List (List ℕ) → Result X FieldFault → List (List ℕ) → Field Label → Type 0
+Labelled view old (Ok x) new read = (read ≡ Ok (view x)) × (new ≡ with_label old (view x).0)
+Labelled view old (Err f) new read = Fails f read
+
+-- A name was read behind those before, and is the last now.
+abbrev pub Named : {X : Type 0} → (X → List ℕ × List ℕ) → List (List ℕ) → Result X FieldFault → List (List ℕ) → Field (List ℕ) → Type 0
+Named view old (Ok x) new read = (read ≡ Ok (view x)) × (new ≡ old ++ (view x).0 ∷ [])
+Named view old (Err f) new read = Fails f read
+
+-- the numbers of a head fit its fields
+pub record FitsHeader (m : Module) : Type 0 where
+  pub name : length m.name ≤ 255
+  pub statements : length m.statements ≤ 65535
+  pub labels : length m.labels ≤ 65535
+  pub publics : length m.publics ≤ 65535
+  pub externals : length m.externals ≤ 65535
+
+-- What the code's types hold.
+
+abbrev pub counts_of : count.Counts → Counts
+counts_of c = record { statements = c.statements; labels = c.labels; publics = c.publics; externals = c.externals }
+
+abbrev pub header_of : head.Header → Header
+header_of h = record { name = h.name.now; begins = h.begins; counts = counts_of h.counts; entry = h.entry }
+
+abbrev pub lists_of : list.Lists → Lists
+lists_of l = record { labels = map label_of l.labels.items; publics = l.publics.items; externals = map (λ name. name.items) l.externals.items }
+
+abbrev pub answered : Result whole.Module ObjectFault → Result Module ObjectFault
+answered (Ok m) = Ok (module_of m)
+answered (Err f) = Err f

@@ -1,0 +1,109 @@
+//! What stands as one byte in an object.
+
+ghost use Rattle.std.specs.Prelude.{◌≡◌};
+ghost use Rattle.zmo_fields.specs.Fields.{Finds, coded};
+ghost use Rattle.zmo_object.specs.Codes.{branch_code, branch_of, condition_code, condition_of, width_code, width_of};
+
+use zmo_fields::{FieldFault, byte};
+use zmo_module::{Branch, ShortCond, Width};
+
+/// The conditions of a jump that may be coded both ways, in the order of their codes.
+pub const CONDITIONS: [Option<ShortCond>; 5] = [
+    None,
+    Some(ShortCond::NotZero),
+    Some(ShortCond::Zero),
+    Some(ShortCond::NotCarry),
+    Some(ShortCond::Carry),
+];
+
+/// How jumps that are always short branch, in the order of their codes.
+pub const BRANCHES: [Branch; 6] = [
+    Branch::Relative(None),
+    Branch::Relative(Some(ShortCond::NotZero)),
+    Branch::Relative(Some(ShortCond::Zero)),
+    Branch::Relative(Some(ShortCond::NotCarry)),
+    Branch::Relative(Some(ShortCond::Carry)),
+    Branch::CountDown,
+];
+
+pub(crate) fn condition_code(condition: Option<ShortCond>) -> u8
+    ensures { result ≡ condition_code condition }
+{
+    match condition {
+        None => 0,
+        Some(ShortCond::NotZero) => 1,
+        Some(ShortCond::Zero) => 2,
+        Some(ShortCond::NotCarry) => 3,
+        Some(ShortCond::Carry) => 4,
+    }
+}
+
+pub(crate) fn branch_code(branch: Branch) -> u8
+    ensures { result ≡ branch_code branch }
+{
+    match branch {
+        Branch::Relative(condition) => condition_code(condition),
+        Branch::CountDown => 5,
+    }
+}
+
+pub(crate) fn width_code(width: Width) -> u8
+    ensures { result ≡ width_code width }
+{
+    match width {
+        Width::Byte => 1,
+        Width::Word => 2,
+    }
+}
+
+pub(crate) fn condition(bytes: &[u8]) -> Result<(Option<ShortCond>, &[u8]), FieldFault>
+    ensures { Finds (λ x. (x.0, x.1.now)) result (coded condition_of bytes.now) }
+{
+    let (code, rest) = byte(bytes)?;
+    match CONDITIONS.get(usize::from(code)) {
+        Some(condition) => Ok((*condition, rest)),
+        None => Err(FieldFault::BadField(bytes.len())),
+    }
+}
+
+/// The branch of a code. Where a `JR` may grow, `DJNZ` alone is always short.
+fn branch_of(grow: bool, code: u8) -> Option<Branch>
+    ensures { result ≡ branch_of grow code }
+{
+    if grow && code != 5 {
+        return None;
+    }
+    BRANCHES.get(usize::from(code)).copied()
+}
+
+pub(crate) fn branch(grow: bool, bytes: &[u8]) -> Result<(Branch, &[u8]), FieldFault>
+    ensures { Finds (λ x. (x.0, x.1.now)) result (coded (branch_of grow) bytes.now) }
+{
+    let (code, rest) = byte(bytes)?;
+    match branch_of(grow, code) {
+        Some(branch) => Ok((branch, rest)),
+        None => Err(FieldFault::BadField(bytes.len())),
+    }
+}
+
+fn width_of(code: u8) -> Option<Width>
+    ensures { result ≡ width_of code }
+{
+    if code == 1 {
+        Some(Width::Byte)
+    } else if code == 2 {
+        Some(Width::Word)
+    } else {
+        None
+    }
+}
+
+pub(crate) fn width(bytes: &[u8]) -> Result<(Width, &[u8]), FieldFault>
+    ensures { Finds (λ x. (x.0, x.1.now)) result (coded width_of bytes.now) }
+{
+    let (code, rest) = byte(bytes)?;
+    match width_of(code) {
+        Some(width) => Ok((width, rest)),
+        None => Err(FieldFault::BadField(bytes.len())),
+    }
+}

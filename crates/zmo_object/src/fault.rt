@@ -1,0 +1,54 @@
+//! Why bytes are no object.
+
+ghost use Rattle.std.specs.Prelude.{◌≡◌};
+ghost use Rattle.zmo_object.specs.declared.fault.ObjectFault.TheVariants.{NoMemory};
+ghost use Rattle.zmo_object.specs.Reading.{fault_in};
+
+use std::alloc::{AllocError, AllocFailed};
+use thiserror::Error;
+use zmo_fields::FieldFault;
+
+/// Why bytes are no object.
+#[derive(Clone, Copy, Debug, PartialEq, Eq, Error)]
+pub enum ObjectFault {
+    #[error("no object")]
+    Magic,
+    /// The bytes end in a field.
+    #[error("the object ends in a field")]
+    Truncated,
+    /// A field breaks a rule. So many bytes stand before it.
+    #[error("a bad field after {0} bytes")]
+    BadField(usize),
+    /// Bytes are left over.
+    #[error("bytes behind the object")]
+    Trailing,
+    #[error("out of memory")]
+    NoMemory,
+}
+
+impl From<AllocError> for ObjectFault {
+    ghost from_gives = { λ _ e. e ≡ NoMemory };
+
+    fn from(_e: AllocError) -> ObjectFault {
+        ObjectFault::NoMemory
+    }
+}
+
+impl<T: Drop> From<AllocFailed<T>> for ObjectFault {
+    ghost from_gives = { λ _ e. e ≡ NoMemory };
+
+    fn from(_e: AllocFailed<T>) -> ObjectFault {
+        ObjectFault::NoMemory
+    }
+}
+
+/// A field's fault in an object of some length.
+pub(crate) fn fault_in(len: usize, fault: FieldFault) -> ObjectFault
+    ensures { result ≡ fault_in len fault }
+{
+    match fault {
+        FieldFault::Truncated => ObjectFault::Truncated,
+        FieldFault::BadField(left) => ObjectFault::BadField(len.saturating_sub(left)),
+        FieldFault::NoMemory => ObjectFault::NoMemory,
+    }
+}

@@ -1,0 +1,109 @@
+//! The module that a text spells.
+
+ghost use Rattle.std.specs.Prelude.{◌≡◌, IfOk, map};
+ghost use Rattle.zmo_module.specs.Modules as object;
+ghost use Rattle.zmo_module.specs.Modules.{module_of, statement_of};
+ghost use Rattle.zmo_module.specs.Rules.{IsModule};
+ghost use Rattle.zmo_fields.specs.Fields.{Gives, each};
+ghost use Rattle.zmo_object.specs.Codes.{grow_of};
+ghost use Rattle.zmo_object.specs.Reading.{Answers, module_at, read_of, statement_at};
+ghost use Rattle.zmo_object.specs.Texts.{text_of};
+ghost use Rattle.zmo_object.specs.Private.{answered};
+
+use crate::fault::{ObjectFault, fault_in};
+use crate::header::read_header;
+use crate::label::read_lists;
+use crate::statement::statement;
+use std::alloc::Global;
+use zmo_fields::FieldFault;
+use zmo_module::{Module, Statement};
+
+/// So many statements.
+fn statements<'a>(
+    alloc: Global,
+    grow: bool,
+    refs: usize,
+    count: u16,
+    bytes: &'a [u8],
+) -> Result<(Vec<Statement>, &'a [u8]), FieldFault>
+    ensures { Gives (λ x. (map statement_of x.0.items, x.1.now)) result (each (statement_at grow refs) count bytes.now) }
+{
+    let mut statements = Vec::new(alloc);
+    let mut rest = bytes;
+    for _ in 0..count {
+        let (next, after) = statement(alloc, grow, refs, rest)?;
+        statements.push(next)?;
+        rest = after;
+    }
+    Ok((statements, rest))
+}
+
+/// A module, behind its first four bytes.
+fn module(alloc: Global, grow: bool, bytes: &[u8]) -> Result<(Module, &[u8]), FieldFault>
+    ensures { Gives (λ x. (module_of x.0, x.1.now)) result (module_at grow bytes.now) }
+{
+    let (header, rest) = read_header(bytes)?;
+    let counts = header.counts;
+    let refs = usize::from(counts.statements) + 1 + usize::from(counts.externals);
+    let (statements, rest) = statements(alloc, grow, refs, counts.statements, rest)?;
+    let (lists, rest) = read_lists(alloc, counts, rest)?;
+    let name = Vec::from_slice(alloc, header.name)?;
+    let module = Module {
+        name,
+        begins: header.begins,
+        entry: header.entry,
+        grow,
+        statements,
+        labels: lists.labels,
+        publics: lists.publics,
+        externals: lists.externals,
+    };
+    Ok((module, rest))
+}
+
+/// Whether a `JR` may grow, by the first four bytes of an object.
+fn grow_of(bytes: &[u8]) -> Option<bool>
+    ensures { result ≡ grow_of bytes.now }
+{
+    if bytes == b"ZMO1".as_slice() {
+        Some(false)
+    } else if bytes == b"ZMO2".as_slice() {
+        Some(true)
+    } else {
+        None
+    }
+}
+
+/// The module of an object.
+fn object(alloc: Global, bytes: &[u8]) -> Result<Module, ObjectFault>
+    ensures { Answers (answered result) (read_of bytes.now) }
+{
+    if bytes.len() < 4 {
+        return Err(ObjectFault::Magic);
+    }
+    let (magic, behind) = bytes.split_at(4);
+    let Some(grow) = grow_of(magic) else {
+        return Err(ObjectFault::Magic);
+    };
+    match module(alloc, grow, behind) {
+        Ok((module, rest)) if rest.is_empty() => Ok(module),
+        Ok(_) => Err(ObjectFault::Trailing),
+        Err(fault) => Err(fault_in(bytes.len(), fault)),
+    }
+}
+
+/// The module that a text spells.
+///
+/// # Errors
+///
+/// The first fault of the text, and whether memory ran out.
+pub fn read(alloc: Global, bytes: &[u8]) -> Result<Module, ObjectFault>
+    // Which module or fault it is.
+    ensures exact { Answers (answered result) (read_of bytes.now) }
+    // What is read keeps the rules, and is spelled so.
+    ensures found { IfOk result (λ m. IsModule (module_of m) × (bytes.now ≡ text_of (module_of m))) }
+    // What keeps the rules and is spelled so is read.
+    ensures only { (m : object.Module) → IsModule m → bytes.now ≡ text_of m → Answers (answered result) (Ok m) }
+{
+    object(alloc, bytes)
+}

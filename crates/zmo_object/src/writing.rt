@@ -1,0 +1,43 @@
+//! The one text of a module.
+
+ghost use Rattle.std.specs.Prelude.{◌≡◌, ◌++◌, OnOk, IfOk, All, map};
+ghost use Rattle.std.specs.List.{flat_map};
+ghost use Rattle.zmo_module.specs.Modules.{module_of, statement_of};
+ghost use Rattle.zmo_module.specs.Rules.{IsModule};
+ghost use Rattle.zmo_object.specs.Texts.{statement_text, text_of};
+ghost use Rattle.zmo_object.specs.Private.{FitsWords};
+
+use crate::header::put_header;
+use crate::label::{put_externals, put_labels, put_publics};
+use crate::statement::put_statement;
+use std::alloc::{AllocError, Global};
+use zmo_module::{Module, Statement};
+
+/// Puts statements behind a text.
+fn put_statements(text: &mut Vec<u8>, statements: &[Statement]) -> Result<(), AllocError>
+    requires { All (λ s. FitsWords (statement_of s)) statements.now }
+    ensures { OnOk result (text.new.items ≡ text.old.items ++ flat_map statement_text (map statement_of statements.now)) }
+{
+    for statement in statements {
+        put_statement(text, statement)?;
+    }
+    Ok(())
+}
+
+/// The one text of a module that keeps the rules.
+///
+/// # Errors
+///
+/// `AllocError` where memory ran out.
+pub fn write(alloc: Global, module: &Module) -> Result<Vec<u8>, AllocError>
+    requires { IsModule (module_of «module».now) }
+    ensures { IfOk result (λ text. text.items ≡ text_of (module_of «module».now)) }
+{
+    let mut text = Vec::new(alloc);
+    put_header(&mut text, module)?;
+    put_statements(&mut text, &module.statements)?;
+    put_labels(&mut text, &module.labels)?;
+    put_publics(&mut text, &module.publics)?;
+    put_externals(&mut text, &module.externals)?;
+    Ok(text)
+}
