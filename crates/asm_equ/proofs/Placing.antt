@@ -74,7 +74,7 @@ placed_lookup names layout (e ∷ es) x distinct =
           let is : e.0 ≡ x = sym ((bytes_eq-Decides x e.0).0 same) in
           let none : lookup (bytes_eq x) (placed_of names layout es) ≡ None = none_placed names layout es x (subst (λ k. AllByRecursion (λ y. bytes_eq k y ≡ false) (keys es)) is distinct.0) in
           subst (λ k. lookup (bytes_eq x) (cons_option (with_name k (place_of names layout k e.1)) (placed_of names layout es)) ≡ place_of names layout x e.1) (sym is)
-            (first_placed x (place_of names layout x e.1) (placed_of names layout es) none)
+          (first_placed x (place_of names layout x e.1) (placed_of names layout es) none)
       | false ↦ λ other. lookup_placed x e.0 (place_of names layout e.0 e.1) (placed_of names layout es) other ∙ placed_lookup names layout es x distinct.1
     ] refl
 
@@ -185,7 +185,7 @@ all_placed names layout at p is was = record {
   statements = was.statements;
 }
   where
-  none_left : (names : Names) (at : ℕ) → slice_get names at ≡ None → take at names ≡ names
-  none_left [] at is = take-nil at
-  none_left (e ∷ es) zero is = absurd cc
-  none_left (e ∷ es) (suc at) is = ap (λ rest. e ∷ rest) (none_left es at is)
+    none_left : (names : Names) (at : ℕ) → slice_get names at ≡ None → take at names ≡ names
+    none_left [] at is = take-nil at
+    none_left (e ∷ es) zero is = absurd cc
+    none_left (e ∷ es) (suc at) is = ap (λ rest. e ∷ rest) (none_left es at is)

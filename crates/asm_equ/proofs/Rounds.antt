@@ -57,11 +57,12 @@ read_names : (items : Expression) (x : List ℕ) → IsRead items → Contains (
 read_names items x (inl is) has = subst (λ all. Contains all (Item.Leaf (Name x))) (source_whole items is) has
 read_names items x (inr none) has = absurd (no_name has (ap (λ i. postfix (source i)) none))
   where
-  no_here : (all : Expression) → all ≡ Item.Leaf Here ∷ [] → Contains all (Item.Leaf (Name x)) → ⊥
-  no_here all is (zero, lt, e) = (let bad : Item.Leaf Here ≡ Item.Leaf (Name x) = sym (ap (λ a. slice_index_or a 0 (Item.Leaf (Name x))) is) ∙ e in cc)
-  no_here all is (suc k, lt, e) = (let len = ap length is in omega (arith, lt, len))
-  no_name : Contains (postfix (source items)) (Item.Leaf (Name x)) → postfix (source items) ≡ Item.Leaf Here ∷ [] → ⊥
-  no_name has is = no_here (postfix (source items)) is has
+    no_here : (all : Expression) → all ≡ Item.Leaf Here ∷ [] → Contains all (Item.Leaf (Name x)) → ⊥
+    no_here all is (zero, lt, e) = (let bad : Item.Leaf Here ≡ Item.Leaf (Name x) = sym (ap (λ a. slice_index_or a 0 (Item.Leaf (Name x))) is) ∙ e in cc)
+    no_here all is (suc k, lt, e) = (let len = ap length is in omega (arith, lt, len))
+
+    no_name : Contains (postfix (source items)) (Item.Leaf (Name x)) → postfix (source items) ≡ Item.Leaf Here ∷ [] → ⊥
+    no_name has is = no_here (postfix (source items)) is has
 
 -- lines whose names stand for the same are worth the same
 agreed : (n m : ℕ) (names : Names) (lines : List Taken) (circle : ℕ → Bool) (layout : Layout) (at : ℕ) → IsRead (items_at lines at)
@@ -69,8 +70,8 @@ agreed : (n m : ℕ) (names : Names) (lines : List Taken) (circle : ℕ → Bool
     → round_value n names lines circle layout at ≡ round_value m names lines circle layout at
 agreed n m names lines circle layout at is same =
     by_worth names circle at (items_at lines at) (table_at layout (after_rounds n names lines circle layout) at) (table_at layout (after_rounds m names lines circle layout) at)
-      (equated_by_names (table_at layout (after_rounds n names lines circle layout) at) (table_at layout (after_rounds m names lines circle layout) at) (source (items_at lines at))
-        (record { here = refl; statements = refl; names = λ x has. same x (read_names (items_at lines at) x is has) }))
+    (equated_by_names (table_at layout (after_rounds n names lines circle layout) at) (table_at layout (after_rounds m names lines circle layout) at) (source (items_at lines at))
+    (record { here = refl; statements = refl; names = λ x has. same x (read_names (items_at lines at) x is has) }))
 
 by_fault : (u : Option EquFault) (c : Bool) (r : Result Meaning ExprFault) → c ≡ true → meaning_by (first (u ∷ if_so EquFault.EquCircle c ∷ value_by r ∷ [])) r ≡ Meaning.Faulty
 by_fault (Some why) c r is = refl
@@ -123,19 +124,19 @@ stable names lines circle layout turns order tells (suc bound) q below room sour
     let t : Turn = turn_at turns q in
     let at : ℕ = t.definition in
     let earlier : (b : ℕ) → Contains (definitions (take q turns)) b → (m : ℕ) → q ≤ m → round_value m names lines circle layout b ≡ round_value q names lines circle layout b = λ b has m qm.
-        let r = placed_turn turns q b has in
-        let last : (k : ℕ) → r.0 + 1 ≤ k → round_value k names lines circle layout (turn_at turns r.0).definition ≡ round_value (r.0 + 1) names lines circle layout (turn_at turns r.0).definition = λ k rk. stable names lines circle layout turns order tells bound r.0 (let a = r.1 in omega arith) r.2 (λ j le. sources j (let a = r.1 in omega (arith, a, le))) k rk in
-        subst (λ l. round_value m names lines circle layout l ≡ round_value q names lines circle layout l) r.3 (last m (let a = r.1 in omega arith) ∙ sym (last q (let a = r.1 in omega arith))) in
+    let r = placed_turn turns q b has in
+    let last : (k : ℕ) → r.0 + 1 ≤ k → round_value k names lines circle layout (turn_at turns r.0).definition ≡ round_value (r.0 + 1) names lines circle layout (turn_at turns r.0).definition = λ k rk. stable names lines circle layout turns order tells bound r.0 (let a = r.1 in omega arith) r.2 (λ j le. sources j (let a = r.1 in omega (arith, a, le))) k rk in
+    subst (λ l. round_value m names lines circle layout l ≡ round_value q names lines circle layout l) r.3 (last m (let a = r.1 in omega arith) ∙ sym (last q (let a = r.1 in omega arith))) in
     elim t.on_circle as (λ b. t.on_circle ≡ b → round_value (suc n) names lines circle layout at ≡ round_value (q + 1) names lines circle layout at) [
       | true ↦ λ is. (let c = tells q room is in circle_value (suc n) names lines circle layout at c ∙ sym (circle_value (q + 1) names lines circle layout at c))
       | false ↦ λ is.
           let next : suc q ≡ q + 1 = omega arith in
           let same : (x : List ℕ) → Contains (items_at lines at) (Item.Leaf (Name x))
-              → lookup (bytes_eq x) (after_rounds (suc n) names lines circle layout) ≡ lookup (bytes_eq x) (after_rounds (suc q) names lines circle layout) = λ x has.
-              found_after n names lines circle layout x
-              ∙ by_kind n q names lines circle layout x (kind_of names x)
-                  (λ b k. earlier b ((order q (record { definition = 0; on_circle = false }) room).behind is b (used_line names (items_at lines at) x b has k)) n (omega arith))
-              ∙ sym (found_after q names lines circle layout x) in
+          → lookup (bytes_eq x) (after_rounds (suc n) names lines circle layout) ≡ lookup (bytes_eq x) (after_rounds (suc q) names lines circle layout) = λ x has.
+          found_after n names lines circle layout x
+          ∙ by_kind n q names lines circle layout x (kind_of names x)
+          (λ b k. earlier b ((order q (record { definition = 0; on_circle = false }) room).behind is b (used_line names (items_at lines at) x b has k)) n (omega arith))
+          ∙ sym (found_after q names lines circle layout x) in
           subst (λ k. round_value (suc n) names lines circle layout at ≡ round_value k names lines circle layout at) next
-            (agreed (suc n) (suc q) names lines circle layout at (sources q (omega arith)) same)
+          (agreed (suc n) (suc q) names lines circle layout at (sources q (omega arith)) same)
     ] refl

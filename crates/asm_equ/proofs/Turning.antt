@@ -51,9 +51,9 @@ use Rattle.asm_equ.proofs.Rounds.{found_after, placed_turn, round_value, stable,
 has_more : (done : List Turn) (t : Turn) (at : ℕ) → has (done ++ t ∷ []) at ≡ (has done at || (t.definition == at))
 has_more done t at = list_any-append (λ u. u.definition == at) done (t ∷ []) ∙ ap (λ b. has done at || b) (or_false (t.definition == at))
   where
-  or_false : (b : Bool) → (b || false) ≡ b
-  or_false true = refl
-  or_false false = refl
+    or_false : (b : Bool) → (b || false) ≡ b
+    or_false true = refl
+    or_false false = refl
 
 had_before : (done : List Turn) (t : Turn) (at : ℕ) → has done at ≡ true → has (done ++ t ∷ []) at ≡ true
 had_before done t at is = has_more done t at ∙ ap (λ b. b || (t.definition == at)) is
@@ -61,16 +61,16 @@ had_before done t at is = has_more done t at ∙ ap (λ b. b || (t.definition ==
 has_now : (done : List Turn) (t : Turn) → has (done ++ t ∷ []) t.definition ≡ true
 has_now done t = has_more done t t.definition ∙ or_true (has done t.definition) (t.definition == t.definition) (eq-eqb t.definition t.definition refl)
   where
-  or_true : (a b : Bool) → b ≡ true → (a || b) ≡ true
-  or_true true b is = refl
-  or_true false b is = is
+    or_true : (a b : Bool) → b ≡ true → (a || b) ≡ true
+    or_true true b is = refl
+    or_true false b is = is
 
 not_now : (done : List Turn) (t : Turn) (at : ℕ) → (t.definition == at) ≡ false → has (done ++ t ∷ []) at ≡ has done at
 not_now done t at is = has_more done t at ∙ ap (λ b. has done at || b) is ∙ or_none (has done at)
   where
-  or_none : (b : Bool) → (b || false) ≡ b
-  or_none true = refl
-  or_none false = refl
+    or_none : (b : Bool) → (b || false) ≡ b
+    or_none true = refl
+    or_none false = refl
 
 -- that of the list is that of the test
 contains_had : (done : List Turn) (at : ℕ) → Contains (definitions done) at → has done at ≡ true
@@ -78,9 +78,9 @@ contains_had [] at (k, lt, e) = absurd (omega (arith, lt))
 contains_had (t ∷ ts) at (zero, lt, e) = rw (eq-eqb t.definition at e) refl
 contains_had (t ∷ ts) at (suc k, lt, e) = or_true (t.definition == at) (has ts at) (contains_had ts at (k, omega (arith, lt), e))
   where
-  or_true : (a b : Bool) → b ≡ true → (a || b) ≡ true
-  or_true true b is = refl
-  or_true false b is = is
+    or_true : (a b : Bool) → b ≡ true → (a || b) ≡ true
+    or_true true b is = refl
+    or_true false b is = is
 
 had_contains : (done : List Turn) (at : ℕ) → has done at ≡ true → Contains (definitions done) at
 had_contains [] at is = absurd cc
@@ -109,7 +109,7 @@ told_true : (turns : List Turn) (at : ℕ) → told turns at ≡ true → (r : �
 told_true [] at is = absurd cc
 told_true (t ∷ ts) at is =
     elim ((t.definition == at) && t.on_circle) as (λ b. ((t.definition == at) && t.on_circle) ≡ b → (b || told ts at) ≡ true
-        → (r : ℕ) × (r < suc (length ts)) × ((turn_at (t ∷ ts) r).definition ≡ at) × ((turn_at (t ∷ ts) r).on_circle ≡ true)) [
+    → (r : ℕ) × (r < suc (length ts)) × ((turn_at (t ∷ ts) r).definition ≡ at) × ((turn_at (t ∷ ts) r).on_circle ≡ true)) [
       | true ↦ λ here one. (let both = and_parts (t.definition == at) t.on_circle here in (0, omega arith, eqb-true t.definition at both.0, both.1))
       | false ↦ λ other more. (let r = told_true ts at more in (suc r.0, (let lt = r.1 in omega (arith, lt)), r.2, r.3))
     ] refl is
@@ -119,9 +119,9 @@ told_of [] q room is = absurd (omega (arith, room))
 told_of (t ∷ ts) zero room is = rw (eq-eqb t.definition t.definition refl, is) refl
 told_of (t ∷ ts) (suc q) room is = or_later ((t.definition == (turn_at ts q).definition) && t.on_circle) (told ts (turn_at ts q).definition) (told_of ts q (omega (arith, room)) is)
   where
-  or_later : (a b : Bool) → b ≡ true → (a || b) ≡ true
-  or_later true b is = refl
-  or_later false b is = is
+    or_later : (a b : Bool) → b ≡ true → (a || b) ≡ true
+    or_later true b is = refl
+    or_later false b is = is
 
 compare : (r q : ℕ) → (r < q) ⊎ ((r ≡ q) ⊎ (q < r))
 compare zero zero = inr (inl refl)
@@ -129,10 +129,10 @@ compare zero (suc q) = inl (omega arith)
 compare (suc r) zero = inr (inr (omega arith))
 compare (suc r) (suc q) = next (compare r q)
   where
-  next : (r < q) ⊎ ((r ≡ q) ⊎ (q < r)) → (suc r < suc q) ⊎ ((suc r ≡ suc q) ⊎ (suc q < suc r))
-  next (inl less) = inl (omega (arith, less))
-  next (inr (inl is)) = inr (inl (ap suc is))
-  next (inr (inr more)) = inr (inr (omega (arith, more)))
+    next : (r < q) ⊎ ((r ≡ q) ⊎ (q < r)) → (suc r < suc q) ⊎ ((suc r ≡ suc q) ⊎ (suc q < suc r))
+    next (inl less) = inl (omega (arith, less))
+    next (inr (inl is)) = inr (inl (ap suc is))
+    next (inr (inr more)) = inr (inr (omega (arith, more)))
 
 same_circle : (a b : Bool) → (a ≡ true → b ≡ true) → (b ≡ true → a ≡ true) → a ≡ b
 same_circle true b there back = sym (there refl)
@@ -143,12 +143,13 @@ pub told_at : (named : ℕ → List ℕ) (turns : List Turn) → AreInOrder name
 told_at named turns order q room =
     same_circle (turn_at turns q).on_circle (told turns (turn_at turns q).definition) (told_of turns q room) back
   where
-  at_once : (r : ℕ) → r < length turns → (turn_at turns r).definition ≡ (turn_at turns q).definition → (r < q) ⊎ ((r ≡ q) ⊎ (q < r)) → r ≡ q
-  at_once r lt same (inl less) = absurd (one_turn named turns order q r less room same)
-  at_once r lt same (inr (inl is)) = is
-  at_once r lt same (inr (inr more)) = absurd (one_turn named turns order r q more lt (sym same))
-  back : told turns (turn_at turns q).definition ≡ true → (turn_at turns q).on_circle ≡ true
-  back is = (let r = told_true turns (turn_at turns q).definition is in subst (λ k. (turn_at turns k).on_circle ≡ true) (at_once r.0 r.1 r.2 (compare r.0 q)) r.3)
+    at_once : (r : ℕ) → r < length turns → (turn_at turns r).definition ≡ (turn_at turns q).definition → (r < q) ⊎ ((r ≡ q) ⊎ (q < r)) → r ≡ q
+    at_once r lt same (inl less) = absurd (one_turn named turns order q r less room same)
+    at_once r lt same (inr (inl is)) = is
+    at_once r lt same (inr (inr more)) = absurd (one_turn named turns order r q more lt (sym same))
+
+    back : told turns (turn_at turns q).definition ≡ true → (turn_at turns q).on_circle ≡ true
+    back is = (let r = told_true turns (turn_at turns q).definition is in subst (λ k. (turn_at turns k).on_circle ≡ true) (at_once r.0 r.1 r.2 (compare r.0 q)) r.3)
 
 -- What a line is worth in its turn.
 
@@ -177,10 +178,10 @@ module _ (names : Names) (lines : List Taken) (layout : Layout) (turns : List Tu
   kept : (q r : ℕ) (s : Settling) → StandsAt q s → r < q → q ≤ length turns → (n : ℕ) → r + 1 ≤ n → value_at n (turn_at turns r).definition ≡ value_at (r + 1) (turn_at turns r).definition
   kept q r s stands lt room n le =
       stable names lines (told turns) layout turns known.order.in_order
-        (λ k lt-2 is. sym (told_at (lines_named names lines) turns known.order.in_order k lt-2) ∙ is)
-        (suc r) r (omega arith) (omega (arith, lt, room))
-        (λ j le-2. stands.sources (turn_at turns j).definition (contains_had (take q turns) (turn_at turns j).definition (contains_taken turns q j (omega (arith, le-2, lt)) (omega (arith, le-2, lt, room)))))
-        n le
+      (λ k lt-2 is. sym (told_at (lines_named names lines) turns known.order.in_order k lt-2) ∙ is)
+      (suc r) r (omega arith) (omega (arith, lt, room))
+      (λ j le-2. stands.sources (turn_at turns j).definition (contains_had (take q turns) (turn_at turns j).definition (contains_taken turns q j (omega (arith, le-2, lt)) (omega (arith, le-2, lt, room)))))
+      n le
 
   -- .. a line that had its turn
   had_kept : (q at : ℕ) (s : Settling) → StandsAt q s → q ≤ length turns → has (take q turns) at ≡ true → (m : ℕ) → q ≤ m → (n : ℕ) → q ≤ n → value_at m at ≡ value_at n at
@@ -210,7 +211,7 @@ module _ (names : Names) (lines : List Taken) (layout : Layout) (turns : List Tu
             let among : Contains (items_at lines (turn_at turns q).definition) (Item.Leaf (Name x)) = rw items (subst (λ all. Contains all (Item.Leaf (Name x))) (source_whole e is) has_it) in
             stands.found x
             ∙ found_so_far q m s x (kind_of names x) stands (omega (arith, room)) le
-                (λ b k. contains_had (take q turns) b ((known.order.in_order q no_turn room).behind off b (used_line names (items_at lines (turn_at turns q).definition) x b among k)))
+            (λ b k. contains_had (take q turns) b ((known.order.in_order q no_turn room).behind off b (used_line names (items_at lines (turn_at turns q).definition) x b among k)))
             ∙ sym (found_after m names lines (told turns) layout x);
       })
 
@@ -369,17 +370,19 @@ module _ (names : Names) (lines : List Taken) (layout : Layout) (turns : List Tu
             ap (λ c. option_or (stood done x (Some (Kind.Equ b))) (cond c (Some m) None)) differs ∙ or_none (stood done x (Some (Kind.Equ b))) ∙ ap (λ c. cond c (Some (last b)) None) (sym (not_now done t b other))
       ] refl
     where
-    by_had : (had same : Bool) → same ≡ true → (m last : Meaning) → m ≡ last → option_or (cond had (Some last) None) (cond same (Some m) None) ≡ Some last
-    by_had true same is m last e = refl
-    by_had false same is m last e = ap (λ c. cond c (Some m) None) is ∙ ap Some e
-    or_none : (o : Option Meaning) → option_or o None ≡ o
-    or_none None = refl
-    or_none (Some a) = refl
-    not_same : (x name : List ℕ) → (x ≡ name → ⊥) → bytes_eq x name ≡ false
-    not_same x name no_way = elim (bytes_eq x name) as (λ c. bytes_eq x name ≡ c → c ≡ false) [
-      | true ↦ λ same. absurd (no_way ((bytes_eq-Decides x name).0 same))
-      | false ↦ λ other. refl
-    ] refl
+      by_had : (had same : Bool) → same ≡ true → (m last : Meaning) → m ≡ last → option_or (cond had (Some last) None) (cond same (Some m) None) ≡ Some last
+      by_had true same is m last e = refl
+      by_had false same is m last e = ap (λ c. cond c (Some m) None) is ∙ ap Some e
+
+      or_none : (o : Option Meaning) → option_or o None ≡ o
+      or_none None = refl
+      or_none (Some a) = refl
+
+      not_same : (x name : List ℕ) → (x ≡ name → ⊥) → bytes_eq x name ≡ false
+      not_same x name no_way = elim (bytes_eq x name) as (λ c. bytes_eq x name ≡ c → c ≡ false) [
+        | true ↦ λ same. absurd (no_way ((bytes_eq-Decides x name).0 same))
+        | false ↦ λ other. refl
+      ] refl
 
   fault_given : (done : List Turn) (t : Turn) (l : Taken) (s : Settling) (why : Option EquFault) → Standing done s → slice_get lines t.definition ≡ Some l → why ≡ fault_at t.definition l.line
       → (at : ℕ) (m : Taken) → slice_get lines at ≡ Some m → slice_get (set s.faults.items t.definition why) at ≡ Some (cond (has (done ++ t ∷ []) at) (fault_at at m.line) None)
@@ -415,15 +418,15 @@ module _ (names : Names) (lines : List Taken) (layout : Layout) (turns : List Tu
   new_line : (q : ℕ) → q < length turns → has (take q turns) (turn_at turns q).definition ≡ false
   new_line q room = not_had (has (take q turns) (turn_at turns q).definition) refl
     where
-    not_had : (b : Bool) → has (take q turns) (turn_at turns q).definition ≡ b → b ≡ false
-    not_had false is = refl
-    not_had true is = absurd ((known.order.in_order q (record { definition = 0; on_circle = false }) room).once (had_contains (take q turns) (turn_at turns q).definition is))
+      not_had : (b : Bool) → has (take q turns) (turn_at turns q).definition ≡ b → b ≡ false
+      not_had false is = refl
+      not_had true is = absurd ((known.order.in_order q (record { definition = 0; on_circle = false }) room).once (had_contains (take q turns) (turn_at turns q).definition is))
 
   judged_last : (q n : ℕ) (s : Settling) (e : Expression) → Standing (take q turns) s → q < length turns → q < n → items_at lines (turn_at turns q).definition ≡ e → IsSource e
       → (meaning_by (fault_by names (turn_at turns q).on_circle (here_at layout (turn_at turns q) s.names) e) (equated (here_at layout (turn_at turns q) s.names) (source e))
-          ≡ equ_meaning names (told turns) (table_at layout (after_rounds n names lines (told turns) layout) (turn_at turns q).definition) (turn_at turns q).definition e)
-        × (fault_by names (turn_at turns q).on_circle (here_at layout (turn_at turns q) s.names) e
-          ≡ equ_fault names (told turns) (table_at layout (after_rounds n names lines (told turns) layout) (turn_at turns q).definition) (turn_at turns q).definition e)
+      ≡ equ_meaning names (told turns) (table_at layout (after_rounds n names lines (told turns) layout) (turn_at turns q).definition) (turn_at turns q).definition e)
+      × (fault_by names (turn_at turns q).on_circle (here_at layout (turn_at turns q) s.names) e
+      ≡ equ_fault names (told turns) (table_at layout (after_rounds n names lines (told turns) layout) (turn_at turns q).definition) (turn_at turns q).definition e)
   judged_last q zero s e stands room lt items is = absurd (omega (arith, lt))
   judged_last q (suc m) s e stands room lt items is =
       let t : Turn = turn_at turns q in
@@ -446,14 +449,14 @@ module _ (names : Names) (lines : List Taken) (layout : Layout) (turns : List Tu
   turned q l s new room there stands takes =
       subst (λ ts. Standing ts new) (sym (take_more turns q (record { definition = 0; on_circle = false }) room)) (by_line l.line refl takes)
     where
-    by_line : (ln : Line) → l.line ≡ ln → Takes names layout (turn_at turns q) ln s new → Stands names lines (told turns) layout (take q turns ++ turn_at turns q ∷ []) new
-    by_line (line.Statement label body) is same = subst (Stands names lines (told turns) layout (take q turns ++ turn_at turns q ∷ [])) (sym same) (plain (take q turns) (turn_at turns q) l label body s there is stands)
-    by_line (line.Equ name e) is done =
-        let items : items_at lines (turn_at turns q).definition ≡ e = items_there lines (turn_at turns q).definition l there ∙ ap equ_items is in
-        let many = known.order.many in
-        let now = judged_last q (length lines) s e stands room (omega (arith, many, room)) items done.0 in
-        let after = judged_last q (suc (length lines)) s e stands room (omega (arith, many, room)) items done.0 in
-        given (take q turns) (turn_at turns q) l name e s new there is
+      by_line : (ln : Line) → l.line ≡ ln → Takes names layout (turn_at turns q) ln s new → Stands names lines (told turns) layout (take q turns ++ turn_at turns q ∷ []) new
+      by_line (line.Statement label body) is same = subst (Stands names lines (told turns) layout (take q turns ++ turn_at turns q ∷ [])) (sym same) (plain (take q turns) (turn_at turns q) l label body s there is stands)
+      by_line (line.Equ name e) is done =
+          let items : items_at lines (turn_at turns q).definition ≡ e = items_there lines (turn_at turns q).definition l there ∙ ap equ_items is in
+          let many = known.order.many in
+          let now = judged_last q (length lines) s e stands room (omega (arith, many, room)) items done.0 in
+          let after = judged_last q (suc (length lines)) s e stands room (omega (arith, many, room)) items done.0 in
+          given (take q turns) (turn_at turns q) l name e s new there is
           (now.0 ∙ ap (λ i. equ_meaning names (told turns) (table_at layout (after_rounds (length lines) names lines (told turns) layout) (turn_at turns q).definition) (turn_at turns q).definition i) (sym items))
           (after.1 ∙ ap (line_fault names (told turns) layout (entries names lines (told turns) layout) (turn_at turns q).definition) (sym is))
           done stands
@@ -462,29 +465,30 @@ module _ (names : Names) (lines : List Taken) (layout : Layout) (turns : List Tu
   pub can_take : (q : ℕ) (l : Taken) (s : Settling) → q < length turns → slice_get lines (turn_at turns q).definition ≡ Some l → Standing (take q turns) s → CanTake names (turn_at turns q) l.line s
   can_take q l s room there stands = by_line l.line refl
     where
-    known_item : (e : Expression) → items_at lines (turn_at turns q).definition ≡ e → (turn_at turns q).on_circle ≡ false → (i : Item Operand) → Contains e i → is_named names i ≡ true → is_known s.names i ≡ true
-    known_item e items off (Item.Leaf (Number n)) among named = refl
-    known_item e items off (Item.Leaf Here) among named = refl
-    known_item e items off (Item.Unary op) among named = refl
-    known_item e items off (Item.Binary op) among named = refl
-    known_item e items off (Item.Leaf (Name x)) among named = ap is_some (stands.found x) ∙ by_kind (kind_of names x) refl named
-      where
-      by_kind : (k : Option Kind) → kind_of names x ≡ k → is_some k ≡ true → is_some (so_far (has (take q turns)) (final names lines (told turns) layout) names layout x k) ≡ true
-      by_kind None k is = absurd cc
-      by_kind (Some (Kind.Label a)) k is = refl
-      by_kind (Some Kind.External) k is = refl
-      by_kind (Some (Kind.Equ b)) k is =
-          let uses : Contains (items_at lines (turn_at turns q).definition) (Item.Leaf (Name x)) = rw items among in
-          ap (λ c. is_some (cond c (Some (final names lines (told turns) layout b)) None))
-            (contains_had (take q turns) b ((known.order.in_order q (record { definition = 0; on_circle = false }) room).behind off b (used_line names (items_at lines (turn_at turns q).definition) x b uses k)))
-    by_line : (ln : Line) → l.line ≡ ln → CanTake names (turn_at turns q) ln s
-    by_line (line.Statement label body) is = tt
-    by_line (line.Equ name e) is = (
-      let lt = slice_get_within lines (turn_at turns q).definition l there in let many = stands.many in omega (arith, lt, many),
-      stands.found name ∙ ap (so_far (has (take q turns)) (final names lines (told turns) layout) names layout name) (known.each (turn_at turns q).definition l name e there is)
-          ∙ ap (λ c. cond c (Some (final names lines (told turns) layout (turn_at turns q).definition)) None) (new_line q room),
-      λ all off k d lt. known_item e (items_there lines (turn_at turns q).definition l there ∙ ap equ_items is) off (slice_index_or e k d) (k, lt, get_or_default e k (slice_index_or e k d) d lt) (AllPass-from_list_all (is_named names) e all k d lt),
-    )
+      known_item : (e : Expression) → items_at lines (turn_at turns q).definition ≡ e → (turn_at turns q).on_circle ≡ false → (i : Item Operand) → Contains e i → is_named names i ≡ true → is_known s.names i ≡ true
+      known_item e items off (Item.Leaf (Number n)) among named = refl
+      known_item e items off (Item.Leaf Here) among named = refl
+      known_item e items off (Item.Unary op) among named = refl
+      known_item e items off (Item.Binary op) among named = refl
+      known_item e items off (Item.Leaf (Name x)) among named = ap is_some (stands.found x) ∙ by_kind (kind_of names x) refl named
+        where
+          by_kind : (k : Option Kind) → kind_of names x ≡ k → is_some k ≡ true → is_some (so_far (has (take q turns)) (final names lines (told turns) layout) names layout x k) ≡ true
+          by_kind None k is = absurd cc
+          by_kind (Some (Kind.Label a)) k is = refl
+          by_kind (Some Kind.External) k is = refl
+          by_kind (Some (Kind.Equ b)) k is =
+              let uses : Contains (items_at lines (turn_at turns q).definition) (Item.Leaf (Name x)) = rw items among in
+              ap (λ c. is_some (cond c (Some (final names lines (told turns) layout b)) None))
+              (contains_had (take q turns) b ((known.order.in_order q (record { definition = 0; on_circle = false }) room).behind off b (used_line names (items_at lines (turn_at turns q).definition) x b uses k)))
+
+      by_line : (ln : Line) → l.line ≡ ln → CanTake names (turn_at turns q) ln s
+      by_line (line.Statement label body) is = tt
+      by_line (line.Equ name e) is = (
+        let lt = slice_get_within lines (turn_at turns q).definition l there in let many = stands.many in omega (arith, lt, many),
+        stands.found name ∙ ap (so_far (has (take q turns)) (final names lines (told turns) layout) names layout name) (known.each (turn_at turns q).definition l name e there is)
+            ∙ ap (λ c. cond c (Some (final names lines (told turns) layout (turn_at turns q).definition)) None) (new_line q room),
+        λ all off k d lt. known_item e (items_there lines (turn_at turns q).definition l there ∙ ap equ_items is) off (slice_index_or e k d) (k, lt, get_or_default e k (slice_index_or e k d) d lt) (AllPass-from_list_all (is_named names) e all k d lt),
+      )
 
 -- Where all had their turn.
 
@@ -500,7 +504,7 @@ numbered_faults g n (l ∷ ls) (f ∷ fs) len each =
     let first_is : f ≡ g n l.line = first_so ∙ ap (λ k. g k l.line) (omega arith) in
     ap (λ h. option_map (λ why. (l.number, why)) h ∷ numbered ls fs) first_is
     ∙ ap (λ rest. option_map (λ why. (l.number, why)) (g n l.line) ∷ rest)
-        (numbered_faults g (n + 1) ls fs (omega (arith, len)) (λ k m there. each (suc k) m there ∙ ap (λ j. Some (g j m.line)) (omega arith)))
+    (numbered_faults g (n + 1) ls fs (omega (arith, len)) (λ k m there. each (suc k) m there ∙ ap (λ j. Some (g j m.line)) (omega arith)))
 
 module _ (names : Names) (lines : List Taken) (layout : Layout) (turns : List Turn) (known : Lines_in_order names lines turns) where
   all_had : (at : ℕ) → at < length lines → has turns at ≡ true
@@ -520,7 +524,7 @@ module _ (names : Names) (lines : List Taken) (layout : Layout) (turns : List Tu
     λ x. stands.found x ∙ found_last x (kind_of names x) refl ∙ sym (found_after (length lines) names lines (told turns) layout x),
     ap first (numbered_faults (line_fault names (told turns) layout (entries names lines (told turns) layout)) 0 lines s.faults.items stands.many
         (λ k l there. stands.faults k l there ∙ ap (λ c. Some (cond c (line_fault names (told turns) layout (entries names lines (told turns) layout) k l.line) None)) (all_had k (slice_get_within lines k l there))
-            ∙ ap (λ j. Some (line_fault names (told turns) layout (entries names lines (told turns) layout) j l.line)) (omega arith))),
+        ∙ ap (λ j. Some (line_fault names (told turns) layout (entries names lines (told turns) layout) j l.line)) (omega arith))),
   )
 
 -- Where none had its turn.
@@ -577,5 +581,5 @@ tells names lines turns order at lt = (
       subst (IsOnCircle (lines_named names lines)) r.2 ((order.in_order r.0 (record { definition = 0; on_circle = false }) r.1).circle.0 r.3)),
   λ circle. (let r = placed_turn turns (length turns) at (subst (λ ts. Contains (definitions ts) at) (sym (take_all (length turns) turns (omega arith))) (order.all at lt)) in
       subst (λ k. told turns k ≡ true) r.3
-        (told_of turns r.0 r.2 ((order.in_order r.0 (record { definition = 0; on_circle = false }) r.2).circle.1 (subst (IsOnCircle (lines_named names lines)) (sym r.3) circle)))),
+      (told_of turns r.0 r.2 ((order.in_order r.0 (record { definition = 0; on_circle = false }) r.2).circle.1 (subst (IsOnCircle (lines_named names lines)) (sym r.3) circle)))),
 )

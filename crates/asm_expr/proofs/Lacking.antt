@@ -57,9 +57,9 @@ IsPlace _ = ⊥
 some_far : (t : Table) (p : ℕ) → IsNumber (some_distance t.statements p) → ⊥
 some_far t p is = apart (nat_lt (length t.statements) p) is
   where
-  apart : (b : Bool) → IsNumber (if b then Worth.Varies else Worth.Unknown) → ⊥
-  apart true is = is
-  apart false is = is
+    apart : (b : Bool) → IsNumber (if b then Worth.Varies else Worth.Unknown) → ⊥
+    apart true is = is
+    apart false is = is
 
 far_places : (t : Table) (x y : Single) → IsNumber (distance_of t x y) → IsPlace x × IsPlace y
 far_places t (Single.Place p) (Single.Place q) is = (tt, tt)
@@ -93,11 +93,11 @@ no_number t (Leaf (Part.Ref r)) lacks is = lacks
 no_number t (Prefix op a) lacks is = no_number t a lacks (through_number (unary op) (worth t a) is)
 no_number t (Infix op a b) lacks is = by (either_number (difference t op a b) (both (binary op) (worth t a) (worth t b)) is) lacks (no_number t a) (no_number t b)
   where
-  by : IsNumber (difference t op a b) ⊎ IsNumber (both (binary op) (worth t a) (worth t b)) → Lacks a ⊎ Lacks b → (Lacks a → IsNumber (worth t a) → ⊥) → (Lacks b → IsNumber (worth t b) → ⊥) → ⊥
-  by (inl far) (inl left) first second = place_lacks a (differ_places t op a b far).0 left
-  by (inl far) (inr right) first second = place_lacks b (differ_places t op a b far).1 right
-  by (inr num) (inl left) first second = first left (both_numbers (binary op) (worth t a) (worth t b) num).0
-  by (inr num) (inr right) first second = second right (both_numbers (binary op) (worth t a) (worth t b) num).1
+    by : IsNumber (difference t op a b) ⊎ IsNumber (both (binary op) (worth t a) (worth t b)) → Lacks a ⊎ Lacks b → (Lacks a → IsNumber (worth t a) → ⊥) → (Lacks b → IsNumber (worth t b) → ⊥) → ⊥
+    by (inl far) (inl left) first second = place_lacks a (differ_places t op a b far).0 left
+    by (inl far) (inr right) first second = place_lacks b (differ_places t op a b far).1 right
+    by (inr num) (inl left) first second = first left (both_numbers (binary op) (worth t a) (worth t b) num).0
+    by (inr num) (inr right) first second = second right (both_numbers (binary op) (worth t a) (worth t b) num).1
 
 leaf_lacks : (other : Expression Part) (w : Worth) → (IsNumber w → ⊥) → Lacks other → Lacks (leaf_or other w)
 leaf_lacks other (Worth.Number n) no_way lacks = absurd (no_way tt)
@@ -159,19 +159,19 @@ names_lack t (Leaf (Name name)) is = name_lacks (found t name) (last_known (is_s
 names_lack t (Prefix op a) is = names_lack t a (last_known (list_all (is_known t) (postfix a)) (sym (list_all-append (is_known t) (postfix a) (Item.Unary op ∷ [])) ∙ is))
 names_lack t (Infix op a b) is =
     sides (and_false (list_all (is_known t) (postfix a)) (list_all (is_known t) (postfix b))
-      (sym (list_all-append (is_known t) (postfix a) (postfix b)) ∙ last_known (list_all (is_known t) (postfix a ++ postfix b)) (sym (list_all-append (is_known t) (postfix a ++ postfix b) (Item.Binary op ∷ [])) ∙ is)))
-      (names_lack t a) (names_lack t b)
+    (sym (list_all-append (is_known t) (postfix a) (postfix b)) ∙ last_known (list_all (is_known t) (postfix a ++ postfix b)) (sym (list_all-append (is_known t) (postfix a ++ postfix b) (Item.Binary op ∷ [])) ∙ is)))
+    (names_lack t a) (names_lack t b)
   where
-  sides : (list_all (is_known t) (postfix a) ≡ false) ⊎ (list_all (is_known t) (postfix b) ≡ false) → (list_all (is_known t) (postfix a) ≡ false → Lacks (replaced t a))
-      → (list_all (is_known t) (postfix b) ≡ false → Lacks (replaced t b)) → Lacks (replaced t a) ⊎ Lacks (replaced t b)
-  sides (inl left) first second = inl (first left)
-  sides (inr right) first second = inr (second right)
+    sides : (list_all (is_known t) (postfix a) ≡ false) ⊎ (list_all (is_known t) (postfix b) ≡ false) → (list_all (is_known t) (postfix a) ≡ false → Lacks (replaced t a))
+        → (list_all (is_known t) (postfix b) ≡ false → Lacks (replaced t b)) → Lacks (replaced t a) ⊎ Lacks (replaced t b)
+    sides (inl left) first second = inl (first left)
+    sides (inr right) first second = inr (second right)
 
 pub lacking_settled : (t : Table) (e : Expression Operand) (items : List (Item Atom)) → list_all (is_known t) (postfix e) ≡ false → settled t e ≡ Ok (Settled.Known items) → ⊥
 lacking_settled t e items is known =
     refused (fault t e) (items_known (postfix (reduced t (replaced t e)))) (unknown_of (reduced t (replaced t e))) (lacking_items (reduced t (replaced t e)) (reduced_lacks t (replaced t e) (names_lack t e is))) known
   where
-  refused : (f : Option ExprFault) (o : Option (List (Item Atom))) (what : Unknown) → o ≡ None → unless_fault f (settled_as o what) ≡ Ok (Settled.Known items) → ⊥
-  refused (Some why) o what none is = cc
-  refused None None what none is = cc
-  refused None (Some other) what none is = cc
+    refused : (f : Option ExprFault) (o : Option (List (Item Atom))) (what : Unknown) → o ≡ None → unless_fault f (settled_as o what) ≡ Ok (Settled.Known items) → ⊥
+    refused (Some why) o what none is = cc
+    refused None None what none is = cc
+    refused None (Some other) what none is = cc

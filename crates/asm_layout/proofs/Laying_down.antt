@@ -62,7 +62,7 @@ pub few_so_far : (grow : Bool) (t : Table) (lines : List Taken) (at : ℕ) (next
 few_so_far grow t lines at next some few was =
     let le : length (statements grow t (take at lines)) ≤ count_by (λ l. has_statement l.line) (take at lines) = few_statements grow t (take at lines) in
     let part : count_by (λ l. has_statement l.line) (take at lines) + count_by (λ l. has_statement l.line) (drop at lines) ≡ count_by (λ l. has_statement l.line) lines =
-        sym (sum_by-append (λ l. cond (has_statement l.line) 1 0) (take at lines) (drop at lines)) ∙ ap (count_by (λ l. has_statement l.line)) (take-append-drop at lines) in
+    sym (sum_by-append (λ l. cond (has_statement l.line) 1 0) (take at lines) (drop at lines)) ∙ ap (count_by (λ l. has_statement l.line)) (take-append-drop at lines) in
     let same : length some ≡ length (statements grow t (take at lines)) = ap length was.statements_is in
     omega (arith, few, le, part, same)
 

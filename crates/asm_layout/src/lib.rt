@@ -3,8 +3,8 @@
 //! [`lay`] answers which lines have a statement and how many bytes each takes, as far as that is known.
 #![tactic(auto)]
 
-mod laying;
 pub mod laws;
+mod laying;
 
 pub use asm_equ::Layout;
 pub use laying::lay;

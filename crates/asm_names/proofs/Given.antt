@@ -80,8 +80,8 @@ definitions_given : (lines rest : List Taken) (at : ℕ) → ((k : ℕ) → slic
 definitions_given lines [] at same = tt
 definitions_given lines (l ∷ ls) at same =
     each-append (IsGiven lines) (defines at l.line) (flat_map (λ m. defines m.0 m.1.line) (enumerate_from (at + 1) ls))
-      (defines_given lines at l l.line refl (ap (slice_get lines) (omega arith) ∙ same 0))
-      (definitions_given lines ls (at + 1) (λ k. ap (slice_get lines) (omega arith) ∙ same (suc k)))
+    (defines_given lines at l l.line refl (ap (slice_get lines) (omega arith) ∙ same 0))
+    (definitions_given lines ls (at + 1) (λ k. ap (slice_get lines) (omega arith) ∙ same (suc k)))
 
 pub names_given : (lines : List Taken) (x : List ℕ) (at : ℕ) → kind_of (names lines) x ≡ Some (Kind.Equ at) → IsGiven lines (x, Kind.Equ at)
 names_given lines x at is = found_so (IsGiven lines) x (Kind.Equ at) (names lines) (each-with_names (IsGiven lines) [] (definitions lines) tt (definitions_given lines lines 0 (λ k. ap (slice_get lines) (omega arith)))) is
@@ -111,7 +111,7 @@ kept_behind : (before rest : List Taken) (x : List ℕ) (k : Kind) → kind_of (
 kept_behind before [] x k is = subst (λ ls. kind_of (names ls) x ≡ Some k) (sym (append-nil before)) is
 kept_behind before (l ∷ rest) x k is =
     subst (λ ls. kind_of (names ls) x ≡ Some k) (append_assoc before (l ∷ []) rest)
-      (kept_behind (before ++ l ∷ []) rest x k (subst (λ ns. kind_of ns x ≡ Some k) (sym (names_more before l)) (kept (names before) (defines (length before) l.line) x k is)))
+    (kept_behind (before ++ l ∷ []) rest x k (subst (λ ns. kind_of ns x ≡ Some k) (sym (names_more before l)) (kept (names before) (defines (length before) l.line) x k is)))
 
 lookup_last : (x : List ℕ) (xs : Names) (k : Kind) → kind_of xs x ≡ None → kind_of (xs ++ (x, k) ∷ []) x ≡ Some k
 lookup_last x [] k is = (let same : bytes_eq x x ≡ true = (bytes_eq-Decides x x).1 refl in rw same refl)
@@ -138,7 +138,7 @@ given_here before l name e none is =
     let once : repeats (names before) (defines (length before) (line.Equ name e)) ≡ false = subst (λ m. repeats (names before) (defines (length before) m) ≡ false) is (once_line _ _ _ none) in
     let new : kind_of (names before) name ≡ None = clash_by (length before) (kind_of (names before) name) _ once in
     let there : names (before ++ l ∷ []) ≡ names before ++ (name, Kind.Equ (length before)) ∷ [] =
-        names_more before l ∙ ap (λ m. with_names (names before) (defines (length before) m)) is ∙ ap (λ k. cond (is_some k) (names before) (names before ++ (name, Kind.Equ (length before)) ∷ [])) new in
+    names_more before l ∙ ap (λ m. with_names (names before) (defines (length before) m)) is ∙ ap (λ k. cond (is_some k) (names before) (names before ++ (name, Kind.Equ (length before)) ∷ [])) new in
     ap (λ ns. kind_of ns name) there ∙ lookup_last name (names before) (Kind.Equ (length before)) new
 
 given_behind : (before rest : List Taken) (k : ℕ) (l : Taken) (name : List ℕ) (e : Expression) → first (faults before rest) ≡ None → slice_get rest k ≡ Some l → l.line ≡ line.Equ name e
@@ -147,11 +147,11 @@ given_behind before [] k l name e none there is = absurd cc
 given_behind before (m ∷ rest) zero l name e none there is =
     let same : m ≡ l = cc in
     subst (λ ls. kind_of (names ls) name ≡ Some (Kind.Equ (length before + 0))) (append_assoc before (m ∷ []) rest)
-      (kept_behind (before ++ m ∷ []) rest name (Kind.Equ (length before + 0))
-        (given_here before m name e (sound_front before m rest none).0 (ap (λ t. t.line) same ∙ is) ∙ ap (λ n. Some (Kind.Equ n)) (omega arith)))
+    (kept_behind (before ++ m ∷ []) rest name (Kind.Equ (length before + 0))
+    (given_here before m name e (sound_front before m rest none).0 (ap (λ t. t.line) same ∙ is) ∙ ap (λ n. Some (Kind.Equ n)) (omega arith)))
 given_behind before (m ∷ rest) (suc k) l name e none there is =
     subst (λ ls. kind_of (names ls) name ≡ Some (Kind.Equ (length before + suc k))) (append_assoc before (m ∷ []) rest)
-      (given_behind (before ++ m ∷ []) rest k l name e (sound_front before m rest none).1 there is ∙ ap (λ n. Some (Kind.Equ n)) (ap (λ n. n + k) (length_push before m) ∙ omega arith))
+    (given_behind (before ++ m ∷ []) rest k l name e (sound_front before m rest none).1 there is ∙ ap (λ n. Some (Kind.Equ n)) (ap (λ n. n + k) (length_push before m) ∙ omega arith))
 
 pub line_given : (lines : List Taken) (at : ℕ) (l : Taken) (name : List ℕ) (e : Expression) → first_fault lines ≡ None → slice_get lines at ≡ Some l → l.line ≡ line.Equ name e
     → kind_of (names lines) name ≡ Some (Kind.Equ at)

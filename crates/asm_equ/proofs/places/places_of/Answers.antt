@@ -26,7 +26,7 @@ loop-name-smaller c =
 pub loop-name-preserved : goal.loop-name-preserved
 loop-name-preserved c =
     goes_on c.args.table.now (layout_of c.args.layout.now) c.loop-name.at c.in-Some.name.now c.in-Some.kind c.loop-name.places c.define.new.self c.requires.distinct c.in-Some.ensures
-      c.in_ok-define.ensures c.loop-name.invariant
+    c.in_ok-define.ensures c.loop-name.invariant
 
 pub returns : goal.returns
 returns c = all_placed c.args.table.now (layout_of c.args.layout.now) c.loop-name.at c.loop-name.places c.in_default.ensures c.loop-name.invariant

@@ -19,6 +19,6 @@ loop-line-preserved c =
     let next : c.push.new.self.items ≡ c.loop-line.next.items ++ length c.loop-line.statements.items ∷ [] = c.in_ok-push.ensures.items ∙ ap (λ n. c.loop-line.next.items ++ n ∷ []) (c.len.ensures ∙ c.loop-line.statements.ok.0) in
     let some : c.put.new.statements.items ≡ c.loop-line.statements.items ++ cons_option c.in_ok-one.one [] = c.in_ok-put.ensures in
     subst (λ n. IsLaid c.args.grow c.args.names.now (lines_of c.args.lines.now) (c.loop-line.line-index + 1) n c.put.new.statements.items) (sym next)
-      (subst (λ ss. IsLaid c.args.grow c.args.names.now (lines_of c.args.lines.now) (c.loop-line.line-index + 1) (c.loop-line.next.items ++ length c.loop-line.statements.items ∷ []) ss) (sym some)
-        (more_laid c.args.grow c.args.names.now c.args.lines.now c.loop-line.line-index c.line-item.result c.loop-line.next.items c.loop-line.statements.items c.in_ok-one.one
-          c.loop-line-test.true c.line-item.is c.in_ok-one.ensures c.loop-line.invariant))
+    (subst (λ ss. IsLaid c.args.grow c.args.names.now (lines_of c.args.lines.now) (c.loop-line.line-index + 1) (c.loop-line.next.items ++ length c.loop-line.statements.items ∷ []) ss) (sym some)
+    (more_laid c.args.grow c.args.names.now c.args.lines.now c.loop-line.line-index c.line-item.result c.loop-line.next.items c.loop-line.statements.items c.in_ok-one.one
+    c.loop-line-test.true c.line-item.is c.in_ok-one.ensures c.loop-line.invariant))
