@@ -51,7 +51,7 @@ module _ (t u : Table) (P : ℕ → Type 0) (weigh : WeighAlike t u P) where
       ∙ ap (λ f. first (divisions_fault u a) (first f (division_fault t op b))) (same_divisions b p.1)
       ∙ ap (λ f. first (divisions_fault u a) (first (divisions_fault u b) f)) (same_division op b p.1)
 
-  same_replaced : (e : Expression Operand) → AreAlike t u P e → replaced t e ≡ replaced u e
+  pub same_replaced : (e : Expression Operand) → AreAlike t u P e → replaced t e ≡ replaced u e
   same_replaced (Leaf operand) alike = alike.part
   same_replaced (Prefix op a) alike = ap (Prefix op) (same_replaced a alike)
   same_replaced (Infix op a b) alike = ap (λ x. Infix op x (replaced t b)) (same_replaced a alike.0) ∙ ap (Infix op (replaced u a)) (same_replaced b alike.1)
@@ -90,7 +90,7 @@ module _ (t u : Table) (P : ℕ → Type 0) (weigh : WeighAlike t u P) where
       ap (λ f. unless_fault f (settled_as (items_known (postfix (reduced t (replaced t e)))) (unknown_of (reduced t (replaced t e))))) (same_fault 0 e alike)
       ∙ ap (λ x. unless_fault (fault_behind 0 u e) (settled_as (items_known (postfix x)) (unknown_of x))) r
 
-  same_constant : (e : Expression Operand) → AreAlike t u P e → list_all (is_constant_item t) (postfix e) ≡ list_all (is_constant_item u) (postfix e)
+  pub same_constant : (e : Expression Operand) → AreAlike t u P e → list_all (is_constant_item t) (postfix e) ≡ list_all (is_constant_item u) (postfix e)
   same_constant (Leaf operand) alike = ap (λ b. b && true) alike.constant
   same_constant (Prefix op a) alike =
       list_all-append (is_constant_item t) (postfix a) (Item.Unary op ∷ []) ∙ ap (λ b. b && true) (same_constant a alike)

@@ -1,5 +1,6 @@
 -- What is answered of an expression hangs on the names that occur in it, on `$` and on the statements alone.
-use Rattle.std.proofs.Common.{◌≡◌, ℕ, [], ◌∷◌, ◌++◌, refl, ap, ◌∙◌, arith}
+use Rattle.std.proofs.Common.{◌≡◌, ℕ, [], ◌∷◌, ◌++◌, if◌then◌else◌, refl, ap, ◌∙◌, arith}
+use Rattle.std.specs.List.{list_all}
 use Rattle.std.proofs.lemmas.List.Elements.{Contains-append_left, Contains-append_right}
 use Rattle.asm_expr.specs.Types.{Item, Binary}
 use Rattle.asm_expr.specs.declared.part.Part.{Part}
@@ -9,10 +10,12 @@ use Rattle.asm_parse.specs.Expression.{Expression, Leaf, Prefix, Infix, postfix}
 use Rattle.asm_parse.specs.Source.{Operand, Number, Name, Here}
 use Rattle.asm_expr.specs.Names.{Table, found}
 use Rattle.asm_expr.specs.Origins.{AgreeOn}
-use Rattle.asm_expr.specs.Settling.{both, difference, distance_of, is_constant_name, meant, or_else, settled, single, size_meant, through, worth}
+use Rattle.asm_expr.specs.Offsets.{behind, constant_behind, offset}
+use Rattle.asm_expr.specs.declared.here.Offset.{Offset}
+use Rattle.asm_expr.specs.Settling.{both, difference, distance_of, is_constant_item, is_constant_name, meant, or_else, replaced, settled, single, size_meant, through, worth}
 use Rattle.asm_expr.specs.Distances.{distance, some_distance}
 use Rattle.asm_expr.specs.Equating.{equated}
-use Rattle.asm_expr.proofs.Alike.{AreAlike, equated_alike, settled_alike}
+use Rattle.asm_expr.proofs.Alike.{AreAlike, equated_alike, same_constant, same_replaced, settled_alike}
 use Rattle.asm_expr.proofs.Origins.{Places}
 
 abbrev Anything : ℕ → Type 0
@@ -67,3 +70,26 @@ settled_by_names t u e agree = settled_alike t u Anything (weigh t u agree.state
 
 pub equated_by_names : (t u : Table) (e : Expression Operand) → AgreeOn (postfix e) t u → equated t e ≡ equated u e
 equated_by_names t u e agree = equated_alike t u Anything (weigh t u agree.statements) e (alike t u e agree)
+
+pub constant_by_names : (t u : Table) (e : Expression Operand) → AgreeOn (postfix e) t u → list_all (is_constant_item t) (postfix e) ≡ list_all (is_constant_item u) (postfix e)
+constant_by_names t u e agree = same_constant t u Anything (weigh t u agree.statements) e (alike t u e agree)
+
+-- An operand that begins at `$` agrees in what lies behind `$`.
+behind_here : (t u : Table) (op : Binary) (n : Expression Operand) → AgreeOn (postfix (Infix op (Leaf Here) n)) t u → constant_behind t op n ≡ constant_behind u op n
+behind_here t u op n agree =
+    ap (λ b. if b then behind op (worth t (replaced t n)) else Offset.NotConstant) (constant_by_names t u n right)
+    ∙ ap (λ w. if list_all (is_constant_item u) (postfix n) then behind op w else Offset.NotConstant)
+    (ap (worth t) (same_replaced t u Anything (weigh t u agree.statements) n (alike t u n right)) ∙ weigh t u agree.statements (replaced u n) (all_places (replaced u n)))
+  where
+    right : AgreeOn (postfix n) t u
+    right = record {
+      here = agree.here;
+      statements = agree.statements;
+      names = λ name among. agree.names name (Contains-append_left (Item.Leaf Here ∷ postfix n) (Item.Binary op ∷ []) _ (Contains-append_right (Item.Leaf Here ∷ []) (postfix n) _ among));
+    }
+
+pub offset_by_names : (t u : Table) (e : Expression Operand) → AgreeOn (postfix e) t u → offset t e ≡ offset u e
+offset_by_names t u (Leaf Here) agree = refl
+offset_by_names t u (Infix Binary.Add (Leaf Here) n) agree = behind_here t u Binary.Add n agree
+offset_by_names t u (Infix Binary.Subtract (Leaf Here) n) agree = behind_here t u Binary.Subtract n agree
+offset_by_names t u e agree = refl

@@ -70,8 +70,8 @@ impl Names {
         self.here
     }
 
-    /// The names' expressions stand for as many terms and operators as they have items, at least.
-    pub(crate) fn counted(&self)
+    /// Each name's expression stands for as many terms and operators as it has items, at least: a law of the table.
+    pub fn counted(&self)
         ensures { AreCounted self.now }
     {
         let _here = self.here;

@@ -7,3 +7,4 @@ pub mod Making
 pub mod Sizes
 pub mod Likes
 mod Unsized
+mod ByNames

@@ -1,7 +1,7 @@
 //! Laws of pieces, as functions that do nothing: their calls bring the clauses.
 
-ghost use Rattle.std.specs.Prelude.{◌≡◌, None, Ok, Some};
-ghost use Rattle.asm_expr.specs.Names.{Table};
+ghost use Rattle.std.specs.Prelude.{◌≡◌, ℕ, List, None, Ok, Some};
+ghost use Rattle.asm_expr.specs.Names.{Table, found};
 ghost use Rattle.asm_spell.specs.Few.{IsFew};
 ghost use Rattle.asm_spell.specs.Line.{Body};
 ghost use Rattle.asm_piece.specs.Made.{Nothing, Piece, Some_piece, made};
@@ -25,4 +25,11 @@ pub fn few()
 {
     z80_form::laws::kept();
     z80_encode::laws::length();
+}
+
+/// What names make of a statement hangs on what they stand for, on `$` and on the statements alone.
+pub fn by_names()
+    ensures { (t u : Table) (b : Body) → ((name : List ℕ) → found t name ≡ found u name) → t.here ≡ u.here → t.statements ≡ u.statements → made t b ≡ made u b }
+{
+    asm_expr::laws::by_names();
 }
