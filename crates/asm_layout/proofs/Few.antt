@@ -5,11 +5,15 @@ use Rattle.std.specs.Option.{option_map}
 use Rattle.std.proofs.Math.Path.{fun_ext}
 use Rattle.std.proofs.lemmas.List.Sums.{sum_by-append}
 use Rattle.asm_expr.specs.declared.statement.Statement.{Statement}
-use Rattle.asm_expr.specs.Names.{Table}
+use Rattle.asm_expr.specs.declared.meaning.Meaning.{Meaning}
+use Rattle.asm_expr.specs.Names.{Table, found}
+use Rattle.z80_instr.specs.declared.Branch.{Branch}
+use Rattle.std.specs.Prelude.{is_some}
+use Rattle.asm_piece.specs.Made.{ref_of}
 use Rattle.asm_spell.specs.Line as line
 use Rattle.asm_spell.specs.Line.{Body, Line}
 use Rattle.asm_names.specs.Lines.{Taken, has_statement, is_statement, placed}
-use Rattle.asm_piece.specs.Sized.{IsLike, sized}
+use Rattle.asm_piece.specs.Sized.{IsLike, Kind, kind, sized}
 use Rattle.asm_equ.specs.Layout.{Layout}
 use Rattle.asm_layout.specs.Laid.{laid, line_sized, may_grow, statements}
 
@@ -19,7 +23,7 @@ count_one true (Some s) rest n told le = omega (arith, le)
 count_one false (Some s) rest n (inl none) le = absurd cc
 count_one false (Some s) rest n (inr is) le = absurd cc
 
-word_counts : (grow : Bool) (t : Table) (body : Body) → (option_map (may_grow grow body) (sized t body) ≡ None) ⊎ (is_statement body ≡ true)
+word_counts : (grow : Bool) (t : Table) (body : Body) → (option_map (may_grow grow t body) (sized t body) ≡ None) ⊎ (is_statement body ≡ true)
 word_counts grow t (line.Code instr numbers) = inr refl
 word_counts grow t (line.Jump condition target) = inr refl
 word_counts grow t (line.Short branch target) = inr refl
@@ -45,10 +49,29 @@ few_statements grow t [] = omega arith
 few_statements grow t (l ∷ ls) =
     subst (λ n. length (statements grow t (l ∷ ls)) ≤ n) (sym (count_more l ls)) (count_one (has_statement l.line) (line_sized grow t l.line) (statements grow t ls) (count_by (λ l. has_statement l.line) ls) (line_counts grow t l.line) (few_statements grow t ls))
 
+-- A name stands for a place in both tables, or in neither.
+abbrev is_place : Kind → Bool
+is_place Kind.Place = true
+is_place _ = false
+
+place_kind : (m : Option Meaning) → is_some (ref_of m) ≡ is_place (kind m)
+place_kind (Some (Meaning.Label r)) = refl
+place_kind (Some (Meaning.External r)) = refl
+place_kind (Some (Meaning.Constant n)) = refl
+place_kind (Some Meaning.UnknownConstant) = refl
+place_kind (Some (Meaning.Equ e)) = refl
+place_kind (Some Meaning.Faulty) = refl
+place_kind None = refl
+
+grows_alike : (grow : Bool) (t u : Table) → IsLike t u → (body : Body) (s : Statement) → may_grow grow t body s ≡ may_grow grow u body s
+grows_alike true t u same (line.Short (Branch.Relative condition) target) s =
+    ap (λ b. cond b Statement.Relaxable s) (place_kind (found t target) ∙ ap is_place (same target) ∙ sym (place_kind (found u target)))
+grows_alike grow t u same body s = refl
+
 line_alike : ((t u : Table) (b : Body) → IsLike t u → sized t b ≡ sized u b) → (grow : Bool) (t u : Table) → IsLike t u → (l : Line) → line_sized grow t l ≡ line_sized grow u l
 line_alike like grow t u same (line.Equ name e) = refl
 line_alike like grow t u same (line.Statement label None) = refl
-line_alike like grow t u same (line.Statement label (Some body)) = ap (option_map (may_grow grow body)) (like t u body same)
+line_alike like grow t u same (line.Statement label (Some body)) = ap (option_map (may_grow grow t body)) (like t u body same) ∙ ap (λ f. option_map f (sized u body)) (fun_ext (grows_alike grow t u same body))
 
 pub laid_alike : ((t u : Table) (b : Body) → IsLike t u → sized t b ≡ sized u b) → (grow : Bool) (t u : Table) (lines : List Taken) → IsLike t u → laid grow t lines ≡ laid grow u lines
 laid_alike like grow t u lines same =

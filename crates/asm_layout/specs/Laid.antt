@@ -1,26 +1,27 @@
 -- Where the statements of lines stand.
-use Rattle.std.specs.Prelude.{ℕ, Bool, true, List, Option, Some, None, length, map, take}
+use Rattle.std.specs.Prelude.{ℕ, Bool, true, List, Option, Some, None, if◌then◌else◌, is_some, length, map, take}
 use Rattle.std.specs.List.{filter_map}
 use Rattle.std.specs.Option.{option_map}
 use Rattle.z80_instr.specs.declared.Branch.{Branch}
 use Rattle.asm_expr.specs.declared.statement.Statement as sized
 use Rattle.asm_expr.specs.declared.statement.Statement.{Statement}
-use Rattle.asm_expr.specs.Names.{Table}
+use Rattle.asm_expr.specs.Names.{Table, found}
 use Rattle.asm_spell.specs.Few.{IsFew}
 use Rattle.asm_spell.specs.Line as line
 use Rattle.asm_spell.specs.Line.{Body, Line}
 use Rattle.asm_names.specs.Lines.{Taken, placed}
+use Rattle.asm_piece.specs.Made.{ref_of}
 use Rattle.asm_piece.specs.Sized.{sized}
 use Rattle.asm_equ.specs.Layout.{Layout}
 
--- Where a JR may grow, one to a name is a relaxable jump.
-abbrev pub may_grow : Bool → Body → Statement → Statement
-may_grow true (line.Short (Branch.Relative condition) target) s = sized.TheVariants.Relaxable
-may_grow grow body s = s
+-- Where a JR may grow, one to a label or an external is a relaxable jump.
+abbrev pub may_grow : Bool → Table → Body → Statement → Statement
+may_grow true t (line.Short (Branch.Relative condition) target) s = if is_some (ref_of (found t target)) then sized.TheVariants.Relaxable else s
+may_grow grow t body s = s
 
 -- the statement of a line, if it has one
 abbrev pub line_sized : Bool → Table → Line → Option Statement
-line_sized grow t (line.Statement label (Some body)) = option_map (may_grow grow body) (sized t body)
+line_sized grow t (line.Statement label (Some body)) = option_map (may_grow grow t body) (sized t body)
 line_sized grow t _ = None
 
 abbrev pub statements : Bool → Table → List Taken → List Statement

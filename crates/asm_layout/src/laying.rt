@@ -1,29 +1,41 @@
 //! The statements of lines.
 
-ghost use Rattle.std.specs.Prelude.{◌≡◌, ◌≤◌, ◌++◌, [], All, IfOk, OnOk, count_by};
+ghost use Rattle.std.specs.Prelude.{◌≡◌, ◌≤◌, ◌++◌, [], All, IfOk, OnOk, count_by, is_some};
 ghost use Rattle.std.specs.List.{cons_option};
+ghost use Rattle.asm_expr.specs.Names.{found};
 ghost use Rattle.asm_spell.specs.Line.{body_of, line_of};
+ghost use Rattle.asm_piece.specs.Made.{ref_of};
 ghost use Rattle.asm_names.specs.declared.naming.TheConstants.{MOST_STATEMENTS};
 ghost use Rattle.asm_names.specs.Lines.{has_statement, lines_of};
 ghost use Rattle.asm_equ.specs.Layout.{layout_of};
 ghost use Rattle.asm_layout.specs.Laid.{HasFew, IsFewIn, laid, line_sized, may_grow};
 
 use asm_equ::Layout;
-use asm_expr::{Names, Statement};
+use asm_expr::{Meaning, Names, Statement};
 use asm_names::SourceLine;
 use asm_piece::size_of;
 use asm_spell::{Body, Branch, Line};
 use std::alloc::{AllocError, Global};
 
-/// Where a written `JR` may grow, one to a name is a relaxable jump.
-fn may_grow(grow: bool, body: &Body, statement: Statement) -> Statement
-    ensures { result ≡ may_grow grow (body_of body.now) statement }
+/// Whether a name stands for a label or an external.
+fn is_place(names: &Names, name: &[u8]) -> bool
+    ensures { result ≡ is_some (ref_of (found names.now name.now)) }
+{
+    matches!(
+        names.meaning(name),
+        Some(Meaning::Label(_) | Meaning::External(_))
+    )
+}
+
+/// Where a written `JR` may grow, one to a label or an external is a relaxable jump.
+fn may_grow(grow: bool, body: &Body, names: &Names, statement: Statement) -> Statement
+    ensures { result ≡ may_grow grow names.now (body_of body.now) statement }
 {
     match body {
         Body::Short {
             branch: Branch::Relative(_),
-            target: _,
-        } if grow => Statement::Relaxable,
+            target,
+        } if grow && is_place(names, target) => Statement::Relaxable,
         _ => statement,
     }
 }
@@ -46,7 +58,7 @@ fn line_sized(
         return Ok(None);
     };
     match size_of(alloc, body, names)? {
-        Some(statement) => Ok(Some(may_grow(grow, body, statement))),
+        Some(statement) => Ok(Some(may_grow(grow, body, names, statement))),
         None => Ok(None),
     }
 }
