@@ -3,3 +3,4 @@ mod Uses
 mod Rounds
 mod Placing
 mod Turning
+pub mod Refs

@@ -4,7 +4,7 @@ ghost use Rattle.std.specs.Prelude.{◌≡◌, ◌<◌, ◌≤◌, ◌+◌, ℕ,
 ghost use Rattle.std.specs.List.{list_any};
 ghost use Rattle.std.specs.Map.{lookup};
 ghost use Rattle.std.specs.Str.{bytes_eq};
-ghost use Rattle.asm_expr.specs.Types.{Meaning};
+ghost use Rattle.asm_expr.specs.declared.meaning.Meaning.{Meaning};
 ghost use Rattle.asm_expr.specs.Distances.{is_unsized};
 ghost use Rattle.asm_expr.specs.Origins.{Brings, is_number_name, is_valued_name};
 ghost use Rattle.asm_expr.specs.Settling.{is_constant_name};
