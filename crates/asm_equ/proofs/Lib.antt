@@ -4,3 +4,4 @@ mod Rounds
 mod Placing
 mod Turning
 pub mod Refs
+mod Valued

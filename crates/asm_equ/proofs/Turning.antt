@@ -1,7 +1,7 @@
 -- Lines settled one after the other: what stands after some turns stands after one more.
-use Rattle.std.proofs.Common.{◌≡◌, ◌<◌, ◌≤◌, ◌+◌, ◌==◌, ◌∙◌, ◌⊎◌, ◌||◌, ◌&&◌, inl, inr, sym, ap, refl, subst, ℕ, zero, suc, Bool, true, false, cond, not, List, [], ◌∷◌, ◌++◌, Option, Some, None, Result, Ok, Err, length, map, replicate, set, take, slice_index_or, slice_get, arith}
+use Rattle.std.proofs.Common.{◌≡◌, ◌<◌, ◌≤◌, ◌+◌, ◌==◌, ◌∙◌, ◌⊎◌, ◌||◌, ◌&&◌, inl, inr, sym, ap, refl, subst, ℕ, zero, suc, Bool, true, false, cond, not, List, [], ◌∷◌, ◌++◌, Option, Some, None, Result, length, map, replicate, set, take, slice_index_or, slice_get, arith}
 use Rattle.std.specs.Prelude.{is_none, is_some}
-use Rattle.std.specs.List.{AllPass, Contains, IsDistinct, enumerate_from, filter_map, list_all, list_any}
+use Rattle.std.specs.List.{Contains, IsDistinct, enumerate_from, list_all, list_any}
 use Rattle.std.specs.Map.{lookup}
 use Rattle.std.specs.Option.{option_map, option_map_or, option_or}
 use Rattle.std.specs.Str.{bytes_eq}
@@ -16,8 +16,7 @@ use Rattle.asm_parse.specs.declared.fault.ExprFault.{ExprFault}
 use Rattle.asm_parse.specs.Source.{IsSource, Operand, Number, Name, Here}
 use Rattle.asm_expr.specs.declared.meaning.Meaning.{Meaning}
 use Rattle.asm_expr.specs.Equating.{equated}
-use Rattle.asm_expr.specs.Names.{Table, found, with_meaning}
-use Rattle.asm_expr.specs.Origins.{AgreeOn}
+use Rattle.asm_expr.specs.Names.{found}
 use Rattle.asm_expr.specs.Postfix.{source}
 use Rattle.asm_expr.specs.Settling.{is_known}
 use Rattle.asm_expr.proofs.ByNames.{equated_by_names}
@@ -37,8 +36,8 @@ use Rattle.asm_names.specs.Names.{Names, kind_of}
 use Rattle.asm_equ.specs.declared.fault.EquFault.{EquFault}
 use Rattle.asm_equ.specs.declared.settling.Settling.{Settling}
 use Rattle.asm_equ.specs.Circles.{TellsCircles, equ_items, items_at, lines_named, names_in}
-use Rattle.asm_equ.specs.Layout.{Layout, next_at}
-use Rattle.asm_equ.specs.Meanings.{Entries, after_rounds, entries, equ_fault, equ_meaning, external_ref, first_fault, line_fault, meaning, meaning_by, table_at, undefined, value_by}
+use Rattle.asm_equ.specs.Layout.{Layout}
+use Rattle.asm_equ.specs.Meanings.{after_rounds, entries, equ_fault, equ_meaning, first_fault, line_fault, meaning, meaning_by, table_at, undefined, value_by}
 use Rattle.asm_equ.specs.Settles.{told}
 use Rattle.asm_equ.specs.Private.Judged.{fault_by, is_named, judged}
 use Rattle.asm_equ.specs.Private.Placed.{HasPlaces, place_by}
@@ -160,7 +159,7 @@ pub record Lines_in_order (names : Names) (lines : List Taken) (turns : List Tur
   pub each : (at : ℕ) (l : Taken) (name : List ℕ) (e : Expression) → slice_get lines at ≡ Some l → l.line ≡ line.Equ name e → kind_of names name ≡ Some (Kind.Equ at)
 
 -- the items of a line that is there
-items_there : (lines : List Taken) (at : ℕ) (l : Taken) → slice_get lines at ≡ Some l → items_at lines at ≡ equ_items l.line
+pub items_there : (lines : List Taken) (at : ℕ) (l : Taken) → slice_get lines at ≡ Some l → items_at lines at ≡ equ_items l.line
 items_there lines at l is = ap (λ o. option_map_or (λ m. equ_items m.line) o []) is
 
 module _ (names : Names) (lines : List Taken) (layout : Layout) (turns : List Turn) (known : Lines_in_order names lines turns) where
@@ -180,7 +179,6 @@ module _ (names : Names) (lines : List Taken) (layout : Layout) (turns : List Tu
       stable names lines (told turns) layout turns known.order.in_order
       (λ k lt-2 is. sym (told_at (lines_named names lines) turns known.order.in_order k lt-2) ∙ is)
       (suc r) r (omega arith) (omega (arith, lt, room))
-      (λ j le-2. stands.sources (turn_at turns j).definition (contains_had (take q turns) (turn_at turns j).definition (contains_taken turns q j (omega (arith, le-2, lt)) (omega (arith, le-2, lt, room)))))
       n le
 
   -- .. a line that had its turn
@@ -229,7 +227,7 @@ circle_fault None true r r-2 same = refl
 circle_fault None false r r-2 same = ap (λ x. first (value_by x ∷ [])) (same refl)
 
 -- that each name is defined, by items and by names
-all_named : (names : Names) (e : Expression) → not (list_all (is_named names) e) ≡ list_any (λ name. is_none (kind_of names name)) (names_in e)
+pub all_named : (names : Names) (e : Expression) → not (list_all (is_named names) e) ≡ list_any (λ name. is_none (kind_of names name)) (names_in e)
 all_named names [] = refl
 all_named names (Item.Leaf (Number n) ∷ e) = all_named names e
 all_named names (Item.Leaf Here ∷ e) = all_named names e
