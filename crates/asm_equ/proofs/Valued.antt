@@ -1,5 +1,5 @@
 -- Where no line is faulty, what holds of labels and externals, and of each EQU name whose expression's names it holds of, holds of each name.
-use Rattle.std.proofs.Common.{◌≡◌, ◌<◌, ◌≤◌, ◌+◌, ◌∙◌, sym, ap, refl, subst, ℕ, zero, suc, Bool, true, false, not, List, [], ◌∷◌, Option, Some, None, Result, Ok, Err, length, map, slice_get, slice_index_or, arith}
+use Rattle.std.proofs.Common.{◌≡◌, ◌<◌, ◌+◌, ◌∙◌, sym, ap, refl, subst, ℕ, zero, suc, Bool, true, false, not, List, [], ◌∷◌, Option, Some, None, Result, Ok, Err, length, map, slice_get, slice_index_or, arith}
 use Rattle.std.specs.Prelude.{if◌then◌else◌, is_some}
 use Rattle.std.specs.List.{Contains, enumerate_from, list_all, list_any}
 use Rattle.std.specs.Map.{lookup}
@@ -38,8 +38,8 @@ use Rattle.asm_equ.specs.Layout.{Layout, next_at}
 use Rattle.asm_equ.specs.Meanings.{after_rounds, entries, equ_fault, external_ref, first_fault, line_fault, meaning, meaning_by, table_at, undefined, value_by}
 use Rattle.asm_equ.specs.Settles.{told}
 use Rattle.asm_equ.specs.Private.Judged.{is_named}
-use Rattle.asm_equ.proofs.Rounds.{found_after, placed_turn, read_names, round_value, stable, turn_at, used_line}
-use Rattle.asm_equ.proofs.Turning.{Lines_in_order, all_named, items_there, told_at}
+use Rattle.asm_equ.proofs.Rounds.{found_after, placed_turn, read_names, round_value, turn_at, used_line}
+use Rattle.asm_equ.proofs.Turning.{Lines_in_order, all_named, items_there, kept, told_at}
 
 -- No line is faulty where there is no first fault.
 none_before : {A : Type 0} (f : ℕ × Taken → Option A) (n : ℕ) (ls : List Taken) → first (map f (enumerate_from n ls)) ≡ None → (k : ℕ) (l : Taken) → slice_get ls k ≡ Some l → f (n + k, l) ≡ None
@@ -117,11 +117,7 @@ module _ (P : Meaning → Type 0) (names : Names) (lines : List Taken) (layout :
   settled_at : (q : ℕ) → q < length turns → last (turn_at turns q).definition ≡ round_value (suc (length lines)) names lines (told turns) layout (turn_at turns q).definition
   settled_at q room =
       let many = known.order.many in
-      let at : (n : ℕ) → q + 1 ≤ n → round_value n names lines (told turns) layout (turn_at turns q).definition ≡ round_value (q + 1) names lines (told turns) layout (turn_at turns q).definition = λ n le.
-      stable names lines (told turns) layout turns known.order.in_order
-      (λ k lt is. sym (told_at (lines_named names lines) turns known.order.in_order k lt) ∙ is)
-      (suc q) q (omega arith) room n le in
-      at (length lines) (omega (arith, many, room)) ∙ sym (at (suc (length lines)) (omega (arith, many, room)))
+      kept names lines layout turns known q room (length lines) (omega (arith, many, room)) ∙ sym (kept names lines layout turns known q room (suc (length lines)) (omega (arith, many, room)))
 
   -- what a name stands for in the end
   found_in : (x : List ℕ) (k : Option Kind) → kind_of names x ≡ k → lookup (bytes_eq x) (entries names lines (told turns) layout)
