@@ -1,5 +1,5 @@
 -- What a module holds besides its statements: labels, what it passes on, and its entry.
-use Rattle.std.specs.Prelude.{ℕ, Bool, true, false, List, [], ◌∷◌, Option, Some, None, if◌then◌else◌, slice_get}
+use Rattle.std.specs.Prelude.{ℕ, Bool, true, false, List, [], Option, Some, None, if◌then◌else◌, slice_get}
 use Rattle.std.specs.List.{enumerate_from, filter_map, flat_map, list_any, position_from}
 use Rattle.std.specs.Option.{option_and_then}
 use Rattle.std.specs.Str.{bytes_eq}

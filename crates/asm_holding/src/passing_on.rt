@@ -56,11 +56,11 @@ pub fn labels_of(
     ensures { IfOk result (λ all. map label_of all.items ≡ labels (layout_of layout.now) table.now) }
 {
     let mut labels = Vec::new(alloc);
-    let mut at = 0;
-    while let Some((name, kind)) = table.get(at) {
-        let one = label_in(alloc, layout, name, kind)?;
-        put(&mut labels, one)?;
-        at += 1;
+    for at in 0..table.len() {
+        if let Some((name, kind)) = table.get(at) {
+            let one = label_in(alloc, layout, name, kind)?;
+            put(&mut labels, one)?;
+        }
     }
     Ok(labels)
 }
@@ -80,11 +80,11 @@ pub fn externals_of(alloc: Global, table: &NameTable) -> Result<Vec<Vec<u8>>, Al
     ensures { IfOk result (λ all. map (λ name. name.items) all.items ≡ externals table.now) }
 {
     let mut externals = Vec::new(alloc);
-    let mut at = 0;
-    while let Some((name, kind)) = table.get(at) {
-        let one = external_in(alloc, name, kind)?;
-        put(&mut externals, one)?;
-        at += 1;
+    for at in 0..table.len() {
+        if let Some((name, kind)) = table.get(at) {
+            let one = external_in(alloc, name, kind)?;
+            put(&mut externals, one)?;
+        }
     }
     Ok(externals)
 }
@@ -178,6 +178,6 @@ pub fn entry_of(labels: &[Label], lines: &[SourceLine]) -> Option<u16>
     let name = entry_name(lines)?;
     let number = labels
         .iter()
-        .position(|label| label.name.as_slice() == name)?;
+        .position(|label| name == label.name.as_slice())?;
     Some(number as u16)
 }
