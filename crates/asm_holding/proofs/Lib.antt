@@ -1,0 +1,3 @@
+mod Collected
+mod Keeping
+mod Within

@@ -1,0 +1,49 @@
+//! Names that are looked up.
+
+ghost use Rattle.std.specs.Prelude.{◌≡◌, ◌||◌, [], ℕ, List, OnOk};
+ghost use Rattle.std.specs.List.{list_any};
+ghost use Rattle.std.specs.Str.{bytes_eq};
+
+use indexmap::IndexSet;
+use std::alloc::{AllocError, Global};
+use std::marker::Model;
+
+/// Some names, each looked up at once.
+#[derive(Drop)]
+pub struct Listed<'a> {
+    set: IndexSet<&'a [u8]>,
+}
+
+impl<'a> Model for Listed<'a> {
+    ghost use Rattle.std.specs.Prelude.{List, ℕ, map};
+
+    ghost Value = { List (List ℕ) };
+
+    ghost view = { λ n. map (λ k. k.now) n.set.keys };
+}
+
+impl<'a> Listed<'a> {
+    /// No names.
+    pub(crate) fn new(alloc: Global) -> Listed<'a>
+        ensures { result ≡ [] }
+    {
+        Listed {
+            set: IndexSet::new(alloc),
+        }
+    }
+
+    /// Adds a name.
+    pub(crate) fn add(&mut self, name: &'a [u8]) -> Result<(), AllocError>
+        ensures { OnOk result ((other : List ℕ) → list_any (bytes_eq other) self.new ≡ (list_any (bytes_eq other) self.old || bytes_eq other name.now)) }
+    {
+        self.set.insert(name)?;
+        Ok(())
+    }
+
+    /// Whether a name is among them.
+    pub(crate) fn has(&self, name: &[u8]) -> bool
+        ensures { result ≡ list_any (bytes_eq name.now) self.now }
+    {
+        self.set.contains(name)
+    }
+}
