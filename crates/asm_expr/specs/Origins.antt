@@ -40,3 +40,20 @@ abbrev pub is_number_item : Table → Item Operand → Bool
 is_number_item t (Item.Leaf (Name name)) = is_number_name (found t name)
 is_number_item t (Item.Leaf Here) = false
 is_number_item t _ = true
+
+-- What is settled is an expression of an object.
+abbrev pub is_value : Settled → Bool
+is_value (Settled.Known items) = true
+is_value (Settled.Unknown what) = false
+
+-- An item is a number, `$`, or a name that stands for a value, or an operator.
+abbrev pub is_valued_name : Option Meaning → Bool
+is_valued_name (Some (Meaning.Label statement)) = true
+is_valued_name (Some (Meaning.External ref)) = true
+is_valued_name (Some (Meaning.Constant n)) = true
+is_valued_name (Some (Meaning.Equ equated)) = is_value equated.settled
+is_valued_name _ = false
+
+abbrev pub is_valued_item : Table → Item Operand → Bool
+is_valued_item t (Item.Leaf (Name name)) = is_valued_name (found t name)
+is_valued_item t _ = true
