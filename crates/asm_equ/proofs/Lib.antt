@@ -3,3 +3,5 @@ mod Uses
 mod Rounds
 mod Placing
 mod Turning
+pub mod Refs
+mod Valued

@@ -8,26 +8,24 @@ use Rattle.std.specs.Option.{option_map}
 use Rattle.std.specs.Str.{bytes_eq}
 use Rattle.std.proofs.lemmas.Slice.Eq.{bytes_eq-Decides}
 use Rattle.asm_parse.specs.declared.item.Item.{Item}
-use Rattle.asm_parse.specs.Source.{IsSource, Operand, Name, Here}
+use Rattle.asm_parse.specs.Source.{Name, Here}
 use Rattle.asm_parse.specs.Expression.{postfix}
 use Rattle.asm_expr.specs.declared.meaning.Meaning.{Meaning}
-use Rattle.asm_expr.specs.Names.{Table, found}
-use Rattle.asm_expr.specs.Origins.{AgreeOn}
+use Rattle.asm_expr.specs.Names.{Table}
 use Rattle.asm_expr.specs.Equating.{equated}
-use Rattle.asm_expr.specs.Postfix.{source}
+use Rattle.asm_expr.specs.Postfix.{only, run, source}
 use Rattle.asm_spell.specs.Line.{Expression}
 use Rattle.asm_names.specs.declared.kind.Kind.{Kind}
 use Rattle.asm_names.specs.Lines.{Taken}
 use Rattle.asm_names.specs.Names.{Names, kind_of}
 use Rattle.asm_equ.specs.Circles.{equ_line, items_at, line_named, lines_named}
-use Rattle.asm_equ.specs.Layout.{Layout, next_at}
-use Rattle.asm_equ.specs.Private.Turned.{IsRead}
-use Rattle.asm_equ.specs.Meanings.{Entries, after_rounds, circular, equ_meaning, meaning, meaning_by, table_at, undefined, value_by}
+use Rattle.asm_equ.specs.Layout.{Layout}
+use Rattle.asm_equ.specs.Meanings.{after_rounds, circular, equ_meaning, meaning, meaning_by, table_at, undefined, value_by}
 use Rattle.asm_equ.specs.declared.fault.EquFault.{EquFault}
 use Rattle.asm_names.specs.Faults.{first, if_so}
 use Rattle.asm_parse.specs.declared.fault.ExprFault.{ExprFault}
 use Rattle.asm_expr.proofs.ByNames.{equated_by_names}
-use Rattle.asm_expr.proofs.Steps.{source_whole}
+use Rattle.asm_expr.proofs.Postfix.{run-one}
 
 -- what is found among names that are mapped
 found_mapped : (f : List ℕ → Kind → Meaning) (p : List ℕ → Bool) (names : Names) → ((d : List ℕ) (e : List ℕ) → p d ≡ true → p e ≡ true → d ≡ e)
@@ -52,26 +50,28 @@ round_value n names lines circle layout at = equ_meaning names circle (table_at 
 by_worth : (names : Names) (circle : ℕ → Bool) (at : ℕ) (e : Expression) (t u : Table) → equated t (source e) ≡ equated u (source e) → equ_meaning names circle t at e ≡ equ_meaning names circle u at e
 by_worth names circle at e t u is = ap (λ r. meaning_by (first (undefined names e ∷ circular circle at ∷ value_by r ∷ [])) r) is
 
--- the names of what was read, or of nothing
-read_names : (items : Expression) (x : List ℕ) → IsRead items → Contains (postfix (source items)) (Item.Leaf (Name x)) → Contains items (Item.Leaf (Name x))
-read_names items x (inl is) has = subst (λ all. Contains all (Item.Leaf (Name x))) (source_whole items is) has
-read_names items x (inr none) has = absurd (no_name has (ap (λ i. postfix (source i)) none))
+-- the names of what some items make are among them
+pub read_names : (items : Expression) (x : List ℕ) → Contains (postfix (source items)) (Item.Leaf (Name x)) → Contains items (Item.Leaf (Name x))
+read_names items x has =
+    elim (run items []) as (λ r. run items [] ≡ r → Contains (postfix (only Here r)) (Item.Leaf (Name x)) → Contains items (Item.Leaf (Name x))) [
+      | None ↦ λ _ here. absurd (no_name here)
+      | Some [] ↦ λ _ here. absurd (no_name here)
+      | Some (e ∷ []) ↦ λ is one. subst (λ all. Contains all (Item.Leaf (Name x))) (run-one items e is) one
+      | Some (e ∷ f ∷ more) ↦ λ _ here. absurd (no_name here)
+    ] refl has
   where
-    no_here : (all : Expression) → all ≡ Item.Leaf Here ∷ [] → Contains all (Item.Leaf (Name x)) → ⊥
-    no_here all is (zero, lt, e) = (let bad : Item.Leaf Here ≡ Item.Leaf (Name x) = sym (ap (λ a. slice_index_or a 0 (Item.Leaf (Name x))) is) ∙ e in cc)
-    no_here all is (suc k, lt, e) = (let len = ap length is in omega (arith, lt, len))
-
-    no_name : Contains (postfix (source items)) (Item.Leaf (Name x)) → postfix (source items) ≡ Item.Leaf Here ∷ [] → ⊥
-    no_name has is = no_here (postfix (source items)) is has
+    no_name : Contains (Item.Leaf Here ∷ []) (Item.Leaf (Name x)) → ⊥
+    no_name (zero, lt, e) = cc
+    no_name (suc k, lt, e) = omega (arith, lt)
 
 -- lines whose names stand for the same are worth the same
-agreed : (n m : ℕ) (names : Names) (lines : List Taken) (circle : ℕ → Bool) (layout : Layout) (at : ℕ) → IsRead (items_at lines at)
+agreed : (n m : ℕ) (names : Names) (lines : List Taken) (circle : ℕ → Bool) (layout : Layout) (at : ℕ)
     → ((x : List ℕ) → Contains (items_at lines at) (Item.Leaf (Name x)) → lookup (bytes_eq x) (after_rounds n names lines circle layout) ≡ lookup (bytes_eq x) (after_rounds m names lines circle layout))
     → round_value n names lines circle layout at ≡ round_value m names lines circle layout at
-agreed n m names lines circle layout at is same =
+agreed n m names lines circle layout at same =
     by_worth names circle at (items_at lines at) (table_at layout (after_rounds n names lines circle layout) at) (table_at layout (after_rounds m names lines circle layout) at)
     (equated_by_names (table_at layout (after_rounds n names lines circle layout) at) (table_at layout (after_rounds m names lines circle layout) at) (source (items_at lines at))
-    (record { here = refl; statements = refl; names = λ x has. same x (read_names (items_at lines at) x is has) }))
+    (record { here = refl; statements = refl; names = λ x has. same x (read_names (items_at lines at) x has) }))
 
 by_fault : (u : Option EquFault) (c : Bool) (r : Result Meaning ExprFault) → c ≡ true → meaning_by (first (u ∷ if_so EquFault.EquCircle c ∷ value_by r ∷ [])) r ≡ Meaning.Faulty
 by_fault (Some why) c r is = refl
@@ -116,16 +116,16 @@ placed_turn (t ∷ turns) (suc q) b (suc k, lt, e) = (let r = placed_turn turns 
 
 pub stable : (names : Names) (lines : List Taken) (circle : ℕ → Bool) (layout : Layout) (turns : List Turn) → AreInOrder (lines_named names lines) turns
     → ((q : ℕ) → q < length turns → (turn_at turns q).on_circle ≡ true → circle (turn_at turns q).definition ≡ true)
-    → (bound q : ℕ) → q < bound → q < length turns → ((r : ℕ) → r ≤ q → IsRead (items_at lines (turn_at turns r).definition)) → (n : ℕ) → q + 1 ≤ n
+    → (bound q : ℕ) → q < bound → q < length turns → (n : ℕ) → q + 1 ≤ n
     → round_value n names lines circle layout (turn_at turns q).definition ≡ round_value (q + 1) names lines circle layout (turn_at turns q).definition
-stable names lines circle layout turns order tells zero q below room sources n le = absurd (omega arith)
-stable names lines circle layout turns order tells (suc bound) q below room sources zero le = absurd (omega arith)
-stable names lines circle layout turns order tells (suc bound) q below room sources (suc n) le =
+stable names lines circle layout turns order tells zero q below room n le = absurd (omega arith)
+stable names lines circle layout turns order tells (suc bound) q below room zero le = absurd (omega arith)
+stable names lines circle layout turns order tells (suc bound) q below room (suc n) le =
     let t : Turn = turn_at turns q in
     let at : ℕ = t.definition in
     let earlier : (b : ℕ) → Contains (definitions (take q turns)) b → (m : ℕ) → q ≤ m → round_value m names lines circle layout b ≡ round_value q names lines circle layout b = λ b has m qm.
     let r = placed_turn turns q b has in
-    let last : (k : ℕ) → r.0 + 1 ≤ k → round_value k names lines circle layout (turn_at turns r.0).definition ≡ round_value (r.0 + 1) names lines circle layout (turn_at turns r.0).definition = λ k rk. stable names lines circle layout turns order tells bound r.0 (let a = r.1 in omega arith) r.2 (λ j le. sources j (let a = r.1 in omega (arith, a, le))) k rk in
+    let last : (k : ℕ) → r.0 + 1 ≤ k → round_value k names lines circle layout (turn_at turns r.0).definition ≡ round_value (r.0 + 1) names lines circle layout (turn_at turns r.0).definition = λ k rk. stable names lines circle layout turns order tells bound r.0 (let a = r.1 in omega arith) r.2 k rk in
     subst (λ l. round_value m names lines circle layout l ≡ round_value q names lines circle layout l) r.3 (last m (let a = r.1 in omega arith) ∙ sym (last q (let a = r.1 in omega arith))) in
     elim t.on_circle as (λ b. t.on_circle ≡ b → round_value (suc n) names lines circle layout at ≡ round_value (q + 1) names lines circle layout at) [
       | true ↦ λ is. (let c = tells q room is in circle_value (suc n) names lines circle layout at c ∙ sym (circle_value (q + 1) names lines circle layout at c))
@@ -138,5 +138,5 @@ stable names lines circle layout turns order tells (suc bound) q below room sour
           (λ b k. earlier b ((order q (record { definition = 0; on_circle = false }) room).behind is b (used_line names (items_at lines at) x b has k)) n (omega arith))
           ∙ sym (found_after q names lines circle layout x) in
           subst (λ k. round_value (suc n) names lines circle layout at ≡ round_value k names lines circle layout at) next
-          (agreed (suc n) (suc q) names lines circle layout at (sources q (omega arith)) same)
+          (agreed (suc n) (suc q) names lines circle layout at same)
     ] refl

@@ -1,7 +1,7 @@
 -- Lines settled one after the other: what stands after some turns stands after one more.
-use Rattle.std.proofs.Common.{◌≡◌, ◌<◌, ◌≤◌, ◌+◌, ◌==◌, ◌∙◌, ◌⊎◌, ◌||◌, ◌&&◌, inl, inr, sym, ap, refl, subst, ℕ, zero, suc, Bool, true, false, cond, not, List, [], ◌∷◌, ◌++◌, Option, Some, None, Result, Ok, Err, length, map, replicate, set, take, slice_index_or, slice_get, arith}
+use Rattle.std.proofs.Common.{◌≡◌, ◌<◌, ◌≤◌, ◌+◌, ◌==◌, ◌∙◌, ◌⊎◌, ◌||◌, ◌&&◌, inl, inr, sym, ap, refl, subst, ℕ, zero, suc, Bool, true, false, cond, not, List, [], ◌∷◌, ◌++◌, Option, Some, None, Result, length, map, replicate, set, take, slice_index_or, slice_get, arith}
 use Rattle.std.specs.Prelude.{is_none, is_some}
-use Rattle.std.specs.List.{AllPass, Contains, IsDistinct, enumerate_from, filter_map, list_all, list_any}
+use Rattle.std.specs.List.{Contains, IsDistinct, enumerate_from, list_all, list_any}
 use Rattle.std.specs.Map.{lookup}
 use Rattle.std.specs.Option.{option_map, option_map_or, option_or}
 use Rattle.std.specs.Str.{bytes_eq}
@@ -13,15 +13,13 @@ use Rattle.std.proofs.lemmas.Option.{slice_get_within}
 use Rattle.std.proofs.lemmas.Slice.Eq.{bytes_eq-Decides}
 use Rattle.asm_parse.specs.declared.item.Item.{Item}
 use Rattle.asm_parse.specs.declared.fault.ExprFault.{ExprFault}
-use Rattle.asm_parse.specs.Source.{IsSource, Operand, Number, Name, Here}
+use Rattle.asm_parse.specs.Source.{Operand, Number, Name, Here}
 use Rattle.asm_expr.specs.declared.meaning.Meaning.{Meaning}
 use Rattle.asm_expr.specs.Equating.{equated}
-use Rattle.asm_expr.specs.Names.{Table, found, with_meaning}
-use Rattle.asm_expr.specs.Origins.{AgreeOn}
+use Rattle.asm_expr.specs.Names.{found}
 use Rattle.asm_expr.specs.Postfix.{source}
 use Rattle.asm_expr.specs.Settling.{is_known}
 use Rattle.asm_expr.proofs.ByNames.{equated_by_names}
-use Rattle.asm_expr.proofs.Steps.{source_whole}
 use Rattle.asm_spell.specs.Line as line
 use Rattle.asm_spell.specs.Line.{Expression, Line}
 use Rattle.asm_order.specs.declared.walk.Turn.{Turn}
@@ -37,14 +35,14 @@ use Rattle.asm_names.specs.Names.{Names, kind_of}
 use Rattle.asm_equ.specs.declared.fault.EquFault.{EquFault}
 use Rattle.asm_equ.specs.declared.settling.Settling.{Settling}
 use Rattle.asm_equ.specs.Circles.{TellsCircles, equ_items, items_at, lines_named, names_in}
-use Rattle.asm_equ.specs.Layout.{Layout, next_at}
-use Rattle.asm_equ.specs.Meanings.{Entries, after_rounds, entries, equ_fault, equ_meaning, external_ref, first_fault, line_fault, meaning, meaning_by, table_at, undefined, value_by}
+use Rattle.asm_equ.specs.Layout.{Layout}
+use Rattle.asm_equ.specs.Meanings.{after_rounds, entries, equ_fault, equ_meaning, first_fault, line_fault, meaning, meaning_by, table_at, undefined, value_by}
 use Rattle.asm_equ.specs.Settles.{told}
 use Rattle.asm_equ.specs.Private.Judged.{fault_by, is_named, judged}
 use Rattle.asm_equ.specs.Private.Placed.{HasPlaces, place_by}
-use Rattle.asm_equ.specs.Private.Turned.{CanTake, IsRead, Stands, Takes, final, has, here_at, numbered, so_far}
+use Rattle.asm_equ.specs.Private.Turned.{CanTake, Stands, Takes, final, has, here_at, numbered, so_far}
 use Rattle.asm_equ.proofs.Placing.{placed_lookup}
-use Rattle.asm_equ.proofs.Rounds.{found_after, placed_turn, round_value, stable, turn_at, used_line}
+use Rattle.asm_equ.proofs.Rounds.{found_after, placed_turn, read_names, round_value, stable, turn_at, used_line}
 
 -- What had its turn.
 
@@ -160,7 +158,7 @@ pub record Lines_in_order (names : Names) (lines : List Taken) (turns : List Tur
   pub each : (at : ℕ) (l : Taken) (name : List ℕ) (e : Expression) → slice_get lines at ≡ Some l → l.line ≡ line.Equ name e → kind_of names name ≡ Some (Kind.Equ at)
 
 -- the items of a line that is there
-items_there : (lines : List Taken) (at : ℕ) (l : Taken) → slice_get lines at ≡ Some l → items_at lines at ≡ equ_items l.line
+pub items_there : (lines : List Taken) (at : ℕ) (l : Taken) → slice_get lines at ≡ Some l → items_at lines at ≡ equ_items l.line
 items_there lines at l is = ap (λ o. option_map_or (λ m. equ_items m.line) o []) is
 
 module _ (names : Names) (lines : List Taken) (layout : Layout) (turns : List Turn) (known : Lines_in_order names lines turns) where
@@ -174,43 +172,41 @@ module _ (names : Names) (lines : List Taken) (layout : Layout) (turns : List Tu
   abbrev StandsAt : ℕ → Settling → Type 0
   StandsAt q s = Stands names lines (told turns) layout (take q turns) s
 
-  -- in later rounds it is worth the same
-  kept : (q r : ℕ) (s : Settling) → StandsAt q s → r < q → q ≤ length turns → (n : ℕ) → r + 1 ≤ n → value_at n (turn_at turns r).definition ≡ value_at (r + 1) (turn_at turns r).definition
-  kept q r s stands lt room n le =
+  -- a turn's line is worth the same in all later rounds
+  pub kept : (q : ℕ) → q < length turns → (n : ℕ) → q + 1 ≤ n → value_at n (turn_at turns q).definition ≡ value_at (q + 1) (turn_at turns q).definition
+  kept q room n le =
       stable names lines (told turns) layout turns known.order.in_order
-      (λ k lt-2 is. sym (told_at (lines_named names lines) turns known.order.in_order k lt-2) ∙ is)
-      (suc r) r (omega arith) (omega (arith, lt, room))
-      (λ j le-2. stands.sources (turn_at turns j).definition (contains_had (take q turns) (turn_at turns j).definition (contains_taken turns q j (omega (arith, le-2, lt)) (omega (arith, le-2, lt, room)))))
-      n le
+      (λ k lt is. sym (told_at (lines_named names lines) turns known.order.in_order k lt) ∙ is)
+      (suc q) q (omega arith) room n le
 
   -- .. a line that had its turn
-  had_kept : (q at : ℕ) (s : Settling) → StandsAt q s → q ≤ length turns → has (take q turns) at ≡ true → (m : ℕ) → q ≤ m → (n : ℕ) → q ≤ n → value_at m at ≡ value_at n at
-  had_kept q at s stands room had m qm n qn =
+  had_kept : (q at : ℕ) → has (take q turns) at ≡ true → (m : ℕ) → q ≤ m → (n : ℕ) → q ≤ n → value_at m at ≡ value_at n at
+  had_kept q at had m qm n qn =
       let r = placed_turn turns q at (had_contains (take q turns) at had) in
-      let last : (k : ℕ) → q ≤ k → value_at k (turn_at turns r.0).definition ≡ value_at (r.0 + 1) (turn_at turns r.0).definition = λ k qk. kept q r.0 s stands r.1 room k (let a = r.1 in omega (arith, a, qk)) in
+      let last : (k : ℕ) → q ≤ k → value_at k (turn_at turns r.0).definition ≡ value_at (r.0 + 1) (turn_at turns r.0).definition = λ k qk. kept r.0 r.2 k (let a = r.1 in omega (arith, a, qk)) in
       subst (λ l. value_at m l ≡ value_at n l) r.3 (last m qm ∙ sym (last n qn))
 
   -- what stands is what a round finds, of a name that is no EQU or had its turn
-  found_so_far : (q m : ℕ) (s : Settling) (x : List ℕ) (k : Option Kind) → StandsAt q s → q ≤ length turns → q ≤ m → ((b : ℕ) → k ≡ Some (Kind.Equ b) → has (take q turns) b ≡ true)
+  found_so_far : (q m : ℕ) (x : List ℕ) (k : Option Kind) → q ≤ length turns → q ≤ m → ((b : ℕ) → k ≡ Some (Kind.Equ b) → has (take q turns) b ≡ true)
       → so_far (has (take q turns)) (final names lines (told turns) layout) names layout x k ≡ option_map (meaning names lines (told turns) layout (after_rounds m names lines (told turns) layout) x) k
-  found_so_far q m s x None stands room le had = refl
-  found_so_far q m s x (Some (Kind.Label at)) stands room le had = refl
-  found_so_far q m s x (Some Kind.External) stands room le had = refl
-  found_so_far q m s x (Some (Kind.Equ b)) stands room le had =
+  found_so_far q m x None room le had = refl
+  found_so_far q m x (Some (Kind.Label at)) room le had = refl
+  found_so_far q m x (Some Kind.External) room le had = refl
+  found_so_far q m x (Some (Kind.Equ b)) room le had =
       ap (λ c. cond c (Some (value_at (length lines) b)) None) (had b refl)
-      ∙ ap Some (had_kept q b s stands room (had b refl) (length lines) (let many = known.order.many in omega (arith, many, room)) m le)
+      ∙ ap Some (had_kept q b (had b refl) (length lines) (let many = known.order.many in omega (arith, many, room)) m le)
 
   -- the expression of a turn is worth what it is in each later round
-  same_worth : (q m : ℕ) (s : Settling) (e : Expression) → StandsAt q s → q < length turns → q ≤ m → items_at lines (turn_at turns q).definition ≡ e → IsSource e → (turn_at turns q).on_circle ≡ false
+  same_worth : (q m : ℕ) (s : Settling) (e : Expression) → StandsAt q s → q < length turns → q ≤ m → items_at lines (turn_at turns q).definition ≡ e → (turn_at turns q).on_circle ≡ false
       → equated (here_at layout (turn_at turns q) s.names) (source e) ≡ equated (table_at layout (after_rounds (suc m) names lines (told turns) layout) (turn_at turns q).definition) (source e)
-  same_worth q m s e stands room le items is off =
+  same_worth q m s e stands room le items off =
       equated_by_names (here_at layout (turn_at turns q) s.names) (table_at layout (after_rounds (suc m) names lines (told turns) layout) (turn_at turns q).definition) (source e) (record {
         here = refl;
         statements = stands.statements;
         names = λ x has_it.
-            let among : Contains (items_at lines (turn_at turns q).definition) (Item.Leaf (Name x)) = rw items (subst (λ all. Contains all (Item.Leaf (Name x))) (source_whole e is) has_it) in
+            let among : Contains (items_at lines (turn_at turns q).definition) (Item.Leaf (Name x)) = rw items (read_names e x has_it) in
             stands.found x
-            ∙ found_so_far q m s x (kind_of names x) stands (omega (arith, room)) le
+            ∙ found_so_far q m x (kind_of names x) (omega (arith, room)) le
             (λ b k. contains_had (take q turns) b ((known.order.in_order q no_turn room).behind off b (used_line names (items_at lines (turn_at turns q).definition) x b among k)))
             ∙ sym (found_after m names lines (told turns) layout x);
       })
@@ -229,7 +225,7 @@ circle_fault None true r r-2 same = refl
 circle_fault None false r r-2 same = ap (λ x. first (value_by x ∷ [])) (same refl)
 
 -- that each name is defined, by items and by names
-all_named : (names : Names) (e : Expression) → not (list_all (is_named names) e) ≡ list_any (λ name. is_none (kind_of names name)) (names_in e)
+pub all_named : (names : Names) (e : Expression) → not (list_all (is_named names) e) ≡ list_any (λ name. is_none (kind_of names name)) (names_in e)
 all_named names [] = refl
 all_named names (Item.Leaf (Number n) ∷ e) = all_named names e
 all_named names (Item.Leaf Here ∷ e) = all_named names e
@@ -329,13 +325,6 @@ module _ (names : Names) (lines : List Taken) (layout : Layout) (turns : List Tu
         | false ↦ λ other. ap (λ c. cond c (fault_at at m.line) None) (sym (not_now done t at other))
       ] refl
 
-  sources_more : (done : List Turn) (t : Turn) (l : Taken) (s : Settling) → Standing done s → slice_get lines t.definition ≡ Some l → IsRead (equ_items l.line) → (at : ℕ) → has (done ++ t ∷ []) at ≡ true → IsRead (items_at lines at)
-  sources_more done t l s stands there read at had =
-      elim (t.definition == at) as (λ c. (t.definition == at) ≡ c → IsRead (items_at lines at)) [
-        | true ↦ λ e. subst (λ k. IsRead (items_at lines k)) (eqb-true t.definition at e) (subst IsRead (sym (items_there lines t.definition l there)) read)
-        | false ↦ λ other. stands.sources at (sym (not_now done t at other) ∙ had)
-      ] refl
-
   plain : (done : List Turn) (t : Turn) (l : Taken) (label : Option (List ℕ)) (body : Option line.Body) (s : Settling) → slice_get lines t.definition ≡ Some l → l.line ≡ line.Statement label body
       → Standing done s → Standing (done ++ t ∷ []) s
   plain done t l label body s there is stands = record {
@@ -343,7 +332,6 @@ module _ (names : Names) (lines : List Taken) (layout : Layout) (turns : List Tu
     statements = stands.statements;
     many = stands.many;
     faults = λ at m here. stands.faults at m here ∙ ap Some (fault_plain done t l label body there is at m here);
-    sources = sources_more done t l s stands there (inr (ap equ_items is));
   }
 
   -- a line that gives a name
@@ -402,7 +390,7 @@ module _ (names : Names) (lines : List Taken) (layout : Layout) (turns : List Tu
   given : (done : List Turn) (t : Turn) (l : Taken) (name : List ℕ) (e : Expression) (s new : Settling) → slice_get lines t.definition ≡ Some l → l.line ≡ line.Equ name e
       → (judged names t.on_circle (here_at layout t s.names) e).0 ≡ last t.definition → (judged names t.on_circle (here_at layout t s.names) e).1 ≡ fault_at t.definition l.line
       → Takes names layout t (line.Equ name e) s new → Standing done s → Standing (done ++ t ∷ []) new
-  given done t l name e s new there is worth fault (source_is, names_is, faults_is) stands = record {
+  given done t l name e s new there is worth fault (names_is, faults_is) stands = record {
     found = λ x.
         ap (λ u. found u x) names_is ∙ lookup_more (bytes_eq x) s.names.entries name (judged names t.on_circle (here_at layout t s.names) e).0
         ∙ ap (λ o. option_or o (cond (bytes_eq x name) (Some (judged names t.on_circle (here_at layout t s.names) e).0) None)) (stands.found x)
@@ -410,7 +398,6 @@ module _ (names : Names) (lines : List Taken) (layout : Layout) (turns : List Tu
     statements = ap (λ u. u.statements) names_is ∙ stands.statements;
     many = ap length faults_is ∙ length-set s.faults.items t.definition (judged names t.on_circle (here_at layout t s.names) e).1 ∙ stands.many;
     faults = λ at m here. ap (λ fs. slice_get fs at) faults_is ∙ fault_given done t l s (judged names t.on_circle (here_at layout t s.names) e).1 stands there fault at m here;
-    sources = sources_more done t l s stands there (inl (subst (λ i. IsSource (equ_items i)) (sym is) source_is));
   }
 
   -- What is judged is what the line is worth at last.
@@ -422,18 +409,18 @@ module _ (names : Names) (lines : List Taken) (layout : Layout) (turns : List Tu
       not_had false is = refl
       not_had true is = absurd ((known.order.in_order q (record { definition = 0; on_circle = false }) room).once (had_contains (take q turns) (turn_at turns q).definition is))
 
-  judged_last : (q n : ℕ) (s : Settling) (e : Expression) → Standing (take q turns) s → q < length turns → q < n → items_at lines (turn_at turns q).definition ≡ e → IsSource e
+  judged_last : (q n : ℕ) (s : Settling) (e : Expression) → Standing (take q turns) s → q < length turns → q < n → items_at lines (turn_at turns q).definition ≡ e
       → (meaning_by (fault_by names (turn_at turns q).on_circle (here_at layout (turn_at turns q) s.names) e) (equated (here_at layout (turn_at turns q) s.names) (source e))
       ≡ equ_meaning names (told turns) (table_at layout (after_rounds n names lines (told turns) layout) (turn_at turns q).definition) (turn_at turns q).definition e)
       × (fault_by names (turn_at turns q).on_circle (here_at layout (turn_at turns q) s.names) e
       ≡ equ_fault names (told turns) (table_at layout (after_rounds n names lines (told turns) layout) (turn_at turns q).definition) (turn_at turns q).definition e)
-  judged_last q zero s e stands room lt items is = absurd (omega (arith, lt))
-  judged_last q (suc m) s e stands room lt items is =
+  judged_last q zero s e stands room lt items = absurd (omega (arith, lt))
+  judged_last q (suc m) s e stands room lt items =
       let t : Turn = turn_at turns q in
       let at : ℕ = t.definition in
       let r : Result Meaning ExprFault = equated (here_at layout t s.names) (source e) in
       let r-2 : Result Meaning ExprFault = equated (table_at layout (after_rounds (suc m) names lines (told turns) layout) at) (source e) in
-      let same : t.on_circle ≡ false → r ≡ r-2 = λ off. same_worth names lines layout turns known q m s e stands room (omega (arith, lt)) items is off in
+      let same : t.on_circle ≡ false → r ≡ r-2 = λ off. same_worth names lines layout turns known q m s e stands room (omega (arith, lt)) items off in
       let u : Option EquFault = if_so EquFault.Undefined (not (list_all (is_named names) e)) in
       let u-2 : u ≡ undefined names e = ap (if_so EquFault.Undefined) (all_named names e) in
       let c : t.on_circle ≡ told turns at = told_at (lines_named names lines) turns known.order.in_order q room in (
@@ -454,8 +441,8 @@ module _ (names : Names) (lines : List Taken) (layout : Layout) (turns : List Tu
       by_line (line.Equ name e) is done =
           let items : items_at lines (turn_at turns q).definition ≡ e = items_there lines (turn_at turns q).definition l there ∙ ap equ_items is in
           let many = known.order.many in
-          let now = judged_last q (length lines) s e stands room (omega (arith, many, room)) items done.0 in
-          let after = judged_last q (suc (length lines)) s e stands room (omega (arith, many, room)) items done.0 in
+          let now = judged_last q (length lines) s e stands room (omega (arith, many, room)) items in
+          let after = judged_last q (suc (length lines)) s e stands room (omega (arith, many, room)) items in
           given (take q turns) (turn_at turns q) l name e s new there is
           (now.0 ∙ ap (λ i. equ_meaning names (told turns) (table_at layout (after_rounds (length lines) names lines (told turns) layout) (turn_at turns q).definition) (turn_at turns q).definition i) (sym items))
           (after.1 ∙ ap (line_fault names (told turns) layout (entries names lines (told turns) layout) (turn_at turns q).definition) (sym is))
@@ -546,7 +533,6 @@ none_settled names lines circle layout s distinct places none = record {
   statements = places.statements;
   many = ap length none ∙ length-replicate (length lines) None;
   faults = λ at l there. ap (λ fs. slice_get fs at) none ∙ none_faults (length lines) at None (slice_get_within lines at l there);
-  sources = λ at had. absurd cc;
 }
 
 -- For the code's lines.

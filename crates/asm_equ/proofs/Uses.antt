@@ -1,17 +1,17 @@
 -- The lines that lines use, one list for each.
-use Rattle.std.proofs.Common.{◌≡◌, ◌<◌, ◌≤◌, ◌+◌, ◌∙◌, sym, ap, refl, subst, ℕ, zero, suc, List, [], ◌∷◌, ◌++◌, Option, Some, None, Vec, length, map, get_or, slice_index_or, arith}
-use Rattle.std.specs.List.{All, filter_map, slice_get, cons_option}
-use Rattle.std.specs.Option.{option_map_or, unwrap_or}
+use Rattle.std.proofs.Common.{◌≡◌, ◌<◌, ◌∙◌, sym, ap, refl, ℕ, zero, suc, List, [], ◌∷◌, Option, Some, None, Vec, length, map, get_or, arith}
+use Rattle.std.specs.List.{filter_map, slice_get, cons_option}
+use Rattle.std.specs.Option.{unwrap_or}
 use Rattle.std.specs.Global.{Global}
 use Rattle.std.proofs.Math.Path.{fun_ext}
-use Rattle.std.proofs.lemmas.List.{length-map, map-append}
+use Rattle.std.proofs.lemmas.List.{length-map}
 use Rattle.asm_parse.specs.declared.item.Item.{Item}
 use Rattle.asm_parse.specs.Source.{Operand}
 use Rattle.asm_order.specs.declared.walk.Turn.{Turn}
 use Rattle.asm_order.specs.Order.{AreDefined, IsOrder, named_by}
 use Rattle.asm_names.specs.Lines.{Taken}
 use Rattle.asm_names.specs.Names.{Names}
-use Rattle.asm_equ.specs.Circles.{equ_items, items_at, line_named, lines_named}
+use Rattle.asm_equ.specs.Circles.{equ_items, line_named, lines_named}
 use Rattle.asm_equ.specs.Private.Bounds.{AreBelow}
 use Rattle.asm_equ.proofs.Below.{line_below}
 

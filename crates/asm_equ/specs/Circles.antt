@@ -1,7 +1,7 @@
 -- Which EQU lines lead back to themselves.
-use Rattle.std.specs.Prelude.{◌≡◌, ◌↔◌, ◌<◌, ℕ, Bool, true, List, [], ◌∷◌, Option, Some, None, length, map, slice_get}
-use Rattle.std.specs.List.{filter_map, list_any}
-use Rattle.std.specs.Option.{option_map, option_map_or}
+use Rattle.std.specs.Prelude.{◌≡◌, ◌↔◌, ◌<◌, ℕ, Bool, true, List, [], Option, Some, None, length, slice_get}
+use Rattle.std.specs.List.{filter_map}
+use Rattle.std.specs.Option.{option_map_or}
 use Rattle.asm_parse.specs.declared.item.Item.{Item}
 use Rattle.asm_parse.specs.Source.{Operand, Name}
 use Rattle.asm_spell.specs.Line.{Expression, Line, Equ}

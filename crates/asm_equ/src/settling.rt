@@ -53,8 +53,6 @@ impl Settling {
         let Line::Equ { name, value } = line else {
             return Ok(());
         };
-        // Called for what it says: the items are those of an expression.
-        value.items();
         let at = turn.definition as usize;
         self.names.set_here(layout.next_at(at));
         let judged = judge(alloc, value, table, turn.on_circle, &self.names)?;

@@ -68,10 +68,10 @@ name_bare (Some (Meaning.Equ equated)) c = cc
 name_bare (Some Meaning.Faulty) c = tt
 
 -- what holds of each item holds of the operands' items
-of_prefix : (f : Item Operand → Bool) (op : Unary) (a : Expression Operand) → list_all f (postfix (Prefix op a)) ≡ true → list_all f (postfix a) ≡ true
+pub of_prefix : (f : Item Operand → Bool) (op : Unary) (a : Expression Operand) → list_all f (postfix (Prefix op a)) ≡ true → list_all f (postfix a) ≡ true
 of_prefix f op a c = (and_parts _ _ (sym (list_all-append f (postfix a) (Item.Unary op ∷ [])) ∙ c)).0
 
-of_infix : (f : Item Operand → Bool) (op : Binary) (a b : Expression Operand) → list_all f (postfix (Infix op a b)) ≡ true → (list_all f (postfix a) ≡ true) × (list_all f (postfix b) ≡ true)
+pub of_infix : (f : Item Operand → Bool) (op : Binary) (a b : Expression Operand) → list_all f (postfix (Infix op a b)) ≡ true → (list_all f (postfix a) ≡ true) × (list_all f (postfix b) ≡ true)
 of_infix f op a b c =
     let parts = and_parts _ _ (sym (list_all-append f (postfix a ++ postfix b) (Item.Binary op ∷ [])) ∙ c) in
     and_parts _ _ (sym (list_all-append f (postfix a) (postfix b)) ∙ parts.0)

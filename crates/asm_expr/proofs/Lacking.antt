@@ -1,5 +1,5 @@
 -- An expression with a name that stands for nothing has no value.
-use Rattle.std.proofs.Common.{◌≡◌, ◌∙◌, ◌⊎◌, ◌&&◌, inl, inr, sym, ap, refl, ℕ, Bool, true, false, List, [], ◌∷◌, ◌++◌, Option, Some, None, Result, Ok, Err}
+use Rattle.std.proofs.Common.{◌≡◌, ◌∙◌, ◌⊎◌, ◌&&◌, inl, inr, sym, ap, refl, ℕ, Bool, true, false, List, [], ◌∷◌, ◌++◌, Option, Some, None, Ok}
 use Rattle.std.specs.Prelude.{is_some, if◌then◌else◌, length, nat_lt}
 use Rattle.std.specs.List.{list_all}
 use Rattle.std.specs.Option.{option_map}
@@ -11,7 +11,7 @@ use Rattle.asm_expr.specs.Arithmetic.{unary, binary}
 use Rattle.asm_parse.specs.Expression.{Expression, Leaf, Prefix, Infix, postfix, and_then}
 use Rattle.asm_parse.specs.Source.{Operand, Number, Name, Here}
 use Rattle.asm_expr.specs.Names.{Table, found}
-use Rattle.asm_expr.specs.Distances.{distance, some_distance}
+use Rattle.asm_expr.specs.Distances.{some_distance}
 use Rattle.asm_expr.specs.Settling.{both, difference, distance_of, fault, is_known, item_known, items_known, leaf_or, meant, or_else, reduced, replaced, settled, settled_as, single, through, unknown_of, unless_fault, worth, worth_unknown}
 
 -- a part has no value

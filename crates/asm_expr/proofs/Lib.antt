@@ -24,3 +24,4 @@ pub mod Alike
 pub mod Anywhere
 pub mod ByNames
 pub mod Worths
+pub mod Valued

@@ -1,5 +1,5 @@
 -- Where the refs of an expression come from.
-use Rattle.std.proofs.Common.{◌≡◌, ℕ, All, List, [], ◌∷◌, ◌++◌, Option, Some, None, Ok, Err, true, false, if◌then◌else◌, inl, refl, sym, subst}
+use Rattle.std.proofs.Common.{◌≡◌, ℕ, All, List, [], ◌∷◌, ◌++◌, Option, Some, None, Ok, true, false, if◌then◌else◌, inl, refl, sym, subst}
 use Rattle.std.proofs.lemmas.List.Elements.{All-append, All-cons, All-head, All-nil, All-tail}
 use Rattle.std.specs.List.{list_all}
 use Rattle.std.proofs.lemmas.List.Concat.{flat_map-append}
@@ -11,10 +11,10 @@ use Rattle.asm_expr.specs.Postfix.{run, only, tree}
 use Rattle.asm_expr.specs.Items.{refs, refs_in}
 use Rattle.asm_expr.specs.Names.{Table, found}
 use Rattle.asm_expr.specs.Settling.{known, leaf_or, meant, reduced, replaced, settled, size, standing, is_constant_item, worth}
-use Rattle.asm_words.specs.Results.{◌>>=◌}
 use Rattle.asm_expr.specs.Equating.{constant_of, equated, meaning_of}
 use Rattle.asm_expr.specs.Origins.{AllBring, AreRefs, Brings}
 use Rattle.asm_expr.proofs.Answers.{is_settled}
+use Rattle.asm_expr.proofs.Equates.{equated_as}
 use Rattle.asm_expr.proofs.Known.{object_tree}
 
 -- Each place in an expression has a property.
@@ -106,10 +106,8 @@ settled_refs P t all e (Settled.Unknown what) is = tt
 -- The same of what an EQU's expression stands for.
 pub equated_refs : (P : ℕ → Type 0) (t : Table) → AllBring P t → (e : Expression Operand) (what : Meaning) → equated t e ≡ Ok what → Brings P what
 equated_refs P t all e what is =
-    elim (settled t e) as (λ r. settled t e ≡ r → (r >>= λ s. Ok (meaning_of t e s)) ≡ Ok what → Brings P what) [
-      | Err why ↦ λ _ bad. cc
-      | Ok s ↦ λ was good. let same : meaning_of t e s ≡ what = cc in subst (Brings P) same (meaning_refs s (settled_refs P t all e s was))
-    ] refl is
+    let s = equated_as t e what is in
+    subst (Brings P) (sym s.2) (meaning_refs s.0 (settled_refs P t all e s.0 s.1))
   where
     constant_refs : (s : Settled) → Brings P (constant_of s)
     constant_refs (Settled.Known items) = tt

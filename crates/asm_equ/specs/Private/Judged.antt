@@ -1,5 +1,5 @@
 -- One EQU line, as the code judges it.
-use Rattle.std.specs.Prelude.{◌≡◌, Bool, true, not, ◌∷◌, [], Option, is_some}
+use Rattle.std.specs.Prelude.{Bool, true, not, ◌∷◌, [], Option, is_some}
 use Rattle.std.specs.List.{list_all}
 use Rattle.asm_parse.specs.declared.item.Item.{Item}
 use Rattle.asm_parse.specs.Source.{Operand, Name}

@@ -1,12 +1,11 @@
 -- Lines settled one after the other, as the code settles them.
-use Rattle.std.specs.Prelude.{◌≡◌, ◌<◌, ◌==◌, ◌⊎◌, ℕ, Bool, true, false, List, [], ◌∷◌, Option, Some, None, if◌then◌else◌, length, set, slice_get}
+use Rattle.std.specs.Prelude.{◌≡◌, ◌<◌, ◌==◌, ℕ, Bool, true, false, List, [], ◌∷◌, Option, Some, None, if◌then◌else◌, length, set, slice_get}
 use Rattle.std.specs.List.{AllPass, list_all, list_any}
 use Rattle.std.specs.Option.{option_map}
-use Rattle.asm_parse.specs.Source.{IsSource}
 use Rattle.asm_expr.specs.declared.meaning.Meaning.{Meaning}
 use Rattle.asm_expr.specs.Names.{Table, found, with_meaning}
 use Rattle.asm_expr.specs.Settling.{is_known}
-use Rattle.asm_spell.specs.Line.{Expression, Line, Equ, Statement}
+use Rattle.asm_spell.specs.Line.{Line, Equ, Statement}
 use Rattle.asm_order.specs.declared.walk.Turn.{Turn}
 use Rattle.asm_names.specs.declared.kind.Kind.{Kind}
 use Rattle.asm_names.specs.Lines.{Taken}
@@ -36,8 +35,7 @@ CanTake names turn (Statement label body) s = Unit {0}
 -- .. and what is left then
 abbrev pub Takes : Names → Layout → Turn → Line → Settling → Settling → Type 0
 Takes names layout turn (Equ name e) old new =
-    IsSource e
-    × (new.names ≡ with_meaning name (judged names turn.on_circle (here_at layout turn old.names) e).0 (here_at layout turn old.names))
+    (new.names ≡ with_meaning name (judged names turn.on_circle (here_at layout turn old.names) e).0 (here_at layout turn old.names))
     × (new.faults.items ≡ set old.faults.items turn.definition (judged names turn.on_circle (here_at layout turn old.names) e).1)
 Takes names layout turn (Statement label body) old new = new ≡ old
 
@@ -57,10 +55,6 @@ so_far done value names layout x (Some Kind.External) = Some (Meaning.External (
 so_far done value names layout x (Some (Kind.Equ at)) = if done at then Some (value at) else None
 so_far done value names layout x None = None
 
--- a line's items are those of an expression, or it is no EQU
-abbrev pub IsRead : Expression → Type 0
-IsRead e = IsSource e ⊎ (e ≡ [])
-
 -- All is settled that had its turn, and nothing else.
 pub record Stands (names : Names) (lines : List Taken) (circle : ℕ → Bool) (layout : Layout) (done : List Turn) (s : Settling) : Type 0 where
   pub found : (x : List ℕ) → found s.names x ≡ so_far (has done) (final names lines circle layout) names layout x (kind_of names x)
@@ -68,4 +62,3 @@ pub record Stands (names : Names) (lines : List Taken) (circle : ℕ → Bool) (
   pub many : length s.faults.items ≡ length lines
   pub faults : (at : ℕ) (l : Taken) → slice_get lines at ≡ Some l
       → slice_get s.faults.items at ≡ Some (if has done at then line_fault names circle layout (entries names lines circle layout) at l.line else None)
-  pub sources : (at : ℕ) → has done at ≡ true → IsRead (items_at lines at)

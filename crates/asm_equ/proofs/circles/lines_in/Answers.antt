@@ -1,5 +1,4 @@
-use Rattle.std.proofs.Common.{rules, ◌≡◌, ◌∙◌, sym}
-use Rattle.asm_parse.specs.Source.{source_item}
+use Rattle.std.proofs.Common.{rules, sym}
 use Rattle.asm_equ.proofs.Below.{line_below}
 use Rattle.asm_equ.proofs.circles.lines_in.Goals as goal
 

@@ -1,4 +1,4 @@
-use Rattle.std.proofs.Common.{rules, ◌≡◌, ◌<◌, ◌+◌, ◌∙◌, sym, ap, refl, arith}
+use Rattle.std.proofs.Common.{rules, sym, arith}
 use Rattle.std.proofs.lemmas.Option.{slice_get_within}
 use Rattle.asm_equ.specs.Layout.{layout_of}
 use Rattle.asm_equ.proofs.Placing.{all_placed, few_so_far, goes_on, is_new_place}

@@ -1,4 +1,4 @@
-use Rattle.std.proofs.Common.{◌≡◌, ◌∙◌, sym, ap, List, length, take, slice_get, replicate, slice_index_or, subst, None, Some, arith}
+use Rattle.std.proofs.Common.{◌∙◌, sym, ap, List, length, replicate, subst, None}
 use Rattle.std.proofs.lemmas.List.{length-map, take_all}
 use Rattle.asm_names.specs.Lines.{Taken, lines_of, taken_of}
 use Rattle.asm_equ.specs.Circles.{lines_named}
