@@ -1,5 +1,5 @@
 -- How many statements lines have, and tables that lay them alike.
-use Rattle.std.proofs.Common.{◌≡◌, ◌<◌, ◌≤◌, ◌+◌, ◌∙◌, sym, ap, refl, subst, ℕ, zero, suc, Bool, true, false, cond, List, [], ◌∷◌, ◌++◌, Option, Some, None, length, count_by, map, take, inl, inr, ◌⊎◌, arith}
+use Rattle.std.proofs.Common.{◌≡◌, ◌≤◌, ◌+◌, ◌∙◌, sym, ap, refl, subst, ℕ, Bool, true, false, cond, List, [], ◌∷◌, Option, Some, None, length, count_by, map, take, inl, inr, ◌⊎◌, arith}
 use Rattle.std.specs.List.{cons_option, filter_map}
 use Rattle.std.specs.Option.{option_map}
 use Rattle.std.proofs.Math.Path.{fun_ext}
@@ -14,7 +14,6 @@ use Rattle.asm_spell.specs.Line as line
 use Rattle.asm_spell.specs.Line.{Body, Line}
 use Rattle.asm_names.specs.Lines.{Taken, has_statement, is_statement, placed}
 use Rattle.asm_piece.specs.Sized.{IsLike, Kind, kind, sized}
-use Rattle.asm_equ.specs.Layout.{Layout}
 use Rattle.asm_layout.specs.Laid.{laid, line_sized, may_grow, statements}
 
 count_one : (has : Bool) (o : Option Statement) (rest : List Statement) (n : ℕ) → (o ≡ None) ⊎ (has ≡ true) → length rest ≤ n → length (cons_option o rest) ≤ cond has 1 0 + n

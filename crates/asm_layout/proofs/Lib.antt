@@ -1,2 +1,3 @@
 mod Few
 mod Laying_down
+mod SameKinds

@@ -1,5 +1,5 @@
 -- Where the statements of lines stand.
-use Rattle.std.specs.Prelude.{ℕ, Bool, true, List, Option, Some, None, if◌then◌else◌, is_some, length, map, take}
+use Rattle.std.specs.Prelude.{Bool, true, List, Option, Some, None, if◌then◌else◌, is_some, length, map, take}
 use Rattle.std.specs.List.{filter_map}
 use Rattle.std.specs.Option.{option_map}
 use Rattle.z80_instr.specs.declared.Branch.{Branch}

@@ -1,17 +1,15 @@
 -- What names make of a statement hangs on what they stand for, on `$` and on the statements alone.
-use Rattle.std.proofs.Common.{◌≡◌, ℕ, ◌==◌, Bool, ◌&&◌, List, [], ◌∷◌, Option, Some, None, Result, Ok, Err, if◌then◌else◌, refl, sym, ap, ◌∙◌}
+use Rattle.std.proofs.Common.{◌≡◌, ℕ, ◌==◌, ◌&&◌, List, [], ◌∷◌, Option, Some, None, Result, Ok, Err, if◌then◌else◌, refl, sym, ap, ◌∙◌}
 use Rattle.std.specs.List.{list_all}
 use Rattle.std.proofs.Math.Path.{fun_ext}
 use Rattle.asm_words.specs.Results.{◌>>=◌}
 use Rattle.asm_parse.specs.declared.fault.ExprFault.{ExprFault}
 use Rattle.asm_parse.specs.declared.item.Item.{Item}
-use Rattle.asm_parse.specs.declared.operator.Binary.{Binary}
-use Rattle.asm_parse.specs.Expression.{Expression, Leaf, Prefix, Infix, postfix}
-use Rattle.asm_parse.specs.Source.{Operand, Number, Name, Here}
+use Rattle.asm_parse.specs.Expression.{Expression, postfix}
+use Rattle.asm_parse.specs.Source.{Operand, Name}
 use Rattle.asm_expr.specs.declared.answer.Settled.{Settled}
 use Rattle.asm_expr.specs.Names.{Table, found}
 use Rattle.asm_expr.specs.Offsets.{offset}
-use Rattle.asm_expr.specs.declared.here.Offset.{Offset}
 use Rattle.asm_expr.specs.Origins.{AgreeOn}
 use Rattle.asm_expr.specs.Postfix.{source}
 use Rattle.asm_expr.specs.Settling.{fault, is_constant_item, settled, unless_fault}
@@ -26,7 +24,7 @@ use Rattle.zmo_module.specs.declared.hole.Width.{Width}
 use Rattle.asm_piece.specs.declared.cell.Cell.{Cell}
 use Rattle.asm_piece.specs.declared.cell.Filling.{Filling}
 use Rattle.asm_piece.specs.Fields.{as_stmt, byte, distance_or, filled, fixed, settled_in, word}
-use Rattle.asm_piece.specs.Made.{Made, Nothing, all_laid, cells, code, coded, is_origin, jump_by, long_jump, made, number_filled, number_in, origin, ref_of, short_by, sized_by, space, space_fill, space_size, value_cells, word_cells}
+use Rattle.asm_piece.specs.Made.{Nothing, all_laid, cells, code, coded, is_origin, jump_by, long_jump, made, number_in, ref_of, short_by, sized_by, space_fill, space_size, value_cells}
 
 -- Names stand for the same in both tables, and `$` and the statements are the same.
 pub record AreSame (t u : Table) : Type 0 where

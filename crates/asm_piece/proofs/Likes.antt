@@ -81,7 +81,7 @@ item_like t u like (Item.Leaf Here) = refl
 item_like t u like (Item.Unary op) = refl
 item_like t u like (Item.Binary op) = refl
 
-items_like : (t u : Table) → IsLike t u → (xs : List (Item Operand)) → list_all (is_number_item t) xs ≡ list_all (is_number_item u) xs
+pub items_like : (t u : Table) → IsLike t u → (xs : List (Item Operand)) → list_all (is_number_item t) xs ≡ list_all (is_number_item u) xs
 items_like t u like [] = refl
 items_like t u like (x ∷ xs) = ap (λ b. b && list_all (is_number_item t) xs) (item_like t u like x) ∙ ap (λ b. is_number_item u x && b) (items_like t u like xs)
 
@@ -102,7 +102,7 @@ number_constant t (Item.Leaf Here) so = cc
 number_constant t (Item.Unary op) so = refl
 number_constant t (Item.Binary op) so = refl
 
-numbers_constant : (t : Table) (xs : List (Item Operand)) → list_all (is_number_item t) xs ≡ true → list_all (is_constant_item t) xs ≡ true
+pub numbers_constant : (t : Table) (xs : List (Item Operand)) → list_all (is_number_item t) xs ≡ true → list_all (is_constant_item t) xs ≡ true
 numbers_constant t [] all = refl
 numbers_constant t (x ∷ xs) all =
     let parts = and_parts (is_number_item t x) (list_all (is_number_item t) xs) all in
@@ -114,17 +114,20 @@ pub record Laws : Type 0 where
   pub anywhere : (t : Table) (e : Expression Operand) → list_all (is_constant_item t) (postfix e) ≡ true → (here : ℕ) (statements : List Statement)
       → settled (record t { here = here; statements = statements }) e ≡ settled t e
 
-same_settled : Laws → (t u : Table) → IsLike t u → (e : Expression Operand) → list_all (is_number_item t) (postfix e) ≡ true → settled t e ≡ settled u e
-same_settled laws t u like e all =
-    let among = numbers_constant u (postfix e) (sym (items_like t u like (postfix e)) ∙ all) in
-    laws.names t (record u { here = t.here; statements = t.statements }) e
-    (record { here = refl; statements = refl; names = λ name there. same_number (found t name) (found u name) (like name) (in_list name there) })
-    ∙ laws.anywhere u e among t.here t.statements
+-- Tables in which each name is of the same kind agree on an expression of numbers.
+pub agree_like : (t u : Table) → IsLike t u → (e : Expression Operand) → list_all (is_number_item t) (postfix e) ≡ true
+    → AgreeOn (postfix e) t (record u { here = t.here; statements = t.statements })
+agree_like t u like e all = record { here = refl; statements = refl; names = λ name there. same_number (found t name) (found u name) (like name) (in_list name there) }
   where
     in_list : (name : List ℕ) → Contains (postfix e) (Item.Leaf (Name name)) → is_number_name (found t name) ≡ true
     in_list name there =
         let passes = AllPass-from_list_all (is_number_item t) (postfix e) all there.0 (Item.Leaf (Name name)) there.1 in
         ap (is_number_item t) (sym there.2) ∙ passes
+
+same_settled : Laws → (t u : Table) → IsLike t u → (e : Expression Operand) → list_all (is_number_item t) (postfix e) ≡ true → settled t e ≡ settled u e
+same_settled laws t u like e all =
+    let among = numbers_constant u (postfix e) (sym (items_like t u like (postfix e)) ∙ all) in
+    laws.names t (record u { here = t.here; statements = t.statements }) e (agree_like t u like e all) ∙ laws.anywhere u e among t.here t.statements
 
 -- A constant expression of items that are known is of numbers alone.
 module _ (t : Table) where
@@ -146,7 +149,7 @@ module _ (t : Table) where
   no_value (Some Meaning.Faulty) (Prefix op a) is constant = cc
   no_value (Some Meaning.Faulty) (Infix op a b) is constant = cc
 
-  of_numbers : (e : Expression Operand) (w : Expression Atom) → replaced t e ≡ known w → list_all (is_constant_item t) (postfix e) ≡ true → list_all (is_number_item t) (postfix e) ≡ true
+  pub of_numbers : (e : Expression Operand) (w : Expression Atom) → replaced t e ≡ known w → list_all (is_constant_item t) (postfix e) ≡ true → list_all (is_number_item t) (postfix e) ≡ true
   of_numbers (Leaf (Number n)) w is c = refl
   of_numbers (Leaf Here) w is c = cc
   of_numbers (Leaf (Name name)) w is c = ap (λ b. b && true) (no_value (found t name) w is (and_parts (is_constant_name (found t name)) true c).0)

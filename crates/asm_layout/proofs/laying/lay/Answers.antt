@@ -1,8 +1,7 @@
-use Rattle.std.proofs.Common.{rules, ◌≡◌, ◌≤◌, ◌+◌, ◌++◌, ◌∷◌, ◌∙◌, ap, arith, length, sym, subst, List, []}
+use Rattle.std.proofs.Common.{rules, ◌≡◌, ◌+◌, ◌++◌, ◌∷◌, ◌∙◌, ap, length, sym, subst, []}
 use Rattle.std.specs.List.{cons_option}
-use Rattle.asm_expr.specs.declared.statement.Statement.{Statement}
 use Rattle.asm_names.specs.Lines.{lines_of}
-use Rattle.asm_layout.proofs.Laying_down.{IsLaid, all_laid, few_so_far, few_there, more_laid}
+use Rattle.asm_layout.proofs.Laying_down.{IsLaid, few_so_far, few_there, more_laid}
 use Rattle.asm_layout.proofs.laying.lay.Goals as goal
 
 pub overflow_cast-len : goal.overflow_cast-len
