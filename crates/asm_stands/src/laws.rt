@@ -6,7 +6,7 @@ ghost use Rattle.asm_expr.specs.Distances.{is_unsized};
 ghost use Rattle.asm_expr.specs.Names.{Table, found};
 ghost use Rattle.asm_expr.specs.Origins.{is_number_name, is_valued_name};
 ghost use Rattle.asm_expr.specs.Settling.{is_constant_name};
-ghost use Rattle.asm_expr.specs.Types.{Meaning};
+ghost use Rattle.asm_expr.specs.declared.meaning.Meaning.{Meaning};
 ghost use Rattle.asm_names.specs.Lines.{Taken, has_statement};
 ghost use Rattle.asm_names.specs.Names.{Names, kind_of};
 ghost use Rattle.asm_equ.specs.Layout.{Layout, next_at};
