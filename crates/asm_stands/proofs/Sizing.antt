@@ -1,7 +1,7 @@
 -- Where no line is faulty and constants are numbers, each DS has a number.
-use Rattle.std.proofs.Common.{◌≡◌, ◌∙◌, ◌&&◌, ◌||◌, sym, ap, refl, ℕ, ◌+◌, zero, suc, Bool, true, false, List, [], ◌∷◌, Option, Some, None, Ok, map}
+use Rattle.std.proofs.Common.{◌≡◌, ◌∙◌, ◌&&◌, ◌||◌, sym, ap, refl, ℕ, ◌+◌, zero, suc, Bool, true, false, List, [], ◌∷◌, Option, Some, None, Ok}
 use Rattle.std.specs.Prelude.{is_some}
-use Rattle.std.specs.List.{AllPass, cons_option, enumerate_from, filter_map, list_all, list_any}
+use Rattle.std.specs.List.{AllPass, cons_option, list_all, list_any}
 use Rattle.std.specs.Option.{option_map}
 use Rattle.std.proofs.lemmas.List.Sums.{list_all-from_AllPass}
 use Rattle.z80_instr.specs.declared.Branch.{Branch}
@@ -24,7 +24,6 @@ use Rattle.asm_expr.proofs.Judgements.{and_parts}
 use Rattle.asm_expr.proofs.Postfix.{run-one}
 use Rattle.asm_spell.specs.Line as line
 use Rattle.asm_spell.specs.Line.{Body, Expression, Line}
-use Rattle.asm_names.specs.Faults.{first}
 use Rattle.asm_names.specs.Lines.{Taken}
 use Rattle.asm_names.specs.Names.{Names, kind_of}
 use Rattle.asm_equ.specs.Layout.{Layout}
@@ -32,7 +31,6 @@ use Rattle.asm_piece.specs.Made.{AreDefined, Made, made, number_in, ref_of, spac
 use Rattle.asm_piece.specs.Sized.{IsLike, jump_sized, size_in, sized, space_sized}
 use Rattle.asm_piece.proofs.Making.{space_made, space_settled}
 use Rattle.asm_layout.specs.Laid.{line_sized, may_grow, statements}
-use Rattle.asm_states.specs.declared.fault.StateFault.{StateFault}
 use Rattle.asm_states.specs.Stated.{behind, first_fault, line_fault}
 use Rattle.asm_states.proofs.In_order.{fault_from}
 use Rattle.asm_states.proofs.Missing_names.{all_known}
