@@ -1,5 +1,5 @@
 -- The statements of a module as far as their sizes matter.
-use Rattle.std.specs.Prelude.{ℕ, length, List, map}
+use Rattle.std.specs.Prelude.{length, List, map}
 use Rattle.asm_expr.specs.declared.statement.Statement as sized
 use Rattle.asm_expr.specs.declared.statement.Statement.{Statement}
 use Rattle.zmo_module.specs.Modules as object

@@ -1,13 +1,13 @@
 //! Laws of the statements that lines come to, as functions that do nothing: their calls bring the clauses.
 
-ghost use Rattle.std.specs.Prelude.{◌≡◌, ◌≤◌, ℕ, Bool, true, false, List, None, Some, count_by, length, map};
+ghost use Rattle.std.specs.Prelude.{◌≡◌, ◌≤◌, ℕ, Bool, true, false, List, None, Some, length, map};
 ghost use Rattle.std.specs.List.{list_any};
 ghost use Rattle.asm_expr.specs.Distances.{is_unsized};
 ghost use Rattle.asm_expr.specs.Names.{Table, found};
 ghost use Rattle.asm_expr.specs.Origins.{is_number_name, is_valued_name};
 ghost use Rattle.asm_expr.specs.Settling.{is_constant_name};
-ghost use Rattle.asm_expr.specs.Types.{Meaning};
-ghost use Rattle.asm_names.specs.Lines.{Taken, has_statement};
+ghost use Rattle.asm_expr.specs.declared.meaning.Meaning.{Meaning};
+ghost use Rattle.asm_names.specs.Lines.{Taken};
 ghost use Rattle.asm_names.specs.Names.{Names, kind_of};
 ghost use Rattle.asm_equ.specs.Layout.{Layout, next_at};
 ghost use Rattle.asm_piece.specs.Sized.{IsLike};
@@ -36,6 +36,7 @@ pub fn laid()
         first_fault names t layout lines ≡ None → statements grow u lines ≡ sizes (map (λ n. n.1) (numbered grow t layout lines)) }
 {
     asm_expr::laws::valued();
+    asm_expr::laws::number_of_numbers();
     asm_piece::laws::sizes();
 }
 

@@ -1,0 +1,6 @@
+mod Within
+mod Sound
+mod Sizing
+mod Values
+mod Laying
+mod Example
