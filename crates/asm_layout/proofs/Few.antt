@@ -62,7 +62,7 @@ place_kind (Some (Meaning.Equ e)) = refl
 place_kind (Some Meaning.Faulty) = refl
 place_kind None = refl
 
-grows_alike : (grow : Bool) (t u : Table) → IsLike t u → (body : Body) (s : Statement) → may_grow grow t body s ≡ may_grow grow u body s
+pub grows_alike : (grow : Bool) (t u : Table) → IsLike t u → (body : Body) (s : Statement) → may_grow grow t body s ≡ may_grow grow u body s
 grows_alike true t u same (line.Short (Branch.Relative condition) target) s =
     ap (λ b. cond b Statement.Relaxable s) (place_kind (found t target) ∙ ap is_place (same target) ∙ sym (place_kind (found u target)))
 grows_alike grow t u same body s = refl

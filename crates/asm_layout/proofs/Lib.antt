@@ -1,3 +1,3 @@
-mod Few
+pub mod Few
 mod Laying_down
 mod SameKinds

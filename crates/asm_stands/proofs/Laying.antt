@@ -1,5 +1,5 @@
 -- Where no line is faulty and names stand for values, the statements that lines come to are those that are laid.
-use Rattle.std.proofs.Common.{◌≡◌, ◌∙◌, sym, ap, refl, subst, ℕ, ◌+◌, Bool, true, false, List, [], ◌∷◌, Option, Some, None, Ok, map}
+use Rattle.std.proofs.Common.{◌≡◌, ◌∙◌, sym, ap, refl, subst, ℕ, ◌+◌, Bool, true, false, cond, List, [], ◌∷◌, Option, Some, None, Ok, map}
 use Rattle.std.specs.List.{cons_option}
 use Rattle.std.specs.Option.{option_map}
 use Rattle.z80_instr.specs.declared.Branch.{Branch}
@@ -18,6 +18,9 @@ use Rattle.asm_piece.specs.Made as made
 use Rattle.asm_piece.specs.Made.{Made, Piece, jump_by, long_jump, ref_of, short_by, value_cells, word_cells}
 use Rattle.asm_piece.specs.Sized.{IsLike, piece_sized, sized}
 use Rattle.asm_piece.proofs.Making.{code_made, data_made, is_space, origin_nothing, space_made}
+use Rattle.std.specs.Prelude.{is_some}
+use Rattle.std.proofs.Math.Path.{fun_ext}
+use Rattle.asm_layout.proofs.Few.{grows_alike}
 use Rattle.asm_layout.specs.Laid.{line_sized, may_grow, statements}
 use Rattle.zmo_module.specs.Modules as object
 use Rattle.asm_states.specs.Stated.{behind, first_fault, line_fault, numbered}
@@ -56,12 +59,16 @@ short_piece : (o : Option ℕ) (branch : Branch) (p : Piece) → short_by o bran
 short_piece (Some r) branch p is = (r, (let same : made.Short branch r ≡ p = cc in same))
 short_piece None branch p is = absurd cc
 
+short_there : (o : Option ℕ) (branch : Branch) (p : Piece) → short_by o branch ≡ Ok (made.Some_piece p) → is_some o ≡ true
+short_there (Some r) branch p is = refl
+short_there None branch p is = absurd cc
+
 -- A piece is laid as its word is: where a JR may grow, one to a name as a jump.
-piece_laid : (grow : Bool) (t : Table) (body : Body) (p : Piece) → made.made t body ≡ Ok (made.Some_piece p) → may_grow grow body (piece_sized p) ≡ size_of (statement_by grow p)
+piece_laid : (grow : Bool) (t : Table) (body : Body) (p : Piece) → made.made t body ≡ Ok (made.Some_piece p) → may_grow grow t body (piece_sized p) ≡ size_of (statement_by grow p)
 piece_laid false t body p is = kept p
 piece_laid true t (line.Short (Branch.Relative condition) target) p is =
     let s = short_piece (ref_of (found t target)) (Branch.Relative condition) p is in
-    ap (λ q. size_of (statement_by true q)) s.1
+    ap (λ b. cond b Statement.Relaxable (piece_sized p)) (short_there (ref_of (found t target)) (Branch.Relative condition) p is) ∙ ap (λ q. size_of (statement_by true q)) s.1
 piece_laid true t (line.Short Branch.CountDown target) p is =
     let s = short_piece (ref_of (found t target)) Branch.CountDown p is in
     ap piece_sized (sym s.1) ∙ ap (λ q. size_of (statement_by true q)) s.1
@@ -91,10 +98,10 @@ consed number (Some s) mine rest more one all = ap (λ m. cons_option m rest) on
 
 module _ (laws : Laws) (settle : NumbersSettle) (grow : Bool) (names : Names) (t u : Table) (layout : Layout) (like : IsLike t u) (there : (name : List ℕ) → found t name ≡ None → kind_of names name ≡ None)
     (settles : (at : ℕ) → ValuesSettle (behind layout t at)) (values : NamesHaveValues t) where
-  body_laid : (v : Table) (body : Body) → (made.made v body ≡ Ok made.Unknown → ⊥) → (m : Made) → made.made v body ≡ Ok m → option_map (may_grow grow body) (sized v body) ≡ option_map size_of (of_made grow (made.made v body))
-  body_laid v body known made.Nothing is = ap (option_map (may_grow grow body)) (laws.nothing v body is) ∙ sym (ap (λ r. option_map size_of (of_made grow r)) is)
+  body_laid : (v : Table) (body : Body) → (made.made v body ≡ Ok made.Unknown → ⊥) → (m : Made) → made.made v body ≡ Ok m → option_map (may_grow grow v body) (sized v body) ≡ option_map size_of (of_made grow (made.made v body))
+  body_laid v body known made.Nothing is = ap (option_map (may_grow grow v body)) (laws.nothing v body is) ∙ sym (ap (λ r. option_map size_of (of_made grow r)) is)
   body_laid v body known (made.Some_piece p) is =
-      ap (option_map (may_grow grow body)) (laws.piece v body p is) ∙ ap (λ s. Some s) (piece_laid grow v body p is) ∙ sym (ap (λ r. option_map size_of (of_made grow r)) is)
+      ap (option_map (may_grow grow v body)) (laws.piece v body p is) ∙ ap (λ s. Some s) (piece_laid grow v body p is) ∙ sym (ap (λ r. option_map size_of (of_made grow r)) is)
   body_laid v body known made.Unknown is = absurd (known is)
 
   line_laid : (at : ℕ) (l : Line) → line_fault names (behind layout t at) l ≡ None → line_sized grow u l ≡ option_map size_of (line_statement grow (behind layout t at) l)
@@ -104,7 +111,7 @@ module _ (laws : Laws) (settle : NumbersSettle) (grow : Bool) (names : Names) (t
       let v : Table = behind layout t at in
       let sound = sound_body names v body none in
       let known = made_known settle v (settles at) values body (all_known names v there body sound.named) in
-      ap (option_map (may_grow grow body)) (sym (laws.like v u body like)) ∙ body_laid v body known sound.what sound.makes
+      ap (option_map (may_grow grow u body)) (sym (laws.like v u body like)) ∙ ap (λ f. option_map f (sized v body)) (fun_ext (λ s. sym (grows_alike grow v u like body s))) ∙ body_laid v body known sound.what sound.makes
 
   all_laid : (at : ℕ) (lines : List Taken) → fault_from names t layout at lines ≡ None → statements grow u lines ≡ sizes (map (λ n. n.1) (numbered_from grow t layout at lines))
   all_laid at [] none = refl

@@ -1,5 +1,5 @@
 -- Where no line is faulty and constants are numbers, each DS has a number.
-use Rattle.std.proofs.Common.{◌≡◌, ◌∙◌, ◌&&◌, ◌||◌, sym, ap, refl, ℕ, ◌+◌, zero, suc, Bool, true, false, List, [], ◌∷◌, Option, Some, None, Ok}
+use Rattle.std.proofs.Common.{◌≡◌, ◌∙◌, ◌&&◌, ◌||◌, sym, ap, refl, ℕ, ◌+◌, zero, suc, Bool, true, false, cond, List, [], ◌∷◌, Option, Some, None, Ok}
 use Rattle.std.specs.Prelude.{is_some}
 use Rattle.std.specs.List.{AllPass, cons_option, list_all, list_any}
 use Rattle.std.specs.Option.{option_map}
@@ -30,6 +30,7 @@ use Rattle.asm_equ.specs.Layout.{Layout}
 use Rattle.asm_piece.specs.Made.{AreDefined, Made, made, number_in, ref_of, space_size}
 use Rattle.asm_piece.specs.Sized.{IsLike, jump_sized, size_in, sized, space_sized}
 use Rattle.asm_piece.proofs.Making.{space_made, space_settled}
+use Rattle.std.specs.Prelude.{is_some}
 use Rattle.asm_layout.specs.Laid.{line_sized, may_grow, statements}
 use Rattle.asm_states.specs.Stated.{behind, first_fault, line_fault}
 use Rattle.asm_states.proofs.In_order.{fault_from}
@@ -96,20 +97,24 @@ space_known (Some (suc k)) n is s some = let same : size.TheVariants.Sized (suc 
 told : (x s : Statement) → Some x ≡ Some s → is_unsized x ≡ false → is_unsized s ≡ false
 told x s same is = let one : x ≡ s = cc in ap is_unsized (sym one) ∙ is
 
-grown : (grow : Bool) (body : Body) (s : Statement) → is_unsized s ≡ false → is_unsized (may_grow grow body s) ≡ false
-grown false body s is = is
-grown true (line.Short (Branch.Relative condition) target) s is = refl
-grown true (line.Short Branch.CountDown target) s is = is
-grown true (line.Code instr numbers) s is = is
-grown true (line.Jump condition target) s is = is
-grown true (line.Bytes values) s is = is
-grown true (line.Words fields) s is = is
-grown true (line.Space e fill) s is = is
-grown true (line.Public list) s is = is
-grown true (line.External list) s is = is
-grown true (line.Origin e) s is = is
-grown true (line.End entry) s is = is
-grown true line.Z80 s is = is
+either : (b : Bool) (s : Statement) → is_unsized s ≡ false → is_unsized (cond b size.TheVariants.Relaxable s) ≡ false
+either true s is = refl
+either false s is = is
+
+grown : (grow : Bool) (t : Table) (body : Body) (s : Statement) → is_unsized s ≡ false → is_unsized (may_grow grow t body s) ≡ false
+grown false t body s is = is
+grown true t (line.Short (Branch.Relative condition) target) s is = either (is_some (ref_of (found t target))) s is
+grown true t (line.Short Branch.CountDown target) s is = is
+grown true t (line.Code instr numbers) s is = is
+grown true t (line.Jump condition target) s is = is
+grown true t (line.Bytes values) s is = is
+grown true t (line.Words fields) s is = is
+grown true t (line.Space e fill) s is = is
+grown true t (line.Public list) s is = is
+grown true t (line.External list) s is = is
+grown true t (line.Origin e) s is = is
+grown true t (line.End entry) s is = is
+grown true t line.Z80 s is = is
 
 mapped : {A B : Type 0} (f : A → B) (o : Option A) (y : B) → option_map f o ≡ Some y → (x : A) × (o ≡ Some x) × (f x ≡ y)
 mapped f None y is = absurd cc
@@ -142,9 +147,9 @@ module _ (settle : NumbersSettle) (alike : (t u : Table) (b : Body) → IsLike t
   line_known at (line.Statement label None) none s is = absurd cc
   line_known at (line.Statement label (Some body)) none s is =
       let sound = sound_body names (behind layout t at) body none in
-      let x = mapped (may_grow grow body) (sized u body) s is in
+      let x = mapped (may_grow grow u body) (sized u body) s is in
       let known = body_known (behind layout t at) numbers body (all_known names (behind layout t at) there body sound.named) sound.what sound.makes x.0 (alike (behind layout t at) u body like ∙ x.1) in
-      ap is_unsized (sym x.2) ∙ grown grow body x.0 known
+      ap is_unsized (sym x.2) ∙ grown grow u body x.0 known
 
   all_sized : (at : ℕ) (lines : List Taken) → fault_from names t layout at lines ≡ None → list_any is_unsized (statements grow u lines) ≡ false
   all_sized at [] none = refl
