@@ -1,0 +1,4 @@
+mod Placed
+mod Passed
+mod Whole
+mod Held

@@ -1,0 +1,49 @@
+use Rattle.std.proofs.Common.{◌≡◌, ◌<◌, ◌≤◌, ◌∙◌, sym, ap, refl, subst, length, arith}
+use Rattle.std.proofs.lemmas.List.{length-map}
+use Rattle.std.proofs.lemmas.Option.{slice_get-get_or}
+use Rattle.std.proofs.lemmas.Result.{err_from_is_err_and}
+use Rattle.asm_layout.specs.Laid.{HasFew}
+use Rattle.asm_macro.specs.Texts.{source_lines}
+use Rattle.asm_names.specs.Faults.{first_fault}
+use Rattle.asm_source.specs.Source.{last_listed}
+use Rattle.asm_names.specs.Lines.{lines_of, taken_of}
+use Rattle.zmo_module.specs.Modules.{module_of}
+use Rattle.asm_module.specs.Assembled.{IsRefused}
+use Rattle.asm_module.proofs.Whole.{few_data, few_lines, no_fault, other_fault, passed_fault, stops}
+use Rattle.asm_module.proofs.assembling.assemble_with.Goals as goal
+
+pub returns-in-Err : goal.returns-in-Err
+returns-in-Err c =
+    subst (λ f. IsRefused f.why c.args.name.now c.args.text.now c.args.grow f) (sym c.of_macro.ensures)
+    (stops c.args.name.now c.args.text.now c.args.grow c.in-Err.line c.in-Err.why c.in-Err.ensures)
+
+pub returns-in_err-table : goal.returns-in_err-table
+returns-in_err-table c =
+    let p = err_from_is_err_and c.from_residual.result c.from_residual.ensures.1 in
+    let s = c.in-Ok.ensures in
+    rw (p.1, p.2) (passed_fault c.args.name.now c.args.text.now c.args.grow s.0 s.1 (lines_of c.in-Ok.source.lines.items) s.2 c.in-Ok.source.unread c.in_err-table.field-0.0 s.3 c.in_err-table.ensures)
+
+pub assemble_lines-requires-clause-few : goal.assemble_lines-requires-clause-few
+assemble_lines-requires-clause-few c =
+    let s = c.in-Ok.ensures in
+    let le = few_lines c.args.name.now c.args.text.now c.args.grow s.0 s.1 (lines_of c.in-Ok.source.lines.items) s.2 c.in_ok-table.ensures.0 (sym s.3 ∙ c.in_ok-table.ensures.1) c.few_lines.ensures c.all_read.ensures in
+    let same = length-map c.in-Ok.source.lines.items taken_of in
+    let is = ap length c.deref.ensures.value in
+    omega (arith, le, same, is)
+
+pub assemble_lines-requires-clause-data : goal.assemble_lines-requires-clause-data
+assemble_lines-requires-clause-data c =
+    let s = c.in-Ok.ensures in λ k d lt.
+    few_data c.args.name.now c.args.text.now c.args.grow s.0 s.1 (lines_of c.deref.result.now) (ap lines_of c.deref.ensures.value ∙ s.2) c.each_spelled.ensures c.few.ensures.data k _ (slice_get-get_or (lines_of c.deref.result.now) k d lt)
+
+pub returns-in_err-module : goal.returns-in_err-module
+returns-in_err-module c =
+    let p = err_from_is_err_and c.from_residual-in_err-module.result c.from_residual-in_err-module.ensures.1 in
+    let s = c.in-Ok.ensures in
+    rw (p.1, p.2) (other_fault c.args.name.now c.args.text.now c.args.grow s.0 s.1 (lines_of c.deref.result.now) (ap lines_of c.deref.ensures.value ∙ s.2) (ap (λ ls. first_fault (lines_of ls)) c.deref.ensures.value ∙ c.in_ok-table.ensures.0) (sym s.3 ∙ c.in_ok-table.ensures.1) c.in_err-module.field-0.0 c.in_err-module.ensures)
+
+pub returns : goal.returns
+returns c =
+    let s = c.in-Ok.ensures in
+    no_fault c.args.name.now c.args.text.now c.args.grow s.0 s.1 (lines_of c.deref.result.now) (ap lines_of c.deref.ensures.value ∙ s.2) (ap (λ ls. first_fault (lines_of ls)) c.deref.ensures.value ∙ c.in_ok-table.ensures.0) (sym s.3 ∙ c.in_ok-table.ensures.1) c.in-Ok.source.last (module_of c.in_ok-module.module) c.in_ok-module.each.items
+    (s.4 ∙ ap (last_listed (length (source_lines c.args.text.now))) (sym (ap lines_of c.deref.ensures.value ∙ s.2))) c.in_ok-module.ensures

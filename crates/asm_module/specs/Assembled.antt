@@ -1,0 +1,66 @@
+-- What is answered of a source text.
+use Rattle.std.specs.Prelude.{◌≡◌, ℕ, Bool, false, List, Option, Some, None, Result, Ok, Err, length}
+use Rattle.asm_equ.specs.Circles.{TellsCircles}
+use Rattle.asm_macro.specs.declared.fault.MacroFault.{MacroFault}
+use Rattle.asm_macro.specs.Expands.{IsExpanded}
+use Rattle.asm_macro.specs.Texts.{source_lines}
+use Rattle.asm_names.specs.Names.{names}
+use Rattle.asm_source.specs.Read.{taken}
+use Rattle.asm_source.specs.Source.{last_listed}
+use Rattle.asm_texts.specs.Lines.{Numbered}
+use Rattle.zmo_module.specs.declared.module.Module as whole
+use Rattle.zmo_module.specs.Modules.{Module, module_of}
+use Rattle.asm_module.specs.declared.assembling.Lines as listing
+use Rattle.asm_module.specs.declared.fault.AsmFault.{AsmFault}
+use Rattle.asm_module.specs.declared.fault.Why.{Why}
+use Rattle.asm_module.specs.Source.{first_pass, layout, module_by, source_fault, statement_lines}
+use Rattle.asm_module.specs.Whys.{macro_why}
+
+-- a module, the line of each of its statements, and the last line that a listing has
+pub record Assembled : Type 0 where
+  pub holds : Module
+  pub each : List ℕ
+  pub last : ℕ
+
+abbrev pub answer : Option AsmFault → Assembled → Result Assembled AsmFault
+answer (Some fault) whole = Err fault
+answer None whole = Ok whole
+
+-- The lines of an expansion are a module, or have a first fault; so has an expansion that stops. How many lines the text has is told.
+abbrev pub assembled : List ℕ → Bool → ℕ → (ℕ → Bool) → Result (List Numbered) (ℕ × MacroFault) → Result Assembled AsmFault
+assembled name grow count circle (Err (number, why)) = Err (record { line = number; why = macro_why why })
+assembled name grow count circle (Ok lines) = answer (source_fault grow lines circle) (record {
+  holds = module_by name grow (taken lines) circle (layout grow (taken lines) circle);
+  each = statement_lines grow (taken lines) circle (layout grow (taken lines) circle);
+  last = last_listed count (taken lines);
+})
+
+-- It is told of each line whether it leads back to itself, where the first pass finds no fault.
+abbrev pub TellsLines : (ℕ → Bool) → Result (List Numbered) (ℕ × MacroFault) → Type 0
+TellsLines circle (Ok lines) = first_pass lines ≡ None → TellsCircles (names (taken lines)) (taken lines) circle
+TellsLines circle (Err stop) = Unit {0}
+
+-- The text is this module, or this is its first fault.
+abbrev pub Assembles : List ℕ → List ℕ → Bool → Result Assembled AsmFault → Type 0
+Assembles name text grow result =
+    (expanded : Result (List Numbered) (ℕ × MacroFault)) × IsExpanded text expanded × (circle : ℕ → Bool) × TellsLines circle expanded
+    × (assembled name grow (length (source_lines text)) circle expanded ≡ result)
+
+-- What the code's types hold.
+abbrev pub seen : whole.Module × listing.Lines → Assembled
+seen (m, lines) = record { holds = module_of m; each = lines.each.items; last = lines.last }
+
+-- why a text is refused: want of memory alone has no cause in it
+abbrev pub IsRefused : Why → List ℕ → List ℕ → Bool → AsmFault → Type 0
+IsRefused Why.NoMemory name text grow fault = Unit {0}
+IsRefused why name text grow fault = Assembles name text grow (Err fault)
+
+-- What is answered.
+abbrev pub IsAssembled : List ℕ → List ℕ → Bool → Result (whole.Module × listing.Lines) AsmFault → Type 0
+IsAssembled name text grow (Ok m) = Assembles name text grow (Ok (seen m))
+IsAssembled name text grow (Err fault) = IsRefused fault.why name text grow fault
+
+-- .. without the lines from which statements come
+abbrev pub IsAssembledModule : List ℕ → List ℕ → Result whole.Module AsmFault → Type 0
+IsAssembledModule name text (Ok m) = (each : List ℕ) × (last : ℕ) × Assembles name text false (Ok (record { holds = module_of m; each = each; last = last }))
+IsAssembledModule name text (Err fault) = IsRefused fault.why name text false fault

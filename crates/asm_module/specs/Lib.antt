@@ -1,0 +1,4 @@
+pub mod Whys
+pub mod Source
+pub mod Assembled
+pub mod Private

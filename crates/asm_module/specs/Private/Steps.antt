@@ -1,0 +1,85 @@
+-- The steps of the answer, as the code takes them.
+use Rattle.std.specs.Prelude.{◌≡◌, ℕ, Bool, List, [], ◌∷◌, Option, Some, None, Result, Ok, Err, Vec, length, map, take}
+use Rattle.std.specs.Global.{Global}
+use Rattle.asm_expr.specs.Names.{Table}
+use Rattle.asm_order.specs.declared.walk.Turn.{Turn}
+use Rattle.asm_equ.specs.Circles.{TellsCircles}
+use Rattle.asm_equ.specs.declared.layout.Layout as layout
+use Rattle.asm_equ.specs.declared.settling.SettledNames.{SettledNames}
+use Rattle.asm_equ.specs.Layout.{Layout, layout_of}
+use Rattle.asm_equ.specs.Meanings.{externals}
+use Rattle.asm_equ.specs.Settles.{Settles, told}
+use Rattle.asm_names.specs.Faults as defined
+use Rattle.asm_names.specs.Faults.{first}
+use Rattle.asm_names.specs.Lines.{Taken}
+use Rattle.asm_names.specs.Names.{Names, names}
+use Rattle.asm_source.specs.declared.fault.LineFault.{LineFault}
+use Rattle.asm_states.specs.Stated as stated
+use Rattle.asm_states.specs.Stated.{numbered}
+use Rattle.asm_states.specs.declared.stating.Stated.{Stated}
+use Rattle.zmo_module.specs.declared.module.Module as whole
+use Rattle.zmo_module.specs.Modules.{Module, Statement, module_of, statement_of}
+use Rattle.asm_module.specs.declared.fault.AsmFault.{AsmFault}
+use Rattle.asm_module.specs.declared.fault.Why.{Why}
+use Rattle.asm_holding.specs.Holding.{begins, entry, labels, listed, publics}
+use Rattle.asm_module.specs.Source as source
+use Rattle.asm_module.specs.Source.{at, equ_fault, module_by, no_layout, state_fault, statement_lines}
+use Rattle.asm_module.specs.Whys.{line_why, name_why, state_why}
+
+-- memory is out, or this is the fault that was found
+abbrev pub FaultBy : Why → Option AsmFault → AsmFault → Type 0
+FaultBy Why.NoMemory found fault = Unit {0}
+FaultBy why found fault = found ≡ Some fault
+
+abbrev pub IsFault : Option AsmFault → AsmFault → Type 0
+IsFault found fault = FaultBy fault.why found fault
+
+-- The first pass over lines, of which one may spell nothing.
+abbrev pub Passes : List Taken → Option (ℕ × LineFault) → Result Names AsmFault → Type 0
+Passes lines unread (Ok table) = (defined.first_fault lines ≡ None) × (unread ≡ None) × (table ≡ names lines)
+Passes lines unread (Err fault) = IsFault (first (at name_why (defined.first_fault lines) ∷ at line_why unread ∷ [])) fault
+
+-- Names are settled, and statements have their places.
+abbrev pub IsPlaced : Bool → List Taken → List Turn → SettledNames × layout.Layout → Type 0
+IsPlaced grow lines turns (settled, placed) = (layout_of placed ≡ source.layout grow lines (told turns)) × Settles (names lines) lines (told turns) (layout_of placed) settled
+
+-- What lines state, by a table, with the faults of a source.
+abbrev pub States : Bool → Names → Table → Layout → List Taken → Result Stated AsmFault → Type 0
+States grow names t layout lines (Ok s) =
+    (stated.first_fault names t layout lines ≡ None)
+    × (map statement_of s.statements.items ≡ map (λ n. n.1) (numbered grow t layout lines))
+    × (s.lines.items ≡ map (λ n. n.0) (numbered grow t layout lines))
+States grow names t layout lines (Err fault) = IsFault (at state_why (stated.first_fault names t layout lines)) fault
+
+-- A module of statements, by the names and lines of its source.
+abbrev pub held : List ℕ → Bool → List Taken → Layout → List Statement → Module
+held name grow lines layout statements = record {
+  name = take 255 name;
+  begins = begins lines;
+  entry = entry (labels layout (names lines)) lines;
+  grow = grow;
+  statements = statements;
+  labels = labels layout (names lines);
+  publics = publics (labels layout (names lines)) (listed lines);
+  externals = externals (names lines);
+}
+
+-- It is told which lines lead back to themselves, and this is the first fault of lines that passed.
+abbrev pub HasFault : Why → Bool → List Taken → AsmFault → Type 0
+HasFault Why.NoMemory grow lines fault = Unit {0}
+HasFault why grow lines fault =
+    (circle : ℕ → Bool) × TellsCircles (names lines) lines circle
+    × (first (equ_fault lines circle (source.layout grow lines circle) ∷ state_fault lines circle (source.layout grow lines circle) ∷ []) ≡ Some fault)
+
+-- .. or there is none, and this is their module.
+pub record IsWhole (name : List ℕ) (grow : Bool) (lines : List Taken) (m : Module) (each : List ℕ) : Type 0 where
+  pub circle : ℕ → Bool
+  pub tells : TellsCircles (names lines) lines circle
+  pub sound_equs : equ_fault lines circle (source.layout grow lines circle) ≡ None
+  pub sound_others : state_fault lines circle (source.layout grow lines circle) ≡ None
+  pub module_is : m ≡ module_by name grow lines circle (source.layout grow lines circle)
+  pub each_is : each ≡ statement_lines grow lines circle (source.layout grow lines circle)
+
+abbrev pub AnswersLines : List ℕ → Bool → List Taken → Result (whole.Module × Vec ℕ Global) AsmFault → Type 0
+AnswersLines name grow lines (Ok (m, each)) = IsWhole name grow lines (module_of m) each.items
+AnswersLines name grow lines (Err fault) = HasFault fault.why grow lines fault

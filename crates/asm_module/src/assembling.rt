@@ -1,0 +1,79 @@
+//! From a text to a module.
+
+ghost use Rattle.std.specs.Prelude.{false};
+ghost use Rattle.asm_module.specs.Assembled.{IsAssembled, IsAssembledModule};
+
+use crate::fault::{AsmFault, of_macro};
+use crate::lines::assemble_lines;
+use crate::naming::first_pass;
+use asm_source::read_source;
+use std::alloc::Global;
+use zmo_module::Module;
+
+/// From which lines of a source its statements come.
+#[derive(Debug, Drop)]
+pub struct Lines {
+    /// Of each statement the number of its line.
+    pub each: Vec<u32>,
+    /// The number of the last line that a listing has; 0 for a text without lines.
+    pub last: u32,
+}
+
+/// The module that a source text is, under a name of which the first 255 bytes count. Where `grow` says so, a written `JR` may be coded
+/// as a `JP`.
+///
+/// # Errors
+///
+/// The first fault of the source: of its expansion, whatever line that is on; then of the first line that may not define what it defines, or
+/// spells nothing; then of the first EQU line; then of the first other line. [`Why::NoMemory`](crate::Why::NoMemory) alone has no cause in
+/// the text.
+pub fn assemble_with(
+    alloc: Global,
+    name: &[u8],
+    text: &[u8],
+    grow: bool,
+) -> Result<(Module, Lines), AsmFault>
+    ensures { IsAssembled name.now text.now grow result }
+{
+    asm_macro::laws::few_lines();
+    asm_source::laws::each_spelled();
+    asm_source::laws::all_read();
+    asm_spell::laws::few();
+    let source = match read_source(alloc, text) {
+        Ok(source) => source,
+        Err((line, why)) => return Err(of_macro(line, why)),
+    };
+    let table = first_pass(alloc, &source)?;
+    let (module, each) = assemble_lines(alloc, name, &source.lines, &table, grow)?;
+    Ok((
+        module,
+        Lines {
+            each,
+            last: source.last,
+        },
+    ))
+}
+
+/// The module that a source text is, and from which lines its statements come. Each written `JR` is always short.
+///
+/// # Errors
+///
+/// As those of [`assemble_with`].
+pub fn assemble_listed(alloc: Global, name: &[u8], text: &[u8]) -> Result<(Module, Lines), AsmFault>
+    ensures { IsAssembled name.now text.now false result }
+{
+    assemble_with(alloc, name, text, false)
+}
+
+/// The module that a source text is. Each written `JR` is always short.
+///
+/// # Errors
+///
+/// As those of [`assemble_with`].
+pub fn assemble(alloc: Global, name: &[u8], text: &[u8]) -> Result<Module, AsmFault>
+    ensures { IsAssembledModule name.now text.now result }
+{
+    let (module, lines) = assemble_listed(alloc, name, text)?;
+    drop(lines);
+    Ok(module)
+}

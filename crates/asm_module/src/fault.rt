@@ -1,0 +1,121 @@
+//! Why a source is no module.
+
+ghost use Rattle.std.specs.Prelude.{◌≡◌, ℕ};
+ghost use Rattle.asm_module.specs.Whys.{equ_why, line_why, macro_why, name_why, state_why};
+
+use asm_equ::EquFault;
+use asm_macro::MacroFault;
+use asm_names::NameFault;
+use asm_source::LineFault;
+use asm_spell::StmtFault;
+use asm_states::StateFault;
+use std::alloc::AllocError;
+use thiserror::Error;
+
+/// Why a source is no module.
+#[derive(Clone, Copy, Debug, PartialEq, Eq, Error)]
+pub enum Why {
+    /// Its expansion stops.
+    #[error("{0}")]
+    Macro(MacroFault),
+    /// A line spells nothing, or its values are not those of a statement.
+    #[error("{0}")]
+    Stmt(StmtFault),
+    #[error("a name is defined twice")]
+    Duplicate,
+    #[error("a name is not defined")]
+    Undefined,
+    /// `PUBLIC` or `END` has a name that is no label.
+    #[error("a name is no label")]
+    PublicNotLabel,
+    #[error("a name is defined by itself")]
+    EquCircle,
+    #[error("too many statements")]
+    TooManyStatements,
+    #[error("too many names")]
+    TooManyNames,
+    #[error("out of memory")]
+    NoMemory,
+}
+
+/// The first fault of a source, and the number of its line.
+#[derive(Clone, Copy, Debug, PartialEq, Eq, Error)]
+#[error("line {line}: {why}")]
+pub struct AsmFault {
+    pub line: u32,
+    pub why: Why,
+}
+
+/// A fault of the expansion.
+pub(crate) fn of_macro(line: u32, why: MacroFault) -> AsmFault
+    ensures { result ≡ record { line = line; why = macro_why why } }
+{
+    let why = match why {
+        MacroFault::NoMemory => Why::NoMemory,
+        _ => Why::Macro(why),
+    };
+    AsmFault { line, why }
+}
+
+/// A line that spells nothing. (Each line of an expansion scans.)
+pub(crate) fn of_line(line: u32, why: LineFault) -> AsmFault
+    ensures { result ≡ record { line = line; why = line_why why } }
+{
+    let why = match why {
+        LineFault::Scan(fault) => Why::Macro(MacroFault::Scan(fault)),
+        LineFault::Stmt(fault) => Why::Stmt(fault),
+    };
+    AsmFault { line, why }
+}
+
+/// A line that may not define what it defines.
+pub(crate) fn of_name(line: u32, why: NameFault) -> AsmFault
+    ensures { result ≡ record { line = line; why = name_why why } }
+{
+    let why = match why {
+        NameFault::Duplicate => Why::Duplicate,
+        NameFault::TooManyStatements => Why::TooManyStatements,
+        NameFault::TooManyNames => Why::TooManyNames,
+        NameFault::NoMemory => Why::NoMemory,
+    };
+    AsmFault { line, why }
+}
+
+/// A faulty EQU.
+pub(crate) fn of_equ(line: u32, why: EquFault) -> AsmFault
+    ensures { result ≡ record { line = line; why = equ_why why } }
+{
+    let why = match why {
+        EquFault::Undefined => Why::Undefined,
+        EquFault::EquCircle => Why::EquCircle,
+        EquFault::Expr(fault) => Why::Stmt(StmtFault::Expr(fault)),
+    };
+    AsmFault { line, why }
+}
+
+/// Another faulty line.
+pub(crate) fn of_state(line: u32, why: StateFault) -> AsmFault
+    ensures { result ≡ record { line = line; why = state_why why } }
+{
+    let why = match why {
+        StateFault::Undefined => Why::Undefined,
+        StateFault::Stmt(fault) => Why::Stmt(fault),
+        StateFault::PublicNotLabel => Why::PublicNotLabel,
+        StateFault::NoMemory => Why::NoMemory,
+    };
+    AsmFault { line, why }
+}
+
+impl From<AllocError> for AsmFault {
+    ghost use Rattle.std.specs.Prelude.{◌≡◌};
+    ghost use Rattle.asm_module.specs.declared.fault.Why.TheVariants.{NoMemory};
+
+    ghost from_gives = { λ _ e. e ≡ record { line = 0; why = NoMemory } };
+
+    fn from(_e: AllocError) -> AsmFault {
+        AsmFault {
+            line: 0,
+            why: Why::NoMemory,
+        }
+    }
+}

@@ -1,0 +1,105 @@
+//! The lines of a source to a module.
+
+ghost use Rattle.std.specs.Prelude.{◌≡◌, ◌<◌, ◌^◌, ℕ, All, Bool, List, None, IfOk, length, map, take};
+ghost use Rattle.asm_expr.specs.Names.{found};
+ghost use Rattle.asm_equ.specs.Layout.{layout_of};
+ghost use Rattle.asm_layout.specs.Laid.{HasFew};
+ghost use Rattle.asm_names.specs.Faults.{first_fault};
+ghost use Rattle.asm_names.specs.Lines.{lines_of};
+ghost use Rattle.asm_names.specs.Names.{kind_of, names};
+ghost use Rattle.zmo_module.specs.Modules.{module_of, statement_of};
+ghost use Rattle.asm_module.specs.Private.Steps.{AnswersLines, States, held};
+
+use crate::fault::{AsmFault, of_equ, of_state};
+use crate::placing::place;
+use asm_equ::{Layout, turns_of};
+use asm_expr::Names;
+use asm_holding::{begins, entry_of, externals_of, labels_of, publics_of};
+use asm_names::{NameTable, SourceLine};
+use asm_states::{Stated, Statement, state_lines};
+use std::alloc::{AllocError, Global};
+use zmo_module::Module;
+
+/// The statements of lines, or the first line other than an EQU that is faulty.
+fn state(
+    alloc: Global,
+    lines: &[SourceLine],
+    table: &NameTable,
+    names: Names,
+    layout: &Layout,
+    grow: bool,
+) -> Result<Stated, AsmFault>
+    requires { (name : List ℕ) → found names name ≡ None → kind_of table.now name ≡ None }
+    ensures { States grow table.now names (layout_of layout.now) (lines_of lines.now) result }
+{
+    match state_lines(alloc, lines, table, names, layout, grow) {
+        Ok(stated) => Ok(stated),
+        Err((line, why)) => Err(of_state(line, why)),
+    }
+}
+
+/// The first 255 bytes of a name.
+fn short_name(alloc: Global, name: &[u8]) -> Result<Vec<u8>, AllocError>
+    ensures { IfOk result (λ short. short.items ≡ take 255 name.now) }
+{
+    let mut short = name.to_vec(alloc)?;
+    short.truncate(255);
+    Ok(short)
+}
+
+/// A module of statements, with what else the lines of its source say.
+fn hold(
+    alloc: Global,
+    name: &[u8],
+    lines: &[SourceLine],
+    table: &NameTable,
+    layout: &Layout,
+    statements: Vec<Statement>,
+    grow: bool,
+) -> Result<Module, AllocError>
+    requires names { table.now ≡ names (lines_of lines.now) }
+    requires sound { first_fault (lines_of lines.now) ≡ None }
+    ensures { IfOk result (λ m. module_of m ≡ held name.now grow (lines_of lines.now) (layout_of layout.now) (map statement_of statements.items)) }
+{
+    asm_names::laws::few();
+    asm_holding::laws::kept();
+    let labels = labels_of(alloc, table, layout)?;
+    let publics = publics_of(alloc, &labels, lines)?;
+    Ok(Module {
+        name: short_name(alloc, name)?,
+        begins: begins(lines),
+        entry: entry_of(&labels, lines),
+        grow,
+        statements,
+        labels,
+        publics,
+        externals: externals_of(alloc, table)?,
+    })
+}
+
+/// The module of lines that define names soundly, and the line of each statement.
+pub(crate) fn assemble_lines(
+    alloc: Global,
+    name: &[u8],
+    lines: &[SourceLine],
+    table: &NameTable,
+    grow: bool,
+) -> Result<(Module, Vec<u32>), AsmFault>
+    requires sound { first_fault (lines_of lines.now) ≡ None }
+    requires names { table.now ≡ names (lines_of lines.now) }
+    requires few { length lines.now < 2 ^ 32 }
+    requires data { All HasFew (lines_of lines.now) }
+    ensures { AnswersLines name.now grow (lines_of lines.now) result }
+{
+    asm_equ::laws::told();
+    asm_states::laws::all_found();
+    asm_states::laws::stated_by_names();
+    let turns = turns_of(alloc, lines, table)?;
+    let (settled, layout) = place(alloc, lines, table, &turns, grow)?;
+    if let Some((line, why)) = settled.fault {
+        return Err(of_equ(line, why));
+    }
+    let stated = state(alloc, lines, table, settled.names, &layout, grow)?;
+    let module = hold(alloc, name, lines, table, &layout, stated.statements, grow)?;
+    Ok((module, stated.lines))
+}

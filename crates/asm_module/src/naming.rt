@@ -1,0 +1,23 @@
+//! The first pass.
+
+ghost use Rattle.asm_names.specs.Lines.{lines_of};
+ghost use Rattle.asm_module.specs.Private.Steps.{Passes};
+
+use crate::fault::{AsmFault, of_line, of_name};
+use asm_names::{NameTable, names_of};
+use asm_source::SourceText;
+use std::alloc::Global;
+
+/// The names of a source, or the first line that may not define what it defines or spells nothing.
+pub(crate) fn first_pass(alloc: Global, source: &SourceText) -> Result<NameTable, AsmFault>
+    ensures { Passes (lines_of source.now.lines.items) source.now.unread result }
+{
+    let table = match names_of(alloc, &source.lines) {
+        Ok(table) => table,
+        Err((line, why)) => return Err(of_name(line, why)),
+    };
+    match source.unread {
+        Some((line, why)) => Err(of_line(line, why)),
+        None => Ok(table),
+    }
+}
