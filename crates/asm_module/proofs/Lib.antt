@@ -2,3 +2,4 @@ mod Placed
 mod Passed
 mod Whole
 mod Held
+mod Kept

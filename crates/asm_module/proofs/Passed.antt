@@ -61,13 +61,18 @@ abbrev pub SameStatements : Type 0
 SameStatements = (t u : Table) → ((name : List ℕ) → found t name ≡ found u name) → t.statements ≡ u.statements →
     (grow : Bool) (layout : Layout) (lines : List Taken) → numbered grow t layout lines ≡ numbered grow u layout lines
 
--- the turns of lines tell which lead back to themselves
+-- turns of the lines that code has are turns of those that it stands for
+pub order_of : (given : Names) (lines : List SourceLine) (turns items : List Turn) → given ≡ names (lines_of lines) → turns ≡ items → IsOrder (length lines) (lines_named given (lines_of lines)) items
+    → IsOrder (length (lines_of lines)) (lines_named (names (lines_of lines)) (lines_of lines)) turns
+order_of given lines turns items names_are turns_are order =
+    subst (λ n. IsOrder n (lines_named (names (lines_of lines)) (lines_of lines)) turns) (sym (length-map lines taken_of))
+    (subst (λ g. IsOrder (length lines) (lines_named g (lines_of lines)) turns) names_are (subst (λ t. IsOrder (length lines) (lines_named given (lines_of lines)) t) (sym turns_are) order))
+
+-- .. and tell which lead back to themselves
 pub tells_of : ((given : Names) (lines : List Taken) (turns : List Turn) → IsOrder (length lines) (lines_named given lines) turns → TellsCircles given lines (told turns))
     → (given : Names) (lines : List SourceLine) (turns items : List Turn) → given ≡ names (lines_of lines) → turns ≡ items → IsOrder (length lines) (lines_named given (lines_of lines)) items
     → TellsCircles (names (lines_of lines)) (lines_of lines) (told turns)
-tells_of tells given lines turns items names_are turns_are order =
-    tells (names (lines_of lines)) (lines_of lines) turns
-    (subst (λ n. IsOrder n (lines_named (names (lines_of lines)) (lines_of lines)) turns) (sym (length-map lines taken_of)) (subst (λ g. IsOrder (length lines) (lines_named g (lines_of lines)) turns) names_are (subst (λ t. IsOrder (length lines) (lines_named given (lines_of lines)) t) (sym turns_are) order)))
+tells_of tells given lines turns items names_are turns_are order = tells (names (lines_of lines)) (lines_of lines) turns (order_of given lines turns items names_are turns_are order)
 
 module _ (grow : Bool) (lines : List Taken) (turns : List Turn) (layout : Layout) (settled : SettledNames)
     (tells : TellsCircles (names lines) lines (told turns)) (layout_is : layout ≡ source.layout grow lines (told turns))

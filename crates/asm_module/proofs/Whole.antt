@@ -7,6 +7,10 @@ use Rattle.asm_scan.specs.Tokens.{Lexeme}
 use Rattle.asm_spell.specs.Few.{IsFew}
 use Rattle.asm_spell.specs.Line as line
 use Rattle.asm_spell.specs.Line.{Body, Line}
+use Rattle.asm_parse.specs.Names.{IsDefinable}
+use Rattle.asm_rules.specs.Fitting.{IsReadLine}
+use Rattle.asm_spell.specs.Names.{line_names}
+use Rattle.zmo_module.specs.Rules.{IsObjectName}
 use Rattle.asm_spell.specs.Spelling.{spelled}
 use Rattle.asm_equ.specs.Circles.{TellsCircles}
 use Rattle.asm_layout.specs.Laid.{HasFew, IsFewIn}
@@ -145,3 +149,25 @@ module _ (name text : List ℕ) (grow : Bool) (from : List Numbered) (expanded :
       by_line (line.Equ x e) there tokens scans spells = tt
       by_line (line.Statement label None) there tokens scans spells = tt
       by_line (line.Statement label (Some body)) there tokens scans spells = few there.text tokens label body scans spells
+
+  -- Each line is spelled.
+  pub spelled_line : ((lines : List Numbered) (k : ℕ) (l : Taken) → slice_get (taken lines) k ≡ Some l → (there : Numbered) × (slice_get lines k ≡ Some there) × IsRead there l)
+      → ((bytes : List ℕ) (tokens : List Lexeme) (label : Option (List ℕ)) (body : Body) → scanned bytes ≡ Ok tokens → spelled tokens ≡ Ok (line.Statement label (Some body)) → IsFew body)
+      → (k : ℕ) (l : Taken) → slice_get lines k ≡ Some l → IsReadLine l.line
+  spelled_line each few k l there =
+      let r = each from k l (ap (λ ls. slice_get ls k) (sym are) ∙ there) in
+      by_line l.line r.0 r.2.tokens r.2.scans r.2.spells
+    where
+      by_line : (one : Line) (there : Numbered) (tokens : List Lexeme) → scanned there.text ≡ Ok tokens → spelled tokens ≡ Ok one → IsReadLine one
+      by_line (line.Equ x e) there tokens scans spells = tt
+      by_line (line.Statement label None) there tokens scans spells = tt
+      by_line (line.Statement label (Some body)) there tokens scans spells = (record { tokens = tokens; label = label; is = spells }, few there.text tokens label body scans spells)
+
+  -- Its names are those of an object.
+  pub named_line : ((lines : List Numbered) (k : ℕ) (l : Taken) → slice_get (taken lines) k ≡ Some l → (there : Numbered) × (slice_get lines k ≡ Some there) × IsRead there l)
+      → ((bytes : List ℕ) (tokens : List Lexeme) (one : Line) → scanned bytes ≡ Ok tokens → spelled tokens ≡ Ok one → All IsDefinable (line_names one))
+      → ((bytes : List ℕ) (tokens : List Lexeme) (one : Line) → scanned bytes ≡ Ok tokens → spelled tokens ≡ Ok one → All (λ name. length name ≤ 255) (line_names one))
+      → (k : ℕ) (l : Taken) → slice_get lines k ≡ Some l → All IsObjectName (line_names l.line)
+  named_line each definable short k l there =
+      let r = each from k l (ap (λ ls. slice_get ls k) (sym are) ∙ there) in
+      λ j d lt. (definable r.0.text r.2.tokens l.line r.2.scans r.2.spells j d lt, short r.0.text r.2.tokens l.line r.2.scans r.2.spells j d lt)

@@ -1,6 +1,8 @@
 //! From a text to a module.
 
-ghost use Rattle.std.specs.Prelude.{false};
+ghost use Rattle.std.specs.Prelude.{IfOk, false};
+ghost use Rattle.zmo_module.specs.Modules.{module_of};
+ghost use Rattle.zmo_module.specs.Rules.{IsModule};
 ghost use Rattle.asm_module.specs.Assembled.{IsAssembled, IsAssembledModule};
 
 use crate::fault::{AsmFault, of_macro};
@@ -33,12 +35,14 @@ pub fn assemble_with(
     text: &[u8],
     grow: bool,
 ) -> Result<(Module, Lines), AsmFault>
-    ensures { IsAssembled name.now text.now grow result }
+    ensures answer { IsAssembled name.now text.now grow result }
+    ensures kept { IfOk result (λ r. IsModule (module_of r.0)) }
 {
     asm_macro::laws::few_lines();
     asm_source::laws::each_spelled();
     asm_source::laws::all_read();
     asm_spell::laws::few();
+    asm_spell::laws::names();
     let source = match read_source(alloc, text) {
         Ok(source) => source,
         Err((line, why)) => return Err(of_macro(line, why)),
@@ -60,7 +64,8 @@ pub fn assemble_with(
 ///
 /// As those of [`assemble_with`].
 pub fn assemble_listed(alloc: Global, name: &[u8], text: &[u8]) -> Result<(Module, Lines), AsmFault>
-    ensures { IsAssembled name.now text.now false result }
+    ensures answer { IsAssembled name.now text.now false result }
+    ensures kept { IfOk result (λ r. IsModule (module_of r.0)) }
 {
     assemble_with(alloc, name, text, false)
 }
@@ -71,7 +76,8 @@ pub fn assemble_listed(alloc: Global, name: &[u8], text: &[u8]) -> Result<(Modul
 ///
 /// As those of [`assemble_with`].
 pub fn assemble(alloc: Global, name: &[u8], text: &[u8]) -> Result<Module, AsmFault>
-    ensures { IsAssembledModule name.now text.now result }
+    ensures answer { IsAssembledModule name.now text.now result }
+    ensures kept { IfOk result (λ m. IsModule (module_of m)) }
 {
     let (module, lines) = assemble_listed(alloc, name, text)?;
     drop(lines);

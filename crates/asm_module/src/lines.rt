@@ -7,7 +7,10 @@ ghost use Rattle.asm_layout.specs.Laid.{HasFew};
 ghost use Rattle.asm_names.specs.Faults.{first_fault};
 ghost use Rattle.asm_names.specs.Lines.{lines_of};
 ghost use Rattle.asm_names.specs.Names.{kind_of, names};
+ghost use Rattle.asm_rules.specs.Fitting.{IsReadLine};
+ghost use Rattle.asm_spell.specs.Names.{line_names};
 ghost use Rattle.zmo_module.specs.Modules.{module_of, statement_of};
+ghost use Rattle.zmo_module.specs.Rules.{IsModule, IsObjectName};
 ghost use Rattle.asm_module.specs.Private.Steps.{AnswersLines, States, held};
 
 use crate::fault::{AsmFault, of_equ, of_state};
@@ -16,6 +19,7 @@ use asm_equ::{Layout, turns_of};
 use asm_expr::Names;
 use asm_holding::{begins, entry_of, externals_of, labels_of, publics_of};
 use asm_names::{NameTable, SourceLine};
+use asm_rules::fit_words;
 use asm_states::{Stated, Statement, state_lines};
 use std::alloc::{AllocError, Global};
 use zmo_module::Module;
@@ -89,17 +93,35 @@ pub(crate) fn assemble_lines(
     requires names { table.now ≡ names (lines_of lines.now) }
     requires few { length lines.now < 2 ^ 32 }
     requires data { All HasFew (lines_of lines.now) }
-    ensures { AnswersLines name.now grow (lines_of lines.now) result }
+    requires spelled { All (λ l. IsReadLine l.line) (lines_of lines.now) }
+    requires named { All (λ l. All IsObjectName (line_names l.line)) (lines_of lines.now) }
+    ensures answer { AnswersLines name.now grow (lines_of lines.now) result }
+    ensures kept { IfOk result (λ r. IsModule (module_of r.0)) }
 {
     asm_equ::laws::told();
+    asm_equ::laws::valued();
+    asm_equ::laws::refs();
+    asm_layout::laws::like();
+    asm_names::laws::few();
+    asm_names::laws::distinct();
     asm_states::laws::all_found();
     asm_states::laws::stated_by_names();
+    asm_stands::laws::sized();
+    asm_stands::laws::laid();
+    asm_stands::laws::within();
+    asm_rules::laws::kept();
+    asm_rules::laws::few();
+    asm_holding::laws::named();
+    asm_holding::laws::kept();
+    asm_holding::laws::within();
     let turns = turns_of(alloc, lines, table)?;
     let (settled, layout) = place(alloc, lines, table, &turns, grow)?;
     if let Some((line, why)) = settled.fault {
         return Err(of_equ(line, why));
     }
+    settled.names.counted();
     let stated = state(alloc, lines, table, settled.names, &layout, grow)?;
+    fit_words(&stated.statements);
     let module = hold(alloc, name, lines, table, &layout, stated.statements, grow)?;
     Ok((module, stated.lines))
 }

@@ -9,16 +9,16 @@ use Rattle.asm_source.specs.Source.{last_listed}
 use Rattle.asm_names.specs.Lines.{lines_of, taken_of}
 use Rattle.zmo_module.specs.Modules.{module_of}
 use Rattle.asm_module.specs.Assembled.{IsRefused}
-use Rattle.asm_module.proofs.Whole.{few_data, few_lines, no_fault, other_fault, passed_fault, stops}
+use Rattle.asm_module.proofs.Whole.{few_data, few_lines, named_line, no_fault, other_fault, passed_fault, spelled_line, stops}
 use Rattle.asm_module.proofs.assembling.assemble_with.Goals as goal
 
-pub returns-in-Err : goal.returns-in-Err
-returns-in-Err c =
+pub returns-in-Err-clause-answer : goal.returns-in-Err-clause-answer
+returns-in-Err-clause-answer c =
     subst (λ f. IsRefused f.why c.args.name.now c.args.text.now c.args.grow f) (sym c.of_macro.ensures)
     (stops c.args.name.now c.args.text.now c.args.grow c.in-Err.line c.in-Err.why c.in-Err.ensures)
 
-pub returns-in_err-table : goal.returns-in_err-table
-returns-in_err-table c =
+pub returns-in_err-table-clause-answer : goal.returns-in_err-table-clause-answer
+returns-in_err-table-clause-answer c =
     let p = err_from_is_err_and c.from_residual.result c.from_residual.ensures.1 in
     let s = c.in-Ok.ensures in
     rw (p.1, p.2) (passed_fault c.args.name.now c.args.text.now c.args.grow s.0 s.1 (lines_of c.in-Ok.source.lines.items) s.2 c.in-Ok.source.unread c.in_err-table.field-0.0 s.3 c.in_err-table.ensures)
@@ -36,14 +36,24 @@ assemble_lines-requires-clause-data c =
     let s = c.in-Ok.ensures in λ k d lt.
     few_data c.args.name.now c.args.text.now c.args.grow s.0 s.1 (lines_of c.deref.result.now) (ap lines_of c.deref.ensures.value ∙ s.2) c.each_spelled.ensures c.few.ensures.data k _ (slice_get-get_or (lines_of c.deref.result.now) k d lt)
 
-pub returns-in_err-module : goal.returns-in_err-module
-returns-in_err-module c =
+pub returns-in_err-module-clause-answer : goal.returns-in_err-module-clause-answer
+returns-in_err-module-clause-answer c =
     let p = err_from_is_err_and c.from_residual-in_err-module.result c.from_residual-in_err-module.ensures.1 in
     let s = c.in-Ok.ensures in
-    rw (p.1, p.2) (other_fault c.args.name.now c.args.text.now c.args.grow s.0 s.1 (lines_of c.deref.result.now) (ap lines_of c.deref.ensures.value ∙ s.2) (ap (λ ls. first_fault (lines_of ls)) c.deref.ensures.value ∙ c.in_ok-table.ensures.0) (sym s.3 ∙ c.in_ok-table.ensures.1) c.in_err-module.field-0.0 c.in_err-module.ensures)
+    rw (p.1, p.2) (other_fault c.args.name.now c.args.text.now c.args.grow s.0 s.1 (lines_of c.deref.result.now) (ap lines_of c.deref.ensures.value ∙ s.2) (ap (λ ls. first_fault (lines_of ls)) c.deref.ensures.value ∙ c.in_ok-table.ensures.0) (sym s.3 ∙ c.in_ok-table.ensures.1) c.in_err-module.field-0.0 c.in_err-module.ensures.answer)
 
-pub returns : goal.returns
-returns c =
+pub returns-clause-answer : goal.returns-clause-answer
+returns-clause-answer c =
     let s = c.in-Ok.ensures in
     no_fault c.args.name.now c.args.text.now c.args.grow s.0 s.1 (lines_of c.deref.result.now) (ap lines_of c.deref.ensures.value ∙ s.2) (ap (λ ls. first_fault (lines_of ls)) c.deref.ensures.value ∙ c.in_ok-table.ensures.0) (sym s.3 ∙ c.in_ok-table.ensures.1) c.in-Ok.source.last (module_of c.in_ok-module.module) c.in_ok-module.each.items
-    (s.4 ∙ ap (last_listed (length (source_lines c.args.text.now))) (sym (ap lines_of c.deref.ensures.value ∙ s.2))) c.in_ok-module.ensures
+    (s.4 ∙ ap (last_listed (length (source_lines c.args.text.now))) (sym (ap lines_of c.deref.ensures.value ∙ s.2))) c.in_ok-module.ensures.answer
+
+pub assemble_lines-requires-clause-spelled : goal.assemble_lines-requires-clause-spelled
+assemble_lines-requires-clause-spelled c =
+    let s = c.in-Ok.ensures in λ k d lt.
+    spelled_line c.args.name.now c.args.text.now c.args.grow s.0 s.1 (lines_of c.deref.result.now) (ap lines_of c.deref.ensures.value ∙ s.2) c.each_spelled.ensures c.few.ensures.data k _ (slice_get-get_or (lines_of c.deref.result.now) k d lt)
+
+pub assemble_lines-requires-clause-named : goal.assemble_lines-requires-clause-named
+assemble_lines-requires-clause-named c =
+    let s = c.in-Ok.ensures in λ k d lt.
+    named_line c.args.name.now c.args.text.now c.args.grow s.0 s.1 (lines_of c.deref.result.now) (ap lines_of c.deref.ensures.value ∙ s.2) c.each_spelled.ensures c.names.ensures.defined c.few.ensures.names k _ (slice_get-get_or (lines_of c.deref.result.now) k d lt)
