@@ -29,7 +29,7 @@ use Rattle.asm_piece.specs.Made as made
 use Rattle.asm_piece.specs.Made.{Fillings, Made, Nothing, Piece, Some_piece, code_hole, coded, fillings, is_origin, laid, long_jump, number_in, ref_of, sized_by, space_fill, space_size}
 use Rattle.asm_piece.specs.Sized.{piece_sized}
 use Rattle.asm_piece.proofs.Making.{as_stmt_ok, bind_ok, code_made, code_something, is_space, jump_something, laid_something, no_space, number_in_ok, origin_nothing, short_something, size_kept, space_made, space_settled}
-use Rattle.asm_reads.specs.Linked.{IsLinked}
+use Rattle.asm_reads.specs.Linked.{filled}
 use Rattle.asm_reads.specs.Pieces.{IsPiece, LeadsTo, datum_bytes, short_jump, sized_as, takes, valued, width}
 use Rattle.asm_reads.proofs.Fields.{AreFields, IsReady}
 use Rattle.asm_reads.specs.Statement as statement
@@ -41,9 +41,16 @@ use Rattle.asm_reads.proofs.Holes.{cells_filled}
 use Rattle.asm_reads.proofs.Rows.{Rows}
 use Rattle.asm_reads.proofs.Values.{settled_worth}
 
+-- The bytes are what is made of a piece.
+abbrev pub IsLinkedPiece : ℕ → Bool → (ℕ → ℕ) → Piece → List ℕ → Type 0
+IsLinkedPiece at long places (made.Bytes blank holes) bs = bs ≡ filled places blank holes
+IsLinkedPiece at long places (made.Space n fill) bs = IsPiece at long places (statement.Space n fill) bs
+IsLinkedPiece at long places (made.Jump condition target) bs = IsPiece at long places (statement.Jump condition target) bs
+IsLinkedPiece at long places (made.Short branch target) bs = IsPiece at long places (statement.Short branch target) bs
+
 pub record Holds (t : Table) (p : Piece) (s : Statement) : Type 0 where
   pub size : piece_sized p ≡ sized_as s
-  pub pieces : (places : ℕ → ℕ) → Step t.statements places → (at : ℕ) (long : Bool) (bs : List ℕ) → All (λ b. b < 256) bs → IsLinked at long places p bs
+  pub pieces : (places : ℕ → ℕ) → Step t.statements places → (at : ℕ) (long : Bool) (bs : List ℕ) → All (λ b. b < 256) bs → IsLinkedPiece at long places p bs
       → IsPiece at long places s bs × (length bs ≡ takes long (sized_as s))
 
 -- Instructions.
@@ -55,7 +62,7 @@ code_holds rows t instr numbers p fields ok is =
     record {
       size = ap piece_sized (sym c.piece) ∙ ap Sized (size_kept rows.size (map (λ n. (n.0, number_or_0 n.1)) c.read) instr);
       pieces = λ places step at long bs small linked. (
-          let same : bs ≡ canonical (at_of places t numbers instr) = subst (λ q. IsLinked at long places q bs) (sym c.piece) linked ∙ read.filled places step in
+          let same : bs ≡ canonical (at_of places t numbers instr) = subst (λ q. IsLinkedPiece at long places q bs) (sym c.piece) linked ∙ read.filled places step in
           (record { numbers = read.range places step (subst (All (λ b. b < 256)) same small); spelled = inl same }, ap length same ∙ size_kept rows.size (valued places (map (λ n. (n.0, filling t n.0 n.1)) numbers)) instr)
           );
     }
@@ -70,7 +77,7 @@ data_holds : (t : Table) (p : Piece) (items : List Datum) → Lays p items t →
 data_holds t p items l = record {
   size = ap piece_sized (sym l.piece) ∙ ap Sized l.size;
   pieces = λ places step at long bs small linked. (
-      let same : bs ≡ flat_map (datum_bytes places) items = subst (λ q. IsLinked at long places q bs) (sym l.piece) linked ∙ cells_filled places [] l.fields ∙ l.places places step in
+      let same : bs ≡ flat_map (datum_bytes places) items = subst (λ q. IsLinkedPiece at long places q bs) (sym l.piece) linked ∙ cells_filled places [] l.fields ∙ l.places places step in
       (same, ap length same ∙ data_size places items)
       );
 }
@@ -80,12 +87,12 @@ long_size : (condition : Option ShortCond) (n : ℕ) (bs : List ℕ) → Codes (
 long_size None n bs codes = elim codes.spelled as (λ _. length bs ≡ 3) [ inl is ↦ ap length is | inr bad ↦ cc ]
 long_size (Some condition) n bs codes = elim codes.spelled as (λ _. length bs ≡ 3) [ inl is ↦ ap length is | inr bad ↦ cc ]
 
-short_size : (branch : Branch) (e : ℤ) (bs : List ℕ) → Codes (short_jump branch e) bs → length bs ≡ 2
+pub short_size : (branch : Branch) (e : ℤ) (bs : List ℕ) → Codes (short_jump branch e) bs → length bs ≡ 2
 short_size (Branch.Relative None) e bs codes = elim codes.spelled as (λ _. length bs ≡ 2) [ inl is ↦ ap length is | inr bad ↦ cc ]
 short_size (Branch.Relative (Some condition)) e bs codes = elim codes.spelled as (λ _. length bs ≡ 2) [ inl is ↦ ap length is | inr bad ↦ cc ]
 short_size Branch.CountDown e bs codes = elim codes.spelled as (λ _. length bs ≡ 2) [ inl is ↦ ap length is | inr bad ↦ cc ]
 
-jump_size : (at to : ℕ) (long : Bool) (condition : Option ShortCond) (bs : List ℕ) → MatchBool long (Codes (long_jump condition to) bs) (LeadsTo at to (Branch.Relative condition) bs) → length bs ≡ (if long then 3 else 2)
+pub jump_size : (at to : ℕ) (long : Bool) (condition : Option ShortCond) (bs : List ℕ) → MatchBool long (Codes (long_jump condition to) bs) (LeadsTo at to (Branch.Relative condition) bs) → length bs ≡ (if long then 3 else 2)
 jump_size at to true condition bs codes = long_size condition to bs codes
 jump_size at to false condition bs leads = short_size (Branch.Relative condition) leads.0 bs leads.2
 
@@ -126,7 +133,7 @@ space_piece t n b p same =
     subst (λ q. Holds t q (statement.Space n b)) same (record { size = refl; pieces = λ places step at long bs small linked. (linked, ap length linked ∙ length-replicate n b) })
 
 space_holds : (t : Table) (size : line.Expression) (fill : Option line.Expression) (p : Piece) → made.space t size fill ≡ Ok (Some_piece p)
-    → (s : Statement) × (stated t (line.Space size fill) ≡ Some s) × Holds t p s
+    → (s : Statement) × (stated false t (line.Space size fill) ≡ Some s) × Holds t p s
 space_holds t size fill p is =
     let m = space_made t size fill (Some_piece p) is in
     let space = is_space (number_in m.settled) m.filling p m.is in
@@ -139,7 +146,7 @@ space_holds t size fill p is =
 
 -- The whole.
 abbrev Answer : Table → line.Body → Piece → Type 0
-Answer t b p = (s : Statement) × (stated t b ≡ Some s) × Holds t p s
+Answer t b p = (s : Statement) × (stated false t b ≡ Some s) × Holds t p s
 
 pub holds : Rows → (t : Table) (b : line.Body) (p : Piece) → IsReady b → made.made t b ≡ Ok (Some_piece p) → Answer t b p
 holds rows t (line.Code instr numbers) p ready is = (statement.Code instr (map (λ n. (n.0, filling t n.0 n.1)) numbers), refl, code_holds rows t instr numbers p ready.0 ready.1 is)
@@ -150,7 +157,7 @@ holds rows t (line.Short branch target) p ready is = by_ref (ref_of (found t tar
     by_ref (Some r) was is =
         let same : made.Short branch r ≡ p = cc in (
           statement.Short branch r,
-          ap (λ o. statement.short_by o branch) was,
+          ap (λ o. statement.short_by false o branch) was,
           subst (λ q. Holds t q (statement.Short branch r)) same (record { size = refl; pieces = λ places step at long bs small linked. (linked, short_size branch linked.0 bs linked.2) }),
         )
     by_ref None was is = cc
@@ -162,12 +169,12 @@ holds rows t (line.Origin e) p ready is = let bad = origin_nothing t e (Some_pie
 holds rows t b p ready is = cc
 
 -- What makes nothing states nothing.
-space_nothing : (t : Table) (size : line.Expression) (fill : Option line.Expression) → made.space t size fill ≡ Ok Nothing → stated t (line.Space size fill) ≡ None
+space_nothing : (t : Table) (size : line.Expression) (fill : Option line.Expression) → made.space t size fill ≡ Ok Nothing → stated false t (line.Space size fill) ≡ None
 space_nothing t size fill is =
     let m = space_made t size fill Nothing is in
     ap (λ k. spaced k (fill_byte t fill)) (size_fixed t size m.settled 0 m.size (no_space (number_in m.settled) m.filling m.is))
 
-pub nothing : (t : Table) (b : line.Body) → made.made t b ≡ Ok Nothing → stated t b ≡ None
+pub nothing : (t : Table) (b : line.Body) → made.made t b ≡ Ok Nothing → stated false t b ≡ None
 nothing t (line.Code instr numbers) is = absurd (code_something t instr numbers is)
 nothing t (line.Jump condition target) is = absurd (jump_something t condition target (ref_of (found t target)) is)
 nothing t (line.Short branch target) is = absurd (short_something (ref_of (found t target)) branch is)

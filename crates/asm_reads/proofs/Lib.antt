@@ -7,5 +7,6 @@ pub mod Fields
 pub mod Numbers
 pub mod Coding
 pub mod Holding
+mod Growing
 pub mod Keeping
 mod Example

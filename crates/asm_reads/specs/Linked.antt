@@ -1,11 +1,11 @@
--- What a linker makes of a piece: holes are filled, jumps are coded.
+-- What a linker makes of a statement of a module: holes are filled, jumps are coded.
 use Rattle.std.specs.Prelude.{◌≡◌, ℕ, ◌+◌, Bool, List, [], ◌∷◌, ◌++◌, length, take, drop}
 use Rattle.asm_expr.specs.Items.{value}
 use Rattle.asm_expr.specs.Postfix.{tree}
 use Rattle.zmo_module.specs.declared.hole.Hole.{Hole}
 use Rattle.asm_piece.specs.Cells.{written}
-use Rattle.asm_piece.specs.Made as made
-use Rattle.asm_piece.specs.Made.{Piece}
+use Rattle.zmo_module.specs.Modules as object
+use Rattle.zmo_module.specs.Modules.{Statement}
 use Rattle.asm_reads.specs.Statement as statement
 use Rattle.asm_reads.specs.Pieces.{IsPiece}
 
@@ -20,9 +20,9 @@ abbrev pub filled : (ℕ → ℕ) → List ℕ → List Hole → List ℕ
 filled places bytes [] = bytes
 filled places bytes (h ∷ hs) = filled places (fill_one places bytes h) hs
 
--- The bytes are what is made of a piece at a place, long or short, where each ref has its place.
-abbrev pub IsLinked : ℕ → Bool → (ℕ → ℕ) → Piece → List ℕ → Type 0
-IsLinked at long places (made.Bytes blank holes) bytes = bytes ≡ filled places blank holes
-IsLinked at long places (made.Space n fill) bytes = IsPiece at long places (statement.Space n fill) bytes
-IsLinked at long places (made.Jump condition target) bytes = IsPiece at long places (statement.Jump condition target) bytes
-IsLinked at long places (made.Short branch target) bytes = IsPiece at long places (statement.Short branch target) bytes
+-- The bytes are what is made of a statement of a module at a place, long or short, where each ref has its place.
+abbrev pub IsLinked : ℕ → Bool → (ℕ → ℕ) → Statement → List ℕ → Type 0
+IsLinked at long places (object.Bytes blank holes) bytes = bytes ≡ filled places blank holes
+IsLinked at long places (object.Space n fill) bytes = IsPiece at long places (statement.Space n fill) bytes
+IsLinked at long places (object.Jump marked condition target) bytes = IsPiece at long places (statement.Jump condition target) bytes
+IsLinked at long places (object.Short branch target) bytes = IsPiece at long places (statement.Short branch target) bytes

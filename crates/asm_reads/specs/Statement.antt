@@ -1,5 +1,5 @@
 -- What a spelled line states in a program, where no fault is found in it.
-use Rattle.std.specs.Prelude.{ℕ, zero, suc, ◌%◌, List, [], ◌∷◌, Option, Some, None, map}
+use Rattle.std.specs.Prelude.{ℕ, Bool, true, zero, suc, ◌%◌, List, [], ◌∷◌, Option, Some, None, map}
 use Rattle.std.specs.List.{flat_map}
 use Rattle.asm_parse.specs.declared.item.Item.{Item}
 use Rattle.asm_parse.specs.declared.operator.Binary.{Binary}
@@ -78,10 +78,11 @@ abbrev pub jump_by : Option ℕ → Table → Option ShortCond → List ℕ → 
 jump_by (Some r) t condition target = Jump condition r
 jump_by None t condition target = Code (long_jump condition 0) ((Field.Word, whole t (Item.Leaf (Name target) ∷ [])) ∷ [])
 
--- JR and DJNZ to a name
-abbrev pub short_by : Option ℕ → Branch → Option Statement
-short_by (Some r) branch = Some (Short branch r)
-short_by None branch = None
+-- JR and DJNZ to a name. Where a written JR may grow, one may be coded short or long as a JP may.
+abbrev pub short_by : Bool → Option ℕ → Branch → Option Statement
+short_by true (Some r) (Branch.Relative condition) = Some (Jump condition r)
+short_by grow (Some r) branch = Some (Short branch r)
+short_by grow None branch = None
 
 -- the number of a fixed expression
 abbrev pub number_of : Worth → ℕ
@@ -100,11 +101,11 @@ abbrev pub spaced : ℕ → ℕ → Option Statement
 spaced zero fill = None
 spaced (suc n) fill = Some (Space (suc n) fill)
 
-abbrev pub stated : Table → line.Body → Option Statement
-stated t (line.Code instr numbers) = Some (Code instr (map (λ n. (n.0, filling t n.0 n.1)) numbers))
-stated t (line.Jump condition target) = Some (jump_by (ref_of (found t target)) t condition target)
-stated t (line.Short branch target) = short_by (ref_of (found t target)) branch
-stated t (line.Bytes values) = Some (Data (flat_map (byte_items t) values))
-stated t (line.Words fields) = Some (Data (map (word_item t) fields))
-stated t (line.Space size fill) = spaced (fixed t size) (fill_byte t fill)
-stated t _ = None
+abbrev pub stated : Bool → Table → line.Body → Option Statement
+stated grow t (line.Code instr numbers) = Some (Code instr (map (λ n. (n.0, filling t n.0 n.1)) numbers))
+stated grow t (line.Jump condition target) = Some (jump_by (ref_of (found t target)) t condition target)
+stated grow t (line.Short branch target) = short_by grow (ref_of (found t target)) branch
+stated grow t (line.Bytes values) = Some (Data (flat_map (byte_items t) values))
+stated grow t (line.Words fields) = Some (Data (map (word_item t) fields))
+stated grow t (line.Space size fill) = spaced (fixed t size) (fill_byte t fill)
+stated grow t _ = None
