@@ -1,2 +1,3 @@
 mod Listed
 mod Keeping
+mod Placing

@@ -1,12 +1,17 @@
 //! Laws of the statements that lines come to, as functions that do nothing: their calls bring the clauses.
 
-ghost use Rattle.std.specs.Prelude.{◌≡◌, ◌≤◌, ◌<◌, ℕ, All, Bool, List, Some, count_by, length, map};
+ghost use Rattle.std.specs.Prelude.{◌≡◌, ◌≤◌, ◌<◌, ℕ, All, Bool, true, false, List, None, Some, count_by, length, map};
+ghost use Rattle.std.specs.List.{list_any};
+ghost use Rattle.asm_expr.specs.Distances.{is_unsized};
 ghost use Rattle.asm_expr.specs.Names.{AreCounted, Table, found};
-ghost use Rattle.asm_expr.specs.Origins.{Brings};
+ghost use Rattle.asm_expr.specs.Origins.{Brings, is_valued_name};
 ghost use Rattle.asm_expr.specs.declared.meaning.Meaning.{Meaning};
 ghost use Rattle.asm_names.specs.Lines.{Taken, has_statement};
 ghost use Rattle.asm_equ.specs.Layout.{Layout, next_at};
-ghost use Rattle.asm_states.specs.Stated.{numbered};
+ghost use Rattle.asm_names.specs.Names.{Names, kind_of};
+ghost use Rattle.asm_states.specs.Stated.{first_fault, numbered};
+ghost use Rattle.asm_stands.specs.Stands.{sizes};
+ghost use Rattle.asm_rules.specs.Program.{AreAt, program};
 ghost use Rattle.zmo_module.specs.Rules.{IsStatement};
 ghost use Rattle.asm_rules.specs.Fitting.{FitsWord, IsReadLine};
 
@@ -24,3 +29,16 @@ pub fn kept()
 pub fn few()
     ensures { (grow : Bool) (t : Table) (layout : Layout) (lines : List Taken) → length (numbered grow t layout lines) ≤ count_by (λ l. has_statement l.line) lines }
 {}
+
+/// Where no line is faulty and names stand for values, the statements that lines come to are those of their program, at all places that step
+/// by the sizes.
+pub fn placed()
+    ensures { (grow : Bool) (names : Names) (t : Table) (layout : Layout) (lines : List Taken) → ((name : List ℕ) → found t name ≡ None → kind_of names name ≡ None) →
+        ((name : List ℕ) (what : Meaning) → found t name ≡ Some what → is_valued_name (Some what) ≡ true) → list_any is_unsized t.statements ≡ false →
+        All (λ l. IsReadLine l.line) lines → first_fault names t layout lines ≡ None → t.statements ≡ sizes (map (λ n. n.1) (numbered grow t layout lines)) →
+        AreAt (map (λ n. n.1) (numbered grow t layout lines)) (program grow t layout lines) }
+{
+    asm_expr::laws::number_of_numbers();
+    asm_expr::laws::valued();
+    asm_reads::laws::at_places();
+}

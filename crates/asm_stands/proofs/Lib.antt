@@ -1,6 +1,6 @@
 mod Within
-mod Sound
-mod Sizing
-mod Values
+pub mod Sound
+pub mod Sizing
+pub mod Values
 mod Laying
 mod Example
