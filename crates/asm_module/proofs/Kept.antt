@@ -26,6 +26,10 @@ use Rattle.asm_names.specs.Lines.{Taken, has_statement}
 use Rattle.asm_names.specs.Names.{Names, kind_of, names}
 use Rattle.asm_piece.specs.Sized.{IsLike, kind}
 use Rattle.asm_rules.specs.Fitting.{FitsWord, IsReadLine}
+use Rattle.asm_rules.specs.Program.{AreAt, program}
+use Rattle.asm_equ.specs.Circles.{TellsCircles}
+use Rattle.asm_module.specs.Assembled.{StatesLines}
+use Rattle.asm_module.proofs.Passed.{SameFaults, SameStatements}
 use Rattle.asm_spell.specs.Names.{line_names}
 use Rattle.asm_stands.specs.Stands.{sizes}
 use Rattle.asm_states.specs.Stated as stated
@@ -66,6 +70,12 @@ pub record OfStatements : Type 0 where
       → ((name : List ℕ) (what : Meaning) → found t name ≡ Some what → Brings (λ r. r < refs) what) → All (λ l. IsReadLine l.line) lines
       → All FitsWord (map (λ n. n.1) (numbered grow t layout lines)) → All (IsStatement grow refs) (map (λ n. n.1) (numbered grow t layout lines))
   pub few : (grow : Bool) (t : Table) (layout : Layout) (lines : List Taken) → length (numbered grow t layout lines) ≤ count_by (λ l. has_statement l.line) lines
+
+-- what the law of places says
+abbrev pub Placed : Type 0
+Placed = (grow : Bool) (names : Names) (t : Table) (layout : Layout) (lines : List Taken) → ((name : List ℕ) → found t name ≡ None → kind_of names name ≡ None)
+    → ((name : List ℕ) (what : Meaning) → found t name ≡ Some what → is_valued_name (Some what) ≡ true) → list_any is_unsized t.statements ≡ false → All (λ l. IsReadLine l.line) lines
+    → stated.first_fault names t layout lines ≡ None → t.statements ≡ sizes (map (λ n. n.1) (numbered grow t layout lines)) → AreAt (map (λ n. n.1) (numbered grow t layout lines)) (program grow t layout lines)
 
 -- What the laws of labels and externals say.
 pub record OfHolding : Type 0 where
@@ -159,3 +169,19 @@ module _ (of_names : OfNames) (of_statements : OfStatements) (of_holding : OfHol
     externals = of_holding.externals_kept (names lines) all_named;
     distinct = of_holding.distinct layout (names lines) (of_names.distinct lines);
   }
+
+  -- The statements are those of the lines' program.
+  pub at_places : Placed → SameFaults → SameStatements → TellsCircles (names lines) lines (told turns) → StatesLines grow lines stated_all
+  at_places placed faults same tells = (told turns, tells, subst (λ l. AreAt stated_all (program grow (table lines (told turns) l) l lines)) sound.layout_is by_table)
+    where
+      numbered_is : numbered grow settled.names layout lines ≡ numbered grow (table lines (told turns) layout) layout lines
+      numbered_is = same settled.names (table lines (told turns) layout) sound.settles.found sound.settles.statements grow layout lines
+
+      by_table : AreAt stated_all (program grow (table lines (told turns) layout) layout lines)
+      by_table = subst (λ ns. AreAt (map (λ n. n.1) ns) (program grow (table lines (told turns) layout) layout lines)) (sym numbered_is)
+          (placed grow (names lines) (table lines (told turns) layout) layout lines
+          (λ name none. sound.all_found name (sound.settles.found name ∙ none))
+          (λ name what is. of_names.values lines turns layout sound.names_sound sound.order no_equ all_sized name what is)
+          all_sized sound.spelled
+          (sym (faults settled.names (table lines (told turns) layout) sound.settles.found sound.settles.statements (names lines) layout lines) ∙ sound.others_sound)
+          (laid_as_stated ∙ ap (λ ns. sizes (map (λ n. n.1) ns)) numbered_is))

@@ -4,16 +4,18 @@ use Rattle.asm_equ.specs.Circles.{TellsCircles}
 use Rattle.asm_macro.specs.declared.fault.MacroFault.{MacroFault}
 use Rattle.asm_macro.specs.Expands.{IsExpanded}
 use Rattle.asm_macro.specs.Texts.{source_lines}
+use Rattle.asm_names.specs.Lines.{Taken}
 use Rattle.asm_names.specs.Names.{names}
+use Rattle.asm_rules.specs.Program.{AreAt, program}
 use Rattle.asm_source.specs.Read.{taken}
 use Rattle.asm_source.specs.Source.{last_listed}
 use Rattle.asm_texts.specs.Lines.{Numbered}
 use Rattle.zmo_module.specs.declared.module.Module as whole
-use Rattle.zmo_module.specs.Modules.{Module, module_of}
+use Rattle.zmo_module.specs.Modules.{Module, Statement, module_of}
 use Rattle.asm_module.specs.declared.assembling.Lines as listing
 use Rattle.asm_module.specs.declared.fault.AsmFault.{AsmFault}
 use Rattle.asm_module.specs.declared.fault.Why.{Why}
-use Rattle.asm_module.specs.Source.{first_pass, layout, module_by, source_fault, statement_lines}
+use Rattle.asm_module.specs.Source.{first_pass, layout, module_by, source_fault, statement_lines, table}
 use Rattle.asm_module.specs.Whys.{macro_why}
 
 -- a module, the line of each of its statements, and the last line that a listing has
@@ -64,3 +66,13 @@ IsAssembled name text grow (Err fault) = IsRefused fault.why name text grow faul
 abbrev pub IsAssembledModule : List ℕ → List ℕ → Result whole.Module AsmFault → Type 0
 IsAssembledModule name text (Ok m) = (each : List ℕ) × (last : ℕ) × Assembles name text false (Ok (record { holds = module_of m; each = each; last = last }))
 IsAssembledModule name text (Err fault) = IsRefused fault.why name text false fault
+
+-- Statements are those that lines state: what is made of them at places, long or short, is what the lines state there.
+abbrev pub StatesLines : Bool → List Taken → List Statement → Type 0
+StatesLines grow lines statements =
+    (circle : ℕ → Bool) × TellsCircles (names lines) lines circle
+    × AreAt statements (program grow (table lines circle (layout grow lines circle)) (layout grow lines circle) lines)
+
+-- .. the lines of a text
+abbrev pub States : List ℕ → Bool → List Statement → Type 0
+States text grow statements = (lines : List Numbered) × IsExpanded text (Ok lines) × StatesLines grow (taken lines) statements

@@ -3,7 +3,7 @@
 ghost use Rattle.std.specs.Prelude.{IfOk, false};
 ghost use Rattle.zmo_module.specs.Modules.{module_of};
 ghost use Rattle.zmo_module.specs.Rules.{IsModule};
-ghost use Rattle.asm_module.specs.Assembled.{IsAssembled, IsAssembledModule};
+ghost use Rattle.asm_module.specs.Assembled.{IsAssembled, IsAssembledModule, States};
 
 use crate::fault::{AsmFault, of_macro};
 use crate::lines::assemble_lines;
@@ -37,6 +37,7 @@ pub fn assemble_with(
 ) -> Result<(Module, Lines), AsmFault>
     ensures answer { IsAssembled name.now text.now grow result }
     ensures kept { IfOk result (λ r. IsModule (module_of r.0)) }
+    ensures placed { IfOk result (λ r. States text.now grow (module_of r.0).statements) }
 {
     asm_macro::laws::few_lines();
     asm_source::laws::each_spelled();
@@ -66,6 +67,7 @@ pub fn assemble_with(
 pub fn assemble_listed(alloc: Global, name: &[u8], text: &[u8]) -> Result<(Module, Lines), AsmFault>
     ensures answer { IsAssembled name.now text.now false result }
     ensures kept { IfOk result (λ r. IsModule (module_of r.0)) }
+    ensures placed { IfOk result (λ r. States text.now false (module_of r.0).statements) }
 {
     assemble_with(alloc, name, text, false)
 }
@@ -78,6 +80,7 @@ pub fn assemble_listed(alloc: Global, name: &[u8], text: &[u8]) -> Result<(Modul
 pub fn assemble(alloc: Global, name: &[u8], text: &[u8]) -> Result<Module, AsmFault>
     ensures answer { IsAssembledModule name.now text.now result }
     ensures kept { IfOk result (λ m. IsModule (module_of m)) }
+    ensures placed { IfOk result (λ m. States text.now false (module_of m).statements) }
 {
     let (module, lines) = assemble_listed(alloc, name, text)?;
     drop(lines);

@@ -11,6 +11,7 @@ ghost use Rattle.asm_rules.specs.Fitting.{IsReadLine};
 ghost use Rattle.asm_spell.specs.Names.{line_names};
 ghost use Rattle.zmo_module.specs.Modules.{module_of, statement_of};
 ghost use Rattle.zmo_module.specs.Rules.{IsModule, IsObjectName};
+ghost use Rattle.asm_module.specs.Assembled.{StatesLines};
 ghost use Rattle.asm_module.specs.Private.Steps.{AnswersLines, States, held};
 
 use crate::fault::{AsmFault, of_equ, of_state};
@@ -97,6 +98,7 @@ pub(crate) fn assemble_lines(
     requires named { All (λ l. All IsObjectName (line_names l.line)) (lines_of lines.now) }
     ensures answer { AnswersLines name.now grow (lines_of lines.now) result }
     ensures kept { IfOk result (λ r. IsModule (module_of r.0)) }
+    ensures placed { IfOk result (λ r. StatesLines grow (lines_of lines.now) (module_of r.0).statements) }
 {
     asm_equ::laws::told();
     asm_equ::laws::valued();
@@ -111,6 +113,7 @@ pub(crate) fn assemble_lines(
     asm_stands::laws::within();
     asm_rules::laws::kept();
     asm_rules::laws::few();
+    asm_rules::laws::placed();
     asm_holding::laws::named();
     asm_holding::laws::kept();
     asm_holding::laws::within();

@@ -8,7 +8,7 @@ use Rattle.asm_names.specs.Faults.{first_fault}
 use Rattle.asm_source.specs.Source.{last_listed}
 use Rattle.asm_names.specs.Lines.{lines_of, taken_of}
 use Rattle.zmo_module.specs.Modules.{module_of}
-use Rattle.asm_module.specs.Assembled.{IsRefused}
+use Rattle.asm_module.specs.Assembled.{IsRefused, StatesLines}
 use Rattle.asm_module.proofs.Whole.{few_data, few_lines, named_line, no_fault, other_fault, passed_fault, spelled_line, stops}
 use Rattle.asm_module.proofs.assembling.assemble_with.Goals as goal
 
@@ -57,3 +57,8 @@ pub assemble_lines-requires-clause-named : goal.assemble_lines-requires-clause-n
 assemble_lines-requires-clause-named c =
     let s = c.in-Ok.ensures in λ k d lt.
     named_line c.args.name.now c.args.text.now c.args.grow s.0 s.1 (lines_of c.deref.result.now) (ap lines_of c.deref.ensures.value ∙ s.2) c.each_spelled.ensures c.names.ensures.defined c.few.ensures.names k _ (slice_get-get_or (lines_of c.deref.result.now) k d lt)
+
+pub returns-clause-placed : goal.returns-clause-placed
+returns-clause-placed c =
+    let s = c.in-Ok.ensures in
+    (s.0, s.1, subst (λ ls. StatesLines c.args.grow ls (module_of c.in_ok-module.module).statements) (ap lines_of c.deref.ensures.value ∙ s.2) c.in_ok-module.ensures.placed)

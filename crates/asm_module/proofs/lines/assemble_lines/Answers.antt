@@ -8,9 +8,10 @@ use Rattle.asm_equ.specs.Settles.{told}
 use Rattle.asm_rules.specs.Fitting.{FitsWord}
 use Rattle.zmo_module.specs.Modules.{statement_of}
 use Rattle.zmo_module.specs.Rules.{IsModule}
-use Rattle.asm_module.proofs.Kept.{is_module}
+use Rattle.asm_module.proofs.Kept.{at_places, is_module}
 use Rattle.asm_module.proofs.Passed.{equ_first, order_of, state_first, tells_of, whole}
 use Rattle.asm_module.proofs.lines.assemble_lines.Goals as goal
+use Rattle.asm_module.specs.Assembled.{StatesLines}
 use Rattle.asm_module.specs.Private.Steps.{IsFault, held}
 use Rattle.asm_module.specs.Source.{at}
 use Rattle.asm_module.specs.Whys.{state_why}
@@ -60,3 +61,27 @@ returns-clause-kept c =
       fit = subst (All FitsWord) (ap (map statement_of) c.deref-2.ensures.value ∙ c.in_ok-stated.ensures.1) c.fit_words.ensures;
     })
     c.args.name.now)
+
+pub returns-clause-placed : goal.returns-clause-placed
+returns-clause-placed c =
+    subst (StatesLines c.args.grow (lines_of c.args.lines.now)) (sym (ap (λ m. m.statements) c.in_ok-module.ensures ∙ c.in_ok-stated.ensures.1))
+    (at_places
+    (record { constants = c.valued.ensures.constants; values = c.valued.ensures.all; refs = c.refs.ensures; like = c.like.ensures; few_names = c.few.ensures.names; few_statements = c.few.ensures.statements; distinct = c.distinct.ensures })
+    (record { sized = c.sized.ensures; laid_so = c.laid.ensures; within = c.within.ensures; kept = c.kept.ensures; few = c.few-2.ensures })
+    (record { named = c.named.ensures; labels_kept = c.kept-2.ensures.labels; externals_kept = c.kept-2.ensures.externals; few = c.kept-2.ensures.few; distinct = c.kept-2.ensures.distinct; publics_kept = c.within-2.ensures.publics; ascending = c.within-2.ensures.ascending; entry_kept = c.within-2.ensures.entry })
+    c.args.grow (lines_of c.args.lines.now) c.deref.result.now (layout_of c.in_ok-settled.layout) c.in_ok-settled.settled
+    (record {
+      names_sound = c.requires.sound;
+      order = order_of c.args.table.now c.args.lines.now c.deref.result.now c.in_ok-turns.turns.items c.requires.names c.deref.ensures.value c.in_ok-turns.ensures;
+      layout_is = c.in_ok-settled.ensures.0;
+      settles = c.in_ok-settled.ensures.1;
+      equs_sound = c.in_default.is;
+      all_found = c.all_found.ensures (names (lines_of c.args.lines.now)) (lines_of c.args.lines.now) (told c.deref.result.now) (layout_of c.in_ok-settled.layout) c.in_ok-settled.settled c.in_ok-settled.ensures.1;
+      others_sound = subst (λ n. first_fault n c.in_ok-settled.settled.names (layout_of c.in_ok-settled.layout) (lines_of c.args.lines.now) ≡ None) c.requires.names c.in_ok-stated.ensures.0;
+      counted = c.counted.ensures;
+      spelled = c.requires.spelled;
+      named = c.requires.named;
+      fit = subst (All FitsWord) (ap (map statement_of) c.deref-2.ensures.value ∙ c.in_ok-stated.ensures.1) c.fit_words.ensures;
+    })
+    c.placed.ensures c.stated_by_names.ensures.fault c.stated_by_names.ensures.statements
+    (tells_of c.told.ensures c.args.table.now c.args.lines.now c.deref.result.now c.in_ok-turns.turns.items c.requires.names c.deref.ensures.value c.in_ok-turns.ensures))
