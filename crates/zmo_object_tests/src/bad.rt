@@ -1,6 +1,6 @@
 //! Bytes that are no object, and their first faults.
 
-use crate::objects::{GROWING, HELLO, HOLES, NAMES, SHORT};
+use crate::objects::{GROWING, HELLO, HOLES, NAMES, PUBLICS, SHORT, object_of};
 use std::alloc::Global;
 use std::process::Abort;
 use std::test::Fail;
@@ -41,6 +41,7 @@ fn cut_objects(rt: HostRuntime) -> Result<(), Fail> {
         SHORT.as_slice(),
         NAMES.as_slice(),
         HOLES.as_slice(),
+        PUBLICS.as_slice(),
     ] {
         for len in 0..object.len() {
             let want = if len < 4 { Magic } else { Truncated };
@@ -103,7 +104,7 @@ fn bad_fields(rt: HostRuntime) -> Result<(), Fail> {
 
 #[test]
 fn bad_names_and_refs(rt: HostRuntime) -> Result<(), Fail> {
-    let rows: [(usize, &[u8], ObjectFault); 11] = [
+    let rows: [(usize, &[u8], ObjectFault); 14] = [
         // three publics of two labels: the second is the external's two bytes
         (10, &[3], BadField(30)),
         (14, &[2], BadField(14)),
@@ -115,6 +116,10 @@ fn bad_names_and_refs(rt: HostRuntime) -> Result<(), Fail> {
         (31, b"Y", BadField(30)),
         (31, b"Z", BadField(30)),
         (28, &[2], BadField(28)),
+        // a digit, and a register's name
+        (27, b"9", BadField(26)),
+        (27, b"A", BadField(26)),
+        (31, b"A", BadField(30)),
         // two externals: the end comes first
         (12, &[2], Truncated),
         // with the other magic, JR NZ is no statement
@@ -143,16 +148,63 @@ fn bad_holes(rt: HostRuntime) -> Result<(), Fail> {
     assert_faults(&rt, rt.alloc(), &HOLES, &rows)
 }
 
-/// Counts that promise more than is there.
+/// One statement behind 14 bytes, with three refs.
 #[test]
-fn promises(rt: HostRuntime) {
-    let rows: [(&[u8], ObjectFault); 4] = [
-        (b"ZMO1\0\0\0\0\x40\x9C\0\0\0\0\0\0\x01X\0\0", Truncated),
-        (b"ZMO1\0\0\x20\x4E\0\0\0\0\x40\x9C", Truncated),
-        (b"ZMO1\0\0\x01\0\0\0\0\0\0\0\x01\xFF\xFF", Truncated),
-        (b"ZMO1\xFF", Truncated),
+fn bad_statements(rt: HostRuntime) -> Result<(), Fail> {
+    let rows: [(&[u8; 4], &[u8], ObjectFault); 19] = [
+        // tags
+        (b"ZMO1", &[0, 0, 0, 0], BadField(14)),
+        (b"ZMO1", &[5, 0, 0, 0], BadField(14)),
+        (b"ZMO2", &[6, 0, 0, 0], BadField(14)),
+        (b"ZMO2", &[255, 0, 0, 0], BadField(14)),
+        // conditions of jumps; where the ref is wrong too, they come first
+        (b"ZMO1", &[2, 5, 0, 0], BadField(15)),
+        (b"ZMO2", &[2, 5, 0, 0], BadField(15)),
+        (b"ZMO2", &[5, 5, 0, 0], BadField(15)),
+        (b"ZMO1", &[2, 5, 9, 9], BadField(15)),
+        // branches of short jumps
+        (b"ZMO1", &[3, 6, 0, 0], BadField(15)),
+        (b"ZMO2", &[3, 6, 0, 0], BadField(15)),
+        (b"ZMO2", &[3, 0, 0, 0], BadField(15)),
+        (b"ZMO2", &[3, 1, 0, 0], BadField(15)),
+        (b"ZMO2", &[3, 4, 0, 0], BadField(15)),
+        // refs
+        (b"ZMO1", &[2, 0, 3, 0], BadField(16)),
+        (b"ZMO1", &[3, 0, 0, 1], BadField(16)),
+        (b"ZMO2", &[3, 5, 3, 0], BadField(16)),
+        (b"ZMO2", &[5, 0, 3, 0], BadField(16)),
+        // sizes
+        (b"ZMO1", &[4, 0, 0, 9], BadField(15)),
+        (b"ZMO1", &[1, 0, 0, 0, 0], BadField(15)),
     ];
-    for (bytes, want) in rows {
-        assert_fault(&rt, rt.alloc(), bytes, want);
+    for (magic, statement, want) in rows {
+        let object = object_of(rt.alloc(), magic, statement)?;
+        assert_fault(&rt, rt.alloc(), &object, want);
     }
+    Ok(())
+}
+
+#[test]
+fn bad_publics(rt: HostRuntime) -> Result<(), Fail> {
+    let rows: [(usize, &[u8], ObjectFault); 5] = [
+        // descending, twice the same
+        (22, &[1, 0, 0, 0], BadField(24)),
+        (24, &[0, 0], BadField(24)),
+        // no label
+        (22, &[2, 0], BadField(22)),
+        (24, &[2, 0], BadField(24)),
+        // three of them
+        (10, &[3, 0], Truncated),
+    ];
+    assert_faults(&rt, rt.alloc(), &PUBLICS, &rows)
+}
+
+/// 64 items are the most.
+#[test]
+fn too_many_items(rt: HostRuntime) -> Result<(), Fail> {
+    let mut hole = [0x10; 78];
+    hole[..14].copy_from_slice(&[1, 2, 0, 0, 0, 1, 0, 0, 0, 2, 67, 2, 0, 0]);
+    let object = object_of(rt.alloc(), b"ZMO1", &hole)?;
+    assert_fault(&rt, rt.alloc(), &object, BadField(25));
+    Ok(())
 }

@@ -5,7 +5,7 @@ ghost use Rattle.zmo_module.specs.Modules.{module_of, statement_of};
 ghost use Rattle.zmo_module.specs.Rules.{IsStatement};
 ghost use Rattle.zmo_object_tests.specs.One.{one};
 
-use crate::objects::{GROWING, HELLO, HOLES, NAMES, SHORT};
+use crate::objects::{GROWING, HELLO, HOLES, NAMES, PUBLICS, SHORT};
 use std::alloc::Global;
 use std::process::Abort;
 use std::test::Fail;
@@ -22,6 +22,7 @@ fn objects(rt: HostRuntime) -> Result<(), Fail> {
         SHORT.as_slice(),
         NAMES.as_slice(),
         HOLES.as_slice(),
+        PUBLICS.as_slice(),
         b"ZMO1\0\0\0\0\0\0\0\0\0\0",
     ] {
         let module = read(alloc, object)?;

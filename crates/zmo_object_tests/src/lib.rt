@@ -7,6 +7,12 @@ mod bad;
 #[cfg(test)]
 mod changed;
 #[cfg(test)]
+mod expressions;
+#[cfg(test)]
 mod good;
 #[cfg(test)]
 mod objects;
+#[cfg(test)]
+mod promises;
+#[cfg(test)]
+mod statements;

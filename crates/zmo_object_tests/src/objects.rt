@@ -1,5 +1,8 @@
 //! Objects that the tests share.
 
+use std::alloc::Global;
+use std::test::Fail;
+
 /// `LD DE,MSG / LD C,9 / CALL 5 / RET / MSG: DB 'Hi$'`, named A: five statements, the first with a hole for the place of
 /// the fifth, which the label MSG names.
 pub(crate) const HELLO: [u8; 65] = [
@@ -38,3 +41,19 @@ pub(crate) const HOLES: [u8; 37] = [
     0, 0, 2, 3, 2, 0, 0, // a word: the place of statement 0
     2, 0, 1, 4, 2, 1, 0, 0x13, // a byte: LOW of the end's place
 ];
+
+/// Two labels, both public.
+pub(crate) const PUBLICS: [u8; 26] = [
+    0x5A, 0x4D, 0x4F, 0x31, 0, 0, 0, 0, 2, 0, 2, 0, 0, 0, // no statement
+    0, 0, 1, b'X', 0, 0, 1, b'Y', // labels
+    0, 0, 1, 0, // publics
+];
+
+/// An object of no name with one statement and the external F. The statement begins behind 14 bytes.
+pub(crate) fn object_of(alloc: Global, magic: &[u8; 4], statement: &[u8]) -> Result<Vec<u8>, Fail> {
+    let mut object = magic.to_vec(alloc)?;
+    object.extend_from_slice(b"\0\0\x01\0\0\0\0\0\x01\0")?;
+    object.extend_from_slice(statement)?;
+    object.extend_from_slice(b"\x01F")?;
+    Ok(object)
+}
