@@ -1,0 +1,4 @@
+pub mod Parts
+pub mod Whole
+pub mod Faults
+pub mod Laws
