@@ -32,7 +32,7 @@ begins_late p = if_so (JoinFault.BeginsNotFirst p.number) (nat_lt 0 p.number && 
 
 -- a name that it gives is given by a module before it
 abbrev pub twice : List Part → Part → Option JoinFault
-twice before p = first_of (λ l. if_so (JoinFault.DefinedTwice p.number l) (is_some (found (publics before) (label_at p.module l).name))) p.holds.publics
+twice before p = first_of (λ l. if_so (JoinFault.DefinedTwice p.number l) (is_some (found (publics before) (label_at p.holds l).name))) p.holds.publics
 
 -- a name that it takes is given by none
 abbrev pub unresolved : Publics → Part → Option JoinFault

@@ -29,7 +29,7 @@ Publics = List (List ℕ × ℕ)
 
 -- a label, by its name in the whole
 abbrev pub given_label : Part → ℕ → List ℕ × ℕ
-given_label p l = ((label_at p.module l).name, p.base + (label_at p.module l).statement)
+given_label p l = ((label_at p.holds l).name, p.base + (label_at p.holds l).statement)
 
 -- what a module gives to the others: its public labels
 abbrev pub given : Part → Publics
