@@ -9,7 +9,7 @@ use Rattle.asm_names.specs.Lines.{Taken}
 use Rattle.asm_names.specs.Names.{Names, names}
 use Rattle.zmo_module.specs.declared.module.Label as label
 use Rattle.zmo_module.specs.declared.module.Module as whole
-use Rattle.zmo_module.specs.Modules.{Label, Module, Statement, label_of, module_of, statement_of}
+use Rattle.zmo_module.specs.Modules.{Label, Module, label_of, module_of, statement_of}
 use Rattle.asm_module.specs.Private.Steps.{held}
 
 pub few_labels : ((layout : Layout) (names : Names) → length (labels layout names) + length (externals names) ≤ length names)

@@ -1,5 +1,5 @@
 -- The module of lines without a fault keeps the rules of an object.
-use Rattle.std.proofs.Common.{◌≡◌, ◌≤◌, ◌<◌, ◌+◌, ◌++◌, ◌∙◌, sym, ap, refl, subst, ℕ, Bool, true, false, List, [], ◌∷◌, Option, Some, None, All, count_by, length, map, take, arith}
+use Rattle.std.proofs.Common.{◌≡◌, ◌≤◌, ◌<◌, ◌+◌, ◌++◌, ◌∙◌, sym, ap, refl, subst, ℕ, Bool, true, false, List, Some, None, All, count_by, length, map, arith}
 use Rattle.std.specs.List.{IsDistinct, list_any}
 use Rattle.std.specs.List.Sorted.{IsStrictlyIncreasing}
 use Rattle.std.specs.Map.{lookup}
@@ -19,7 +19,7 @@ use Rattle.asm_equ.specs.Layout.{Layout, next_at}
 use Rattle.asm_equ.specs.Meanings as equ
 use Rattle.asm_equ.specs.Meanings.{entries, externals, table_at}
 use Rattle.asm_equ.specs.Settles.{Settles, told}
-use Rattle.asm_holding.specs.Holding.{begins, entry, labels, listed, publics}
+use Rattle.asm_holding.specs.Holding.{entry, labels, listed, publics}
 use Rattle.asm_layout.specs.Laid.{laid, statements}
 use Rattle.asm_names.specs.Faults as naming
 use Rattle.asm_names.specs.Lines.{Taken, has_statement}
@@ -34,7 +34,7 @@ use Rattle.asm_spell.specs.Names.{line_names}
 use Rattle.asm_stands.specs.Stands.{sizes}
 use Rattle.asm_states.specs.Stated as stated
 use Rattle.asm_states.specs.Stated.{numbered}
-use Rattle.zmo_module.specs.Modules.{Label, Module, Statement}
+use Rattle.zmo_module.specs.Modules.{Label, Statement}
 use Rattle.zmo_module.specs.Rules.{IsLabel, IsModule, IsObjectName, IsStatement}
 use Rattle.asm_module.specs.Private.Steps.{held}
 use Rattle.asm_module.specs.Source as source
@@ -172,7 +172,8 @@ module _ (of_names : OfNames) (of_statements : OfStatements) (of_holding : OfHol
 
   -- The statements are those of the lines' program.
   pub at_places : Placed → SameFaults → SameStatements → TellsCircles (names lines) lines (told turns) → StatesLines grow lines stated_all
-  at_places placed faults same tells = (told turns, tells, subst (λ l. AreAt stated_all (program grow (table lines (told turns) l) l lines)) sound.layout_is by_table)
+  at_places placed faults same tells =
+      (_, (told turns, tells, refl), subst (λ l. AreAt stated_all (program grow (table lines (told turns) l) l lines)) sound.layout_is by_table)
     where
       numbered_is : numbered grow settled.names layout lines ≡ numbered grow (table lines (told turns) layout) layout lines
       numbered_is = same settled.names (table lines (told turns) layout) sound.settles.found sound.settles.statements grow layout lines

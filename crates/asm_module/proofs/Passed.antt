@@ -1,5 +1,5 @@
 -- What is answered of lines that passed the first pass.
-use Rattle.std.proofs.Common.{◌≡◌, ◌∙◌, sym, ap, refl, subst, ℕ, Bool, List, [], ◌∷◌, Option, Some, None, length, map}
+use Rattle.std.proofs.Common.{◌≡◌, ◌∙◌, sym, ap, subst, ℕ, Bool, List, [], ◌∷◌, Option, Some, None, length, map}
 use Rattle.std.proofs.lemmas.List.{length-map}
 use Rattle.asm_expr.specs.Names.{Table}
 use Rattle.asm_order.specs.declared.walk.Turn.{Turn}

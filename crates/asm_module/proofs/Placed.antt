@@ -1,5 +1,5 @@
 -- Names that are settled twice: before statements have their places, and after.
-use Rattle.std.proofs.Common.{◌≡◌, ◌∙◌, sym, ap, subst, Bool, List}
+use Rattle.std.proofs.Common.{◌≡◌, ◌∙◌, ap, subst, Bool, List}
 use Rattle.asm_expr.specs.Names.{Table}
 use Rattle.asm_order.specs.declared.walk.Turn.{Turn}
 use Rattle.asm_equ.specs.declared.settling.SettledNames.{SettledNames}

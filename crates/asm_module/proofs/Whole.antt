@@ -1,5 +1,5 @@
 -- What is answered of a whole text.
-use Rattle.std.proofs.Common.{◌≡◌, ◌<◌, ◌≤◌, ◌∙◌, sym, ap, refl, subst, ℕ, Bool, false, List, [], ◌∷◌, Option, Some, None, Result, Ok, Err, length, map, slice_get, slice_index_or, arith}
+use Rattle.std.proofs.Common.{◌≡◌, ◌≤◌, ◌∙◌, sym, ap, refl, subst, ℕ, Bool, false, List, [], ◌∷◌, Option, Some, None, Ok, Err, length, map, slice_get}
 use Rattle.std.specs.List.{All}
 use Rattle.std.proofs.lemmas.List.{length-map}
 use Rattle.asm_scan.specs.Scanned.{scanned}
@@ -20,15 +20,14 @@ use Rattle.asm_macro.specs.Judged.{most_lines}
 use Rattle.asm_macro.specs.Texts.{source_lines}
 use Rattle.asm_names.specs.Faults as defined
 use Rattle.asm_names.specs.Faults.{first}
-use Rattle.asm_names.specs.declared.kind.SourceLine.{SourceLine}
-use Rattle.asm_names.specs.Lines.{Taken, lines_of, taken_of}
+use Rattle.asm_names.specs.Lines.{Taken}
 use Rattle.asm_names.specs.Names.{names}
 use Rattle.asm_source.specs.declared.fault.LineFault.{LineFault}
 use Rattle.asm_source.specs.Read.{IsRead, taken, unread}
 use Rattle.asm_source.specs.Source.{IsSourceText, last_listed}
 use Rattle.asm_texts.specs.Lines.{Numbered}
 use Rattle.zmo_module.specs.Modules.{Module}
-use Rattle.asm_module.specs.Assembled.{Assembled, Assembles, IsRefused, TellsLines, answer, assembled}
+use Rattle.asm_module.specs.Assembled.{Assembles, IsRefused, TellsLines, answer}
 use Rattle.asm_module.specs.declared.fault.AsmFault.{AsmFault}
 use Rattle.asm_module.specs.declared.fault.Why.{Why}
 use Rattle.asm_module.specs.Private.Steps.{FaultBy, HasFault, IsFault, IsWhole}

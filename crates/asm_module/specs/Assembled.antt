@@ -6,6 +6,7 @@ use Rattle.asm_macro.specs.Expands.{IsExpanded}
 use Rattle.asm_macro.specs.Texts.{source_lines}
 use Rattle.asm_names.specs.Lines.{Taken}
 use Rattle.asm_names.specs.Names.{names}
+use Rattle.asm_reads.specs.Statement as stated
 use Rattle.asm_rules.specs.Program.{AreAt, program}
 use Rattle.asm_source.specs.Read.{taken}
 use Rattle.asm_source.specs.Source.{last_listed}
@@ -67,12 +68,21 @@ abbrev pub IsAssembledModule : List ℕ → List ℕ → Result whole.Module Asm
 IsAssembledModule name text (Ok m) = (each : List ℕ) × (last : ℕ) × Assembles name text false (Ok (record { holds = module_of m; each = each; last = last }))
 IsAssembledModule name text (Err fault) = IsRefused fault.why name text false fault
 
--- Statements are those that lines state: what is made of them at places, long or short, is what the lines state there.
-abbrev pub StatesLines : Bool → List Taken → List Statement → Type 0
-StatesLines grow lines statements =
+-- The program of lines, by what their names stand for.
+abbrev pub IsProgram : Bool → List Taken → List stated.Statement → Type 0
+IsProgram grow lines p =
     (circle : ℕ → Bool) × TellsCircles (names lines) lines circle
-    × AreAt statements (program grow (table lines circle (layout grow lines circle)) (layout grow lines circle) lines)
+    × (p ≡ program grow (table lines circle (layout grow lines circle)) (layout grow lines circle) lines)
+
+-- .. that a text states
+abbrev pub IsStated : List ℕ → Bool → List stated.Statement → Type 0
+IsStated text grow p = (lines : List Numbered) × IsExpanded text (Ok lines) × IsProgram grow (taken lines) p
+
+-- Statements are those that lines state: they take as many bytes, and jumps go to the same refs; and what is made of them at places, long or
+-- short, is what the lines state there.
+abbrev pub StatesLines : Bool → List Taken → List Statement → Type 0
+StatesLines grow lines statements = (p : List stated.Statement) × IsProgram grow lines p × AreAt statements p
 
 -- .. the lines of a text
 abbrev pub States : List ℕ → Bool → List Statement → Type 0
-States text grow statements = (lines : List Numbered) × IsExpanded text (Ok lines) × StatesLines grow (taken lines) statements
+States text grow statements = (p : List stated.Statement) × IsStated text grow p × AreAt statements p

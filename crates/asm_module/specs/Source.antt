@@ -1,5 +1,5 @@
 -- The module of the lines of a source, or its first fault.
-use Rattle.std.specs.Prelude.{ℕ, Bool, List, [], ◌∷◌, Option, Some, None, map, take}
+use Rattle.std.specs.Prelude.{ℕ, Bool, List, [], ◌∷◌, Option, map, take}
 use Rattle.std.specs.Option.{option_map}
 use Rattle.asm_expr.specs.Names.{Table}
 use Rattle.asm_equ.specs.Layout.{Layout}

@@ -1,5 +1,5 @@
 -- What is made of the statements of a module is what lines state, also where a written JR may grow.
-use Rattle.std.proofs.Common.{◌≡◌, ◌<◌, ℕ, Bool, true, false, List, [], ◌∷◌, Option, Some, None, Result, Ok, All, length, refl, ap, subst}
+use Rattle.std.proofs.Common.{◌≡◌, ◌<◌, ℕ, Bool, true, false, List, [], ◌∷◌, Option, Some, None, Ok, All, length, refl, ap, subst}
 use Rattle.asm_parse.specs.declared.item.Item.{Item}
 use Rattle.asm_parse.specs.Source.{Name}
 use Rattle.asm_expr.specs.Distances.{Step}
@@ -11,10 +11,9 @@ use Rattle.asm_spell.specs.Line as line
 use Rattle.asm_piece.specs.Made as made
 use Rattle.asm_piece.specs.Made.{Nothing, Piece, Some_piece, long_jump, ref_of}
 use Rattle.asm_piece.proofs.Making.{code_made, data_made, is_space, origin_nothing, space_made}
-use Rattle.asm_stands.specs.Stands.{size_of}
 use Rattle.asm_states.specs.Statements.{statement_by}
 use Rattle.zmo_module.specs.Modules as object
-use Rattle.asm_reads.specs.Linked.{IsLinked}
+use Rattle.asm_reads.specs.Linked.{IsLike, IsLinked}
 use Rattle.asm_reads.specs.Pieces.{IsPiece, sized_as, takes}
 use Rattle.asm_reads.specs.Statement as statement
 use Rattle.asm_reads.specs.Statement.{Statement, stated}
@@ -24,16 +23,16 @@ use Rattle.asm_reads.proofs.Rows.{Rows}
 
 -- Bytes that are made of a statement of a module are those of a statement, and as many as that takes.
 pub record HoldsBy (t : Table) (o : object.Statement) (s : Statement) : Type 0 where
-  pub size : size_of o ≡ sized_as s
+  pub like : IsLike o s
   pub pieces : (places : ℕ → ℕ) → Step t.statements places → (at : ℕ) (long : Bool) (bs : List ℕ) → All (λ b. b < 256) bs → IsLinked at long places o bs
       → IsPiece at long places s bs × (length bs ≡ takes long (sized_as s))
 
 -- A piece is a statement as it is, where no JR may grow.
 as_it_is : (t : Table) (p : Piece) (s : Statement) → Holds t p s → HoldsBy t (statement_by false p) s
-as_it_is t (made.Bytes blank holes) s h = record { size = h.size; pieces = h.pieces }
-as_it_is t (made.Jump condition target) s h = record { size = h.size; pieces = h.pieces }
-as_it_is t (made.Short branch target) s h = record { size = h.size; pieces = h.pieces }
-as_it_is t (made.Space n fill) s h = record { size = h.size; pieces = h.pieces }
+as_it_is t (made.Bytes blank holes) s h = record { like = record { size = h.size; target = h.target }; pieces = h.pieces }
+as_it_is t (made.Jump condition target) s h = record { like = record { size = h.size; target = h.target }; pieces = h.pieces }
+as_it_is t (made.Short branch target) s h = record { like = record { size = h.size; target = h.target }; pieces = h.pieces }
+as_it_is t (made.Space n fill) s h = record { like = record { size = h.size; target = h.target }; pieces = h.pieces }
 
 -- .. and else, if it is no short jump.
 abbrev IsPlain : Piece → Type 0
@@ -43,10 +42,10 @@ IsPlain (made.Short branch target) = ⊥
 IsPlain (made.Space n fill) = Unit {0}
 
 plain : (t : Table) (p : Piece) (s : Statement) → IsPlain p → Holds t p s → HoldsBy t (statement_by true p) s
-plain t (made.Bytes blank holes) s is h = record { size = h.size; pieces = h.pieces }
-plain t (made.Jump condition target) s is h = record { size = h.size; pieces = h.pieces }
+plain t (made.Bytes blank holes) s is h = record { like = record { size = h.size; target = h.target }; pieces = h.pieces }
+plain t (made.Jump condition target) s is h = record { like = record { size = h.size; target = h.target }; pieces = h.pieces }
 plain t (made.Short branch target) s is h = absurd is
-plain t (made.Space n fill) s is h = record { size = h.size; pieces = h.pieces }
+plain t (made.Space n fill) s is h = record { like = record { size = h.size; target = h.target }; pieces = h.pieces }
 
 jump_plain : (t : Table) (condition : Option ShortCond) (target : List ℕ) (p : Piece) (o : Option ℕ) → made.jump_by o t condition target ≡ Ok (Some_piece p) → IsPlain p
 jump_plain t condition target p (Some r) is = (let same : made.Jump condition r ≡ p = cc in subst IsPlain same tt)
@@ -64,7 +63,7 @@ grown rows t (line.Short (Branch.Relative condition) target) p ready is = by_ref
           statement.Jump condition r,
           ap (λ o. statement.short_by true o (Branch.Relative condition)) was,
           subst (λ q. HoldsBy t (statement_by true q) (statement.Jump condition r)) same
-              (record { size = refl; pieces = λ places step at long bs small linked. (linked, jump_size at (places r) long condition bs linked) }),
+              (record { like = record { size = refl; target = refl }; pieces = λ places step at long bs small linked. (linked, jump_size at (places r) long condition bs linked) }),
         )
     by_ref None was is = cc
 grown rows t (line.Short Branch.CountDown target) p ready is = by_ref (ref_of (found t target)) refl is
@@ -75,7 +74,7 @@ grown rows t (line.Short Branch.CountDown target) p ready is = by_ref (ref_of (f
           statement.Short Branch.CountDown r,
           ap (λ o. statement.short_by true o Branch.CountDown) was,
           subst (λ q. HoldsBy t (statement_by true q) (statement.Short Branch.CountDown r)) same
-              (record { size = refl; pieces = λ places step at long bs small linked. (linked, short_size Branch.CountDown linked.0 bs linked.2) }),
+              (record { like = record { size = refl; target = refl }; pieces = λ places step at long bs small linked. (linked, short_size Branch.CountDown linked.0 bs linked.2) }),
         )
     by_ref None was is = cc
 grown rows t (line.Code instr numbers) p ready is =

@@ -33,7 +33,7 @@ use Rattle.asm_reads.specs.Linked.{filled}
 use Rattle.asm_reads.specs.Pieces.{IsPiece, LeadsTo, datum_bytes, short_jump, sized_as, takes, valued, width}
 use Rattle.asm_reads.proofs.Fields.{AreFields, IsReady}
 use Rattle.asm_reads.specs.Statement as statement
-use Rattle.asm_reads.specs.Statement.{Datum, Statement, byte_items, fill_byte, filling, fixed, spaced, stated, word_item}
+use Rattle.asm_reads.specs.Statement.{Datum, Statement, byte_items, fill_byte, filling, fixed, spaced, stated, target_of, word_item}
 use Rattle.asm_reads.proofs.Coding.{at_of, reads, shape}
 use Rattle.asm_reads.proofs.Data.{Lays, bytes_lay, words_lay}
 use Rattle.asm_reads.proofs.Fillings.{fixed_from}
@@ -48,8 +48,15 @@ IsLinkedPiece at long places (made.Space n fill) bs = IsPiece at long places (st
 IsLinkedPiece at long places (made.Jump condition target) bs = IsPiece at long places (statement.Jump condition target) bs
 IsLinkedPiece at long places (made.Short branch target) bs = IsPiece at long places (statement.Short branch target) bs
 
+-- the ref to which a jump goes
+abbrev pub target_by : Piece → Option ℕ
+target_by (made.Jump condition target) = Some target
+target_by (made.Short branch target) = Some target
+target_by p = None
+
 pub record Holds (t : Table) (p : Piece) (s : Statement) : Type 0 where
   pub size : piece_sized p ≡ sized_as s
+  pub target : target_by p ≡ target_of s
   pub pieces : (places : ℕ → ℕ) → Step t.statements places → (at : ℕ) (long : Bool) (bs : List ℕ) → All (λ b. b < 256) bs → IsLinkedPiece at long places p bs
       → IsPiece at long places s bs × (length bs ≡ takes long (sized_as s))
 
@@ -61,6 +68,7 @@ code_holds rows t instr numbers p fields ok is =
     let read = reads rows t instr numbers c.read ok (shape t instr numbers c.read fields c.is c.told) in
     record {
       size = ap piece_sized (sym c.piece) ∙ ap Sized (size_kept rows.size (map (λ n. (n.0, number_or_0 n.1)) c.read) instr);
+      target = ap target_by (sym c.piece);
       pieces = λ places step at long bs small linked. (
           let same : bs ≡ canonical (at_of places t numbers instr) = subst (λ q. IsLinkedPiece at long places q bs) (sym c.piece) linked ∙ read.filled places step in
           (record { numbers = read.range places step (subst (All (λ b. b < 256)) same small); spelled = inl same }, ap length same ∙ size_kept rows.size (valued places (map (λ n. (n.0, filling t n.0 n.1)) numbers)) instr)
@@ -76,6 +84,7 @@ data_size places (statement.Word e ∷ items) = omega (arith, data_size places i
 data_holds : (t : Table) (p : Piece) (items : List Datum) → Lays p items t → Holds t p (statement.Data items)
 data_holds t p items l = record {
   size = ap piece_sized (sym l.piece) ∙ ap Sized l.size;
+  target = ap target_by (sym l.piece);
   pieces = λ places step at long bs small linked. (
       let same : bs ≡ flat_map (datum_bytes places) items = subst (λ q. IsLinkedPiece at long places q bs) (sym l.piece) linked ∙ cells_filled places [] l.fields ∙ l.places places step in
       (same, ap length same ∙ data_size places items)
@@ -108,7 +117,7 @@ jump_holds : Rows → (t : Table) (condition : Option ShortCond) (target : List 
 jump_holds rows t condition target p (Some r) is =
     let same : made.Jump condition r ≡ p = cc in
     subst (λ q. Holds t q (statement.Jump condition r)) same
-    (record { size = refl; pieces = λ places step at long bs small linked. (linked, jump_size at (places r) long condition bs linked) })
+    (record { size = refl; target = refl; pieces = λ places step at long bs small linked. (linked, jump_size at (places r) long condition bs linked) })
 jump_holds rows t condition target p None is =
     code_holds rows t (long_jump condition 0) ((Field.Word, Item.Leaf (Name target) ∷ []) ∷ []) p (inr (jump_fields condition)) (jump_range condition) is
 
@@ -130,7 +139,7 @@ fill_fixed t (Some e) f k is one =
 
 space_piece : (t : Table) (n b : ℕ) (p : Piece) → made.Space n b ≡ p → Holds t p (statement.Space n b)
 space_piece t n b p same =
-    subst (λ q. Holds t q (statement.Space n b)) same (record { size = refl; pieces = λ places step at long bs small linked. (linked, ap length linked ∙ length-replicate n b) })
+    subst (λ q. Holds t q (statement.Space n b)) same (record { size = refl; target = refl; pieces = λ places step at long bs small linked. (linked, ap length linked ∙ length-replicate n b) })
 
 space_holds : (t : Table) (size : line.Expression) (fill : Option line.Expression) (p : Piece) → made.space t size fill ≡ Ok (Some_piece p)
     → (s : Statement) × (stated false t (line.Space size fill) ≡ Some s) × Holds t p s
@@ -158,7 +167,7 @@ holds rows t (line.Short branch target) p ready is = by_ref (ref_of (found t tar
         let same : made.Short branch r ≡ p = cc in (
           statement.Short branch r,
           ap (λ o. statement.short_by false o branch) was,
-          subst (λ q. Holds t q (statement.Short branch r)) same (record { size = refl; pieces = λ places step at long bs small linked. (linked, short_size branch linked.0 bs linked.2) }),
+          subst (λ q. Holds t q (statement.Short branch r)) same (record { size = refl; target = refl; pieces = λ places step at long bs small linked. (linked, short_size branch linked.0 bs linked.2) }),
         )
     by_ref None was is = cc
 holds rows t (line.Bytes values) p ready is = (statement.Data (flat_map (byte_items t) values), refl, data_holds t p (flat_map (byte_items t) values) (bytes_lay t values p is))

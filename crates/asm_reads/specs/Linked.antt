@@ -1,13 +1,15 @@
 -- What a linker makes of a statement of a module: holes are filled, jumps are coded.
-use Rattle.std.specs.Prelude.{◌≡◌, ℕ, ◌+◌, Bool, List, [], ◌∷◌, ◌++◌, length, take, drop}
+use Rattle.std.specs.Prelude.{◌≡◌, ℕ, ◌+◌, Bool, List, [], ◌∷◌, ◌++◌, Option, Some, None, length, take, drop}
 use Rattle.asm_expr.specs.Items.{value}
 use Rattle.asm_expr.specs.Postfix.{tree}
 use Rattle.zmo_module.specs.declared.hole.Hole.{Hole}
 use Rattle.asm_piece.specs.Cells.{written}
+use Rattle.asm_stands.specs.Stands.{size_of}
 use Rattle.zmo_module.specs.Modules as object
 use Rattle.zmo_module.specs.Modules.{Statement}
 use Rattle.asm_reads.specs.Statement as statement
-use Rattle.asm_reads.specs.Pieces.{IsPiece}
+use Rattle.asm_reads.specs.Statement.{target_of}
+use Rattle.asm_reads.specs.Pieces.{IsPiece, sized_as}
 
 -- bytes with one hole filled
 abbrev pub fill_one : (ℕ → ℕ) → List ℕ → Hole → List ℕ
@@ -26,3 +28,14 @@ IsLinked at long places (object.Bytes blank holes) bytes = bytes ≡ filled plac
 IsLinked at long places (object.Space n fill) bytes = IsPiece at long places (statement.Space n fill) bytes
 IsLinked at long places (object.Jump marked condition target) bytes = IsPiece at long places (statement.Jump condition target) bytes
 IsLinked at long places (object.Short branch target) bytes = IsPiece at long places (statement.Short branch target) bytes
+
+-- the ref to which a jump of a module goes
+abbrev pub target_in : Statement → Option ℕ
+target_in (object.Jump marked condition target) = Some target
+target_in (object.Short branch target) = Some target
+target_in _ = None
+
+-- A statement of a module takes as many bytes as one of a program, and goes to the same ref.
+pub record IsLike (o : Statement) (s : statement.Statement) : Type 0 where
+  pub size : size_of o ≡ sized_as s
+  pub target : target_in o ≡ target_of s

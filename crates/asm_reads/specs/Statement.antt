@@ -33,6 +33,12 @@ pub data Statement : Type 0 where
   Jump : Option ShortCond → ℕ → Statement
   Short : Branch → ℕ → Statement
 
+-- the ref to which a jump goes
+abbrev pub target_of : Statement → Option ℕ
+target_of (Jump condition target) = Some target
+target_of (Short branch target) = Some target
+target_of _ = None
+
 -- An expression with its names replaced by what they stand for. What has no value, which nothing has in a statement without a fault, is
 -- left out as 0.
 abbrev pub of_settled : Settled → Expression Atom

@@ -7,19 +7,18 @@ ghost use Rattle.asm_expr.specs.Origins.{AllBring};
 ghost use Rattle.asm_spell.specs.Line.{Body};
 ghost use Rattle.asm_piece.specs.Made.{Nothing, Piece, Some_piece, made};
 ghost use Rattle.asm_states.specs.Statements.{statement_by};
-ghost use Rattle.asm_stands.specs.Stands.{size_of};
-ghost use Rattle.asm_reads.specs.Linked.{IsLinked};
+ghost use Rattle.asm_reads.specs.Linked.{IsLike, IsLinked};
 ghost use Rattle.asm_reads.specs.Pieces.{IsPiece, sized_as, takes};
 ghost use Rattle.asm_reads.specs.Rules.{KeepsRules};
 ghost use Rattle.asm_reads.specs.Spelled.{IsSpelled};
 ghost use Rattle.asm_reads.specs.Statement.{Statement, stated};
 
 /// What names make of a spelled line is what it states: at all places that step by the known sizes, the bytes that are made of its
-/// statement in a module are those of the statement that it states, and as many as that takes. Where a written `JR` may grow, both may be
+/// statement in a module are those of the statement that it states, and as many as that takes; and a jump goes to the same ref. Where a written `JR` may grow, both may be
 /// coded long.
 pub fn at_places()
     ensures piece { (grow : Bool) (t : Table) (b : Body) (p : Piece) → IsSpelled b → made t b ≡ Ok (Some_piece p) →
-        (s : Statement) × (stated grow t b ≡ Some s) × (size_of (statement_by grow p) ≡ sized_as s) ×
+        (s : Statement) × (stated grow t b ≡ Some s) × IsLike (statement_by grow p) s ×
         ((places : ℕ → ℕ) → Step t.statements places → (at : ℕ) (long : Bool) (bytes : List ℕ) → All (λ b. b < 256) bytes →
         IsLinked at long places (statement_by grow p) bytes → IsPiece at long places s bytes × (length bytes ≡ takes long (sized_as s))) }
     ensures nothing { (grow : Bool) (t : Table) (b : Body) → made t b ≡ Ok Nothing → stated grow t b ≡ None }

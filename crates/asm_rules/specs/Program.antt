@@ -5,12 +5,12 @@ use Rattle.asm_expr.specs.Distances.{Step}
 use Rattle.asm_expr.specs.Names.{Table}
 use Rattle.asm_equ.specs.Layout.{Layout}
 use Rattle.asm_names.specs.Lines.{Taken, placed}
-use Rattle.asm_reads.specs.Linked.{IsLinked}
+use Rattle.asm_reads.specs.Linked.{IsLike, IsLinked}
 use Rattle.asm_reads.specs.Pieces.{IsPiece, sized_as, takes}
 use Rattle.asm_reads.specs.Statement.{Statement, stated}
 use Rattle.asm_spell.specs.Line as line
 use Rattle.asm_spell.specs.Line.{Line}
-use Rattle.asm_stands.specs.Stands.{size_of, sizes}
+use Rattle.asm_stands.specs.Stands.{sizes}
 use Rattle.asm_states.specs.Stated.{behind}
 use Rattle.zmo_module.specs.Modules as object
 
@@ -23,12 +23,13 @@ line_states grow t _ = None
 abbrev pub program : Bool → Table → Layout → List Taken → List Statement
 program grow t layout lines = filter_map (λ l. line_states grow (behind layout t l.0) l.1.line) (placed lines)
 
--- A statement of a module takes as many bytes as one of a program, and whatever is made of it at places, long or short, is that one's bytes.
-pub record IsAt (places : ℕ → ℕ) (o : object.Statement) (s : Statement) : Type 0 where
-  pub size : size_of o ≡ sized_as s
-  pub pieces : (at : ℕ) (long : Bool) (bytes : List ℕ) → All (λ b. b < 256) bytes → IsLinked at long places o bytes → IsPiece at long places s bytes × (length bytes ≡ takes long (sized_as s))
+-- Whatever is made of a statement of a module at places, long or short, is a program's statement there, and as many bytes as that takes.
+abbrev pub IsAt : (ℕ → ℕ) → object.Statement → Statement → Type 0
+IsAt places o s = (at : ℕ) (long : Bool) (bytes : List ℕ) → All (λ b. b < 256) bytes → IsLinked at long places o bytes → IsPiece at long places s bytes × (length bytes ≡ takes long (sized_as s))
 
--- One by one, statements of a module are those of a program, at all places that step by each known size: those of every choice of jumps do,
--- laid from any beginning, wherever externals lie.
-abbrev pub AreAt : List object.Statement → List Statement → Type 0
-AreAt statements program = (places : ℕ → ℕ) → Step (sizes statements) places → AllZip (IsAt places) statements program
+-- One by one, statements of a module are those of a program: they take as many bytes, and jumps go to the same refs; and what is made of
+-- them is theirs at all places that step by each known size: those of every choice of jumps do, laid from any beginning, wherever
+-- externals lie.
+pub record AreAt (statements : List object.Statement) (program : List Statement) : Type 0 where
+  pub like : AllZip IsLike statements program
+  pub pieces : (places : ℕ → ℕ) → Step (sizes statements) places → AllZip (IsAt places) statements program

@@ -1,5 +1,5 @@
 -- The steps of the answer, as the code takes them.
-use Rattle.std.specs.Prelude.{◌≡◌, ℕ, Bool, List, [], ◌∷◌, Option, Some, None, Result, Ok, Err, Vec, length, map, take}
+use Rattle.std.specs.Prelude.{◌≡◌, ℕ, Bool, List, [], ◌∷◌, Option, Some, None, Result, Ok, Err, Vec, map, take}
 use Rattle.std.specs.Global.{Global}
 use Rattle.asm_expr.specs.Names.{Table}
 use Rattle.asm_order.specs.declared.walk.Turn.{Turn}

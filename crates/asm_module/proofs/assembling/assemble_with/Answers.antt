@@ -1,8 +1,7 @@
-use Rattle.std.proofs.Common.{◌≡◌, ◌<◌, ◌≤◌, ◌∙◌, sym, ap, refl, subst, length, arith}
+use Rattle.std.proofs.Common.{◌∙◌, sym, ap, subst, length, arith}
 use Rattle.std.proofs.lemmas.List.{length-map}
 use Rattle.std.proofs.lemmas.Option.{slice_get-get_or}
 use Rattle.std.proofs.lemmas.Result.{err_from_is_err_and}
-use Rattle.asm_layout.specs.Laid.{HasFew}
 use Rattle.asm_macro.specs.Texts.{source_lines}
 use Rattle.asm_names.specs.Faults.{first_fault}
 use Rattle.asm_source.specs.Source.{last_listed}
@@ -61,4 +60,5 @@ assemble_lines-requires-clause-named c =
 pub returns-clause-placed : goal.returns-clause-placed
 returns-clause-placed c =
     let s = c.in-Ok.ensures in
-    (s.0, s.1, subst (λ ls. StatesLines c.args.grow ls (module_of c.in_ok-module.module).statements) (ap lines_of c.deref.ensures.value ∙ s.2) c.in_ok-module.ensures.placed)
+    let p = subst (λ ls. StatesLines c.args.grow ls (module_of c.in_ok-module.module).statements) (ap lines_of c.deref.ensures.value ∙ s.2) c.in_ok-module.ensures.placed in
+    (p.0, (s.0, s.1, p.1), p.2)

@@ -1,4 +1,4 @@
-use Rattle.std.proofs.Common.{◌≡◌, ◌∙◌, sym, ap, refl, take}
+use Rattle.std.proofs.Common.{◌∙◌, ap, take}
 use Rattle.asm_module.proofs.lines.short_name.Goals as goal
 
 pub returns : goal.returns
