@@ -3,6 +3,7 @@
 
 mod emitting;
 mod layout;
+mod piece;
 
 pub use emitting::emit;
 pub use layout::{grown, places_of, shape_of};
