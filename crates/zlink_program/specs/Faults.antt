@@ -1,5 +1,5 @@
 -- Why modules make no program. Each fault is said by itself, and then which comes first.
-use Rattle.std.specs.Prelude.{◌≡◌, ℕ, ◌&&◌, Bool, not, ◌==◌, List, [], ◌∷◌, Option, Some, None, Result, Ok, Err, if◌then◌else◌, is_some, length, nat_lt, take}
+use Rattle.std.specs.Prelude.{◌≡◌, ◌&&◌, Bool, not, ◌==◌, List, [], ◌∷◌, Option, Some, None, Result, Ok, Err, if◌then◌else◌, is_some, length, nat_lt, take}
 use Rattle.std.specs.List.{enumerate_from, sum_by}
 use Rattle.std.specs.Option.{option_and_then}
 use Rattle.zmo_module.specs.declared.module.TheConstants.{MOST_STATEMENTS}

@@ -1,5 +1,5 @@
 -- The whole program of modules: their statements, one after the other, and which of these each ref names.
-use Rattle.std.specs.Prelude.{◌≡◌, ℕ, ◌+◌, ◌-◌, List, [], Option, if◌then◌else◌, length, map, nat_le}
+use Rattle.std.specs.Prelude.{◌≡◌, ℕ, ◌+◌, ◌-◌, List, [], if◌then◌else◌, length, map, nat_le}
 use Rattle.std.specs.List.{AllZip, flat_map, slice_index_or}
 use Rattle.std.specs.Option.{option_map_or}
 use Rattle.zmo_module.specs.Modules.{Module, Statement}

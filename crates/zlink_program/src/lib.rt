@@ -3,6 +3,7 @@
 
 mod fault;
 mod joining;
+pub mod laws;
 
 pub use fault::JoinFault;
 pub use joining::{Links, join};

@@ -1,0 +1,2 @@
+pub mod Laid_end_to_end
+pub mod Sound
