@@ -1,1 +1,4 @@
+pub mod Elements
 pub mod Filled
+pub mod Growing
+pub mod Tables
