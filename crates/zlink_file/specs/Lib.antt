@@ -1,3 +1,4 @@
 pub mod Reads
 pub mod Objects
 pub mod Places
+pub mod Private

@@ -3,6 +3,8 @@
 
 mod emitting;
 mod layout;
+mod piece;
+mod refs;
 
 pub use emitting::emit;
 pub use layout::{grown, places_of, shape_of};

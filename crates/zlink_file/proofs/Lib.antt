@@ -1,0 +1,5 @@
+pub mod Elements
+pub mod Filled
+pub mod Growing
+pub mod Linking
+pub mod Tables

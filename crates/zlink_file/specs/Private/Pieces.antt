@@ -1,0 +1,23 @@
+-- What is written for statements.
+use Rattle.std.specs.Prelude.{◌≡◌, ℕ, ◌+◌, ◌^◌, ◌<◌, Bool, false, List, ◌++◌, All, length, slice_index}
+use Rattle.ruler.specs.Choice.{IsNear, size_of}
+use Rattle.asm_reads.specs.Linked.{IsLinked}
+use Rattle.zmo_module.specs.Holes.{IsHole, LieWithin}
+use Rattle.zmo_module.specs.Modules as object
+use Rattle.zmo_module.specs.Modules.{Statement}
+use Rattle.zlink_file.specs.Objects.{sized_by}
+
+-- new is old with bytes of which a fact holds at its end
+abbrev pub Appends : List ℕ → List ℕ → (List ℕ → Type 0) → Type 0
+Appends old new P = (bytes : List ℕ) × (new ≡ old ++ bytes) × P bytes
+
+-- a statement at a place can be written, where a table has the place of each ref
+abbrev pub IsReady : ℕ → Bool → List ℕ → Statement → Type 0
+IsReady at long table (object.Bytes bytes holes) = LieWithin 0 (length bytes) holes × All (IsHole (length table) bytes) holes
+IsReady at long table (object.Jump marked condition target) = (at < 2 ^ 31) × (target < length table) × (long ≡ false → IsNear at (slice_index table target))
+IsReady at long table (object.Short branch target) = (at < 2 ^ 31) × (target < length table) × IsNear at (slice_index table target)
+IsReady at long table (object.Space size fill) = Unit {0}
+
+-- the bytes are what is made of a statement, as many as its size says
+abbrev pub IsSizedPiece : ℕ → Bool → List ℕ → Statement → List ℕ → Type 0
+IsSizedPiece at long table s bytes = IsLinked at long (λ ref. slice_index table ref) s bytes × (length bytes ≡ size_of long (sized_by (λ ref. ref) s))
