@@ -1,4 +1,6 @@
 mod Placed
+mod Once
+mod Answered
 mod Passed
 mod Whole
 mod Held

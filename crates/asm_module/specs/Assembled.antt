@@ -1,5 +1,5 @@
 -- What is answered of a source text.
-use Rattle.std.specs.Prelude.{◌≡◌, ℕ, Bool, false, List, Option, Some, None, Result, Ok, Err, length}
+use Rattle.std.specs.Prelude.{◌≡◌, ◌≢◌, ℕ, Bool, false, List, Option, Some, None, Result, Ok, Err, length}
 use Rattle.asm_equ.specs.Circles.{TellsCircles}
 use Rattle.asm_macro.specs.declared.fault.MacroFault.{MacroFault}
 use Rattle.asm_macro.specs.Expands.{IsExpanded}
@@ -48,6 +48,11 @@ abbrev pub Assembles : List ℕ → List ℕ → Bool → Result Assembled AsmFa
 Assembles name text grow result =
     (expanded : Result (List Numbered) (ℕ × MacroFault)) × IsExpanded text expanded × (circle : ℕ → Bool) × TellsLines circle expanded
     × (assembled name grow (length (source_lines text)) circle expanded ≡ result)
+
+-- An answer has a cause in the text, if it is not want of memory.
+abbrev pub HasCause : Result Assembled AsmFault → Type 0
+HasCause (Ok whole) = Unit {0}
+HasCause (Err fault) = fault.why ≢ Why.NoMemory
 
 -- What the code's types hold.
 abbrev pub seen : whole.Module × listing.Lines → Assembled

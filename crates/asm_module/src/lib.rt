@@ -6,6 +6,7 @@
 
 mod assembling;
 mod fault;
+pub mod laws;
 mod lines;
 mod naming;
 mod placing;
