@@ -11,11 +11,11 @@ use Rattle.zmo_module.specs.Modules.{Module, module_of, statement_of}
 use Rattle.zmo_module.specs.Rules.{IsModule}
 use Rattle.zlink_program.specs.declared.fault.JoinFault.{JoinFault}
 use Rattle.zlink_program.specs.declared.joining.Links.{Links}
-use Rattle.zlink_program.specs.Faults.{begins_late, first_of, if_so, or_else, twice}
+use Rattle.zlink_program.specs.Faults.{begins_late, first_of, if_so, or_else}
 use Rattle.zlink_program.specs.Laws.{statement_count}
 use Rattle.zlink_program.specs.Parts.{Part, Publics, given, parts, parts_from, publics}
 use Rattle.zlink_program.specs.Whole.{IsLinks}
-use Rattle.zlink_program.specs.Private.Judged.{Fails, clashes, part, refused}
+use Rattle.zlink_program.specs.Private.Judged.{Fails, clashes, once, part, refused}
 use Rattle.zlink_program.proofs.Laid_end_to_end.{count-cons}
 
 -- So many modules were gone through, with so many statements, and these are left.
@@ -108,9 +108,6 @@ pub ends : (f : Part → Option JoinFault) (modules : List whole.Module) (number
 ends f modules number base le was = was.judged ∙ ap (λ rest. first_of f (parts_from number base rest)) (left_none modules number le)
 
 -- What the modules gone through give was given once.
-
-abbrev pub once : List Module → Part → Option JoinFault
-once modules p = twice (take p.number (parts modules)) p
 
 pub record Gives (modules : List whole.Module) (number base : ℕ) (names : Publics) : Type 0 where
   pub judging : Judging (once (map module_of modules)) modules number base

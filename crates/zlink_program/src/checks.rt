@@ -14,7 +14,6 @@ use zmo_module::{MOST_STATEMENTS, Module};
 
 /// Refuses more statements than a program may have.
 pub(crate) fn check_count(modules: &[Module]) -> Result<(), JoinFault>
-    requires { All IsModule (map module_of modules.now) }
     ensures { result ≡ refused (too_many (map module_of modules.now)) }
 {
     let mut count = 0;

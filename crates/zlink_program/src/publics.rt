@@ -1,13 +1,13 @@
 //! The names that modules give to one another.
 
-ghost use Rattle.std.specs.Prelude.{◌≡◌, ◌≤◌, ◌++◌, ◌∷◌, [], All, IfOk, None, OnOk, is_some, map, not, take};
+ghost use Rattle.std.specs.Prelude.{◌≡◌, ◌≤◌, ◌++◌, ◌∷◌, [], All, IfOk, None, OnOk, is_some, map, not};
 ghost use Rattle.zmo_module.specs.declared.module.TheConstants.{MOST_STATEMENTS};
 ghost use Rattle.zmo_module.specs.Modules.{module_of};
 ghost use Rattle.zmo_module.specs.Rules.{IsModule};
-ghost use Rattle.zlink_program.specs.Faults.{first_of, twice};
+ghost use Rattle.zlink_program.specs.Faults.{first_of};
 ghost use Rattle.zlink_program.specs.Laws.{statement_count};
 ghost use Rattle.zlink_program.specs.Parts.{found, given, parts, publics};
-ghost use Rattle.zlink_program.specs.Private.Judged.{Judges, clashes, part};
+ghost use Rattle.zlink_program.specs.Private.Judged.{Judges, clashes, once, part};
 
 use crate::fault::JoinFault;
 use indexmap::IndexMap;
@@ -35,7 +35,7 @@ impl<'a> PublicNames<'a> {
     pub(crate) fn of(alloc: Global, modules: &'a [Module]) -> Result<PublicNames<'a>, JoinFault>
         requires rules { All IsModule (map module_of modules.now) }
         requires few { statement_count (map module_of modules.now) ≤ MOST_STATEMENTS }
-        ensures { Judges (first_of (λ p. twice (take p.number (parts (map module_of modules.now))) p) (parts (map module_of modules.now))) (λ names. names ≡ publics (parts (map module_of modules.now))) result }
+        ensures { Judges (first_of (once (map module_of modules.now)) (parts (map module_of modules.now))) (λ names. names ≡ publics (parts (map module_of modules.now))) result }
     {
         let mut names = PublicNames {
             statements: IndexMap::new(alloc),

@@ -1,9 +1,9 @@
 -- What the steps of joining answer.
-use Rattle.std.specs.Prelude.{◌≡◌, ℕ, Option, Some, None, Result, Ok, Err, is_some}
+use Rattle.std.specs.Prelude.{◌≡◌, ℕ, List, Option, Some, None, Result, Ok, Err, is_some, take}
 use Rattle.zmo_module.specs.Modules.{Module}
 use Rattle.zlink_program.specs.declared.fault.JoinFault.{JoinFault}
-use Rattle.zlink_program.specs.Faults.{first_of, if_so}
-use Rattle.zlink_program.specs.Parts.{Part, Publics, found, label_at}
+use Rattle.zlink_program.specs.Faults.{first_of, if_so, twice}
+use Rattle.zlink_program.specs.Parts.{Part, Publics, found, label_at, parts}
 
 -- a fault is refused
 abbrev pub refused : Option JoinFault → Result (Unit {0}) JoinFault
@@ -30,3 +30,7 @@ clash names p l = if_so (JoinFault.DefinedTwice p.number l) (is_some (found name
 -- the first of a part's public labels of a name that is given
 abbrev pub clashes : Publics → Part → Option JoinFault
 clashes names p = first_of (clash names p) p.holds.publics
+
+-- a public name of a part that one before it gives
+abbrev pub once : List Module → Part → Option JoinFault
+once modules p = twice (take p.number (parts modules)) p

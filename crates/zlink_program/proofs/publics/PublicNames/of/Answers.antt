@@ -3,8 +3,8 @@ use Rattle.std.proofs.lemmas.Result.{err_from_is_err_and}
 use Rattle.zmo_module.specs.Modules.{module_of}
 use Rattle.zlink_program.specs.Faults.{first_of}
 use Rattle.zlink_program.specs.Parts.{parts}
-use Rattle.zlink_program.specs.Private.Judged.{clashes, part}
-use Rattle.zlink_program.proofs.Going_on.{Gives, fails_on, gives_more, given_twice, once, rules_there}
+use Rattle.zlink_program.specs.Private.Judged.{clashes, once, part}
+use Rattle.zlink_program.proofs.Going_on.{Gives, fails_on, gives_more, given_twice, rules_there}
 use Rattle.zlink_program.proofs.publics.PublicNames.of.Goals as goal
 
 pub give-requires-clause-rules : goal.give-requires-clause-rules
