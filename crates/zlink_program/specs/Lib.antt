@@ -2,3 +2,4 @@ pub mod Parts
 pub mod Whole
 pub mod Faults
 pub mod Laws
+pub mod Private
