@@ -61,9 +61,10 @@ pub fn emit(
     let mut file = Vec::with_capacity(alloc, size as usize)?;
     let mut table = Vec::new(alloc);
     for (m, module) in modules.iter().enumerate() {
+        let links = &links[m];
         let statements = &module.statements;
-        let first = links[m].base as usize;
-        fill_table(&mut table, statements.len(), &links[m], places)?;
+        fill_table(&mut table, statements.len(), links, places)?;
+        let first = links.base as usize;
         put_statements(&mut file, statements, first, &table, places, long)?;
     }
     Ok(file)
