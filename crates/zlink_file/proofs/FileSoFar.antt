@@ -1,5 +1,5 @@
 -- A file that is written statement by statement reads as its program.
-use Rattle.std.proofs.Common.{◌≡◌, inl, inr, ℕ, suc, ◌+◌, ◌-◌, ◌<◌, ◌≤◌, Bool, true, false, List, [], ◌∷◌, ◌++◌, Option, Some, All, length, take, drop, slice_index, refl, sym, ap, subst, ◌∙◌, arith, length-append, length-drop, append_assoc}
+use Rattle.std.proofs.Common.{◌≡◌, inl, inr, ℕ, suc, ◌+◌, ◌-◌, ◌<◌, ◌≤◌, Bool, false, List, [], ◌∷◌, ◌++◌, Option, Some, All, length, take, drop, slice_index, refl, sym, ap, subst, ◌∙◌, arith, length-append, length-drop, append_assoc}
 use Rattle.std.specs.List.{slice_get, slice_range}
 use Rattle.std.specs.Option.{option_map}
 use Rattle.std.proofs.lemmas.Bool.{cases_lt}

@@ -1,5 +1,5 @@
 -- Jumps that are marked and long, module by module.
-use Rattle.std.proofs.Common.{◌≡◌, ℕ, suc, ◌+◌, ◌<◌, ◌≤◌, Bool, true, false, List, [], ◌∷◌, ◌++◌, Option, Some, None, cond, ◌&&◌, length, map, take, get_or, refl, sym, ap, ◌∙◌, arith, append_assoc, append-nil, length-append}
+use Rattle.std.proofs.Common.{◌≡◌, ℕ, suc, ◌+◌, ◌<◌, ◌≤◌, Bool, true, false, List, [], ◌∷◌, ◌++◌, Some, None, cond, ◌&&◌, length, map, take, get_or, refl, sym, ap, ◌∙◌, arith, append_assoc, append-nil, length-append}
 use Rattle.std.specs.List.{cons_option, enumerate_from, filter_map, flat_map, sum_by}
 use Rattle.std.proofs.lemmas.List.{length-take-le, length-map, map-append, take-map}
 use Rattle.std.proofs.lemmas.List.Elements.{filter_map-append}

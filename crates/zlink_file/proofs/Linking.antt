@@ -3,7 +3,7 @@ use Rattle.std.proofs.Common.{◌≡◌, ℕ, suc, ◌+◌, ◌-◌, ◌<◌, �
 use Rattle.std.specs.Prelude.{nat_le}
 use Rattle.std.specs.List.{AllByRecursion, flat_map, slice_get, slice_index_or}
 use Rattle.std.specs.Option.{IsSomeAnd, MatchOption, option_map}
-use Rattle.std.proofs.lemmas.Bool.{leb-false, leb-true}
+use Rattle.std.proofs.lemmas.Bool.{leb-false}
 use Rattle.std.proofs.lemmas.Grind.{flat_map-append}
 use Rattle.std.proofs.lemmas.List.{append-nil, get_or-map, length-map, map-append, take_all, take_more}
 use Rattle.std.proofs.lemmas.List.Elements.{All-map, All-weaker, recursion_from_All}
@@ -20,7 +20,7 @@ use Rattle.zmo_module.specs.declared.module.TheConstants.{MOST_STATEMENTS}
 use Rattle.zmo_module.specs.Rules.{IsModule, IsStatement, refs_of}
 use Rattle.zlink_program.specs.declared.joining.Links.{Links}
 use Rattle.zlink_program.specs.Laws.{IsWithin, part_at, statement_count}
-use Rattle.zlink_program.specs.Parts.{Publics, parts, parts_from, publics}
+use Rattle.zlink_program.specs.Parts.{parts, parts_from, publics}
 use Rattle.zlink_program.specs.Whole.{AreLinks, IsLinks, Placed, placed, program, standing, stands}
 use Rattle.zlink_file.specs.Objects.{shape, sized_by}
 use Rattle.zlink_file.specs.Private.Refs.{IsSizable, stands_by}

@@ -1,5 +1,5 @@
 -- What is made of a statement where a table has the places of its refs.
-use Rattle.std.proofs.Common.{◌≡◌, ℕ, ◌+◌, ◌%◌, ◌<◌, ◌++◌, Bool, true, false, List, [], ◌∷◌, All, length, take, drop, refl, sym, ap, subst, ◌∙◌}
+use Rattle.std.proofs.Common.{◌≡◌, ℕ, ◌+◌, ◌%◌, ◌<◌, ◌++◌, Bool, true, false, List, [], ◌∷◌, length, take, drop, refl, sym, ap, subst, ◌∙◌}
 use Rattle.std.specs.List.{AllByRecursion}
 use Rattle.std.proofs.lemmas.List.Elements.{recursion_from_All}
 use Rattle.std.proofs.lemmas.Grind.{flat_map-append}
@@ -7,7 +7,7 @@ use Rattle.asm_parse.specs.declared.item.Item.{Item}
 use Rattle.asm_parse.specs.Expression.{Expression, Leaf, Prefix, Infix, postfix}
 use Rattle.asm_expr.specs.declared.atom.Atom.{Atom}
 use Rattle.asm_expr.specs.Arithmetic.{binary, modulus, unary}
-use Rattle.asm_expr.specs.Items.{IsExpr, refs, refs_in, value}
+use Rattle.asm_expr.specs.Items.{refs, refs_in, value}
 use Rattle.asm_expr.specs.Postfix.{tree}
 use Rattle.asm_expr.proofs.Judgements.{spelled_tree}
 use Rattle.z80_instr.specs.Codes.{Codes}

@@ -1,5 +1,5 @@
 -- The table of a module has the places of what its refs stand for.
-use Rattle.std.proofs.Common.{◌≡◌, inl, inr, ℕ, ◌+◌, ◌-◌, ◌<◌, ◌≤◌, Bool, true, false, List, ◌++◌, Some, All, cond, length, map, take, drop, get_or, slice_index, vec_len, refl, sym, ap, subst, ◌∙◌, arith, length-append, length-drop}
+use Rattle.std.proofs.Common.{◌≡◌, inl, inr, ℕ, ◌+◌, ◌-◌, ◌<◌, Bool, true, false, List, ◌++◌, Some, All, cond, length, map, take, drop, slice_index, refl, sym, ap, ◌∙◌, arith, length-append, length-drop}
 use Rattle.std.specs.Prelude.{nat_le}
 use Rattle.std.specs.List.{slice_get, slice_range}
 use Rattle.std.proofs.lemmas.Bool.{cases_lt, leb-false, leb-true}
@@ -9,7 +9,7 @@ use Rattle.zmo_module.specs.Rules.{IsStatement, refs_of}
 use Rattle.zlink_program.specs.declared.joining.Links.{Links}
 use Rattle.zlink_program.specs.Laws.{IsWithin, part_at}
 use Rattle.zlink_program.specs.Parts.{Part, parts, publics}
-use Rattle.zlink_program.specs.Whole.{Placed, program, stands}
+use Rattle.zlink_program.specs.Whole.{program, stands}
 use Rattle.zlink_file.specs.Private.Refs.{stands_by, table_of}
 use Rattle.zlink_file.proofs.Elements.{at-element}
 use Rattle.zlink_file.proofs.FileSoFar.{Follow, IsTabled}
