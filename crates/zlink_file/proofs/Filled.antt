@@ -33,5 +33,11 @@ filled-more places old now next hs k h lt is before more =
 pub length-fill_one : (places : ℕ → ℕ) (bytes : List ℕ) (h : Hole) → h.offset + size_of h.width ≤ length bytes → length (fill_one places bytes h) ≡ length bytes
 length-fill_one places bytes h within =
     let new = written h.width (value places (tree h.value)) in
-    omega (arith, length-written h.width (value places (tree h.value)), length-append (take h.offset bytes) (new ++ drop (h.offset + length new) bytes), length-append new (drop (h.offset + length new) bytes),
-      length-take h.offset bytes, length-drop (h.offset + length new) bytes)
+    omega (
+      arith,
+      length-written h.width (value places (tree h.value)),
+      length-append (take h.offset bytes) (new ++ drop (h.offset + length new) bytes),
+      length-append new (drop (h.offset + length new) bytes),
+      length-take h.offset bytes,
+      length-drop (h.offset + length new) bytes,
+    )

@@ -1,7 +1,7 @@
 -- Jumps that are marked and long, module by module.
-use Rattle.std.proofs.Common.{◌≡◌, ℕ, suc, ◌+◌, ◌<◌, ◌≤◌, Bool, true, false, List, [], ◌∷◌, ◌++◌, Option, Some, None, cond, ◌&&◌, length, map, take, get_or, refl, sym, ap, ◌∙◌, arith, append_assoc, append-nil, length-append}
+use Rattle.std.proofs.Common.{◌≡◌, ℕ, suc, ◌+◌, ◌<◌, ◌≤◌, Bool, true, false, List, [], ◌∷◌, ◌++◌, Some, None, cond, ◌&&◌, length, map, take, get_or, refl, sym, ap, ◌∙◌, arith, append_assoc, append-nil, length-append}
 use Rattle.std.specs.List.{cons_option, enumerate_from, filter_map, flat_map, sum_by}
-use Rattle.std.proofs.lemmas.List.{length-take-le, length-map, map-append, take-map, take_more}
+use Rattle.std.proofs.lemmas.List.{length-take-le, length-map, map-append, take-map}
 use Rattle.std.proofs.lemmas.List.Elements.{filter_map-append}
 use Rattle.std.proofs.lemmas.List.Concat.{length-flat_map}
 use Rattle.std.proofs.lemmas.List.Sums.{sum_by-take-le}
@@ -14,6 +14,7 @@ use Rattle.zlink_program.specs.Parts.{Part, Publics, parts, parts_from, publics}
 use Rattle.zlink_program.specs.Whole.{Placed, placed, program, stands}
 use Rattle.zlink_file.specs.Objects.{grown, grown_at, is_marked}
 use Rattle.zlink_file.specs.Private.Marked.{marked_at, marked_from}
+use Rattle.zlink_file.proofs.Elements.{mapped-more}
 
 enumerate-append : {X : Type 0} (n : ℕ) (xs ys : List X) → enumerate_from n (xs ++ ys) ≡ enumerate_from n xs ++ enumerate_from (n + length xs) ys
 enumerate-append n [] ys = let same : n ≡ n + 0 = omega arith in ap (λ m. enumerate_from m ys) same
@@ -81,8 +82,7 @@ pub marked-step : (c : Choice) (n k : ℕ) (ss : List S.Statement) (s : S.Statem
 marked-step c n k ss s old now next b lt is before test more =
     let front = map statement_of (take k ss) in
     let len : length front ≡ k = length-map (take k ss) statement_of ∙ length-take-le k ss (omega arith) in
-    let longer : map statement_of (take (k + 1) ss) ≡ front ++ statement_of s ∷ [] =
-    ap (map statement_of) (take_more ss k s lt ∙ ap (λ x. take k ss ++ x ∷ []) (sym is)) ∙ map-append statement_of (take k ss) (s ∷ []) in
+    let longer = mapped-more statement_of ss k s lt is in
     let pushed = marked-push c n k (n + k) front (statement_of s) len refl in
     more ∙ ap (λ l. l ++ cond b ((n + k) ∷ []) []) before ∙ append_assoc old (marked_from c n front) (cond b ((n + k) ∷ []) [])
     ∙ ap (λ t. old ++ (marked_from c n front ++ cond t ((n + k) ∷ []) [])) test ∙ ap (λ l. old ++ l) (sym pushed ∙ ap (marked_from c n) (sym longer))
@@ -92,7 +92,7 @@ statements-more : (ms : List M.Module) (k : ℕ) (m : M.Module) → k < length m
     → statements_in (map module_of (take (k + 1) ms)) ≡ statements_in (map module_of (take k ms)) ++ map statement_of m.statements.items
 statements-more ms k m lt is =
     let front = map module_of (take k ms) in
-    ap statements_in (ap (map module_of) (take_more ms k m lt ∙ ap (λ x. take k ms ++ x ∷ []) (sym is)) ∙ map-append module_of (take k ms) (m ∷ []))
+    ap statements_in (mapped-more module_of ms k m lt is)
     ∙ flat_map-append (λ x. x.statements) front (module_of m ∷ []) ∙ ap (λ l. statements_in front ++ l) (append-nil (map statement_of m.statements.items))
 
 pub count-more : (ms : List M.Module) (k : ℕ) (m : M.Module) → k < length ms → m ≡ get_or ms k m

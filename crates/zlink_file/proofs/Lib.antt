@@ -1,5 +1,9 @@
 pub mod Elements
+pub mod FileSoFar
 pub mod Filled
 pub mod Growing
+pub mod Laid
 pub mod Linking
+pub mod Moved
+pub mod Tabled
 pub mod Tables

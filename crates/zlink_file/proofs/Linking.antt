@@ -3,11 +3,11 @@ use Rattle.std.proofs.Common.{◌≡◌, ℕ, suc, ◌+◌, ◌-◌, ◌<◌, �
 use Rattle.std.specs.Prelude.{nat_le}
 use Rattle.std.specs.List.{AllByRecursion, flat_map, slice_get, slice_index_or}
 use Rattle.std.specs.Option.{IsSomeAnd, MatchOption, option_map}
-use Rattle.std.proofs.lemmas.Bool.{leb-false, leb-true}
+use Rattle.std.proofs.lemmas.Bool.{leb-false}
 use Rattle.std.proofs.lemmas.Grind.{flat_map-append}
 use Rattle.std.proofs.lemmas.List.{append-nil, get_or-map, length-map, map-append, take_all, take_more}
 use Rattle.std.proofs.lemmas.List.Elements.{All-map, All-weaker, recursion_from_All}
-use Rattle.std.proofs.lemmas.List.Sums.{sum_by_more_le}
+use Rattle.std.proofs.lemmas.List.Sums.{sum_by_more, sum_by_more_le}
 use Rattle.std.proofs.lemmas.Option.{get_or_from_slice_get, slice_get-get_or, slice_get-map, slice_get_within}
 use Rattle.std.proofs.lemmas.Slice.Zip.{AllZip-left, AllZip-long}
 use Rattle.ruler.specs.declared.shape.Statement.{Statement as Sized}
@@ -20,7 +20,7 @@ use Rattle.zmo_module.specs.declared.module.TheConstants.{MOST_STATEMENTS}
 use Rattle.zmo_module.specs.Rules.{IsModule, IsStatement, refs_of}
 use Rattle.zlink_program.specs.declared.joining.Links.{Links}
 use Rattle.zlink_program.specs.Laws.{IsWithin, part_at, statement_count}
-use Rattle.zlink_program.specs.Parts.{Publics, parts, parts_from, publics}
+use Rattle.zlink_program.specs.Parts.{parts, parts_from, publics}
 use Rattle.zlink_program.specs.Whole.{AreLinks, IsLinks, Placed, placed, program, standing, stands}
 use Rattle.zlink_file.specs.Objects.{shape, sized_by}
 use Rattle.zlink_file.specs.Private.Refs.{IsSizable, stands_by}
@@ -68,6 +68,12 @@ here law ms links k m l lt is at rules linked =
 pub ends : (modules : List Module) (k : ℕ) (m : Module) (l : Links) → IsHere modules k m l → l.base + length m.statements ≤ statement_count modules
 ends modules k m l h =
     let more = sum_by_more_le (λ x. length x.statements) modules k m h.within in
+    omega (arith, h.linked.base, more, ap (λ x. length x.statements) (get_or_from_slice_get modules k m m h.element))
+
+-- the module behind it begins where it ends
+pub base-next : (modules : List Module) (k : ℕ) (m : Module) (l : Links) → IsHere modules k m l → statement_count (take (k + 1) modules) ≡ l.base + length m.statements
+base-next modules k m l h =
+    let more = sum_by_more (λ x. length x.statements) modules k m h.within in
     omega (arith, h.linked.base, more, ap (λ x. length x.statements) (get_or_from_slice_get modules k m m h.element))
 
 -- as many refs as externals are kept

@@ -154,7 +154,9 @@ pub(crate) fn put_statement(
     match statement {
         Statement::Bytes { bytes, holes } => put_bytes(file, bytes, holes, table)?,
         Statement::Jump {
-            condition, target, ..
+            condition,
+            target,
+            ..
         } => {
             let to = table[usize::from(*target)];
             if long {

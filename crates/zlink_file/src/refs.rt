@@ -43,11 +43,7 @@ fn put_places(table: &mut Vec<u16>, places: &[u32]) -> Result<(), AllocError>
 }
 
 /// Adds the places of numbers to a table.
-fn put_externals(
-    table: &mut Vec<u16>,
-    externals: &[u32],
-    places: &[u32],
-) -> Result<(), AllocError>
+fn put_externals(table: &mut Vec<u16>, externals: &[u32], places: &[u32]) -> Result<(), AllocError>
     requires { All (λ place. place < 65536) places.now }
     ensures { OnOk result (table.new.items ≡ table.old.items ++ map (slice_index places.now) externals.now) }
 {

@@ -1,6 +1,6 @@
 -- What is written for statements.
-use Rattle.std.specs.Prelude.{◌≡◌, ℕ, ◌+◌, ◌^◌, ◌<◌, Bool, false, List, ◌++◌, All, length, slice_index}
-use Rattle.ruler.specs.Choice.{IsNear, size_of}
+use Rattle.std.specs.Prelude.{◌≡◌, ℕ, ◌+◌, ◌^◌, ◌<◌, Bool, false, List, [], ◌∷◌, ◌++◌, All, Some, length, slice_get, slice_index}
+use Rattle.ruler.specs.Choice.{Choice, IsNear, size_of}
 use Rattle.asm_reads.specs.Linked.{IsLinked}
 use Rattle.zmo_module.specs.Holes.{IsHole, LieWithin}
 use Rattle.zmo_module.specs.Modules as object
@@ -21,3 +21,12 @@ IsReady at long table (object.Space size fill) = Unit {0}
 -- the bytes are what is made of a statement, as many as its size says
 abbrev pub IsSizedPiece : ℕ → Bool → List ℕ → Statement → List ℕ → Type 0
 IsSizedPiece at long table s bytes = IsLinked at long (λ ref. slice_index table ref) s bytes × (length bytes ≡ size_of long (sized_by (λ ref. ref) s))
+
+-- statements from a number of the whole on can be written
+abbrev pub AreReady : Choice → List ℕ → List ℕ → ℕ → List Statement → Type 0
+AreReady c places table first statements = (i : ℕ) (s : Statement) → slice_get statements i ≡ Some s → IsReady (slice_index places (first + i)) (c (first + i)) table s
+
+-- the bytes are those of statements from a number on, one behind the other
+abbrev pub AreLaid : (ℕ → Statement → List ℕ → Type 0) → ℕ → List Statement → List ℕ → Type 0
+AreLaid IsPiece k [] bytes = bytes ≡ []
+AreLaid IsPiece k (s ∷ ss) bytes = (one : List ℕ) × (rest : List ℕ) × (bytes ≡ one ++ rest) × IsPiece k s one × AreLaid IsPiece (k + 1) ss rest

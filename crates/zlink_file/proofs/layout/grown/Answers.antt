@@ -1,4 +1,4 @@
-use Rattle.std.proofs.Common.{◌≡◌, ◌+◌, ◌++◌, map, length, take, sym, ap, ◌∙◌, arith}
+use Rattle.std.proofs.Common.{◌≡◌, ◌+◌, ◌++◌, map, length, sym, ap, ◌∙◌, arith}
 use Rattle.std.proofs.lemmas.List.{take_all}
 use Rattle.ruler.specs.Choice.{chosen}
 use Rattle.zmo_module.specs.Modules.{module_of, statement_of}
@@ -12,7 +12,7 @@ put_grown-requires c =
     omega (arith, more, front-fits c.args.modules.now (c.loop-module.module-index + 1), c.loop-module.invariant.first, ap length c.deref.ensures.value, c.requires)
 
 pub overflow_add-first : goal.overflow_add-first
-overflow_add-first c = 
+overflow_add-first c =
     let more = count-more c.args.modules.now c.loop-module.module-index c.module-item.result (omega arith) c.module-item.is in
     omega (arith, more, front-fits c.args.modules.now (c.loop-module.module-index + 1), c.loop-module.invariant.first, c.len-first.ensures, c.requires)
 
@@ -23,7 +23,7 @@ loop-module-preserved c =
     c.in_ok-put_grown.ensures ∙ ap (λ ss. c.loop-module.numbers.items ++ marked_from (chosen c.args.long.now) c.loop-module.first (map statement_of ss)) c.deref.ensures.value in
     record {
       numbers = modules-step (chosen c.args.long.now) c.loop-module.module-index c.loop-module.first c.args.modules.now c.module-item.result c.loop-module.numbers.items c.put_grown.new.numbers.items
-        (omega arith) c.module-item.is c.loop-module.invariant.first c.loop-module.invariant.numbers put;
+          (omega arith) c.module-item.is c.loop-module.invariant.first c.loop-module.invariant.numbers put;
       first = omega (arith, more, c.loop-module.invariant.first, c.len-first.ensures, c.module-item.result.statements.ok);
     }
 

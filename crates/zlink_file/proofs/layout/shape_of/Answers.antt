@@ -1,12 +1,10 @@
-use Rattle.std.proofs.Common.{◌≡◌, ◌+◌, ◌++◌, All, length, map, vec_len, sym, ap, subst, ◌∙◌, arith}
-use Rattle.std.specs.List.{flat_map}
-use Rattle.std.proofs.lemmas.List.{length-map, take_all}
+use Rattle.std.proofs.Common.{◌+◌, All, length, map, vec_len, sym, ap, subst, ◌∙◌, arith}
+use Rattle.std.proofs.lemmas.List.{length-map}
 use Rattle.ruler.specs.Choice.{IsShape}
 use Rattle.zmo_module.specs.Modules.{module_of, statement_of}
-use Rattle.zlink_program.specs.Parts.{parts, publics}
-use Rattle.zlink_program.specs.Whole.{placed, program}
-use Rattle.zlink_file.specs.Objects.{shape, sized_by}
-use Rattle.zlink_file.specs.Private.Refs.{IsSizable, stands_by}
+use Rattle.zlink_program.specs.Whole.{program}
+use Rattle.zlink_file.specs.Objects.{shape}
+use Rattle.zlink_file.specs.Private.Refs.{IsSizable}
 use Rattle.zlink_file.proofs.Linking.{ends, here, is_shape, links-long, parts-all, shape-more, sizable}
 use Rattle.zlink_file.proofs.layout.shape_of.Goals as goal
 
