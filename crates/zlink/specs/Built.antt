@@ -1,63 +1,62 @@
--- What `build` answers, of one source.
-use Rattle.std.specs.Prelude.{◌≡◌, ℕ, List, Result, Ok, Err}
-use Rattle.relax.specs.declared.growth.Verdict.{Verdict}
-use Rattle.relax.specs.declared.growth.Verdict.TheVariants.{Best, Range, TooLarge}
-use Rattle.ruler.specs.Choice.{Choice, IsValid, total}
-use Rattle.relax.specs.Growth.{Holds, IsLeastFirst, after}
-use Rattle.asm_stmt.specs.Statement.{Statement}
-use Rattle.zlink.specs.declared.fault.Misfit.{Misfit}
-use Rattle.zlink.specs.declared.fault.Misfit.TheVariants as misfit
-use Rattle.zlink.specs.declared.fault.LinkFault.{LinkFault}
-use Rattle.zlink.specs.declared.fault.LinkFault.TheVariants as link
+-- What is built of sources.
+use Rattle.std.specs.Prelude.{◌≡◌, ℕ, Bool, List, Some, None, Result, Ok, Err, map}
+use Rattle.std.specs.List.{enumerate_from, flat_map}
+use Rattle.ruler.specs.Choice.{place}
+use Rattle.relax.specs.Growth.{after}
+use Rattle.zlink_program.specs.declared.fault.JoinFault.{JoinFault}
+use Rattle.zlink_program.specs.Faults.{first_fault}
+use Rattle.zlink_program.specs.Whole as object
+use Rattle.zlink_file.specs.Objects.{ReadsObjects, grown}
 use Rattle.zlink.specs.declared.fault.BuildFault.{BuildFault}
-use Rattle.zlink.specs.declared.fault.BuildFault.TheVariants as fault
-use Rattle.zlink.specs.declared.source.Built.{Built}
-use Rattle.zlink.specs.Program.{IsProgram}
-use Rattle.zlink.specs.Source.{Assembles}
+use Rattle.zlink.specs.declared.fault.BuildFault.TheVariants as build
+use Rattle.zlink.specs.declared.fault.LinkFault.TheVariants as link
+use Rattle.zlink.specs.declared.building.Built as built
+use Rattle.zlink.specs.declared.origins.Origin as origin
+use Rattle.zlink.specs.declared.source.Source.{Source}
+use Rattle.zlink.specs.Judged.{IsBestAfter, IsUnfit}
+use Rattle.zlink.specs.Linked.{link_fault, symbol_of, symbols}
 use Rattle.zlink.specs.Reads.{Reads, shape}
-use Rattle.zlink.specs.Certified.{IsCertified}
+use Rattle.zlink.specs.Sources.{Assembly, AreAssembled, IsFirstFaulty, modules_of, program_of}
 
--- How a program's jumps are chosen, and what is said of it. Jumps are made long in the least-first order: the lowest short
--- jump that does not reach its target each time, until none is left. The verdict holds of the choice after that order, over
--- all choices. And the two texts certify that order and that verdict.
-pub record IsJudged (program : List (Statement ℕ)) (order : List ℕ) (v : Verdict) (sizes cert : List ℕ) : Type 0 where
-  pub is_program : IsProgram program
-  pub least_first : IsLeastFirst (shape program) order
-  pub verdict : Holds (after order) (shape program) v
-  pub certified : IsCertified (shape program) order v sizes cert
+-- Where a statement comes from: the number of its source, and its line; and its place.
+pub record Origin : Type 0 where
+  pub place : ℕ
+  pub source : ℕ
+  pub line : ℕ
 
--- The file reads as the program under the choice after the least-first order, than which no choice that fits takes fewer
--- bytes; and the two texts certify that.
-pub record IsFile (program : List (Statement ℕ)) (file sizes cert : List ℕ) : Type 0 where
-  pub order : List ℕ
-  pub judged : IsJudged program order (Best (total (after order) (shape program))) sizes cert
-  pub reads : Reads file program (after order)
+-- the source and the line of each statement
+abbrev pub lines_of : List Assembly → List (ℕ × ℕ)
+lines_of assemblies = flat_map (λ a. map (λ line. (a.0, line)) a.1.assembled.each) (enumerate_from 0 assemblies)
 
--- why no choice fits, as a verdict
-abbrev pub verdict_of : Misfit → Verdict
-verdict_of (misfit.Range k) = Range k
-verdict_of (misfit.TooLarge n) = TooLarge n
+-- statements from these lines, in order, each at its place
+abbrev pub origins_by : (ℕ → ℕ) → List (ℕ × ℕ) → List Origin
+origins_by places lines = map (λ l. record { place = places l.0; source = l.1.0; line = l.1.1 }) (enumerate_from 0 lines)
 
--- No choice makes a file of the program: the lowest jump that is always short and misses reaches its target in no choice in which every
--- short jump reaches its own, or each of them reaches and every such choice takes too many bytes; and the two texts certify that.
-pub record IsUnfit (program : List (Statement ℕ)) (why : Misfit) (sizes cert : List ℕ) : Type 0 where
-  pub order : List ℕ
-  pub judged : IsJudged program order (verdict_of why) sizes cert
-  pub none : (c : Choice) → ¬ IsValid c (shape program)
+abbrev pub origin_of : origin.Origin → Origin
+origin_of o = record { place = o.place; source = o.source; line = o.line }
 
--- what linking a program answers, but for memory
-abbrev pub IsLinked : List (Statement ℕ) → Result Built LinkFault → Type 0
-IsLinked program (Ok built) = IsFile program built.com.items built.sizes.items built.cert.items
-IsLinked program (Err (link.NoFit why sizes cert)) = IsUnfit program why sizes.items cert.items
-IsLinked program (Err link.NoMemory) = Unit {0}
+-- The file reads, statement by statement, as the program of the sources under the choice after the least-first order, with every target at
+-- its place; no choice that fits takes fewer bytes; the two texts certify that; and what stands beside the file is told of that choice.
+pub record IsFile (assemblies : List Assembly) (order : List ℕ) (b : built.Built) : Type 0 where
+  pub judged : IsBestAfter (shape (program_of assemblies)) order b.sizes.items b.cert.items
+  pub reads : Reads b.com.items (program_of assemblies) (after order)
+  -- it is the file of their modules
+  pub objects : ReadsObjects b.com.items (object.program (modules_of assemblies)) (after order)
+  pub symbols : map symbol_of b.symbols.items ≡ symbols (place (after order) (shape (program_of assemblies))) (modules_of assemblies)
+  pub statements : map origin_of b.statements.items ≡ origins_by (place (after order) (shape (program_of assemblies))) (lines_of assemblies)
+  pub last : b.last.items ≡ map (λ a. a.assembled.last) assemblies
+  pub grown : b.grown.items ≡ grown (object.program (modules_of assemblies)) (after order)
 
--- the text's program is linked so
-abbrev pub Links : List ℕ → (List (Statement ℕ) → Type 0) → Type 0
-Links text P = (program : List (Statement ℕ)) × Assembles text (Ok program) × P program
+-- The sources are a program, of which this holds.
+abbrev pub Program : Bool → List Source → (List Assembly → Type 0) → Type 0
+Program grow sources P = (assemblies : List Assembly) × AreAssembled grow sources assemblies × (first_fault (modules_of assemblies) ≡ None) × P assemblies
 
--- the answer for one text, but for memory
-abbrev pub IsAnswer : List ℕ → Result Built BuildFault → Type 0
-IsAnswer text (Ok built) = Links text (λ program. IsFile program built.com.items built.sizes.items built.cert.items)
-IsAnswer text (Err (fault.Asm source fault)) = (source ≡ 0) × Assembles text (Err fault)
-IsAnswer text (Err (fault.Link (link.NoFit why sizes cert))) = Links text (λ program. IsUnfit program why sizes.items cert.items)
-IsAnswer text (Err (fault.Link link.NoMemory)) = Unit {0}
+-- What is answered, but for memory: a file; or the first fault of the first faulty source; or why the modules of the sources make no program;
+-- or why no choice of the program's jumps fits.
+abbrev pub IsBuilt : Bool → List Source → Result built.Built BuildFault → Type 0
+IsBuilt grow sources (Ok b) = Program grow sources (λ assemblies. (order : List ℕ) × IsFile assemblies order b)
+IsBuilt grow sources (Err (build.Asm number fault)) = IsFirstFaulty grow sources number fault
+IsBuilt grow sources (Err (build.Link (link.NoFit why sizes cert))) = Program grow sources (λ assemblies. IsUnfit (shape (program_of assemblies)) why sizes.items cert.items)
+IsBuilt grow sources (Err (build.Link link.NoMemory)) = Unit {0}
+IsBuilt grow sources (Err (build.Link fault)) = (assemblies : List Assembly) × AreAssembled grow sources assemblies
+    × (first : JoinFault) × (first_fault (modules_of assemblies) ≡ Some first) × (link_fault first ≡ fault)

@@ -1,8 +1,8 @@
-pub mod Lines
-pub mod Labels
 pub mod Program
-pub mod Source
 pub mod Reads
 pub mod Certified
+pub mod Judged
+pub mod Linked
+pub mod Sources
 pub mod Built
 pub mod Private

@@ -1,24 +1,23 @@
--- What a program is: statements whose jumps name statements by number, the end being the count.
-use Rattle.ruler.specs.declared.limits.TheConstants.{MAX_STATEMENTS}
-use Rattle.std.specs.Prelude.{◌≡◌, ℕ, ◌≤◌, Bool, true, List, All, length, nat_lt}
-use Rattle.std.specs.List.{list_all}
-use Rattle.asm_stmt.specs.declared.form.Field.{Field}
-use Rattle.asm_stmt.specs.declared.form.Field.TheVariants.{Byte}
-use Rattle.asm_stmt.specs.Statement.{Statement, Code, Data, Space, Jump, Short}
+-- Statements with other numbers in place of their refs: those of the whole in place of those of one source.
+use Rattle.std.specs.Prelude.{ℕ, map}
+use Rattle.asm_parse.specs.Expression.{Expression, Leaf, Prefix, Infix}
+use Rattle.asm_expr.specs.declared.atom.Atom.{Atom}
+use Rattle.asm_reads.specs.Statement as statement
+use Rattle.asm_reads.specs.Statement.{Datum, Statement}
 
--- whether a value fits into its bytes
-abbrev pub field_fits : Field → Bool
-field_fits (Byte n) = nat_lt n 256
+abbrev pub renumbered : (ℕ → ℕ) → Expression Atom → Expression Atom
+renumbered to (Leaf (Atom.Number n)) = Leaf (Atom.Number n)
+renumbered to (Leaf (Atom.Ref ref)) = Leaf (Atom.Ref (to ref))
+renumbered to (Prefix op a) = Prefix op (renumbered to a)
+renumbered to (Infix op a b) = Infix op (renumbered to a) (renumbered to b)
 
--- what may stand among some count of statements
-abbrev pub IsStatement : ℕ → Statement ℕ → Type 0
-IsStatement count (Code instr) = Unit {0}
-IsStatement count (Data fields) = (1 ≤ length fields) × (length fields ≤ 65535) × (list_all field_fits fields ≡ true)
-IsStatement count (Space size fill) = (1 ≤ size) × (size ≤ 65535)
-IsStatement count (Jump condition target) = target ≤ count
-IsStatement count (Short branch target) = target ≤ count
+abbrev pub datum_in : (ℕ → ℕ) → Datum → Datum
+datum_in to (statement.Byte e) = statement.Byte (renumbered to e)
+datum_in to (statement.Word e) = statement.Word (renumbered to e)
 
--- a program is short enough, and its jumps name its statements or its end
-pub record IsProgram (program : List (Statement ℕ)) : Type 0 where
-  pub few : length program ≤ MAX_STATEMENTS
-  pub each : All (IsStatement (length program)) program
+abbrev pub statement_in : (ℕ → ℕ) → Statement → Statement
+statement_in to (statement.Code instr numbers) = statement.Code instr (map (λ n. (n.0, renumbered to n.1)) numbers)
+statement_in to (statement.Data items) = statement.Data (map (datum_in to) items)
+statement_in to (statement.Space size fill) = statement.Space size fill
+statement_in to (statement.Jump condition target) = statement.Jump condition (to target)
+statement_in to (statement.Short branch target) = statement.Short branch (to target)

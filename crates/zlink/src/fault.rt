@@ -1,43 +1,13 @@
 //! Why no file is built.
 
 ghost use Rattle.std.specs.Prelude.{◌≡◌};
-ghost use Rattle.zlink.specs.Private.Faults.{stop_of_scan, stop_of_statement};
-ghost use Rattle.zlink.specs.declared.fault.Stop.TheVariants.{NoMemory};
-ghost use Rattle.zlink.specs.declared.fault.AsmStop.TheVariants as asm;
-ghost use Rattle.zlink.specs.declared.fault.LinkFault.TheVariants as link;
+ghost use Rattle.zlink.specs.Linked.{link_fault};
+ghost use Rattle.zlink.specs.Private.Assembling.{source_fault};
 
-use asm_scan::ScanFault;
-use asm_stmt::StmtFault;
+use asm_module::{AsmFault, Why};
 use std::alloc::{AllocError, AllocFailed};
 use thiserror::Error;
-
-/// What is wrong with a line of a source.
-#[derive(Clone, Copy, Debug, PartialEq, Eq, Error)]
-pub enum Why {
-    /// The line has no tokens.
-    #[error(transparent)]
-    Scan(ScanFault),
-    /// The tokens spell no statement, or a value does not fit.
-    #[error(transparent)]
-    Stmt(StmtFault),
-    /// The label is defined on an earlier line.
-    #[error("a label that an earlier line defines")]
-    Duplicate,
-    /// No line defines the name.
-    #[error("a name that no line defines")]
-    Undefined,
-    /// There are 20,000 statements before.
-    #[error("more than 20,000 statements")]
-    TooManyStatements,
-}
-
-/// The first fault of a source, with the number of its line from 1.
-#[derive(Clone, Copy, Debug, PartialEq, Eq, Error)]
-#[error("line {line}: {why}")]
-pub struct AsmFault {
-    pub line: u32,
-    pub why: Why,
-}
+use zlink_program::JoinFault;
 
 /// Why no choice of short and long jumps fits.
 #[derive(Clone, Copy, Debug, PartialEq, Eq, Error)]
@@ -52,9 +22,25 @@ pub enum Misfit {
     TooLarge(u32),
 }
 
-/// Why the statements of a program make no file.
+/// Why modules make no file. Modules, their labels and their externals are numbered from 0. Where there are several reasons, the first here
+/// is told.
 #[derive(Debug, Drop, PartialEq, Eq, Error)]
 pub enum LinkFault {
+    /// There are more than 20,000 statements.
+    #[error("too many statements")]
+    TooManyStatements,
+    /// This module begins the program, and is not the first.
+    #[error("module {0} begins the program, and is not the first")]
+    BeginsNotFirst(usize),
+    /// The name of this module's label is public, and one of a module before it.
+    #[error("label {1} of module {0} is defined by a module before it")]
+    DefinedTwice(usize, u16),
+    /// No module gives this module's external.
+    #[error("external {1} of module {0} is defined by no module")]
+    Unresolved(usize, usize),
+    /// The entry of this module is not the first statement of the program.
+    #[error("the entry of module {0} is not the first statement")]
+    EntryNotFirst(usize),
     /// No choice of short and long jumps fits.
     #[error("no choice of short and long jumps fits")]
     NoFit {
@@ -74,76 +60,75 @@ pub enum LinkFault {
 pub enum BuildFault {
     /// A source has a fault; sources are numbered from 0.
     #[error("source {source}, {fault}")]
-    Asm { source: u32, fault: AsmFault },
-    /// The sources spell a program that makes no file.
+    Asm { source: usize, fault: AsmFault },
+    /// The sources are modules that make no file.
     #[error(transparent)]
     Link(LinkFault),
 }
 
-/// Why assembling stops at a line.
-#[derive(Clone, Copy, Debug)]
-pub(crate) enum Stop {
-    Fault(Why),
-    NoMemory,
-}
-
-/// Why assembling stops, with the line.
-#[derive(Clone, Copy, Debug)]
-pub(crate) enum AsmStop {
-    Fault(AsmFault),
-    NoMemory,
-}
-
-impl From<AllocError> for Stop {
-    ghost from_gives = { λ _ e. e ≡ NoMemory };
-
-    fn from(_: AllocError) -> Stop {
-        Stop::NoMemory
+/// The fault of a source. Want of memory is none of its own.
+pub(crate) fn of_source(source: usize, fault: AsmFault) -> BuildFault
+    ensures { result ≡ source_fault source fault }
+{
+    match fault.why {
+        Why::NoMemory => BuildFault::Link(LinkFault::NoMemory),
+        _ => BuildFault::Asm { source, fault },
     }
 }
 
-impl<T: Drop> From<AllocFailed<T>> for Stop {
-    ghost from_gives = { λ _ e. e ≡ NoMemory };
+impl From<JoinFault> for LinkFault {
+    ghost from_gives = { λ fault e. e ≡ link_fault fault };
 
-    fn from(_: AllocFailed<T>) -> Stop {
-        Stop::NoMemory
-    }
-}
-
-impl From<ScanFault> for Stop {
-    ghost from_gives = { λ fault e. e ≡ stop_of_scan fault };
-
-    fn from(fault: ScanFault) -> Stop {
+    fn from(fault: JoinFault) -> LinkFault {
         match fault {
-            ScanFault::NoMemory => Stop::NoMemory,
-            _ => Stop::Fault(Why::Scan(fault)),
+            JoinFault::TooManyStatements => LinkFault::TooManyStatements,
+            JoinFault::BeginsNotFirst(module) => LinkFault::BeginsNotFirst(module),
+            JoinFault::DefinedTwice(module, label) => LinkFault::DefinedTwice(module, label),
+            JoinFault::Unresolved(module, external) => LinkFault::Unresolved(module, external),
+            JoinFault::EntryNotFirst(module) => LinkFault::EntryNotFirst(module),
+            JoinFault::NoMemory => LinkFault::NoMemory,
         }
-    }
-}
-
-impl From<StmtFault> for Stop {
-    ghost from_gives = { λ fault e. e ≡ stop_of_statement fault };
-
-    fn from(fault: StmtFault) -> Stop {
-        match fault {
-            StmtFault::NoMemory => Stop::NoMemory,
-            _ => Stop::Fault(Why::Stmt(fault)),
-        }
-    }
-}
-
-impl<T: Drop> From<AllocFailed<T>> for AsmStop {
-    ghost from_gives = { λ _ e. e ≡ asm.NoMemory };
-
-    fn from(_: AllocFailed<T>) -> AsmStop {
-        AsmStop::NoMemory
     }
 }
 
 impl From<AllocError> for LinkFault {
+    ghost use Rattle.zlink.specs.declared.fault.LinkFault.TheVariants as link;
+
     ghost from_gives = { λ _ e. e ≡ link.NoMemory };
 
     fn from(_: AllocError) -> LinkFault {
         LinkFault::NoMemory
+    }
+}
+
+impl From<LinkFault> for BuildFault {
+    ghost use Rattle.zlink.specs.declared.fault.BuildFault.TheVariants as build;
+
+    ghost from_gives = { λ fault e. e ≡ build.Link fault };
+
+    fn from(fault: LinkFault) -> BuildFault {
+        BuildFault::Link(fault)
+    }
+}
+
+impl From<AllocError> for BuildFault {
+    ghost use Rattle.zlink.specs.declared.fault.LinkFault.TheVariants as link;
+    ghost use Rattle.zlink.specs.declared.fault.BuildFault.TheVariants as build;
+
+    ghost from_gives = { λ _ e. e ≡ build.Link link.NoMemory };
+
+    fn from(_: AllocError) -> BuildFault {
+        BuildFault::Link(LinkFault::NoMemory)
+    }
+}
+
+impl<T: Drop> From<AllocFailed<T>> for BuildFault {
+    ghost use Rattle.zlink.specs.declared.fault.LinkFault.TheVariants as link;
+    ghost use Rattle.zlink.specs.declared.fault.BuildFault.TheVariants as build;
+
+    ghost from_gives = { λ _ e. e ≡ build.Link link.NoMemory };
+
+    fn from(_: AllocFailed<T>) -> BuildFault {
+        BuildFault::Link(LinkFault::NoMemory)
     }
 }

@@ -1,31 +1,12 @@
 //! Laws of the definitions, as functions that do nothing.
 
-ghost use Rattle.std.specs.Prelude.{◌≡◌, ◌↔◌, ℕ, List, Result, map};
-ghost use Rattle.asm_stmt.specs.Statement.{Statement};
-ghost use Rattle.zlink.specs.declared.fault.AsmFault.{AsmFault};
-ghost use Rattle.zlink.specs.Source.{Assembles};
+ghost use Rattle.std.specs.Prelude.{◌≡◌, ◌↔◌, ℕ, List, map};
 ghost use Rattle.ruler.specs.declared.shape.Statement.{Statement as Sized};
 ghost use Rattle.ruler.specs.Choice.{Choice, Fits, IsBest, IsSettled, IsValid, place, total};
 ghost use Rattle.relax.specs.Growth.{IsForcing};
 ghost use Rattle.certificate.specs.Choice.{Fits as ToldFits, IsBest as IsToldBest, IsSettled as IsToldSettled, IsValid as IsToldValid, place as told_place, total as told_total};
 ghost use Rattle.certificate.specs.Forcing.{IsForcing as IsToldForcing};
 ghost use Rattle.zlink.specs.Certified.{told};
-
-/// A text is one program, or has one first fault.
-pub fn one_answer()
-    ensures { (text : List ℕ) (a b : Result (List (Statement ℕ)) AsmFault) → Assembles text a → Assembles text b → a ≡ b }
-{
-    // A law, which does nothing: its contract is what this one follows from.
-    asm_scan::laws::one_answer();
-}
-
-/// Every text is a program, or has a first fault.
-pub fn some_answer()
-    ensures { (text : List ℕ) → (answer : Result (List (Statement ℕ)) AsmFault) × Assembles text answer }
-{
-    // As above.
-    asm_scan::laws::some_answer();
-}
 
 /// The linker and the checker share no definition, and say the same of each shape: where its statements stand, which jumps
 /// fit, which choices are settled, valid and best, how many bytes they take, and which orders force their members.

@@ -105,7 +105,7 @@ sizes-same : (f g : ℕ → ℕ) (grow : Bool) (refs : ℕ) (ss : List Statement
 sizes-same f g grow refs [] same rules = refl
 sizes-same f g grow refs (s ∷ ss) same rules = ap (λ x. x ∷ map (sized_by f) ss) (sized-same f g grow refs s same rules.0) ∙ ap (λ xs. sized_by g s ∷ xs) (sizes-same f g grow refs ss same rules.1)
 
-length-parts : (number base : ℕ) (modules : List Module) → length (parts_from number base modules) ≡ length modules
+pub length-parts : (number base : ℕ) (modules : List Module) → length (parts_from number base modules) ≡ length modules
 length-parts number base [] = refl
 length-parts number base (m ∷ ms) = ap suc (length-parts (number + 1) (base + length m.statements) ms)
 

@@ -1,0 +1,43 @@
+-- The program of sources, or the first that is faulty.
+use Rattle.std.specs.Prelude.{◌≡◌, ℕ, Bool, List, Some, Ok, Err, map, slice_get, take}
+use Rattle.std.specs.List.{AllZip, flat_map, zip}
+use Rattle.asm_module.specs.declared.fault.AsmFault.{AsmFault}
+use Rattle.asm_module.specs.Assembled.{Assembled, Assembles, IsStated}
+use Rattle.asm_reads.specs.Statement.{Statement}
+use Rattle.zmo_module.specs.Modules.{Module}
+use Rattle.zlink_program.specs.Parts.{Part, Publics, parts, publics}
+use Rattle.zlink_program.specs.Whole.{stands}
+use Rattle.zlink.specs.declared.source.Source.{Source}
+use Rattle.zlink.specs.Program.{statement_in}
+
+-- What one source is: its module with the lines of its statements, and the program that it states.
+pub record Assembly : Type 0 where
+  pub assembled : Assembled
+  pub program : List Statement
+
+pub record IsAssembly (grow : Bool) (source : Source) (a : Assembly) : Type 0 where
+  pub assembled : Assembles source.name.now source.text.now grow (Ok a.assembled)
+  pub stated : IsStated source.text.now grow a.program
+
+abbrev pub modules_of : List Assembly → List Module
+modules_of assemblies = map (λ a. a.assembled.holds) assemblies
+
+-- the program of one source, by numbers of the whole
+abbrev pub in_whole : Publics → Part × Assembly → List Statement
+in_whole publics (part, a) = map (statement_in (stands publics part)) a.program
+
+-- the statements of all sources, in order
+abbrev pub program_of : List Assembly → List Statement
+program_of assemblies = flat_map (in_whole (publics (parts (modules_of assemblies)))) (zip (parts (modules_of assemblies)) assemblies)
+
+-- Each source is one assembly.
+abbrev pub AreAssembled : Bool → List Source → List Assembly → Type 0
+AreAssembled grow sources assemblies = AllZip (IsAssembly grow) sources assemblies
+
+-- This source has this first fault, and those before it have none.
+pub record IsFirstFaulty (grow : Bool) (sources : List Source) (number : ℕ) (fault : AsmFault) : Type 0 where
+  pub before : List Assembly
+  pub good : AreAssembled grow (take number sources) before
+  pub source : Source
+  pub there : slice_get sources number ≡ Some source
+  pub faulty : Assembles source.name.now source.text.now grow (Err fault)

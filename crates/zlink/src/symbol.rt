@@ -1,0 +1,62 @@
+//! The labels of a whole.
+
+ghost use Rattle.std.specs.Prelude.{◌≡◌, ◌<◌, ◌+◌, ◌++◌, All, IfOk, OnOk, length, map, slice_index};
+ghost use Rattle.zmo_module.specs.Modules.{module_of};
+ghost use Rattle.zmo_module.specs.Rules.{IsModule};
+ghost use Rattle.zlink_program.specs.Whole.{AreLinks, program};
+ghost use Rattle.zlink.specs.Linked.{symbol_of, symbols, symbols_in};
+
+use std::alloc::{AllocError, Global};
+use zlink_program::laws::laid_out;
+use zlink_program::{Links, Module};
+
+/// A label.
+#[derive(Debug, Drop, PartialEq, Eq)]
+pub struct Symbol {
+    pub name: Vec<u8>,
+    /// The name of its module.
+    pub module: Vec<u8>,
+    /// The address for which it stands.
+    pub place: u32,
+}
+
+/// Adds the labels of a module, which stands among others.
+fn put_symbols(
+    alloc: Global,
+    own: &Module,
+    links: &Links,
+    places: &[u32],
+    symbols: &mut Vec<Symbol>,
+) -> Result<(), AllocError>
+    requires { All (λ l. links.now.base + l.statement < length places.now) own.now.labels.items }
+    ensures { OnOk result (map symbol_of symbols.new.items ≡ map symbol_of symbols.old.items ++ symbols_in (λ k. slice_index places.now k) links.now.base (module_of own.now)) }
+{
+    for label in &own.labels {
+        symbols.push(Symbol {
+            name: label.name.to_vec(alloc)?,
+            module: own.name.to_vec(alloc)?,
+            place: places[links.base as usize + usize::from(label.statement)],
+        })?;
+    }
+    Ok(())
+}
+
+/// The labels of modules, in their order.
+pub(crate) fn symbols_of(
+    alloc: Global,
+    modules: &[Module],
+    links: &[Links],
+    places: &[u32],
+) -> Result<Vec<Symbol>, AllocError>
+    requires modules { All IsModule (map module_of modules.now) }
+    requires links { AreLinks (map module_of modules.now) links.now }
+    requires places { length places.now ≡ length (program (map module_of modules.now)) + 1 }
+    ensures { IfOk result (λ v. map symbol_of v.items ≡ symbols (λ k. slice_index places.now k) (map module_of modules.now)) }
+{
+    laid_out();
+    let mut symbols = Vec::new(alloc);
+    for (m, module) in modules.iter().enumerate() {
+        put_symbols(alloc, module, &links[m], places, &mut symbols)?;
+    }
+    Ok(symbols)
+}
