@@ -1,17 +1,17 @@
 -- How printing a file ends, from how its steps end.
-use Rattle.std.proofs.Common.{◌≡◌, ℕ, ◌+◌, ◌++◌, ◌<◌, ◌≤◌, Bool, List, [], Option, None, Some, Result, Ok, Err, length, replicate, sym, subst, ◌∙◌, inl, inr, arith}
+use Rattle.std.proofs.Common.{◌≡◌, ℕ, ◌+◌, ◌++◌, ◌<◌, Bool, List, [], Option, None, Some, Result, Ok, Err, length, replicate, sym, subst, ◌∙◌, inl, inr, arith}
 use Rattle.std.proofs.lemmas.List.{length-replicate, append-nil}
-use Rattle.std.specs.Io.KnownBytes.{Appends, Consumes, IsAtEnd}
+use Rattle.std.specs.Io.KnownBytes.{Consumes, IsAtEnd}
 use Rattle.std.proofs.KnownBytes.{Keeps-refl}
-use Rattle.zlink.specs.Built.{IsAnswer}
 use Rattle.zlink.specs.declared.fault.LinkFault.TheVariants as link
 use Rattle.zlink.specs.declared.fault.BuildFault.{BuildFault}
 use Rattle.zlink.specs.declared.fault.BuildFault.TheVariants as build
 use Rattle.z80dev.specs.declared.fault.Fault.{Fault}
 use Rattle.z80dev.specs.declared.fault.Fault.TheVariants as fault
 use Rattle.z80dev.specs.declared.text.TheConstants.{TEXT_LIMIT}
-use Rattle.z80dev.specs.Streams.{AppendsFront}
-use Rattle.z80dev.specs.Pipe.{Ends, IsCutShort, IsFileOf, IsRefused, IsUnread, IsWithin, OfText}
+use Rattle.z80dev.specs.Main.{IsBuiltOf, IsFileOf, IsRefused}
+use Rattle.z80dev.specs.Pipe.{Ends}
+use Rattle.z80dev.specs.Reading.{IsCutShort, IsUnread, IsWithin, OfText}
 use Rattle.z80dev.specs.Private.Steps.{Writes}
 
 -- a text that was read to the end of its input
@@ -38,8 +38,13 @@ unread (Some text) kept failed reads interruptions unwritten fault.File (inr lon
 unread (Some text) kept failed reads interruptions unwritten (fault.Build refusal) why = (subst (IsRefused text) (sym why) tt, Keeps-refl kept)
 
 -- what `build` answers of a text within the limit that it refuses
-pub refusing : (text : List ℕ) (refusal : BuildFault) → IsWithin text → IsAnswer text (Err refusal) → IsRefused text refusal
+pub refusing : (text : List ℕ) (refusal : BuildFault) → IsWithin text → IsBuiltOf text (Err refusal) → IsRefused text refusal
 refusing text (build.Asm source fault) within answer = (within, answer)
+refusing text (build.Link link.TooManyStatements) within answer = (within, answer)
+refusing text (build.Link (link.BeginsNotFirst m)) within answer = (within, answer)
+refusing text (build.Link (link.DefinedTwice m l)) within answer = (within, answer)
+refusing text (build.Link (link.Unresolved m x)) within answer = (within, answer)
+refusing text (build.Link (link.EntryNotFirst m)) within answer = (within, answer)
 refusing text (build.Link (link.NoFit why sizes cert)) within answer = (within, answer)
 refusing text (build.Link link.NoMemory) within answer = tt
 

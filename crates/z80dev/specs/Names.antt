@@ -1,70 +1,63 @@
--- How faults are printed: a fault by the name of its innermost variant, with its numbers in parentheses.
-use Rattle.std.specs.Prelude.{ℕ, List, ◌++◌, codes, decimal}
+-- The names of the faults of a source: that of the innermost variant.
+use Rattle.std.specs.Prelude.{ℕ, List, codes}
 use Rattle.asm_scan.specs.declared.fault.ScanFault.{ScanFault}
 use Rattle.asm_scan.specs.declared.fault.ScanFault.TheVariants as scan
-use Rattle.asm_stmt.specs.declared.fault.StmtFault.{StmtFault}
-use Rattle.asm_stmt.specs.declared.fault.StmtFault.TheVariants as statement
-use Rattle.cert_check.specs.declared.fault.CheckFault.{CheckFault}
-use Rattle.cert_check.specs.declared.fault.CheckFault.TheVariants as check
-use Rattle.zlink.specs.declared.fault.Why.{Why}
-use Rattle.zlink.specs.declared.fault.Why.TheVariants as why
-use Rattle.zlink.specs.declared.fault.Misfit.{Misfit}
-use Rattle.zlink.specs.declared.fault.Misfit.TheVariants as misfit
-use Rattle.zlink.specs.declared.fault.LinkFault.TheVariants as link
-use Rattle.zlink.specs.declared.fault.BuildFault.TheVariants as build
-use Rattle.z80dev.specs.declared.fault.Fault.{Fault}
-use Rattle.z80dev.specs.declared.fault.Fault.TheVariants as fault
-use Rattle.z80dev.specs.declared.verdict.VerdictFault.{VerdictFault}
-use Rattle.z80dev.specs.declared.verdict.VerdictFault.TheVariants as verdict
+use Rattle.asm_parse.specs.declared.fault.ExprFault.{ExprFault}
+use Rattle.asm_parse.specs.declared.fault.ExprFault.TheVariants as expression
+use Rattle.asm_macro.specs.declared.fault.MacroFault.{MacroFault}
+use Rattle.asm_macro.specs.declared.fault.MacroFault.TheVariants as expansion
+use Rattle.asm_spell.specs.declared.fault.StmtFault.{StmtFault}
+use Rattle.asm_spell.specs.declared.fault.StmtFault.TheVariants as statement
+use Rattle.asm_module.specs.declared.fault.Why.{Why}
+use Rattle.asm_module.specs.declared.fault.Why.TheVariants as why
 
 abbrev pub scan_name : ScanFault → List ℕ
 scan_name scan.BadByte = codes "BadByte"
 scan_name scan.OpenString = codes "OpenString"
-scan_name scan.BadNumber = codes "BadNumber"
 scan_name scan.LineTooLong = codes "LineTooLong"
+scan_name scan.BadNumber = codes "BadNumber"
 scan_name scan.NoMemory = codes "NoMemory"
+
+abbrev pub expression_name : ExprFault → List ℕ
+expression_name expression.Syntax = codes "Syntax"
+expression_name expression.DivideByZero = codes "DivideByZero"
+expression_name expression.LabelDivisor = codes "LabelDivisor"
+expression_name expression.TooDeep = codes "TooDeep"
+expression_name expression.TooLarge = codes "TooLarge"
+expression_name expression.NoMemory = codes "NoMemory"
+
+abbrev pub macro_name : MacroFault → List ℕ
+macro_name expansion.Unclosed = codes "Unclosed"
+macro_name expansion.Stray = codes "Stray"
+macro_name expansion.TooDeep = codes "TooDeep"
+macro_name expansion.TooManyLines = codes "TooManyLines"
+macro_name expansion.Redefined = codes "Redefined"
+macro_name expansion.ConditionNamesLabel = codes "ConditionNamesLabel"
+macro_name expansion.LineTooLong = codes "LineTooLong"
+macro_name (expansion.Scan fault) = scan_name fault
+macro_name (expansion.Expr fault) = expression_name fault
+macro_name expansion.NoMemory = codes "NoMemory"
 
 abbrev pub statement_name : StmtFault → List ℕ
 statement_name statement.UnknownWord = codes "UnknownWord"
 statement_name statement.BadOperands = codes "BadOperands"
 statement_name statement.ByteRange = codes "ByteRange"
+statement_name statement.NeedsLowOrHigh = codes "NeedsLowOrHigh"
+statement_name statement.ShortNeedsLabel = codes "ShortNeedsLabel"
+statement_name statement.SizeNamesLabel = codes "SizeNamesLabel"
+statement_name statement.BadOrg = codes "BadOrg"
+statement_name statement.NeedsNumber = codes "NeedsNumber"
 statement_name statement.ReservedName = codes "ReservedName"
+statement_name (statement.Expr fault) = expression_name fault
 statement_name statement.NoMemory = codes "NoMemory"
 
 abbrev pub why_name : Why → List ℕ
-why_name (why.Scan fault) = scan_name fault
+why_name (why.Macro fault) = macro_name fault
 why_name (why.Stmt fault) = statement_name fault
 why_name why.Duplicate = codes "Duplicate"
 why_name why.Undefined = codes "Undefined"
+why_name why.PublicNotLabel = codes "PublicNotLabel"
+why_name why.EquCircle = codes "EquCircle"
 why_name why.TooManyStatements = codes "TooManyStatements"
-
--- a name with a number
-abbrev pub numbered : List ℕ → ℕ → List ℕ
-numbered name n = name ++ codes "(" ++ decimal n ++ codes ")"
-
-abbrev pub misfit_text : Misfit → List ℕ
-misfit_text (misfit.Range k) = numbered (codes "Range") k
-misfit_text (misfit.TooLarge n) = numbered (codes "Size") n
-
--- the text of a fault of the one source, which is named MAIN
-abbrev pub fault_text : Fault → List ℕ
-fault_text fault.File = codes "file MAIN"
-fault_text (fault.Build (build.Asm source asm)) = codes "MAIN(" ++ decimal asm.line ++ codes "): " ++ why_name asm.why
-fault_text (fault.Build (build.Link (link.NoFit why sizes cert))) = misfit_text why
-fault_text (fault.Build (build.Link link.NoMemory)) = codes "NoMemory"
-
-abbrev pub check_text : CheckFault → List ℕ
-check_text (check.BadSizes line) = numbered (codes "BadSizes") line
-check_text (check.BadCertificate line) = numbered (codes "BadCertificate") line
-check_text (check.NotForced line) = numbered (codes "NotForced") line
-check_text (check.NotAJump line) = numbered (codes "NotAJump") line
-check_text (check.Repeated line) = numbered (codes "Repeated") line
-check_text (check.StillShort k) = numbered (codes "StillShort") k
-check_text check.WrongTotal = codes "WrongTotal"
-check_text (check.NotOutOfRange k) = numbered (codes "NotOutOfRange") k
-check_text check.NoMemory = codes "NoMemory"
-
--- the text of a fault of the check, whose output is a standard stream
-abbrev pub verdict_fault_text : VerdictFault → List ℕ
-verdict_fault_text (verdict.Refused fault) = check_text fault
-verdict_fault_text verdict.Output = codes "file -"
+why_name why.TooManyNames = codes "TooManyNames"
+why_name why.NoMemory = codes "NoMemory"

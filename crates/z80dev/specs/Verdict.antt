@@ -8,7 +8,7 @@ use Rattle.cert_check.specs.Checks.{IsChecked}
 use Rattle.z80dev.specs.declared.verdict.VerdictFault.{VerdictFault}
 use Rattle.z80dev.specs.declared.verdict.VerdictFault.TheVariants.{Refused, Output}
 use Rattle.z80dev.specs.Streams.{AppendsFront}
-use Rattle.z80dev.specs.Names.{verdict_fault_text}
+use Rattle.z80dev.specs.CheckTexts.{verdict_fault_text}
 
 -- the line of a verdict
 abbrev pub judged_line : Verdict → List ℕ

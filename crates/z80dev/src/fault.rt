@@ -64,26 +64,34 @@ impl Fault {
 }
 
 /// What is printed after `error: `: a fault of the source as `MAIN(LINE): NAME`, any other by its name. A name is that of
-/// the innermost variant, with its number in parentheses.
+/// the innermost variant, with its numbers in parentheses.
 impl fmt::Display for Fault {
     ghost use Rattle.std.specs.Prelude.{Some};
-    ghost use Rattle.z80dev.specs.Names.{fault_text};
+    ghost use Rattle.z80dev.specs.FaultTexts.{fault_text};
 
     ghost output = { λ fault. Some (fault_text fault) };
 
     fn fmt<W: fmt::Write>(&self, f: &mut fmt::Formatter<W>) -> fmt::Result {
-        match self {
-            Fault::File => f.write_str("file MAIN"),
+        let link = match self {
+            Fault::File => return f.write_str("file MAIN"),
             Fault::Build(BuildFault::Asm { fault, .. }) => {
                 let line = fault.line;
                 let name = why_name(fault.why);
-                write!(f, "MAIN({line}): {name}")
+                return write!(f, "MAIN({line}): {name}");
             }
-            Fault::Build(BuildFault::Link(LinkFault::NoFit { why, .. })) => match why {
+            Fault::Build(BuildFault::Link(fault)) => fault,
+        };
+        match link {
+            LinkFault::TooManyStatements => f.write_str("TooManyStatements"),
+            LinkFault::BeginsNotFirst(module) => write!(f, "BeginsNotFirst({module})"),
+            LinkFault::DefinedTwice(module, label) => write!(f, "DefinedTwice({module},{label})"),
+            LinkFault::Unresolved(module, external) => write!(f, "Unresolved({module},{external})"),
+            LinkFault::EntryNotFirst(module) => write!(f, "EntryNotFirst({module})"),
+            LinkFault::NoFit { why, .. } => match why {
                 Misfit::Range(statement) => write!(f, "Range({statement})"),
                 Misfit::TooLarge(total) => write!(f, "Size({total})"),
             },
-            Fault::Build(BuildFault::Link(LinkFault::NoMemory)) => f.write_str("NoMemory"),
+            LinkFault::NoMemory => f.write_str("NoMemory"),
         }
     }
 }

@@ -1,7 +1,8 @@
 //! From a source text to the hexadecimal digits of its file.
 
 ghost use Rattle.std.specs.Prelude.{◌≡◌, ◌≤◌, ◌⊎◌, false, Result};
-ghost use Rattle.z80dev.specs.Pipe.{Ends, IsCutShort, OfText, said_at, status_at};
+ghost use Rattle.z80dev.specs.Pipe.{Ends, said_at, status_at};
+ghost use Rattle.z80dev.specs.Reading.{IsCutShort, OfText};
 ghost use Rattle.z80dev.specs.Streams.{Says};
 ghost use Rattle.z80dev.specs.Private.Steps.{Writes};
 ghost use Rattle.z80dev.specs.declared.fault.Fault.{Fault};

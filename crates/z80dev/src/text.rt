@@ -2,7 +2,7 @@
 
 ghost use Rattle.std.specs.Prelude.{◌≡◌, ◌≤◌, false, IfErr, IfOk, OnOk, length};
 ghost use Rattle.std.specs.Io.KnownBytes.{Consumes, IsAtEnd};
-ghost use Rattle.z80dev.specs.Pipe.{IsUnread, IsWithin};
+ghost use Rattle.z80dev.specs.Reading.{IsUnread, IsWithin};
 ghost use Rattle.z80dev.specs.declared.text.TheConstants.{READ_LIMIT};
 
 use crate::fault::Fault;

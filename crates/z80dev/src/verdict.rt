@@ -27,7 +27,7 @@ pub enum VerdictFault {
 /// What is printed after `error: `: the name of the fault, with its number in parentheses.
 impl fmt::Display for VerdictFault {
     ghost use Rattle.std.specs.Prelude.{Some};
-    ghost use Rattle.z80dev.specs.Names.{verdict_fault_text};
+    ghost use Rattle.z80dev.specs.CheckTexts.{verdict_fault_text};
 
     ghost output = { λ fault. Some (verdict_fault_text fault) };
 

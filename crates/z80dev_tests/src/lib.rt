@@ -2,7 +2,15 @@
 #![tactic(auto)]
 
 #[cfg(test)]
+mod asserts;
+#[cfg(test)]
 mod certificates;
+#[cfg(test)]
+mod jumps;
+#[cfg(test)]
+mod language;
+#[cfg(test)]
+mod macros;
 #[cfg(test)]
 mod rows;
 #[cfg(test)]

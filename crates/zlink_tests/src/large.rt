@@ -1,42 +1,100 @@
-//! Texts of about 20,000 statements, the most that a program may have.
+//! Programs near the limits: of 20,000 statements, the most that one may have, and of many modules.
 
-use crate::asserts::{assert_bytes, assert_fault};
+use crate::asserts::{assert_com, assert_refused, build_sources};
 use std::alloc::Global;
+use std::process::Abort;
 use std::test::Fail;
 use zlink::Why::{Duplicate, TooManyStatements};
+use zlink::{AsmFault, BuildFault, LinkFault, Source};
 
 /// How many statements a program may have.
 const MOST: usize = 20_000;
 
-/// So many times the same line.
-fn lines(alloc: Global, line: &[u8], count: usize) -> Result<Vec<u8>, Fail> {
+/// So many times the same bytes.
+fn times(alloc: Global, bytes: &[u8], count: usize) -> Result<Vec<u8>, Fail> {
     let mut text = Vec::new(alloc);
     for _ in 0..count {
-        text.extend_from_slice(line)?;
+        text.extend_from_slice(bytes)?;
     }
     Ok(text)
 }
 
-#[test]
-fn most_statements(rt: HostRuntime) -> Result<(), Fail> {
-    let mut text = lines(rt.alloc(), b"NOP\n", MOST)?;
-    let want = vec![in rt.alloc(); 0x00; MOST]?;
-    assert_bytes(&rt, rt.alloc(), &text, &want)?;
-    // Labels alone are no statements.
-    text.extend_from_slice(b"X:\nY:\n")?;
-    assert_bytes(&rt, rt.alloc(), &text, &want)?;
-    // A Duplicate comes before a statement too many.
-    text.extend_from_slice(b"X: NOP")?;
-    assert_fault(&rt, rt.alloc(), &text, 20_003, Duplicate)
+/// Asserts that texts, each a source, make a file of these bytes.
+fn assert_bytes(
+    rt: &impl Abort,
+    alloc: Global,
+    texts: &[Vec<u8>],
+    want: &[u8],
+) -> Result<(), Fail> {
+    let mut sources = Vec::new(alloc);
+    for text in texts {
+        sources.push(Source { name: b"N", text })?;
+    }
+    match build_sources(alloc, &sources, false)? {
+        Ok(built) => assert_com(rt, alloc, &built, want),
+        Err(fault) => panic!(rt; "{fault:?}"),
+    }
+}
+
+/// Asserts why no file is built of a text, or of it and then a `NOP` that begins the program.
+fn assert_fault(
+    rt: &impl Abort,
+    alloc: Global,
+    text: &[u8],
+    is_alone: bool,
+    want: &BuildFault,
+) -> Result<(), Fail> {
+    let sources = [
+        Source { name: b"N", text },
+        Source {
+            name: b"N",
+            text: b"ORG 0100H\nNOP",
+        },
+    ];
+    let count = if is_alone { 1 } else { 2 };
+    let answer = build_sources(alloc, &sources[..count], false)?;
+    assert_refused(rt, answer, want)
 }
 
 #[test]
+fn most_statements(rt: HostRuntime) -> Result<(), Fail> {
+    let alloc = rt.alloc();
+    let mut text = times(alloc, b"NOP\n", MOST)?;
+    let want = vec![in alloc; 0x00; MOST]?;
+    // Labels alone are no statements.
+    text.extend_from_slice(b"X:\nY:\n")?;
+    assert_bytes(&rt, alloc, &[text.to_vec(alloc)?], &want)?;
+    // In two modules there may be as many, and no more, and that fault comes before others of linking.
+    let many = BuildFault::Link(LinkFault::TooManyStatements);
+    assert_fault(&rt, alloc, &text, false, &many)?;
+    let begin = BuildFault::Link(LinkFault::BeginsNotFirst(1));
+    assert_fault(&rt, alloc, &text[4..], false, &begin)?;
+    // A Duplicate comes before a statement too many.
+    text.extend_from_slice(b"X: NOP")?;
+    let fault = AsmFault {
+        line: 20_003,
+        why: Duplicate,
+    };
+    assert_fault(
+        &rt,
+        alloc,
+        &text,
+        true,
+        &BuildFault::Asm { source: 0, fault },
+    )
+}
+
+/// Each `DS` counts in its source, of no bytes too.
+#[test]
 fn too_many_statements(rt: HostRuntime) -> Result<(), Fail> {
-    // Each `DS` counts, of no bytes too.
     for line in [b"NOP\n".as_slice(), b"DS 0\n".as_slice()] {
-        let mut text = lines(rt.alloc(), line, MOST)?;
-        text.extend_from_slice(line)?;
-        assert_fault(&rt, rt.alloc(), &text, 20_001, TooManyStatements)?;
+        let text = times(rt.alloc(), line, MOST + 1)?;
+        let fault = AsmFault {
+            line: 20_001,
+            why: TooManyStatements,
+        };
+        let want = BuildFault::Asm { source: 0, fault };
+        assert_fault(&rt, rt.alloc(), &text, false, &want)?;
     }
     Ok(())
 }
@@ -53,7 +111,7 @@ fn jumps_to_the_next_label(rt: HostRuntime) -> Result<(), Fail> {
         want.extend_from_slice(&[0x18, 0x01, byte])?;
     }
     text.extend_from_slice(b"L10000:")?;
-    assert_bytes(&rt, rt.alloc(), &text, &want)
+    assert_bytes(&rt, rt.alloc(), &[text], &want)
 }
 
 /// 10,000 jumps back to the start, each behind a byte: jump k goes back by 3 k + 3, as far as all before it are short,
@@ -73,5 +131,64 @@ fn jumps_to_the_start(rt: HostRuntime) -> Result<(), Fail> {
             want.extend_from_slice(&[byte, 0xC3, 0x00, 0x01])?;
         }
     }
-    assert_bytes(&rt, rt.alloc(), &text, &want)
+    assert_bytes(&rt, rt.alloc(), &[text], &want)
+}
+
+/// 20,000 jumps to the end: the last 64 are short, and the end is at EB20H.
+#[test]
+fn jumps_to_the_end(rt: HostRuntime) -> Result<(), Fail> {
+    let mut text = times(rt.alloc(), b"JP X\n", MOST)?;
+    text.extend_from_slice(b"X:")?;
+    let mut want = times(rt.alloc(), &[0xC3, 0x20, 0xEB], MOST - 64)?;
+    for k in 0..64_u8 {
+        want.extend_from_slice(&[0x18, 126 - 2 * k])?;
+    }
+    assert_bytes(&rt, rt.alloc(), &[text], &want)
+}
+
+/// 20,000 jumps, each to itself.
+#[test]
+fn jumps_to_themselves(rt: HostRuntime) -> Result<(), Fail> {
+    let mut text = Vec::new(rt.alloc());
+    for k in 0..MOST {
+        let line = format!(in rt.alloc(); "L{k}: JP L{k}\n")?;
+        text.extend_from_slice(line.as_bytes())?;
+    }
+    let want = times(rt.alloc(), &[0x18, 0xFE], MOST)?;
+    assert_bytes(&rt, rt.alloc(), &[text], &want)
+}
+
+/// Modules with a jump each to the next one's, over so many bytes, and the last one's to the first; each makes itself known to the others.
+fn chain(alloc: Global, modules: u32, bytes: usize) -> Result<Vec<Vec<u8>>, Fail> {
+    let mut texts = Vec::new(alloc);
+    for k in 0..modules {
+        let next = (k + 1) % modules;
+        let line = format!(in alloc; "PUBLIC L{k}\nEXTRN L{next}\nL{k}: JP L{next}\n")?;
+        let mut text = line.as_bytes().to_vec(alloc)?;
+        text.extend_from_slice(&times(alloc, b"DB 7\n", bytes)?)?;
+        texts.push(text)?;
+    }
+    Ok(texts)
+}
+
+/// All of the 5,000 jumps are short but the last.
+#[test]
+fn many_modules(rt: HostRuntime) -> Result<(), Fail> {
+    let texts = chain(rt.alloc(), 5_000, 0)?;
+    let mut want = times(rt.alloc(), &[0x18, 0x00], 4_999)?;
+    want.extend_from_slice(&[0xC3, 0x00, 0x01])?;
+    assert_bytes(&rt, rt.alloc(), &texts, &want)
+}
+
+/// All of the 20 jumps are long, each over 899 bytes.
+#[test]
+fn large_modules(rt: HostRuntime) -> Result<(), Fail> {
+    let texts = chain(rt.alloc(), 20, 899)?;
+    let mut want = Vec::new(rt.alloc());
+    for k in 0..20_u16 {
+        let [low, high] = (0x100 + 902 * ((k + 1) % 20)).to_le_bytes();
+        want.extend_from_slice(&[0xC3, low, high])?;
+        want.extend_from_slice(&times(rt.alloc(), &[7], 899)?)?;
+    }
+    assert_bytes(&rt, rt.alloc(), &texts, &want)
 }

@@ -1,8 +1,10 @@
-//! Tests of the crate `zlink` by its public call: source texts with their file, or with what is wrong with them.
+//! Tests of the crate `zlink` by its public calls: sources, or modules, with their file, or with what is wrong with them.
 #![tactic(auto)]
 
 #[cfg(test)]
 mod asserts;
+#[cfg(test)]
+mod beside;
 #[cfg(test)]
 mod certificates;
 #[cfg(test)]
@@ -11,5 +13,7 @@ mod faults;
 mod files;
 #[cfg(test)]
 mod large;
+#[cfg(test)]
+mod modules;
 #[cfg(test)]
 mod texts;

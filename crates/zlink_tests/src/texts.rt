@@ -1,10 +1,35 @@
 //! Where a text and its lines end.
 
-use crate::asserts::{assert_bytes, assert_fault};
-use asm_scan::ScanFault::{BadByte, LineTooLong};
-use asm_stmt::StmtFault::UnknownWord;
+use crate::asserts::{assert_com, assert_refused, built_of_text};
+use asm_scan::ScanFault::BadByte;
+use std::alloc::Global;
+use std::process::Abort;
 use std::test::Fail;
-use zlink::Why::{self, Scan, Stmt};
+use zlink::MacroFault::{LineTooLong, Scan, TooManyLines};
+use zlink::StmtFault::UnknownWord;
+use zlink::Why::{self, Macro, Stmt};
+use zlink::{AsmFault, BuildFault};
+
+/// Asserts that a text makes a file of these bytes.
+fn assert_bytes(rt: &impl Abort, alloc: Global, text: &[u8], want: &[u8]) -> Result<(), Fail> {
+    match built_of_text(alloc, text)? {
+        Ok(built) => assert_com(rt, alloc, &built, want),
+        Err(fault) => panic!(rt; "{fault:?}"),
+    }
+}
+
+/// Asserts the first fault of a text, and its line.
+fn assert_fault(
+    rt: &impl Abort,
+    alloc: Global,
+    text: &[u8],
+    line: u32,
+    why: Why,
+) -> Result<(), Fail> {
+    let fault = AsmFault { line, why };
+    let answer = built_of_text(alloc, text)?;
+    assert_refused(rt, answer, &BuildFault::Asm { source: 0, fault })
+}
 
 #[test]
 fn ends(rt: HostRuntime) -> Result<(), Fail> {
@@ -35,11 +60,11 @@ fn ends(rt: HostRuntime) -> Result<(), Fail> {
 #[test]
 fn other_ends(rt: HostRuntime) -> Result<(), Fail> {
     let rows: [(&[u8], u32, Why); 6] = [
-        (b"NOP\r", 1, Scan(BadByte)),
-        (b"NOP\rRET\n", 1, Scan(BadByte)),
-        (b"NOP\nRET\r\r\n", 2, Scan(BadByte)),
-        (b"NOP\r\x1A\n", 1, Scan(BadByte)),
-        (b"NOP\n\rRET", 2, Scan(BadByte)),
+        (b"NOP\r", 1, Macro(Scan(BadByte))),
+        (b"NOP\rRET\n", 1, Macro(Scan(BadByte))),
+        (b"NOP\nRET\r\r\n", 2, Macro(Scan(BadByte))),
+        (b"NOP\r\x1A\n", 1, Macro(Scan(BadByte))),
+        (b"NOP\n\rRET", 2, Macro(Scan(BadByte))),
         (b"\r\n\nFOO\r\n", 3, Stmt(UnknownWord)),
     ];
     for (text, line, why) in rows {
@@ -56,5 +81,20 @@ fn long_lines(rt: HostRuntime) -> Result<(), Fail> {
     assert_bytes(&rt, rt.alloc(), &text, &[0x00])?;
     text.extend_from_slice(&vec![in rt.alloc(); b' '; 253]?)?;
     text.extend_from_slice(b"NOP")?;
-    assert_fault(&rt, rt.alloc(), &text, 2, Scan(LineTooLong))
+    assert_fault(&rt, rt.alloc(), &text, 2, Macro(LineTooLong))
+}
+
+/// A text has at most 16,777,216 bytes, and 60,000 lines are taken up.
+#[test]
+fn long_texts(rt: HostRuntime) -> Result<(), Fail> {
+    let text = vec![in rt.alloc(); b'\n'; 16_777_217]?;
+    assert_fault(&rt, rt.alloc(), &text, 1, Macro(TooManyLines))?;
+    assert_bytes(&rt, rt.alloc(), &text[..60_000], &[])?;
+    assert_fault(
+        &rt,
+        rt.alloc(),
+        &text[..60_001],
+        60_001,
+        Macro(TooManyLines),
+    )
 }

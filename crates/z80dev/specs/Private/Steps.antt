@@ -6,7 +6,7 @@ use Rattle.zlink.specs.declared.fault.BuildFault.TheVariants as build
 use Rattle.z80dev.specs.declared.fault.Fault.{Fault}
 use Rattle.z80dev.specs.declared.fault.Fault.TheVariants as fault
 use Rattle.z80dev.specs.Streams.{AppendsFront}
-use Rattle.z80dev.specs.Pipe.{file_line}
+use Rattle.z80dev.specs.Main.{file_line}
 
 -- How writing a file ends: its line stands behind what the writer held; or memory for it ran out and nothing is written; or
 -- the writer failed on it.

@@ -1,3 +1,0 @@
-pub mod Names
-pub mod Statement
-pub mod Spelling
