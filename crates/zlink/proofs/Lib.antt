@@ -1,6 +1,7 @@
 pub mod Agreement
 pub mod Built_of
 pub mod Carried
+pub mod Exact
 pub mod Judging
 pub mod One_by_one
 pub mod Coming_from

@@ -1,5 +1,6 @@
 -- Sources that are assembled one by one.
 use Rattle.std.proofs.Common.{◌≡◌, ◌+◌, ◌<◌, ℕ, Bool, List, [], ◌∷◌, ◌++◌, Option, Some, None, Result, Ok, Err, length, map, get_or, take, refl, sym, ap, subst, ◌∙◌, arith}
+use Rattle.std.specs.Prelude.{◌≢◌}
 use Rattle.std.proofs.lemmas.List.{length-map, map-append, take_more}
 use Rattle.std.proofs.lemmas.List.Elements.{All-append}
 use Rattle.std.proofs.lemmas.Option.{slice_get-get_or}
@@ -69,26 +70,27 @@ one_more grow sources number d modules lines m own new_modules new_lines lt so_f
 
 -- A source that has a fault is the first.
 first_faulty : (grow : Bool) (sources : List Source) (number : ℕ) (d : Source) (modules : List whole.Module) (lines : List listing.Lines) (fault : AsmFault) → number < length sources
-    → SoFar grow sources number modules lines → Assembles (get_or sources number d).name.now (get_or sources number d).text.now grow (Err fault) → IsFirstFaulty grow sources number fault
-first_faulty grow sources number d modules lines fault lt so_far faulty = record {
+    → SoFar grow sources number modules lines → Assembles (get_or sources number d).name.now (get_or sources number d).text.now grow (Err fault) → fault.why ≢ Why.NoMemory → IsFirstFaulty grow sources number fault
+first_faulty grow sources number d modules lines fault lt so_far faulty caused = record {
   before = so_far.assemblies;
   good = so_far.are;
   source = get_or sources number d;
   there = slice_get-get_or sources number d lt;
   faulty = faulty;
+  caused = caused;
 }
 
 pub stops : (grow : Bool) (sources : List Source) (number : ℕ) (d : Source) (modules : List whole.Module) (lines : List listing.Lines) (fault : AsmFault) → number < length sources
     → SoFar grow sources number modules lines → IsRefused fault.why (get_or sources number d).name.now (get_or sources number d).text.now grow fault → IsStop grow sources (fault_by fault.why number fault)
-stops grow sources number d modules lines fault lt so_far refused = by fault.why refused
+stops grow sources number d modules lines fault lt so_far refused = by fault.why refl refused
   where
-    by : (w : Why) → IsRefused w (get_or sources number d).name.now (get_or sources number d).text.now grow fault → IsStop grow sources (fault_by w number fault)
-    by (Why.Macro why) refused = first_faulty grow sources number d modules lines fault lt so_far refused
-    by (Why.Stmt why) refused = first_faulty grow sources number d modules lines fault lt so_far refused
-    by Why.Duplicate refused = first_faulty grow sources number d modules lines fault lt so_far refused
-    by Why.Undefined refused = first_faulty grow sources number d modules lines fault lt so_far refused
-    by Why.PublicNotLabel refused = first_faulty grow sources number d modules lines fault lt so_far refused
-    by Why.EquCircle refused = first_faulty grow sources number d modules lines fault lt so_far refused
-    by Why.TooManyStatements refused = first_faulty grow sources number d modules lines fault lt so_far refused
-    by Why.TooManyNames refused = first_faulty grow sources number d modules lines fault lt so_far refused
-    by Why.NoMemory refused = tt
+    by : (w : Why) → fault.why ≡ w → IsRefused w (get_or sources number d).name.now (get_or sources number d).text.now grow fault → IsStop grow sources (fault_by w number fault)
+    by (Why.Macro why) was refused = first_faulty grow sources number d modules lines fault lt so_far refused (λ e. cc)
+    by (Why.Stmt why) was refused = first_faulty grow sources number d modules lines fault lt so_far refused (λ e. cc)
+    by Why.Duplicate was refused = first_faulty grow sources number d modules lines fault lt so_far refused (λ e. cc)
+    by Why.Undefined was refused = first_faulty grow sources number d modules lines fault lt so_far refused (λ e. cc)
+    by Why.PublicNotLabel was refused = first_faulty grow sources number d modules lines fault lt so_far refused (λ e. cc)
+    by Why.EquCircle was refused = first_faulty grow sources number d modules lines fault lt so_far refused (λ e. cc)
+    by Why.TooManyStatements was refused = first_faulty grow sources number d modules lines fault lt so_far refused (λ e. cc)
+    by Why.TooManyNames was refused = first_faulty grow sources number d modules lines fault lt so_far refused (λ e. cc)
+    by Why.NoMemory was refused = tt

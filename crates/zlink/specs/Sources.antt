@@ -1,7 +1,8 @@
 -- The program of sources, or the first that is faulty.
-use Rattle.std.specs.Prelude.{◌≡◌, ℕ, Bool, List, Some, Ok, Err, map, slice_get, take}
+use Rattle.std.specs.Prelude.{◌≡◌, ◌≢◌, ℕ, Bool, List, Some, Ok, Err, map, slice_get, take}
 use Rattle.std.specs.List.{AllZip, flat_map, zip}
 use Rattle.asm_module.specs.declared.fault.AsmFault.{AsmFault}
+use Rattle.asm_module.specs.declared.fault.Why.{Why}
 use Rattle.asm_module.specs.Assembled.{Assembled, Assembles, IsStated}
 use Rattle.asm_reads.specs.Statement.{Statement}
 use Rattle.zmo_module.specs.Modules.{Module}
@@ -41,3 +42,4 @@ pub record IsFirstFaulty (grow : Bool) (sources : List Source) (number : ℕ) (f
   pub source : Source
   pub there : slice_get sources number ≡ Some source
   pub faulty : Assembles source.name.now source.text.now grow (Err fault)
+  pub caused : fault.why ≢ Why.NoMemory

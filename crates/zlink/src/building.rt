@@ -1,10 +1,15 @@
 //! From sources to a file.
 
-ghost use Rattle.std.specs.Prelude.{◌≡◌, ◌<◌, All, IfOk, false, map};
+ghost use Rattle.std.specs.Prelude.{◌≡◌, ◌<◌, ◌⊎◌, ℕ, All, Err, IfOk, false, map};
+ghost use Rattle.asm_module.specs.declared.fault.AsmFault.{AsmFault};
+ghost use Rattle.zlink.specs.declared.fault.BuildFault.{BuildFault};
+ghost use Rattle.zlink.specs.declared.fault.LinkFault.{LinkFault};
+ghost use Rattle.zlink.specs.Sources.{IsFirstFaulty};
 ghost use Rattle.zlink.specs.Built.{IsBuilt};
 
 use crate::assembling::{Assemblies, assemble_all};
 use crate::fault::BuildFault;
+use crate::laws::exact;
 use crate::linking::{Linked, link};
 use crate::origins::{Origin, origins_of};
 use crate::source::Source;
@@ -48,17 +53,8 @@ fn last_lines(alloc: Global, lines: &[Lines]) -> Result<Vec<u32>, AllocError>
     Ok(last)
 }
 
-/// Builds the .COM file of the sources, laid in their order, with each jump as short as it can be. Where `grow` says so, a written `JR` may be
-/// coded as a `JP`.
-///
-/// The file begins with the first statement and is loaded at 0100H.
-///
-/// # Errors
-///
-/// [`BuildFault::Asm`] with the first faulty source and its first fault; [`BuildFault::Link`] with the first fault of the modules together,
-/// or with [`LinkFault::NoFit`](crate::LinkFault::NoFit) only where no choice of short and long jumps fits, and with the reason, or with
-/// [`LinkFault::NoMemory`](crate::LinkFault::NoMemory) where memory ran out.
-pub fn build_with(alloc: Global, sources: &[Source<'_>], grow: bool) -> Result<Built, BuildFault>
+/// What is built of the sources, or why nothing is.
+fn build_sources(alloc: Global, sources: &[Source<'_>], grow: bool) -> Result<Built, BuildFault>
     ensures { IsBuilt grow sources.now result }
 {
     laid_out();
@@ -83,13 +79,38 @@ pub fn build_with(alloc: Global, sources: &[Source<'_>], grow: bool) -> Result<B
     })
 }
 
+/// Builds the .COM file of the sources, laid in their order, with each jump as short as it can be. Where `grow` says so, a written `JR` may be
+/// coded as a `JP`.
+///
+/// The file begins with the first statement and is loaded at 0100H.
+///
+/// # Errors
+///
+/// [`BuildFault::Asm`] with the first faulty source and its first fault; [`BuildFault::Link`] with the first fault of the modules together,
+/// or with [`LinkFault::NoFit`](crate::LinkFault::NoFit) only where no choice of short and long jumps fits, and with the reason, or with
+/// [`LinkFault::NoMemory`](crate::LinkFault::NoMemory) where memory ran out.
+pub fn build_with(alloc: Global, sources: &[Source<'_>], grow: bool) -> Result<Built, BuildFault>
+    // What is answered holds of the sources.
+    ensures answer { IsBuilt grow sources.now result }
+
+    // Sources that have a first fault are refused with it.
+    ensures exact { (number : ℕ) (fault : AsmFault) → IsFirstFaulty grow sources.now number fault →
+        (result ≡ Err (BuildFault.Asm number fault)) ⊎ (result ≡ Err (BuildFault.Link LinkFault.NoMemory)) }
+{
+    // A law, which does nothing: its contract is what the clause `exact` follows from.
+    exact();
+    build_sources(alloc, sources, grow)
+}
+
 /// As [`build_with`], where each written `JR` is always short.
 ///
 /// # Errors
 ///
 /// As those of [`build_with`].
 pub fn build(alloc: Global, sources: &[Source<'_>]) -> Result<Built, BuildFault>
-    ensures { IsBuilt false sources.now result }
+    ensures answer { IsBuilt false sources.now result }
+    ensures exact { (number : ℕ) (fault : AsmFault) → IsFirstFaulty false sources.now number fault →
+        (result ≡ Err (BuildFault.Asm number fault)) ⊎ (result ≡ Err (BuildFault.Link LinkFault.NoMemory)) }
 {
     build_with(alloc, sources, false)
 }

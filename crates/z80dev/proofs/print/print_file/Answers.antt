@@ -9,7 +9,7 @@ pub returns-in_err-built-clause-ends : goal.returns-in_err-built-clause-ends
 returns-in_err-built-clause-ends g c =
     let refusal = c.in_err-built.field-0.0 in
     let answer : IsBuiltOf c.in_ok-text.text.items (Err refusal)
-    = (record { name = c.as_bytes.result; text = c.deref.result }, (c.as_bytes.ensures.value, c.deref.ensures.value), c.in_err-built.ensures) in
+    = (record { name = c.as_bytes.result; text = c.deref.result }, (c.as_bytes.ensures.value, c.deref.ensures.value), c.in_err-built.ensures.answer) in
     let is = refusing c.in_ok-text.text.items refusal c.in_ok-text.ensures.limit answer in
     let ends = refused _ _ (g.W.Write.contents c.args.output.now.stream) (g.I.Input.failed c.read_text.new.input) (g.I.Input.reads c.read_text.new.input) (g.I.Input.interruptions c.read_text.new.input) c.args.output.now.failed _ refusal c.in_ok-text.ensures.text c.in_ok-text.ensures.end is in
     let p = err_from_is_err_and c.from_residual-in_err-built.result c.from_residual-in_err-built.ensures.1 in
@@ -18,7 +18,7 @@ returns-in_err-built-clause-ends g c =
 pub returns-clause-ends : goal.returns-clause-ends
 returns-clause-ends g c =
     let built : IsFileOf c.in_ok-text.text.items c.in_ok-built.built.com.items
-    = (c.in_ok-built.built, refl, (record { name = c.as_bytes.result; text = c.deref.result }, (c.as_bytes.ensures.value, c.deref.ensures.value), c.in_ok-built.ensures)) in
+    = (c.in_ok-built.built, refl, (record { name = c.as_bytes.result; text = c.deref.result }, (c.as_bytes.ensures.value, c.deref.ensures.value), c.in_ok-built.ensures.answer)) in
     let wrote = subst (λ f. Writes f (g.W.Write.contents c.args.output.now.stream) (g.W.Write.contents c.write_file.new.output.stream) c.write_file.new.output.failed c.write_file.result) c.deref-2.ensures.value c.write_file.ensures in
     written _ _ _ _ _ _ _ _ _ _ _ c.in_ok-text.ensures.text c.in_ok-text.ensures.end c.in_ok-text.ensures.limit built wrote
 
