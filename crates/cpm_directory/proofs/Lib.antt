@@ -1,5 +1,6 @@
 pub mod Elements
 pub mod Bytes
+pub mod Words
 pub mod Names
 pub mod Sizes
 pub mod Marks

@@ -5,7 +5,7 @@ use Rattle.std.proofs.lemmas.Bool.{cases_eq, cases_lt, cases_order, eq-eqb, ne_e
 use Rattle.std.proofs.Math.ListN.{length-set}
 use Rattle.std.proofs.lemmas.List.{length-take, get_or_past, get_or-set_same, get_or-set_other, get_or-take}
 use Rattle.std.proofs.lemmas.List.Folds.{list_any_more}
-use Rattle.cpm_directory.specs.Private.Marks.{AreOwn}
+use Rattle.cpm_directory.specs.Private.Marks.{AreOwn, AreSmall}
 use Rattle.cpm_directory.proofs.Elements.{where_any, nowhere}
 
 -- the first i blocks stand once each, and were not marked
@@ -15,9 +15,9 @@ pub record AreOwnBelow (marks : List Bool) (blocks : List ℕ) (i : ℕ) : Type 
 
 -- the first i blocks are marked, and `own` says whether they were their entry's own
 pub record IsMarking (old marks : List Bool) (blocks : List ℕ) (i : ℕ) (own : Bool) : Type 0 where
-  pub long : length marks ≡ 256
-  pub marked : (b : ℕ) → b < 256 → get_or marks b false ≡ (get_or old b false || list_any (λ c. nat_eq c b) (take i blocks))
-  pub are_own : MatchBool own (AreOwnBelow old blocks i) (AreOwn old blocks → ⊥)
+  pub long : length marks ≡ 512
+  pub marked : (b : ℕ) → b < 512 → get_or marks b false ≡ (get_or old b false || list_any (λ c. nat_eq c b) (take i blocks))
+  pub are_own : AreSmall blocks → MatchBool own (AreOwnBelow old blocks i) (AreOwn old blocks → ⊥)
 
 or_last : (o l : Bool) → (o || (l || true)) ≡ true
 or_last true l = refl
@@ -29,7 +29,7 @@ or_none true l = refl
 or_none false true = refl
 or_none false false = refl
 
-marked_more : (old marks : List Bool) (blocks : List ℕ) (i x b : ℕ) → length marks ≡ 256 → x < 256 → i < length blocks → x ≡ get_or blocks i 0 →
+marked_more : (old marks : List Bool) (blocks : List ℕ) (i x b : ℕ) → length marks ≡ 512 → b < 512 → i < length blocks → x ≡ get_or blocks i 0 →
     get_or marks b false ≡ (get_or old b false || list_any (λ c. nat_eq c b) (take i blocks)) →
     get_or (slice_set marks x true) b false ≡ (get_or old b false || list_any (λ c. nat_eq c b) (take (i + 1) blocks))
 marked_more old marks blocks i x b long fits below here was =
@@ -117,19 +117,21 @@ clash old marks blocks i x here below marked t own =
           omega arith
     ]
 
-pub turn : {old marks : List Bool} {blocks : List ℕ} {i : ℕ} {own : Bool} (x : ℕ) → IsMarking old marks blocks i own → x < 256 → i < length blocks → x ≡ get_or blocks i 0 →
+pub turn : {old marks : List Bool} {blocks : List ℕ} {i : ℕ} {own : Bool} (x : ℕ) → IsMarking old marks blocks i own → i < length blocks → x ≡ get_or blocks i 0 →
     IsMarking old (slice_set marks x true) blocks (i + 1) (own && ((x == 0) || not (get_or marks x false)))
-turn {old = old} {marks = marks} {blocks = blocks} {i = i} {own = own} x was fits below here = record {
+turn {old = old} {marks = marks} {blocks = blocks} {i = i} {own = own} x was below here = record {
   long = let same = length-set marks x true in omega (arith, was.long);
-  marked = λ b h. marked_more old marks blocks i x b was.long fits below here (was.marked b h);
-  are_own = both own _ was.are_own (λ t prior. grown old marks blocks i x here below (was.marked x fits) t prior) (λ t _. clash old marks blocks i x here below (was.marked x fits) t);
+  marked = λ b h. marked_more old marks blocks i x b was.long h below here (was.marked b h);
+  are_own = λ small. (
+      let fits = small i in
+      both own _ (was.are_own small) (λ t prior. grown old marks blocks i x here below (was.marked x (omega arith)) t prior) (λ t _. clash old marks blocks i x here below (was.marked x (omega arith)) t));
 }
 
-pub start : (old : List Bool) (blocks : List ℕ) → length old ≡ 256 → IsMarking old old blocks 0 true
+pub start : (old : List Bool) (blocks : List ℕ) → length old ≡ 512 → IsMarking old old blocks 0 true
 start old blocks long = record {
   long = long;
   marked = λ b h. sym (none (get_or old b false));
-  are_own = record { free = λ a h. absurd (omega arith); once = λ a b lt h. absurd (omega arith) };
+  are_own = λ _. record { free = λ a h. absurd (omega arith); once = λ a b lt h. absurd (omega arith) };
 }
   where
     none : (o : Bool) → (o || false) ≡ o
@@ -159,5 +161,5 @@ judged : {A B : Type 0} (C : Type 0) (own : Bool) → MatchBool own A C → (A �
 judged C true was more = more was
 judged C false was more = was
 
-pub finished : {old marks : List Bool} {blocks : List ℕ} {i : ℕ} {own : Bool} → IsMarking old marks blocks i own → length blocks ≤ i → MatchBool own (AreOwn old blocks) (AreOwn old blocks → ⊥)
-finished {own = own} was all = judged _ own was.are_own (own_of all)
+pub finished : {old marks : List Bool} {blocks : List ℕ} {i : ℕ} {own : Bool} → IsMarking old marks blocks i own → length blocks ≤ i → AreSmall blocks → MatchBool own (AreOwn old blocks) (AreOwn old blocks → ⊥)
+finished {own = own} was all small = judged _ own (was.are_own small) (own_of all)

@@ -6,7 +6,7 @@ use Rattle.std.proofs.lemmas.List.{get_or_past}
 use Rattle.std.proofs.lemmas.Slice.Eq.{bytes_eq-Decides}
 use Rattle.cpm_directory.specs.Types.{Entry}
 use Rattle.cpm_directory.specs.Letters.{letters}
-use Rattle.cpm_directory.specs.Entries.{at, blank, is_extent, is_extent_of}
+use Rattle.cpm_directory.specs.Entries.{at, blank, extent_number, is_extent, is_extent_of}
 use Rattle.cpm_directory.specs.Rules.{HasOwnName}
 use Rattle.cpm_directory.proofs.Elements.{where_any, nowhere}
 
@@ -18,13 +18,13 @@ pub true_both : (a b : Bool) → a ≡ true → b ≡ true → (a && b) ≡ true
 true_both a b p q = rw (p) q
 
 -- what the test of an extent of a file says
-pub same_extent : (user number : ℕ) (name : List ℕ) (d : Entry) → is_extent_of user name number d ≡ true → (d.user ≡ user) × (letters d.name ≡ name) × (d.extent ≡ number)
+pub same_extent : (user number : ℕ) (name : List ℕ) (d : Entry) → is_extent_of user name number d ≡ true → (d.user ≡ user) × (letters d.name ≡ name) × ((extent_number d) ≡ number)
 same_extent user number name d h =
-    let parts = both_true _ (d.extent == number) h in
+    let parts = both_true _ ((extent_number d) == number) h in
     let whose = both_true (d.user == user) _ parts.0 in
     (eqb-true _ _ whose.0, (bytes_eq-Decides (letters d.name) name).0 whose.1, eqb-true _ _ parts.1)
 
-pub extent_same : (user number : ℕ) (name : List ℕ) (d : Entry) → d.user ≡ user → letters d.name ≡ name → d.extent ≡ number → is_extent_of user name number d ≡ true
+pub extent_same : (user number : ℕ) (name : List ℕ) (d : Entry) → d.user ≡ user → letters d.name ≡ name → (extent_number d) ≡ number → is_extent_of user name number d ≡ true
 extent_same user number name d u n x = true_both _ _ (true_both _ _ (eq-eqb _ _ u) ((bytes_eq-Decides (letters d.name) name).1 n)) (eq-eqb _ _ x)
 
 -- past the end there is no extent
@@ -34,16 +34,16 @@ within_extents entries k extent = elim (cases_lt k (length entries)) [
   | inr ge ↦ let past = get_or_past entries k blank ge in let none : false ≡ true = rw past at extent in absurd cc
 ]
 
-own_name_by : (before : List Entry) (e : Entry) → is_extent e ≡ true → (b : Bool) → list_any (is_extent_of e.user (letters e.name) e.extent) before ≡ b → MatchBool (not b) (HasOwnName before e) (HasOwnName before e → ⊥)
+own_name_by : (before : List Entry) (e : Entry) → is_extent e ≡ true → (b : Bool) → list_any (is_extent_of e.user (letters e.name) (extent_number e)) before ≡ b → MatchBool (not b) (HasOwnName before e) (HasOwnName before e → ⊥)
 own_name_by before e extent true found = λ own.
-    let place = where_any (is_extent_of e.user (letters e.name) e.extent) before blank found in
-    let same = same_extent e.user e.extent (letters e.name) (at before place.0) place.2 in
+    let place = where_any (is_extent_of e.user (letters e.name) (extent_number e)) before blank found in
+    let same = same_extent e.user (extent_number e) (letters e.name) (at before place.0) place.2 in
     own place.0 (subst (λ u. nat_lt u 32 ≡ true) (sym same.0) extent) same
 own_name_by before e extent false none = λ k is same.
-    let miss = nowhere (is_extent_of e.user (letters e.name) e.extent) before blank none k (within_extents before k is) in
-    let hit = extent_same e.user e.extent (letters e.name) (at before k) same.0 same.1 same.2 in
+    let miss = nowhere (is_extent_of e.user (letters e.name) (extent_number e)) before blank none k (within_extents before k is) in
+    let hit = extent_same e.user (extent_number e) (letters e.name) (at before k) same.0 same.1 same.2 in
     let clash : true ≡ false = sym hit ∙ miss in
     absurd cc
 
-pub own_name : (before : List Entry) (e : Entry) → is_extent e ≡ true → MatchBool (not (list_any (is_extent_of e.user (letters e.name) e.extent) before)) (HasOwnName before e) (HasOwnName before e → ⊥)
+pub own_name : (before : List Entry) (e : Entry) → is_extent e ≡ true → MatchBool (not (list_any (is_extent_of e.user (letters e.name) (extent_number e)) before)) (HasOwnName before e) (HasOwnName before e → ⊥)
 own_name before e extent = own_name_by before e extent _ refl

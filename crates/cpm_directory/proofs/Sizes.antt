@@ -1,11 +1,14 @@
 -- The greatest of the numbers of those that pass a test.
-use Rattle.std.proofs.Common.{◌≡◌, ◌<◌, ◌≤◌, ◌+◌, ◌*◌, ◌==◌, ℕ, suc, List, [], ◌∷◌, Bool, true, false, cond, ◌||◌, Some, None, IfSome, map, length, get_or, refl, ap, ◌∙◌, sym, arith, eqb-true, lt-ltb, if◌then◌else◌}
+use Rattle.std.proofs.Common.{◌≡◌, ◌<◌, ◌≤◌, ◌==◌, ℕ, suc, List, [], ◌∷◌, Bool, true, false, cond, ◌||◌, Some, None, IfSome, map, length, get_or, refl, ap, ◌∙◌, sym, arith, eqb-true, lt-ltb, if◌then◌else◌}
 use Rattle.std.specs.Prelude.{max, fold, filter}
 use Rattle.std.specs.List.{list_any, reduce}
 use Rattle.std.proofs.Math.Nat.{zero-max}
 use Rattle.cpm_directory.specs.Types.{Entry}
-use Rattle.cpm_directory.specs.Entries.{at, blank, is_of}
-use Rattle.cpm_directory.specs.Rules.{IsSound}
+use Rattle.cpm_directory.specs.Entries.{at, blank, is_of, record_end}
+use Rattle.cpm_directory.specs.Rules.{IsGood, IsSound}
+use Rattle.cpm_image.specs.Kind.{file_records}
+use Rattle.cpm_image.specs.declared.kind.DiskKind.{DiskKind}
+use Rattle.cpm_image.specs.declared.kind.DiskKind.TheVariants.{EightInch, Megabyte}
 use Rattle.cpm_directory.specs.Searches.{is_file, size}
 use Rattle.cpm_directory.proofs.Names.{both_true}
 
@@ -31,12 +34,16 @@ most : {X : Type 0} (p : X → Bool) (f : X → ℕ) (xs : List X) (d : X) (a n 
 most p f [] d a n start each = start
 most p f (x ∷ xs) d a n start each = most_by p f x xs a n start (p x) (λ is. each 0 (omega arith) is) (λ c h. most p f xs d c n h (λ k below is. each (suc k) (omega arith) is))
 
--- a file has 32 extents of 128 records at the most
-pub size_most : (user : ℕ) (name : List ℕ) (entries : List Entry) → user < 32 → IsSound entries → IfSome (size user name entries) (λ n. n ≤ 4096)
-size_most user name entries low sound = elim (is_file user name entries) as (λ b. IfSome (if b then Some (fold max 0 (map (λ (e : Entry). 128 * e.extent + e.records) (filter (is_of user name) entries))) else None) (λ n. n ≤ 4096)) [
-  | true ↦ most (is_of user name) (λ (e : Entry). 128 * e.extent + e.records) entries blank 0 4096 (omega arith) (λ k below of.
+-- the records up to an extent's last are no more than a file may have
+counted_below : (kind : DiskKind) (e : Entry) → IsGood kind e → record_end e ≤ file_records kind
+counted_below EightInch e good = omega (arith, good.0, good.1, good.2)
+counted_below Megabyte e good = omega (arith, good.0, good.1, good.2)
+
+pub size_most : (kind : DiskKind) (user : ℕ) (name : List ℕ) (entries : List Entry) → user < 32 → IsSound kind entries → IfSome (size user name entries) (λ n. n ≤ file_records kind)
+size_most kind user name entries low sound = elim (is_file user name entries) as (λ b. IfSome (if b then Some (fold max 0 (map record_end (filter (is_of user name) entries))) else None) (λ n. n ≤ file_records kind)) [
+  | true ↦ most (is_of user name) record_end entries blank 0 (file_records kind) (omega arith) (λ k below of.
       let user_is = eqb-true (at entries k).user user (both_true ((at entries k).user == user) _ of).0 in
       let good = sound.good k (lt-ltb (at entries k).user 32 (omega arith)) in
-      omega (arith, good.0, good.1))
+      counted_below kind (at entries k) good)
   | false ↦ tt
 ]

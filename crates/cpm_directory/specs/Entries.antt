@@ -1,7 +1,10 @@
 -- An entry of a CP/M 2.2 directory: 32 bytes, the user, eleven bytes of name and type, EX, S1, S2, RC and sixteen bytes of blocks.
 -- (CP/M 2.2 Interface Guide, file control blocks; Alteration Guide, the directory.)
-use Rattle.std.specs.Prelude.{ℕ, ◌+◌, ◌*◌, ◌/◌, ◌%◌, ◌==◌, Bool, ◌&&◌, ◌||◌, not, List, ◌∷◌, ◌++◌, take, drop, replicate, slice_index, slice_index_or, slice_set, nat_lt, nat_le, max}
+use Rattle.std.specs.Prelude.{ℕ, ◌+◌, ◌*◌, ◌/◌, ◌%◌, ◌==◌, Bool, ◌&&◌, ◌||◌, not, List, [], ◌∷◌, ◌++◌, take, drop, replicate, slice_index, slice_index_or, slice_set, nat_lt, nat_le, max}
 use Rattle.std.specs.Str.{bytes_eq}
+use Rattle.cpm_image.specs.declared.kind.DiskKind.{DiskKind}
+use Rattle.cpm_image.specs.declared.kind.DiskKind.TheVariants.{EightInch, Megabyte}
+use Rattle.cpm_image.specs.Kind.{block_records}
 use Rattle.cpm_directory.specs.Types.{Entry, Pattern}
 use Rattle.cpm_directory.specs.Letters.{letters, name_matches, with_letters}
 
@@ -40,8 +43,12 @@ is_free e = e.user == 0xE5
 abbrev pub is_of : ℕ → List ℕ → Entry → Bool
 is_of user name e = (e.user == user) && bytes_eq (letters e.name) name
 
+-- The number of an extent of 128 records: EX counts to 31, the low six bits of S2 go on. (On an eight inch disk these are 0.)
+abbrev pub extent_number : Entry → ℕ
+extent_number e = 32 * (e.s2 % 64) + e.extent
+
 abbrev pub is_extent_of : ℕ → List ℕ → ℕ → Entry → Bool
-is_extent_of user name number e = is_of user name e && (e.extent == number)
+is_extent_of user name number e = is_of user name e && (extent_number e == number)
 
 -- The high bit of the type's first byte is read-only, of its second system.
 abbrev pub is_read_only : Entry → Bool
@@ -54,29 +61,59 @@ is_system e = nat_le 128 (slice_index e.name 9)
 abbrev pub is_match : ℕ → List ℕ → Entry → Bool
 is_match user pattern e = (e.user == user) && name_matches pattern e.name
 
--- with the extent heeded, where it is not `?`
-abbrev pub is_exact_match : ℕ → Pattern → Entry → Bool
-is_exact_match user pattern e = is_match user pattern.name e && ((pattern.extent == 0x3F) || (pattern.extent == e.extent))
+-- a pattern's byte that is `?`, or the entry's
+abbrev pub is_asked : ℕ → ℕ → Bool
+is_asked p b = (p == 0x3F) || (p == b)
 
--- the block of a group of eight records, 0 for none
-abbrev pub block : Entry → ℕ → ℕ
-block e group = slice_index e.blocks group
+-- with EX and the low six bits of S2 heeded, where they are not `?`
+abbrev pub is_exact_match : ℕ → Pattern → Entry → Bool
+is_exact_match user pattern e = is_match user pattern.name e && (is_asked pattern.extent e.extent && is_asked pattern.high (e.s2 % 64))
+
+-- the words that bytes spell, low byte first
+unfoldable pub words : List ℕ → List ℕ
+words (low ∷ high ∷ bytes) = (low + 256 * high) ∷ words bytes
+words _ = []
+
+-- the block numbers that sixteen bytes spell: they themselves, or on a Megabyte disk eight words
+abbrev pub block_numbers : DiskKind → List ℕ → List ℕ
+block_numbers EightInch bytes = bytes
+block_numbers Megabyte bytes = words bytes
+
+abbrev pub blocks_of : DiskKind → Entry → List ℕ
+blocks_of kind e = block_numbers kind e.blocks
+
+-- the block of a group of records, as many as a block has, 0 for none
+abbrev pub block : DiskKind → Entry → ℕ → ℕ
+block kind e group = slice_index (blocks_of kind e) group
 
 -- whether record i of the extent is there
-abbrev pub has_record : Entry → ℕ → Bool
-has_record e i = nat_lt i e.records && not (block e (i / 8) == 0)
+abbrev pub has_record : DiskKind → Entry → ℕ → Bool
+has_record kind e i = nat_lt i e.records && not (block kind e (i / block_records kind) == 0)
+
+-- how many records the file has up to the extent's last
+abbrev pub record_end : Entry → ℕ
+record_end e = 128 * extent_number e + e.records
+
+-- the logical record of the disk that is record i of the extent, in a block
+abbrev pub place_in_block : DiskKind → ℕ → ℕ → ℕ
+place_in_block kind b i = block_records kind * b + i % block_records kind
 
 -- the logical record of the disk that holds record i of the extent, where its block is there
-abbrev pub place_on_disk : Entry → ℕ → ℕ
-place_on_disk e i = 8 * block e (i / 8) + i % 8
+abbrev pub place_on_disk : DiskKind → Entry → ℕ → ℕ
+place_on_disk kind e i = place_in_block kind (block kind e (i / block_records kind)) i
 
 -- the entry of a new extent
 abbrev pub new_extent : ℕ → List ℕ → ℕ → Entry
-new_extent user name number = record { user = user; name = name; extent = number; s1 = 0; s2 = 0; records = 0; blocks = replicate 16 0 }
+new_extent user name number = record { user = user; name = name; extent = number % 32; s1 = 0; s2 = number / 32; records = 0; blocks = replicate 16 0 }
+
+-- the sixteen bytes with the block of a group
+abbrev pub with_block : DiskKind → List ℕ → ℕ → ℕ → List ℕ
+with_block EightInch blocks group b = slice_set blocks group b
+with_block Megabyte blocks group b = slice_set (slice_set blocks (2 * group) (b % 256)) (2 * group + 1) (b / 256)
 
 -- the entry once record i is written to a block
-abbrev pub with_record : Entry → ℕ → ℕ → Entry
-with_record e i b = record e { records = max e.records (i + 1); blocks = slice_set e.blocks (i / 8) b }
+abbrev pub with_record : DiskKind → Entry → ℕ → ℕ → Entry
+with_record kind e i b = record e { records = max e.records (i + 1); blocks = with_block kind e.blocks (i / block_records kind) b }
 
 -- erased: the user byte alone changes
 abbrev pub erased : Entry → Entry

@@ -1,55 +1,56 @@
 -- The rules that a directory keeps, and the first fault of one that does not.
 use Rattle.std.specs.Prelude.{◌≡◌, ◌<◌, ◌≤◌, ◌⊎◌, ℕ, ◌%◌, true, List, length, take, Result, Ok, Err, ⊤}
 use Rattle.cpm_directory.specs.Types.{Entry, DiskFault}
-use Rattle.cpm_directory.specs.declared.format.TheConstants.{BLOCK_COUNT, FIRST_BLOCK}
+use Rattle.cpm_image.specs.Kind.{block_count, first_block, last_high}
+use Rattle.cpm_image.specs.declared.kind.DiskKind.{DiskKind}
 use Rattle.cpm_directory.specs.declared.fault.DiskFault.TheVariants as fault
-use Rattle.cpm_directory.specs.Entries.{at, is_extent, block}
+use Rattle.cpm_directory.specs.Entries.{at, is_extent, block, extent_number}
 use Rattle.cpm_directory.specs.Letters.{letters}
 
--- at most 128 records, an extent number up to 31, and 0 in the low six bits of S2
-abbrev pub IsGood : Entry → Type 0
-IsGood e = (e.records ≤ 128) × (e.extent ≤ 31) × (e.s2 % 64 ≡ 0)
+-- at most 128 records, EX up to 31, and the low six bits of S2 up to the kind's greatest
+abbrev pub IsGood : DiskKind → Entry → Type 0
+IsGood kind e = (e.records ≤ 128) × (e.extent ≤ 31) × (e.s2 % 64 ≤ last_high kind)
 
--- a block of files, or 0 for none. Blocks 0 and 1 are the directory
-abbrev pub IsBlock : ℕ → Type 0
-IsBlock b = (b ≡ 0) ⊎ ((FIRST_BLOCK ≤ b) × (b < BLOCK_COUNT))
+-- a block of files, or 0 for none. The blocks before those of files are the directory
+abbrev pub IsBlock : DiskKind → ℕ → Type 0
+IsBlock kind b = (b ≡ 0) ⊎ ((first_block kind ≤ b) × (b < block_count kind))
 
-abbrev pub AreBlocks : Entry → Type 0
-AreBlocks e = (i : ℕ) → IsBlock (block e i)
+abbrev pub AreBlocks : DiskKind → Entry → Type 0
+AreBlocks kind e = (i : ℕ) → IsBlock kind (block kind e i)
 
 -- two entries are of the same extent of the same file
 abbrev pub AreSameExtent : Entry → Entry → Type 0
-AreSameExtent d e = (d.user ≡ e.user) × (letters d.name ≡ letters e.name) × (d.extent ≡ e.extent)
+AreSameExtent d e = (d.user ≡ e.user) × (letters d.name ≡ letters e.name) × (extent_number d ≡ extent_number e)
 
 -- The rules. Each speaks of the entries of users 0 to 31 alone.
-pub record IsSound (entries : List Entry) : Type 0 where
-  pub good : (k : ℕ) → is_extent (at entries k) ≡ true → IsGood (at entries k)
-  pub blocks : (k : ℕ) → is_extent (at entries k) ≡ true → AreBlocks (at entries k)
+pub record IsSound (kind : DiskKind) (entries : List Entry) : Type 0 where
+  pub good : (k : ℕ) → is_extent (at entries k) ≡ true → IsGood kind (at entries k)
+  pub blocks : (k : ℕ) → is_extent (at entries k) ≡ true → AreBlocks kind (at entries k)
   -- no block stands twice
-  pub once : (j k a b : ℕ) → is_extent (at entries j) ≡ true → is_extent (at entries k) ≡ true → 0 < block (at entries j) a → block (at entries j) a ≡ block (at entries k) b → (j ≡ k) × (a ≡ b)
+  pub once : (j k a b : ℕ) → is_extent (at entries j) ≡ true → is_extent (at entries k) ≡ true → 0 < block kind (at entries j) a → block kind (at entries j) a ≡ block kind (at entries k) b → (j ≡ k) × (a ≡ b)
   -- no extent of a file has two entries
   pub named : (j k : ℕ) → is_extent (at entries j) ≡ true → is_extent (at entries k) ≡ true → AreSameExtent (at entries j) (at entries k) → j ≡ k
 
 -- no block stands twice in an entry, or in it and in one of those before it
-abbrev pub HasOwnBlocks : List Entry → Entry → Type 0
-HasOwnBlocks before e = ((a b : ℕ) → 0 < block e a → block e a ≡ block e b → a ≡ b)
-    × ((k a b : ℕ) → is_extent (at before k) ≡ true → 0 < block e a → block (at before k) b ≡ block e a → ⊥)
+abbrev pub HasOwnBlocks : DiskKind → List Entry → Entry → Type 0
+HasOwnBlocks kind before e = ((a b : ℕ) → 0 < block kind e a → block kind e a ≡ block kind e b → a ≡ b)
+    × ((k a b : ℕ) → is_extent (at before k) ≡ true → 0 < block kind e a → block kind (at before k) b ≡ block kind e a → ⊥)
 
 -- none before it is of the same extent
 abbrev pub HasOwnName : List Entry → Entry → Type 0
 HasOwnName before e = (k : ℕ) → is_extent (at before k) ≡ true → AreSameExtent (at before k) e → ⊥
 
 -- an entry keeps the rules, after those before it
-abbrev pub KeepsRules : List Entry → Entry → Type 0
-KeepsRules before e = IsGood e × AreBlocks e × HasOwnBlocks before e × HasOwnName before e
+abbrev pub KeepsRules : DiskKind → List Entry → Entry → Type 0
+KeepsRules kind before e = IsGood kind e × AreBlocks kind e × HasOwnBlocks kind before e × HasOwnName before e
 
 -- the first rule that it breaks, after those before it
-abbrev pub IsFaultOf : List Entry → Entry → DiskFault → Type 0
-IsFaultOf before e fault.BadEntry = IsGood e → ⊥
-IsFaultOf before e fault.BlockRange = IsGood e × (AreBlocks e → ⊥)
-IsFaultOf before e fault.BlockTwice = IsGood e × AreBlocks e × (HasOwnBlocks before e → ⊥)
-IsFaultOf before e fault.NameTwice = IsGood e × AreBlocks e × HasOwnBlocks before e × (HasOwnName before e → ⊥)
-IsFaultOf before e _ = ⊥
+abbrev pub IsFaultOf : DiskKind → List Entry → Entry → DiskFault → Type 0
+IsFaultOf kind before e fault.BadEntry = IsGood kind e → ⊥
+IsFaultOf kind before e fault.BlockRange = IsGood kind e × (AreBlocks kind e → ⊥)
+IsFaultOf kind before e fault.BlockTwice = IsGood kind e × AreBlocks kind e × (HasOwnBlocks kind before e → ⊥)
+IsFaultOf kind before e fault.NameTwice = IsGood kind e × AreBlocks kind e × HasOwnBlocks kind before e × (HasOwnName before e → ⊥)
+IsFaultOf kind before e _ = ⊥
 
 -- the faults of a directory
 abbrev pub IsRuleFault : DiskFault → Type 0
@@ -59,18 +60,18 @@ IsRuleFault fault.BlockTwice = ⊤
 IsRuleFault fault.NameTwice = ⊤
 IsRuleFault _ = ⊥
 
-abbrev pub IsEntryJudged : List Entry → Entry → Result ⊤ DiskFault → Type 0
-IsEntryJudged before e (Ok _) = KeepsRules before e
-IsEntryJudged before e (Err f) = IsFaultOf before e f
+abbrev pub IsEntryJudged : DiskKind → List Entry → Entry → Result ⊤ DiskFault → Type 0
+IsEntryJudged kind before e (Ok _) = KeepsRules kind before e
+IsEntryJudged kind before e (Err f) = IsFaultOf kind before e f
 
 -- the fault of the first entry that breaks a rule
-pub record IsFirstFault (entries : List Entry) (fault : DiskFault) : Type 0 where
+pub record IsFirstFault (kind : DiskKind) (entries : List Entry) (fault : DiskFault) : Type 0 where
   pub number : ℕ
   pub within : number < length entries
   pub extent : is_extent (at entries number) ≡ true
-  pub fault_of : IsFaultOf (take number entries) (at entries number) fault
-  pub before : (k : ℕ) → k < number → is_extent (at entries k) ≡ true → KeepsRules (take k entries) (at entries k)
+  pub fault_of : IsFaultOf kind (take number entries) (at entries number) fault
+  pub before : (k : ℕ) → k < number → is_extent (at entries k) ≡ true → KeepsRules kind (take k entries) (at entries k)
 
-abbrev pub IsJudged : List Entry → Result ⊤ DiskFault → Type 0
-IsJudged entries (Ok _) = IsSound entries
-IsJudged entries (Err f) = IsFirstFault entries f
+abbrev pub IsJudged : DiskKind → List Entry → Result ⊤ DiskFault → Type 0
+IsJudged kind entries (Ok _) = IsSound kind entries
+IsJudged kind entries (Err f) = IsFirstFault kind entries f

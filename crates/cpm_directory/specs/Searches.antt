@@ -1,12 +1,13 @@
 -- What is looked for in a directory.
-use Rattle.std.specs.Prelude.{◌≡◌, ◌<◌, ℕ, ◌+◌, ◌-◌, ◌*◌, Bool, true, ◌&&◌, not, List, Option, Some, None, map, filter, drop, max, fold, find, position, length, if◌then◌else◌, option_map, slice_index_or, nat_eq, unwrap_or, ◌⊎◌, All, Any}
+use Rattle.std.specs.Prelude.{◌≡◌, ◌<◌, ℕ, ◌+◌, ◌-◌, Bool, true, ◌&&◌, not, List, Option, Some, None, map, filter, drop, max, fold, find, position, length, if◌then◌else◌, option_map, slice_index_or, nat_eq, unwrap_or, ◌⊎◌, All, Any}
 use Rattle.std.specs.List.{list_any, range_with_len}
 use Rattle.std.specs.Cmp.Lexicographic.{slice_cmp}
 use Rattle.std.specs.Ordering.{nat_cmp}
 use Rattle.std.specs.declared.cmp.Ordering.TheVariants.{Less}
-use Rattle.cpm_directory.specs.declared.format.TheConstants.{BLOCK_COUNT, FIRST_BLOCK}
+use Rattle.cpm_image.specs.Kind.{block_count, first_block}
+use Rattle.cpm_image.specs.declared.kind.DiskKind.{DiskKind}
 use Rattle.cpm_directory.specs.Types.{Entry, Pattern, Listed}
-use Rattle.cpm_directory.specs.Entries.{at, is_extent, is_free, is_of, is_exact_match, is_read_only, is_system}
+use Rattle.cpm_directory.specs.Entries.{at, blocks_of, is_extent, is_free, is_of, is_exact_match, is_read_only, is_system, record_end}
 use Rattle.cpm_directory.specs.Letters.{letters}
 
 -- whether a user has a file of a name
@@ -29,17 +30,17 @@ abbrev pub free_entry : List Entry → Option ℕ
 free_entry entries = position is_free entries
 
 -- whether a block stands in an entry of users 0 to 31
-abbrev pub is_taken : List Entry → ℕ → Bool
-is_taken entries b = list_any (λ e. is_extent e && list_any (λ c. nat_eq c b) e.blocks) entries
+abbrev pub is_taken : DiskKind → List Entry → ℕ → Bool
+is_taken kind entries b = list_any (λ e. is_extent e && list_any (λ c. nat_eq c b) (blocks_of kind e)) entries
 
 -- the lowest free block
-unfoldable pub free_block : List Entry → Option ℕ
-free_block entries = find (λ b. not (is_taken entries b)) (range_with_len FIRST_BLOCK (BLOCK_COUNT - FIRST_BLOCK))
+unfoldable pub free_block : DiskKind → List Entry → Option ℕ
+free_block kind entries = find (λ b. not (is_taken kind entries b)) (range_with_len (first_block kind) (block_count kind - first_block kind))
 
--- how many records a file has up to its last, written or not: the greatest of 128 EX + RC
+-- how many records a file has up to its last, written or not: the greatest of an extent's 128 times its number and RC
 abbrev pub size : ℕ → List ℕ → List Entry → Option ℕ
 size user name entries = if is_file user name entries
-    then Some (fold max 0 (map (λ e. 128 * e.extent + e.records) (filter (is_of user name) entries)))
+    then Some (fold max 0 (map record_end (filter (is_of user name) entries)))
     else None
 
 -- what a listing says of one file

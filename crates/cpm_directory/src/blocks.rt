@@ -1,55 +1,61 @@
 //! Which blocks the entries of a directory hold.
 
-ghost use Rattle.std.specs.Prelude.{◌≡◌, ◌||◌, ◌==◌, false, not, true, MatchBool, slice_index_or, slice_set};
-ghost use Rattle.cpm_directory.specs.Private.Marks.{AddsMarks, AreMarks, AreOwn};
+ghost use Rattle.std.specs.Prelude.{◌≡◌, ◌||◌, ◌==◌, false, not, true, ◌<◌, IfSome, MatchBool, slice_index_or, slice_set};
+ghost use Rattle.cpm_image.specs.Kind.{number_limit};
+ghost use Rattle.cpm_directory.specs.Entries.{blocks_of};
+ghost use Rattle.cpm_directory.specs.Private.Marks.{AddsMarks, AreMarks, AreOwn, AreSmall};
 ghost use Rattle.cpm_directory.specs.Searches.{free_block};
 
 use crate::Entry;
-use crate::format::{BLOCK_COUNT, FIRST_BLOCK};
+use cpm_image::DiskKind;
 
-/// A flag for each number that a block byte can have.
-pub(crate) type Marks = [bool; 256];
+/// A flag for each block that a disk can have. Numbers above are not marked.
+pub(crate) type Marks = [bool; 512];
 
 /// Marks a block, and answers whether it is 0 or was not marked before.
-fn mark_block(marks: &mut Marks, block: u8) -> bool
+fn mark_block(marks: &mut Marks, block: u16) -> bool
     ensures marked { marks.new ≡ slice_set marks.old block true }
     ensures free { result ≡ ((block == 0) || not (slice_index_or marks.old block false)) }
 {
     let number = usize::from(block);
+    if number >= marks.len() {
+        return true;
+    }
     let free = block == 0 || !marks[number];
     marks[number] = true;
     free
 }
 
 /// Marks the blocks of an entry, and answers whether each of them but 0 stands once and was not marked before.
-pub(crate) fn mark(marks: &mut Marks, blocks: &[u8; 16]) -> bool
-    ensures marked { AddsMarks marks.old marks.new blocks.now }
-    ensures own { MatchBool result (AreOwn marks.old blocks.now) (¬ AreOwn marks.old blocks.now) }
+pub(crate) fn mark(marks: &mut Marks, kind: DiskKind, entry: &Entry) -> bool
+    ensures marked { AddsMarks marks.old marks.new (blocks_of kind entry.now) }
+    ensures own { AreSmall (blocks_of kind entry.now) → MatchBool result (AreOwn marks.old (blocks_of kind entry.now)) (¬ AreOwn marks.old (blocks_of kind entry.now)) }
 {
     let mut own = true;
-    for block in blocks {
-        own &= mark_block(marks, *block);
+    for group in 0..entry.block_total(kind) {
+        own &= mark_block(marks, entry.block(kind, group));
     }
     own
 }
 
 /// Which blocks stand in entries of users 0 to 31.
-fn taken(entries: &[Entry]) -> Marks
-    ensures { AreMarks result entries.now }
+fn taken(kind: DiskKind, entries: &[Entry]) -> Marks
+    ensures { AreMarks kind result entries.now }
 {
-    let mut marks = [false; 256];
+    let mut marks = [false; 512];
     for entry in entries {
         if entry.is_extent() {
-            mark(&mut marks, &entry.blocks);
+            mark(&mut marks, kind, entry);
         }
     }
     marks
 }
 
 /// The lowest block of files that no entry of users 0 to 31 holds.
-pub fn free_block(entries: &[Entry]) -> Option<u8>
-    ensures { result ≡ free_block entries.now }
+pub fn free_block(kind: DiskKind, entries: &[Entry]) -> Option<u16>
+    ensures lowest { result ≡ free_block kind entries.now }
+    ensures fits { IfSome result (λ b. b < number_limit kind) }
 {
-    let marks = taken(entries);
-    (FIRST_BLOCK..BLOCK_COUNT).find(|block| !marks[usize::from(*block)])
+    let marks = taken(kind, entries);
+    (kind.first_block()..kind.block_count()).find(|block| !marks[usize::from(*block)])
 }

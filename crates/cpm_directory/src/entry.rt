@@ -1,9 +1,12 @@
 //! Entries of a directory.
 
-ghost use Rattle.std.specs.Prelude.{◌≡◌};
+ghost use Rattle.std.specs.Prelude.{◌≡◌, ◌<◌};
+ghost use Rattle.cpm_image.specs.Kind.{entry_blocks, number_limit};
+ghost use Rattle.cpm_directory.specs.Entries.{is_asked, with_block};
 ghost use Rattle.cpm_directory.specs.Letters.{byte_matches, letters, name_matches, with_letters};
 
 use crate::{Name, Pattern};
+use cpm_image::DiskKind;
 
 /// An entry of a directory: 32 bytes. Of users 0 to 31 it is an extent of a file, of user E5H it is free, and with any
 /// other user byte it is foreign: no name of a user below 32 finds it, and it holds no block.
@@ -13,15 +16,15 @@ pub struct Entry {
     pub user: u8,
     /// Eight bytes and three of the type. The high bit of the type's first byte is read-only, of its second system.
     pub name: [u8; 11],
-    /// EX, the number of the extent of 128 records.
+    /// EX, the low five bits of the number of the extent of 128 records.
     pub extent: u8,
     /// S1, of no meaning here.
     pub s1: u8,
-    /// S2, whose low six bits are 0 on a disk of this size.
+    /// S2, whose low six bits count the extents on from 32. They are 0 on an eight inch disk.
     pub s2: u8,
     /// RC, how many records of the extent count.
     pub records: u8,
-    /// The block of each eight records in turn, 0 for none.
+    /// The block of each group of records in turn, 0 for none: bytes, or words of a Megabyte disk.
     pub blocks: [u8; 16],
 }
 
@@ -31,12 +34,21 @@ const FREE: u8 = 0xE5;
 const USERS: u8 = 32;
 /// The byte of a pattern that matches whatever stands there, `?`.
 const WILD: u8 = 0x3F;
+/// S2 counts in its low six bits.
+const HIGH: u8 = 64;
 
 /// Whether a pattern's byte matches a name's.
 fn byte_matches(pattern: u8, byte: u8) -> bool
     ensures { result ≡ byte_matches pattern byte }
 {
     pattern == WILD || pattern % 128 == byte % 128
+}
+
+/// Whether a pattern asks for a byte: it is that byte, or `?`.
+fn is_asked(pattern: u8, byte: u8) -> bool
+    ensures { result ≡ is_asked pattern byte }
+{
+    pattern == WILD || pattern == byte
 }
 
 /// Whether a name matches a pattern's, byte for byte.
@@ -60,9 +72,28 @@ fn with_letters(old: &[u8; 11], mut name: [u8; 11]) -> [u8; 11]
     name
 }
 
+/// The block numbers of an entry with the block of a group.
+fn with_block(blocks: &[u8; 16], kind: DiskKind, group: u8, block: u16) -> [u8; 16]
+    requires group { group < entry_blocks kind }
+    requires block { block < number_limit kind }
+    ensures bytes { result ≡ with_block kind blocks.now group block }
+{
+    let mut blocks = *blocks;
+    let group = usize::from(group);
+    match kind {
+        DiskKind::EightInch => blocks[group] = block as u8,
+        DiskKind::Megabyte => {
+            blocks[2 * group] = (block % 256) as u8;
+            blocks[2 * group + 1] = (block / 256) as u8;
+        }
+    }
+    blocks
+}
+
 impl Entry {
-    ghost use Rattle.std.specs.Prelude.{◌≡◌, ◌<◌, ◌/◌, slice_index};
-    ghost use Rattle.cpm_directory.specs.Entries.{bytes_of, entry_of, erased, has_record, is_exact_match, is_extent, is_extent_of, is_free, is_match, is_of, is_read_only, is_system, new_extent, place_on_disk, renamed, with_record};
+    ghost use Rattle.std.specs.Prelude.{◌≡◌, ◌<◌, ◌/◌, length, slice_index};
+    ghost use Rattle.cpm_image.specs.Kind.{block_records, entry_blocks, number_limit};
+    ghost use Rattle.cpm_directory.specs.Entries.{block, blocks_of, bytes_of, extent_number, entry_of, erased, has_record, is_exact_match, is_extent, is_extent_of, is_free, is_match, is_of, is_read_only, is_system, new_extent, place_on_disk, record_end, renamed, with_record};
 
     /// The entry that 32 bytes spell.
     pub fn from_bytes(bytes: &[u8; 32]) -> Entry
@@ -121,10 +152,17 @@ impl Entry {
     }
 
     /// Whether the entry is the extent of a number of a user's file.
-    pub fn is_extent_of(&self, user: u8, name: &Name, number: u8) -> bool
+    pub fn is_extent_of(&self, user: u8, name: &Name, number: u16) -> bool
         ensures { result ≡ is_extent_of user name.now number self.now }
     {
-        self.is_of(user, name) && self.extent == number
+        self.is_of(user, name) && self.extent_number() == number
+    }
+
+    /// The number of the extent: EX, and 32 times the low six bits of S2.
+    pub fn extent_number(&self) -> u16
+        ensures { result ≡ extent_number self.now }
+    {
+        32 * u16::from(self.s2 % HIGH) + u16::from(self.extent)
     }
 
     /// Whether the entry has the attribute read-only, the high bit of the type's first byte.
@@ -148,28 +186,62 @@ impl Entry {
         self.user == user && name_matches(name, &self.name)
     }
 
-    /// Whether the entry is of the user and matches a pattern, its extent included.
+    /// Whether the entry is of the user and matches a pattern, EX and the low six bits of S2 included.
     pub fn is_exact_match(&self, user: u8, pattern: &Pattern) -> bool
         ensures { result ≡ is_exact_match user pattern.now self.now }
     {
         self.is_match(user, &pattern.name)
-            && (pattern.extent == WILD || pattern.extent == self.extent)
+            && is_asked(pattern.extent, self.extent)
+            && is_asked(pattern.high, self.s2 % HIGH)
+    }
+
+    /// How many records the file has up to the extent's last.
+    pub(crate) fn record_end(&self) -> u32
+        ensures { result ≡ record_end self.now }
+    {
+        let records = self.records;
+        128 * u32::from(self.extent_number()) + u32::from(records)
+    }
+
+    /// How many block numbers the entry has.
+    pub(crate) fn block_total(&self, kind: DiskKind) -> u8
+        ensures total { result ≡ length (blocks_of kind self.now) }
+        ensures count { result ≡ entry_blocks kind }
+    {
+        let _value = *self;
+        kind.entry_blocks()
+    }
+
+    /// The block of a group of records, as many as a block has; 0 for none.
+    pub fn block(&self, kind: DiskKind, group: u8) -> u16
+        requires { group < entry_blocks kind }
+        ensures block { result ≡ block kind self.now group }
+        ensures fits { result < number_limit kind }
+    {
+        let group = usize::from(group);
+        match kind {
+            DiskKind::EightInch => u16::from(self.blocks[group]),
+            DiskKind::Megabyte => {
+                u16::from(self.blocks[2 * group]) + 256 * u16::from(self.blocks[2 * group + 1])
+            }
+        }
     }
 
     /// Whether record `i` of the extent is there.
-    pub fn has_record(&self, i: u8) -> bool
+    pub fn has_record(&self, kind: DiskKind, i: u8) -> bool
         requires { i < 128 }
-        ensures { result ≡ has_record self.now i }
+        ensures { result ≡ has_record kind self.now i }
     {
-        i < self.records && self.blocks[usize::from(i / 8)] != 0
+        i < self.records && self.block(kind, i / kind.block_records()) != 0
     }
 
     /// The logical record of the disk that holds record `i` of the extent, where its block is there.
-    pub fn place_on_disk(&self, i: u8) -> u32
+    pub fn place_on_disk(&self, kind: DiskKind, i: u8) -> u32
         requires { i < 128 }
-        ensures { result ≡ place_on_disk self.now i }
+        ensures { result ≡ place_on_disk kind self.now i }
     {
-        8 * u32::from(self.blocks[usize::from(i / 8)]) + u32::from(i % 8)
+        let records = kind.block_records();
+        u32::from(records) * u32::from(self.block(kind, i / records)) + u32::from(i % records)
     }
 
     /// The entry once it is erased: its user byte alone changes.
@@ -193,30 +265,30 @@ impl Entry {
     }
 
     /// The entry once its record `i` is written to a block.
-    pub fn with_record(&self, i: u8, block: u8) -> Entry
-        requires { i < 128 }
-        ensures entry { result ≡ with_record self.now i block }
-        ensures placed { slice_index result.blocks (i / 8) ≡ block }
+    pub fn with_record(&self, kind: DiskKind, i: u8, number: u16) -> Entry
+        requires record { i < 128 }
+        requires number { number < number_limit kind }
+        ensures entry { result ≡ with_record kind self.now i number }
+        ensures placed { block kind result (i / block_records kind) ≡ number }
     {
-        let mut blocks = self.blocks;
-        blocks[usize::from(i / 8)] = block;
         Entry {
             records: self.records.max(i + 1),
-            blocks,
+            blocks: with_block(&self.blocks, kind, i / kind.block_records(), number),
             ..*self
         }
     }
 
     /// The entry of a new extent, which has no records.
-    pub fn new_extent(user: u8, name: [u8; 11], number: u8) -> Entry
+    pub fn new_extent(user: u8, name: [u8; 11], number: u16) -> Entry
+        requires { number < 8192 }
         ensures { result ≡ new_extent user name number }
     {
         Entry {
             user,
             name,
-            extent: number,
+            extent: (number % 32) as u8,
             s1: 0,
-            s2: 0,
+            s2: (number / 32) as u8,
             records: 0,
             blocks: [0; 16],
         }

@@ -15,10 +15,10 @@ pub enum DiskFault {
     /// A block other than 0 that stands twice in the entries of users 0 to 31.
     #[error("a block stands twice in the directory")]
     BlockTwice,
-    /// A block byte of 1 or above 242.
+    /// A block number that is not 0 and not of files: 1 or above 242, on a Megabyte disk 1 to 3 or above 511.
     #[error("a directory entry names a block that holds no files")]
     BlockRange,
-    /// RC above 128, EX above 31, or low six bits of S2 that are not 0.
+    /// RC above 128, EX above 31, or low six bits of S2 that are not 0, on a Megabyte disk above 15.
     #[error("a directory entry has a count out of range")]
     BadEntry,
     /// The user has no file of the name, or none that matches.
@@ -47,12 +47,15 @@ pub enum DiskFault {
     /// The device failed in an earlier call since the disk was mounted.
     #[error("the device has failed")]
     Failed,
-    /// A record above 4,095.
+    /// A record above 4,095, on a Megabyte disk above 65,535.
     #[error("the record is past the last that a file may have")]
     TooFar,
     /// A growth was refused.
     #[error("out of memory")]
     NoMemory,
+    /// A device that has neither 2,002 sectors nor 8,192.
+    #[error("the device has the size of no disk")]
+    WrongSize,
 }
 
 impl From<AllocError> for DiskFault {

@@ -1,6 +1,7 @@
 //! Laws of directories, as functions that do nothing.
 
 ghost use Rattle.std.specs.Prelude.{◌≡◌, List, ℕ, Result, length, ⊤};
+ghost use Rattle.cpm_image.specs.declared.kind.DiskKind.{DiskKind};
 ghost use Rattle.cpm_directory.specs.Types.{DiskFault, Entry};
 ghost use Rattle.cpm_directory.specs.Entries.{bytes_of, entry_of};
 ghost use Rattle.cpm_directory.specs.Letters.{letters};
@@ -21,7 +22,7 @@ pub fn is_name(name: &Name)
     let _bytes = name.bytes();
 }
 
-/// A directory is judged in one way: it keeps its rules, or it has one first fault.
+/// A directory of a kind of disk is judged in one way: it keeps its rules, or it has one first fault.
 pub fn one_judgement()
-    ensures { (entries : List Entry) (a b : Result ⊤ DiskFault) → IsJudged entries a → IsJudged entries b → a ≡ b }
+    ensures { (kind : DiskKind) (entries : List Entry) (a b : Result ⊤ DiskFault) → IsJudged kind entries a → IsJudged kind entries b → a ≡ b }
 {}

@@ -1,4 +1,4 @@
-//! The directory of a CP/M 2.2 disk, eight inch single density: its entries, the rules that it keeps, and what is
+//! The directory of a CP/M 2.2 disk of either kind: its entries, the rules that it keeps, and what is
 //! looked for in it.
 #![tactic(auto)]
 
@@ -6,7 +6,6 @@ mod blocks;
 mod entry;
 mod fault;
 mod file;
-mod format;
 pub mod laws;
 mod listing;
 mod name;
@@ -17,7 +16,6 @@ mod searches;
 pub use blocks::free_block;
 pub use entry::Entry;
 pub use fault::DiskFault;
-pub use format::{BLOCK_COUNT, ENTRY_COUNT, FIRST_BLOCK};
 pub use listing::{Listed, list};
 pub use name::Name;
 pub use pattern::Pattern;

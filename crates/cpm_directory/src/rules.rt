@@ -1,40 +1,47 @@
 //! The rules that a directory keeps.
 
 ghost use Rattle.std.specs.Prelude.{◌≡◌, ◌↔◌, IfErr, IfOk, IsTrue, MatchBool, true};
-ghost use Rattle.cpm_directory.specs.Entries.{is_extent};
+ghost use Rattle.cpm_directory.specs.Entries.{blocks_of, is_extent};
 ghost use Rattle.cpm_directory.specs.Private.Marks.{AddsMarks, AreMarks};
 ghost use Rattle.cpm_directory.specs.Rules.{AreBlocks, HasOwnName, IsBlock, IsEntryJudged, IsGood, IsJudged, IsRuleFault};
 
 use crate::blocks::{Marks, mark};
-use crate::format::{BLOCK_COUNT, FIRST_BLOCK};
 use crate::{DiskFault, Entry, Name};
+use cpm_image::DiskKind;
 
 /// The most records of an extent.
 const MOST_RECORDS: u8 = 128;
-/// The greatest number of an extent.
+/// The greatest EX.
 const LAST_EXTENT: u8 = 31;
 /// S2 counts in its low six bits.
 const COUNTS: u8 = 64;
 
 /// Whether an entry's counts are in range.
-fn is_good(entry: &Entry) -> bool
-    ensures { IsTrue result ↔ IsGood entry.now }
+fn is_good(kind: DiskKind, entry: &Entry) -> bool
+    ensures { IsTrue result ↔ IsGood kind entry.now }
 {
-    entry.records <= MOST_RECORDS && entry.extent <= LAST_EXTENT && entry.s2 % COUNTS == 0
+    entry.records <= MOST_RECORDS
+        && entry.extent <= LAST_EXTENT
+        && entry.s2 % COUNTS <= kind.last_high()
 }
 
-/// Whether a byte is 0 or a block of files.
-fn is_block(byte: u8) -> bool
-    ensures { IsTrue result ↔ IsBlock byte }
+/// Whether a number is 0 or a block of files.
+fn is_block(kind: DiskKind, number: u16) -> bool
+    ensures { IsTrue result ↔ IsBlock kind number }
 {
-    byte == 0 || FIRST_BLOCK <= byte && byte < BLOCK_COUNT
+    number == 0 || kind.first_block() <= number && number < kind.block_count()
 }
 
 /// Whether the blocks of an entry are blocks of files, or 0.
-fn are_blocks(entry: &Entry) -> bool
-    ensures { MatchBool result (AreBlocks entry.now) (¬ AreBlocks entry.now) }
+fn are_blocks(kind: DiskKind, entry: &Entry) -> bool
+    ensures { MatchBool result (AreBlocks kind entry.now) (¬ AreBlocks kind entry.now) }
 {
-    entry.blocks.iter().all(|byte| is_block(*byte))
+    for group in 0..entry.block_total(kind) {
+        if !is_block(kind, entry.block(kind, group)) {
+            return false;
+        }
+    }
+    true
 }
 
 /// Whether none of these is the same extent of the same file.
@@ -43,24 +50,32 @@ fn has_own_name(before: &[Entry], entry: &Entry) -> bool
     ensures { MatchBool result (HasOwnName before.now entry.now) (¬ HasOwnName before.now entry.now) }
 {
     let name = Name::new(entry.name);
-    !before.iter().any(|other| other.is_extent_of(entry.user, &name, entry.extent))
+    let number = entry.extent_number();
+    !before
+        .iter()
+        .any(|other| other.is_extent_of(entry.user, &name, number))
 }
 
 /// Judges an entry after those before it, and marks its blocks.
-fn judge_entry(marks: &mut Marks, before: &[Entry], entry: &Entry) -> Result<(), DiskFault>
-    requires marks { AreMarks marks.old before.now }
+fn judge_entry(
+    marks: &mut Marks,
+    kind: DiskKind,
+    before: &[Entry],
+    entry: &Entry,
+) -> Result<(), DiskFault>
+    requires marks { AreMarks kind marks.old before.now }
     requires extent { is_extent entry.now ≡ true }
-    ensures judged { IsEntryJudged before.now entry.now result }
+    ensures judged { IsEntryJudged kind before.now entry.now result }
     ensures refusals { IfErr result IsRuleFault }
-    ensures marked { IfOk result (λ _. AddsMarks marks.old marks.new entry.now.blocks) }
+    ensures marked { IfOk result (λ _. AddsMarks marks.old marks.new (blocks_of kind entry.now)) }
 {
-    if !is_good(entry) {
+    if !is_good(kind, entry) {
         return Err(DiskFault::BadEntry);
     }
-    if !are_blocks(entry) {
+    if !are_blocks(kind, entry) {
         return Err(DiskFault::BlockRange);
     }
-    if !mark(marks, &entry.blocks) {
+    if !mark(marks, kind, entry) {
         return Err(DiskFault::BlockTwice);
     }
     if !has_own_name(before, entry) {
@@ -75,14 +90,14 @@ fn judge_entry(marks: &mut Marks, before: &[Entry], entry: &Entry) -> Result<(),
 ///
 /// The first rule that the first bad entry breaks: [`DiskFault::BadEntry`], [`DiskFault::BlockRange`],
 /// [`DiskFault::BlockTwice`], [`DiskFault::NameTwice`].
-pub fn judge(entries: &[Entry]) -> Result<(), DiskFault>
-    ensures judged { IsJudged entries.now result }
+pub fn judge(kind: DiskKind, entries: &[Entry]) -> Result<(), DiskFault>
+    ensures judged { IsJudged kind entries.now result }
     ensures refusals { IfErr result IsRuleFault }
 {
-    let mut marks = [false; 256];
+    let mut marks = [false; 512];
     for (number, entry) in entries.iter().enumerate() {
         if entry.is_extent() {
-            judge_entry(&mut marks, &entries[..number], entry)?;
+            judge_entry(&mut marks, kind, &entries[..number], entry)?;
         }
     }
     Ok(())

@@ -1,6 +1,8 @@
 //! What is looked for in a directory.
 
 ghost use Rattle.std.specs.Prelude.{◌≡◌, ◌<◌, ◌≤◌, IfSome, length, position};
+ghost use Rattle.cpm_image.specs.Kind.{file_records};
+ghost use Rattle.cpm_image.specs.declared.kind.DiskKind.{DiskKind};
 ghost use Rattle.cpm_directory.specs.Entries.{is_exact_match, is_extent_of};
 ghost use Rattle.cpm_directory.specs.Rules.{IsSound};
 ghost use Rattle.cpm_directory.specs.Searches.{file_is_read_only, file_is_system, found_from, free_entry, is_file, size};
@@ -44,7 +46,7 @@ fn numbered(position: Option<usize>) -> Option<u16>
 }
 
 /// The number of the entry of a file's extent.
-pub fn position_of(entries: &[Entry], user: u8, name: &Name, number: u8) -> Option<u16>
+pub fn position_of(entries: &[Entry], user: u8, name: &Name, number: u16) -> Option<u16>
     requires { length entries.now ≤ 65536 }
     ensures found { result ≡ position (is_extent_of user name.now number) entries.now }
     ensures within { IfSome result (λ k. k < length entries.now) }
@@ -91,11 +93,11 @@ pub fn find(entries: &[Entry], user: u8, pattern: &Pattern, from: u16) -> Option
 /// How many records a file has up to its last, written or not. `None` where there is no such file.
 pub fn size(entries: &[Entry], user: u8, name: &Name) -> Option<u32>
     ensures size { result ≡ size user name.now entries.now }
-    ensures most { user < 32 → IsSound entries.now → IfSome result (λ n. n ≤ 4096) }
+    ensures most { (kind : DiskKind) → user < 32 → IsSound kind entries.now → IfSome result (λ n. n ≤ file_records kind) }
 {
     entries
         .iter()
         .filter(|entry| entry.is_of(user, name))
-        .map(|entry| 128 * u32::from(entry.extent) + u32::from(entry.records))
+        .map(|entry| entry.record_end())
         .max()
 }

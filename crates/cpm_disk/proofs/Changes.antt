@@ -1,5 +1,7 @@
 -- The entries of a directory, changed one after the other.
 use Rattle.std.proofs.Common.{◌≡◌, ◌⊎◌, ◌<◌, ◌≤◌, ◌+◌, ℕ, zero, suc, List, [], ◌∷◌, ◌++◌, length, map, take, drop, slice_set, get_or, refl, sym, ap, subst, ◌∙◌, inl, inr, arith, take_all, drop_of_length-le, append-nil, length-set}
+use Rattle.cpm_image.specs.Kind.{entry_count, sector_count}
+use Rattle.cpm_image.specs.declared.kind.DiskKind.{DiskKind}
 use Rattle.std.proofs.lemmas.List.{get_or_default, set-get_or}
 use Rattle.std.proofs.lemmas.List.Edits.{map_over_more}
 use Rattle.cpm_directory.specs.declared.entry.Entry.{Entry}
@@ -15,15 +17,15 @@ use Rattle.cpm_disk.proofs.Places.{same_all, then_same}
 abbrev pub IsPart : (Entry → Entry) → List Entry → ℕ → List Entry → Type 0
 IsPart f first number entries = entries ≡ map f (take number first) ++ drop number first
 
-pub record Changing (change : Change) (before image : Image) (first entries : List Entry) (number : ℕ) : Type 0 where
-  pub count : length image ≡ 2002
-  pub size : length entries ≡ 64
+pub record Changing (kind : DiskKind) (change : Change) (before image : Image) (first entries : List Entry) (number : ℕ) : Type 0 where
+  pub count : length image ≡ sector_count kind
+  pub size : length entries ≡ entry_count kind
   pub part : IsPart (after change) first number entries
-  pub directory_is : directory image ≡ entries
-  pub rest : SameBut IsOfDirectory before image
+  pub directory_is : directory kind image ≡ entries
+  pub rest : SameBut kind (IsOfDirectory kind) before image
 
-pub start : (change : Change) (image : Image) (entries : List Entry) → length image ≡ 2002 → length entries ≡ 64 → directory image ≡ entries → Changing change image image entries entries 0
-start change image entries count size is = record { count = count; size = size; part = refl; directory_is = is; rest = same_all IsOfDirectory image }
+pub start : (kind : DiskKind) (change : Change) (image : Image) (entries : List Entry) → length image ≡ sector_count kind → length entries ≡ entry_count kind → directory kind image ≡ entries → Changing kind change image image entries entries 0
+start kind change image entries count size is = record { count = count; size = size; part = refl; directory_is = is; rest = same_all kind (IsOfDirectory kind) image }
 
 -- at each number the entry is as at first or changed
 part_at : (f : Entry → Entry) (first : List Entry) (number k : ℕ) → (at (map f (take number first) ++ drop number first) k ≡ at first k) ⊎ (at (map f (take number first) ++ drop number first) k ≡ at (map f first) k)
@@ -43,8 +45,8 @@ more f first entries number e below part is within = map_over_more f first entri
 kept : (entries : List Entry) (number : ℕ) (e : Entry) → e ≡ at entries number → slice_set entries number e ≡ entries
 kept entries number e is = ap (slice_set entries number) is ∙ set-get_or entries number blank
 
-pub passed : (change : Change) (before image : Image) (first entries : List Entry) (number : ℕ) (e : Entry) → length first ≡ 64 → number < 64 → e ≡ at entries number → after change e ≡ e → Changing change before image first entries number → Changing change before image first entries (number + 1)
-passed change before image first entries number e long below is not_it so_far = record {
+pub passed : (kind : DiskKind) (change : Change) (before image : Image) (first entries : List Entry) (number : ℕ) (e : Entry) → length first ≡ entry_count kind → number < entry_count kind → e ≡ at entries number → after change e ≡ e → Changing kind change before image first entries number → Changing kind change before image first entries (number + 1)
+passed kind change before image first entries number e long below is not_it so_far = record {
   count = so_far.count;
   size = so_far.size;
   part = (
@@ -53,30 +55,30 @@ passed change before image first entries number e long below is not_it so_far = 
   rest = so_far.rest;
 }
 
-pub stepped : (change : Change) (before image new : Image) (first entries : List Entry) (number : ℕ) (e x : Entry) → length first ≡ 64 → number < 64 → e ≡ at entries number → after change e ≡ x → Changing change before image first entries number → Changed image new (slice_set entries number (x)) → Changing change before new first (slice_set entries number (x)) (number + 1)
-stepped change before image new first entries number e x long below is it so_far made = record {
+pub stepped : (kind : DiskKind) (change : Change) (before image new : Image) (first entries : List Entry) (number : ℕ) (e x : Entry) → length first ≡ entry_count kind → number < entry_count kind → e ≡ at entries number → after change e ≡ x → Changing kind change before image first entries number → Changed kind image new (slice_set entries number (x)) → Changing kind change before new first (slice_set entries number (x)) (number + 1)
+stepped kind change before image new first entries number e x long below is it so_far made = record {
   count = made.rest.count ∙ so_far.count;
   size = length-set entries number (x) ∙ so_far.size;
   part = (
       sym (ap (slice_set entries number) it) ∙ more (after change) first entries number e (let long_too = so_far.size in omega arith) so_far.part is (let long_too = so_far.size in omega arith));
   directory_is = made.entries_are;
-  rest = then_same IsOfDirectory IsOfDirectory before image new (λ n of. of) so_far.rest made.rest;
+  rest = then_same kind (IsOfDirectory kind) (IsOfDirectory kind) before image new (λ n of. of) so_far.rest made.rest;
 }
 
-stopped_at : (change : Change) (before image : Image) (first entries : List Entry) (number : ℕ) → directory before ≡ first → Changing change before image first entries number → PartlyChanged before image (map (after change) first)
-stopped_at change before image first entries number was so_far = record {
-  between = subst (λ es. IsBetween es (map (after change) first) (directory image)) (sym was) (subst (IsBetween first (map (after change) first)) (sym so_far.directory_is) (between (after change) first entries number so_far.part));
+stopped_at : (kind : DiskKind) (change : Change) (before image : Image) (first entries : List Entry) (number : ℕ) → directory kind before ≡ first → Changing kind change before image first entries number → PartlyChanged kind before image (map (after change) first)
+stopped_at kind change before image first entries number was so_far = record {
+  between = subst (λ es. IsBetween es (map (after change) first) (directory kind image)) (sym was) (subst (IsBetween first (map (after change) first)) (sym so_far.directory_is) (between (after change) first entries number so_far.part));
   rest = so_far.rest;
 }
 
 -- a device that failed left this entry as before or as it was to be
-pub halted : (change : Change) (before image new : Image) (first entries : List Entry) (number : ℕ) (e x : Entry) → length first ≡ 64 → number < 64 → directory before ≡ first → e ≡ at entries number → after change e ≡ x → Changing change before image first entries number
-    → (new ≡ image) ⊎ Changed image new (slice_set entries number (x)) → PartlyChanged before new (map (after change) first)
-halted change before image new first entries number e x long below was is it so_far (inl same) = subst (λ i. PartlyChanged before i (map (after change) first)) (sym same) (stopped_at change before image first entries number was so_far)
-halted change before image new first entries number e x long below was is it so_far (inr made) = stopped_at change before new first (slice_set entries number (x)) (number + 1) was (stepped change before image new first entries number e x long below is it so_far made)
+pub halted : (kind : DiskKind) (change : Change) (before image new : Image) (first entries : List Entry) (number : ℕ) (e x : Entry) → length first ≡ entry_count kind → number < entry_count kind → directory kind before ≡ first → e ≡ at entries number → after change e ≡ x → Changing kind change before image first entries number
+    → (new ≡ image) ⊎ Changed kind image new (slice_set entries number (x)) → PartlyChanged kind before new (map (after change) first)
+halted kind change before image new first entries number e x long below was is it so_far (inl same) = subst (λ i. PartlyChanged kind before i (map (after change) first)) (sym same) (stopped_at kind change before image first entries number was so_far)
+halted kind change before image new first entries number e x long below was is it so_far (inr made) = stopped_at kind change before new first (slice_set entries number (x)) (number + 1) was (stepped kind change before image new first entries number e x long below is it so_far made)
 
-pub finished : (change : Change) (before image : Image) (first entries : List Entry) (number : ℕ) → length first ≡ 64 → 64 ≤ number → Changing change before image first entries number → entries ≡ map (after change) first
-finished change before image first entries number long far so_far =
+pub finished : (kind : DiskKind) (change : Change) (before image : Image) (first entries : List Entry) (number : ℕ) → length first ≡ entry_count kind → entry_count kind ≤ number → Changing kind change before image first entries number → entries ≡ map (after change) first
+finished kind change before image first entries number long far so_far =
     so_far.part ∙ ap (λ xs. map (after change) xs ++ drop number first) (take_all number first (omega arith)) ∙ ap (λ xs. map (after change) first ++ xs) (drop_of_length-le first (omega arith)) ∙ append-nil (map (after change) first)
 
 -- what the code reads past the end, where it never reads

@@ -1,9 +1,11 @@
 -- Files that a change of the directory leaves as they were.
 use Rattle.std.proofs.Common.{◌≡◌, ◌⊎◌, ◌<◌, ◌/◌, ◌==◌, ℕ, suc, Bool, true, false, ◌&&◌, ◌||◌, List, [], ◌∷◌, length, find, Option, Some, None, option_map, option_and_then, refl, sym, ap, subst, ◌∙◌, inl, inr, arith, if◌then◌else◌}
+use Rattle.cpm_image.specs.Kind.{block_records, entry_count}
+use Rattle.cpm_image.specs.declared.kind.DiskKind.{DiskKind}
 use Rattle.std.proofs.lemmas.Bool.{and_parts, cases_Bool, eqb-false}
 use Rattle.std.specs.List.{list_any}
 use Rattle.cpm_directory.specs.declared.entry.Entry.{Entry}
-use Rattle.cpm_directory.specs.Entries.{at, block, is_extent_of, is_of, is_read_only, is_system, place_on_disk}
+use Rattle.cpm_directory.specs.Entries.{extent_number, at, block, is_extent_of, is_of, is_read_only, is_system, place_on_disk}
 use Rattle.cpm_operations.proofs.Entries.{found_at}
 use Rattle.cpm_disk.specs.Files.{SameFile, in_block}
 use Rattle.cpm_disk.specs.Image.{Image, directory, disk_record}
@@ -41,38 +43,38 @@ narrower user name q x y (inl same) = inl same
 narrower user name q x y (inr (fails, too)) = inr (ap (λ b. b && q x) fails, ap (λ b. b && q y) too)
 
 -- what an entry stores, where the record that it names is as before
-pub same_stored : (old new : Image) (e : Entry) (i : ℕ) → ((block e (i / 8) ≡ 0 → ⊥) → disk_record new (place_on_disk e i) ≡ disk_record old (place_on_disk e i)) → in_block new i e ≡ in_block old i e
-same_stored old new e i kept = elim (cases_Bool (block e (i / 8) == 0)) as (λ _. in_block new i e ≡ in_block old i e) [
-  | inl none ↦ ap (λ b. if b then None else Some (disk_record new (place_on_disk e i))) none ∙ sym (ap (λ b. if b then None else Some (disk_record old (place_on_disk e i))) none)
-  | inr some ↦ ap (λ b. if b then None else Some (disk_record new (place_on_disk e i))) some
-      ∙ ap (λ bytes. Some bytes) (kept (eqb-false (block e (i / 8)) 0 some))
-      ∙ sym (ap (λ b. if b then None else Some (disk_record old (place_on_disk e i))) some)
+pub same_stored : (kind : DiskKind) (old new : Image) (e : Entry) (i : ℕ) → ((block kind e (i / block_records kind) ≡ 0 → ⊥) → disk_record kind new (place_on_disk kind e i) ≡ disk_record kind old (place_on_disk kind e i)) → in_block kind new i e ≡ in_block kind old i e
+same_stored kind old new e i kept = elim (cases_Bool (block kind e (i / block_records kind) == 0)) as (λ _. in_block kind new i e ≡ in_block kind old i e) [
+  | inl none ↦ ap (λ b. if b then None else Some (disk_record kind new (place_on_disk kind e i))) none ∙ sym (ap (λ b. if b then None else Some (disk_record kind old (place_on_disk kind e i))) none)
+  | inr some ↦ ap (λ b. if b then None else Some (disk_record kind new (place_on_disk kind e i))) some
+      ∙ ap (λ bytes. Some bytes) (kept (eqb-false (block kind e (i / block_records kind)) 0 some))
+      ∙ sym (ap (λ b. if b then None else Some (disk_record kind old (place_on_disk kind e i))) some)
 ]
 
 -- a file whose entries and records are as before
-pub same_file : (old new : Image) (user : ℕ) (name : List ℕ)
-    → ((k : ℕ) → k < 64 → Alike (is_of user name) (at (directory old) k) (at (directory new) k))
-    → ((k i : ℕ) → k < 64 → i < 128 → is_of user name (at (directory old) k) ≡ true → (block (at (directory old) k) (i / 8) ≡ 0 → ⊥) → disk_record new (place_on_disk (at (directory old) k) i) ≡ disk_record old (place_on_disk (at (directory old) k) i))
-    → SameFile old new user name
-same_file old new user name alike kept = record {
+pub same_file : (kind : DiskKind) (old new : Image) (user : ℕ) (name : List ℕ)
+    → ((k : ℕ) → k < entry_count kind → Alike (is_of user name) (at (directory kind old) k) (at (directory kind new) k))
+    → ((k i : ℕ) → k < entry_count kind → i < 128 → is_of user name (at (directory kind old) k) ≡ true → (block kind (at (directory kind old) k) (i / block_records kind) ≡ 0 → ⊥) → disk_record kind new (place_on_disk kind (at (directory kind old) k) i) ≡ disk_record kind old (place_on_disk kind (at (directory kind old) k) i))
+    → SameFile kind old new user name
+same_file kind old new user name alike kept = record {
   counts = λ number. ap (option_map (λ e. e.records)) (found number);
-  records = λ number i below. ap (option_and_then (in_block new i)) (found number) ∙ by_entry number i below (find (is_extent_of user name number) (directory old)) refl;
-  read_only = any_alike (λ e. is_of user name e && is_read_only e) (directory old) (directory new) long (λ k below. narrower user name is_read_only (at (directory old) k) (at (directory new) k) (alike k (within k below)));
-  system = any_alike (λ e. is_of user name e && is_system e) (directory old) (directory new) long (λ k below. narrower user name is_system (at (directory old) k) (at (directory new) k) (alike k (within k below)));
+  records = λ number i below. ap (option_and_then (in_block kind new i)) (found number) ∙ by_entry number i below (find (is_extent_of user name number) (directory kind old)) refl;
+  read_only = any_alike (λ e. is_of user name e && is_read_only e) (directory kind old) (directory kind new) long (λ k below. narrower user name is_read_only (at (directory kind old) k) (at (directory kind new) k) (alike k (within k below)));
+  system = any_alike (λ e. is_of user name e && is_system e) (directory kind old) (directory kind new) long (λ k below. narrower user name is_system (at (directory kind old) k) (at (directory kind new) k) (alike k (within k below)));
 }
   where
-    long : length (directory new) ≡ length (directory old)
-    long = length_directory new ∙ sym (length_directory old)
+    long : length (directory kind new) ≡ length (directory kind old)
+    long = length_directory kind new ∙ sym (length_directory kind old)
 
-    within : (k : ℕ) → k < length (directory old) → k < 64
-    within k below = (let size = length_directory old in omega arith)
+    within : (k : ℕ) → k < length (directory kind old) → k < entry_count kind
+    within k below = (let size = length_directory kind old in omega arith)
 
-    found : (number : ℕ) → find (is_extent_of user name number) (directory new) ≡ find (is_extent_of user name number) (directory old)
-    found number = find_alike (is_extent_of user name number) (directory old) (directory new) long (λ k below. narrower user name (λ e. e.extent == number) (at (directory old) k) (at (directory new) k) (alike k (within k below)))
+    found : (number : ℕ) → find (is_extent_of user name number) (directory kind new) ≡ find (is_extent_of user name number) (directory kind old)
+    found number = find_alike (is_extent_of user name number) (directory kind old) (directory kind new) long (λ k below. narrower user name (λ e. extent_number e == number) (at (directory kind old) k) (at (directory kind new) k) (alike k (within k below)))
 
-    by_entry : (number i : ℕ) → i < 128 → (o : Option Entry) → find (is_extent_of user name number) (directory old) ≡ o → option_and_then (in_block new i) o ≡ option_and_then (in_block old i) o
+    by_entry : (number i : ℕ) → i < 128 → (o : Option Entry) → find (is_extent_of user name number) (directory kind old) ≡ o → option_and_then (in_block kind new i) o ≡ option_and_then (in_block kind old i) o
     by_entry number i below None is = refl
     by_entry number i below (Some e) is =
-        let (k, below_k, is_at, passes) = found_at (is_extent_of user name number) (directory old) e is in
-        let of : is_of user name (at (directory old) k) ≡ true = subst (λ x. is_of user name x ≡ true) is_at (and_parts (is_of user name e) (e.extent == number) passes).0 in
-        same_stored old new e i (λ some. subst (λ x. disk_record new (place_on_disk x i) ≡ disk_record old (place_on_disk x i)) (sym is_at) (kept k i (within k below_k) below of (λ zero_block. some (ap (λ x. block x (i / 8)) is_at ∙ zero_block))))
+        let (k, below_k, is_at, passes) = found_at (is_extent_of user name number) (directory kind old) e is in
+        let of : is_of user name (at (directory kind old) k) ≡ true = subst (λ x. is_of user name x ≡ true) is_at (and_parts (is_of user name e) (extent_number e == number) passes).0 in
+        same_stored kind old new e i (λ some. subst (λ x. disk_record kind new (place_on_disk kind x i) ≡ disk_record kind old (place_on_disk kind x i)) (sym is_at) (kept k i (within k below_k) below of (λ zero_block. some (ap (λ x. block kind x (i / block_records kind)) is_at ∙ zero_block))))

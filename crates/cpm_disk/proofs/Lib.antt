@@ -1,3 +1,4 @@
+pub mod Numbers
 pub mod Chunks
 pub mod Places
 pub mod Outcomes

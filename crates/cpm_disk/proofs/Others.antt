@@ -1,5 +1,9 @@
 -- Files that a call does not name are as before.
 use Rattle.std.proofs.Common.{◌≡◌, ◌≢◌, ◌<◌, ◌≤◌, ◌/◌, ◌%◌, ◌==◌, ℕ, true, false, ◌&&◌, ◌||◌, List, [], ◌∷◌, length, slice_set, get_or-set_same, get_or-set_other, refl, sym, ap, subst, ◌∙◌, inl, inr, arith, if◌then◌else◌, true≢false, eqb-true, nat_eq, Ok}
+use Rattle.cpm_image.specs.Kind.{block_count, block_records, directory_records, entry_count, first_block, record_count}
+use Rattle.cpm_image.specs.declared.kind.DiskKind.{DiskKind}
+use Rattle.cpm_disk.proofs.Numbers.{outside_directory, same_block}
+use Rattle.cpm_operations.proofs.RecordPlaces.{place_within}
 use Rattle.std.proofs.lemmas.Bool.{and_parts, cases_Bool, cases_eq}
 use Rattle.cpm_directory.specs.declared.entry.Entry.{Entry}
 use Rattle.cpm_directory.specs.Entries.{at, blank, block, erased, is_free, is_match, is_of, new_extent, place_on_disk, renamed}
@@ -20,20 +24,21 @@ use Rattle.cpm_disk.proofs.StillMounted.{write_between}
 use Rattle.cpm_disk.proofs.Files.{Alike, same_file}
 
 -- a call that changes the directory alone, in no entry of the file
-pub beside : (old new : Image) (entries : List Entry) (user : ℕ) (name : List ℕ) → user < 32 → IsSound (directory old) → PartlyChanged old new entries
-    → ((k : ℕ) → k < 64 → Alike (is_of user name) (at (directory old) k) (at entries k)) → SameFile old new user name
-beside old new entries user name low sound left alike = same_file old new user name
-    (λ k below. elim (left.between k) as (λ _. Alike (is_of user name) (at (directory old) k) (at (directory new) k)) [
+pub beside : (kind : DiskKind) (old new : Image) (entries : List Entry) (user : ℕ) (name : List ℕ) → user < 32 → IsSound kind (directory kind old) → PartlyChanged kind old new entries
+    → ((k : ℕ) → k < entry_count kind → Alike (is_of user name) (at (directory kind old) k) (at entries k)) → SameFile kind old new user name
+beside kind old new entries user name low sound left alike = same_file kind old new user name
+    (λ k below. elim (left.between k) as (λ _. Alike (is_of user name) (at (directory kind old) k) (at (directory kind new) k)) [
       | inl same ↦ inl same
-      | inr after ↦ subst (Alike (is_of user name) (at (directory old) k)) (sym after) (alike k below)
+      | inr after ↦ subst (Alike (is_of user name) (at (directory kind old) k)) (sym after) (alike k below)
     ])
     (λ k i below low_i of some.
-    let ext = below_extent (at (directory old) k) (let user_is = (of_file user name (at (directory old) k) of).0 in omega arith) in
-    let range : (2 ≤ block (at (directory old) k) (i / 8)) × (block (at (directory old) k) (i / 8) < 243) = elim (sound.blocks k ext (i / 8)) [ inl none ↦ absurd (some none) | inr files ↦ files ] in
-    left.rest.records (place_on_disk (at (directory old) k) i) (omega (arith, range.0, range.1)) (λ in_directory. omega (arith, range.0)))
+    let ext = below_extent (at (directory kind old) k) (let user_is = (of_file user name (at (directory kind old) k) of).0 in omega arith) in
+    let range : (first_block kind ≤ block kind (at (directory kind old) k) (i / block_records kind)) × (block kind (at (directory kind old) k) (i / block_records kind) < block_count kind) = elim (sound.blocks k ext (i / block_records kind)) [ inl none ↦ absurd (some none) | inr files ↦ files ] in
+    let within = place_within kind (block kind (at (directory kind old) k) (i / block_records kind)) i range.0 range.1 in
+    left.rest.records (place_on_disk kind (at (directory kind old) k) i) within.1 (outside_directory kind (place_on_disk kind (at (directory kind old) k) i) within.0))
 
-pub whole_change : (old new : Image) (entries : List Entry) → Changed old new entries → PartlyChanged old new entries
-whole_change old new entries made = record { between = λ k. inr (ap (λ es. at es k) made.entries_are); rest = made.rest }
+pub whole_change : (kind : DiskKind) (old new : Image) (entries : List Entry) → Changed kind old new entries → PartlyChanged kind old new entries
+whole_change kind old new entries made = record { between = λ k. inr (ap (λ es. at es k) made.entries_are); rest = made.rest }
 
 -- an entry of another file, or of none, is not of the file
 pub not_free : (user : ℕ) (name : List ℕ) (e : Entry) → user < 32 → is_free e ≡ true → is_of user name e ≡ false
@@ -58,8 +63,8 @@ put_alike entries number e user name within before after k = elim (cases_eq k nu
   | inr other ↦ inl (get_or-set_other entries number k e blank other)
 ]
 
-pub over_free : (entries : List Entry) (put : ℕ × Entry) (user : ℕ) (name : List ℕ) (other : ℕ) (others : List ℕ) → other < 32 → IsPut entries put → is_of user name put.1 ≡ true → ((other ≡ user) → (others ≡ name) → ⊥) → (k : ℕ) → Alike (is_of other others) (at entries k) (at (slice_set entries put.0 put.1) k)
-over_free entries put user name other others low is_put of apart = put_alike entries put.0 put.1 other others is_put.within (not_free other others (at entries put.0) low is_put.free) (apart_from user name other others put.1 of apart)
+pub over_free : (kind : DiskKind) (entries : List Entry) (put : ℕ × Entry) (user : ℕ) (name : List ℕ) (other : ℕ) (others : List ℕ) → other < 32 → IsPut kind entries put → is_of user name put.1 ≡ true → ((other ≡ user) → (others ≡ name) → ⊥) → (k : ℕ) → Alike (is_of other others) (at entries k) (at (slice_set entries put.0 put.1) k)
+over_free kind entries put user name other others low is_put of apart = put_alike entries put.0 put.1 other others is_put.within (not_free other others (at entries put.0) low is_put.free) (apart_from user name other others put.1 of apart)
 
 -- entries that match a pattern are erased
 pub matches_letters : (pattern name : List ℕ) → name_matches pattern (letters name) ≡ name_matches pattern name
@@ -106,28 +111,29 @@ renamed_alike entries user old new other others low low_other long seven apart_o
     ]
 
 -- a stopped write leaves the records outside the directory and its block
-untouched : (old new : Image) (p : Placement) (i : ℕ) (bytes : List ℕ) → PartlyWritten old new p i bytes → (n : ℕ) → n < 1944 → 16 ≤ n → (IsOfBlock p.block n → ⊥) → disk_record new n ≡ disk_record old n
-untouched old new p i bytes (inl put) n below files beside_it = put.0.rest.records n below (λ of. elim of [ inl in_directory ↦ omega arith | inr in_block ↦ beside_it in_block ])
-untouched old new p i bytes (inr none) n below files beside_it = none.1.records n below beside_it
+untouched : (kind : DiskKind) (old new : Image) (p : Placement) (i : ℕ) (bytes : List ℕ) → PartlyWritten kind old new p i bytes → (n : ℕ) → n < record_count kind → directory_records kind ≤ n → (IsOfBlock kind p.block n → ⊥) → disk_record kind new n ≡ disk_record kind old n
+untouched kind old new p i bytes (inl put) n below files beside_it = put.0.rest.records n below (λ of. elim of [ inl in_directory ↦ outside_directory kind n files in_directory | inr inside ↦ beside_it inside ])
+untouched kind old new p i bytes (inr none) n below files beside_it = none.1.records n below beside_it
 
 -- a record that is written, in a file's entry and in a block that no other has
-pub beside_write : (old new : Image) (p : Placement) (i : ℕ) (bytes : List ℕ) (user : ℕ) (name : List ℕ) (other : ℕ) (others : List ℕ) → other < 32 → IsSound (directory old) → IsKeptBy user name (directory old) p → ((other ≡ user) → (others ≡ name) → ⊥) → PartlyWritten old new p i bytes → SameFile old new other others
-beside_write old new p i bytes user name other others low sound kept apart left = same_file old new other others
-    (λ k below. elim (write_between old new p i bytes left k) as (λ _. Alike (is_of other others) (at (directory old) k) (at (directory new) k)) [
+pub beside_write : (kind : DiskKind) (old new : Image) (p : Placement) (i : ℕ) (bytes : List ℕ) (user : ℕ) (name : List ℕ) (other : ℕ) (others : List ℕ) → other < 32 → IsSound kind (directory kind old) → IsKeptBy kind user name (directory kind old) p → ((other ≡ user) → (others ≡ name) → ⊥) → PartlyWritten kind old new p i bytes → SameFile kind old new other others
+beside_write kind old new p i bytes user name other others low sound kept apart left = same_file kind old new other others
+    (λ k below. elim (write_between kind old new p i bytes left k) as (λ _. Alike (is_of other others) (at (directory kind old) k) (at (directory kind new) k)) [
       | inl same ↦ inl same
-      | inr after ↦ subst (Alike (is_of other others) (at (directory old) k)) (sym after) (put_alike (directory old) p.number p.entry other others kept.within before (apart_from user name other others p.entry kept.of_file apart) k)
+      | inr after ↦ subst (Alike (is_of other others) (at (directory kind old) k)) (sym after) (put_alike (directory kind old) p.number p.entry other others kept.within before (apart_from user name other others p.entry kept.of_file apart) k)
     ])
     (λ k j below low_j of some.
-    let ext = below_extent (at (directory old) k) (let user_is = (of_file other others (at (directory old) k) of).0 in omega arith) in
-    let range : (2 ≤ block (at (directory old) k) (j / 8)) × (block (at (directory old) k) (j / 8) < 243) = elim (sound.blocks k ext (j / 8)) [ inl none ↦ absurd (some none) | inr files ↦ files ] in
-    let elsewhere : k ≢ p.number = λ here. true≢false (sym of ∙ subst (λ n. is_of other others (at (directory old) n) ≡ false) (sym here) before) in
-    let other_block : block (at (directory old) k) (j / 8) ≢ p.block = λ same. kept.apart k (j / 8) elsewhere ext same in
-    untouched old new p i bytes left (place_on_disk (at (directory old) k) j) (omega (arith, range.0, range.1)) (omega (arith, range.0)) (λ in_block. omega (arith, in_block.0, in_block.1)))
+    let ext = below_extent (at (directory kind old) k) (let user_is = (of_file other others (at (directory kind old) k) of).0 in omega arith) in
+    let range : (first_block kind ≤ block kind (at (directory kind old) k) (j / block_records kind)) × (block kind (at (directory kind old) k) (j / block_records kind) < block_count kind) = elim (sound.blocks k ext (j / block_records kind)) [ inl none ↦ absurd (some none) | inr files ↦ files ] in
+    let elsewhere : k ≢ p.number = λ here. true≢false (sym of ∙ subst (λ n. is_of other others (at (directory kind old) n) ≡ false) (sym here) before) in
+    let other_block : block kind (at (directory kind old) k) (j / block_records kind) ≢ p.block = λ same. kept.apart k (j / block_records kind) elsewhere ext same in
+    let within = place_within kind (block kind (at (directory kind old) k) (j / block_records kind)) j range.0 range.1 in
+    untouched kind old new p i bytes left (place_on_disk kind (at (directory kind old) k) j) within.1 within.0 (λ in_it. other_block (same_block kind (block kind (at (directory kind old) k) (j / block_records kind)) p.block j in_it)))
   where
-    before : is_of other others (at (directory old) p.number) ≡ false
-    before = elim kept.was as (λ _. is_of other others (at (directory old) p.number) ≡ false) [
-      | inl of ↦ apart_from user name other others (at (directory old) p.number) of apart
-      | inr free ↦ not_free other others (at (directory old) p.number) low free
+    before : is_of other others (at (directory kind old) p.number) ≡ false
+    before = elim kept.was as (λ _. is_of other others (at (directory kind old) p.number) ≡ false) [
+      | inl of ↦ apart_from user name other others (at (directory kind old) p.number) of apart
+      | inr free ↦ not_free other others (at (directory kind old) p.number) low free
     ]
 
 pub created_entry : (user : ℕ) (name : List ℕ) (entries : List Entry) (put : ℕ × Entry) → creation user name entries ≡ Ok put → put.1 ≡ new_extent user name 0
@@ -137,23 +143,23 @@ created_entry user name entries put is =
     let same : ◌≡◌ {A = ℕ × Entry} (k, new_extent user name 0) put = cc in
     sym (ap (λ (p : ℕ × Entry). p.1) same)
 
-pub create_others : (old new : Image) (user : ℕ) (name : List ℕ) (put : ℕ × Entry) → letters name ≡ name → IsSound (directory old) → IsPut (directory old) put → creation user name (directory old) ≡ Ok put → PartlyChanged old new (slice_set (directory old) put.0 put.1) → OthersAreSame old new (IsFile user name)
-create_others old new user name put seven sound is_put asked left other others low apart =
-    let of : is_of user name put.1 ≡ true = subst (λ e. is_of user name e ≡ true) (sym (created_entry user name (directory old) put asked)) (is_of_file user name (new_extent user name 0) refl seven) in
-    beside old new (slice_set (directory old) put.0 put.1) other others low sound left (λ k _. over_free (directory old) put user name other others low is_put of (λ same_user same_name. apart (same_user, same_name)) k)
+pub create_others : (kind : DiskKind) (old new : Image) (user : ℕ) (name : List ℕ) (put : ℕ × Entry) → letters name ≡ name → IsSound kind (directory kind old) → IsPut kind (directory kind old) put → creation user name (directory kind old) ≡ Ok put → PartlyChanged kind old new (slice_set (directory kind old) put.0 put.1) → OthersAreSame kind old new (IsFile user name)
+create_others kind old new user name put seven sound is_put asked left other others low apart =
+    let of : is_of user name put.1 ≡ true = subst (λ e. is_of user name e ≡ true) (sym (created_entry user name (directory kind old) put asked)) (is_of_file user name (new_extent user name 0) refl seven) in
+    beside kind old new (slice_set (directory kind old) put.0 put.1) other others low sound left (λ k _. over_free kind (directory kind old) put user name other others low is_put of (λ same_user same_name. apart (same_user, same_name)) k)
 
-pub erase_others : (old new : Image) (user : ℕ) (pattern : List ℕ) → user < 32 → IsSound (directory old) → PartlyChanged old new (after_erasure user pattern (directory old)) → OthersAreSame old new (IsMatched user pattern)
-erase_others old new user pattern low_user sound left other others low apart =
-    beside old new (after_erasure user pattern (directory old)) other others low sound left (λ k _. erased_alike (directory old) user pattern other others low_user low (λ same_user matches. apart (same_user, matches)) k)
+pub erase_others : (kind : DiskKind) (old new : Image) (user : ℕ) (pattern : List ℕ) → user < 32 → IsSound kind (directory kind old) → PartlyChanged kind old new (after_erasure user pattern (directory kind old)) → OthersAreSame kind old new (IsMatched user pattern)
+erase_others kind old new user pattern low_user sound left other others low apart =
+    beside kind old new (after_erasure user pattern (directory kind old)) other others low sound left (λ k _. erased_alike (directory kind old) user pattern other others low_user low (λ same_user matches. apart (same_user, matches)) k)
 
-pub rename_others : (old new : Image) (user : ℕ) (from to : List ℕ) → user < 32 → length from ≡ length to → letters to ≡ to → IsSound (directory old) → PartlyChanged old new (after_renaming user from to (directory old)) → OthersAreSame old new (IsEither user from to)
-rename_others old new user from to low_user long seven sound left other others low apart =
-    beside old new (after_renaming user from to (directory old)) other others low sound left
-    (λ k _. renamed_alike (directory old) user from to other others low_user low long seven (λ same_user same_name. apart (same_user, inl same_name)) (λ same_user same_name. apart (same_user, inr same_name)) k)
+pub rename_others : (kind : DiskKind) (old new : Image) (user : ℕ) (from to : List ℕ) → user < 32 → length from ≡ length to → letters to ≡ to → IsSound kind (directory kind old) → PartlyChanged kind old new (after_renaming user from to (directory kind old)) → OthersAreSame kind old new (IsEither user from to)
+rename_others kind old new user from to low_user long seven sound left other others low apart =
+    beside kind old new (after_renaming user from to (directory kind old)) other others low sound left
+    (λ k _. renamed_alike (directory kind old) user from to other others low_user low long seven (λ same_user same_name. apart (same_user, inl same_name)) (λ same_user same_name. apart (same_user, inr same_name)) k)
 
-pub write_others : (old new : Image) (p : Placement) (i : ℕ) (bytes : List ℕ) (user : ℕ) (name : List ℕ) → IsSound (directory old) → IsKeptBy user name (directory old) p → PartlyWritten old new p i bytes → OthersAreSame old new (IsFile user name)
-write_others old new p i bytes user name sound kept left other others low apart =
-    beside_write old new p i bytes user name other others low sound kept (λ same_user same_name. apart (same_user, same_name)) left
+pub write_others : (kind : DiskKind) (old new : Image) (p : Placement) (i : ℕ) (bytes : List ℕ) (user : ℕ) (name : List ℕ) → IsSound kind (directory kind old) → IsKeptBy kind user name (directory kind old) p → PartlyWritten kind old new p i bytes → OthersAreSame kind old new (IsFile user name)
+write_others kind old new p i bytes user name sound kept left other others low apart =
+    beside_write kind old new p i bytes user name other others low sound kept (λ same_user same_name. apart (same_user, same_name)) left
 
-pub whole_write : (old new : Image) (p : Placement) (i : ℕ) (bytes : List ℕ) → Written old new p i bytes → PartlyWritten old new p i bytes
-whole_write old new p i bytes made = inl (made.data_are, λ k. inr (ap (λ es. at es k) made.entries_are))
+pub whole_write : (kind : DiskKind) (old new : Image) (p : Placement) (i : ℕ) (bytes : List ℕ) → Written kind old new p i bytes → PartlyWritten kind old new p i bytes
+whole_write kind old new p i bytes made = inl (made.data_are, λ k. inr (ap (λ es. at es k) made.entries_are))

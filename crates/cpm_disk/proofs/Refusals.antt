@@ -1,5 +1,6 @@
 -- A write that is refused does not blame the device.
 use Rattle.std.proofs.Common.{◌≡◌, ◌%◌, ℕ, false, List, Result, Err, refl}
+use Rattle.cpm_image.specs.Kind.{block_records}
 use Rattle.cpm_directory.specs.declared.fault.DiskFault.{DiskFault}
 use Rattle.cpm_directory.specs.declared.fault.DiskFault.TheVariants as fault
 use Rattle.cpm_operations.specs.Refusals.{RefusesWriting}
@@ -13,7 +14,7 @@ refused faults disk expected finished stopped fault.Fault open_is is refuses = a
 refused faults disk expected finished stopped fault.Failed open_is is refuses = absurd refuses
 refused faults disk expected finished stopped _ open_is is refuses = (open_is, is, refl)
 
-pub write_refused : {S : Type 0} (sectors : S → Image) (faults : S → ℕ) (disk : Mounted S) (user : ℕ) (name : List ℕ) (number : ℕ) (bytes : List ℕ) (e : DiskFault) → disk.failed ≡ false → writing user name number (directory (sectors disk.device)) ≡ Err e → RefusesWriting e → IsWritten sectors faults disk disk user name number bytes (Err e)
+pub write_refused : {S : Type 0} (sectors : S → Image) (faults : S → ℕ) (disk : Mounted S) (user : ℕ) (name : List ℕ) (number : ℕ) (bytes : List ℕ) (e : DiskFault) → disk.failed ≡ false → writing disk.kind user name number (directory disk.kind (sectors disk.device)) ≡ Err e → RefusesWriting e → IsWritten sectors faults disk disk user name number bytes (Err e)
 write_refused sectors faults disk user name number bytes e open_is is refuses =
-    refused {Y = Unit {0}} faults disk (writing user name number (directory (sectors disk.device))) (λ p _. Written (sectors disk.device) (sectors disk.device) p (number % 8) bytes) (λ p. PartlyWritten (sectors disk.device) (sectors disk.device) p (number % 8) bytes)
+    refused {Y = Unit {0}} faults disk (writing disk.kind user name number (directory disk.kind (sectors disk.device))) (λ p _. Written disk.kind (sectors disk.device) (sectors disk.device) p (number % block_records disk.kind) bytes) (λ p. PartlyWritten disk.kind (sectors disk.device) (sectors disk.device) p (number % block_records disk.kind) bytes)
     e open_is is refuses

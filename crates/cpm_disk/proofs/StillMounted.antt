@@ -1,5 +1,7 @@
 -- How calls end.
 use Rattle.std.proofs.Common.{◌≡◌, ◌⊎◌, ℕ, Bool, true, List, ◌++◌, drop, length, slice_set, take, sym, ap, subst, ◌∙◌, inl, inr, take_at, true≢false}
+use Rattle.cpm_image.specs.Kind.{entry_count}
+use Rattle.cpm_image.specs.declared.kind.DiskKind.{DiskKind}
 use Rattle.cpm_directory.specs.declared.entry.Entry.{Entry}
 use Rattle.cpm_directory.specs.Entries.{at}
 use Rattle.cpm_operations.specs.declared.placement.Placement.{Placement}
@@ -9,56 +11,56 @@ use Rattle.cpm_disk.specs.Image.{Image, IsOfDirectory, SameBut, directory}
 use Rattle.cpm_disk.specs.Private.State.{IsMounted}
 use Rattle.cpm_disk.proofs.Places.{same_all}
 
-pub partly : (old new : Image) (entries : List Entry) → (new ≡ old) ⊎ Changed old new entries → PartlyChanged old new entries
-partly old new entries (inl same) = record {
-  between = λ k. inl (ap (λ i. at (directory i) k) same);
-  rest = subst (λ i. SameBut IsOfDirectory old i) (sym same) (same_all IsOfDirectory old);
+pub partly : (kind : DiskKind) (old new : Image) (entries : List Entry) → (new ≡ old) ⊎ Changed kind old new entries → PartlyChanged kind old new entries
+partly kind old new entries (inl same) = record {
+  between = λ k. inl (ap (λ i. at (directory kind i) k) same);
+  rest = subst (λ i. SameBut kind (IsOfDirectory kind) old i) (sym same) (same_all kind (IsOfDirectory kind) old);
 }
-partly old new entries (inr made) = record { between = λ k. inr (ap (λ es. at es k) made.entries_are); rest = made.rest }
+partly kind old new entries (inr made) = record { between = λ k. inr (ap (λ es. at es k) made.entries_are); rest = made.rest }
 
 -- a vector whose elements were all lent is what they are now
 pub whole : (n : ℕ) (new items : List Entry) → length new ≡ n → take n (new ++ drop (length new) items) ≡ new
 whole n new items long = take_at new (drop (length new) items) n long
 
 -- a disk whose entries changed is mounted as before
-pub mounted_changed : (image new : Image) (entries changed items : List Entry) (failed : Bool) → IsMounted image entries failed → StaysSound (directory image) changed → Changed image new changed → items ≡ changed → length changed ≡ 64 → IsMounted new items failed
-mounted_changed image new entries changed items failed was kept made same long = record {
+pub mounted_changed : (kind : DiskKind) (image new : Image) (entries changed items : List Entry) (failed : Bool) → IsMounted kind image entries failed → StaysSound kind (directory kind image) changed → Changed kind image new changed → items ≡ changed → length changed ≡ entry_count kind → IsMounted kind new items failed
+mounted_changed kind image new entries changed items failed was kept made same long = record {
   count = made.rest.count ∙ was.count;
-  sound = kept (directory new) (λ k. inr (ap (λ es. at es k) made.entries_are));
+  sound = kept (directory kind new) (λ k. inr (ap (λ es. at es k) made.entries_are));
   size = ap length same ∙ long;
   entries_are = λ _. same ∙ sym made.entries_are;
 }
 
 -- and one that was stopped keeps the rules
-pub mounted_partly : (image new : Image) (entries changed items : List Entry) (failed : Bool) → IsMounted image entries failed → StaysSound (directory image) changed → PartlyChanged image new changed → length items ≡ 64 → IsMounted new items true
-mounted_partly image new entries changed items failed was kept left long = record {
+pub mounted_partly : (kind : DiskKind) (image new : Image) (entries changed items : List Entry) (failed : Bool) → IsMounted kind image entries failed → StaysSound kind (directory kind image) changed → PartlyChanged kind image new changed → length items ≡ entry_count kind → IsMounted kind new items true
+mounted_partly kind image new entries changed items failed was kept left long = record {
   count = left.rest.count ∙ was.count;
-  sound = kept (directory new) left.between;
+  sound = kept (directory kind new) left.between;
   size = long;
   entries_are = λ failed_is. absurd (true≢false failed_is);
 }
 
 -- what a stopped write leaves of the directory
-pub write_between : (old new : Image) (p : Placement) (i : ℕ) (bytes : List ℕ) → PartlyWritten old new p i bytes → IsBetween (directory old) (slice_set (directory old) p.number p.entry) (directory new)
-write_between old new p i bytes (inl put) = put.1
-write_between old new p i bytes (inr none) = λ k. inl (ap (λ es. at es k) none.0)
+pub write_between : (kind : DiskKind) (old new : Image) (p : Placement) (i : ℕ) (bytes : List ℕ) → PartlyWritten kind old new p i bytes → IsBetween (directory kind old) (slice_set (directory kind old) p.number p.entry) (directory kind new)
+write_between kind old new p i bytes (inl put) = put.1
+write_between kind old new p i bytes (inr none) = λ k. inl (ap (λ es. at es k) none.0)
 
-write_count : (old new : Image) (p : Placement) (i : ℕ) (bytes : List ℕ) → PartlyWritten old new p i bytes → length new ≡ length old
-write_count old new p i bytes (inl put) = put.0.rest.count
-write_count old new p i bytes (inr none) = none.1.count
+write_count : (kind : DiskKind) (old new : Image) (p : Placement) (i : ℕ) (bytes : List ℕ) → PartlyWritten kind old new p i bytes → length new ≡ length old
+write_count kind old new p i bytes (inl put) = put.0.rest.count
+write_count kind old new p i bytes (inr none) = none.1.count
 
-pub mounted_written : (image new : Image) (entries items : List Entry) (failed : Bool) (user : ℕ) (name : List ℕ) (p : Placement) (i : ℕ) (bytes : List ℕ) → IsMounted image entries failed → IsKeptBy user name (directory image) p → Written image new p i bytes → items ≡ slice_set (directory image) p.number p.entry → length items ≡ 64 → IsMounted new items failed
-mounted_written image new entries items failed user name p i bytes was kept made same long = record {
+pub mounted_written : (kind : DiskKind) (image new : Image) (entries items : List Entry) (failed : Bool) (user : ℕ) (name : List ℕ) (p : Placement) (i : ℕ) (bytes : List ℕ) → IsMounted kind image entries failed → IsKeptBy kind user name (directory kind image) p → Written kind image new p i bytes → items ≡ slice_set (directory kind image) p.number p.entry → length items ≡ entry_count kind → IsMounted kind new items failed
+mounted_written kind image new entries items failed user name p i bytes was kept made same long = record {
   count = made.data_are.rest.count ∙ was.count;
-  sound = kept.sound (directory new) (λ k. inr (ap (λ es. at es k) made.entries_are));
+  sound = kept.sound (directory kind new) (λ k. inr (ap (λ es. at es k) made.entries_are));
   size = long;
   entries_are = λ _. same ∙ sym made.entries_are;
 }
 
-pub mounted_partly_written : (image new : Image) (entries items : List Entry) (failed : Bool) (user : ℕ) (name : List ℕ) (p : Placement) (i : ℕ) (bytes : List ℕ) → IsMounted image entries failed → IsKeptBy user name (directory image) p → PartlyWritten image new p i bytes → length items ≡ 64 → IsMounted new items true
-mounted_partly_written image new entries items failed user name p i bytes was kept left long = record {
-  count = write_count image new p i bytes left ∙ was.count;
-  sound = kept.sound (directory new) (write_between image new p i bytes left);
+pub mounted_partly_written : (kind : DiskKind) (image new : Image) (entries items : List Entry) (failed : Bool) (user : ℕ) (name : List ℕ) (p : Placement) (i : ℕ) (bytes : List ℕ) → IsMounted kind image entries failed → IsKeptBy kind user name (directory kind image) p → PartlyWritten kind image new p i bytes → length items ≡ entry_count kind → IsMounted kind new items true
+mounted_partly_written kind image new entries items failed user name p i bytes was kept left long = record {
+  count = write_count kind image new p i bytes left ∙ was.count;
+  sound = kept.sound (directory kind new) (write_between kind image new p i bytes left);
   size = long;
   entries_are = λ failed_is. absurd (true≢false failed_is);
 }

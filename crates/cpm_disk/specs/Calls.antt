@@ -1,6 +1,8 @@
 -- What the calls of a mounted disk answer, and what they leave.
 use Rattle.std.specs.Prelude.{◌≡◌, ◌≢◌, ◌<◌, ◌⊎◌, ◌*◌, ◌+◌, ℕ, Bool, true, false, List, Result, Ok, Err, replicate, slice_set, ⊤, if◌then◌else◌}
 use Rattle.cpm_image.specs.Device.{HasRisen}
+use Rattle.cpm_image.specs.Kind.{block_records}
+use Rattle.cpm_image.specs.declared.kind.DiskKind.{DiskKind}
 use Rattle.cpm_directory.specs.declared.entry.Entry.{Entry}
 use Rattle.cpm_directory.specs.declared.fault.DiskFault.{DiskFault}
 use Rattle.cpm_directory.specs.declared.fault.DiskFault.TheVariants as fault
@@ -8,19 +10,20 @@ use Rattle.cpm_operations.specs.declared.placement.Placement.{Placement}
 use Rattle.cpm_operations.specs.Kept.{IsBetween}
 use Rattle.cpm_disk.specs.Image.{Image, IsOfBlock, IsOfDirectory, SameBut, directory, disk_record}
 
--- A mounted disk: its device, and whether that has failed since.
+-- A mounted disk: its device, its kind, and whether the device has failed since.
 pub record Mounted (S : Type 0) : Type 0 where
   pub device : S
+  pub kind : DiskKind
   pub failed : Bool
 
 -- The answer of a call. What its definition says stands in expected, the first refusal or what is to be done; finished is what
 -- a call has done, by that and its answer, and stopped what it leaves where the device failed. A call succeeds only where the device
--- did not fail in it. Any other refusal changes nothing.
+-- did not fail in it. Any other refusal changes nothing, and no call changes the kind.
 abbrev pub Outcome : {S X Y : Type 0} → (S → ℕ) → Mounted S → Mounted S → Result X DiskFault → (X → Y → Type 0) → (X → Type 0) → Result Y DiskFault → Type 0
 Outcome {X = X} faults old new expected finished stopped (Ok y) =
-    (old.failed ≡ false) × (new.failed ≡ false) × (faults new.device ≡ faults old.device) × (x : X) × (expected ≡ Ok x) × finished x y
+    (old.failed ≡ false) × (new.failed ≡ false) × (new.kind ≡ old.kind) × (faults new.device ≡ faults old.device) × (x : X) × (expected ≡ Ok x) × finished x y
 Outcome {X = X} faults old new expected finished stopped (Err fault.Fault) =
-    (old.failed ≡ false) × (new.failed ≡ true) × HasRisen (faults old.device) (faults new.device) × (x : X) × (expected ≡ Ok x) × stopped x
+    (old.failed ≡ false) × (new.failed ≡ true) × (new.kind ≡ old.kind) × HasRisen (faults old.device) (faults new.device) × (x : X) × (expected ≡ Ok x) × stopped x
 Outcome faults old new expected finished stopped (Err fault.Failed) = (old.failed ≡ true) × (new ≡ old)
 Outcome faults old new expected finished stopped (Err refusal) = (old.failed ≡ false) × (expected ≡ Err refusal) × (new ≡ old)
 
@@ -31,30 +34,30 @@ FailsOr refuses fault.Failed = ⊤
 FailsOr refuses refusal = refuses refusal
 
 -- the directory changed, and nothing else
-pub record Changed (old new : Image) (entries : List Entry) : Type 0 where
-  pub entries_are : directory new ≡ entries
-  pub rest : SameBut IsOfDirectory old new
+pub record Changed (kind : DiskKind) (old new : Image) (entries : List Entry) : Type 0 where
+  pub entries_are : directory kind new ≡ entries
+  pub rest : SameBut kind (IsOfDirectory kind) old new
 
 -- stopped on the way: each entry is as before or as it was to be
-pub record PartlyChanged (old new : Image) (entries : List Entry) : Type 0 where
-  pub between : IsBetween (directory old) entries (directory new)
-  pub rest : SameBut IsOfDirectory old new
+pub record PartlyChanged (kind : DiskKind) (old new : Image) (entries : List Entry) : Type 0 where
+  pub between : IsBetween (directory kind old) entries (directory kind new)
+  pub rest : SameBut kind (IsOfDirectory kind) old new
 
 -- Record i of a block was written. The other records of a new block are zeros.
-pub record HasWritten (old new : Image) (block i : ℕ) (is_new : Bool) (bytes : List ℕ) : Type 0 where
-  pub here : disk_record new (8 * block + i) ≡ bytes
-  pub beside : (j : ℕ) → j < 8 → j ≢ i → disk_record new (8 * block + j) ≡ (if is_new then replicate 128 0 else disk_record old (8 * block + j))
-  pub rest : SameBut (λ n. IsOfDirectory n ⊎ IsOfBlock block n) old new
+pub record HasWritten (kind : DiskKind) (old new : Image) (block i : ℕ) (is_new : Bool) (bytes : List ℕ) : Type 0 where
+  pub here : disk_record kind new (block_records kind * block + i) ≡ bytes
+  pub beside : (j : ℕ) → j < block_records kind → j ≢ i → disk_record kind new (block_records kind * block + j) ≡ (if is_new then replicate 128 0 else disk_record kind old (block_records kind * block + j))
+  pub rest : SameBut kind (λ n. IsOfDirectory kind n ⊎ IsOfBlock kind block n) old new
 
 -- a record was written, and then its entry
-pub record Written (old new : Image) (p : Placement) (i : ℕ) (bytes : List ℕ) : Type 0 where
-  pub data_are : HasWritten old new p.block i p.is_new bytes
-  pub entries_are : directory new ≡ slice_set (directory old) p.number p.entry
+pub record Written (kind : DiskKind) (old new : Image) (p : Placement) (i : ℕ) (bytes : List ℕ) : Type 0 where
+  pub data_are : HasWritten kind old new p.block i p.is_new bytes
+  pub entries_are : directory kind new ≡ slice_set (directory kind old) p.number p.entry
 
 -- Stopped on the way: the record is written and its entry is as before or as it was to be; or the directory is as before, and of a
 -- block that was there the record alone may be written.
-abbrev pub PartlyWritten : Image → Image → Placement → ℕ → List ℕ → Type 0
-PartlyWritten old new p i bytes =
-    (HasWritten old new p.block i p.is_new bytes × IsBetween (directory old) (slice_set (directory old) p.number p.entry) (directory new))
-    ⊎ ((directory new ≡ directory old) × SameBut (λ n. IsOfBlock p.block n) old new
-    × (p.is_new ≡ false → (j : ℕ) → j < 8 → (disk_record new (8 * p.block + j) ≡ disk_record old (8 * p.block + j)) ⊎ ((j ≡ i) × (disk_record new (8 * p.block + j) ≡ bytes))))
+abbrev pub PartlyWritten : DiskKind → Image → Image → Placement → ℕ → List ℕ → Type 0
+PartlyWritten kind old new p i bytes =
+    (HasWritten kind old new p.block i p.is_new bytes × IsBetween (directory kind old) (slice_set (directory kind old) p.number p.entry) (directory kind new))
+    ⊎ ((directory kind new ≡ directory kind old) × SameBut kind (λ n. IsOfBlock kind p.block n) old new
+    × (p.is_new ≡ false → (j : ℕ) → j < block_records kind → (disk_record kind new (block_records kind * p.block + j) ≡ disk_record kind old (block_records kind * p.block + j)) ⊎ ((j ≡ i) × (disk_record kind new (block_records kind * p.block + j) ≡ bytes))))

@@ -1,6 +1,8 @@
 -- The files of an image, as a map from user and name: of each extent the count of its records and the bytes of those in its blocks, and
 -- two attributes. Record i of an extent is there where i is below the count and its block is. (CP/M 2.2 Alteration Guide, the directory.)
 use Rattle.std.specs.Prelude.{◌≡◌, ◌≢◌, ◌<◌, ◌⊎◌, ◌+◌, ◌/◌, ◌%◌, ◌==◌, max, replicate, unwrap_or, ℕ, true, false, List, Option, Some, None, find, if◌then◌else◌, option_and_then, option_map}
+use Rattle.cpm_image.specs.Kind.{block_records}
+use Rattle.cpm_image.specs.declared.kind.DiskKind.{DiskKind}
 use Rattle.cpm_directory.specs.declared.entry.Entry.{Entry}
 use Rattle.cpm_directory.specs.Entries.{block, has_record, is_extent_of, place_on_disk}
 use Rattle.cpm_directory.specs.Letters.{name_matches}
@@ -8,31 +10,31 @@ use Rattle.cpm_directory.specs.Searches.{file_is_read_only, file_is_system}
 use Rattle.cpm_disk.specs.Image.{Image, directory, disk_record}
 
 -- the count of the records of a file's extent
-abbrev pub count_of : Image → ℕ → List ℕ → ℕ → Option ℕ
-count_of image user name number = option_map (λ e. e.records) (find (is_extent_of user name number) (directory image))
+abbrev pub count_of : DiskKind → Image → ℕ → List ℕ → ℕ → Option ℕ
+count_of kind image user name number = option_map (λ e. e.records) (find (is_extent_of user name number) (directory kind image))
 
 -- the bytes in an entry's block for record i, where it has that block, whether or not the record is there
-abbrev pub in_block : Image → ℕ → Entry → Option (List ℕ)
-in_block image i e = if block e (i / 8) == 0 then None else Some (disk_record image (place_on_disk e i))
+abbrev pub in_block : DiskKind → Image → ℕ → Entry → Option (List ℕ)
+in_block kind image i e = if block kind e (i / block_records kind) == 0 then None else Some (disk_record kind image (place_on_disk kind e i))
 
 -- the same of an extent of a file
-abbrev pub block_record : Image → ℕ → List ℕ → ℕ → ℕ → Option (List ℕ)
-block_record image user name number i = option_and_then (in_block image i) (find (is_extent_of user name number) (directory image))
+abbrev pub block_record : DiskKind → Image → ℕ → List ℕ → ℕ → ℕ → Option (List ℕ)
+block_record kind image user name number i = option_and_then (in_block kind image i) (find (is_extent_of user name number) (directory kind image))
 
 -- the bytes of a file's record, where it is there
-abbrev pub file_record : Image → ℕ → List ℕ → ℕ → Option (List ℕ)
-file_record image user name number = option_and_then (λ e. if has_record e (number % 128) then in_block image (number % 128) e else None) (find (is_extent_of user name (number / 128)) (directory image))
+abbrev pub file_record : DiskKind → Image → ℕ → List ℕ → ℕ → Option (List ℕ)
+file_record kind image user name number = option_and_then (λ e. if has_record kind e (number % 128) then in_block kind image (number % 128) e else None) (find (is_extent_of user name (number / 128)) (directory kind image))
 
 -- a file is as before: its extents, their counts and records, and its attributes
-pub record SameFile (old new : Image) (user : ℕ) (name : List ℕ) : Type 0 where
-  pub counts : (number : ℕ) → count_of new user name number ≡ count_of old user name number
-  pub records : (number i : ℕ) → i < 128 → block_record new user name number i ≡ block_record old user name number i
-  pub read_only : file_is_read_only user name (directory new) ≡ file_is_read_only user name (directory old)
-  pub system : file_is_system user name (directory new) ≡ file_is_system user name (directory old)
+pub record SameFile (kind : DiskKind) (old new : Image) (user : ℕ) (name : List ℕ) : Type 0 where
+  pub counts : (number : ℕ) → count_of kind new user name number ≡ count_of kind old user name number
+  pub records : (number i : ℕ) → i < 128 → block_record kind new user name number i ≡ block_record kind old user name number i
+  pub read_only : file_is_read_only user name (directory kind new) ≡ file_is_read_only user name (directory kind old)
+  pub system : file_is_system user name (directory kind new) ≡ file_is_system user name (directory kind old)
 
 -- every file is as before, but for some
-abbrev pub OthersAreSame : Image → Image → (ℕ → List ℕ → Type 0) → Type 0
-OthersAreSame old new named = (user : ℕ) (name : List ℕ) → user < 32 → (named user name → ⊥) → SameFile old new user name
+abbrev pub OthersAreSame : DiskKind → Image → Image → (ℕ → List ℕ → Type 0) → Type 0
+OthersAreSame kind old new named = (user : ℕ) (name : List ℕ) → user < 32 → (named user name → ⊥) → SameFile kind old new user name
 
 -- the file of a user and a name
 abbrev pub IsFile : ℕ → List ℕ → ℕ → List ℕ → Type 0
@@ -47,40 +49,40 @@ abbrev pub IsMatched : ℕ → List ℕ → ℕ → List ℕ → Type 0
 IsMatched user pattern other_user other_name = (other_user ≡ user) × (name_matches pattern other_name ≡ true)
 
 -- a user has no file of a name
-abbrev pub IsNoFile : Image → ℕ → List ℕ → Type 0
-IsNoFile image user name = (number : ℕ) → find (is_extent_of user name number) (directory image) ≡ None
+abbrev pub IsNoFile : DiskKind → Image → ℕ → List ℕ → Type 0
+IsNoFile kind image user name = (number : ℕ) → find (is_extent_of user name number) (directory kind image) ≡ None
 
 -- a file that was made: one extent without records, and no attributes
-pub record IsNewFile (image : Image) (user : ℕ) (name : List ℕ) : Type 0 where
-  pub first : count_of image user name 0 ≡ Some 0
-  pub records : (i : ℕ) → block_record image user name 0 i ≡ None
-  pub others : (number : ℕ) → 0 < number → count_of image user name number ≡ None
-  pub read_only : file_is_read_only user name (directory image) ≡ false
-  pub system : file_is_system user name (directory image) ≡ false
+pub record IsNewFile (kind : DiskKind) (image : Image) (user : ℕ) (name : List ℕ) : Type 0 where
+  pub first : count_of kind image user name 0 ≡ Some 0
+  pub records : (i : ℕ) → block_record kind image user name 0 i ≡ None
+  pub others : (number : ℕ) → 0 < number → count_of kind image user name number ≡ None
+  pub read_only : file_is_read_only user name (directory kind image) ≡ false
+  pub system : file_is_system user name (directory kind image) ≡ false
 
 -- a file under another name: its extents, their counts and records, and its attributes; and no file under the old one
-pub record IsMoved (old new : Image) (user : ℕ) (from to : List ℕ) : Type 0 where
-  pub counts : (number : ℕ) → count_of new user to number ≡ count_of old user from number
-  pub records : (number i : ℕ) → i < 128 → block_record new user to number i ≡ block_record old user from number i
-  pub read_only : file_is_read_only user to (directory new) ≡ file_is_read_only user from (directory old)
-  pub system : file_is_system user to (directory new) ≡ file_is_system user from (directory old)
-  pub gone : IsNoFile new user from
+pub record IsMoved (kind : DiskKind) (old new : Image) (user : ℕ) (from to : List ℕ) : Type 0 where
+  pub counts : (number : ℕ) → count_of kind new user to number ≡ count_of kind old user from number
+  pub records : (number i : ℕ) → i < 128 → block_record kind new user to number i ≡ block_record kind old user from number i
+  pub read_only : file_is_read_only user to (directory kind new) ≡ file_is_read_only user from (directory kind old)
+  pub system : file_is_system user to (directory kind new) ≡ file_is_system user from (directory kind old)
+  pub gone : IsNoFile kind new user from
 
 -- A record of a file was written. The other records of its block are as before, or zeros where the block is new; the rest of the file
 -- is as before.
-pub record HasRecord (old new : Image) (user : ℕ) (name : List ℕ) (number : ℕ) (bytes : List ℕ) : Type 0 where
-  pub count : count_of new user name (number / 128) ≡ Some (max (unwrap_or (count_of old user name (number / 128)) 0) (number % 128 + 1))
-  pub here : block_record new user name (number / 128) (number % 128) ≡ Some bytes
-  pub block : (i : ℕ) → i < 128 → i ≢ number % 128 → i / 8 ≡ number % 128 / 8 → block_record new user name (number / 128) i ≡ Some (unwrap_or (block_record old user name (number / 128) i) (replicate 128 0))
-  pub extent : (i : ℕ) → i < 128 → i / 8 ≢ number % 128 / 8 → block_record new user name (number / 128) i ≡ block_record old user name (number / 128) i
-  pub counts : (other : ℕ) → other ≢ number / 128 → count_of new user name other ≡ count_of old user name other
-  pub records : (other i : ℕ) → other ≢ number / 128 → i < 128 → block_record new user name other i ≡ block_record old user name other i
-  pub read_only : file_is_read_only user name (directory new) ≡ file_is_read_only user name (directory old)
-  pub system : file_is_system user name (directory new) ≡ file_is_system user name (directory old)
+pub record HasRecord (kind : DiskKind) (old new : Image) (user : ℕ) (name : List ℕ) (number : ℕ) (bytes : List ℕ) : Type 0 where
+  pub count : count_of kind new user name (number / 128) ≡ Some (max (unwrap_or (count_of kind old user name (number / 128)) 0) (number % 128 + 1))
+  pub here : block_record kind new user name (number / 128) (number % 128) ≡ Some bytes
+  pub block : (i : ℕ) → i < 128 → i ≢ number % 128 → i / block_records kind ≡ number % 128 / block_records kind → block_record kind new user name (number / 128) i ≡ Some (unwrap_or (block_record kind old user name (number / 128) i) (replicate 128 0))
+  pub extent : (i : ℕ) → i < 128 → i / block_records kind ≢ number % 128 / block_records kind → block_record kind new user name (number / 128) i ≡ block_record kind old user name (number / 128) i
+  pub counts : (other : ℕ) → other ≢ number / 128 → count_of kind new user name other ≡ count_of kind old user name other
+  pub records : (other i : ℕ) → other ≢ number / 128 → i < 128 → block_record kind new user name other i ≡ block_record kind old user name other i
+  pub read_only : file_is_read_only user name (directory kind new) ≡ file_is_read_only user name (directory kind old)
+  pub system : file_is_system user name (directory kind new) ≡ file_is_system user name (directory kind old)
 
 -- A file's records that are there are as before, whole, and so are the counts of its extents and its attributes.
-pub record HasSameRecords (old new : Image) (user : ℕ) (name : List ℕ) : Type 0 where
-  pub counts : (number : ℕ) → count_of new user name number ≡ count_of old user name number
-  pub records : (number : ℕ) → file_record new user name number ≡ file_record old user name number
-  pub read_only : file_is_read_only user name (directory new) ≡ file_is_read_only user name (directory old)
-  pub system : file_is_system user name (directory new) ≡ file_is_system user name (directory old)
+pub record HasSameRecords (kind : DiskKind) (old new : Image) (user : ℕ) (name : List ℕ) : Type 0 where
+  pub counts : (number : ℕ) → count_of kind new user name number ≡ count_of kind old user name number
+  pub records : (number : ℕ) → file_record kind new user name number ≡ file_record kind old user name number
+  pub read_only : file_is_read_only user name (directory kind new) ≡ file_is_read_only user name (directory kind old)
+  pub system : file_is_system user name (directory kind new) ≡ file_is_system user name (directory kind old)

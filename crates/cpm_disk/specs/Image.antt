@@ -1,9 +1,9 @@
 -- A disk's image: its logical records, its directory, and what a change leaves as it was.
 use Rattle.std.specs.Prelude.{◌≡◌, ◌≢◌, ◌<◌, ◌≤◌, ℕ, ◌+◌, ◌*◌, ◌/◌, ◌%◌, List, [], length, map, take, drop, slice_index_or}
 use Rattle.std.specs.List.{range_with_len}
-use Rattle.cpm_image.specs.declared.format.TheConstants.{RECORD_COUNT}
-use Rattle.cpm_image.specs.Skew.{sector}
-use Rattle.cpm_directory.specs.declared.format.TheConstants.{ENTRY_COUNT}
+use Rattle.cpm_image.specs.Kind.{block_records, directory_records, entry_count, record_count}
+use Rattle.cpm_image.specs.Skew.{sector_of}
+use Rattle.cpm_image.specs.declared.kind.DiskKind.{DiskKind}
 use Rattle.cpm_directory.specs.declared.entry.Entry.{Entry}
 use Rattle.cpm_directory.specs.Entries.{entry_of}
 
@@ -11,36 +11,36 @@ use Rattle.cpm_directory.specs.Entries.{entry_of}
 abbrev pub Image : Type 0
 Image = List (List ℕ)
 
--- the bytes of a logical record of the disk
-abbrev pub disk_record : Image → ℕ → List ℕ
-disk_record image n = slice_index_or image (sector n) []
+-- the bytes of a logical record of a disk of a kind
+abbrev pub disk_record : DiskKind → Image → ℕ → List ℕ
+disk_record kind image n = slice_index_or image (sector_of kind n) []
 
--- Blocks 0 and 1 are the directory. Each of its records has four entries.
-abbrev pub entry_at : Image → ℕ → Entry
-entry_at image k = entry_of (take 32 (drop (32 * (k % 4)) (disk_record image (k / 4))))
+-- The first blocks are the directory. Each of its records has four entries.
+abbrev pub entry_at : DiskKind → Image → ℕ → Entry
+entry_at kind image k = entry_of (take 32 (drop (32 * (k % 4)) (disk_record kind image (k / 4))))
 
-unfoldable pub directory : Image → List Entry
-directory image = map (entry_at image) (range_with_len 0 ENTRY_COUNT)
+unfoldable pub directory : DiskKind → Image → List Entry
+directory kind image = map (entry_at kind image) (range_with_len 0 (entry_count kind))
 
 -- the records of the directory
-abbrev pub IsOfDirectory : ℕ → Type 0
-IsOfDirectory n = n < 16
+abbrev pub IsOfDirectory : DiskKind → ℕ → Type 0
+IsOfDirectory kind n = n < directory_records kind
 
 -- the records of a block
-abbrev pub IsOfBlock : ℕ → ℕ → Type 0
-IsOfBlock b n = (8 * b ≤ n) × (n < 8 * b + 8)
+abbrev pub IsOfBlock : DiskKind → ℕ → ℕ → Type 0
+IsOfBlock kind b n = (block_records kind * b ≤ n) × (n < block_records kind * b + block_records kind)
 
--- a sector of the system's tracks, or one of the last six
-abbrev pub HoldsNoRecord : ℕ → Type 0
-HoldsNoRecord s = (n : ℕ) → n < RECORD_COUNT → sector n ≢ s
+-- a sector of the system's tracks, or one of the last six: an eight inch disk has them
+abbrev pub HoldsNoRecord : DiskKind → ℕ → Type 0
+HoldsNoRecord kind s = (n : ℕ) → n < record_count kind → sector_of kind n ≢ s
 
 -- every sector is as before, but for some logical records
-pub record SameBut (P : ℕ → Type 0) (old new : Image) : Type 0 where
+pub record SameBut (kind : DiskKind) (P : ℕ → Type 0) (old new : Image) : Type 0 where
   pub count : length new ≡ length old
-  pub records : (n : ℕ) → n < RECORD_COUNT → (P n → ⊥) → disk_record new n ≡ disk_record old n
-  pub system : (s : ℕ) → HoldsNoRecord s → slice_index_or new s [] ≡ slice_index_or old s []
+  pub records : (n : ℕ) → n < record_count kind → (P n → ⊥) → disk_record kind new n ≡ disk_record kind old n
+  pub system : (s : ℕ) → HoldsNoRecord kind s → slice_index_or new s [] ≡ slice_index_or old s []
 
 -- a write of one logical record
-pub record Wrote (old new : Image) (number : ℕ) (bytes : List ℕ) : Type 0 where
-  pub here : disk_record new number ≡ bytes
-  pub rest : SameBut (λ n. n ≡ number) old new
+pub record Wrote (kind : DiskKind) (old new : Image) (number : ℕ) (bytes : List ℕ) : Type 0 where
+  pub here : disk_record kind new number ≡ bytes
+  pub rest : SameBut kind (λ n. n ≡ number) old new

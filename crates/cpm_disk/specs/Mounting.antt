@@ -1,7 +1,8 @@
 -- What mounting a device answers, and the files of a mounted disk.
-use Rattle.std.specs.Prelude.{◌≡◌, ℕ, true, false, List, Result, Ok, Err, ⊤}
+use Rattle.std.specs.Prelude.{◌≡◌, ℕ, length, true, false, List, Result, Ok, Err, ⊤}
 use Rattle.cpm_image.specs.Device.{HasRisen}
-use Rattle.cpm_directory.specs.declared.entry.Entry.{Entry}
+use Rattle.cpm_image.specs.Kind.{IsDiskSize, sector_count}
+use Rattle.cpm_image.specs.declared.kind.DiskKind.{DiskKind}
 use Rattle.cpm_directory.specs.declared.fault.DiskFault.{DiskFault}
 use Rattle.cpm_directory.specs.declared.fault.DiskFault.TheVariants as fault
 use Rattle.cpm_directory.specs.declared.listing.Listed.{Listed}
@@ -10,15 +11,17 @@ use Rattle.cpm_directory.specs.Searches.{IsListing}
 use Rattle.cpm_disk.specs.Calls.{Mounted}
 use Rattle.cpm_disk.specs.Image.{Image, directory}
 
--- Why a device is not mounted: it failed, or it did not and a growth was refused, or else the directory breaks a rule, and this is its
--- first fault. The numbers are the device's counts of faults.
-abbrev pub IsMountFault : List Entry → ℕ → ℕ → DiskFault → Type 0
-IsMountFault entries before now fault.Fault = HasRisen before now
-IsMountFault entries before now fault.NoMemory = now ≡ before
-IsMountFault entries before now f = (now ≡ before) × IsFirstFault entries f
+-- Why a device is not mounted: it has the size of no disk; or it failed; or it did not and a growth was refused; or else the directory
+-- breaks a rule, and this is its first fault. The numbers are the device's counts of faults.
+abbrev pub IsMountFault : Image → ℕ → ℕ → DiskFault → Type 0
+IsMountFault image before now fault.WrongSize = (now ≡ before) × (IsDiskSize (length image) → ⊥)
+IsMountFault image before now fault.Fault = HasRisen before now × IsDiskSize (length image)
+IsMountFault image before now fault.NoMemory = (now ≡ before) × IsDiskSize (length image)
+IsMountFault image before now f = (now ≡ before) × ((kind : DiskKind) × (length image ≡ sector_count kind) × IsFirstFault kind (directory kind image) f)
 
 -- the faults that mounting may answer
 abbrev pub RefusesMount : DiskFault → Type 0
+RefusesMount fault.WrongSize = ⊤
 RefusesMount fault.Fault = ⊤
 RefusesMount fault.NoMemory = ⊤
 RefusesMount f = IsRuleFault f
@@ -26,12 +29,12 @@ RefusesMount f = IsRuleFault f
 -- A disk is answered where the device did not fail and the directory keeps the rules, else the fault and the device. The device's
 -- sectors are as before.
 abbrev pub IsMountedFrom : {S : Type 0} → (S → Image) → (S → ℕ) → S → Result (Mounted S) (DiskFault × S) → Type 0
-IsMountedFrom sectors faults device (Ok disk) = (disk.failed ≡ false) × (sectors disk.device ≡ sectors device) × (faults disk.device ≡ faults device) × IsSound (directory (sectors device))
-IsMountedFrom sectors faults device (Err back) = (sectors back.1 ≡ sectors device) × IsMountFault (directory (sectors device)) (faults device) (faults back.1) back.0
+IsMountedFrom sectors faults device (Ok disk) = (disk.failed ≡ false) × (sectors disk.device ≡ sectors device) × (faults disk.device ≡ faults device) × (length (sectors device) ≡ sector_count disk.kind) × IsSound disk.kind (directory disk.kind (sectors device))
+IsMountedFrom sectors faults device (Err back) = (sectors back.1 ≡ sectors device) × IsMountFault (sectors device) (faults device) (faults back.1) back.0
 
 -- the listing of a disk's files, unless the device failed before or a growth was refused
 abbrev pub IsListedBy : {S A : Type 0} → (S → Image) → (A → List Listed) → Mounted S → Result A DiskFault → Type 0
-IsListedBy sectors items disk (Ok listed) = (disk.failed ≡ false) × IsListing (directory (sectors disk.device)) (items listed)
+IsListedBy sectors items disk (Ok listed) = (disk.failed ≡ false) × IsListing (directory disk.kind (sectors disk.device)) (items listed)
 IsListedBy sectors items disk (Err fault.Failed) = disk.failed ≡ true
 IsListedBy sectors items disk (Err fault.NoMemory) = disk.failed ≡ false
 IsListedBy sectors items disk (Err _) = ⊥

@@ -1,5 +1,6 @@
 -- Each call of a mounted disk that changes or reads records: what it answers and what it leaves.
 use Rattle.std.specs.Prelude.{◌≡◌, ◌%◌, ℕ, List, Result, slice_set}
+use Rattle.cpm_image.specs.Kind.{block_records}
 use Rattle.cpm_directory.specs.declared.fault.DiskFault.{DiskFault}
 use Rattle.cpm_operations.specs.Steps.{after_erasure, after_renaming, creation, erasure, reading, renaming, writing}
 use Rattle.cpm_disk.specs.Calls.{Changed, Mounted, Outcome, PartlyChanged, PartlyWritten, Written}
@@ -10,9 +11,9 @@ abbrev pub IsCreated : {S : Type 0} → (S → Image) → (S → ℕ) → Mounte
 IsCreated sectors faults old new user name result =
     let before = sectors old.device in
     let now = sectors new.device in
-    Outcome faults old new (creation user name (directory before))
-    (λ put number. (number ≡ put.0) × Changed before now (slice_set (directory before) put.0 put.1))
-    (λ put. PartlyChanged before now (slice_set (directory before) put.0 put.1))
+    Outcome faults old new (creation user name (directory old.kind before))
+    (λ put number. (number ≡ put.0) × Changed old.kind before now (slice_set (directory old.kind before) put.0 put.1))
+    (λ put. PartlyChanged old.kind before now (slice_set (directory old.kind before) put.0 put.1))
     result
 
 -- the entries that match are erased, and their count answered
@@ -20,9 +21,9 @@ abbrev pub IsErased : {S : Type 0} → (S → Image) → (S → ℕ) → Mounted
 IsErased sectors faults old new user pattern result =
     let before = sectors old.device in
     let now = sectors new.device in
-    Outcome faults old new (erasure user pattern (directory before))
-    (λ count number. (number ≡ count) × Changed before now (after_erasure user pattern (directory before)))
-    (λ count. PartlyChanged before now (after_erasure user pattern (directory before)))
+    Outcome faults old new (erasure user pattern (directory old.kind before))
+    (λ count number. (number ≡ count) × Changed old.kind before now (after_erasure user pattern (directory old.kind before)))
+    (λ count. PartlyChanged old.kind before now (after_erasure user pattern (directory old.kind before)))
     result
 
 -- the entries of a file are renamed
@@ -30,16 +31,16 @@ abbrev pub IsRenamed : {S : Type 0} → (S → Image) → (S → ℕ) → Mounte
 IsRenamed sectors faults old new user from to result =
     let before = sectors old.device in
     let now = sectors new.device in
-    Outcome faults old new (renaming user from to (directory before))
-    (λ _ _. Changed before now (after_renaming user from to (directory before)))
-    (λ _. PartlyChanged before now (after_renaming user from to (directory before)))
+    Outcome faults old new (renaming user from to (directory old.kind before))
+    (λ _ _. Changed old.kind before now (after_renaming user from to (directory old.kind before)))
+    (λ _. PartlyChanged old.kind before now (after_renaming user from to (directory old.kind before)))
     result
 
 -- a record is answered, and nothing changes
 abbrev pub IsRead : {S : Type 0} → (S → Image) → (S → ℕ) → Mounted S → Mounted S → ℕ → List ℕ → ℕ → Result (List ℕ) DiskFault → Type 0
 IsRead sectors faults old new user name number result =
-    Outcome faults old new (reading user name number (directory (sectors old.device)))
-    (λ place bytes. (bytes ≡ disk_record (sectors old.device) place) × (sectors new.device ≡ sectors old.device))
+    Outcome faults old new (reading old.kind user name number (directory old.kind (sectors old.device)))
+    (λ place bytes. (bytes ≡ disk_record old.kind (sectors old.device) place) × (sectors new.device ≡ sectors old.device))
     (λ _. sectors new.device ≡ sectors old.device)
     result
 
@@ -48,7 +49,7 @@ abbrev pub IsWritten : {S : Type 0} → (S → Image) → (S → ℕ) → Mounte
 IsWritten sectors faults old new user name number bytes result =
     let before = sectors old.device in
     let now = sectors new.device in
-    Outcome faults old new (writing user name number (directory before))
-    (λ p _. Written before now p (number % 8) bytes)
-    (λ p. PartlyWritten before now p (number % 8) bytes)
+    Outcome faults old new (writing old.kind user name number (directory old.kind before))
+    (λ p _. Written old.kind before now p (number % block_records old.kind) bytes)
+    (λ p. PartlyWritten old.kind before now p (number % block_records old.kind) bytes)
     result

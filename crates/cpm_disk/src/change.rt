@@ -2,15 +2,14 @@
 
 ghost use Rattle.std.specs.Prelude.{◌≡◌, length, map, OnErr, OnOk};
 ghost use Rattle.cpm_image.specs.Device.{HasCause};
-ghost use Rattle.cpm_image.specs.declared.format.TheConstants.{SECTOR_COUNT};
-ghost use Rattle.cpm_directory.specs.declared.format.TheConstants.{ENTRY_COUNT};
+ghost use Rattle.cpm_image.specs.Kind.{entry_count, sector_count};
 ghost use Rattle.cpm_disk.specs.Image.{directory};
 ghost use Rattle.cpm_disk.specs.Calls.{Changed, PartlyChanged};
 ghost use Rattle.cpm_disk.specs.Private.Changes.{after};
 
 use crate::records::store;
-use cpm_directory::{ENTRY_COUNT, Entry, Name};
-use cpm_image::{DeviceFault, Sectors};
+use cpm_directory::{Entry, Name};
+use cpm_image::{DeviceFault, DiskKind, Sectors};
 
 /// What is done to entries.
 #[derive(Clone, Copy, Debug, PartialEq, Eq)]
@@ -48,22 +47,23 @@ impl Change {
 /// Changes the entries, one after the other, here and on the device.
 pub(crate) fn change_all<S: Sectors>(
     device: &mut S,
+    kind: DiskKind,
     entries: &mut [Entry],
     change: &Change,
 ) -> Result<(), DeviceFault>
-    requires count { length (S.sectors device.old) ≡ SECTOR_COUNT }
-    requires size { length entries.old ≡ ENTRY_COUNT }
-    requires entries { directory (S.sectors device.old) ≡ entries.old }
+    requires count { length (S.sectors device.old) ≡ sector_count kind }
+    requires size { length entries.old ≡ entry_count kind }
+    requires entries { directory kind (S.sectors device.old) ≡ entries.old }
     ensures entries { OnOk result (entries.new ≡ map (after change.now) entries.old) }
-    ensures changed { OnOk result (Changed (S.sectors device.old) (S.sectors device.new) entries.new) }
-    ensures stopped { OnErr result (PartlyChanged (S.sectors device.old) (S.sectors device.new) (map (after change.now) entries.old)) }
-    ensures size { length entries.new ≡ ENTRY_COUNT }
+    ensures changed { OnOk result (Changed kind (S.sectors device.old) (S.sectors device.new) entries.new) }
+    ensures stopped { OnErr result (PartlyChanged kind (S.sectors device.old) (S.sectors device.new) (map (after change.now) entries.old)) }
+    ensures size { length entries.new ≡ entry_count kind }
     ensures cause { HasCause (S.faults device.old) (S.faults device.new) result }
 {
-    for number in 0..ENTRY_COUNT {
+    for number in 0..kind.entry_count() {
         let entry = entries[usize::from(number)];
         match change.changed(&entry) {
-            Some(changed) => store(device, entries, number, changed)?,
+            Some(changed) => store(device, kind, entries, number, changed)?,
             None => {}
         }
     }

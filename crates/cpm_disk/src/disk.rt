@@ -12,12 +12,13 @@ use cpm_directory::laws::is_name;
 use cpm_directory::{
     DiskFault, Entry, Listed, Name, Pattern, find, judge, list, position_of, size,
 };
-use cpm_image::Sectors;
+use cpm_image::{DiskKind, Sectors};
 use cpm_operations::{creation, erasure, reading, renaming, writing};
 use std::alloc::Global;
 use std::marker::Model;
 
-/// A mounted disk, eight inch single density: 64 entries, blocks 2 to 242 for files.
+/// A mounted disk. An eight inch one has 64 entries, and blocks 2 to 242 for files; a Megabyte disk has 256 entries, and
+/// blocks 4 to 511.
 ///
 /// Users are 0 to 31. A call that the device fails in answers [`DiskFault::Fault`]. Then each entry of the directory is as
 /// it was before the call or as the call was to leave it, so that the rules of a directory are kept; of records and blocks
@@ -26,6 +27,7 @@ use std::marker::Model;
 #[derive(Drop)]
 pub struct Disk<S: Sectors> {
     device: S,
+    kind: DiskKind,
     entries: Vec<Entry>,
     failed: bool,
 }
@@ -33,20 +35,18 @@ pub struct Disk<S: Sectors> {
 impl<S: Sectors> Model for Disk<S> {
     ghost Value = { Mounted S };
 
-    ghost view = { λ d. record { device = d.device; failed = d.failed } };
+    ghost view = { λ d. record { device = d.device; kind = d.kind; failed = d.failed } };
 
-    ghost invariant = { λ d. IsMounted (S.sectors d.device) d.entries.items d.failed };
+    ghost invariant = { λ d. IsMounted d.kind (S.sectors d.device) d.entries.items d.failed };
 }
 
 impl<S: Sectors> Disk<S> {
     ghost use Rattle.std.specs.Prelude.{◌≡◌, ◌<◌, ◌≤◌, ◌*◌, ◌+◌, ◌%◌, ◌⊎◌, IfErr, IfSome, OnErr, position, Option, None, Result, replicate, length, if◌then◌else◌, slice_set, ℕ, List, Some, true, IfOk, OnOk};
-    ghost use Rattle.cpm_image.specs.declared.format.TheConstants.{SECTOR_COUNT};
-    ghost use Rattle.cpm_directory.specs.declared.format.TheConstants.{ENTRY_COUNT};
+    ghost use Rattle.cpm_image.specs.Kind.{entry_count, file_records, sector_count};
     ghost use Rattle.cpm_directory.specs.Entries.{at, bytes_of, is_extent_of};
     ghost use Rattle.cpm_directory.specs.Letters.{name_matches};
     ghost use Rattle.cpm_directory.specs.Rules.{IsSound};
     ghost use Rattle.cpm_directory.specs.Searches.{found_from, size};
-    ghost use Rattle.cpm_operations.specs.declared.operations.TheConstants.{LAST_RECORD};
     ghost use Rattle.cpm_operations.specs.Refusals.{RefusesCreation, RefusesErasure, RefusesReading, RefusesRenaming, RefusesWriting};
     ghost use Rattle.cpm_disk.specs.Calls.{FailsOr};
     ghost use Rattle.cpm_disk.specs.Files.{HasRecord, HasSameRecords, IsEither, IsFile, IsMatched, IsMoved, IsNewFile, IsNoFile, OthersAreSame, file_record};
@@ -54,22 +54,26 @@ impl<S: Sectors> Disk<S> {
     ghost use Rattle.cpm_disk.specs.Mounting.{IsListedBy, IsMountedFrom, RefusesMount};
     ghost use Rattle.cpm_disk.specs.Operations.{IsCreated, IsErased, IsRead, IsRenamed, IsWritten};
 
-    /// Mounts a device of 2,002 sectors.
+    /// Mounts a device of 2,002 sectors as an eight inch disk, one of 8,192 as a Megabyte disk.
     ///
     /// # Errors
     ///
-    /// [`DiskFault::Fault`] where the device failed, [`DiskFault::NoMemory`]; else of the directory's entries in their order
-    /// the first that breaks a rule, and the first rule that it breaks: [`DiskFault::BadEntry`],
-    /// [`DiskFault::BlockRange`], [`DiskFault::BlockTwice`], [`DiskFault::NameTwice`]. The device comes back with the fault.
+    /// [`DiskFault::WrongSize`] where the device has neither size, before all else. [`DiskFault::Fault`] where the device
+    /// failed, [`DiskFault::NoMemory`]; else of the directory's entries in their order the first that breaks a rule, and the
+    /// first rule that it breaks: [`DiskFault::BadEntry`], [`DiskFault::BlockRange`], [`DiskFault::BlockTwice`],
+    /// [`DiskFault::NameTwice`]. The device comes back with the fault.
     pub fn mount(alloc: Global, mut device: S) -> Result<Disk<S>, (DiskFault, S)>
-        requires { length (S.sectors device) ≡ SECTOR_COUNT }
         ensures done { IsMountedFrom S.sectors S.faults device result }
         ensures refusals { IfErr result (λ back. RefusesMount back.0) }
     {
-        match read_entries(alloc, &mut device) {
-            Ok(entries) => match judge(&entries) {
+        let Some(kind) = DiskKind::of_size(device.len()) else {
+            return Err((DiskFault::WrongSize, device));
+        };
+        match read_entries(alloc, &mut device, kind) {
+            Ok(entries) => match judge(kind, &entries) {
                 Ok(()) => Ok(Disk {
                     device,
+                    kind,
                     entries,
                     failed: false,
                 }),
@@ -82,18 +86,26 @@ impl<S: Sectors> Disk<S> {
     /// Gives the device back, as it stands. It can be mounted again, also after a failure.
     pub fn unmount(self) -> S
         ensures device { result ≡ self.device }
-        ensures count { length (S.sectors result) ≡ SECTOR_COUNT }
-        ensures sound { IsSound (directory (S.sectors result)) }
+        ensures count { length (S.sectors result) ≡ sector_count self.kind }
+        ensures sound { IsSound self.kind (directory self.kind (S.sectors result)) }
     {
         self.device
+    }
+
+    /// The kind of the disk, also after a failure.
+    pub fn kind(&self) -> DiskKind
+        ensures kind { result ≡ self.now.kind }
+        ensures count { length (S.sectors self.now.device) ≡ sector_count self.now.kind }
+    {
+        self.kind
     }
 
     /// The number of the first entry from `from` on that is of the user and matches a pattern, its extent included.
     /// `None` also after a failure.
     pub fn find(&self, user: u8, pattern: &Pattern, from: u16) -> Option<u16>
-        ensures found { result ≡ (if self.now.failed then None else found_from user pattern.now from (directory (S.sectors self.now.device))) }
-        ensures within { IfSome result (λ k. k < ENTRY_COUNT) }
-        ensures sound { IsSound (directory (S.sectors self.now.device)) }
+        ensures found { result ≡ (if self.now.failed then None else found_from user pattern.now from (directory self.now.kind (S.sectors self.now.device))) }
+        ensures within { IfSome result (λ k. k < entry_count self.now.kind) }
+        ensures sound { IsSound self.now.kind (directory self.now.kind (S.sectors self.now.device)) }
     {
         if self.failed {
             return None;
@@ -101,24 +113,24 @@ impl<S: Sectors> Disk<S> {
         find(&self.entries, user, pattern, from)
     }
 
-    /// The number of the entry of a file's extent, of which there is one at the most. A `?` in the name stands for itself.
-    /// `None` also after a failure.
-    pub fn find_extent(&self, user: u8, name: &Name, extent: u8) -> Option<u16>
-        ensures found { result ≡ (if self.now.failed then None else position (is_extent_of user name.now extent) (directory (S.sectors self.now.device))) }
-        ensures within { IfSome result (λ k. k < ENTRY_COUNT) }
-        ensures sound { IsSound (directory (S.sectors self.now.device)) }
+    /// The number of the entry of a file's extent, by the extent's number: EX, and 32 times the low six bits of S2. There is
+    /// one such entry at the most. A `?` in the name stands for itself. `None` also after a failure.
+    pub fn find_extent(&self, user: u8, name: &Name, number: u16) -> Option<u16>
+        ensures found { result ≡ (if self.now.failed then None else position (is_extent_of user name.now number) (directory self.now.kind (S.sectors self.now.device))) }
+        ensures within { IfSome result (λ k. k < entry_count self.now.kind) }
+        ensures sound { IsSound self.now.kind (directory self.now.kind (S.sectors self.now.device)) }
     {
         if self.failed {
             return None;
         }
-        position_of(&self.entries, user, name, extent)
+        position_of(&self.entries, user, name, number)
     }
 
     /// The 32 bytes of an entry. After a failure each is E5H.
     pub fn entry(&self, number: u16) -> [u8; 32]
-        requires { number < ENTRY_COUNT }
-        ensures bytes { result ≡ (if self.now.failed then replicate 32 0xE5 else bytes_of (at (directory (S.sectors self.now.device)) number)) }
-        ensures sound { IsSound (directory (S.sectors self.now.device)) }
+        requires { number < entry_count self.now.kind }
+        ensures bytes { result ≡ (if self.now.failed then replicate 32 0xE5 else bytes_of (at (directory self.now.kind (S.sectors self.now.device)) number)) }
+        ensures sound { IsSound self.now.kind (directory self.now.kind (S.sectors self.now.device)) }
     {
         if self.failed {
             return [0xE5; 32];
@@ -126,11 +138,12 @@ impl<S: Sectors> Disk<S> {
         self.entries[usize::from(number)].to_bytes()
     }
 
-    /// The count of records up to the file's last, written or not: 4,096 at the most. `None` where there is no such file, and after a failure.
+    /// The count of records up to the file's last, written or not: 4,096 at the most, 65,536 on a Megabyte disk. `None` where
+    /// there is no such file, and after a failure.
     pub fn size(&self, user: u8, name: &Name) -> Option<u32>
-        ensures size { result ≡ (if self.now.failed then None else size user name.now (directory (S.sectors self.now.device))) }
-        ensures most { user < 32 → IfSome result (λ n. n ≤ LAST_RECORD + 1) }
-        ensures sound { IsSound (directory (S.sectors self.now.device)) }
+        ensures size { result ≡ (if self.now.failed then None else size user name.now (directory self.now.kind (S.sectors self.now.device))) }
+        ensures most { user < 32 → IfSome result (λ n. n ≤ file_records self.now.kind) }
+        ensures sound { IsSound self.now.kind (directory self.now.kind (S.sectors self.now.device)) }
     {
         if self.failed {
             return None;
@@ -147,10 +160,10 @@ impl<S: Sectors> Disk<S> {
         requires { user < 32 }
         ensures done { IsCreated S.sectors S.faults self.old self.new user name.now result }
         ensures refusals { IfErr result (FailsOr RefusesCreation) }
-        ensures within { IfOk result (λ k. k < ENTRY_COUNT) }
-        ensures made { OnOk result (IsNewFile (S.sectors self.new.device) user name.now) }
-        ensures others { OthersAreSame (S.sectors self.old.device) (S.sectors self.new.device) (IsFile user name.now) }
-        ensures sound { IsSound (directory (S.sectors self.new.device)) }
+        ensures within { IfOk result (λ k. k < entry_count self.old.kind) }
+        ensures made { OnOk result (IsNewFile self.new.kind (S.sectors self.new.device) user name.now) }
+        ensures others { OthersAreSame self.old.kind (S.sectors self.old.device) (S.sectors self.new.device) (IsFile user name.now) }
+        ensures sound { IsSound self.new.kind (directory self.new.kind (S.sectors self.new.device)) }
     {
         if self.failed {
             return Err(DiskFault::Failed);
@@ -158,7 +171,13 @@ impl<S: Sectors> Disk<S> {
         // A law: a file is found by a name whose bytes are below 80H.
         is_name(name);
         let (number, entry) = creation(&self.entries, user, name)?;
-        match store(&mut self.device, &mut self.entries, number, entry) {
+        match store(
+            &mut self.device,
+            self.kind,
+            &mut self.entries,
+            number,
+            entry,
+        ) {
             Ok(()) => Ok(number),
             Err(_) => {
                 self.failed = true;
@@ -177,9 +196,9 @@ impl<S: Sectors> Disk<S> {
         requires { user < 32 }
         ensures done { IsErased S.sectors S.faults self.old self.new user pattern.now.name result }
         ensures refusals { IfErr result (FailsOr RefusesErasure) }
-        ensures gone { OnOk result ((name : List ℕ) → name_matches pattern.now.name name ≡ true → IsNoFile (S.sectors self.new.device) user name) }
-        ensures others { OthersAreSame (S.sectors self.old.device) (S.sectors self.new.device) (IsMatched user pattern.now.name) }
-        ensures sound { IsSound (directory (S.sectors self.new.device)) }
+        ensures gone { OnOk result ((name : List ℕ) → name_matches pattern.now.name name ≡ true → IsNoFile self.new.kind (S.sectors self.new.device) user name) }
+        ensures others { OthersAreSame self.old.kind (S.sectors self.old.device) (S.sectors self.new.device) (IsMatched user pattern.now.name) }
+        ensures sound { IsSound self.new.kind (directory self.new.kind (S.sectors self.new.device)) }
     {
         if self.failed {
             return Err(DiskFault::Failed);
@@ -189,7 +208,7 @@ impl<S: Sectors> Disk<S> {
             user,
             pattern: pattern.name,
         };
-        match change_all(&mut self.device, &mut self.entries, &change) {
+        match change_all(&mut self.device, self.kind, &mut self.entries, &change) {
             Ok(()) => Ok(count),
             Err(_) => {
                 self.failed = true;
@@ -208,9 +227,9 @@ impl<S: Sectors> Disk<S> {
         requires { user < 32 }
         ensures done { IsRenamed S.sectors S.faults self.old self.new user old.now new.now result }
         ensures refusals { IfErr result (FailsOr RefusesRenaming) }
-        ensures moved { OnOk result (IsMoved (S.sectors self.old.device) (S.sectors self.new.device) user old.now new.now) }
-        ensures others { OthersAreSame (S.sectors self.old.device) (S.sectors self.new.device) (IsEither user old.now new.now) }
-        ensures sound { IsSound (directory (S.sectors self.new.device)) }
+        ensures moved { OnOk result (IsMoved self.old.kind (S.sectors self.old.device) (S.sectors self.new.device) user old.now new.now) }
+        ensures others { OthersAreSame self.old.kind (S.sectors self.old.device) (S.sectors self.new.device) (IsEither user old.now new.now) }
+        ensures sound { IsSound self.new.kind (directory self.new.kind (S.sectors self.new.device)) }
     {
         if self.failed {
             return Err(DiskFault::Failed);
@@ -224,7 +243,7 @@ impl<S: Sectors> Disk<S> {
             old: *old,
             new: *new,
         };
-        match change_all(&mut self.device, &mut self.entries, &change) {
+        match change_all(&mut self.device, self.kind, &mut self.entries, &change) {
             Ok(()) => Ok(()),
             Err(_) => {
                 self.failed = true;
@@ -237,8 +256,8 @@ impl<S: Sectors> Disk<S> {
     ///
     /// # Errors
     ///
-    /// In this order: [`DiskFault::Failed`], [`DiskFault::NotFound`], [`DiskFault::TooFar`] above 4,095,
-    /// [`DiskFault::NoExtent`], [`DiskFault::Unwritten`], [`DiskFault::Fault`].
+    /// In this order: [`DiskFault::Failed`], [`DiskFault::NotFound`], [`DiskFault::TooFar`] above 4,095 (65,535 on a
+    /// Megabyte disk), [`DiskFault::NoExtent`], [`DiskFault::Unwritten`], [`DiskFault::Fault`].
     pub fn read_block_of(
         &mut self,
         user: u8,
@@ -248,15 +267,15 @@ impl<S: Sectors> Disk<S> {
         requires { user < 32 }
         ensures done { IsRead S.sectors S.faults self.old self.new user name.now number result }
         ensures refusals { IfErr result (FailsOr RefusesReading) }
-        ensures found { IfOk result (λ bytes. file_record (S.sectors self.old.device) user name.now number ≡ Some bytes) }
-        ensures sound { IsSound (directory (S.sectors self.new.device)) }
+        ensures found { IfOk result (λ bytes. file_record self.old.kind (S.sectors self.old.device) user name.now number ≡ Some bytes) }
+        ensures sound { IsSound self.new.kind (directory self.new.kind (S.sectors self.new.device)) }
     {
         if self.failed {
             return Err(DiskFault::Failed);
         }
-        let place = reading(&self.entries, user, name, number)?;
+        let place = reading(self.kind, &self.entries, user, name, number)?;
         let mut bytes = [0; 128];
-        match read_record(&mut self.device, place, &mut bytes) {
+        match read_record(&mut self.device, self.kind, place, &mut bytes) {
             Ok(()) => Ok(bytes),
             Err(_) => {
                 self.failed = true;
@@ -273,8 +292,8 @@ impl<S: Sectors> Disk<S> {
     /// # Errors
     ///
     /// In this order: [`DiskFault::Failed`], [`DiskFault::NotFound`], [`DiskFault::ReadOnly`], [`DiskFault::TooFar`] above
-    /// 4,095, [`DiskFault::DirectoryFull`] where it needs an extent, [`DiskFault::DiskFull`] where it needs a block,
-    /// [`DiskFault::Fault`].
+    /// 4,095 (65,535 on a Megabyte disk), [`DiskFault::DirectoryFull`] where it needs an extent, [`DiskFault::DiskFull`]
+    /// where it needs a block, [`DiskFault::Fault`].
     pub fn write_block_of(
         &mut self,
         user: u8,
@@ -285,21 +304,22 @@ impl<S: Sectors> Disk<S> {
         requires { user < 32 }
         ensures done { IsWritten S.sectors S.faults self.old self.new user name.now number bytes.now result }
         ensures refusals { IfErr result (FailsOr RefusesWriting) }
-        ensures written { OnOk result (HasRecord (S.sectors self.old.device) (S.sectors self.new.device) user name.now number bytes.now) }
-        ensures stopped { OnErr result (HasSameRecords (S.sectors self.old.device) (S.sectors self.new.device) user name.now
-            ⊎ HasRecord (S.sectors self.old.device) (S.sectors self.new.device) user name.now number bytes.now) }
-        ensures others { OthersAreSame (S.sectors self.old.device) (S.sectors self.new.device) (IsFile user name.now) }
-        ensures sound { IsSound (directory (S.sectors self.new.device)) }
+        ensures written { OnOk result (HasRecord self.old.kind (S.sectors self.old.device) (S.sectors self.new.device) user name.now number bytes.now) }
+        ensures stopped { OnErr result (HasSameRecords self.old.kind (S.sectors self.old.device) (S.sectors self.new.device) user name.now
+            ⊎ HasRecord self.old.kind (S.sectors self.old.device) (S.sectors self.new.device) user name.now number bytes.now) }
+        ensures others { OthersAreSame self.old.kind (S.sectors self.old.device) (S.sectors self.new.device) (IsFile user name.now) }
+        ensures sound { IsSound self.new.kind (directory self.new.kind (S.sectors self.new.device)) }
     {
         if self.failed {
             return Err(DiskFault::Failed);
         }
-        let place = writing(&self.entries, user, name, number)?;
+        let place = writing(self.kind, &self.entries, user, name, number)?;
         match write_all(
             &mut self.device,
+            self.kind,
             &mut self.entries,
             &place,
-            number % 8,
+            number % u32::from(self.kind.block_records()),
             bytes,
         ) {
             Ok(()) => Ok(()),
@@ -316,7 +336,7 @@ impl<S: Sectors> Disk<S> {
     ///
     /// [`DiskFault::Failed`], [`DiskFault::NoMemory`].
     pub fn list(&self, alloc: Global) -> Result<Vec<Listed>, DiskFault>
-        ensures sound { IsSound (directory (S.sectors self.now.device)) }
+        ensures sound { IsSound self.now.kind (directory self.now.kind (S.sectors self.now.device)) }
         ensures listing { IsListedBy S.sectors (λ listed. listed.items) self.now result }
     {
         if self.failed {

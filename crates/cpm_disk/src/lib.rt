@@ -1,4 +1,4 @@
-//! Disks of CP/M 2.2, eight inch single density, as maps of files.
+//! Disks of CP/M 2.2, of two kinds, as maps of files.
 #![tactic(auto)]
 
 mod block;
@@ -8,4 +8,5 @@ mod reader;
 mod records;
 
 pub use cpm_directory::{DiskFault, Listed, Name, Pattern};
+pub use cpm_image::DiskKind;
 pub use disk::Disk;

@@ -1,18 +1,15 @@
 //! Reading of a directory.
 
 ghost use Rattle.std.specs.Prelude.{◌≡◌, IfErr, IfOk, OnOk, length};
-ghost use Rattle.cpm_image.specs.declared.format.TheConstants.{SECTOR_COUNT};
+ghost use Rattle.cpm_image.specs.Kind.{sector_count};
 ghost use Rattle.cpm_directory.specs.declared.fault.DiskFault.TheVariants as DiskFault;
 ghost use Rattle.cpm_disk.specs.Image.{directory};
 ghost use Rattle.cpm_disk.specs.Private.Reading.{Extended, IsReadFault};
 
 use crate::records::read_record;
 use cpm_directory::{DiskFault, Entry};
-use cpm_image::Sectors;
+use cpm_image::{DiskKind, Sectors};
 use std::alloc::Global;
-
-/// Records of the directory.
-const DIRECTORY_RECORDS: u32 = 16;
 
 /// Adds the entries of a record of the directory.
 fn add_entries(entries: &mut Vec<Entry>, bytes: &[u8; 128]) -> Result<(), DiskFault>
@@ -30,17 +27,18 @@ fn add_entries(entries: &mut Vec<Entry>, bytes: &[u8; 128]) -> Result<(), DiskFa
 pub(crate) fn read_entries<S: Sectors>(
     alloc: Global,
     device: &mut S,
+    kind: DiskKind,
 ) -> Result<Vec<Entry>, DiskFault>
-    requires { length (S.sectors device.old) ≡ SECTOR_COUNT }
-    ensures entries { IfOk result (λ entries. entries.items ≡ directory (S.sectors device.old)) }
+    requires { length (S.sectors device.old) ≡ sector_count kind }
+    ensures entries { IfOk result (λ entries. entries.items ≡ directory kind (S.sectors device.old)) }
     ensures kept { S.sectors device.new ≡ S.sectors device.old }
     ensures unfailed { OnOk result (S.faults device.new ≡ S.faults device.old) }
     ensures cause { IfErr result (IsReadFault (S.faults device.old) (S.faults device.new)) }
 {
     let mut entries = Vec::new(alloc);
-    for number in 0..DIRECTORY_RECORDS {
+    for number in 0..kind.directory_records() {
         let mut bytes = [0; 128];
-        if read_record(device, number, &mut bytes).is_err() {
+        if read_record(device, kind, number, &mut bytes).is_err() {
             return Err(DiskFault::Fault);
         }
         add_entries(&mut entries, &bytes)?;

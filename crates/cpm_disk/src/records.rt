@@ -2,14 +2,13 @@
 
 ghost use Rattle.std.specs.Prelude.{◌≡◌, ◌⊎◌, ◌<◌, ◌≤◌, ◌+◌, ◌*◌, ◌/◌, ℕ, drop, length, OnErr, OnOk, slice_set, take};
 ghost use Rattle.cpm_image.specs.Device.{HasCause};
-ghost use Rattle.cpm_image.specs.declared.format.TheConstants.{RECORD_COUNT, SECTOR_COUNT};
-ghost use Rattle.cpm_directory.specs.declared.format.TheConstants.{ENTRY_COUNT};
+ghost use Rattle.cpm_image.specs.Kind.{entry_count, record_count, sector_count};
 ghost use Rattle.cpm_directory.specs.Entries.{at, entry_of};
 ghost use Rattle.cpm_disk.specs.Image.{SameBut, Wrote, directory, disk_record};
 ghost use Rattle.cpm_disk.specs.Calls.{Changed};
 
 use cpm_directory::Entry;
-use cpm_image::{DeviceFault, Sectors, logical};
+use cpm_image::{DeviceFault, DiskKind, Sectors, logical_of};
 
 /// Entries in a record of the directory.
 const ENTRIES_IN_RECORD: usize = 4;
@@ -17,31 +16,33 @@ const ENTRIES_IN_RECORD: usize = 4;
 /// Reads a logical record.
 pub(crate) fn read_record<S: Sectors>(
     device: &mut S,
+    kind: DiskKind,
     number: u32,
     bytes: &mut [u8; 128],
 ) -> Result<(), DeviceFault>
-    requires count { length (S.sectors device.old) ≡ SECTOR_COUNT }
-    requires number { number < RECORD_COUNT }
-    ensures read { OnOk result (bytes.new ≡ disk_record (S.sectors device.old) number) }
+    requires count { length (S.sectors device.old) ≡ sector_count kind }
+    requires number { number < record_count kind }
+    ensures read { OnOk result (bytes.new ≡ disk_record kind (S.sectors device.old) number) }
     ensures kept { S.sectors device.new ≡ S.sectors device.old }
     ensures cause { HasCause (S.faults device.old) (S.faults device.new) result }
 {
-    device.read(logical(number), bytes)
+    device.read(logical_of(kind, number), bytes)
 }
 
 /// Writes a logical record.
 pub(crate) fn write_record<S: Sectors>(
     device: &mut S,
+    kind: DiskKind,
     number: u32,
     bytes: &[u8; 128],
 ) -> Result<(), DeviceFault>
-    requires count { length (S.sectors device.old) ≡ SECTOR_COUNT }
-    requires number { number < RECORD_COUNT }
-    ensures written { OnOk result (Wrote (S.sectors device.old) (S.sectors device.new) number bytes.now) }
-    ensures stopped { OnErr result ((S.sectors device.new ≡ S.sectors device.old) ⊎ Wrote (S.sectors device.old) (S.sectors device.new) number bytes.now) }
+    requires count { length (S.sectors device.old) ≡ sector_count kind }
+    requires number { number < record_count kind }
+    ensures written { OnOk result (Wrote kind (S.sectors device.old) (S.sectors device.new) number bytes.now) }
+    ensures stopped { OnErr result ((S.sectors device.new ≡ S.sectors device.old) ⊎ Wrote kind (S.sectors device.old) (S.sectors device.new) number bytes.now) }
     ensures cause { HasCause (S.faults device.old) (S.faults device.new) result }
 {
-    device.write(logical(number), bytes)
+    device.write(logical_of(kind, number), bytes)
 }
 
 /// The bytes of a record of the directory.
@@ -60,20 +61,21 @@ fn directory_record(entries: &[Entry], record: usize) -> [u8; 128]
 /// Puts an entry into the directory, here and on the device.
 pub(crate) fn store<S: Sectors>(
     device: &mut S,
+    kind: DiskKind,
     entries: &mut [Entry],
     number: u16,
     entry: Entry,
 ) -> Result<(), DeviceFault>
-    requires count { length (S.sectors device.old) ≡ SECTOR_COUNT }
-    requires size { length entries.old ≡ ENTRY_COUNT }
-    requires number { number < ENTRY_COUNT }
-    requires entries { directory (S.sectors device.old) ≡ entries.old }
+    requires count { length (S.sectors device.old) ≡ sector_count kind }
+    requires size { length entries.old ≡ entry_count kind }
+    requires number { number < entry_count kind }
+    requires entries { directory kind (S.sectors device.old) ≡ entries.old }
     ensures entries { entries.new ≡ slice_set entries.old number entry }
-    ensures stored { OnOk result (Changed (S.sectors device.old) (S.sectors device.new) entries.new) }
-    ensures stopped { OnErr result ((S.sectors device.new ≡ S.sectors device.old) ⊎ Changed (S.sectors device.old) (S.sectors device.new) entries.new) }
+    ensures stored { OnOk result (Changed kind (S.sectors device.old) (S.sectors device.new) entries.new) }
+    ensures stopped { OnErr result ((S.sectors device.new ≡ S.sectors device.old) ⊎ Changed kind (S.sectors device.old) (S.sectors device.new) entries.new) }
     ensures cause { HasCause (S.faults device.old) (S.faults device.new) result }
 {
     entries[usize::from(number)] = entry;
     let bytes = directory_record(entries, usize::from(number / 4));
-    write_record(device, u32::from(number / 4), &bytes)
+    write_record(device, kind, u32::from(number / 4), &bytes)
 }

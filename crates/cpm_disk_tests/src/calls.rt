@@ -24,7 +24,14 @@ impl Call {
     {
         match self {
             Call::Create(name) => disk.create(user, &Name::new(name)),
-            Call::Erase(name) => disk.erase(user, &Pattern { name, extent: 0 }),
+            Call::Erase(name) => disk.erase(
+                user,
+                &Pattern {
+                    name,
+                    extent: 0,
+                    high: 0,
+                },
+            ),
             Call::Rename(old, new) => {
                 disk.rename(user, &Name::new(old), &Name::new(new))?;
                 Ok(0)

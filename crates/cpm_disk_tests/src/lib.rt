@@ -5,11 +5,11 @@
 #[cfg(test)]
 mod calls;
 #[cfg(test)]
-mod failing;
-#[cfg(test)]
 mod failures;
 #[cfg(test)]
 mod files;
+#[cfg(test)]
+mod megabyte;
 #[cfg(test)]
 mod mounts;
 #[cfg(test)]

@@ -1,7 +1,7 @@
 //! The rules of a directory, which `mount` judges.
 
-use crate::support::{BLANK, Row, bytes_of_row, mount, put_entry};
-use cpm_disk::DiskFault;
+use crate::support::{BLANK, Row, bytes_of_row, put_entry};
+use cpm_disk::{Disk, DiskFault};
 use cpm_image::MemoryImage;
 use std::alloc::Global;
 use std::process::Abort;
@@ -34,8 +34,9 @@ fn assert_judged(
 ) -> Result<(), Fail> {
     let image = image_of_two(rt, alloc, first, second)?;
     let same = image_of_two(rt, alloc, first, second)?;
-    let (fault, device) = match mount(rt, alloc, image) {
+    let (fault, device) = match Disk::mount(alloc, image) {
         Ok(disk) => {
+            assert!(rt; 14 < disk.kind().entry_count());
             assert_eq!(rt; disk.entry(9), *first);
             assert_eq!(rt; disk.entry(14), *second);
             (None, disk.unmount())

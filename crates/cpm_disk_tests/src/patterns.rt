@@ -11,7 +11,15 @@ const ANY: [u8; 11] = *b"???????????";
 
 /// The number of the first entry from a number on that a pattern finds.
 fn find(disk: &Disk<MemoryImage>, user: u8, name: [u8; 11], extent: u8, from: u16) -> Option<u16> {
-    disk.find(user, &Pattern { name, extent }, from)
+    disk.find(
+        user,
+        &Pattern {
+            name,
+            extent,
+            high: 0,
+        },
+        from,
+    )
 }
 
 #[test]
@@ -65,8 +73,8 @@ fn entries_found(rt: HostRuntime) -> Result<(), Fail> {
 }
 
 /// The number of a file's entry for an extent.
-fn find_extent(disk: &Disk<MemoryImage>, user: u8, name: [u8; 11], extent: u8) -> Option<u16> {
-    disk.find_extent(user, &Name::new(name), extent)
+fn find_extent(disk: &Disk<MemoryImage>, user: u8, name: [u8; 11], number: u16) -> Option<u16> {
+    disk.find_extent(user, &Name::new(name), number)
 }
 
 #[test]

@@ -62,7 +62,7 @@ fn assert_refused(
     why: DiskFault,
 ) -> Result<(), Fail> {
     let (image, same) = images;
-    let mut disk = mounted(rt, alloc, image)?;
+    let mut disk = mounted(alloc, image)?;
     assert_eq!(rt; call.make(&mut disk), Err(why), "{call:?}");
     assert!(rt;
         disk.unmount().sectors() == same.sectors(),
@@ -132,7 +132,7 @@ fn of_a_disk_without_room(rt: HostRuntime) -> Result<(), Fail> {
 
 #[test]
 fn room_that_is_left(rt: HostRuntime) -> Result<(), Fail> {
-    let mut disk = mounted(&rt, rt.alloc(), taken(&rt, rt.alloc(), Some(40))?)?;
+    let mut disk = mounted(rt.alloc(), taken(&rt, rt.alloc(), Some(40))?)?;
     assert_eq!(rt; Call::Write(FILE, 7, 1).make(&mut disk), Ok(0));
     assert_eq!(rt; Call::Read(FILE, 7).make(&mut disk), Ok(1));
     assert_eq!(rt; Call::Create(MISSING).make(&mut disk), Ok(40));

@@ -1,7 +1,7 @@
 //! Images, entries and mounted disks for the tests.
 
-use cpm_disk::{Disk, DiskFault, Name, Pattern};
-use cpm_image::{MemoryImage, Sectors, logical};
+use cpm_disk::{Disk, DiskFault, DiskKind, Name, Pattern};
+use cpm_image::{MemoryImage, Sectors, logical_of};
 use std::alloc::Global;
 use std::process::Abort;
 use std::test::Fail;
@@ -32,8 +32,10 @@ pub fn put_entry(
     at: u16,
     entry: &[u8; 32],
 ) -> Result<(), Fail> {
-    assert!(rt; at < 64);
-    let sector = logical(u32::from(at / 4));
+    let kind = DiskKind::of_size(image.len()).ok_or("no disk")?;
+    let record = u32::from(at / 4);
+    assert!(rt; at < kind.entry_count() && record < kind.record_count());
+    let sector = logical_of(kind, record);
     assert!(rt; sector < image.len());
     let mut bytes = [0; 128];
     image.read(sector, &mut bytes)?;
@@ -43,32 +45,28 @@ pub fn put_entry(
     Ok(())
 }
 
-/// A blank image but for some entries of its directory.
-pub fn image_of(rt: &impl Abort, alloc: Global, rows: &[Row]) -> Result<MemoryImage, Fail> {
-    let mut image = MemoryImage::from_bytes(alloc, &[])?;
+/// A blank image of a kind but for some entries of its directory.
+pub fn image_of_kind(
+    rt: &impl Abort,
+    alloc: Global,
+    kind: DiskKind,
+    rows: &[Row],
+) -> Result<MemoryImage, Fail> {
+    let mut image = MemoryImage::blank(alloc, kind)?;
     for row in rows {
         put_entry(rt, &mut image, row.0, &bytes_of_row(row))?;
     }
     Ok(image)
 }
 
-/// The disk of a device.
-pub fn mount<S: Sectors>(
-    rt: &impl Abort,
-    alloc: Global,
-    device: S,
-) -> Result<Disk<S>, (DiskFault, S)> {
-    assert!(rt; device.len() == 2_002);
-    Disk::mount(alloc, device)
+/// A blank eight inch image but for some entries of its directory.
+pub fn image_of(rt: &impl Abort, alloc: Global, rows: &[Row]) -> Result<MemoryImage, Fail> {
+    image_of_kind(rt, alloc, DiskKind::EightInch, rows)
 }
 
 /// The disk of an image that keeps the rules.
-pub fn mounted(
-    rt: &impl Abort,
-    alloc: Global,
-    image: MemoryImage,
-) -> Result<Disk<MemoryImage>, Fail> {
-    match mount(rt, alloc, image) {
+pub fn mounted(alloc: Global, image: MemoryImage) -> Result<Disk<MemoryImage>, Fail> {
+    match Disk::mount(alloc, image) {
         Ok(disk) => Ok(disk),
         Err((fault, _)) => Err(Fail::from(fault)),
     }
@@ -77,7 +75,7 @@ pub fn mounted(
 /// The disk of a blank image but for some entries.
 pub fn disk_of(rt: &impl Abort, alloc: Global, rows: &[Row]) -> Result<Disk<MemoryImage>, Fail> {
     let image = image_of(rt, alloc, rows)?;
-    mounted(rt, alloc, image)
+    mounted(alloc, image)
 }
 
 /// A copy of an image.
@@ -89,7 +87,7 @@ pub fn copy_of(alloc: Global, image: &MemoryImage) -> Result<MemoryImage, Fail> 
 pub fn assert_entries(rt: &impl Abort, disk: &Disk<MemoryImage>, rows: &[Row]) {
     for row in rows {
         let at = row.0;
-        assert!(rt; at < 64);
+        assert!(rt; at < disk.kind().entry_count());
         assert_eq!(rt; disk.entry(at), bytes_of_row(row), "entry {at}");
     }
 }
@@ -123,5 +121,12 @@ pub fn erase(
     extent: u8,
 ) -> Result<u16, DiskFault> {
     assert!(rt; user < 32);
-    disk.erase(user, &Pattern { name, extent })
+    disk.erase(
+        user,
+        &Pattern {
+            name,
+            extent,
+            high: 0,
+        },
+    )
 }

@@ -2,7 +2,10 @@
 use Rattle.std.proofs.Common.{◌≡◌, ℕ, ◌+◌, ◌-◌, ◌*◌, ◌/◌, ◌%◌, ◌<◌, ◌==◌, Option, Some, refl, ap, sym, ◌∙◌, arith, map, get_or, slice_index, position}
 use Rattle.std.specs.List.{range_with_len}
 use Rattle.std.proofs.lemmas.List.FromFn.{get_or-map-range_with_len}
-use Rattle.cpm_image.specs.Skew.{translate, sector}
+use Rattle.cpm_image.specs.Skew.{translate, sector, sector_of}
+use Rattle.cpm_image.specs.Kind.{record_count}
+use Rattle.cpm_image.specs.declared.kind.DiskKind.{DiskKind}
+use Rattle.cpm_image.specs.declared.kind.DiskKind.TheVariants.{EightInch, Megabyte}
 
 -- Two functions that agree over a list of the numbers below n agree at each of them.
 agree_below : {X : Type 0} (f g : ℕ → X) (n : ℕ) → map f (range_with_len 0 n) ≡ map g (range_with_len 0 n) → (b : ℕ) → b < n → f b ≡ g b
@@ -37,3 +40,7 @@ distinct m n hm hn e =
     let same : place (m % 26) ≡ place (n % 26) = omega arith in
     let places = one_place (m % 26) (n % 26) (omega arith) (omega arith) same in
     omega arith
+
+pub distinct_of : (kind : DiskKind) (m n : ℕ) → m < record_count kind → n < record_count kind → sector_of kind m ≡ sector_of kind n → m ≡ n
+distinct_of EightInch m n hm hn e = distinct m n hm hn e
+distinct_of Megabyte m n hm hn e = e

@@ -1,20 +1,37 @@
--- The image of an eight inch single density disk: its sectors, each of 128 bytes, one after the other.
-use Rattle.std.specs.Prelude.{◌≡◌, ◌≢◌, ◌<◌, ◌≤◌, ◌-◌, ◌*◌, ◌%◌, ℕ, List, ◌++◌, All, length, replicate, Result, Ok, Err}
+-- The image of a disk: its sectors, each of 128 bytes, one after the other.
+use Rattle.std.specs.Prelude.{◌≡◌, ◌≢◌, ◌<◌, ◌≤◌, ◌-◌, ◌*◌, ◌%◌, ◌==◌, ℕ, List, ◌++◌, All, length, replicate, Result, Ok, Err, if◌then◌else◌}
 use Rattle.std.specs.List.{concat}
+use Rattle.cpm_image.specs.Kind.{sector_count}
 use Rattle.cpm_image.specs.declared.fault.ImageFault.{ImageFault}
 use Rattle.cpm_image.specs.declared.fault.ImageFault.TheVariants.{NotSectors, TooLong, NoMemory}
-use Rattle.cpm_image.specs.declared.format.TheConstants.{SECTOR_COUNT}
+use Rattle.cpm_image.specs.declared.kind.DiskKind.{DiskKind}
+use Rattle.cpm_image.specs.declared.kind.DiskKind.TheVariants.{EightInch, Megabyte}
 
--- whole sectors, and no more than a disk has
-abbrev pub AreBytesOfImage : List ℕ → Type 0
-AreBytesOfImage bytes = (length bytes % 128 ≡ 0) × (length bytes ≤ 128 * SECTOR_COUNT)
+-- the bytes of an image of a kind
+abbrev pub byte_count : DiskKind → ℕ
+byte_count kind = 128 * sector_count kind
+
+-- Exactly 1,048,576 bytes are a Megabyte disk; of any other length they are an eight inch one, or none.
+abbrev pub kind_of_bytes : List ℕ → DiskKind
+kind_of_bytes bytes = if length bytes == byte_count Megabyte then Megabyte else EightInch
+
+-- whole sectors, and no more than a disk of the kind has
+abbrev pub AreBytesOfImage : DiskKind → List ℕ → Type 0
+AreBytesOfImage kind bytes = (length bytes % 128 ≡ 0) × (length bytes ≤ byte_count kind)
 
 -- The sectors that bytes hold, filled up with E5H, or the first reason why there are none. Want of memory comes last.
-abbrev pub IsImageOf : List ℕ → Result (List (List ℕ)) ImageFault → Type 0
-IsImageOf bytes (Ok image) = AreBytesOfImage bytes
-    × (length image ≡ SECTOR_COUNT)
+abbrev pub IsImageOfKind : DiskKind → List ℕ → Result (List (List ℕ)) ImageFault → Type 0
+IsImageOfKind kind bytes (Ok image) = AreBytesOfImage kind bytes
+    × (length image ≡ sector_count kind)
     × All (λ sector. length sector ≡ 128) image
-    × (concat image ≡ bytes ++ replicate (128 * SECTOR_COUNT - length bytes) 0xE5)
-IsImageOf bytes (Err NotSectors) = length bytes % 128 ≢ 0
-IsImageOf bytes (Err TooLong) = (length bytes % 128 ≡ 0) × (128 * SECTOR_COUNT < length bytes)
-IsImageOf bytes (Err NoMemory) = AreBytesOfImage bytes
+    × (concat image ≡ bytes ++ replicate (byte_count kind - length bytes) 0xE5)
+IsImageOfKind kind bytes (Err NotSectors) = length bytes % 128 ≢ 0
+IsImageOfKind kind bytes (Err TooLong) = (length bytes % 128 ≡ 0) × (byte_count kind < length bytes)
+IsImageOfKind kind bytes (Err NoMemory) = AreBytesOfImage kind bytes
+
+abbrev pub IsImageOf : List ℕ → Result (List (List ℕ)) ImageFault → Type 0
+IsImageOf bytes result = IsImageOfKind (kind_of_bytes bytes) bytes result
+
+-- an image that was never written
+abbrev pub blank_image : DiskKind → List (List ℕ)
+blank_image kind = replicate (sector_count kind) (replicate 128 0xE5)

@@ -1,3 +1,5 @@
+pub mod Kind
+pub mod Failing
 pub mod Device
 pub mod Skew
 pub mod Image

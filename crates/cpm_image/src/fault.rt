@@ -12,8 +12,8 @@ pub enum ImageFault {
     /// The bytes are no whole number of sectors.
     #[error("the image is not a whole number of 128-byte sectors")]
     NotSectors,
-    /// More than 256,256 bytes.
-    #[error("the image is longer than 256256 bytes")]
+    /// More than 256,256 bytes, and not 1,048,576.
+    #[error("the image is longer than 256256 bytes, and is not of 1048576")]
     TooLong,
     /// A growth was refused.
     #[error("out of memory")]

@@ -1,10 +1,11 @@
 //! Laws about where the records of a disk lie, as functions that do nothing.
 
 ghost use Rattle.std.specs.Prelude.{◌≡◌, ◌<◌, ℕ};
-ghost use Rattle.cpm_image.specs.declared.format.TheConstants.{RECORD_COUNT};
-ghost use Rattle.cpm_image.specs.Skew.{sector};
+ghost use Rattle.cpm_image.specs.Kind.{record_count};
+ghost use Rattle.cpm_image.specs.Skew.{sector_of};
+ghost use Rattle.cpm_image.specs.declared.kind.DiskKind.{DiskKind};
 
-/// No two logical records lie in the same sector.
+/// No two logical records of a disk lie in the same sector.
 pub fn distinct_sectors()
-    ensures { (m n : ℕ) → m < RECORD_COUNT → n < RECORD_COUNT → sector m ≡ sector n → m ≡ n }
+    ensures { (kind : DiskKind) (m n : ℕ) → m < record_count kind → n < record_count kind → sector_of kind m ≡ sector_of kind n → m ≡ n }
 {}

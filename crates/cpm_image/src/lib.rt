@@ -1,16 +1,20 @@
-//! Images of CP/M 2.2 disks, eight inch single density: devices of 128-byte sectors, an image in memory, and where the
-//! logical records of a disk lie in its image.
+//! Images of CP/M 2.2 disks, of two kinds: devices of 128-byte sectors, an image in memory, and where the logical
+//! records of a disk lie in its image.
 #![tactic(auto)]
 
 mod device;
+mod failing;
 mod fault;
 mod format;
+mod kind;
 pub mod laws;
 mod memory;
 mod skew;
 
 pub use device::{DeviceFault, Sectors};
+pub use failing::{FailedWrite, Failing};
 pub use fault::ImageFault;
 pub use format::{RECORD_COUNT, SECTOR_COUNT};
+pub use kind::DiskKind;
 pub use memory::MemoryImage;
-pub use skew::logical;
+pub use skew::{logical, logical_of};

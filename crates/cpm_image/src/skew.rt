@@ -2,7 +2,10 @@
 
 ghost use Rattle.std.specs.Prelude.{◌≡◌, ◌<◌, ◌≤◌, ℕ};
 ghost use Rattle.cpm_image.specs.declared.format.TheConstants.{RECORD_COUNT, SECTOR_COUNT};
-ghost use Rattle.cpm_image.specs.Skew.{sector};
+ghost use Rattle.cpm_image.specs.Kind.{record_count, sector_count};
+ghost use Rattle.cpm_image.specs.Skew.{sector, sector_of};
+
+use crate::kind::DiskKind;
 
 /// Sectors of a track.
 const TRACK: u32 = 26;
@@ -27,4 +30,17 @@ pub fn logical(number: u32) -> u32
     // track lie one sector further on.
     let place = STEP * turn % TRACK + turn / (TRACK / 2);
     TRACK * (SYSTEM_TRACKS + number / TRACK) + place
+}
+
+/// The sector of the image, counted from 0, that holds a logical record of a disk of a kind.
+pub fn logical_of(kind: DiskKind, number: u32) -> u32
+    requires { number < record_count kind }
+    ensures sector { result ≡ sector_of kind number }
+    ensures within { result < sector_count kind }
+    ensures distinct { (m : ℕ) → m < record_count kind → sector_of kind m ≡ sector_of kind number → m ≡ number }
+{
+    match kind {
+        DiskKind::EightInch => logical(number),
+        DiskKind::Megabyte => number,
+    }
 }

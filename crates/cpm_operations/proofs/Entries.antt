@@ -1,8 +1,8 @@
 -- What tests on entries and lists of entries say.
-use Rattle.std.proofs.Common.{◌≡◌, ◌⊎◌, ◌<◌, ◌≤◌, ◌/◌, ◌%◌, ◌*◌, ◌+◌, ℕ, zero, suc, Bool, true, false, List, [], ◌∷◌, length, map, subst, drop, ap₂, replicate, refl, sym, ap, ◌∙◌, inl, inr, arith, nat_eq, get_or, set, Some, find, bytes_eq, true≢false, eqb-true, eq-eqb, ne_eqb, ltb-true, lt-ltb}
+use Rattle.std.proofs.Common.{◌≡◌, ◌⊎◌, ◌<◌, ◌≤◌, ◌/◌, ◌%◌, ◌*◌, ◌+◌, ℕ, zero, suc, Bool, true, false, List, [], ◌∷◌, length, map, subst, drop, ap₂, refl, sym, ap, ◌∙◌, inl, inr, arith, nat_eq, get_or, set, Some, find, bytes_eq, true≢false, eqb-true, eq-eqb, ne_eqb, ltb-true, lt-ltb}
 use Rattle.std.proofs.lemmas.Bool.{and_parts, cases_Bool, and_from, cases_lt}
 use Rattle.std.proofs.lemmas.Option.{none-some}
-use Rattle.std.proofs.lemmas.List.{length-replicate, get_or_past, get_or-replicate}
+use Rattle.std.proofs.lemmas.List.{get_or_past}
 use Rattle.std.proofs.lemmas.List.Folds.{list_any_at}
 use Rattle.std.proofs.lemmas.Slice.Eq.{bytes_eq-Decides}
 use Rattle.std.specs.List.{list_any, range_with_len}
@@ -50,12 +50,6 @@ extent_below e ext = ltb-true e.user 32 ext
 
 pub below_extent : (e : Entry) → e.user < 32 → is_extent e ≡ true
 below_extent e below = lt-ltb e.user 32 below
-
-pub zeros_at : (n i : ℕ) → get_or (replicate {A = ℕ} n 0) i 0 ≡ 0
-zeros_at n i = elim (cases_lt i n) as (λ _. ◌≡◌ {A = ℕ} (get_or (replicate n 0) i 0) 0) [
-  | inl below ↦ get_or-replicate {A = ℕ} n i 0 0 below
-  | inr past ↦ get_or_past (replicate {A = ℕ} n 0) i 0 (rw (length-replicate {A = ℕ} n 0) past)
-]
 
 -- a write to a list shows at its place alone, if at all
 pub set_cases : (xs : List ℕ) (i y a : ℕ) → (get_or (set xs i y) a 0 ≡ get_or xs a 0) ⊎ ((a ≡ i) × (get_or (set xs i y) a 0 ≡ y))

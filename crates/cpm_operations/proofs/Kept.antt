@@ -1,16 +1,20 @@
 -- Each step keeps the rules of a directory, also where a failing device stops it.
-use Rattle.std.proofs.Common.{◌≡◌, ◌≢◌, ◌⊎◌, ◌<◌, ◌≤◌, ◌%◌, ℕ, true, false, List, [], length, refl, sym, ap, subst, ◌∙◌, inl, inr, arith, slice_set, get_or-set_same, get_or-set_other, Some, true≢false, if◌then◌else◌}
+use Rattle.std.proofs.Common.{◌≡◌, ◌≢◌, ◌⊎◌, ◌<◌, ◌*◌, ◌%◌, ℕ, true, false, List, [], length, refl, sym, ap, subst, ◌∙◌, inl, inr, arith, slice_set, get_or-set_same, get_or-set_other, Some, true≢false, if◌then◌else◌}
 use Rattle.std.proofs.lemmas.Bool.{cases_Bool, cases_eq}
 use Rattle.std.proofs.lemmas.List.Quantifiers.{position-Some}
 use Rattle.std.proofs.lemmas.List.{length-map}
+use Rattle.cpm_image.specs.Kind.{file_records}
+use Rattle.cpm_image.specs.declared.kind.DiskKind.{DiskKind}
+use Rattle.cpm_image.specs.declared.kind.DiskKind.TheVariants.{EightInch, Megabyte}
+use Rattle.cpm_directory.proofs.Words.{new_block}
 use Rattle.cpm_directory.specs.declared.entry.Entry.{Entry}
-use Rattle.cpm_directory.specs.Entries.{at, blank, block, erased, is_extent, is_free, is_match, is_of, new_extent, renamed}
+use Rattle.cpm_directory.specs.Entries.{at, blank, block, erased, extent_number, is_extent, is_free, is_match, is_of, new_extent, renamed}
 use Rattle.cpm_directory.specs.Letters.{letters}
 use Rattle.cpm_directory.specs.Rules.{AreBlocks, AreSameExtent, IsGood, IsSound}
 use Rattle.cpm_directory.specs.Searches.{free_entry, is_file}
 use Rattle.cpm_operations.specs.Kept.{IsBetween, StaysSound}
 use Rattle.cpm_operations.specs.Steps.{after_erasure, after_renaming, erased_by, renamed_by}
-use Rattle.cpm_operations.proofs.Entries.{at_map, blank_is_not_of, is_of_file, letters_with, none_at, of_file, zeros_at, blank_is_no_match}
+use Rattle.cpm_operations.proofs.Entries.{at_map, blank_is_not_of, is_of_file, letters_with, none_at, of_file, blank_is_no_match}
 use Rattle.cpm_operations.proofs.Sound.{FitsAt, Stands, fewer, one_more}
 
 -- what a failing device leaves of one put entry
@@ -23,30 +27,39 @@ put before mixed number e below between k = elim (between k) as (λ _. Stands be
   ]
 ]
 
-pub keeps_by_one : (before : List Entry) (number : ℕ) (e : Entry) → IsSound before → number < length before → FitsAt before number e → StaysSound before (slice_set before number e)
-keeps_by_one before number e sound below fits mixed between = one_more before mixed number e sound fits (put before mixed number e below between)
+pub keeps_by_one : (kind : DiskKind) (before : List Entry) (number : ℕ) (e : Entry) → IsSound kind before → number < length before → FitsAt kind before number e → StaysSound kind before (slice_set before number e)
+keeps_by_one kind before number e sound below fits mixed between = one_more kind before mixed number e sound fits (put before mixed number e below between)
+
+-- a file may have a record
+some_records : (kind : DiskKind) → 128 * 0 < file_records kind
+some_records EightInch = omega arith
+some_records Megabyte = omega arith
+
+new_extent_good : (kind : DiskKind) (user : ℕ) (name : List ℕ) (extent : ℕ) → 128 * extent < file_records kind → IsGood kind (new_extent user name extent)
+new_extent_good EightInch user name extent low = (omega arith, omega arith, omega arith)
+new_extent_good Megabyte user name extent low = (omega arith, omega arith, omega arith)
 
 -- the entry of a new extent has no blocks
-pub new_extent_fits : (entries : List Entry) (number user : ℕ) (name : List ℕ) (extent : ℕ) → extent ≤ 31 → ((k : ℕ) → k ≢ number → is_extent (at entries k) ≡ true → AreSameExtent (at entries k) (new_extent user name extent) → ⊥) → FitsAt entries number (new_extent user name extent)
-new_extent_fits entries number user name extent low named = record {
-  good = (omega arith, low, refl);
-  blocks = λ i. inl (zeros_at 16 i);
-  own = λ a b some. let none = zeros_at 16 a in absurd (omega arith);
-  apart = λ k a b _ _ some. let none = zeros_at 16 a in absurd (omega arith);
+pub new_extent_fits : (kind : DiskKind) (entries : List Entry) (number user : ℕ) (name : List ℕ) (extent : ℕ) → 128 * extent < file_records kind → ((k : ℕ) → k ≢ number → is_extent (at entries k) ≡ true → AreSameExtent (at entries k) (new_extent user name extent) → ⊥) → FitsAt kind entries number (new_extent user name extent)
+new_extent_fits kind entries number user name extent low named = record {
+  good = new_extent_good kind user name extent low;
+  blocks = λ i. inl (new_block kind user extent i name);
+  own = λ a b some. let none = new_block kind user extent a name in absurd (omega arith);
+  apart = λ k a b _ _ some. let none = new_block kind user extent a name in absurd (omega arith);
   named = named;
 }
 
-pub creation_keeps : (user : ℕ) (name : List ℕ) (entries : List Entry) (k : ℕ) → user < 32 → letters name ≡ name → IsSound entries → is_file user name entries ≡ false → free_entry entries ≡ Some k → StaysSound entries (slice_set entries k (new_extent user name 0))
-creation_keeps user name entries k low seven sound new_file free =
-    keeps_by_one entries k (new_extent user name 0) sound (position-Some is_free entries k blank free).0
-    (new_extent_fits entries k user name 0 (omega arith)
+pub creation_keeps : (kind : DiskKind) (user : ℕ) (name : List ℕ) (entries : List Entry) (k : ℕ) → user < 32 → letters name ≡ name → IsSound kind entries → is_file user name entries ≡ false → free_entry entries ≡ Some k → StaysSound kind entries (slice_set entries k (new_extent user name 0))
+creation_keeps kind user name entries k low seven sound new_file free =
+    keeps_by_one kind entries k (new_extent user name 0) sound (position-Some is_free entries k blank free).0
+    (new_extent_fits kind entries k user name 0 (some_records kind)
     (λ j _ ext same. true≢false (sym (is_of_file user name (at entries j) same.0 (same.1 ∙ seven)) ∙ none_at (is_of user name) entries j (blank_is_not_of user name low) new_file)))
 
 pub at_erasure : (user : ℕ) (pattern : List ℕ) (entries : List Entry) (k : ℕ) → user < 32 → at (after_erasure user pattern entries) k ≡ erased_by user pattern (at entries k)
 at_erasure user pattern entries k low = at_map (erased_by user pattern) entries k (rw (blank_is_no_match user pattern low) refl)
 
-pub erasure_keeps : (user : ℕ) (pattern : List ℕ) (entries : List Entry) → user < 32 → IsSound entries → StaysSound entries (after_erasure user pattern entries)
-erasure_keeps user pattern entries low sound mixed between = fewer entries mixed sound same
+pub erasure_keeps : (kind : DiskKind) (user : ℕ) (pattern : List ℕ) (entries : List Entry) → user < 32 → IsSound kind entries → StaysSound kind entries (after_erasure user pattern entries)
+erasure_keeps kind user pattern entries low sound mixed between = fewer kind entries mixed sound same
   where
     same : (k : ℕ) → is_extent (at mixed k) ≡ true → at mixed k ≡ at entries k
     same k ext = elim (between k) as (λ _. at mixed k ≡ at entries k) [
@@ -91,12 +104,12 @@ length_of_name user name e is = sym (length-map e.name (λ b. b % 128)) ∙ ap l
 new_letters : (user : ℕ) (old new : List ℕ) (e m : Entry) → length old ≡ length new → letters new ≡ new → is_of user old e ≡ true → m ≡ renamed new e → letters m.name ≡ new
 new_letters user old new e m same seven is changed = ap (λ x. letters x.name) changed ∙ letters_with e.name new (length_of_name user old e is ∙ same) seven
 
-pub renaming_keeps : (user : ℕ) (old new : List ℕ) (entries : List Entry) → user < 32 → length old ≡ length new → letters new ≡ new → IsSound entries → is_file user new entries ≡ false → StaysSound entries (after_renaming user old new entries)
-renaming_keeps user old new entries low same_length seven sound new_file mixed between = record {
-  good = λ k ext. subst IsGood (sym (rest k)) (sound.good k (was k ext));
-  blocks = λ k ext. subst AreBlocks (sym (rest k)) (sound.blocks k (was k ext));
-  once = λ j k a b ej ek some equal. sound.once j k a b (was j ej) (was k ek) (subst (λ x. 0 < block x a) (rest j) some)
-      (sym (ap (λ x. block x a) (rest j)) ∙ equal ∙ ap (λ x. block x b) (rest k));
+pub renaming_keeps : (kind : DiskKind) (user : ℕ) (old new : List ℕ) (entries : List Entry) → user < 32 → length old ≡ length new → letters new ≡ new → IsSound kind entries → is_file user new entries ≡ false → StaysSound kind entries (after_renaming user old new entries)
+renaming_keeps kind user old new entries low same_length seven sound new_file mixed between = record {
+  good = λ k ext. subst (IsGood kind) (sym (rest k)) (sound.good k (was k ext));
+  blocks = λ k ext. subst (AreBlocks kind) (sym (rest k)) (sound.blocks k (was k ext));
+  once = λ j k a b ej ek some equal. sound.once j k a b (was j ej) (was k ek) (subst (λ x. 0 < block kind x a) (rest j) some)
+      (sym (ap (λ x. block kind x a) (rest j)) ∙ equal ∙ ap (λ x. block kind x b) (rest k));
   named = named;
 }
   where
@@ -116,7 +129,7 @@ renaming_keeps user old new entries low same_length seven sound new_file mixed b
     named : (j k : ℕ) → is_extent (at mixed j) ≡ true → is_extent (at mixed k) ≡ true → AreSameExtent (at mixed j) (at mixed k) → j ≡ k
     named j k ej ek (same_user, same_name, same_number) =
         let users : (at entries j).user ≡ (at entries k).user = ap (λ x. x.user) (sym (rest j)) ∙ same_user ∙ ap (λ x. x.user) (rest k) in
-        let numbers : (at entries j).extent ≡ (at entries k).extent = ap (λ x. x.extent) (sym (rest j)) ∙ same_number ∙ ap (λ x. x.extent) (rest k) in
+        let numbers : extent_number (at entries j) ≡ extent_number (at entries k) = ap extent_number (sym (rest j)) ∙ same_number ∙ ap extent_number (rest k) in
         elim (renamed_at user old new entries mixed low between j) as (λ _. j ≡ k) [
           | inl kept_j ↦ elim (renamed_at user old new entries mixed low between k) as (λ _. j ≡ k) [
             | inl kept_k ↦ sound.named j k (was j ej) (was k ek) (users, ap (λ x. letters x.name) (sym kept_j) ∙ same_name ∙ ap (λ x. letters x.name) kept_k, numbers)

@@ -1,9 +1,10 @@
 -- What each operation makes of a directory, or the first reason to refuse it.
 use Rattle.std.specs.Prelude.{ℕ, ◌/◌, ◌%◌, ◌==◌, Bool, true, false, ◌&&◌, not, List, Option, Some, None, Result, Ok, Err, if◌then◌else◌, count_by, find, position, map, nat_lt, ⊤}
 use Rattle.std.specs.List.{list_any}
+use Rattle.cpm_image.specs.Kind.{block_records, file_records}
+use Rattle.cpm_image.specs.declared.kind.DiskKind.{DiskKind}
 use Rattle.cpm_directory.specs.declared.entry.Entry.{Entry}
 use Rattle.cpm_directory.specs.declared.fault.DiskFault.{DiskFault}
-use Rattle.cpm_operations.specs.declared.operations.TheConstants.{LAST_RECORD}
 use Rattle.cpm_operations.specs.declared.placement.Placement.{Placement}
 use Rattle.cpm_directory.specs.declared.fault.DiskFault.TheVariants as fault
 use Rattle.cpm_directory.specs.Entries.{at, block, erased, has_record, is_extent_of, is_match, is_of, is_read_only, new_extent, place_on_disk, renamed, with_record}
@@ -60,15 +61,15 @@ abbrev pub after_renaming : ℕ → List ℕ → List ℕ → List Entry → Lis
 after_renaming user old new entries = map (renamed_by user old new) entries
 
 -- the logical record of the disk that holds record i of an extent
-abbrev pub written_place : ℕ → Entry → Result ℕ DiskFault
-written_place i e = unless (not (has_record e i)) fault.Unwritten (Ok (place_on_disk e i))
+abbrev pub written_place : DiskKind → ℕ → Entry → Result ℕ DiskFault
+written_place kind i e = unless (not (has_record kind e i)) fault.Unwritten (Ok (place_on_disk kind e i))
 
 -- the logical record of the disk that holds a file's record
-abbrev pub reading : ℕ → List ℕ → ℕ → List Entry → Result ℕ DiskFault
-reading user name number entries =
+abbrev pub reading : DiskKind → ℕ → List ℕ → ℕ → List Entry → Result ℕ DiskFault
+reading kind user name number entries =
     unless (not (is_file user name entries)) fault.NotFound
-    (unless (nat_lt LAST_RECORD number) fault.TooFar
-    (given (find (is_extent_of user name (number / 128)) entries) fault.NoExtent >>= written_place (number % 128)))
+    (unless (not (nat_lt number (file_records kind))) fault.TooFar
+    (given (find (is_extent_of user name (number / 128)) entries) fault.NoExtent >>= written_place kind (number % 128)))
 
 -- the number and the entry of a file's extent, where it has one, else the lowest free entry, with the name of the file's lowest entry
 abbrev pub found_or_new : ℕ → List ℕ → ℕ → List Entry → Option ℕ → Result (ℕ × Entry) DiskFault
@@ -82,21 +83,21 @@ abbrev pub extent_place : ℕ → List ℕ → ℕ → List Entry → Result (�
 extent_place user name number entries = found_or_new user name number entries (position (is_extent_of user name number) entries)
 
 -- The block of a group of an entry, and whether it is new: the one that it has, else the lowest free one.
-abbrev pub block_place : Entry → ℕ → List Entry → Result (ℕ × Bool) DiskFault
-block_place e group entries = if block e group == 0
-    then (given (free_block entries) fault.DiskFull >>= λ b. Ok (b, true))
-    else Ok (block e group, false)
+abbrev pub block_place : DiskKind → Entry → ℕ → List Entry → Result (ℕ × Bool) DiskFault
+block_place kind e group entries = if block kind e group == 0
+    then (given (free_block kind entries) fault.DiskFull >>= λ b. Ok (b, true))
+    else Ok (block kind e group, false)
 
 -- where a record of a file goes: the entry's number, the entry as it is to be, the block, and whether it is new
-abbrev pub placing : ℕ → List ℕ → ℕ → List Entry → Result Placement DiskFault
-placing user name number entries =
+abbrev pub placing : DiskKind → ℕ → List ℕ → ℕ → List Entry → Result Placement DiskFault
+placing kind user name number entries =
     extent_place user name (number / 128) entries >>= λ place.
-    block_place place.1 (number % 128 / 8) entries >>= λ found.
-    Ok (record { number = place.0; entry = with_record place.1 (number % 128) found.0; block = found.0; is_new = found.1 })
+    block_place kind place.1 (number % 128 / block_records kind) entries >>= λ found.
+    Ok (record { number = place.0; entry = with_record kind place.1 (number % 128) found.0; block = found.0; is_new = found.1 })
 
-abbrev pub writing : ℕ → List ℕ → ℕ → List Entry → Result Placement DiskFault
-writing user name number entries =
+abbrev pub writing : DiskKind → ℕ → List ℕ → ℕ → List Entry → Result Placement DiskFault
+writing kind user name number entries =
     unless (not (is_file user name entries)) fault.NotFound
     (unless (file_is_read_only user name entries) fault.ReadOnly
-    (unless (nat_lt LAST_RECORD number) fault.TooFar
-    (placing user name number entries)))
+    (unless (not (nat_lt number (file_records kind))) fault.TooFar
+    (placing kind user name number entries)))

@@ -1,4 +1,4 @@
-//! What each operation on the files of a CP/M 2.2 disk makes of its directory, or the first reason to refuse it.
+//! What each operation on the files of a CP/M 2.2 disk of either kind makes of its directory, or the first reason to refuse it.
 //!
 //! No call takes memory, and none changes anything: each says what is to be done. Whatever a device that fails on the
 //! way leaves of it, each entry as before or as it was to be, keeps the rules of a directory.
@@ -7,5 +7,5 @@
 mod operations;
 mod placement;
 
-pub use operations::{LAST_RECORD, creation, erasure, reading, renaming, writing};
+pub use operations::{creation, erasure, reading, renaming, writing};
 pub use placement::Placement;

@@ -1,11 +1,11 @@
 //! What each operation makes of a directory.
 
-ghost use Rattle.std.specs.Prelude.{◌≡◌, ◌<◌, ◌≤◌, ◌*◌, ◌/◌, ◌%◌, ◌&&◌, IfErr, IfOk, OnOk, count_by, find, length};
+ghost use Rattle.std.specs.Prelude.{◌≡◌, ◌<◌, ◌≤◌, ◌/◌, ◌%◌, ◌&&◌, IfErr, IfOk, OnOk, count_by, find, length};
 ghost use Rattle.std.specs.List.{list_any};
 ghost use Rattle.cpm_directory.specs.Entries.{block, is_extent_of, is_match, is_of, is_read_only};
 ghost use Rattle.cpm_directory.specs.Rules.{IsSound};
-ghost use Rattle.cpm_directory.specs.declared.format.TheConstants.{BLOCK_COUNT, FIRST_BLOCK};
-ghost use Rattle.cpm_operations.specs.declared.operations.TheConstants.{LAST_RECORD};
+ghost use Rattle.cpm_image.specs.Kind.{block_records, directory_records, entry_blocks, file_records, number_limit, record_count};
+ghost use Rattle.cpm_image.specs.declared.kind.DiskKind.{DiskKind};
 ghost use Rattle.cpm_operations.specs.Kept.{IsKeptBy, IsPut, StaysSound};
 ghost use Rattle.cpm_operations.specs.Refusals.{RefusesCreation, RefusesErasure, RefusesReading, RefusesRenaming, RefusesWriting};
 ghost use Rattle.cpm_operations.specs.Steps.{after_erasure, after_renaming, block_place, creation, erasure, extent_place, placing, reading, renaming, writing};
@@ -15,9 +15,7 @@ use cpm_directory::laws::is_name;
 use cpm_directory::{
     DiskFault, Entry, Name, file_is_read_only, free_block, free_entry, is_file, position_of,
 };
-
-/// The greatest number of a file's record: there are 32 extents of 128.
-pub const LAST_RECORD: u32 = 4_095;
+use cpm_image::DiskKind;
 
 /// The number of the entry that a new file takes, the lowest free one, and that entry.
 fn new_file(entries: &[Entry], user: u8, name: &Name) -> Result<(u16, Entry), DiskFault>
@@ -90,7 +88,7 @@ fn may_rename(entries: &[Entry], user: u8, old: &Name, new: &Name) -> Result<(),
 }
 
 /// The entry of a file's extent.
-fn extent_entry(entries: &[Entry], user: u8, name: &Name, number: u8) -> Option<Entry>
+fn extent_entry(entries: &[Entry], user: u8, name: &Name, number: u16) -> Option<Entry>
     ensures { result ≡ find (is_extent_of user name.now number) entries.now }
 {
     for entry in entries {
@@ -114,23 +112,29 @@ fn first_entry(entries: &[Entry], user: u8, name: &Name) -> Option<Entry>
 }
 
 /// The number of the disk's logical record that holds a file's record.
-fn read_place(entries: &[Entry], user: u8, name: &Name, number: u32) -> Result<u32, DiskFault>
-    ensures step { result ≡ reading user name.now number entries.now }
+fn read_place(
+    kind: DiskKind,
+    entries: &[Entry],
+    user: u8,
+    name: &Name,
+    number: u32,
+) -> Result<u32, DiskFault>
+    ensures step { result ≡ reading kind user name.now number entries.now }
     ensures refusals { IfErr result RefusesReading }
 {
     if !is_file(entries, user, name) {
         return Err(DiskFault::NotFound);
     }
-    if number > LAST_RECORD {
+    if number >= kind.file_records() {
         return Err(DiskFault::TooFar);
     }
-    let extent = (number / 128) as u8;
+    let extent = (number / 128) as u16;
     let i = (number % 128) as u8;
     let entry = extent_entry(entries, user, name, extent).ok_or(DiskFault::NoExtent)?;
-    if !entry.has_record(i) {
+    if !entry.has_record(kind, i) {
         return Err(DiskFault::Unwritten);
     }
-    Ok(entry.place_on_disk(i))
+    Ok(entry.place_on_disk(kind, i))
 }
 
 /// The number and the entry of a file's extent: the one that it has, else the lowest free one, under the name of the
@@ -139,9 +143,10 @@ fn extent_of(
     entries: &[Entry],
     user: u8,
     name: &Name,
-    number: u8,
+    number: u16,
 ) -> Result<(u16, Entry), DiskFault>
-    requires { length entries.now ≤ 65536 }
+    requires size { length entries.now ≤ 65536 }
+    requires number { number < 512 }
     ensures step { result ≡ extent_place user name.now number entries.now }
     ensures refusals { IfErr result RefusesWriting }
 {
@@ -153,34 +158,46 @@ fn extent_of(
     Ok((place, Entry::new_extent(user, first.name, number)))
 }
 
-/// The block of a group of eight records, and whether it is new: the one that the entry has, else the lowest free one.
-fn block_of(entries: &[Entry], entry: &Entry, group: u8) -> Result<(u8, bool), DiskFault>
-    requires { group < 16 }
-    ensures step { result ≡ block_place entry.now group entries.now }
+/// The block of a group of records, and whether it is new: the one that the entry has, else the lowest free one.
+fn block_of(
+    kind: DiskKind,
+    entries: &[Entry],
+    entry: &Entry,
+    group: u8,
+) -> Result<(u16, bool), DiskFault>
+    requires { group < entry_blocks kind }
+    ensures step { result ≡ block_place kind entry.now group entries.now }
     ensures refusals { IfErr result RefusesWriting }
+    ensures fits { IfOk result (λ found. found.0 < number_limit kind) }
 {
-    let block = entry.blocks[usize::from(group)];
+    let block = entry.block(kind, group);
     if block != 0 {
         return Ok((block, false));
     }
-    let block = free_block(entries).ok_or(DiskFault::DiskFull)?;
+    let block = free_block(kind, entries).ok_or(DiskFault::DiskFull)?;
     Ok((block, true))
 }
 
 /// Where a record of a file goes.
-fn place(entries: &[Entry], user: u8, name: &Name, number: u32) -> Result<Placement, DiskFault>
-    requires number { number ≤ LAST_RECORD }
+fn place(
+    kind: DiskKind,
+    entries: &[Entry],
+    user: u8,
+    name: &Name,
+    number: u32,
+) -> Result<Placement, DiskFault>
+    requires number { number < file_records kind }
     requires size { length entries.now ≤ 65536 }
-    ensures step { result ≡ placing user name.now number entries.now }
+    ensures step { result ≡ placing kind user name.now number entries.now }
     ensures refusals { IfErr result RefusesWriting }
-    ensures placed { IfOk result (λ p. block p.entry (number % 128 / 8) ≡ p.block) }
+    ensures placed { IfOk result (λ p. block kind p.entry (number % 128 / block_records kind) ≡ p.block) }
 {
     let i = (number % 128) as u8;
-    let (at, entry) = extent_of(entries, user, name, (number / 128) as u8)?;
-    let (block, is_new) = block_of(entries, &entry, i / 8)?;
+    let (at, entry) = extent_of(entries, user, name, (number / 128) as u16)?;
+    let (block, is_new) = block_of(kind, entries, &entry, i / kind.block_records())?;
     Ok(Placement {
         number: at,
-        entry: entry.with_record(i, block),
+        entry: entry.with_record(kind, i, block),
         block,
         is_new,
     })
@@ -188,15 +205,16 @@ fn place(entries: &[Entry], user: u8, name: &Name, number: u32) -> Result<Placem
 
 /// Where a record of a file goes, if it may be written.
 fn write_place(
+    kind: DiskKind,
     entries: &[Entry],
     user: u8,
     name: &Name,
     number: u32,
 ) -> Result<Placement, DiskFault>
     requires { length entries.now ≤ 65536 }
-    ensures step { result ≡ writing user name.now number entries.now }
+    ensures step { result ≡ writing kind user name.now number entries.now }
     ensures refusals { IfErr result RefusesWriting }
-    ensures placed { IfOk result (λ p. block p.entry (number % 128 / 8) ≡ p.block) }
+    ensures placed { IfOk result (λ p. block kind p.entry (number % 128 / block_records kind) ≡ p.block) }
 {
     if !is_file(entries, user, name) {
         return Err(DiskFault::NotFound);
@@ -204,10 +222,10 @@ fn write_place(
     if file_is_read_only(entries, user, name) {
         return Err(DiskFault::ReadOnly);
     }
-    if number > LAST_RECORD {
+    if number >= kind.file_records() {
         return Err(DiskFault::TooFar);
     }
-    place(entries, user, name, number)
+    place(kind, entries, user, name, number)
 }
 
 /// How many entries are erased: all of the user that match a pattern, whatever their extents.
@@ -220,7 +238,7 @@ pub fn erasure(entries: &[Entry], user: u8, pattern: &[u8; 11]) -> Result<u16, D
     requires size { length entries.now ≤ 65535 }
     ensures step { result ≡ erasure user pattern.now entries.now }
     ensures refusals { IfErr result RefusesErasure }
-    ensures kept { IsSound entries.now → StaysSound entries.now (after_erasure user pattern.now entries.now) }
+    ensures kept { (kind : DiskKind) → IsSound kind entries.now → StaysSound kind entries.now (after_erasure user pattern.now entries.now) }
 {
     may_erase(entries, user, pattern)
 }
@@ -234,7 +252,7 @@ pub fn creation(entries: &[Entry], user: u8, name: &Name) -> Result<(u16, Entry)
     requires user { user < 32 }
     requires size { length entries.now ≤ 65535 }
     ensures step { result ≡ creation user name.now entries.now }
-    ensures kept { IsSound entries.now → IfOk result (IsPut entries.now) }
+    ensures kept { (kind : DiskKind) → IsSound kind entries.now → IfOk result (IsPut kind entries.now) }
     ensures refusals { IfErr result RefusesCreation }
 {
     // A law: `kept` rests on the name's bytes being below 80H.
@@ -250,7 +268,7 @@ pub fn creation(entries: &[Entry], user: u8, name: &Name) -> Result<(u16, Entry)
 pub fn renaming(entries: &[Entry], user: u8, old: &Name, new: &Name) -> Result<(), DiskFault>
     requires { user < 32 }
     ensures step { result ≡ renaming user old.now new.now entries.now }
-    ensures kept { IsSound entries.now → OnOk result (StaysSound entries.now (after_renaming user old.now new.now entries.now)) }
+    ensures kept { (kind : DiskKind) → IsSound kind entries.now → OnOk result (StaysSound kind entries.now (after_renaming user old.now new.now entries.now)) }
     ensures refusals { IfErr result RefusesRenaming }
 {
     // A law: `kept` rests on both names having eleven bytes, and the new one's being below 80H.
@@ -263,24 +281,31 @@ pub fn renaming(entries: &[Entry], user: u8, old: &Name, new: &Name) -> Result<(
 ///
 /// # Errors
 ///
-/// In this order: [`DiskFault::NotFound`], [`DiskFault::TooFar`] above 4,095, [`DiskFault::NoExtent`],
-/// [`DiskFault::Unwritten`].
-pub fn reading(entries: &[Entry], user: u8, name: &Name, number: u32) -> Result<u32, DiskFault>
+/// In this order: [`DiskFault::NotFound`], [`DiskFault::TooFar`] above 4,095 (65,535 on a Megabyte disk),
+/// [`DiskFault::NoExtent`], [`DiskFault::Unwritten`].
+pub fn reading(
+    kind: DiskKind,
+    entries: &[Entry],
+    user: u8,
+    name: &Name,
+    number: u32,
+) -> Result<u32, DiskFault>
     requires { user < 32 }
-    ensures step { result ≡ reading user name.now number entries.now }
+    ensures step { result ≡ reading kind user name.now number entries.now }
     ensures refusals { IfErr result RefusesReading }
-    ensures within { IsSound entries.now → IfOk result (λ n. (8 * FIRST_BLOCK ≤ n) × (n < 8 * BLOCK_COUNT)) }
+    ensures within { IsSound kind entries.now → IfOk result (λ n. (directory_records kind ≤ n) × (n < record_count kind)) }
 {
-    read_place(entries, user, name, number)
+    read_place(kind, entries, user, name, number)
 }
 
 /// Where a record of a file goes, counted from 0.
 ///
 /// # Errors
 ///
-/// In this order: [`DiskFault::NotFound`], [`DiskFault::ReadOnly`], [`DiskFault::TooFar`] above 4,095,
-/// [`DiskFault::DirectoryFull`] where it needs an extent, [`DiskFault::DiskFull`] where it needs a block.
+/// In this order: [`DiskFault::NotFound`], [`DiskFault::ReadOnly`], [`DiskFault::TooFar`] above 4,095 (65,535 on a
+/// Megabyte disk), [`DiskFault::DirectoryFull`] where it needs an extent, [`DiskFault::DiskFull`] where it needs a block.
 pub fn writing(
+    kind: DiskKind,
     entries: &[Entry],
     user: u8,
     name: &Name,
@@ -288,10 +313,10 @@ pub fn writing(
 ) -> Result<Placement, DiskFault>
     requires user { user < 32 }
     requires size { length entries.now ≤ 65535 }
-    ensures step { result ≡ writing user name.now number entries.now }
-    ensures placed { IfOk result (λ p. block p.entry (number % 128 / 8) ≡ p.block) }
+    ensures step { result ≡ writing kind user name.now number entries.now }
+    ensures placed { IfOk result (λ p. block kind p.entry (number % 128 / block_records kind) ≡ p.block) }
     ensures refusals { IfErr result RefusesWriting }
-    ensures kept { IsSound entries.now → IfOk result (IsKeptBy user name.now entries.now) }
+    ensures kept { IsSound kind entries.now → IfOk result (IsKeptBy kind user name.now entries.now) }
 {
-    write_place(entries, user, name, number)
+    write_place(kind, entries, user, name, number)
 }

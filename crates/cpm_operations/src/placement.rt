@@ -10,7 +10,7 @@ pub struct Placement {
     /// That entry as it is to be.
     pub entry: Entry,
     /// The block that holds the record.
-    pub block: u8,
+    pub block: u16,
     /// Whether that block was free.
     pub is_new: bool,
 }

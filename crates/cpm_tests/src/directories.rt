@@ -4,17 +4,18 @@ use cpm_directory::{
     Entry, Listed, Name, Pattern, file_is_read_only, file_is_system, find, free_block, free_entry,
     is_file, list, position_of, size,
 };
+use cpm_image::DiskKind;
 use std::alloc::Global;
 use std::test::Fail;
 
 /// A foreign entry, a file of user 1, a free entry, and two extents of a file of user 0, the second one first.
 fn entries() -> [Entry; 5] {
     [
-        Entry::new_extent(32, *b"A       COM", 0).with_record(0, 3),
+        Entry::new_extent(32, *b"A       COM", 0).with_record(DiskKind::EightInch, 0, 3),
         Entry::new_extent(1, *b"A       COM", 0),
         Entry::from_bytes(&[0xE5; 32]),
-        Entry::new_extent(0, *b"A       \xC3OM", 1).with_record(4, 2),
-        Entry::new_extent(0, *b"A       COM", 0).with_record(127, 4),
+        Entry::new_extent(0, *b"A       \xC3OM", 1).with_record(DiskKind::EightInch, 4, 2),
+        Entry::new_extent(0, *b"A       COM", 0).with_record(DiskKind::EightInch, 127, 4),
     ]
 }
 
@@ -42,8 +43,8 @@ fn free(rt: HostRuntime) -> Result<(), Fail> {
     assert_eq!(rt; free_entry(&entries), Some(2));
     assert_eq!(rt; free_entry(&entries[3..]), None);
     // Block 3 is a foreign entry's alone.
-    assert_eq!(rt; free_block(&entries), Some(3));
-    assert_eq!(rt; free_block(&entries[..3]), Some(2));
+    assert_eq!(rt; free_block(DiskKind::EightInch, &entries), Some(3));
+    assert_eq!(rt; free_block(DiskKind::EightInch, &entries[..3]), Some(2));
     Ok(())
 }
 
@@ -53,6 +54,7 @@ fn matches(rt: HostRuntime) -> Result<(), Fail> {
     let any = Pattern {
         name: *b"?       COM",
         extent: b'?',
+        high: b'?',
     };
     let first = Pattern { extent: 0, ..any };
     let rows = [

@@ -80,6 +80,7 @@ fn erase_even(disk: &mut Disk<MemoryImage>, map: &mut Vec<Kept>, end: u8) -> Res
             let pattern = Pattern {
                 name: name_of(file),
                 extent: 0,
+                high: 0,
             };
             disk.erase(0, &pattern)?;
         }

@@ -1,6 +1,6 @@
 //! What bytes are an image.
 
-use cpm_image::{DeviceFault, ImageFault, MemoryImage};
+use cpm_image::{DeviceFault, DiskKind, ImageFault, MemoryImage, Sectors};
 use std::alloc::Global;
 use std::process::Abort;
 use std::test::Fail;
@@ -58,6 +58,33 @@ fn images(rt: HostRuntime) -> Result<(), Fail> {
 }
 
 #[test]
+fn megabyte(rt: HostRuntime) -> Result<(), Fail> {
+    let bytes = numbered(rt.alloc(), 1_048_576)?;
+    let image = MemoryImage::from_bytes(rt.alloc(), &bytes)?;
+    assert_eq!(rt; image.len(), 8_192);
+    assert!(rt; image.sectors().as_flattened() == bytes.as_slice());
+    Ok(())
+}
+
+#[test]
+fn blank(rt: HostRuntime) -> Result<(), Fail> {
+    for (kind, sectors) in [(DiskKind::EightInch, 2_002), (DiskKind::Megabyte, 8_192)] {
+        let image = MemoryImage::blank(rt.alloc(), kind)?;
+        assert_eq!(rt; image.len(), sectors);
+        assert_eq!(rt; DiskKind::of_size(sectors), Some(kind));
+        assert!(rt;
+            image
+                .sectors()
+                .as_flattened()
+                .iter()
+                .all(|byte| *byte == 0xE5)
+        );
+    }
+    assert_eq!(rt; DiskKind::of_size(100), None);
+    Ok(())
+}
+
+#[test]
 fn refused(rt: HostRuntime) -> Result<(), Fail> {
     let rows = [
         (1, ImageFault::NotSectors),
@@ -68,6 +95,11 @@ fn refused(rt: HostRuntime) -> Result<(), Fail> {
         (256_257, ImageFault::NotSectors),
         (256_384, ImageFault::TooLong),
         (256_385, ImageFault::NotSectors),
+        (262_144, ImageFault::TooLong),
+        (1_048_448, ImageFault::TooLong),
+        (1_048_575, ImageFault::NotSectors),
+        (1_048_577, ImageFault::NotSectors),
+        (1_048_704, ImageFault::TooLong),
     ];
     for (count, why) in rows {
         assert_refused(&rt, rt.alloc(), count, why)?;
@@ -82,7 +114,10 @@ fn faults_in_print(rt: HostRuntime) -> Result<(), Fail> {
             ImageFault::NotSectors,
             "the image is not a whole number of 128-byte sectors",
         ),
-        (ImageFault::TooLong, "the image is longer than 256256 bytes"),
+        (
+            ImageFault::TooLong,
+            "the image is longer than 256256 bytes, and is not of 1048576",
+        ),
         (ImageFault::NoMemory, "out of memory"),
     ];
     for (fault, text) in rows {

@@ -1,6 +1,6 @@
 //! Where the records of a disk lie.
 
-use cpm_image::{MemoryImage, Sectors, logical};
+use cpm_image::{DiskKind, MemoryImage, Sectors, logical, logical_of};
 use std::alloc::Global;
 use std::test::Fail;
 
@@ -20,6 +20,10 @@ fn published_skew(rt: HostRuntime) {
             26 * track + on_track,
             "record {number}"
         );
+        assert_eq!(rt; logical_of(DiskKind::EightInch, number), logical(number));
+    }
+    for number in [0, 1, 26, 1_944, 8_191] {
+        assert_eq!(rt; logical_of(DiskKind::Megabyte, number), number);
     }
 }
 

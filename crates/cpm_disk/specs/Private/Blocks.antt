@@ -1,15 +1,17 @@
 -- A block on the way to a written record.
 use Rattle.std.specs.Prelude.{◌≡◌, ◌≢◌, ◌<◌, ◌*◌, ◌+◌, ℕ, false, replicate, if◌then◌else◌}
+use Rattle.cpm_image.specs.Kind.{block_records}
+use Rattle.cpm_image.specs.declared.kind.DiskKind.{DiskKind}
 use Rattle.cpm_operations.specs.declared.placement.Placement.{Placement}
 use Rattle.cpm_disk.specs.Image.{Image, IsOfBlock, SameBut, disk_record}
 
 -- the records of a block below a number are zeros, but for one that is left out
-pub record Cleared (old new : Image) (block kept below : ℕ) : Type 0 where
-  pub zeros : (j : ℕ) → j < below → j ≢ kept → disk_record new (8 * block + j) ≡ replicate 128 0
-  pub rest : SameBut (IsOfBlock block) old new
+pub record Cleared (kind : DiskKind) (old new : Image) (block kept below : ℕ) : Type 0 where
+  pub zeros : (j : ℕ) → j < below → j ≢ kept → disk_record kind new (block_records kind * block + j) ≡ replicate 128 0
+  pub rest : SameBut kind (IsOfBlock kind block) old new
 
 -- a block in which one record is to be written: the others are zeros where it is new, else all are as before
-pub record Prepared (old new : Image) (p : Placement) (i : ℕ) : Type 0 where
-  pub others : (j : ℕ) → j < 8 → j ≢ i → disk_record new (8 * p.block + j) ≡ (if p.is_new then replicate 128 0 else disk_record old (8 * p.block + j))
-  pub rest : SameBut (IsOfBlock p.block) old new
+pub record Prepared (kind : DiskKind) (old new : Image) (p : Placement) (i : ℕ) : Type 0 where
+  pub others : (j : ℕ) → j < block_records kind → j ≢ i → disk_record kind new (block_records kind * p.block + j) ≡ (if p.is_new then replicate 128 0 else disk_record kind old (block_records kind * p.block + j))
+  pub rest : SameBut kind (IsOfBlock kind p.block) old new
   pub kept : p.is_new ≡ false → new ≡ old

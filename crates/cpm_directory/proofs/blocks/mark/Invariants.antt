@@ -1,5 +1,6 @@
+use Rattle.cpm_directory.specs.Entries.{blocks_of}
 use Rattle.cpm_directory.proofs.Marks.{IsMarking}
 use Rattle.cpm_directory.proofs.blocks.mark.Given as goal
 
-abbrev pub invariant-loop-block : goal.invariant-loop-block
-invariant-loop-block l = IsMarking l.fn.marks l.marks l.blocks l.block-index l.own
+abbrev pub invariant-loop-group : goal.invariant-loop-group
+invariant-loop-group l = IsMarking l.fn.marks l.marks (blocks_of l.kind l.entry) l.group l.own

@@ -5,12 +5,12 @@ use Rattle.cpm_directory.proofs.blocks.taken.Goals as goal
 use Rattle.cpm_directory.proofs.blocks.taken.Goals.{then-is_extent, else-is_extent}
 
 pub loop-entry-init : goal.loop-entry-init
-loop-entry-init c = none_taken c.args.entries.now
+loop-entry-init c = none_taken c.args.kind c.args.entries.now
 
 pub loop-entry-preserved : goal.loop-entry-preserved
 loop-entry-preserved c = elim c.if-is_extent.branch [
-  | then-is_extent w ↦ rw (w.marks-is) (entry_marked _ c.loop-entry.invariant c.loop-entry-test.true (sym c.is_extent.ensures ∙ w.if-is_extent.true) w.mark.ensures.marked)
-  | else-is_extent w ↦ rw (w.marks-is) (entry_passed _ c.loop-entry.invariant c.loop-entry-test.true (sym c.is_extent.ensures ∙ w.if-is_extent.false))
+  | then-is_extent w ↦ rw (w.marks-is) (entry_marked c.args.kind _ c.loop-entry.invariant c.loop-entry-test.true (sym c.is_extent.ensures ∙ w.if-is_extent.true) w.mark.ensures.marked)
+  | else-is_extent w ↦ rw (w.marks-is) (entry_passed c.args.kind _ c.loop-entry.invariant c.loop-entry-test.true (sym c.is_extent.ensures ∙ w.if-is_extent.false))
 ]
 
 pub returns : goal.returns

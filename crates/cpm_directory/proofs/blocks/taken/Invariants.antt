@@ -2,4 +2,4 @@ use Rattle.cpm_directory.proofs.TakenBlocks.{AreTaken}
 use Rattle.cpm_directory.proofs.blocks.taken.Given as goal
 
 abbrev pub invariant-loop-entry : goal.invariant-loop-entry
-invariant-loop-entry l = AreTaken l.marks l.entries l.entry-index
+invariant-loop-entry l = AreTaken l.kind l.marks l.entries l.entry-index

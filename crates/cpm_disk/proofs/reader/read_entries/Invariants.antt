@@ -9,5 +9,5 @@ invariant-loop-number g l = record {
   kept : g.S.Sectors.sectors l.device ≡ g.S.Sectors.sectors l.fn.device;
   unfailed : g.S.Sectors.faults l.device ≡ g.S.Sectors.faults l.fn.device;
   size : length l.entries.items ≡ 4 * l.number;
-  read : (k : ℕ) → k < 4 * l.number → at l.entries.items k ≡ entry_at (g.S.Sectors.sectors l.fn.device) k;
+  read : (k : ℕ) → k < 4 * l.number → at l.entries.items k ≡ entry_at l.kind (g.S.Sectors.sectors l.fn.device) k;
 }

@@ -16,29 +16,31 @@ use Rattle.cpm_disk.proofs.disk.Disk.create.Goals as goal
 pub returns-in-Ok-clause-done : goal.returns-in-Ok-clause-done
 returns-in-Ok-clause-done g c =
     let entries = c.self.invariant.entries_are c.if-self.false in
-    let asked : creation c.args.user c.args.name.now (directory (g.S.Sectors.sectors c.self.inside.device)) ≡ Ok (c.in_ok-number.number, c.in_ok-number.entry) =
+    let asked : creation c.args.user c.args.name.now (directory c.self.inside.kind (g.S.Sectors.sectors c.self.inside.device)) ≡ Ok (c.in_ok-number.number, c.in_ok-number.entry) =
     ap (creation c.args.user c.args.name.now) (sym (c.deref.ensures.value ∙ entries)) ∙ sym c.creation.ensures.step ∙ c.in_ok-number.was in
-    subst (λ old. IsCreated g.S.Sectors.sectors g.S.Sectors.faults old (record { device = c.store.new.device; failed = c.self.inside.failed }) c.args.user c.args.name.now (Ok c.in_ok-number.number)) c.self.view_is (
+    subst (λ old. IsCreated g.S.Sectors.sectors g.S.Sectors.faults old (record { device = c.store.new.device; kind = c.self.inside.kind; failed = c.self.inside.failed }) c.args.user c.args.name.now (Ok c.in_ok-number.number)) c.self.view_is (
       c.if-self.false,
       c.if-self.false,
+      refl,
       c.in-Ok.ensures.cause,
       (c.in_ok-number.number, c.in_ok-number.entry),
       asked,
-      (refl, subst (Changed (g.S.Sectors.sectors c.self.inside.device) (g.S.Sectors.sectors c.store.new.device)) (c.in-Ok.ensures.entries ∙ ap (λ es. slice_set es c.in_ok-number.number c.in_ok-number.entry) (c.deref_mut.ensures.value ∙ entries)) c.in-Ok.ensures.stored),
+      (refl, subst (Changed c.self.inside.kind (g.S.Sectors.sectors c.self.inside.device) (g.S.Sectors.sectors c.store.new.device)) (c.in-Ok.ensures.entries ∙ ap (λ es. slice_set es c.in_ok-number.number c.in_ok-number.entry) (c.deref_mut.ensures.value ∙ entries)) c.in-Ok.ensures.stored),
     )
 
 pub returns-in-Err-clause-done : goal.returns-in-Err-clause-done
 returns-in-Err-clause-done g c =
     let entries = c.self.invariant.entries_are c.if-self.false in
-    let asked : creation c.args.user c.args.name.now (directory (g.S.Sectors.sectors c.self.inside.device)) ≡ Ok (c.in_ok-number.number, c.in_ok-number.entry) =
+    let asked : creation c.args.user c.args.name.now (directory c.self.inside.kind (g.S.Sectors.sectors c.self.inside.device)) ≡ Ok (c.in_ok-number.number, c.in_ok-number.entry) =
     ap (creation c.args.user c.args.name.now) (sym (c.deref.ensures.value ∙ entries)) ∙ sym c.creation.ensures.step ∙ c.in_ok-number.was in
-    subst (λ old. IsCreated g.S.Sectors.sectors g.S.Sectors.faults old (record { device = c.store.new.device; failed = true }) c.args.user c.args.name.now (Err Fault)) c.self.view_is (
+    subst (λ old. IsCreated g.S.Sectors.sectors g.S.Sectors.faults old (record { device = c.store.new.device; kind = c.self.inside.kind; failed = true }) c.args.user c.args.name.now (Err Fault)) c.self.view_is (
       c.if-self.false,
+      refl,
       refl,
       c.in-Err.ensures.cause,
       (c.in_ok-number.number, c.in_ok-number.entry),
       asked,
-      partly _ _ _ (second _ _ _ (subst (Changed (g.S.Sectors.sectors c.self.inside.device) (g.S.Sectors.sectors c.store.new.device)) (c.in-Err.ensures.entries ∙ ap (λ es. slice_set es c.in_ok-number.number c.in_ok-number.entry) (c.deref_mut.ensures.value ∙ entries))) c.in-Err.ensures.stopped),
+      partly c.self.inside.kind _ _ _ (second _ _ _ (subst (Changed c.self.inside.kind (g.S.Sectors.sectors c.self.inside.device) (g.S.Sectors.sectors c.store.new.device)) (c.in-Err.ensures.entries ∙ ap (λ es. slice_set es c.in_ok-number.number c.in_ok-number.entry) (c.deref_mut.ensures.value ∙ entries))) c.in-Err.ensures.stopped),
     )
 
 pub returns-in-Ok-clause-others : goal.returns-in-Ok-clause-others
@@ -46,26 +48,26 @@ returns-in-Ok-clause-others g c =
     let entries = c.deref.ensures.value ∙ c.self.invariant.entries_are c.if-self.false in
     let lent = c.deref_mut.ensures.value ∙ c.self.invariant.entries_are c.if-self.false in
     let asked = ap (creation c.args.user c.args.name.now) (sym entries) ∙ sym c.creation.ensures.step ∙ c.in_ok-number.was in
-    let put = subst (λ es. IsSound es → IsPut es (c.in_ok-number.number, c.in_ok-number.entry)) entries c.in_ok-number.ensures.kept c.self.invariant.sound in
-    subst (λ old. OthersAreSame (g.S.Sectors.sectors old.device) (g.S.Sectors.sectors c.store.new.device) (IsFile c.args.user c.args.name.now)) c.self.view_is
-    (create_others _ _ c.args.user c.args.name.now (c.in_ok-number.number, c.in_ok-number.entry) c.is_name.ensures.seven c.self.invariant.sound put asked
-    (whole_change _ _ _ (subst (Changed (g.S.Sectors.sectors c.self.inside.device) (g.S.Sectors.sectors c.store.new.device)) (c.in-Ok.ensures.entries ∙ ap (λ es. slice_set es c.in_ok-number.number c.in_ok-number.entry) lent) c.in-Ok.ensures.stored)))
+    let put = subst (λ es. IsSound c.self.inside.kind es → IsPut c.self.inside.kind es (c.in_ok-number.number, c.in_ok-number.entry)) entries (c.in_ok-number.ensures.kept c.self.inside.kind) c.self.invariant.sound in
+    subst (λ old. OthersAreSame old.kind (g.S.Sectors.sectors old.device) (g.S.Sectors.sectors c.store.new.device) (IsFile c.args.user c.args.name.now)) c.self.view_is
+    (create_others c.self.inside.kind _ _ c.args.user c.args.name.now (c.in_ok-number.number, c.in_ok-number.entry) c.is_name.ensures.seven c.self.invariant.sound put asked
+    (whole_change c.self.inside.kind _ _ _ (subst (Changed c.self.inside.kind (g.S.Sectors.sectors c.self.inside.device) (g.S.Sectors.sectors c.store.new.device)) (c.in-Ok.ensures.entries ∙ ap (λ es. slice_set es c.in_ok-number.number c.in_ok-number.entry) lent) c.in-Ok.ensures.stored)))
 
 pub returns-in-Err-clause-others : goal.returns-in-Err-clause-others
 returns-in-Err-clause-others g c =
     let entries = c.deref.ensures.value ∙ c.self.invariant.entries_are c.if-self.false in
     let lent = c.deref_mut.ensures.value ∙ c.self.invariant.entries_are c.if-self.false in
     let asked = ap (creation c.args.user c.args.name.now) (sym entries) ∙ sym c.creation.ensures.step ∙ c.in_ok-number.was in
-    let put = subst (λ es. IsSound es → IsPut es (c.in_ok-number.number, c.in_ok-number.entry)) entries c.in_ok-number.ensures.kept c.self.invariant.sound in
-    subst (λ old. OthersAreSame (g.S.Sectors.sectors old.device) (g.S.Sectors.sectors c.store.new.device) (IsFile c.args.user c.args.name.now)) c.self.view_is
-    (create_others _ _ c.args.user c.args.name.now (c.in_ok-number.number, c.in_ok-number.entry) c.is_name.ensures.seven c.self.invariant.sound put asked
-    (partly _ _ _ (second _ _ _ (subst (Changed (g.S.Sectors.sectors c.self.inside.device) (g.S.Sectors.sectors c.store.new.device)) (c.in-Err.ensures.entries ∙ ap (λ es. slice_set es c.in_ok-number.number c.in_ok-number.entry) lent)) c.in-Err.ensures.stopped)))
+    let put = subst (λ es. IsSound c.self.inside.kind es → IsPut c.self.inside.kind es (c.in_ok-number.number, c.in_ok-number.entry)) entries (c.in_ok-number.ensures.kept c.self.inside.kind) c.self.invariant.sound in
+    subst (λ old. OthersAreSame old.kind (g.S.Sectors.sectors old.device) (g.S.Sectors.sectors c.store.new.device) (IsFile c.args.user c.args.name.now)) c.self.view_is
+    (create_others c.self.inside.kind _ _ c.args.user c.args.name.now (c.in_ok-number.number, c.in_ok-number.entry) c.is_name.ensures.seven c.self.invariant.sound put asked
+    (partly c.self.inside.kind _ _ _ (second _ _ _ (subst (Changed c.self.inside.kind (g.S.Sectors.sectors c.self.inside.device) (g.S.Sectors.sectors c.store.new.device)) (c.in-Err.ensures.entries ∙ ap (λ es. slice_set es c.in_ok-number.number c.in_ok-number.entry) lent)) c.in-Err.ensures.stopped)))
 
 pub returns-in-Ok-clause-made : goal.returns-in-Ok-clause-made
 returns-in-Ok-clause-made g c =
     let entries = c.deref.ensures.value ∙ c.self.invariant.entries_are c.if-self.false in
     let lent = c.deref_mut.ensures.value ∙ c.self.invariant.entries_are c.if-self.false in
     let asked = ap (creation c.args.user c.args.name.now) (sym entries) ∙ sym c.creation.ensures.step ∙ c.in_ok-number.was in
-    let put = subst (λ es. IsSound es → IsPut es (c.in_ok-number.number, c.in_ok-number.entry)) entries c.in_ok-number.ensures.kept c.self.invariant.sound in
-    made_file _ _ c.args.user c.args.name.now (c.in_ok-number.number, c.in_ok-number.entry) c.requires c.is_name.ensures.seven put asked
-    (subst (Changed (g.S.Sectors.sectors c.self.inside.device) (g.S.Sectors.sectors c.store.new.device)) (c.in-Ok.ensures.entries ∙ ap (λ es. slice_set es c.in_ok-number.number c.in_ok-number.entry) lent) c.in-Ok.ensures.stored)
+    let put = subst (λ es. IsSound c.self.inside.kind es → IsPut c.self.inside.kind es (c.in_ok-number.number, c.in_ok-number.entry)) entries (c.in_ok-number.ensures.kept c.self.inside.kind) c.self.invariant.sound in
+    made_file c.self.inside.kind _ _ c.args.user c.args.name.now (c.in_ok-number.number, c.in_ok-number.entry) c.requires c.is_name.ensures.seven put asked
+    (subst (Changed c.self.inside.kind (g.S.Sectors.sectors c.self.inside.device) (g.S.Sectors.sectors c.store.new.device)) (c.in-Ok.ensures.entries ∙ ap (λ es. slice_set es c.in_ok-number.number c.in_ok-number.entry) lent) c.in-Ok.ensures.stored)

@@ -1,0 +1,126 @@
+//! The kinds of disk.
+
+/// A kind of disk, which says how much of everything there is.
+#[derive(Clone, Copy, Debug, PartialEq, Eq)]
+pub enum DiskKind {
+    /// Eight inch, single density: 77 tracks of 26 sectors, the first two of the system.
+    EightInch,
+    /// 1,048,576 bytes: no tracks of the system, and the records follow each other in the image.
+    Megabyte,
+}
+
+impl DiskKind {
+    ghost use Rattle.std.specs.Prelude.{◌≡◌, MatchOption};
+    ghost use Rattle.cpm_image.specs.Kind.{IsDiskSize, block_count, block_records, directory_records, entry_blocks, entry_count, file_records, first_block, last_high, record_count, sector_count};
+
+    /// The kind of a disk of so many sectors.
+    pub fn of_size(sectors: u32) -> Option<DiskKind>
+        ensures { MatchOption result (¬ IsDiskSize sectors) (λ kind. sectors ≡ sector_count kind) }
+    {
+        match sectors {
+            2_002 => Some(DiskKind::EightInch),
+            8_192 => Some(DiskKind::Megabyte),
+            _ => None,
+        }
+    }
+
+    /// Sectors of an image.
+    pub fn sector_count(self) -> u32
+        ensures { result ≡ sector_count self }
+    {
+        match self {
+            DiskKind::EightInch => 2_002,
+            DiskKind::Megabyte => 8_192,
+        }
+    }
+
+    /// Records of a block.
+    pub fn block_records(self) -> u8
+        ensures { result ≡ block_records self }
+    {
+        match self {
+            DiskKind::EightInch => 8,
+            DiskKind::Megabyte => 16,
+        }
+    }
+
+    /// Blocks, numbered from 0.
+    pub fn block_count(self) -> u16
+        ensures { result ≡ block_count self }
+    {
+        match self {
+            DiskKind::EightInch => 243,
+            DiskKind::Megabyte => 512,
+        }
+    }
+
+    /// Logical records: those of the blocks. They leave the last six sectors of an eight inch disk unused.
+    pub fn record_count(self) -> u32
+        ensures { result ≡ record_count self }
+    {
+        match self {
+            DiskKind::EightInch => 1_944,
+            DiskKind::Megabyte => 8_192,
+        }
+    }
+
+    /// The first block of files. Those before it are the directory.
+    pub fn first_block(self) -> u16
+        ensures { result ≡ first_block self }
+    {
+        match self {
+            DiskKind::EightInch => 2,
+            DiskKind::Megabyte => 4,
+        }
+    }
+
+    /// Logical records of the directory, each of four entries.
+    pub fn directory_records(self) -> u32
+        ensures { result ≡ directory_records self }
+    {
+        match self {
+            DiskKind::EightInch => 16,
+            DiskKind::Megabyte => 64,
+        }
+    }
+
+    /// Entries of the directory.
+    pub fn entry_count(self) -> u16
+        ensures { result ≡ entry_count self }
+    {
+        match self {
+            DiskKind::EightInch => 64,
+            DiskKind::Megabyte => 256,
+        }
+    }
+
+    /// Block numbers of an entry, one for each block of an extent's 128 records.
+    pub fn entry_blocks(self) -> u8
+        ensures { result ≡ entry_blocks self }
+    {
+        match self {
+            DiskKind::EightInch => 16,
+            DiskKind::Megabyte => 8,
+        }
+    }
+
+    /// The greatest value of the low six bits of an entry's S2.
+    pub fn last_high(self) -> u8
+        ensures { result ≡ last_high self }
+    {
+        match self {
+            DiskKind::EightInch => 0,
+            DiskKind::Megabyte => 15,
+        }
+    }
+
+    /// Records that a file may have, 4,096 for each value of S2.
+    pub fn file_records(self) -> u32
+        ensures { result ≡ file_records self }
+    {
+        match self {
+            DiskKind::EightInch => 4_096,
+            DiskKind::Megabyte => 65_536,
+        }
+    }
+}
