@@ -10,6 +10,7 @@ use Rattle.asm_module.specs.declared.assembling.Lines as listing
 use Rattle.zlink_program.specs.Laws.{statement_count}
 use Rattle.zlink_program.specs.Whole as object
 use Rattle.zlink_file.specs.Objects as file
+use Rattle.zlink_file.specs.Places.{ArePlaces}
 use Rattle.zlink.specs.declared.fault.BuildFault.TheVariants as build
 use Rattle.zlink.specs.declared.fault.LinkFault.{LinkFault}
 use Rattle.zlink.specs.declared.fault.LinkFault.TheVariants as link
@@ -17,11 +18,10 @@ use Rattle.zlink.specs.declared.linking.Linked.{Linked}
 use Rattle.zlink.specs.declared.origins.Origin as origin
 use Rattle.zlink.specs.declared.source.Source.{Source}
 use Rattle.zlink.specs.Built as built
-use Rattle.zlink.specs.Built.{IsBuilt, lines_of, origin_of, origins_by}
+use Rattle.zlink.specs.Built.{IsBuilt, built_output, lines_of, origin_of, origins_by}
 use Rattle.zlink.specs.Judged.{IsBestAfter, IsUnfit}
-use Rattle.zlink.specs.Linked as linked
-use Rattle.zlink.specs.Linked.{IsLinked, symbols}
-use Rattle.zlink.specs.Reads.{shape}
+use Rattle.zlink.specs.Linked.{IsLinked, IsOutput, linked_output}
+use Rattle.zlink.specs.Reads.{shape, sized_as}
 use Rattle.zlink.specs.Sources.{AreAssembled, Assembly, modules_of, program_of}
 use Rattle.zlink.specs.Private.Assembling.{lines_in}
 use Rattle.zlink.proofs.Carried.{Laid, carried, same_shape}
@@ -44,7 +44,7 @@ same_lines lines sources same = by_map (λ l. l.each.items) 0 lines ∙ ap (line
 module _ (grow : Bool) (sources : List Source) (these : List Assembly) (are : AreAssembled grow sources these) (laid : Laid these) where
   -- Modules that make no file are sources that make none.
   pub refused : (fault : LinkFault) → IsLinked (modules_of these) (Err fault) → IsBuilt grow sources (Err (build.Link fault))
-  refused (link.NoFit why sizes cert) is = (these, are, is.0, subst (λ s. IsUnfit s why sizes.items cert.items) (same_shape these laid) is.1)
+  refused (link.NoFit why sizes cert) is = (these, are, is.0, same_shape these laid, subst (λ s. IsUnfit s why sizes.items cert.items) (same_shape these laid) is.1)
   refused link.NoMemory is = tt
   refused link.TooManyStatements is = (these, are, is.0, is.1, is.2)
   refused (link.BeginsNotFirst m) is = (these, are, is.0, is.1, is.2)
@@ -52,26 +52,36 @@ module _ (grow : Bool) (sources : List Source) (these : List Assembly) (are : Ar
   refused (link.Unresolved m x) is = (these, are, is.0, is.1, is.2)
   refused (link.EntryNotFirst m) is = (these, are, is.0, is.1, is.2)
 
-  -- The places at which statements come from their lines are those of the choice.
-  placed : (order : List ℕ) (l : Linked) → (length (object.program (modules_of these)) ≡ statement_count (modules_of these)) → linked.IsFile (modules_of these) order l
-      → origins_by (λ k. slice_index l.places.items k) (lines_of these) ≡ origins_by (place (after order) (shape (program_of these))) (lines_of these)
-  placed order l count f =
-      let all : length (lines_of these) ≡ statement_count (modules_of these) = count_lines these (λ k d lt. (laid.kept k d lt).lines) in
+  -- Each statement comes from a line.
+  lines_are : length (lines_of these) ≡ statement_count (modules_of these)
+  lines_are = count_lines these (λ k d lt. (laid.kept k d lt).lines)
+
+  -- .. and they are as many.
+  as_many : length (object.program (modules_of these)) ≡ statement_count (modules_of these) → length (lines_of these) ≡ length (program_of these)
+  as_many count =
       let sizes : length (file.shape (object.program (modules_of these))) ≡ length (object.program (modules_of these)) = length-map (object.program (modules_of these)) (λ p. file.sized_by p.stands p.statement) in
-      origins_same (λ k. slice_index l.places.items k) (place (after order) (file.shape (object.program (modules_of these)))) (lines_of these) (λ k lt. f.places.each k (omega (arith, all, sizes, count)))
+      lines_are ∙ sym count ∙ sym sizes ∙ ap length (same_shape these laid) ∙ length-map (program_of these) sized_as
+
+  -- The places at which statements come from their lines are those of the choice.
+  placed : (order : List ℕ) (l : Linked) → (length (object.program (modules_of these)) ≡ statement_count (modules_of these)) → ArePlaces (after order) (file.shape (object.program (modules_of these))) l.places.items
+      → origins_by (λ k. slice_index l.places.items k) (lines_of these) ≡ origins_by (place (after order) (shape (program_of these))) (lines_of these)
+  placed order l count places =
+      let sizes : length (file.shape (object.program (modules_of these))) ≡ length (object.program (modules_of these)) = length-map (object.program (modules_of these)) (λ p. file.sized_by p.stands p.statement) in
+      let all = lines_are in
+      origins_same (λ k. slice_index l.places.items k) (place (after order) (file.shape (object.program (modules_of these)))) (lines_of these) (λ k lt. places.each k (omega (arith, all, sizes, count)))
       ∙ ap (λ s. origins_by (place (after order) s) (lines_of these)) (same_shape these laid)
 
   -- The file of the modules is that of the sources.
-  pub of_file : (order : List ℕ) (l : Linked) (lines : List listing.Lines) (from : Vec origin.Origin Global) (last : Vec ℕ Global) → (length (object.program (modules_of these)) ≡ statement_count (modules_of these)) → linked.IsFile (modules_of these) order l
+  pub of_file : (order : List ℕ) (l : Linked) (lines : List listing.Lines) (from : Vec origin.Origin Global) (last : Vec ℕ Global) → (length (object.program (modules_of these)) ≡ statement_count (modules_of these))
+      → IsOutput (modules_of these) order (linked_output l) → ArePlaces (after order) (file.shape (object.program (modules_of these))) l.places.items
       → All (λ b. b < 256) l.com.items → map (λ x. x.each.items) lines ≡ map (λ a. a.assembled.each) these → map (λ x. x.last) lines ≡ map (λ a. a.assembled.last) these
       → map origin_of from.items ≡ origins_by (λ k. slice_index l.places.items k) (lines_in lines) → last.items ≡ map (λ x. x.last) lines
       → built.IsFile these order (record { «com» = l.com; sizes = l.sizes; cert = l.cert; symbols = l.symbols; statements = from; last = last; grown = l.grown })
-  of_file order l lines from last count f small each lasts origins last_are = record {
+  of_file order l lines from last count f places small each lasts origins last_are = record {
     judged = subst (λ s. IsBestAfter s order l.sizes.items l.cert.items) (same_shape these laid) f.judged;
     reads = carried these l.com.items (after order) laid small f.reads;
-    objects = f.reads;
-    symbols = f.symbols ∙ ap (λ s. symbols (place (after order) s) (modules_of these)) (same_shape these laid);
-    statements = origins ∙ ap (origins_by (λ k. slice_index l.places.items k)) (same_lines lines these each) ∙ placed order l count f;
+    linked = f;
+    each = as_many count;
+    statements = origins ∙ ap (origins_by (λ k. slice_index l.places.items k)) (same_lines lines these each) ∙ placed order l count places;
     last = last_are ∙ lasts;
-    grown = f.grown;
   }

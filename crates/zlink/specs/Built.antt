@@ -1,12 +1,13 @@
 -- What is built of sources.
-use Rattle.std.specs.Prelude.{◌≡◌, ℕ, Bool, List, Some, None, Result, Ok, Err, map}
+use Rattle.std.specs.Prelude.{◌≡◌, ◌⊎◌, ℕ, Bool, IsOk, List, Some, None, Result, Ok, Err, length, map}
 use Rattle.std.specs.List.{enumerate_from, flat_map}
-use Rattle.ruler.specs.Choice.{place}
+use Rattle.asm_module.specs.declared.fault.AsmFault.{AsmFault}
+use Rattle.ruler.specs.Choice.{Choice, IsValid, place}
 use Rattle.relax.specs.Growth.{after}
 use Rattle.zlink_program.specs.declared.fault.JoinFault.{JoinFault}
 use Rattle.zlink_program.specs.Faults.{first_fault}
 use Rattle.zlink_program.specs.Whole as object
-use Rattle.zlink_file.specs.Objects.{ReadsObjects, grown}
+use Rattle.zlink_file.specs.Objects as file
 use Rattle.zlink.specs.declared.fault.BuildFault.{BuildFault}
 use Rattle.zlink.specs.declared.fault.BuildFault.TheVariants as build
 use Rattle.zlink.specs.declared.fault.LinkFault.TheVariants as link
@@ -14,7 +15,7 @@ use Rattle.zlink.specs.declared.building.Built as built
 use Rattle.zlink.specs.declared.origins.Origin as origin
 use Rattle.zlink.specs.declared.source.Source.{Source}
 use Rattle.zlink.specs.Judged.{IsBestAfter, IsUnfit}
-use Rattle.zlink.specs.Linked.{link_fault, symbol_of, symbols}
+use Rattle.zlink.specs.Linked.{IsOutput, Output, link_fault, symbol_of}
 use Rattle.zlink.specs.Reads.{Reads, shape}
 use Rattle.zlink.specs.Sources.{Assembly, AreAssembled, IsFirstFaulty, modules_of, program_of}
 
@@ -35,21 +36,25 @@ origins_by places lines = map (λ l. record { place = places l.0; source = l.1.0
 abbrev pub origin_of : origin.Origin → Origin
 origin_of o = record { place = o.place; source = o.source; line = o.line }
 
+abbrev pub built_output : built.Built → Output
+built_output b = record { file = b.com.items; sizes = b.sizes.items; cert = b.cert.items; symbols = map symbol_of b.symbols.items; grown = b.grown.items }
+
 -- The file reads, statement by statement, as the program of the sources under the choice after the least-first order, with every target at
--- its place; no choice that fits takes fewer bytes; the two texts certify that; and what stands beside the file is told of that choice.
+-- its place; no choice that fits takes fewer bytes; and the two texts certify that.
 pub record IsFile (assemblies : List Assembly) (order : List ℕ) (b : built.Built) : Type 0 where
   pub judged : IsBestAfter (shape (program_of assemblies)) order b.sizes.items b.cert.items
   pub reads : Reads b.com.items (program_of assemblies) (after order)
-  -- it is the file of their modules
-  pub objects : ReadsObjects b.com.items (object.program (modules_of assemblies)) (after order)
-  pub symbols : map symbol_of b.symbols.items ≡ symbols (place (after order) (shape (program_of assemblies))) (modules_of assemblies)
+  -- it is what linking makes of their modules
+  pub linked : IsOutput (modules_of assemblies) order (built_output b)
+  -- each statement has a source and a line, and its place is that of the choice
+  pub each : length (lines_of assemblies) ≡ length (program_of assemblies)
   pub statements : map origin_of b.statements.items ≡ origins_by (place (after order) (shape (program_of assemblies))) (lines_of assemblies)
   pub last : b.last.items ≡ map (λ a. a.assembled.last) assemblies
-  pub grown : b.grown.items ≡ grown (object.program (modules_of assemblies)) (after order)
 
--- The sources are a program, of which this holds.
+-- The sources are a program, of which this holds: their modules have no fault together, and take as many bytes as it, statement by statement.
 abbrev pub Program : Bool → List Source → (List Assembly → Type 0) → Type 0
-Program grow sources P = (assemblies : List Assembly) × AreAssembled grow sources assemblies × (first_fault (modules_of assemblies) ≡ None) × P assemblies
+Program grow sources P = (assemblies : List Assembly) × AreAssembled grow sources assemblies × (first_fault (modules_of assemblies) ≡ None)
+    × (file.shape (object.program (modules_of assemblies)) ≡ shape (program_of assemblies)) × P assemblies
 
 -- What is answered, but for memory: a file; or the first fault of the first faulty source; or why the modules of the sources make no program;
 -- or why no choice of the program's jumps fits.
@@ -60,3 +65,13 @@ IsBuilt grow sources (Err (build.Link (link.NoFit why sizes cert))) = Program gr
 IsBuilt grow sources (Err (build.Link link.NoMemory)) = Unit {0}
 IsBuilt grow sources (Err (build.Link fault)) = (assemblies : List Assembly) × AreAssembled grow sources assemblies
     × (first : JoinFault) × (first_fault (modules_of assemblies) ≡ Some first) × (link_fault first ≡ fault)
+
+-- Memory aside, sources that have a first fault are refused with it; modules of sources that have a first fault together are refused with that;
+-- and where some choice of short and long jumps fits, there is a file.
+pub record IsExact (grow : Bool) (sources : List Source) (result : Result built.Built BuildFault) : Type 0 where
+  pub source : (number : ℕ) (fault : AsmFault) → IsFirstFaulty grow sources number fault →
+      (result ≡ Err (build.Asm number fault)) ⊎ (result ≡ Err (build.Link link.NoMemory))
+  pub modules : (assemblies : List Assembly) (fault : JoinFault) → AreAssembled grow sources assemblies → first_fault (modules_of assemblies) ≡ Some fault →
+      (result ≡ Err (build.Link (link_fault fault))) ⊎ (result ≡ Err (build.Link link.NoMemory))
+  pub fits : (assemblies : List Assembly) (c : Choice) → AreAssembled grow sources assemblies → first_fault (modules_of assemblies) ≡ None →
+      IsValid c (shape (program_of assemblies)) → IsOk result ⊎ (result ≡ Err (build.Link link.NoMemory))

@@ -1,7 +1,7 @@
 -- What `link` answers of modules.
-use Rattle.std.specs.Prelude.{◌≡◌, ℕ, ◌+◌, List, Some, None, Result, Ok, Err, map}
+use Rattle.std.specs.Prelude.{◌≡◌, ◌⊎◌, ℕ, ◌+◌, IsOk, List, Some, None, Result, Ok, Err, map}
 use Rattle.std.specs.List.{flat_map}
-use Rattle.ruler.specs.Choice.{place}
+use Rattle.ruler.specs.Choice.{Choice, IsValid, place}
 use Rattle.relax.specs.Growth.{after}
 use Rattle.zmo_module.specs.Modules.{Module}
 use Rattle.zlink_program.specs.declared.fault.JoinFault.{JoinFault}
@@ -33,14 +33,24 @@ symbols places modules = flat_map (λ p. symbols_in places p.base p.holds) (part
 abbrev pub symbol_of : symbol.Symbol → Symbol
 symbol_of s = record { name = s.name.items; module_name = s.module.items; place = s.place }
 
+-- What is made of modules: the file; the two texts; the labels; and the numbers of the written JRs that had to grow.
+pub record Output : Type 0 where
+  pub file : List ℕ
+  pub sizes : List ℕ
+  pub cert : List ℕ
+  pub symbols : List Symbol
+  pub grown : List ℕ
+
 -- The file is the modules' statements under the choice after the least-first order, than which no choice that fits takes fewer bytes; and
 -- what stands beside it is told of that choice.
-pub record IsFile (modules : List Module) (order : List ℕ) (l : linked.Linked) : Type 0 where
-  pub judged : IsBestAfter (shape (program modules)) order l.sizes.items l.cert.items
-  pub reads : ReadsObjects l.com.items (program modules) (after order)
-  pub places : ArePlaces (after order) (shape (program modules)) l.places.items
-  pub symbols : map symbol_of l.symbols.items ≡ symbols (place (after order) (shape (program modules))) modules
-  pub grown : l.grown.items ≡ grown (program modules) (after order)
+pub record IsOutput (modules : List Module) (order : List ℕ) (o : Output) : Type 0 where
+  pub judged : IsBestAfter (shape (program modules)) order o.sizes o.cert
+  pub reads : ReadsObjects o.file (program modules) (after order)
+  pub symbols : o.symbols ≡ symbols (place (after order) (shape (program modules))) modules
+  pub grown : o.grown ≡ grown (program modules) (after order)
+
+abbrev pub linked_output : linked.Linked → Output
+linked_output l = record { file = l.com.items; sizes = l.sizes.items; cert = l.cert.items; symbols = map symbol_of l.symbols.items; grown = l.grown.items }
 
 -- the modules' first fault, as one of linking
 abbrev pub link_fault : JoinFault → LinkFault
@@ -53,7 +63,13 @@ link_fault JoinFault.NoMemory = link.NoMemory
 
 -- What is answered, but for memory.
 abbrev pub IsLinked : List Module → Result linked.Linked LinkFault → Type 0
-IsLinked modules (Ok l) = (first_fault modules ≡ None) × (order : List ℕ) × IsFile modules order l
+IsLinked modules (Ok l) = (first_fault modules ≡ None) × (order : List ℕ) × IsOutput modules order (linked_output l)
+    × ArePlaces (after order) (shape (program modules)) l.places.items
 IsLinked modules (Err (link.NoFit why sizes cert)) = (first_fault modules ≡ None) × IsUnfit (shape (program modules)) why sizes.items cert.items
 IsLinked modules (Err link.NoMemory) = Unit {0}
 IsLinked modules (Err fault) = (first : JoinFault) × (first_fault modules ≡ Some first) × (link_fault first ≡ fault)
+
+-- Memory aside, modules that have a first fault together are refused with it; and where some choice of short and long jumps fits, there is a file.
+pub record IsExact (modules : List Module) (result : Result linked.Linked LinkFault) : Type 0 where
+  pub faults : (fault : JoinFault) → first_fault modules ≡ Some fault → (result ≡ Err (link_fault fault)) ⊎ (result ≡ Err link.NoMemory)
+  pub fits : (c : Choice) → first_fault modules ≡ None → IsValid c (shape (program modules)) → IsOk result ⊎ (result ≡ Err link.NoMemory)

@@ -1,11 +1,7 @@
 //! From sources to a file.
 
-ghost use Rattle.std.specs.Prelude.{◌≡◌, ◌<◌, ◌⊎◌, ℕ, All, Err, IfOk, false, map};
-ghost use Rattle.asm_module.specs.declared.fault.AsmFault.{AsmFault};
-ghost use Rattle.zlink.specs.declared.fault.BuildFault.{BuildFault};
-ghost use Rattle.zlink.specs.declared.fault.LinkFault.{LinkFault};
-ghost use Rattle.zlink.specs.Sources.{IsFirstFaulty};
-ghost use Rattle.zlink.specs.Built.{IsBuilt};
+ghost use Rattle.std.specs.Prelude.{◌≡◌, ◌<◌, All, IfOk, false, map};
+ghost use Rattle.zlink.specs.Built.{IsBuilt, IsExact};
 
 use crate::assembling::{Assemblies, assemble_all};
 use crate::fault::BuildFault;
@@ -93,9 +89,8 @@ pub fn build_with(alloc: Global, sources: &[Source<'_>], grow: bool) -> Result<B
     // What is answered holds of the sources.
     ensures answer { IsBuilt grow sources.now result }
 
-    // Sources that have a first fault are refused with it.
-    ensures exact { (number : ℕ) (fault : AsmFault) → IsFirstFaulty grow sources.now number fault →
-        (result ≡ Err (BuildFault.Asm number fault)) ⊎ (result ≡ Err (BuildFault.Link LinkFault.NoMemory)) }
+    // What they are, they are answered.
+    ensures exact { IsExact grow sources.now result }
 {
     // A law, which does nothing: its contract is what the clause `exact` follows from.
     exact();
@@ -109,8 +104,7 @@ pub fn build_with(alloc: Global, sources: &[Source<'_>], grow: bool) -> Result<B
 /// As those of [`build_with`].
 pub fn build(alloc: Global, sources: &[Source<'_>]) -> Result<Built, BuildFault>
     ensures answer { IsBuilt false sources.now result }
-    ensures exact { (number : ℕ) (fault : AsmFault) → IsFirstFaulty false sources.now number fault →
-        (result ≡ Err (BuildFault.Asm number fault)) ⊎ (result ≡ Err (BuildFault.Link LinkFault.NoMemory)) }
+    ensures exact { IsExact false sources.now result }
 {
     build_with(alloc, sources, false)
 }

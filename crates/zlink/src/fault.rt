@@ -13,12 +13,12 @@ use zlink_program::JoinFault;
 #[derive(Clone, Copy, Debug, PartialEq, Eq, Error)]
 pub enum Misfit {
     /// This statement, counted from 0, is the lowest jump that is always short and does not reach its target. It reaches it in no
-    /// choice in which every short jump reaches its own.
+    /// choice in which each jump that could be long, and is short, reaches its own.
     #[error("statement {0} reaches its target in no choice that fits")]
     Range(u32),
-    /// Each jump that is always short reaches its target, but every choice in which all short jumps do takes at least this many
-    /// bytes, more than 64,512.
-    #[error("every choice in which all jumps reach takes {0} bytes or more")]
+    /// Each jump that is always short reaches its target, but every choice in which each jump that could be long, and is short,
+    /// reaches its own takes at least this many bytes, more than 64,512.
+    #[error("no choice in which jumps reach takes less than {0} bytes")]
     TooLarge(u32),
 }
 
@@ -32,14 +32,14 @@ pub enum LinkFault {
     /// This module begins the program, and is not the first.
     #[error("module {0} begins the program, and is not the first")]
     BeginsNotFirst(usize),
-    /// The name of this module's label is public, and one of a module before it.
-    #[error("label {1} of module {0} is defined by a module before it")]
+    /// This label of this module is public, and one of its name is public in a module before it.
+    #[error("label {1} of module {0} is public in a module before it too")]
     DefinedTwice(usize, u16),
-    /// No module gives this module's external.
-    #[error("external {1} of module {0} is defined by no module")]
+    /// This external of this module is public in no module.
+    #[error("external {1} of module {0} is public in no module")]
     Unresolved(usize, usize),
     /// The entry of this module is not the first statement of the program.
-    #[error("the entry of module {0} is not the first statement")]
+    #[error("the entry of module {0} is not the first statement of the program")]
     EntryNotFirst(usize),
     /// No choice of short and long jumps fits.
     #[error("no choice of short and long jumps fits")]

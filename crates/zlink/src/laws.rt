@@ -1,13 +1,11 @@
 //! Laws of the definitions, as functions that do nothing.
 
-ghost use Rattle.std.specs.Prelude.{◌≡◌, ◌↔◌, ◌⊎◌, ℕ, Bool, Err, List, Result, map};
-ghost use Rattle.asm_module.specs.declared.fault.AsmFault.{AsmFault};
+ghost use Rattle.std.specs.Prelude.{◌≡◌, ◌↔◌, ℕ, Bool, List, Result, map};
 ghost use Rattle.zlink.specs.declared.building.Built.{Built};
 ghost use Rattle.zlink.specs.declared.fault.BuildFault.{BuildFault};
-ghost use Rattle.zlink.specs.declared.fault.LinkFault.{LinkFault};
 ghost use Rattle.zlink.specs.declared.source.Source.{Source};
-ghost use Rattle.zlink.specs.Built.{IsBuilt};
-ghost use Rattle.zlink.specs.Sources.{IsFirstFaulty};
+ghost use Rattle.zlink.specs.Built.{IsBuilt, IsExact};
+ghost use Rattle.zlink.specs.Sources.{Assembly, AreAssembled};
 ghost use Rattle.ruler.specs.declared.shape.Statement.{Statement as Sized};
 ghost use Rattle.ruler.specs.Choice.{Choice, Fits, IsBest, IsSettled, IsValid, place, total};
 ghost use Rattle.relax.specs.Growth.{IsForcing};
@@ -29,10 +27,10 @@ pub fn shapes_agree()
     ensures forcing { (shape : List Sized) (order : List ℕ) → IsForcing shape order ↔ IsToldForcing (map told shape) order }
 {}
 
-/// Sources that have a first fault are refused with it, and with no other; out of memory aside.
+/// Sources are one program at most, and what is answered of them is what they are, out of memory aside.
 pub fn exact()
-    ensures { (grow : Bool) (sources : List Source) (result : Result Built BuildFault) (number : ℕ) (fault : AsmFault) → IsBuilt grow sources result →
-        IsFirstFaulty grow sources number fault → (result ≡ Err (BuildFault.Asm number fault)) ⊎ (result ≡ Err (BuildFault.Link LinkFault.NoMemory)) }
+    ensures program { (grow : Bool) (sources : List Source) (a b : List Assembly) → AreAssembled grow sources a → AreAssembled grow sources b → a ≡ b }
+    ensures answer { (grow : Bool) (sources : List Source) (result : Result Built BuildFault) → IsBuilt grow sources result → IsExact grow sources result }
 {
     // A law, which does nothing: its contract is what this one follows from.
     one_answer();

@@ -3,7 +3,7 @@
 ghost use Rattle.std.specs.Prelude.{All, map};
 ghost use Rattle.zmo_module.specs.Modules.{module_of};
 ghost use Rattle.zmo_module.specs.Rules.{IsModule};
-ghost use Rattle.zlink.specs.Linked.{IsLinked};
+ghost use Rattle.zlink.specs.Linked.{IsExact, IsLinked};
 
 use crate::certify::{Texts, certify};
 use crate::fault::{LinkFault, Misfit};
@@ -31,15 +31,8 @@ pub struct Linked {
     pub grown: Vec<u32>,
 }
 
-/// Links modules in their order to a .COM file, with each jump as short as it can be.
-///
-/// The file begins with the first statement and is loaded at 0100H.
-///
-/// # Errors
-///
-/// The first fault of the modules together, by the order of [`LinkFault`]; [`LinkFault::NoFit`] only where no choice of short and long jumps
-/// fits, with the reason; [`LinkFault::NoMemory`] where memory ran out.
-pub fn link(alloc: Global, modules: &[Module]) -> Result<Linked, LinkFault>
+/// What is linked of the modules, or why nothing is.
+fn link_modules(alloc: Global, modules: &[Module]) -> Result<Linked, LinkFault>
     requires { All IsModule (map module_of modules.now) }
     ensures { IsLinked (map module_of modules.now) result }
 {
@@ -71,4 +64,24 @@ pub fn link(alloc: Global, modules: &[Module]) -> Result<Linked, LinkFault>
             cert,
         }),
     }
+}
+
+/// Links modules in their order to a .COM file, with each jump as short as it can be.
+///
+/// The file begins with the first statement and is loaded at 0100H.
+///
+/// # Errors
+///
+/// The first fault of the modules together, by the order of [`LinkFault`]; [`LinkFault::NoFit`] only where no choice of short and long jumps
+/// fits, with the reason; [`LinkFault::NoMemory`] where memory ran out.
+pub fn link(alloc: Global, modules: &[Module]) -> Result<Linked, LinkFault>
+    requires { All IsModule (map module_of modules.now) }
+
+    // What is answered holds of the modules.
+    ensures answer { IsLinked (map module_of modules.now) result }
+
+    // What they are, they are answered.
+    ensures exact { IsExact (map module_of modules.now) result }
+{
+    link_modules(alloc, modules)
 }

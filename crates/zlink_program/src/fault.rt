@@ -5,7 +5,8 @@ ghost use Rattle.std.specs.Prelude.{◌≡◌};
 use std::alloc::{AllocError, AllocFailed};
 use thiserror::Error;
 
-/// Why modules make no program. Modules, their labels and their externals are numbered from 0.
+/// Why modules make no program. Modules, their labels and their externals are numbered from 0. Where there are several reasons, the first
+/// here is told.
 #[derive(Clone, Copy, Debug, PartialEq, Eq, Error)]
 pub enum JoinFault {
     /// There are more than 20,000 statements.
@@ -14,14 +15,14 @@ pub enum JoinFault {
     /// This module begins the program, and is not the first.
     #[error("module {0} begins the program, and is not the first")]
     BeginsNotFirst(usize),
-    /// The name of this module's label is public, and one of a module before it.
-    #[error("label {1} of module {0} is defined by a module before it")]
+    /// This label of this module is public, and one of its name is public in a module before it.
+    #[error("label {1} of module {0} is public in a module before it too")]
     DefinedTwice(usize, u16),
-    /// No module gives this module's external.
-    #[error("external {1} of module {0} is defined by no module")]
+    /// This external of this module is public in no module.
+    #[error("external {1} of module {0} is public in no module")]
     Unresolved(usize, usize),
     /// The entry of this module is not the first statement of the program.
-    #[error("the entry of module {0} is not the first statement")]
+    #[error("the entry of module {0} is not the first statement of the program")]
     EntryNotFirst(usize),
     #[error("out of memory")]
     NoMemory,

@@ -202,7 +202,7 @@ fn sentences(rt: HostRuntime) -> Result<(), Fail> {
     let fault = BuildFault::Link(DefinedTwice(2, 0));
     assert_eq!(rt;
         format!(in rt.alloc(); "{fault}")?.as_str(),
-        "label 0 of module 2 is defined by a module before it"
+        "label 0 of module 2 is public in a module before it too"
     );
     let fault = BuildFault::Link(LinkFault::NoMemory);
     assert_eq!(rt;

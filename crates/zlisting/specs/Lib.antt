@@ -1,0 +1,4 @@
+pub mod Printed
+pub mod Listing
+pub mod Symbols
+pub mod Private

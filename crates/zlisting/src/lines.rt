@@ -1,0 +1,79 @@
+//! The lines of sources, with their bytes.
+
+ghost use Rattle.std.specs.Prelude.{◌≡◌, ◌++◌, ◌+◌, ◌≤◌, ◌==◌, IfOk, OnOk, filter, length, map, not};
+ghost use Rattle.std.specs.List.{prefix_len};
+ghost use Rattle.asm_macro.specs.Texts.{source_part};
+ghost use Rattle.zlisting.specs.Private.Runs.{Ascends, HasLines, source_with};
+ghost use Rattle.zlisting.specs.Listing as spec;
+
+use crate::cells::{Cell, cells_by_line, split_line};
+use crate::rows::put_line;
+use bstr::ByteSlice;
+use std::alloc::{AllocError, Global};
+use zlink::{Built, Source};
+
+/// How many bytes stand before the first byte 1AH.
+fn end_of(text: &[u8]) -> usize
+    ensures value { result ≡ prefix_len (λ byte. not (byte == 0x1A)) text.now }
+    ensures within { result ≤ length text.now }
+{
+    text.iter().take_while(|byte| **byte != 0x1A).count()
+}
+
+/// The text up to its first byte 1AH, CP/M's end of a text file.
+fn before_end(text: &[u8]) -> &[u8]
+    ensures { result.now ≡ source_part text.now }
+{
+    &text[..end_of(text)]
+}
+
+/// Adds the lines of a source up to the last that is listed, and answers the bytes of the sources behind it.
+fn put_source<'a>(
+    alloc: Global,
+    out: &mut Vec<u8>,
+    cells: &'a [Cell],
+    source: usize,
+    text: &[u8],
+    last: u32,
+) -> Result<&'a [Cell], AllocError>
+    requires { Ascends cells.now }
+    ensures text { IfOk result (λ _. out.new.items ≡ out.old.items ++ source_with source cells.now last text.now) }
+    ensures rest { IfOk result (λ rest. HasLines (λ number line. source + 1 ≤ number) rest.now cells.now) }
+{
+    let mut rest = cells;
+    let mut number = 0;
+    for line in before_end(text).lines() {
+        if number == last {
+            return Ok(rest);
+        }
+        number += 1;
+        let (own, behind) = split_line(rest, source, number);
+        put_line(alloc, out, line, own)?;
+        rest = behind;
+    }
+    Ok(rest)
+}
+
+/// The listing of what is built of sources: each line of each source, with the bytes of its statements, four to a row.
+///
+/// A row has the address of its first byte, and its bytes, in hexadecimal, and the first row of a line its text. A line without bytes has
+/// blanks before its text. The line of a call or a `REPT` has all bytes of its expansion. Of each source the lines up to the last one that
+/// is listed stand there, as far as the text has them.
+///
+/// # Errors
+///
+/// [`AllocError`] where memory ran out.
+pub fn listing(alloc: Global, built: &Built, sources: &[Source<'_>]) -> Result<Vec<u8>, AllocError>
+    ensures { IfOk result (λ text. text.items ≡ spec.listing built.now sources.now) }
+{
+    let cells = cells_by_line(alloc, &built.com, &built.statements)?;
+    let mut out = Vec::new(alloc);
+    let mut rest = cells.as_slice();
+    for (number, source) in sources.iter().enumerate() {
+        let Some(last) = built.last.get(number) else {
+            return Ok(out);
+        };
+        rest = put_source(alloc, &mut out, rest, number, source.text, *last)?;
+    }
+    Ok(out)
+}

@@ -1,0 +1,6 @@
+W MACRO
+NOP
+END
+ENDM
+W
+RET

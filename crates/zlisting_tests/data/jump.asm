@@ -1,0 +1,3 @@
+JP X
+NOP
+X: RET

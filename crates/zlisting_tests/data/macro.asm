@@ -1,0 +1,6 @@
+W MACRO
+LOCAL Q
+Q: JP Q
+ENDM
+W
+W

@@ -1,0 +1,7 @@
+PUBLIC SUB2
+
+SUB2: LD A,(SAME)
+ RET
+
+SAME: DB 7END of the text
+NOP

@@ -1,0 +1,2 @@
+SAME: JP SAME
+ay: EQU 5
