@@ -1,3 +1,4 @@
 pub mod Ends
 pub mod TextSoFar
 pub mod Written
+pub mod Stored

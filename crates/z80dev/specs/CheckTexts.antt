@@ -4,7 +4,7 @@ use Rattle.cert_check.specs.declared.fault.CheckFault.{CheckFault}
 use Rattle.cert_check.specs.declared.fault.CheckFault.TheVariants as check
 use Rattle.z80dev.specs.declared.verdict.VerdictFault.{VerdictFault}
 use Rattle.z80dev.specs.declared.verdict.VerdictFault.TheVariants as verdict
-use Rattle.z80dev.specs.Numbered.{numbered}
+use Rattle.z80dev_faults.specs.Numbered.{numbered}
 
 abbrev pub check_text : CheckFault → List ℕ
 check_text (check.BadSizes line) = numbered (codes "BadSizes") line

@@ -1,10 +1,10 @@
 pub mod Streams
-pub mod Names
-pub mod Numbered
 pub mod FaultTexts
 pub mod CheckTexts
 pub mod Reading
 pub mod Main
 pub mod Pipe
 pub mod Verdict
+pub mod Storing
+pub mod Finishing
 pub mod Private

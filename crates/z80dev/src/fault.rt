@@ -6,10 +6,10 @@ ghost use Rattle.z80dev.specs.declared.fault.Fault.TheVariants as fault;
 ghost use Rattle.zlink.specs.declared.fault.LinkFault.TheVariants as link;
 ghost use Rattle.zlink.specs.declared.fault.BuildFault.TheVariants as build;
 
-use crate::names::why_name;
 use std::alloc::AllocError;
 use std::fmt;
-use zlink::{BuildFault, LinkFault, Misfit};
+use z80dev_faults::{Refusal, Told};
+use zlink::{BuildFault, LinkFault};
 
 /// The exit status where all is done.
 pub const DONE: u8 = 0;
@@ -72,26 +72,15 @@ impl fmt::Display for Fault {
     ghost output = { λ fault. Some (fault_text fault) };
 
     fn fmt<W: fmt::Write>(&self, f: &mut fmt::Formatter<W>) -> fmt::Result {
-        let link = match self {
-            Fault::File => return f.write_str("file MAIN"),
-            Fault::Build(BuildFault::Asm { fault, .. }) => {
-                let line = fault.line;
-                let name = why_name(fault.why);
-                return write!(f, "MAIN({line}): {name}");
+        match self {
+            Fault::File => f.write_str("file MAIN"),
+            Fault::Build(fault) => {
+                let told = Told {
+                    path: SOURCE_NAME,
+                    refusal: Refusal::of_build(fault),
+                };
+                write!(f, "{told}")
             }
-            Fault::Build(BuildFault::Link(fault)) => fault,
-        };
-        match link {
-            LinkFault::TooManyStatements => f.write_str("TooManyStatements"),
-            LinkFault::BeginsNotFirst(module) => write!(f, "BeginsNotFirst({module})"),
-            LinkFault::DefinedTwice(module, label) => write!(f, "DefinedTwice({module},{label})"),
-            LinkFault::Unresolved(module, external) => write!(f, "Unresolved({module},{external})"),
-            LinkFault::EntryNotFirst(module) => write!(f, "EntryNotFirst({module})"),
-            LinkFault::NoFit { why, .. } => match why {
-                Misfit::Range(statement) => write!(f, "Range({statement})"),
-                Misfit::TooLarge(total) => write!(f, "Size({total})"),
-            },
-            LinkFault::NoMemory => f.write_str("NoMemory"),
         }
     }
 }

@@ -3,11 +3,46 @@
 
 use clap::Error;
 use clap::error::ErrorKind;
+use std::alloc::AllocError;
 use std::process::ExitCode;
 use std::{env, fs, io};
 use z80dev::{
-    DONE, Fault, Job, Output, REFUSED, USAGE, Watched, check_texts, commands, pipe, read_text,
+    Answer, DONE, Fault, Job, Output, REFUSED, SourceFile, Store, USAGE, Watched, WriteFailed, asm,
+    build, check_texts, commands, finish, link, pipe, read_text,
 };
+
+/// The files of the machine that the program runs on.
+#[derive(Drop)]
+struct HostFiles<'a> {
+    rt: &'a HostRuntime,
+}
+
+impl Store for HostFiles<'_> {
+    ghost use Rattle.std.specs.Prelude.{None};
+
+    ghost written = { λ _. None };
+
+    /// Writes the bytes beside the file, and gives them its name when all are written.
+    fn write(&mut self, path: &str, bytes: &[u8]) -> Result<(), WriteFailed> {
+        let Ok(part) = format!(in self.rt.alloc(); "{path}.part") else {
+            return Err(WriteFailed);
+        };
+        let answer = write_new(self.rt, &part, bytes);
+        if answer.is_ok() && fs::rename(self.rt, &part, path).is_ok() {
+            return Ok(());
+        }
+        let _ = fs::remove_file(self.rt, &part);
+        Err(WriteFailed)
+    }
+}
+
+/// Writes a file anew.
+fn write_new(rt: &HostRuntime, path: &str, bytes: &[u8]) -> Result<(), WriteFailed> {
+    match fs::create(rt, path) {
+        Ok(file) => Output::new(file).put(bytes),
+        Err(_) => Err(WriteFailed),
+    }
+}
 
 /// The words that the program was called with, its name first.
 fn words_of(rt: &HostRuntime) -> io::Result<Vec<String>> {
@@ -66,6 +101,88 @@ fn check_files(rt: &HostRuntime, sizes: &str, cert: &str) -> u8 {
     )
 }
 
+/// The bytes of files, read in order. Where one is not read it is said why, and the status is given.
+fn read_files(rt: &HostRuntime, paths: &[&str]) -> Result<Vec<Vec<u8>>, u8> {
+    let mut files = Vec::new(rt.alloc());
+    for path in paths {
+        let pushed = match read_file(rt, path) {
+            Ok(bytes) => files.push(bytes),
+            Err(fault) => return Err(refuse_file(rt, path, &fault)),
+        };
+        if pushed.is_err() {
+            return Err(refuse_memory(rt));
+        }
+    }
+    Ok(files)
+}
+
+/// Says that memory ran out, and gives the status.
+fn refuse_memory(rt: &HostRuntime) -> u8 {
+    let _ = eprintln!(rt; "error: NoMemory");
+    REFUSED
+}
+
+/// Does what a command answers.
+fn finish_files(rt: &HostRuntime, out: &str, answer: &Answer<'_>) -> u8 {
+    let mut output = Output::new(rt.stdout());
+    let mut errors = Output::new(rt.stderr());
+    finish(
+        rt.alloc(),
+        out,
+        answer,
+        &mut HostFiles { rt },
+        &mut output,
+        &mut errors,
+    )
+}
+
+/// Assembles the source in a file to an object.
+fn asm_file(rt: &HostRuntime, out: &str, grow: bool, path: &str) -> u8 {
+    let text = match read_file(rt, path) {
+        Ok(text) => text,
+        Err(fault) => return refuse_file(rt, path, &fault),
+    };
+    let source = SourceFile { path, text: &text };
+    finish_files(rt, out, &asm(rt.alloc(), source, grow))
+}
+
+/// Links the objects in files to a program.
+fn link_files(rt: &HostRuntime, out: &str, paths: &[&str]) -> u8 {
+    match read_files(rt, paths) {
+        Ok(objects) => finish_files(rt, out, &link(rt.alloc(), &objects)),
+        Err(status) => status,
+    }
+}
+
+/// Builds the program of sources that were read.
+fn build_texts(
+    rt: &HostRuntime,
+    out: &str,
+    grow: bool,
+    list: bool,
+    paths: &[&str],
+    texts: &[Vec<u8>],
+) -> Result<u8, AllocError> {
+    let mut sources = Vec::with_capacity(rt.alloc(), paths.len())?;
+    for (path, text) in paths.iter().zip(texts) {
+        sources.push(SourceFile { path: *path, text })?;
+    }
+    let answer = build(rt.alloc(), &sources, grow, list);
+    Ok(finish_files(rt, out, &answer))
+}
+
+/// Builds the program of the sources in files.
+fn build_files(rt: &HostRuntime, out: &str, grow: bool, list: bool, paths: &[&str]) -> u8 {
+    let texts = match read_files(rt, paths) {
+        Ok(texts) => texts,
+        Err(status) => return status,
+    };
+    match build_texts(rt, out, grow, list, paths, &texts) {
+        Ok(status) => status,
+        Err(_) => refuse_memory(rt),
+    }
+}
+
 /// Prints the file of the text on standard input.
 fn print_file(rt: &HostRuntime) -> u8 {
     let mut input = Watched::new(rt.stdin());
@@ -84,6 +201,16 @@ fn main(rt: HostRuntime) -> ExitCode {
     };
     ExitCode::from(match commands(rt.alloc(), &words) {
         Ok(Job::Pipe) => print_file(&rt),
+        Ok(Job::Asm { out, grow, source }) => asm_file(&rt, out, grow, source),
+        Ok(Job::Link { out, objects }) => link_files(&rt, out, &objects),
+        Ok(
+            Job::Build {
+                out,
+                grow,
+                list,
+                sources,
+            },
+        ) => build_files(&rt, out, grow, list, &sources),
         Ok(Job::Check { sizes, cert }) => check_files(&rt, sizes, cert),
         Err(error) => refuse_words(&rt, &error),
     })

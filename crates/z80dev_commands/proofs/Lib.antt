@@ -1,2 +1,3 @@
-pub mod Jobs
+pub mod Builders
+pub mod Rows
 pub mod Values

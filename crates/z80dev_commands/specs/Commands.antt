@@ -1,37 +1,99 @@
 -- The words that the command takes, and which job they ask for.
-use Rattle.std.specs.Prelude.{◌≡◌, true, List, [], ◌∷◌, None, Some, codes}
-use Rattle.clap.specs.Words.{App, Row, Rule, Shape, Text, fault_of, first_of, new_rule, subcommand_of, with_subcommand}
+use Rattle.std.specs.Prelude.{◌≡◌, Bool, true, false, List, [], ◌∷◌, Option, None, Some, codes, map}
+use Rattle.std.specs.Borrow.{Bor}
+use Rattle.std.specs.Option.{option_map_or}
+use Rattle.std.specs.Str.{bytes_eq}
+use Rattle.clap.specs.Lexer.{usize_max}
+use Rattle.clap.specs.Words.{App, Row, Rule, Shape, Text, all_of, fault_of, first_of, new_rule, one_of, subcommand_of, with_subcommand}
 use Rattle.clap.specs.Simple.{new_shape}
-use Rattle.clap.specs.declared.builder.action.ArgAction.TheVariants.{Set}
+use Rattle.clap.specs.declared.builder.action.ArgAction.TheVariants.{Append, Set, SetTrue}
 use Rattle.z80dev_commands.specs.declared.Job.{Job}
-use Rattle.z80dev_commands.specs.declared.Job.TheVariants.{Pipe, Check}
+use Rattle.z80dev_commands.specs.declared.Job.TheVariants.{Pipe, Asm, Link, Build, Check}
 
--- an argument that has to be given
+-- ---- arguments
+
+-- a path that has to be given
 abbrev pub path_rule : Text → Rule
 path_rule name = record (new_rule name) { required = true; action = Some Set }
 
+-- one path or more
+abbrev pub paths_rule : Text → Rule
+paths_rule name = record (new_rule name) {
+  required = true;
+  action = Some Append;
+  range = Some (record { start_inclusive = 1; end_inclusive = usize_max });
+}
+
+-- `--out BASE`, which has to be given
+abbrev pub out_rule : Rule
+out_rule = record (path_rule (codes "BASE")) { long = Some (codes "out") }
+
+-- `--NAME`
+abbrev pub flag_rule : Text → Rule
+flag_rule name = record (new_rule name) { long = Some name; action = Some SetTrue }
+
+-- ---- commands
+
+-- a command of this name with these arguments
+abbrev pub with_rules : Text → List Rule → Shape
+with_rules name rules = record (new_shape name) { rules = rules }
+
+-- `asm --out BASE [--grow] SRC`
+abbrev pub asm_shape : Shape
+asm_shape = with_rules (codes "asm") (out_rule ∷ flag_rule (codes "grow") ∷ path_rule (codes "SRC") ∷ [])
+
+-- `link --out BASE OBJ..`
+abbrev pub link_shape : Shape
+link_shape = with_rules (codes "link") (out_rule ∷ paths_rule (codes "OBJ") ∷ [])
+
+-- `build --out BASE [--grow] [--list] SRC..`
+abbrev pub build_shape : Shape
+build_shape = with_rules (codes "build") (out_rule ∷ flag_rule (codes "grow") ∷ flag_rule (codes "list") ∷ paths_rule (codes "SRC") ∷ [])
+
 -- `check SIZES CERT`
 abbrev pub check_shape : Shape
-check_shape = record (new_shape (codes "check")) { rules = path_rule (codes "SIZES") ∷ path_rule (codes "CERT") ∷ [] }
+check_shape = with_rules (codes "check") (path_rule (codes "SIZES") ∷ path_rule (codes "CERT") ∷ [])
 
 -- the command's own words: its help and its version
 abbrev pub bare : App
 bare = record { top = record (new_shape (codes "z80dev")) { disable_help_subcommand = true; has_version = true }; subs = [] }
 
--- the command
+-- the command with its commands
 abbrev pub z80dev : App
-z80dev = with_subcommand bare check_shape
+z80dev = with_subcommand (with_subcommand (with_subcommand (with_subcommand bare asm_shape) link_shape) build_shape) check_shape
+
+-- ---- jobs
 
 -- a parse of the words succeeds
 abbrev pub IsParsed : List Text → Type 0
 IsParsed words = fault_of z80dev words ≡ []
 
--- the words name the command `check`, and these are the values that the parse finds
-abbrev pub Checks : List Text → List Row → Type 0
-Checks words rows = subcommand_of z80dev words ≡ Some (codes "check", rows)
+-- the argument's value is this text
+abbrev pub Finds : Text → Bor Text → List Row → Type 0
+Finds id value rows = first_of id rows ≡ Some value.now
+
+-- its values are these texts, in this order
+abbrev pub FindsAll : Text → List (Bor Text) → List Row → Type 0
+FindsAll id values rows = all_of id rows ≡ Some (map (λ value. value.now) values)
+
+-- the flag's value reads as true
+abbrev pub is_on : Text → List Row → Bool
+is_on id rows = option_map_or (λ text. bytes_eq text (codes "true")) (one_of id rows) false
+
+-- the parse met the command of this name, and of the rows that it found this holds
+abbrev pub Meets : Option (Text × List Row) → Text → (List Row → Type 0) → Type 0
+Meets met name Holds = (rows : List Row) × (met ≡ Some (name, rows)) × Holds rows
+
+-- the job of the command that a parse met, with the values that it found
+abbrev pub IsJobOf : Option (Text × List Row) → Job → Type 0
+IsJobOf met Pipe = met ≡ None
+IsJobOf met (Asm out grow source) =
+    Meets met (codes "asm") (λ rows. Finds (codes "BASE") out rows × (is_on (codes "grow") rows ≡ grow) × Finds (codes "SRC") source rows)
+IsJobOf met (Link out objects) = Meets met (codes "link") (λ rows. Finds (codes "BASE") out rows × FindsAll (codes "OBJ") objects.items rows)
+IsJobOf met (Build out grow list sources) = Meets met (codes "build") (λ rows. Finds (codes "BASE") out rows
+    × (is_on (codes "grow") rows ≡ grow) × (is_on (codes "list") rows ≡ list) × FindsAll (codes "SRC") sources.items rows)
+IsJobOf met (Check sizes cert) = Meets met (codes "check") (λ rows. Finds (codes "SIZES") sizes rows × Finds (codes "CERT") cert rows)
 
 -- The parse succeeds, and the job is that of the command which the words name, with the values that the parse finds.
 abbrev pub IsJob : List Text → Job → Type 0
-IsJob words Pipe = IsParsed words × (subcommand_of z80dev words ≡ None)
-IsJob words (Check sizes cert) = IsParsed words
-    × ((rows : List Row) × Checks words rows × (first_of (codes "SIZES") rows ≡ Some sizes.now) × (first_of (codes "CERT") rows ≡ Some cert.now))
+IsJob words job = IsParsed words × IsJobOf (subcommand_of z80dev words) job

@@ -1,4 +1,4 @@
-//! Tests of the crate `z80dev` by its public calls: what is printed of a source text, and the status.
+//! Tests of the crate `z80dev` by its public calls: what is printed of a source text, which files are made, and the status.
 #![tactic(auto)]
 
 #[cfg(test)]
@@ -12,8 +12,8 @@ mod language;
 #[cfg(test)]
 mod macros;
 #[cfg(test)]
+mod making;
+#[cfg(test)]
 mod rows;
 #[cfg(test)]
 mod streams;
-#[cfg(test)]
-mod words;

@@ -1,0 +1,18 @@
+-- What a step of building a command adds.
+use Rattle.std.proofs.Common.{◌≡◌, ◌∙◌, ◌||◌, false, ap, ap₂}
+use Rattle.clap.specs.Words.{AddsArg, AddsSubcommand, App, Rule, Shape, app_of, rule_of, with_rule, with_subcommand}
+use Rattle.clap.specs.declared.builder.arg.Arg.{Arg}
+use Rattle.clap.specs.declared.builder.command.Command.{Command}
+use Rattle.clap.specs.declared.builder.command.Command.TheViews.{out-Command}
+use Rattle.z80dev_commands.specs.Private.{alone}
+
+-- the command is this one, and has no global argument
+abbrev pub IsMade : Command → App → Type 0
+IsMade c a = (app_of c ≡ a) × ((out-Command c).has_globals ≡ false)
+
+pub with_argument : (old new : Command) (arg : Arg) (a : App) (r : Rule) → AddsArg old arg new → rule_of arg ≡ r → arg.global ≡ false → IsMade old a → IsMade new (with_rule a r)
+with_argument old new arg a r adds is local made = (adds.shape local ∙ ap₂ with_rule made.0 is, adds.globals ∙ ap₂ (λ x y. x || y) made.1 local)
+
+pub with_command : (old sub new : Command) (a : App) (s : Shape) → AddsSubcommand old sub new → (out-Command sub).has_globals ≡ false → app_of old ≡ a → app_of sub ≡ alone s
+    → app_of new ≡ with_subcommand a s
+with_command old sub new a s adds local before is = adds.shape local ∙ ap₂ with_subcommand before (ap (λ (x : App). x.top) is)

@@ -1,0 +1,61 @@
+-- What a parse that succeeds found for a command.
+use Rattle.std.proofs.Common.{◌≡◌, ◌∙◌, ◌⊎◌, inl, inr, Bool, true, false, List, [], Option, None, Some, is_some, codes, refl, sym, ap, subst}
+use Rattle.std.specs.Prelude.{IfSome, option_and_then, slice_get}
+use Rattle.std.specs.Option.{option_map, option_map_or}
+use Rattle.std.specs.Prelude.{find}
+use Rattle.std.specs.Str.{bytes_eq}
+use Rattle.std.specs.Prelude.{Box}
+use Rattle.std.specs.Box.{box_value}
+use Rattle.clap.specs.Words.{App, HasMatchesOf, Row, Text, all_of, built, fault_of, first_of, found_of, is_simple_and_free, one_of, rows_of, subcommand_name_of, subcommand_of, subcommand_rows, subcommand_rows_of}
+use Rattle.clap.specs.declared.parser.matches.ArgMatches.{ArgMatches}
+use Rattle.clap.specs.declared.parser.matches.ArgMatches.TheViews.{out-ArgMatches, out-SubCommand}
+use Rattle.clap.specs.declared.parser.matches.SubCommand.{SubCommand}
+use Rattle.z80dev_commands.specs.Commands.{IsParsed, is_on, z80dev}
+use Rattle.z80dev_commands.specs.Private.{AreFound, IsFlag}
+use Rattle.z80dev_commands.proofs.Values.{each_named, flag_value, has_flag, required_value, requires}
+
+-- a parse of the words succeeds, and finds these rows for the command of this name
+abbrev pub IsMet : List Text → Text → List Row → Type 0
+IsMet words name rows = IsParsed words × (subcommand_of z80dev words ≡ Some (name, rows))
+
+rows_met : {Z : Type 0} (o : Option (Box SubCommand Z)) (name : Text) (rows : List Row) → Some name ≡ option_map (λ b. (out-SubCommand (box_value b)).name.now) o
+    → Some rows ≡ option_map (λ p. p.1) (subcommand_rows o) → subcommand_rows o ≡ Some (name, rows)
+rows_met None name rows is are = absurd (cc is)
+rows_met (Some b) name rows is are =
+    let one : name ≡ (out-SubCommand (box_value b)).name.now = cc is in
+    let all : rows ≡ rows_of (found_of (out-SubCommand (box_value b)).matches) = cc are in
+    rw (one, all) refl
+
+pub met_by : (a : App) (words : List Text) (m : ArgMatches) (name : Text) (rows : List Row) → a ≡ z80dev → (is_simple_and_free a ≡ true → fault_of a words ≡ []) → HasMatchesOf a words m
+    → Some name ≡ subcommand_name_of m → Some rows ≡ option_map (λ p. p.1) (subcommand_rows_of m) → IsMet words name rows
+met_by a words m name rows same kinds has is are = (
+  subst (λ a. is_simple_and_free a ≡ true → fault_of a words ≡ []) same kinds refl,
+  sym (subst (λ a. HasMatchesOf a words m) same has refl).1 ∙ rows_met (out-ArgMatches m).subcommand name rows is are,
+)
+
+pub has_text : (name id : Text) (rows : List Row) → each_named name (requires id) (built z80dev).subs ≡ true → AreFound name rows → is_some (first_of id rows) ≡ true
+has_text name id rows is met = required_value z80dev met.0 name id rows is met.2 met.1
+
+pub has_texts : (name id : Text) (rows : List Row) → each_named name (requires id) (built z80dev).subs ≡ true → AreFound name rows → is_some (all_of id rows) ≡ true
+has_texts name id rows is met = go (find (λ r. bytes_eq r.id id) rows) (has_text name id rows is met)
+  where
+    go : (o : Option Row) → is_some (option_and_then (λ r. slice_get r.values 0) o) ≡ true → is_some (option_map (λ r. r.values) o) ≡ true
+    go None e = absurd (cc e)
+    go (Some r) e = refl
+
+pub reads_flag : (name id : Text) (rows : List Row) → each_named name (has_flag id) (built z80dev).subs ≡ true → AreFound name rows → IsFlag id rows
+reads_flag name id rows is met = flag_value z80dev met.0 name id rows is met.2 met.1
+
+-- what `get_flag` answers
+pub flag_is : (id : Text) (rows : List Row) (read : Option Text) (answer : Bool) → one_of id rows ≡ read → IsFlag id rows → (read ≡ None → answer ≡ false) → (read ≡ Some (codes "true") → answer ≡ true)
+    → (read ≡ Some (codes "false") → answer ≡ false) → is_on id rows ≡ answer
+flag_is id rows read answer is flag none yes_ no_ = go read is (subst (λ o. IfSome o (λ text. (text ≡ codes "true") ⊎ (text ≡ codes "false"))) is flag) none yes_ no_
+  where
+    on : Option Text → Bool
+    on o = option_map_or (λ text. bytes_eq text (codes "true")) o false
+
+    go : (o : Option Text) → one_of id rows ≡ o → IfSome o (λ text. (text ≡ codes "true") ⊎ (text ≡ codes "false")) → (o ≡ None → answer ≡ false) → (o ≡ Some (codes "true") → answer ≡ true)
+        → (o ≡ Some (codes "false") → answer ≡ false) → is_on id rows ≡ answer
+    go None is flag none yes_ no_ = ap on is ∙ sym (none refl)
+    go (Some text) is (inl e) none yes_ no_ = ap on is ∙ ap (λ t. on (Some t)) e ∙ sym (yes_ (ap Some e))
+    go (Some text) is (inr e) none yes_ no_ = ap on is ∙ ap (λ t. on (Some t)) e ∙ sym (no_ (ap Some e))

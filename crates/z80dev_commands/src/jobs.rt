@@ -1,0 +1,95 @@
+//! The job of the command that a parse met, with the values that it found.
+
+ghost use Rattle.std.specs.Prelude.{◌≡◌, true, IfOk, Some, codes, is_some, map};
+ghost use Rattle.clap.specs.Words.{all_of, first_of, found_of, rows_of};
+ghost use Rattle.z80dev_commands.specs.Commands.{Finds, FindsAll, IsJobOf, is_on};
+ghost use Rattle.z80dev_commands.specs.Private.{AreFound, IsFlag};
+
+use crate::Job;
+use clap::ArgMatches;
+use std::alloc::{AllocError, Global};
+
+/// The value of an argument that has one.
+fn text<'a>(found: &ArgMatches<'a>, id: &str) -> &'a str
+    requires { is_some (first_of id.now (rows_of (found_of found.now))) ≡ true }
+    ensures { Finds id.now result (rows_of (found_of found.now)) }
+{
+    found.get_str(id).unwrap()
+}
+
+/// The values of an argument that has some.
+fn texts<'a>(alloc: Global, found: &ArgMatches<'a>, id: &str) -> Result<Vec<&'a str>, AllocError>
+    requires { is_some (all_of id.now (rows_of (found_of found.now))) ≡ true }
+    ensures { IfOk result (λ texts. FindsAll id.now texts.items (rows_of (found_of found.now))) }
+{
+    found.get_strs(id).unwrap().to_vec(alloc)
+}
+
+/// Whether a flag is given.
+fn flag(found: &ArgMatches, id: &str) -> bool
+    requires { IsFlag id.now (rows_of (found_of found.now)) }
+    ensures { is_on id.now (rows_of (found_of found.now)) ≡ result }
+{
+    found.get_flag(id)
+}
+
+fn asm<'a>(found: &ArgMatches<'a>) -> Job<'a>
+    requires { AreFound (codes "asm") (rows_of (found_of found.now)) }
+    ensures { IsJobOf (Some (codes "asm", rows_of (found_of found.now))) result }
+{
+    Job::Asm {
+        out: text(found, "BASE"),
+        grow: flag(found, "grow"),
+        source: text(found, "SRC"),
+    }
+}
+
+fn link<'a>(alloc: Global, found: &ArgMatches<'a>) -> Result<Job<'a>, AllocError>
+    requires { AreFound (codes "link") (rows_of (found_of found.now)) }
+    ensures { IfOk result (IsJobOf (Some (codes "link", rows_of (found_of found.now)))) }
+{
+    Ok(Job::Link {
+        out: text(found, "BASE"),
+        objects: texts(alloc, found, "OBJ")?,
+    })
+}
+
+fn build<'a>(alloc: Global, found: &ArgMatches<'a>) -> Result<Job<'a>, AllocError>
+    requires { AreFound (codes "build") (rows_of (found_of found.now)) }
+    ensures { IfOk result (IsJobOf (Some (codes "build", rows_of (found_of found.now)))) }
+{
+    Ok(Job::Build {
+        out: text(found, "BASE"),
+        grow: flag(found, "grow"),
+        list: flag(found, "list"),
+        sources: texts(alloc, found, "SRC")?,
+    })
+}
+
+fn check<'a>(found: &ArgMatches<'a>) -> Job<'a>
+    requires { AreFound (codes "check") (rows_of (found_of found.now)) }
+    ensures { IsJobOf (Some (codes "check", rows_of (found_of found.now))) result }
+{
+    Job::Check {
+        sizes: text(found, "SIZES"),
+        cert: text(found, "CERT"),
+    }
+}
+
+/// The job of the command of this name.
+pub(crate) fn job<'a>(
+    alloc: Global,
+    name: &str,
+    found: &ArgMatches<'a>,
+) -> Result<Job<'a>, AllocError>
+    requires { AreFound name.now (rows_of (found_of found.now)) }
+    ensures { IfOk result (IsJobOf (Some (name.now, rows_of (found_of found.now)))) }
+{
+    match name {
+        "asm" => Ok(asm(found)),
+        "link" => link(alloc, found),
+        "build" => build(alloc, found),
+        "check" => Ok(check(found)),
+        _ => unreachable!(),
+    }
+}

@@ -1,0 +1,183 @@
+//! The command as `clap` has it: its commands, and the arguments of each.
+
+ghost use Rattle.std.specs.Prelude.{◌≡◌, IfOk, false, codes};
+ghost use Rattle.clap.specs.Words.{app_of, new_app, rule_of};
+ghost use Rattle.clap.specs.declared.builder.command.Command.TheViews.{out-Command};
+ghost use Rattle.z80dev_commands.specs.Commands.{asm_shape, bare, build_shape, check_shape, flag_rule, link_shape, out_rule, path_rule, paths_rule, z80dev};
+ghost use Rattle.z80dev_commands.specs.Private.{alone};
+
+use clap::{Arg, ArgAction, Command};
+use std::alloc::{AllocError, Global};
+
+/// The version of the command, and the toolchain that its proofs were made with.
+const VERSION: &str = "0.1.0, proved with rattle-kit-13b";
+
+/// How the command is used, below its help.
+const EXAMPLE: &str = "Example: printf 'JP X\\nNOP\\nX: RET\\n' | z80dev   prints 180100c9";
+
+/// A path that has to be given, and what is said of it.
+fn path<'a>(alloc: Global, name: &'a str, help: &'a str) -> Arg<'a>
+    ensures rule { rule_of result ≡ path_rule name.now }
+    ensures local { result.global ≡ false }
+{
+    Arg::new(alloc, name)
+        .required(true)
+        .action(ArgAction::Set)
+        .help(help)
+}
+
+/// One path or more.
+fn paths<'a>(alloc: Global, name: &'a str, help: &'a str) -> Arg<'a>
+    ensures rule { rule_of result ≡ paths_rule name.now }
+    ensures local { result.global ≡ false }
+{
+    Arg::new(alloc, name)
+        .required(true)
+        .num_args(1..)
+        .action(ArgAction::Append)
+        .help(help)
+}
+
+/// `--out BASE`.
+fn out<'a>(alloc: Global) -> Arg<'a>
+    ensures rule { rule_of result ≡ out_rule }
+    ensures local { result.global ≡ false }
+{
+    path(
+        alloc,
+        "BASE",
+        "The path of what is written, without its ending",
+    )
+    .long("out")
+}
+
+/// A flag of this name.
+fn flag<'a>(alloc: Global, name: &'a str, help: &'a str) -> Arg<'a>
+    ensures rule { rule_of result ≡ flag_rule name.now }
+    ensures local { result.global ≡ false }
+{
+    Arg::new(alloc, name)
+        .long(name)
+        .action(ArgAction::SetTrue)
+        .help(help)
+}
+
+/// `--grow`.
+fn grow<'a>(alloc: Global) -> Arg<'a>
+    ensures rule { rule_of result ≡ flag_rule (codes "grow") }
+    ensures local { result.global ≡ false }
+{
+    flag(
+        alloc,
+        "grow",
+        "Lets a JR that does not reach its label become a JP",
+    )
+}
+
+/// A command without its arguments: what it reads and writes in a line, and an example below its help.
+fn titled<'a>(alloc: Global, name: &'a str, about: &'a str, example: &'a str) -> Command<'a>
+    ensures app { app_of result ≡ new_app name.now }
+    ensures local { (out-Command result).has_globals ≡ false }
+{
+    Command::new(alloc, name).about(about).after_help(example)
+}
+
+fn asm<'a>(alloc: Global) -> Result<Command<'a>, AllocError>
+    ensures app { IfOk result (λ c. app_of c ≡ alone asm_shape) }
+    ensures local { IfOk result (λ c. (out-Command c).has_globals ≡ false) }
+{
+    titled(
+        alloc,
+        "asm",
+        "Assembles a source text: reads SRC, writes the object file BASE.zmo",
+        "Example: z80dev asm --out MAIN MAIN.ASM",
+    )
+    .arg(out(alloc))?
+    .arg(grow(alloc))?
+    .arg(path(alloc, "SRC", "The source text"))
+}
+
+fn link<'a>(alloc: Global) -> Result<Command<'a>, AllocError>
+    ensures app { IfOk result (λ c. app_of c ≡ alone link_shape) }
+    ensures local { IfOk result (λ c. (out-Command c).has_globals ≡ false) }
+{
+    titled(
+        alloc,
+        "link",
+        "Links object files: reads each OBJ, writes the sizes BASE.siz, the certificate BASE.crt and the file BASE.com",
+        "Example: z80dev link --out PROG MAIN.zmo PRINT.zmo",
+    )
+    .arg(out(alloc))?
+    .arg(paths(
+        alloc,
+        "OBJ",
+        "The object files, in the order of their modules",
+    ))
+}
+
+fn build<'a>(alloc: Global) -> Result<Command<'a>, AllocError>
+    ensures app { IfOk result (λ c. app_of c ≡ alone build_shape) }
+    ensures local { IfOk result (λ c. (out-Command c).has_globals ≡ false) }
+{
+    titled(
+        alloc,
+        "build",
+        "Assembles and links source texts: reads each SRC, writes BASE.siz, BASE.crt and BASE.com",
+        "Example: z80dev build --out PROG MAIN.ASM PRINT.ASM",
+    )
+    .arg(out(alloc))?
+    .arg(grow(alloc))?
+    .arg(flag(
+        alloc,
+        "list",
+        "Writes the listing BASE.lst and the symbols BASE.sym too",
+    ))?
+    .arg(paths(
+        alloc,
+        "SRC",
+        "The source texts, in the order of their modules",
+    ))
+}
+
+fn check<'a>(alloc: Global) -> Result<Command<'a>, AllocError>
+    ensures app { IfOk result (λ c. app_of c ≡ alone check_shape) }
+    ensures local { IfOk result (λ c. (out-Command c).has_globals ≡ false) }
+{
+    titled(
+        alloc,
+        "check",
+        "Checks a certificate: reads SIZES and CERT, prints `best N`, `range K` or `size N`",
+        "Example: z80dev check PROG.siz PROG.crt",
+    )
+    .arg(path(alloc, "SIZES", "The sizes text: a line for each statement"))?
+    .arg(path(
+        alloc,
+        "CERT",
+        "The certificate: the jumps that must be long, and the verdict",
+    ))
+}
+
+/// The command without its commands.
+fn bare<'a>(alloc: Global) -> Result<Command<'a>, AllocError>
+    ensures app { IfOk result (λ c. app_of c ≡ bare) }
+{
+    Command::new(alloc, "z80dev")
+        .about(
+            "Without a command: prints the .COM file of the Z80 source text on standard input in hexadecimal",
+        )
+        .version(VERSION)
+        .after_help(EXAMPLE)
+        .disable_help_subcommand(true)
+        .bin_name("z80dev")
+}
+
+/// The command with its commands.
+pub(crate) fn z80dev<'a>(alloc: Global) -> Result<Command<'a>, AllocError>
+    ensures app { IfOk result (λ c. app_of c ≡ z80dev) }
+{
+    bare(alloc)?
+        .subcommand(asm(alloc)?)?
+        .subcommand(link(alloc)?)?
+        .subcommand(build(alloc)?)?
+        .subcommand(check(alloc)?)
+}

@@ -1,0 +1,200 @@
+//! Which job the words of a line ask for, and which fault of usage they are.
+
+use clap::error::ErrorKind;
+use std::alloc::Global;
+use std::test::Fail;
+use z80dev_commands::commands;
+
+/// The words of a line, cut at its blanks.
+fn words_of(alloc: Global, line: &str) -> Result<Vec<String>, Fail> {
+    let mut words = Vec::new(alloc);
+    for word in line.split(' ') {
+        words.push(String::from_str(alloc, word)?)?;
+    }
+    Ok(words)
+}
+
+/// The job of a line, as it prints.
+fn job_of(alloc: Global, line: &str) -> Result<String, Fail> {
+    let words = words_of(alloc, line)?;
+    match commands(alloc, &words) {
+        Ok(job) => Ok(format!(in alloc; "{job:?}")?),
+        Err(_) => Err(Fail::from("a fault where a job was wanted")),
+    }
+}
+
+/// The kind of a line's fault.
+fn kind_of(alloc: Global, line: &str) -> Result<ErrorKind, Fail> {
+    let words = words_of(alloc, line)?;
+    match commands(alloc, &words) {
+        Ok(_) => Err(Fail::from("a job where a fault was wanted")),
+        Err(error) => Ok(error.kind()),
+    }
+}
+
+/// What is said of a line's fault.
+fn text_of(alloc: Global, line: &str) -> Result<String, Fail> {
+    let words = words_of(alloc, line)?;
+    match commands(alloc, &words) {
+        Ok(_) => Err(Fail::from("a job where a text was wanted")),
+        Err(error) => Ok(format!(in alloc; "{error}")?),
+    }
+}
+
+#[test]
+fn jobs(rt: HostRuntime) -> Result<(), Fail> {
+    let rows = [
+        ("z80dev", r#"Pipe"#),
+        (
+            "z80dev asm --out A B",
+            r#"Asm { out: "A", grow: false, source: "B" }"#,
+        ),
+        (
+            "z80dev asm --out A --grow B",
+            r#"Asm { out: "A", grow: true, source: "B" }"#,
+        ),
+        (
+            "z80dev asm B --grow --out=A",
+            r#"Asm { out: "A", grow: true, source: "B" }"#,
+        ),
+        (
+            "z80dev asm --out A -- -b",
+            r#"Asm { out: "A", grow: false, source: "-b" }"#,
+        ),
+        (
+            "z80dev link --out A B",
+            r#"Link { out: "A", objects: ["B"] }"#,
+        ),
+        (
+            "z80dev link --out A C B C",
+            r#"Link { out: "A", objects: ["C", "B", "C"] }"#,
+        ),
+        (
+            "z80dev link C --out A B",
+            r#"Link { out: "A", objects: ["C", "B"] }"#,
+        ),
+        (
+            "z80dev build --out A B",
+            r#"Build { out: "A", grow: false, list: false, sources: ["B"] }"#,
+        ),
+        (
+            "z80dev build --out A --grow B",
+            r#"Build { out: "A", grow: true, list: false, sources: ["B"] }"#,
+        ),
+        (
+            "z80dev build --out A --list B",
+            r#"Build { out: "A", grow: false, list: true, sources: ["B"] }"#,
+        ),
+        (
+            "z80dev build C B --list --grow --out A",
+            r#"Build { out: "A", grow: true, list: true, sources: ["C", "B"] }"#,
+        ),
+        (
+            "z80dev check a.siz b.crt",
+            r#"Check { sizes: "a.siz", cert: "b.crt" }"#,
+        ),
+    ];
+    for (line, job) in rows {
+        assert!(&rt; job_of(rt.alloc(), line)?.as_str() == job, "{line}");
+    }
+    Ok(())
+}
+
+#[test]
+fn faults(rt: HostRuntime) -> Result<(), Fail> {
+    let rows = [
+        ("z80dev asm", ErrorKind::MissingRequiredArgument),
+        ("z80dev asm B", ErrorKind::MissingRequiredArgument),
+        ("z80dev asm --out A", ErrorKind::MissingRequiredArgument),
+        ("z80dev asm B --out", ErrorKind::InvalidValue),
+        ("z80dev asm --out A B C", ErrorKind::UnknownArgument),
+        ("z80dev asm --out A --out A B", ErrorKind::ArgumentConflict),
+        (
+            "z80dev asm --grow --grow --out A B",
+            ErrorKind::ArgumentConflict,
+        ),
+        ("z80dev asm --grow=true --out A B", ErrorKind::TooManyValues),
+        ("z80dev asm --list --out A B", ErrorKind::UnknownArgument),
+        ("z80dev asm --out -a B", ErrorKind::UnknownArgument),
+        ("z80dev link", ErrorKind::MissingRequiredArgument),
+        ("z80dev link B C", ErrorKind::MissingRequiredArgument),
+        ("z80dev link --out A", ErrorKind::MissingRequiredArgument),
+        ("z80dev link --grow --out A B", ErrorKind::UnknownArgument),
+        ("z80dev build", ErrorKind::MissingRequiredArgument),
+        ("z80dev build B C", ErrorKind::MissingRequiredArgument),
+        ("z80dev build --out A", ErrorKind::MissingRequiredArgument),
+        (
+            "z80dev build --out A --list --list B",
+            ErrorKind::ArgumentConflict,
+        ),
+        ("z80dev build --out A B --frob", ErrorKind::UnknownArgument),
+        ("z80dev check", ErrorKind::MissingRequiredArgument),
+        ("z80dev check a b c", ErrorKind::UnknownArgument),
+        ("z80dev biuld", ErrorKind::InvalidSubcommand),
+        ("z80dev --frob", ErrorKind::UnknownArgument),
+        ("z80dev --version", ErrorKind::DisplayVersion),
+        ("z80dev --help", ErrorKind::DisplayHelp),
+        ("z80dev build --help", ErrorKind::DisplayHelp),
+    ];
+    for (line, kind) in rows {
+        assert!(&rt; kind_of(rt.alloc(), line)? == kind, "{line}");
+    }
+    Ok(())
+}
+
+#[test]
+fn helps(rt: HostRuntime) -> Result<(), Fail> {
+    let rows = [
+        (
+            "z80dev --help",
+            "\n  asm    Assembles a source text: reads SRC, writes ",
+        ),
+        (
+            "z80dev --help",
+            "\n  link   Links object files: reads each OBJ, writes ",
+        ),
+        (
+            "z80dev --help",
+            "\n  build  Assembles and links source texts: reads each SRC, writes ",
+        ),
+        (
+            "z80dev --help",
+            "\n  check  Checks a certificate: reads SIZES and CERT, prints ",
+        ),
+        (
+            "z80dev asm -h",
+            "Usage: z80dev asm [OPTIONS] --out <BASE> <SRC>\n",
+        ),
+        (
+            "z80dev asm -h",
+            "\nExample: z80dev asm --out MAIN MAIN.ASM\n",
+        ),
+        (
+            "z80dev link -h",
+            "Usage: z80dev link --out <BASE> <OBJ>...\n",
+        ),
+        (
+            "z80dev link -h",
+            "\nExample: z80dev link --out PROG MAIN.zmo PRINT.zmo\n",
+        ),
+        (
+            "z80dev build -h",
+            "Usage: z80dev build [OPTIONS] --out <BASE> <SRC>...\n",
+        ),
+        (
+            "z80dev build -h",
+            "\nExample: z80dev build --out PROG MAIN.ASM PRINT.ASM\n",
+        ),
+        (
+            "z80dev check -h",
+            "\nExample: z80dev check PROG.siz PROG.crt\n",
+        ),
+    ];
+    for (line, part) in rows {
+        assert!(&rt;
+            text_of(rt.alloc(), line)?.as_str().contains(part),
+            "{line}"
+        );
+    }
+    Ok(())
+}

@@ -1,0 +1,73 @@
+-- Why there is no file, and how it is printed: by name, with the numbers in parentheses; a fault of a line behind its source and line.
+use Rattle.std.specs.Prelude.{ℕ, List, ◌++◌, codes, decimal}
+use Rattle.asm_module.specs.declared.fault.AsmFault.{AsmFault}
+use Rattle.asm_module.specs.declared.fault.Why.{Why}
+use Rattle.zmo_object.specs.declared.fault.ObjectFault.{ObjectFault}
+use Rattle.zmo_object.specs.declared.fault.ObjectFault.TheVariants as object
+use Rattle.zlink_program.specs.declared.fault.JoinFault.{JoinFault}
+use Rattle.zlink_program.specs.declared.fault.JoinFault.TheVariants as join
+use Rattle.zlink.specs.declared.fault.BuildFault.{BuildFault}
+use Rattle.zlink.specs.declared.fault.BuildFault.TheVariants as build
+use Rattle.zlink.specs.declared.fault.LinkFault.{LinkFault}
+use Rattle.zlink.specs.declared.fault.LinkFault.TheVariants as link
+use Rattle.zlink.specs.declared.fault.Misfit.{Misfit}
+use Rattle.zlink.specs.declared.fault.Misfit.TheVariants as misfit
+use Rattle.z80dev_faults.specs.declared.refusal.Refusal.{Refusal}
+use Rattle.z80dev_faults.specs.declared.refusal.Refusal.TheVariants as refusal
+use Rattle.z80dev_faults.specs.Names.{why_name}
+use Rattle.z80dev_faults.specs.Numbered.{numbered, numbered_twice}
+
+-- of a source
+abbrev pub by_why : Why → AsmFault → Refusal
+by_why Why.NoMemory fault = refusal.NoMemory
+by_why why fault = refusal.Source fault
+
+abbrev pub of_source : AsmFault → Refusal
+of_source fault = by_why fault.why fault
+
+-- of an object
+abbrev pub of_object : ObjectFault → Refusal
+of_object object.NoMemory = refusal.NoMemory
+of_object fault = refusal.Object fault
+
+-- of modules
+abbrev pub of_link : LinkFault → Refusal
+of_link link.TooManyStatements = refusal.Modules join.TooManyStatements
+of_link (link.BeginsNotFirst m) = refusal.Modules (join.BeginsNotFirst m)
+of_link (link.DefinedTwice m l) = refusal.Modules (join.DefinedTwice m l)
+of_link (link.Unresolved m x) = refusal.Modules (join.Unresolved m x)
+of_link (link.EntryNotFirst m) = refusal.Modules (join.EntryNotFirst m)
+of_link (link.NoFit why sizes cert) = refusal.NoFit why
+of_link link.NoMemory = refusal.NoMemory
+
+-- of sources
+abbrev pub of_build : BuildFault → Refusal
+of_build (build.Asm source fault) = of_source fault
+of_build (build.Link fault) = of_link fault
+
+abbrev pub object_text : ObjectFault → List ℕ
+object_text object.Magic = codes "Magic"
+object_text object.Truncated = codes "Truncated"
+object_text (object.BadField offset) = numbered (codes "BadField") offset
+object_text object.Trailing = codes "Trailing"
+object_text object.NoMemory = codes "NoMemory"
+
+abbrev pub modules_text : JoinFault → List ℕ
+modules_text join.TooManyStatements = codes "TooManyStatements"
+modules_text (join.BeginsNotFirst m) = numbered (codes "BeginsNotFirst") m
+modules_text (join.DefinedTwice m l) = numbered_twice (codes "DefinedTwice") m l
+modules_text (join.Unresolved m x) = numbered_twice (codes "Unresolved") m x
+modules_text (join.EntryNotFirst m) = numbered (codes "EntryNotFirst") m
+modules_text join.NoMemory = codes "NoMemory"
+
+abbrev pub misfit_text : Misfit → List ℕ
+misfit_text (misfit.Range k) = numbered (codes "Range") k
+misfit_text (misfit.TooLarge n) = numbered (codes "Size") n
+
+-- the text of a refusal, where a faulty source has this path
+abbrev pub refusal_text : List ℕ → Refusal → List ℕ
+refusal_text path (refusal.Source fault) = path ++ codes "(" ++ decimal fault.line ++ codes "): " ++ why_name fault.why
+refusal_text path (refusal.Object fault) = object_text fault
+refusal_text path (refusal.Modules fault) = modules_text fault
+refusal_text path (refusal.NoFit why) = misfit_text why
+refusal_text path refusal.NoMemory = codes "NoMemory"

@@ -1,0 +1,2 @@
+pub mod In_order
+pub mod Refused

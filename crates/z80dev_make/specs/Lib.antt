@@ -1,0 +1,5 @@
+pub mod Answers
+pub mod Asm
+pub mod Link
+pub mod Build
+pub mod Private

@@ -1,0 +1,42 @@
+-- What `link` answers of objects.
+use Rattle.std.specs.Prelude.{◌≡◌, ◌⊎◌, ℕ, List, [], Some, None, Result, Ok, Err, slice_get, take}
+use Rattle.std.specs.List.{AllZip}
+use Rattle.zmo_module.specs.Modules.{Module}
+use Rattle.zmo_object.specs.declared.fault.ObjectFault.{ObjectFault}
+use Rattle.zmo_object.specs.Reading.{read_of}
+use Rattle.zlink.specs.declared.fault.LinkFault.{LinkFault}
+use Rattle.zlink.specs.declared.linking.Linked.{Linked}
+use Rattle.zlink.specs.Linked.{IsExact, IsLinked}
+use Rattle.z80dev_faults.specs.Refusals.{object_text}
+use Rattle.z80dev_make.specs.Answers.{Answer, no_program, nothing, program_files}
+
+-- the bytes are read as this module
+abbrev pub IsObject : List ℕ → Module → Type 0
+IsObject bytes m = read_of bytes ≡ Ok m
+
+-- This is the fault of the first of the objects that cannot be read.
+pub record IsFirstFaulty (objects : List (List ℕ)) (fault : ObjectFault) : Type 0 where
+  pub number : ℕ
+  pub before : List Module
+  pub good : AllZip IsObject (take number objects) before
+  pub bytes : List ℕ
+  pub there : slice_get objects number ≡ Some bytes
+  pub faulty : read_of bytes ≡ Err fault
+
+-- the program that is linked, or why there is none
+abbrev pub link_answer : Result Linked LinkFault → Answer
+link_answer (Ok l) = record { files = program_files l.sizes.items l.cert.items l.com.items; printed = []; said = None }
+link_answer (Err fault) = no_program fault
+
+-- The objects are these modules, and this is what linking them answers.
+pub record IsLinkOf (objects : List (List ℕ)) (answer : Answer) : Type 0 where
+  pub modules : List Module
+  pub read : AllZip IsObject objects modules
+  pub result : Result Linked LinkFault
+  pub linked : IsLinked modules result
+  pub exact : IsExact modules result
+  pub answers : answer ≡ link_answer result
+
+-- .. or one of them cannot be read.
+abbrev pub IsLink : List (List ℕ) → Answer → Type 0
+IsLink objects answer = IsLinkOf objects answer ⊎ ((fault : ObjectFault) × IsFirstFaulty objects fault × (answer ≡ nothing (object_text fault)))

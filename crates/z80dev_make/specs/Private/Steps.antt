@@ -1,0 +1,16 @@
+-- How reading objects ends.
+use Rattle.std.specs.Prelude.{ℕ, List, All, Result, Ok, Err, Vec, map}
+use Rattle.std.specs.List.{AllZip}
+use Rattle.std.specs.Global.{Global}
+use Rattle.zmo_module.specs.declared.module.Module as held
+use Rattle.zmo_module.specs.Modules.{module_of}
+use Rattle.zmo_module.specs.Rules.{IsModule}
+use Rattle.zmo_object.specs.declared.fault.ObjectFault.{ObjectFault}
+use Rattle.zmo_object.specs.declared.fault.ObjectFault.TheVariants as object
+use Rattle.z80dev_make.specs.Link.{IsFirstFaulty, IsObject}
+
+-- All are read, each as a module that keeps the rules; or this is the fault of the first that is none; or memory ran out.
+abbrev pub AreRead : List (List ℕ) → Result (Vec held.Module Global) ObjectFault → Type 0
+AreRead objects (Ok modules) = AllZip IsObject objects (map module_of modules.items) × All IsModule (map module_of modules.items)
+AreRead objects (Err object.NoMemory) = Unit {0}
+AreRead objects (Err fault) = IsFirstFaulty objects fault

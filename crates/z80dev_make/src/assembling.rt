@@ -1,0 +1,59 @@
+//! The command `asm`: a source becomes an object.
+
+ghost use Rattle.std.specs.Prelude.{◌≡◌, IfOk};
+ghost use Rattle.zmo_module.specs.Modules.{module_of};
+ghost use Rattle.zmo_module.specs.Rules.{IsModule};
+ghost use Rattle.z80dev_make.specs.Answers.{MemoryAside, answer_of};
+ghost use Rattle.z80dev_make.specs.Asm.{IsAsm, object_answer};
+
+use crate::answer::{Answer, Kind, NewFile, SourceFile};
+use asm_module::{Module, Why, assemble_with};
+use std::alloc::{AllocError, Global};
+use z80dev_faults::{Refusal, Told};
+use zmo_object::write;
+
+/// The object of a module, as an answer.
+fn object_of<'a>(alloc: Global, module: &Module) -> Result<Answer<'a>, AllocError>
+    requires { IsModule (module_of «module».now) }
+    ensures { IfOk result (λ answer. answer_of answer ≡ object_answer (module_of «module».now)) }
+{
+    let bytes = write(alloc, module)?;
+    let mut files = Vec::with_capacity(alloc, 1)?;
+    files.push(NewFile {
+        kind: Kind::Object,
+        bytes,
+    })?;
+    Ok(Answer::done(files, Vec::new(alloc)))
+}
+
+/// The object of a source, or what is said of its fault.
+fn assembled<'a>(alloc: Global, file: SourceFile<'a>, grow: bool) -> Result<Answer<'a>, AllocError>
+    ensures { IfOk result (λ answer. IsAsm file.entry grow (answer_of answer)) }
+{
+    match assemble_with(alloc, file.path.as_bytes(), file.text, grow) {
+        Ok((module, _)) => {
+            let answer = object_of(alloc, &module)?;
+            Ok(answer)
+        }
+        Err(fault) => match fault.why {
+            Why::NoMemory => Err(AllocError),
+            _ => {
+                let refusal = Refusal::Source(fault);
+                let path = file.path;
+                Ok(Answer::refused(alloc, Told { path, refusal }))
+            }
+        },
+    }
+}
+
+/// Assembles a source, and answers its object. Where `grow` says so, a written `JR` may become a `JP` when it is linked.
+///
+/// A source that has a fault is refused with the first.
+pub fn asm<'a>(alloc: Global, file: SourceFile<'a>, grow: bool) -> Answer<'a>
+    ensures { MemoryAside (IsAsm file.entry grow) (answer_of result) }
+{
+    match assembled(alloc, file, grow) {
+        Ok(answer) => answer,
+        Err(_) => Answer::without_memory(alloc),
+    }
+}

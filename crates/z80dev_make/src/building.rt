@@ -1,0 +1,187 @@
+//! The command `build`: sources become a program.
+
+ghost use Rattle.std.specs.Prelude.{◌≡◌, IfOk, Ok, false, slice_get, string_bytes, true};
+ghost use Rattle.std.specs.List.{AllZip};
+ghost use Rattle.z80dev_make.specs.Answers.{IsSource, MemoryAside, answer_of};
+ghost use Rattle.z80dev_make.specs.Build.{IsBuild, build_answer, grown_lines, line_from, path_at};
+
+use crate::answer::{Answer, Kind, NewFile, SourceFile, no_program, program};
+use std::alloc::{AllocError, Global};
+use std::fmt;
+use z80dev_faults::{Refusal, Told};
+use zlink::{BuildFault, Built, Origin, Source, build_with};
+use zlisting::{listing, symbols};
+
+/// The sources, each named by its path.
+fn sources_of<'a>(alloc: Global, files: &[SourceFile<'a>]) -> Result<Vec<Source<'a>>, AllocError>
+    ensures { IfOk result (λ sources. AllZip IsSource files.now sources.items) }
+{
+    let mut sources = Vec::with_capacity(alloc, files.len())?;
+    for file in files {
+        sources.push(Source {
+            name: file.path.as_bytes(),
+            text: file.text,
+        })?;
+    }
+    Ok(sources)
+}
+
+/// The path of a source, by its number.
+fn path_at<'a>(files: &[SourceFile<'a>], number: usize) -> &'a str
+    ensures { result.now ≡ path_at files.now number }
+{
+    match files.get(number) {
+        Some(file) => file.path,
+        None => "",
+    }
+}
+
+/// A jump that was written as a `JR` and had to grow, as it is printed.
+#[derive(Clone, Copy)]
+struct Grown<'a> {
+    path: &'a str,
+    line: u32,
+}
+
+impl fmt::Display for Grown<'_> {
+    ghost use Rattle.std.specs.Prelude.{Some};
+    ghost use Rattle.z80dev_make.specs.Build.{grown_text};
+
+    ghost output = { λ grown. Some (grown_text grown.path.now grown.line) };
+
+    fn fmt<W: fmt::Write>(&self, f: &mut fmt::Formatter<W>) -> fmt::Result {
+        let path = self.path;
+        let line = self.line;
+        write!(f, "grown {path}({line})")
+    }
+}
+
+/// The line of a jump that had to grow, by its number.
+fn line_of(
+    alloc: Global,
+    files: &[SourceFile<'_>],
+    origins: &[Origin],
+    jump: u32,
+) -> Result<String, AllocError>
+    ensures { IfOk result (λ text. string_bytes text ≡ line_from files.now (slice_get origins.now jump)) }
+{
+    match origins.get(jump as usize) {
+        Some(origin) => {
+            let grown = Grown {
+                path: path_at(files, origin.source),
+                line: origin.line,
+            };
+            format!(in alloc; "{grown}\n")
+        }
+        None => Ok(String::new(alloc)),
+    }
+}
+
+/// .. of all.
+fn grown_lines(
+    alloc: Global,
+    files: &[SourceFile<'_>],
+    built: &Built,
+) -> Result<Vec<u8>, AllocError>
+    ensures { IfOk result (λ lines. lines.items ≡ grown_lines files.now built.now.statements.items built.now.grown.items) }
+{
+    let mut lines = Vec::new(alloc);
+    for jump in &built.grown {
+        let line = line_of(alloc, files, &built.statements, *jump)?;
+        lines.extend_from_slice(line.as_bytes())?;
+    }
+    Ok(lines)
+}
+
+/// The program as an answer.
+fn plain<'a>(
+    alloc: Global,
+    files: &[SourceFile<'a>],
+    sources: &[Source<'a>],
+    built: Built,
+) -> Result<Answer<'a>, AllocError>
+    ensures { IfOk result (λ answer. answer_of answer ≡ build_answer false files.now sources.now (Ok built)) }
+{
+    let printed = grown_lines(alloc, files, &built)?;
+    let made = program(alloc, built.sizes, built.cert, built.com)?;
+    Ok(Answer::done(made, printed))
+}
+
+/// .. with its listing and its labels.
+fn listed<'a>(
+    alloc: Global,
+    files: &[SourceFile<'a>],
+    sources: &[Source<'a>],
+    built: Built,
+) -> Result<Answer<'a>, AllocError>
+    ensures { IfOk result (λ answer. answer_of answer ≡ build_answer true files.now sources.now (Ok built)) }
+{
+    let printed = grown_lines(alloc, files, &built)?;
+    let lines = listing(alloc, &built, sources)?;
+    let labels = symbols(alloc, &built)?;
+    let mut made = program(alloc, built.sizes, built.cert, built.com)?;
+    made.push(NewFile {
+        kind: Kind::Listing,
+        bytes: lines,
+    })?;
+    made.push(NewFile {
+        kind: Kind::Symbols,
+        bytes: labels,
+    })?;
+    Ok(Answer::done(made, printed))
+}
+
+/// What is answered of what building answers.
+fn answered<'a>(
+    alloc: Global,
+    files: &[SourceFile<'a>],
+    sources: &[Source<'a>],
+    building: Result<Built, BuildFault>,
+    list: bool,
+) -> Result<Answer<'a>, AllocError>
+    ensures { IfOk result (λ answer. answer_of answer ≡ build_answer list files.now sources.now building) }
+{
+    match building {
+        Ok(built) => {
+            if list {
+                listed(alloc, files, sources, built)
+            } else {
+                plain(alloc, files, sources, built)
+            }
+        }
+        Err(BuildFault::Asm { source, fault }) => {
+            let path = path_at(files, source);
+            let refusal = Refusal::of_source(fault);
+            Ok(Answer::refused(alloc, Told { path, refusal }))
+        }
+        Err(BuildFault::Link(fault)) => no_program(alloc, fault),
+    }
+}
+
+/// The program of sources, or what is said of their fault.
+fn built<'a>(
+    alloc: Global,
+    files: &[SourceFile<'a>],
+    grow: bool,
+    list: bool,
+) -> Result<Answer<'a>, AllocError>
+    ensures { IfOk result (λ answer. IsBuild files.now grow list (answer_of answer)) }
+{
+    let sources = sources_of(alloc, files)?;
+    let building = build_with(alloc, &sources, grow);
+    let answer = answered(alloc, files, &sources, building, list)?;
+    Ok(answer)
+}
+
+/// Builds the program of sources in their order, and answers it with its two texts, and, where `list` says so, with its listing and its
+/// labels. Where `grow` says so, a written `JR` may become a `JP`, and a line tells of each that did, in their order: `grown PATH(LINE)`.
+///
+/// Where no choice of short and long jumps fits, the two texts are answered and the reason is said. Any other fault is said alone.
+pub fn build<'a>(alloc: Global, files: &[SourceFile<'a>], grow: bool, list: bool) -> Answer<'a>
+    ensures { MemoryAside (IsBuild files.now grow list) (answer_of result) }
+{
+    match built(alloc, files, grow, list) {
+        Ok(answer) => answer,
+        Err(_) => Answer::without_memory(alloc),
+    }
+}

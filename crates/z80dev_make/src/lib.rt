@@ -1,0 +1,16 @@
+//! What the commands that make files of sources and objects do with what they read.
+//!
+//! [`asm`], [`link`] and [`build`] take what stands in the files and answer which files are to be written, what is printed then,
+//! and why there is no file.
+#![tactic(auto)]
+
+mod answer;
+mod assembling;
+mod building;
+mod linking;
+
+pub use answer::{Answer, Kind, NewFile, SourceFile};
+pub use assembling::asm;
+pub use building::build;
+pub use linking::link;
+pub use z80dev_faults::{Refusal, Told};

@@ -1,0 +1,71 @@
+//! The command `link`: objects become a program.
+
+ghost use Rattle.std.specs.Prelude.{◌≡◌, IfOk, map};
+ghost use Rattle.z80dev_make.specs.Answers.{MemoryAside, answer_of};
+ghost use Rattle.z80dev_make.specs.Link.{IsLink, link_answer};
+ghost use Rattle.z80dev_make.specs.Private.Steps.{AreRead};
+
+use crate::answer::{Answer, no_program, program};
+use std::alloc::{AllocError, Global};
+use z80dev_faults::{Refusal, Told};
+use zlink::{LinkFault, Linked, Module, link as link_modules};
+use zmo_object::{ObjectFault, read};
+
+/// The modules of objects, or the fault of the first that is none.
+fn read_all(alloc: Global, objects: &[Vec<u8>]) -> Result<Vec<Module>, ObjectFault>
+    ensures { AreRead (map (λ o. o.items) objects.now) result }
+{
+    let mut modules = Vec::with_capacity(alloc, objects.len())?;
+    for object in objects {
+        match read(alloc, object) {
+            Ok(module) => modules.push(module)?,
+            Err(fault) => return Err(fault),
+        }
+    }
+    Ok(modules)
+}
+
+/// What is answered of what linking answers.
+fn answered(
+    alloc: Global,
+    linking: Result<Linked, LinkFault>,
+) -> Result<Answer<'static>, AllocError>
+    ensures { IfOk result (λ answer. answer_of answer ≡ link_answer linking) }
+{
+    match linking {
+        Ok(linked) => {
+            let files = program(alloc, linked.sizes, linked.cert, linked.com)?;
+            Ok(Answer::done(files, Vec::new(alloc)))
+        }
+        Err(fault) => no_program(alloc, fault),
+    }
+}
+
+/// The program of objects, or what is said of their fault.
+fn linked(alloc: Global, objects: &[Vec<u8>]) -> Result<Answer<'static>, AllocError>
+    ensures { IfOk result (λ answer. IsLink (map (λ o. o.items) objects.now) (answer_of answer)) }
+{
+    let modules = match read_all(alloc, objects) {
+        Ok(modules) => modules,
+        Err(ObjectFault::NoMemory) => return Err(AllocError),
+        Err(fault) => {
+            let refusal = Refusal::Object(fault);
+            return Ok(Answer::refused(alloc, Told { path: "", refusal }));
+        }
+    };
+    let answer = answered(alloc, link_modules(alloc, &modules))?;
+    Ok(answer)
+}
+
+/// Links objects in their order, and answers the program with its two texts.
+///
+/// Where no choice of short and long jumps fits, the two texts are answered and the reason is said. Any other fault is said alone:
+/// that of the first object that cannot be read, else the first of the modules together.
+pub fn link(alloc: Global, objects: &[Vec<u8>]) -> Answer<'static>
+    ensures { MemoryAside (IsLink (map (λ o. o.items) objects.now)) (answer_of result) }
+{
+    match linked(alloc, objects) {
+        Ok(answer) => answer,
+        Err(_) => Answer::without_memory(alloc),
+    }
+}
