@@ -5,12 +5,14 @@ ghost use Rattle.z80_alu.specs.Flags.{is_negative_byte, is_negative_word, has_ev
 ghost use Rattle.z80_alu.specs.Bytes.{sum_of, difference_of};
 ghost use Rattle.z80_alu.specs.Words.{word_sum_of, word_difference_of};
 
+#[inline(always)]
 pub(crate) fn is_negative(value: u8) -> bool
     ensures { result ≡ is_negative_byte value }
 {
     value & 0x80 != 0
 }
 
+#[inline(always)]
 pub(crate) fn has_even_parity(value: u8) -> bool
     ensures { result ≡ has_even_parity value }
 {
@@ -18,6 +20,7 @@ pub(crate) fn has_even_parity(value: u8) -> bool
 }
 
 /// Whether the low digit carried or borrowed: bit 4 of the result is not that of a without carries.
+#[inline(always)]
 pub(crate) fn half_carries(a: u8, b: u8, value: u8) -> bool
     ensures adding { (carry : Bool) → value ≡ sum_of a b carry →
         result ≡ nat_le 16 (a % 16 + b % 16 + from_bool carry) }
@@ -28,6 +31,7 @@ pub(crate) fn half_carries(a: u8, b: u8, value: u8) -> bool
 }
 
 /// Whether a sum left the signed bytes: it has the sign of neither a nor b.
+#[inline(always)]
 pub(crate) fn add_overflows(a: u8, b: u8, sum: u8) -> bool
     ensures { (carry : Bool) → sum ≡ sum_of a b carry →
         result ≡ overflows 128 (cast_signed w8 a +ℤ cast_signed w8 b +ℤ pos (from_bool carry)) }
@@ -36,6 +40,7 @@ pub(crate) fn add_overflows(a: u8, b: u8, sum: u8) -> bool
 }
 
 /// Whether a difference left the signed bytes: a has the sign of neither b nor the difference.
+#[inline(always)]
 pub(crate) fn subtract_overflows(a: u8, b: u8, difference: u8) -> bool
     ensures { (borrow : Bool) → difference ≡ difference_of a b borrow →
         result ≡ overflows 128 (cast_signed w8 a -ℤ cast_signed w8 b -ℤ pos (from_bool borrow)) }
@@ -50,6 +55,7 @@ pub(crate) fn is_negative_word(value: u16) -> bool
 }
 
 /// Whether bit 11 carried or borrowed.
+#[inline(always)]
 pub(crate) fn half_carries_word(a: u16, b: u16, value: u16) -> bool
     ensures adding { (carry : Bool) → value ≡ word_sum_of a b carry →
         result ≡ nat_le 4096 (a % 4096 + b % 4096 + from_bool carry) }

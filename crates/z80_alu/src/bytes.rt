@@ -9,6 +9,7 @@ impl Flags {
     ghost use Rattle.z80_alu.specs.Bytes.{sum_of, add_flags, difference_of, subtract_flags, parity_flags, logic_flags, accumulator_after, operation_flags, increment_flags, decrement_flags};
 
     /// ADD and ADC: a + b, and 1 where a carry comes in.
+    #[inline(always)]
     pub fn add(&mut self, a: u8, b: u8, carry: bool) -> u8
         ensures value { result ≡ sum_of a b carry }
         ensures flags { self.new ≡ add_flags a b carry self.old }
@@ -25,6 +26,7 @@ impl Flags {
     }
 
     /// SUB, SBC, CP and NEG: a - b, and 1 less where a borrow comes in.
+    #[inline(always)]
     pub fn subtract(&mut self, a: u8, b: u8, borrow: bool) -> u8
         ensures value { result ≡ difference_of a b borrow }
         ensures flags { self.new ≡ subtract_flags a b borrow self.old }
@@ -41,6 +43,7 @@ impl Flags {
     }
 
     /// S, Z and parity of a value, N 0 and the given H; C is kept.
+    #[inline(always)]
     pub fn set_parity(&mut self, value: u8, half_carry: bool)
         ensures { self.new ≡ parity_flags value half_carry self.old }
     {
@@ -52,6 +55,7 @@ impl Flags {
     }
 
     /// The flags of AND, XOR and OR.
+    #[inline(always)]
     fn set_logic(&mut self, value: u8, half_carry: bool)
         ensures { self.new ≡ logic_flags value half_carry self.old }
     {
@@ -60,6 +64,7 @@ impl Flags {
     }
 
     /// An operation on A and a byte: what A is afterwards.
+    #[inline(always)]
     pub fn operate(&mut self, operation: AluOperation, a: u8, b: u8) -> u8
         ensures value { result ≡ accumulator_after operation a b self.old }
         ensures flags { self.new ≡ operation_flags operation a b self.old }
@@ -90,6 +95,7 @@ impl Flags {
     }
 
     /// INC of a byte.
+    #[inline(always)]
     pub fn increment(&mut self, value: u8) -> u8
         ensures value { result ≡ sum_of value 1 false }
         ensures flags { self.new ≡ increment_flags value self.old }
@@ -101,6 +107,7 @@ impl Flags {
     }
 
     /// DEC of a byte.
+    #[inline(always)]
     pub fn decrement(&mut self, value: u8) -> u8
         ensures value { result ≡ difference_of value 1 false }
         ensures flags { self.new ≡ decrement_flags value self.old }

@@ -1,2 +1,3 @@
 mod AtPc
 mod OneTurn
+mod Readings

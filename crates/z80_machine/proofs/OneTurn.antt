@@ -37,7 +37,7 @@ pair_of : (i j : Instr) (n l : ℕ) → i ≡ j → n ≡ l → ◌≡◌ {A = I
 pair_of i j n l e f = cc
 
 -- a turn is that of the instruction that stands at PC
-its_turn : One → (instr : Instr) (size : ℕ) (step : Step) (old new : Machine) → StandsAtPc old instr size → IsTurn step old new → IsTurnOf instr size step old new
+pub its_turn : One → (instr : Instr) (size : ℕ) (step : Step) (old new : Machine) → StandsAtPc old instr size → IsTurn step old new → IsTurnOf instr size step old new
 its_turn one instr size Step.Undocumented old new s turn = absurd (turn.0 instr size s)
 its_turn one instr size Step.Done old new s (i, n, at, turn) =
     let same = one old i instr n size at s in
@@ -45,6 +45,16 @@ its_turn one instr size Step.Done old new s (i, n, at, turn) =
 its_turn one instr size Step.Halted old new s (i, n, at, turn) =
     let same = one old i instr n size at s in
     subst (λ (p : Instr × ℕ). IsTurnOf p.0 p.1 Step.Halted old new) (pair_of i instr n size same.0 same.1) turn
+
+never_undocumented : (instr : Instr) (size : ℕ) (old new : Machine) → ¬ IsTurnOf instr size Step.Undocumented old new
+never_undocumented Instr.Halt size old new turn = let no = turn.0 in cc
+never_undocumented instr size old new turn = let no = turn.0 in cc
+
+-- and that is a turn
+pub is_its : (instr : Instr) (size : ℕ) (step : Step) (old new : Machine) → StandsAtPc old instr size → IsTurnOf instr size step old new → IsTurn step old new
+is_its instr size Step.Undocumented old new there turn = absurd (never_undocumented instr size old new turn)
+is_its instr size Step.Done old new there turn = (instr, size, there, turn)
+is_its instr size Step.Halted old new there turn = (instr, size, there, turn)
 
 -- the turn of an instruction is one
 of_one : (instr : Instr) (size : ℕ) (first second : Step) (old new other : Machine) → IsTurnOf instr size first old new → IsTurnOf instr size second old other → (first ≡ second) × (new ≡ other)

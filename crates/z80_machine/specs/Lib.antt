@@ -9,3 +9,5 @@ pub mod Jumps
 pub mod Blocks
 pub mod Effect
 pub mod Turn
+pub mod Run
+pub mod Private

@@ -20,6 +20,7 @@ impl Cpu {
     }
 
     /// ADD, ADC, SUB, SBC, AND, XOR, OR and CP with a byte.
+    #[inline(always)]
     pub(crate) fn operate(&mut self, operation: AluOperation, value: u8)
         ensures { self.new ≡ operated operation value self.old }
     {
@@ -27,6 +28,7 @@ impl Cpu {
     }
 
     /// INC of a byte.
+    #[inline(always)]
     pub(crate) fn increment(&mut self, memory: &mut Memory, operand: Operand)
         ensures { machine self.new memory.new ≡ effect (Instr.Inc operand) (machine self.old memory.old) }
     {
@@ -36,6 +38,7 @@ impl Cpu {
     }
 
     /// DEC of a byte.
+    #[inline(always)]
     pub(crate) fn decrement(&mut self, memory: &mut Memory, operand: Operand)
         ensures { machine self.new memory.new ≡ effect (Instr.Dec operand) (machine self.old memory.old) }
     {
@@ -66,6 +69,7 @@ impl Cpu {
     }
 
     /// ADD HL,ss.
+    #[inline(always)]
     pub(crate) fn add_hl(&mut self, pair: RegisterPair)
         ensures { self.new ≡ added_to_hl pair self.old }
     {
@@ -102,6 +106,7 @@ impl Cpu {
     }
 
     /// INC of a word.
+    #[inline(always)]
     pub(crate) fn increment_word(&mut self, register: WordRegister)
         ensures { self.new ≡ incremented register self.old }
     {
@@ -109,6 +114,7 @@ impl Cpu {
     }
 
     /// DEC of a word.
+    #[inline(always)]
     pub(crate) fn decrement_word(&mut self, register: WordRegister)
         ensures { self.new ≡ decremented register self.old }
     {

@@ -5,6 +5,7 @@ ghost use Rattle.z80_machine.specs.Operands.{condition_holds, short_condition_ho
 use z80_alu::Flags;
 use z80_instr::{Cond, ShortCond};
 
+#[inline(always)]
 pub(crate) fn condition_holds(condition: Cond, flags: &Flags) -> bool
     ensures { result ≡ condition_holds condition flags.now }
 {
@@ -20,6 +21,7 @@ pub(crate) fn condition_holds(condition: Cond, flags: &Flags) -> bool
     }
 }
 
+#[inline(always)]
 pub(crate) fn short_condition_holds(condition: ShortCond, flags: &Flags) -> bool
     ensures { result ≡ short_condition_holds condition flags.now }
 {

@@ -14,6 +14,7 @@ use z80_instr::{Cond, ShortCond};
 
 impl Cpu {
     /// JP cc.
+    #[inline(always)]
     pub(crate) fn jump_if(&mut self, condition: Cond, address: u16)
         ensures { self.new ≡ jumped_if (condition_holds condition self.old.main.flags) address self.old }
     {
@@ -23,6 +24,7 @@ impl Cpu {
     }
 
     /// JR cc.
+    #[inline(always)]
     pub(crate) fn jump_relative_if(&mut self, condition: ShortCond, distance: i8)
         ensures { self.new ≡
             jumped_if (short_condition_holds condition self.old.main.flags) (displaced self.old.pc distance) self.old }
@@ -33,6 +35,7 @@ impl Cpu {
     }
 
     /// DJNZ.
+    #[inline(always)]
     pub(crate) fn decrement_and_jump(&mut self, distance: i8)
         ensures { self.new ≡ counted_and_jumped distance self.old }
     {
@@ -43,6 +46,7 @@ impl Cpu {
     }
 
     /// CALL cc.
+    #[inline(always)]
     pub(crate) fn call_if(&mut self, memory: &mut Memory, condition: Cond, address: u16)
         ensures { machine self.new memory.new ≡ effect (Instr.CallIf condition address) (machine self.old memory.old) }
     {
@@ -52,6 +56,7 @@ impl Cpu {
     }
 
     /// RET cc.
+    #[inline(always)]
     pub(crate) fn ret_if(&mut self, memory: &Memory, condition: Cond)
         ensures { machine self.new memory.now ≡ effect (Instr.RetIf condition) (machine self.old memory.now) }
     {

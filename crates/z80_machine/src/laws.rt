@@ -1,8 +1,8 @@
 //! Laws of a turn, as functions that do nothing: their calls bring the clauses.
-ghost use Rattle.std.specs.Prelude.{◌≡◌, ℕ};
+ghost use Rattle.std.specs.Prelude.{◌≡◌, ◌↔◌, ℕ};
 ghost use Rattle.z80_machine.specs.Types.{Instr, Step};
 ghost use Rattle.z80_machine.specs.State.{Machine};
-ghost use Rattle.z80_machine.specs.Turn.{StandsAtPc, IsTurn};
+ghost use Rattle.z80_machine.specs.Turn.{StandsAtPc, IsTurn, IsTurnOf};
 
 /// One instruction at the most stands at PC.
 pub fn one_instruction()
@@ -10,6 +10,14 @@ pub fn one_instruction()
         StandsAtPc m first size → StandsAtPc m second length → (first ≡ second) × (size ≡ length) }
 {
     z80_table::laws::prefix();
+}
+
+/// Where an instruction stands at PC, the turn is that instruction's.
+pub fn turn_of_instruction()
+    ensures { (instr : Instr) (size : ℕ) (step : Step) (old new : Machine) →
+        StandsAtPc old instr size → IsTurn step old new ↔ IsTurnOf instr size step old new }
+{
+    one_instruction();
 }
 
 /// A machine has one turn: what it answers, and what it leaves.

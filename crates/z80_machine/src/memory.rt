@@ -37,6 +37,7 @@ impl Memory {
     }
 
     /// The byte at an address.
+    #[inline(always)]
     pub fn get(&self, address: u16) -> u8
         ensures byte { result ≡ slice_index self.now address }
         ensures size { length self.now ≡ MEMORY_SIZE }
@@ -45,6 +46,7 @@ impl Memory {
     }
 
     /// Sets the byte at an address, and no other.
+    #[inline(always)]
     pub fn set(&mut self, address: u16, value: u8)
         ensures byte { self.new ≡ slice_set self.old address value }
         ensures size { length self.new ≡ MEMORY_SIZE }
@@ -58,6 +60,7 @@ impl Memory {
     ghost use Rattle.z80_machine.specs.State.{word_at, with_word_at};
 
     /// The word at an address and the next, the low byte first.
+    #[inline(always)]
     pub fn word(&self, address: u16) -> u16
         ensures { result ≡ word_at address self.now }
     {
@@ -65,6 +68,7 @@ impl Memory {
     }
 
     /// Sets the word at an address and the next, the low byte first, and no other byte.
+    #[inline(always)]
     pub fn set_word(&mut self, address: u16, word: u16)
         ensures { self.new ≡ with_word_at address word self.old }
     {

@@ -8,6 +8,7 @@ use crate::registers::Cpu;
 use z80_instr::{Memory as MemoryOperand, Operand, Pointer};
 
 /// The address that is a signed distance away.
+#[inline(always)]
 pub(crate) fn displaced(address: u16, distance: i8) -> u16
     ensures { result ≡ displaced address distance }
 {
@@ -15,6 +16,7 @@ pub(crate) fn displaced(address: u16, distance: i8) -> u16
 }
 
 impl Cpu {
+    #[inline(always)]
     pub(crate) fn address(&self, place: MemoryOperand) -> u16
         ensures { result ≡ address_of place self.now }
     {
@@ -24,6 +26,7 @@ impl Cpu {
         }
     }
 
+    #[inline(always)]
     pub(crate) fn pointer(&self, pointer: Pointer) -> u16
         ensures { result ≡ pointer_address pointer self.now }
     {
@@ -34,6 +37,7 @@ impl Cpu {
         }
     }
 
+    #[inline(always)]
     pub(crate) fn operand(&self, memory: &Memory, operand: Operand) -> u8
         ensures { result ≡ operand_value operand (machine self.now memory.now) }
     {
@@ -43,6 +47,7 @@ impl Cpu {
         }
     }
 
+    #[inline(always)]
     pub(crate) fn set_operand(&mut self, memory: &mut Memory, operand: Operand, value: u8)
         ensures { machine self.new memory.new ≡ with_operand operand value (machine self.old memory.old) }
     {

@@ -21,6 +21,7 @@ impl Registers {
     ghost use Rattle.std.specs.Prelude.{◌≡◌};
     ghost use Rattle.z80_machine.specs.State.{register_value, with_register, af, bc, de, hl, with_af, with_bc, with_de, with_hl};
 
+    #[inline(always)]
     pub fn get(&self, register: Register) -> u8
         ensures { result ≡ register_value register self.now }
     {
@@ -35,6 +36,7 @@ impl Registers {
         }
     }
 
+    #[inline(always)]
     pub fn set(&mut self, register: Register, value: u8)
         ensures { self.new ≡ with_register register value self.old }
     {
@@ -55,18 +57,21 @@ impl Registers {
         u16::from_be_bytes([self.a, self.flags.to_byte()])
     }
 
+    #[inline(always)]
     pub fn bc(&self) -> u16
         ensures { result ≡ bc self.now }
     {
         u16::from_be_bytes([self.b, self.c])
     }
 
+    #[inline(always)]
     pub fn de(&self) -> u16
         ensures { result ≡ de self.now }
     {
         u16::from_be_bytes([self.d, self.e])
     }
 
+    #[inline(always)]
     pub fn hl(&self) -> u16
         ensures { result ≡ hl self.now }
     {
@@ -81,6 +86,7 @@ impl Registers {
         self.flags = Flags::from_byte(low);
     }
 
+    #[inline(always)]
     pub fn set_bc(&mut self, word: u16)
         ensures { self.new ≡ with_bc word self.old }
     {
@@ -89,6 +95,7 @@ impl Registers {
         self.c = low;
     }
 
+    #[inline(always)]
     pub fn set_de(&mut self, word: u16)
         ensures { self.new ≡ with_de word self.old }
     {
@@ -97,6 +104,7 @@ impl Registers {
         self.e = low;
     }
 
+    #[inline(always)]
     pub fn set_hl(&mut self, word: u16)
         ensures { self.new ≡ with_hl word self.old }
     {

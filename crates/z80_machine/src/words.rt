@@ -6,6 +6,7 @@ use crate::registers::Cpu;
 use z80_instr::{Addend, HlOrIndex, IndexRegister, RegisterPair, StackOperand, WordRegister};
 
 impl Cpu {
+    #[inline(always)]
     pub(crate) fn index(&self, index: IndexRegister) -> u16
         ensures { result ≡ index_value index self.now }
     {
@@ -15,6 +16,7 @@ impl Cpu {
         }
     }
 
+    #[inline(always)]
     pub(crate) fn set_index(&mut self, index: IndexRegister, word: u16)
         ensures { self.new ≡ with_index index word self.old }
     {
@@ -24,6 +26,7 @@ impl Cpu {
         }
     }
 
+    #[inline(always)]
     pub(crate) fn pair(&self, pair: RegisterPair) -> u16
         ensures { result ≡ pair_value pair self.now }
     {
@@ -35,6 +38,7 @@ impl Cpu {
         }
     }
 
+    #[inline(always)]
     pub(crate) fn set_pair(&mut self, pair: RegisterPair, word: u16)
         ensures { self.new ≡ with_pair pair word self.old }
     {
@@ -64,6 +68,7 @@ impl Cpu {
         }
     }
 
+    #[inline(always)]
     pub(crate) fn hl_or_index(&self, register: HlOrIndex) -> u16
         ensures { result ≡ hl_or_index_value register self.now }
     {
@@ -93,6 +98,7 @@ impl Cpu {
         }
     }
 
+    #[inline(always)]
     pub(crate) fn stack_operand(&self, operand: StackOperand) -> u16
         ensures { result ≡ stack_operand_value operand self.now }
     {
@@ -105,6 +111,7 @@ impl Cpu {
         }
     }
 
+    #[inline(always)]
     pub(crate) fn set_stack_operand(&mut self, operand: StackOperand, word: u16)
         ensures { self.new ≡ with_stack_operand operand word self.old }
     {

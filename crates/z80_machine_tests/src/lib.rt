@@ -6,4 +6,6 @@ mod counted;
 #[cfg(test)]
 mod programs;
 #[cfg(test)]
+mod runs;
+#[cfg(test)]
 mod turns;

@@ -1,7 +1,7 @@
 //! The opcodes behind CB.
 ghost use Rattle.std.specs.Prelude.{◌≡◌, ◌/◌, ◌%◌, ℕ, List};
 ghost use Rattle.z80_instr.specs.Table.{octal_of};
-ghost use Rattle.z80_table.specs.Private.Reading.{filled, bit_entry, bits_entry, read_page};
+ghost use Rattle.z80_table.specs.Reading.{filled, bit_entry, bits_entry, read_page};
 
 use crate::field::{byte_of, operand_of, rotation_of, y_of, z_of};
 use crate::{DecodeFault, Decoded};

@@ -1,6 +1,6 @@
 //! The opcodes behind ED.
 ghost use Rattle.std.specs.Prelude.{◌≡◌, ℕ, List};
-ghost use Rattle.z80_table.specs.Private.Reading.{filled, interrupt_entry, special_entry, leave_entry, extended_middle, extended_quarter, extended_entry, read_page};
+ghost use Rattle.z80_table.specs.Reading.{filled, interrupt_entry, special_entry, leave_entry, extended_middle, extended_quarter, extended_entry, read_page};
 
 use crate::field::{
     block_operation_of, is_odd, pair_of, register_of, step_of, word_of, y_of, z_of,

@@ -3,7 +3,7 @@
 //! An opcode has three fields: x, its bits 7 and 6, y, bits 5 to 3, and z, bits 2 to 0.
 ghost use Rattle.std.specs.Prelude.{◌≡◌, ◌/◌, ◌%◌};
 ghost use Rattle.z80_instr.specs.Table.{octal_of};
-ghost use Rattle.z80_table.specs.Private.Reading.{byte_at, word_at, signed_at, both_at, is_odd, pair_at, operand_at, condition_at, operation_at, rotation_at, register_at, step_at, block_operation_at, addend_at};
+ghost use Rattle.z80_table.specs.Reading.{byte_at, word_at, signed_at, both_at, is_odd, pair_at, operand_at, condition_at, operation_at, rotation_at, register_at, step_at, block_operation_at, addend_at};
 
 use crate::DecodeFault;
 use z80_instr::{
@@ -36,6 +36,7 @@ pub(crate) fn pair_of(y: Octal) -> RegisterPair
 }
 
 /// An operand, by y or z.
+#[inline(always)]
 pub(crate) fn operand_of(y: Octal) -> Operand
     ensures { result ≡ operand_at y }
 {
@@ -68,6 +69,7 @@ pub(crate) fn condition_of(y: Octal) -> Cond
 }
 
 /// An operation on A, by y.
+#[inline(always)]
 pub(crate) fn operation_of(y: Octal) -> AluOperation
     ensures { result ≡ operation_at y }
 {

@@ -2,7 +2,7 @@
 ghost use Rattle.std.specs.Prelude.{◌≡◌, ℕ, List};
 ghost use Rattle.z80_instr.specs.declared.Memory.{Memory};
 ghost use Rattle.z80_instr.specs.declared.Operand.{Operand};
-ghost use Rattle.z80_table.specs.Private.Reading.{filled, index_low, index_load, index_high, index_entry, read_index_bits, read_index};
+ghost use Rattle.z80_table.specs.Reading.{filled, index_low, index_load, index_high, index_entry, read_index_bits, read_index};
 
 use crate::bits::bit;
 use crate::field::{addend_of, both_of, operand_of, operation_of, signed_of, word_of, y_of, z_of};

@@ -1,6 +1,6 @@
 //! The opcodes without a prefix.
 ghost use Rattle.std.specs.Prelude.{◌≡◌, ℕ, List};
-ghost use Rattle.z80_table.specs.Private.Reading.{filled, relative_entry, indirect_entry, accumulator_at, low_entry, load_of, pop_entry, exchange_entry, push_entry, high_entry, plain_entry};
+ghost use Rattle.z80_table.specs.Reading.{filled, relative_entry, indirect_entry, accumulator_at, low_entry, load_of, pop_entry, exchange_entry, push_entry, high_entry, plain_entry};
 
 use crate::field::{
     byte_of, condition_of, is_odd, operand_of, operation_of, pair_of, signed_of, word_of, y_of,
@@ -13,6 +13,7 @@ use z80_instr::{
 };
 
 /// The instruction of an opcode that has no prefix, with the numbers from the bytes behind it.
+#[inline(always)]
 pub(crate) fn plain(opcode: u8, rest: &[u8]) -> Decoded
     ensures { result ≡ filled 1 (plain_entry opcode) rest.now }
 {
@@ -28,6 +29,7 @@ pub(crate) fn plain(opcode: u8, rest: &[u8]) -> Decoded
 }
 
 /// Opcodes below 40H: a column of the table for each z.
+#[inline(always)]
 fn low(y: Octal, z: Octal, rest: &[u8]) -> Decoded
     ensures { result ≡ filled 1 (low_entry y z) rest.now }
 {
@@ -59,6 +61,7 @@ fn low(y: Octal, z: Octal, rest: &[u8]) -> Decoded
 }
 
 /// NOP, EX AF,AF' and the relative jumps.
+#[inline(always)]
 fn relative(y: Octal, rest: &[u8]) -> Decoded
     ensures { result ≡ filled 1 (relative_entry y) rest.now }
 {
@@ -103,6 +106,7 @@ fn indirect(y: Octal, rest: &[u8]) -> Decoded
 }
 
 /// LD of an operand to an operand. In the place of LD (HL),(HL) there is HALT.
+#[inline(always)]
 fn load(to: Operand, from: Operand) -> Instr
     ensures { result ≡ load_of to from }
 {
@@ -130,6 +134,7 @@ fn accumulator_of(y: Octal) -> Instr
 }
 
 /// Opcodes from C0H: a column of the table for each z.
+#[inline(always)]
 fn high(y: Octal, z: Octal, rest: &[u8]) -> Decoded
     ensures { result ≡ filled 1 (high_entry y z) rest.now }
 {

@@ -1,0 +1,55 @@
+//! Many turns at once.
+ghost use Rattle.std.specs.Prelude.{◌≡◌};
+ghost use Rattle.z80_machine.specs.State.{machine};
+ghost use Rattle.z80_machine.specs.Run.{is_watched, Ran};
+
+use crate::memory::Memory;
+use crate::outcome::Step;
+use crate::registers::Cpu;
+use crate::turn::step;
+
+/// Addresses at which a run stops: those from `from` on, and `at`.
+#[derive(Clone, Copy, Debug, PartialEq, Eq)]
+pub struct Watch {
+    pub from: u16,
+    pub at: u16,
+}
+
+impl Watch {
+    fn has(self, address: u16) -> bool
+        ensures { result ≡ is_watched self address }
+    {
+        address >= self.from || address == self.at
+    }
+}
+
+/// Why a run stopped.
+#[derive(Clone, Copy, Debug, PartialEq, Eq)]
+pub enum Stop {
+    /// PC is at an address that is watched.
+    Watched,
+    /// HALT is at PC.
+    Halted,
+    /// No documented instruction is at PC.
+    Undocumented,
+    /// As many turns were made as were allowed.
+    Limit,
+}
+
+/// Makes turns until `limit` of them are made, PC is watched, or HALT or no documented instruction is at PC. The answer is how
+/// many were made, and why it stopped. Where the limit is reached nothing is said of the place.
+pub fn run(cpu: &mut Cpu, memory: &mut Memory, watch: Watch, limit: u64) -> (u64, Stop)
+    ensures { Ran watch limit result.0 result.1 (machine cpu.old memory.old) (machine cpu.new memory.new) }
+{
+    for turns in 0..limit {
+        if watch.has(cpu.pc) {
+            return (turns, Stop::Watched);
+        }
+        match step(cpu, memory) {
+            Step::Done => {}
+            Step::Halted => return (turns, Stop::Halted),
+            Step::Undocumented => return (turns, Stop::Undocumented),
+        }
+    }
+    (limit, Stop::Limit)
+}
