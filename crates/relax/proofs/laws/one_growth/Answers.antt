@@ -1,5 +1,5 @@
-use Rattle.relax.proofs.One_answer.{one_order, one_verdict}
-use Rattle.relax.proofs.laws.one_answer.Goals as goal
+use Rattle.relax.proofs.One_growth.{one_order, one_verdict}
+use Rattle.relax.proofs.laws.one_growth.Goals as goal
 
 pub returns-clause-order : goal.returns-clause-order
 returns-clause-order c = one_order
