@@ -33,7 +33,7 @@ pub struct Built {
     pub grown: Vec<u32>,
 }
 
-/// What every byte is.
+/// Does nothing: its contract says what every byte is, which the numbers of a file are asked for.
 fn are_bytes(bytes: &[u8])
     ensures { All (λ b. b < 256) bytes.now }
 {}
