@@ -5,5 +5,6 @@ pub mod Growing
 pub mod Laid
 pub mod Linking
 pub mod Moved
+pub mod One_file
 pub mod Tabled
 pub mod Tables

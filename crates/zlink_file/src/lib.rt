@@ -2,6 +2,7 @@
 #![tactic(auto)]
 
 mod emitting;
+pub mod laws;
 mod layout;
 mod piece;
 mod refs;
