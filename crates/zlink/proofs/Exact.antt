@@ -54,7 +54,7 @@ module _ (law : OneAnswer) (programs : OneProgram) (grow : Bool) where
   one_program (s ∷ ss) (x ∷ xs) (y ∷ ys) a b = ap (λ z. z ∷ xs) (same_assembly s x y a.0 b.0) ∙ ap (λ zs. y ∷ zs) (one_program ss xs ys a.1 b.1)
 
   -- A source among those that are assembled has no fault.
-  not_faulty : (sources : List Source) (these : List Assembly) (number : ℕ) (source : Source) (fault : AsmFault) → AreAssembled grow sources these → slice_get sources number ≡ Some source
+  pub not_faulty : (sources : List Source) (these : List Assembly) (number : ℕ) (source : Source) (fault : AsmFault) → AreAssembled grow sources these → slice_get sources number ≡ Some source
       → HasCause (Err fault) → Assembles source.name.now source.text.now grow (Err fault) → ⊥
   not_faulty sources these number source fault are there caused faulty =
       by (slice_get these number)

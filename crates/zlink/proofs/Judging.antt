@@ -3,7 +3,7 @@ use Rattle.std.proofs.Common.{◌≡◌, ℕ, List, sym, subst, arith}
 use Rattle.std.proofs.Math.Path.{fun_ext}
 use Rattle.ruler.specs.declared.shape.Statement.{Statement as Sized}
 use Rattle.ruler.specs.Choice.{Choice, IsShape, IsValid, chosen}
-use Rattle.relax.specs.Growth.{Holds, IsGrowth, after}
+use Rattle.relax.specs.Growth.{Holds, IsGrowth, IsNeeded, after}
 use Rattle.relax.specs.declared.growth.Growth.{Growth}
 use Rattle.relax.specs.declared.growth.Verdict.{Verdict}
 use Rattle.relax.specs.declared.growth.Verdict.TheVariants.{Best}
@@ -17,6 +17,7 @@ pub judged : (shape : List Sized) (grown : Growth) (v : Verdict) (sizes cert : L
 judged shape grown v sizes cert is_shape e is certified = record {
   is_shape = is_shape;
   least_first = is.order;
+  needed = subst (λ c. IsNeeded c shape) (fun_ext is.long) is.needed;
   verdict = subst (λ c. Holds c shape v) (fun_ext is.long) (subst (Holds (chosen grown.long.items) shape) e is.verdict);
   certified = subst (λ w. IsCertified shape grown.order.items w sizes cert) e certified;
 }

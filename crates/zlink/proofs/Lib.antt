@@ -7,3 +7,4 @@ pub mod One_by_one
 pub mod Coming_from
 pub mod Renumbered
 pub mod Symbols
+pub mod One_answer

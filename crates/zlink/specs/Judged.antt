@@ -4,16 +4,18 @@ use Rattle.ruler.specs.declared.shape.Statement.{Statement as Sized}
 use Rattle.ruler.specs.Choice.{Choice, IsShape, IsValid, total}
 use Rattle.relax.specs.declared.growth.Verdict.{Verdict}
 use Rattle.relax.specs.declared.growth.Verdict.TheVariants.{Best, Range, TooLarge}
-use Rattle.relax.specs.Growth.{Holds, IsLeastFirst, after}
+use Rattle.relax.specs.Growth.{Holds, IsLeastFirst, IsNeeded, after}
 use Rattle.zlink.specs.declared.fault.Misfit.{Misfit}
 use Rattle.zlink.specs.declared.fault.Misfit.TheVariants as misfit
 use Rattle.zlink.specs.Certified.{IsCertified}
 
 -- Jumps are made long in the least-first order: the lowest short jump that does not reach its target each time, until none is left.
--- The verdict holds of the choice after that order, over all choices. And the two texts certify that order and that verdict.
+-- In the choice after that order a jump is long exactly where it is long in every choice in which each short jump reaches its target.
+-- The verdict holds of that choice, over all choices. And the two texts certify that order and that verdict.
 pub record IsJudged (shape : List Sized) (order : List ℕ) (v : Verdict) (sizes cert : List ℕ) : Type 0 where
   pub is_shape : IsShape shape
   pub least_first : IsLeastFirst shape order
+  pub needed : IsNeeded (after order) shape
   pub verdict : Holds (after order) shape v
   pub certified : IsCertified shape order v sizes cert
 

@@ -5,4 +5,5 @@ pub mod Judged
 pub mod Linked
 pub mod Sources
 pub mod Built
+pub mod Outcomes
 pub mod Private

@@ -1,11 +1,16 @@
 //! Laws of the definitions, as functions that do nothing.
 
-ghost use Rattle.std.specs.Prelude.{◌≡◌, ◌↔◌, ℕ, Bool, List, Result, map};
+ghost use Rattle.std.specs.Prelude.{◌≡◌, ◌↔◌, ℕ, Bool, List, Ok, Result, map};
 ghost use Rattle.zlink.specs.declared.building.Built.{Built};
 ghost use Rattle.zlink.specs.declared.fault.BuildFault.{BuildFault};
 ghost use Rattle.zlink.specs.declared.source.Source.{Source};
+ghost use Rattle.zlink.specs.declared.fault.LinkFault.{LinkFault};
+ghost use Rattle.zlink.specs.declared.linking.Linked.{Linked};
+ghost use Rattle.zmo_module.specs.Modules.{Module};
 ghost use Rattle.zlink.specs.Built.{IsBuilt, IsExact};
-ghost use Rattle.zlink.specs.Sources.{Assembly, AreAssembled};
+ghost use Rattle.zlink.specs.Linked.{IsLinked};
+ghost use Rattle.zlink.specs.Outcomes.{AreSame, built_outcome, linked_outcome};
+ghost use Rattle.zlink.specs.Sources.{Assembly, AreAssembled, modules_of};
 ghost use Rattle.ruler.specs.declared.shape.Statement.{Statement as Sized};
 ghost use Rattle.ruler.specs.Choice.{Choice, Fits, IsBest, IsSettled, IsValid, place, total};
 ghost use Rattle.relax.specs.Growth.{IsForcing};
@@ -14,6 +19,8 @@ ghost use Rattle.certificate.specs.Forcing.{IsForcing as IsToldForcing};
 ghost use Rattle.zlink.specs.Certified.{told};
 
 use asm_module::laws::one_answer;
+use relax::laws::one_growth;
+use zlink_file::laws::one_file;
 
 /// The linker and the checker share no definition, and say the same of each shape: where its statements stand, which jumps
 /// fit, which choices are settled, valid and best, how many bytes they take, and which orders force their members.
@@ -34,4 +41,18 @@ pub fn exact()
 {
     // A law, which does nothing: its contract is what this one follows from.
     one_answer();
+}
+
+/// What is answered of modules hangs on what they hold alone: they are linked to one answer, out of memory aside. And what is built of sources is
+/// what is linked of the sources' modules: the same file, texts, labels and grown jumps, or the same refusal.
+pub fn one_link()
+    ensures link { (modules : List Module) (a b : Result Linked LinkFault) → IsLinked modules a → IsLinked modules b → AreSame (linked_outcome a) (linked_outcome b) }
+    ensures places { (modules : List Module) (a b : Linked) → IsLinked modules (Ok a) → IsLinked modules (Ok b) → a.places.items ≡ b.places.items }
+    ensures build { (grow : Bool) (sources : List Source) (assemblies : List Assembly) (a : Result Built BuildFault) (b : Result Linked LinkFault) →
+        AreAssembled grow sources assemblies → IsBuilt grow sources a → IsLinked (modules_of assemblies) b → AreSame (built_outcome a) (linked_outcome b) }
+{
+    // Laws, which do nothing: this one follows from their contracts.
+    one_answer();
+    one_growth();
+    one_file();
 }
