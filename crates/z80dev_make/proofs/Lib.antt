@@ -1,2 +1,3 @@
 pub mod In_order
 pub mod Refused
+pub mod Written

@@ -7,6 +7,7 @@
 mod answer;
 mod assembling;
 mod building;
+pub mod laws;
 mod linking;
 
 pub use answer::{Answer, Kind, NewFile, SourceFile};
