@@ -2,3 +2,4 @@ pub mod Ends
 pub mod TextSoFar
 pub mod Written
 pub mod Stored
+pub mod Certain

@@ -4,6 +4,7 @@
 mod ending;
 mod fault;
 mod input;
+pub mod laws;
 mod output;
 mod print;
 mod store;
