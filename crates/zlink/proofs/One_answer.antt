@@ -1,9 +1,10 @@
 -- Modules are linked to one answer, and what is built of sources is what is linked of their modules.
-use Rattle.std.proofs.Common.{◌≡◌, inl, inr, ℕ, Bool, List, Option, Some, None, Result, Ok, Err, refl, sym, ap, subst, ◌∙◌}
+use Rattle.std.proofs.Common.{◌≡◌, inl, inr, ℕ, Bool, List, Option, Some, None, Result, Ok, Err, map, refl, sym, ap, subst, ◌∙◌}
 use Rattle.std.specs.Prelude.{◌⊎◌}
 use Rattle.certificate.specs.Texts.{cert_text}
+use Rattle.asm_module.specs.declared.fault.AsmFault.{AsmFault}
 use Rattle.ruler.specs.declared.shape.Statement.{Statement as Sized}
-use Rattle.ruler.specs.Choice.{Choice}
+use Rattle.ruler.specs.Choice.{Choice, place}
 use Rattle.relax.specs.declared.growth.Verdict.{Verdict}
 use Rattle.relax.specs.Growth.{Holds, IsLeastFirst, after}
 use Rattle.zmo_module.specs.Modules.{Module}
@@ -22,13 +23,14 @@ use Rattle.zlink.specs.declared.fault.Misfit.{Misfit}
 use Rattle.zlink.specs.declared.fault.Misfit.TheVariants as misfit
 use Rattle.zlink.specs.declared.linking.Linked.{Linked}
 use Rattle.zlink.specs.declared.source.Source.{Source}
-use Rattle.zlink.specs.Built.{IsBuilt, built_output}
+use Rattle.zlink.specs.Built.{IsBuilt, built_output, lines_of, origin_of, origins_by}
 use Rattle.zlink.specs.Certified.{told_verdict}
 use Rattle.zlink.specs.Judged.{IsUnfit, verdict_of}
 use Rattle.zlink.specs.Linked.{IsLinked, IsOutput, Output, link_fault, linked_output}
 use Rattle.zlink.specs.Outcomes.{Outcome, Makes, FitsNowhere, IsNoProgram, IsFaulty, AreSame, built_outcome, linked_outcome}
-use Rattle.zlink.specs.Sources.{AreAssembled, Assembly, modules_of}
-use Rattle.zlink.proofs.Exact.{OneAnswer, OneProgram, not_faulty, one_program}
+use Rattle.zlink.specs.Reads.{shape}
+use Rattle.zlink.specs.Sources.{AreAssembled, Assembly, modules_of, program_of}
+use Rattle.zlink.proofs.Exact.{OneAnswer, OneProgram, exactly, not_faulty, one_program}
 
 -- What the laws below say: there is one least-first order of a shape, ..
 abbrev pub OneOrder : Type 0
@@ -159,3 +161,34 @@ module _ (law : OneAnswer) (programs : OneProgram) (grow : Bool) (sources : List
   pub built_is_linked : OneOrder → OneVerdict → OneFile → (a : Result Built BuildFault) (b : Result Linked LinkFault) → IsBuilt grow sources a → IsLinked (modules_of these) b → AreSame (built_outcome a) (linked_outcome b)
   built_is_linked orders verdicts files a b of_a of_b =
       one_outcome orders verdicts files (modules_of these) (built_outcome a) (linked_outcome b) (of_built a of_a) (of_linked (modules_of these) b of_b)
+
+-- What is built of sources is one.
+module _ (law : OneAnswer) (programs : OneProgram) (orders : OneOrder) (verdicts : OneVerdict) (files : OneFile) (grow : Bool) (sources : List Source) where
+  by_modules : (these : List Assembly) → AreAssembled grow sources these → (a b : Result Built BuildFault) → IsBuilt grow sources a → IsBuilt grow sources b → AreSame (built_outcome a) (built_outcome b)
+  by_modules these are a b of_a of_b =
+      one_outcome orders verdicts files (modules_of these) (built_outcome a) (built_outcome b) (of_built law programs grow sources these are a of_a) (of_built law programs grow sources these are b of_b)
+
+  by_fault : (number : ℕ) (fault : AsmFault) (b : Result Built BuildFault) → (b ≡ Err (build.Asm number fault)) ⊎ (b ≡ Err (build.Link link.NoMemory)) → AreSame (IsFaulty number fault) (built_outcome b)
+  by_fault number fault b (inl e) = inl (sym (ap built_outcome e))
+  by_fault number fault b (inr e) = inr (inr (ap built_outcome e))
+
+  pub one_built : (a b : Result Built BuildFault) → IsBuilt grow sources a → IsBuilt grow sources b → AreSame (built_outcome a) (built_outcome b)
+  one_built (Ok x) b of_a of_b = by_modules of_a.0 of_a.1 (Ok x) b of_a of_b
+  one_built (Err (build.Asm number fault)) b of_a of_b = by_fault number fault b (exactly law programs grow sources b of_b number fault of_a)
+  one_built (Err (build.Link (link.NoFit why sizes cert))) b of_a of_b = by_modules of_a.0 of_a.1 (Err (build.Link (link.NoFit why sizes cert))) b of_a of_b
+  one_built (Err (build.Link link.NoMemory)) b of_a of_b = inr (inl refl)
+  one_built (Err (build.Link link.TooManyStatements)) b of_a of_b = by_modules of_a.0 of_a.1 (Err (build.Link link.TooManyStatements)) b of_a of_b
+  one_built (Err (build.Link (link.BeginsNotFirst m))) b of_a of_b = by_modules of_a.0 of_a.1 (Err (build.Link (link.BeginsNotFirst m))) b of_a of_b
+  one_built (Err (build.Link (link.DefinedTwice m l))) b of_a of_b = by_modules of_a.0 of_a.1 (Err (build.Link (link.DefinedTwice m l))) b of_a of_b
+  one_built (Err (build.Link (link.Unresolved m x))) b of_a of_b = by_modules of_a.0 of_a.1 (Err (build.Link (link.Unresolved m x))) b of_a of_b
+  one_built (Err (build.Link (link.EntryNotFirst m))) b of_a of_b = by_modules of_a.0 of_a.1 (Err (build.Link (link.EntryNotFirst m))) b of_a of_b
+
+  pub one_listing : (a b : Built) → IsBuilt grow sources (Ok a) → IsBuilt grow sources (Ok b) → (map origin_of a.statements.items ≡ map origin_of b.statements.items) × (a.last.items ≡ b.last.items)
+  one_listing a b of_a of_b =
+      let these : of_a.0 ≡ of_b.0 = one_program law programs grow sources of_a.0 of_b.0 of_a.1 of_b.1 in
+      let order : of_a.4.0 ≡ of_b.4.0 =
+      orders (shape (program_of of_b.0)) of_a.4.0 of_b.4.0 (subst (λ xs. IsLeastFirst (shape (program_of xs)) of_a.4.0) these of_a.4.1.judged.least_first) of_b.4.1.judged.least_first in (
+        of_a.4.1.statements ∙ ap (λ o. origins_by (place (after o) (shape (program_of of_a.0))) (lines_of of_a.0)) order
+            ∙ ap (λ xs. origins_by (place (after of_b.4.0) (shape (program_of xs))) (lines_of xs)) these ∙ sym of_b.4.1.statements,
+        of_a.4.1.last ∙ ap (map (λ x. x.assembled.last)) these ∙ sym of_b.4.1.last,
+      )

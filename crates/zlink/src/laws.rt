@@ -7,7 +7,7 @@ ghost use Rattle.zlink.specs.declared.source.Source.{Source};
 ghost use Rattle.zlink.specs.declared.fault.LinkFault.{LinkFault};
 ghost use Rattle.zlink.specs.declared.linking.Linked.{Linked};
 ghost use Rattle.zmo_module.specs.Modules.{Module};
-ghost use Rattle.zlink.specs.Built.{IsBuilt, IsExact};
+ghost use Rattle.zlink.specs.Built.{IsBuilt, IsExact, origin_of};
 ghost use Rattle.zlink.specs.Linked.{IsLinked};
 ghost use Rattle.zlink.specs.Outcomes.{AreSame, built_outcome, linked_outcome};
 ghost use Rattle.zlink.specs.Sources.{Assembly, AreAssembled, modules_of};
@@ -43,13 +43,16 @@ pub fn exact()
     one_answer();
 }
 
-/// What is answered of modules hangs on what they hold alone: they are linked to one answer, out of memory aside. And what is built of sources is
-/// what is linked of the sources' modules: the same file, texts, labels and grown jumps, or the same refusal.
+/// What is answered of modules hangs on what they hold alone: they are linked to one answer, out of memory aside. What is built of sources is
+/// what is linked of the sources' modules: the same file, texts, labels and grown jumps, or the same refusal. And sources are built to one answer.
 pub fn one_link()
     ensures link { (modules : List Module) (a b : Result Linked LinkFault) → IsLinked modules a → IsLinked modules b → AreSame (linked_outcome a) (linked_outcome b) }
     ensures places { (modules : List Module) (a b : Linked) → IsLinked modules (Ok a) → IsLinked modules (Ok b) → a.places.items ≡ b.places.items }
     ensures build { (grow : Bool) (sources : List Source) (assemblies : List Assembly) (a : Result Built BuildFault) (b : Result Linked LinkFault) →
         AreAssembled grow sources assemblies → IsBuilt grow sources a → IsLinked (modules_of assemblies) b → AreSame (built_outcome a) (linked_outcome b) }
+    ensures sources { (grow : Bool) (sources : List Source) (a b : Result Built BuildFault) → IsBuilt grow sources a → IsBuilt grow sources b → AreSame (built_outcome a) (built_outcome b) }
+    ensures lines { (grow : Bool) (sources : List Source) (a b : Built) → IsBuilt grow sources (Ok a) → IsBuilt grow sources (Ok b) →
+        (map origin_of a.statements.items ≡ map origin_of b.statements.items) × (a.last.items ≡ b.last.items) }
 {
     // Laws, which do nothing: this one follows from their contracts.
     one_answer();

@@ -1,4 +1,4 @@
-use Rattle.zlink.proofs.One_answer.{built_is_linked, one_answer, one_places}
+use Rattle.zlink.proofs.One_answer.{built_is_linked, one_answer, one_built, one_listing, one_places}
 use Rattle.zlink.proofs.laws.one_link.Goals as goal
 
 pub returns-clause-link : goal.returns-clause-link
@@ -10,3 +10,9 @@ returns-clause-places c = λ modules. one_places c.one_growth.ensures.order c.on
 pub returns-clause-build : goal.returns-clause-build
 returns-clause-build c = λ grow sources assemblies a b are of_a of_b.
     built_is_linked c.one_answer.ensures.answer c.one_answer.ensures.program grow sources assemblies are c.one_growth.ensures.order c.one_growth.ensures.verdict c.one_file.ensures.file a b of_a of_b
+
+pub returns-clause-sources : goal.returns-clause-sources
+returns-clause-sources c = λ grow sources. one_built c.one_answer.ensures.answer c.one_answer.ensures.program c.one_growth.ensures.order c.one_growth.ensures.verdict c.one_file.ensures.file grow sources
+
+pub returns-clause-lines : goal.returns-clause-lines
+returns-clause-lines c = λ grow sources. one_listing c.one_answer.ensures.answer c.one_answer.ensures.program c.one_growth.ensures.order c.one_growth.ensures.verdict c.one_file.ensures.file grow sources
