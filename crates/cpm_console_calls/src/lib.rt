@@ -1,0 +1,12 @@
+//! The system calls of CP/M 2.2 that speak with the console, and the BIOS entries that do.
+#![tactic(auto)]
+
+mod line;
+mod raw;
+mod reply;
+mod texts;
+
+pub use line::read_line;
+pub use raw::{direct, is_ready, put_raw, take_raw};
+pub use reply::Reply;
+pub use texts::{print, put, take};

@@ -1,0 +1,63 @@
+-- File control blocks: drive, eleven bytes of name, EX, S1, S2, RC, sixteen bytes of blocks, CR at 32, R0 to R2.
+-- (CP/M 2.2 Interface Guide, file control blocks.)
+use Rattle.std.specs.Prelude.{◌+◌, ◌*◌, ◌==◌, ℕ, Bool, nat_le, List, Result, Ok, Err, take, drop, slice_index, if◌then◌else◌, ⊤}
+use Rattle.std.specs.List.{list_any}
+use Rattle.cpm_fcb.specs.declared.stop.Stop.{Stop}
+use Rattle.cpm_fcb.specs.declared.stop.Stop.TheVariants as stop
+use Rattle.cpm_fcb.specs.Bytes.{bytes_at}
+use Rattle.cpm_fcb.specs.Stops.{and_then}
+
+abbrev pub fcb_at : ℕ → List ℕ → List ℕ
+fcb_at address memory = bytes_at address 36 memory
+
+abbrev pub drive_of : List ℕ → ℕ
+drive_of fcb = slice_index fcb 0
+
+-- bytes 1 to 11
+abbrev pub name_of : List ℕ → List ℕ
+name_of fcb = take 11 (drop 1 fcb)
+
+-- the second name of a rename, bytes 17 to 27
+abbrev pub new_name_of : List ℕ → List ℕ
+new_name_of fcb = take 11 (drop 17 fcb)
+
+abbrev pub extent_of : List ℕ → ℕ
+extent_of fcb = slice_index fcb 12
+
+abbrev pub s2_of : List ℕ → ℕ
+s2_of fcb = slice_index fcb 14
+
+abbrev pub current_of : List ℕ → ℕ
+current_of fcb = slice_index fcb 32
+
+-- R0 and R1, and R2
+abbrev pub random_of : List ℕ → ℕ
+random_of fcb = slice_index fcb 33 + 256 * slice_index fcb 34
+
+abbrev pub overflow_of : List ℕ → ℕ
+overflow_of fcb = slice_index fcb 35
+
+abbrev pub question : ℕ
+question = 0x3F
+
+-- Drives: 0 and 1 are A, 2 to 16 are not there, any other is no drive.
+abbrev pub drive_judged : List ℕ → Result ⊤ Stop
+drive_judged fcb =
+    if nat_le (drive_of fcb) 1 then Ok tt
+    else if nat_le (drive_of fcb) 16 then Err stop.UnknownDrive
+    else Err stop.BadFcb
+
+abbrev pub has_question : List ℕ → Bool
+has_question name = list_any (λ b. b == question) name
+
+-- `?` may not stand in the name of one file
+abbrev pub name_judged : List ℕ → Result ⊤ Stop
+name_judged name = if has_question name then Err stop.BadFcb else Ok tt
+
+-- what stops a call of a file before the disk is asked: its drive, then its name
+abbrev pub file_judged : List ℕ → Result ⊤ Stop
+file_judged fcb = and_then (drive_judged fcb) (name_judged (name_of fcb))
+
+-- the same with the name that it is to have
+abbrev pub names_judged : List ℕ → Result ⊤ Stop
+names_judged fcb = and_then (file_judged fcb) (name_judged (new_name_of fcb))

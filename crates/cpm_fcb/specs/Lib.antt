@@ -1,0 +1,4 @@
+pub mod Bytes
+pub mod Stops
+pub mod Fcbs
+pub mod Files

@@ -1,0 +1,36 @@
+-- How calls end.
+use Rattle.std.specs.Prelude.{◌≡◌, ℕ, List, Result, Ok, Err, ⊤}
+use Rattle.cpm_directory.specs.declared.fault.DiskFault.{DiskFault}
+use Rattle.cpm_directory.specs.declared.fault.DiskFault.TheVariants as fault
+use Rattle.cpm_fcb.specs.declared.stop.Stop.{Stop}
+use Rattle.cpm_fcb.specs.declared.stop.Stop.TheVariants as stop
+
+-- a refusal of the disk that a call has no answer for
+abbrev pub stop_of : DiskFault → Stop
+stop_of fault.ReadOnly = stop.FileReadOnly
+stop_of fault.Fault = stop.DiskFault
+stop_of fault.Failed = stop.DiskFault
+stop_of _ = stop.BadFcb
+
+-- the first of two stops, or else what comes of the second
+abbrev pub and_then : {A : Type 0} → Result ⊤ Stop → Result A Stop → Result A Stop
+and_then (Ok go) next = next
+and_then (Err why) next = Err why
+
+-- the value that a call answers, and the memory that it leaves
+pub record Done : Type 0 where
+  pub value : ℕ
+  pub memory : List ℕ
+
+abbrev pub done : ℕ → List ℕ → Result Done Stop
+done value memory = Ok (record { value = value; memory = memory })
+
+-- A call ends as its row says. A stop leaves the memory as it was.
+abbrev pub Ends : Result Done Stop → List ℕ → List ℕ → Result ℕ Stop → Type 0
+Ends row before now (Ok value) = row ≡ done value now
+Ends row before now (Err why) = (row ≡ Err why) × (now ≡ before)
+
+-- A call is stopped before the disk is asked, which leaves the disk and the memory; or what it asks decides.
+abbrev pub Unless : {D : Type 0} → Result ⊤ Stop → D → D → List ℕ → List ℕ → Result ℕ Stop → Type 0 → Type 0
+Unless (Err why) old new before now result asked = (result ≡ Err why) × (new ≡ old) × (now ≡ before)
+Unless (Ok go) old new before now result asked = asked

@@ -1,0 +1,164 @@
+//! File control blocks.
+
+ghost use Rattle.std.specs.Prelude.{◌≡◌};
+ghost use Rattle.cpm_fcb.specs.Fcbs.{has_question, name_judged};
+
+use crate::bytes::bytes_at;
+use crate::stop::Stop;
+use std::marker::Model;
+use z80_machine::Memory;
+
+/// The byte of a name, or of a drive, that stands for any, `?`.
+const QUESTION: u8 = 0x3F;
+
+/// The last drive that a byte may name, from 1 for A.
+const LAST_DRIVE: u8 = 16;
+
+/// A file control block as it stands in memory: drive, eleven bytes of name, EX, S1, S2, RC, sixteen bytes of blocks, CR, and
+/// R0 to R2. A contract sees the 36 bytes.
+#[derive(Clone, Copy, Debug, PartialEq, Eq)]
+pub struct Fcb {
+    bytes: [u8; 36],
+}
+
+impl Model for Fcb {
+    ghost use Rattle.std.specs.Prelude.{List, ℕ};
+
+    ghost Value = { List ℕ };
+
+    ghost view = { λ f. f.bytes };
+
+    ghost inverse = { λ bs. record { bytes = bs } };
+}
+
+impl Fcb {
+    ghost use Rattle.std.specs.Prelude.{◌≡◌};
+    ghost use Rattle.cpm_fcb.specs.Fcbs.{current_of, drive_judged, drive_of, extent_of, fcb_at, file_judged, name_of, names_judged, new_name_of, random_of, overflow_of, s2_of};
+
+    /// The 36 bytes from an address on.
+    pub fn at(memory: &Memory, address: u16) -> Fcb
+        ensures { result ≡ fcb_at address memory.now }
+    {
+        Fcb {
+            bytes: bytes_at(memory, address),
+        }
+    }
+
+    /// The drive: 0 for the current one, or from 1 on; `?` in a search for every entry.
+    pub fn drive(&self) -> u8
+        ensures { result ≡ drive_of self.now }
+    {
+        self.bytes[0]
+    }
+
+    pub fn name(&self) -> [u8; 11]
+        ensures { result ≡ name_of self.now }
+    {
+        let mut name = [0; 11];
+        name.copy_from_slice(&self.bytes[1..12]);
+        name
+    }
+
+    /// The second name, which a file is to have.
+    pub fn new_name(&self) -> [u8; 11]
+        ensures { result ≡ new_name_of self.now }
+    {
+        let mut name = [0; 11];
+        name.copy_from_slice(&self.bytes[17..28]);
+        name
+    }
+
+    /// EX.
+    pub fn extent(&self) -> u8
+        ensures { result ≡ extent_of self.now }
+    {
+        self.bytes[12]
+    }
+
+    pub fn s2(&self) -> u8
+        ensures { result ≡ s2_of self.now }
+    {
+        self.bytes[14]
+    }
+
+    /// CR.
+    pub fn current(&self) -> u8
+        ensures { result ≡ current_of self.now }
+    {
+        self.bytes[32]
+    }
+
+    /// R0 and R1.
+    pub fn random(&self) -> u16
+        ensures { result ≡ random_of self.now }
+    {
+        u16::from_le_bytes([self.bytes[33], self.bytes[34]])
+    }
+
+    /// R2.
+    pub fn overflow(&self) -> u8
+        ensures { result ≡ overflow_of self.now }
+    {
+        self.bytes[35]
+    }
+
+    /// Judges the drive.
+    ///
+    /// # Errors
+    ///
+    /// [`Stop::UnknownDrive`] for drives 2 to 16, [`Stop::BadFcb`] for what is no drive.
+    pub fn judge_drive(&self) -> Result<(), Stop>
+        ensures { result ≡ drive_judged self.now }
+    {
+        match self.drive() {
+            0 | 1 => Ok(()),
+            2..=LAST_DRIVE => Err(Stop::UnknownDrive),
+            _ => Err(Stop::BadFcb),
+        }
+    }
+
+    /// Judges the drive, and then the name of a file.
+    ///
+    /// # Errors
+    ///
+    /// Those of `judge_drive`, then [`Stop::BadFcb`] where a `?` stands in the name.
+    pub fn judge_file(&self) -> Result<(), Stop>
+        ensures { result ≡ file_judged self.now }
+    {
+        match self.judge_drive() {
+            Ok(()) => judge_name(&self.name()),
+            Err(stop) => Err(stop),
+        }
+    }
+
+    /// Judges the drive, the name of a file, and the name that it is to have.
+    ///
+    /// # Errors
+    ///
+    /// Those of `judge_file`, then [`Stop::BadFcb`] where a `?` stands in the second name.
+    pub fn judge_names(&self) -> Result<(), Stop>
+        ensures { result ≡ names_judged self.now }
+    {
+        match self.judge_file() {
+            Ok(()) => judge_name(&self.new_name()),
+            Err(stop) => Err(stop),
+        }
+    }
+}
+
+/// Judges a name.
+fn judge_name(name: &[u8; 11]) -> Result<(), Stop>
+    ensures { result ≡ name_judged name.now }
+{
+    if has_question(name) {
+        Err(Stop::BadFcb)
+    } else {
+        Ok(())
+    }
+}
+
+fn has_question(name: &[u8; 11]) -> bool
+    ensures { result ≡ has_question name.now }
+{
+    name.iter().any(|byte| *byte == QUESTION)
+}

@@ -1,0 +1,10 @@
+//! File control blocks of CP/M 2.2 in a memory whose addresses go round, and why a system call stops.
+#![tactic(auto)]
+
+mod bytes;
+mod fcb;
+mod stop;
+
+pub use bytes::{bytes_at, put_bytes, put_field};
+pub use fcb::Fcb;
+pub use stop::{Stop, stop_of};

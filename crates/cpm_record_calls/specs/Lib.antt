@@ -1,0 +1,5 @@
+pub mod Places
+pub mod Entries
+pub mod Sequential
+pub mod Random
+pub mod Numbers

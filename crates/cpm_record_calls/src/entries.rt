@@ -1,0 +1,26 @@
+//! What an FCB is told of the entry of its extent.
+
+ghost use Rattle.std.specs.Prelude.{◌≡◌, ◌<◌, ◌/◌};
+ghost use Rattle.cpm_record_calls.specs.Entries.{with_extent_entry};
+
+use cpm_disk::{Disk, Name};
+use cpm_fcb::put_field;
+use cpm_image::Sectors;
+use z80_machine::Memory;
+
+/// Puts bytes 15 to 31 of the entry of a record's extent to an FCB.
+pub(crate) fn put_entry<S: Sectors>(
+    disk: &Disk<S>,
+    user: u8,
+    name: &Name,
+    number: u32,
+    memory: &mut Memory,
+    address: u16,
+)
+    requires { number / 128 < 65536 }
+    ensures { memory.new ≡ with_extent_entry S.sectors disk.now user name.now number address memory.old }
+{
+    if let Some(entry) = disk.find_extent(user, name, (number / 128) as u16) {
+        put_field(memory, address, 15, disk.entry(entry).split_at(15).1);
+    }
+}

@@ -1,0 +1,13 @@
+//! The system calls of CP/M 2.2 that read and write records of files, and say where they are.
+#![tactic(auto)]
+
+mod entries;
+mod numbers;
+mod place;
+mod random;
+mod sequential;
+
+pub use numbers::{set_random, size};
+pub use place::Place;
+pub use random::{read_at, write_at};
+pub use sequential::{read_next, write_next};
