@@ -1,0 +1,4 @@
+pub mod Functions
+pub mod Settings
+pub mod System
+pub mod Answer

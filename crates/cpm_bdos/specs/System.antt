@@ -1,0 +1,18 @@
+-- What stands behind the system calls.
+use Rattle.std.specs.Prelude.{ℕ, Option, None}
+use Rattle.cpm_console.specs.declared.terminal.Terminal.{Terminal}
+use Rattle.cpm_disk.specs.Calls.{Mounted}
+use Rattle.cpm_file_calls.specs.declared.search.Search.{Search}
+use Rattle.cpm_bdos.specs.Settings.{first_dma}
+
+-- a mounted disk, a console with its column, the address of the DMA buffer, the user, and the search that found an entry last
+pub record System (S C : Type 0) : Type 0 where
+  pub disk : Mounted S
+  pub terminal : Terminal C
+  pub dma : ℕ
+  pub user : ℕ
+  pub search : Option Search
+
+-- column 0, the DMA buffer at 0080H, user 0, and no search
+abbrev pub new_system : {S C : Type 0} → Mounted S → C → System S C
+new_system disk console = record { disk = disk; terminal = record { console = console; column = 0 }; dma = first_dma; user = 0; search = None }

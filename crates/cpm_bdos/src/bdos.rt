@@ -1,0 +1,237 @@
+//! The BDOS.
+
+use crate::function::{
+    BiosEntry, ConsoleCall, FileCall, Function, RecordCall, SearchCall, SettingCall,
+};
+use crate::outcome::After;
+use crate::registers::{answered, byte_answered, nothing_answered, put_value};
+use crate::setting::{FIRST_DMA, set_by};
+use cpm_console::{Console, Terminal};
+use cpm_console_calls::{Reply, direct, is_ready, print, put, put_raw, read_line, take, take_raw};
+use cpm_disk::Disk;
+use cpm_fcb::Stop;
+use cpm_file_calls::{Search, close, erase, make, open, rename, search_first, search_next};
+use cpm_image::Sectors;
+use cpm_record_calls::{read_at, read_next, set_random, size, write_at, write_next};
+use std::marker::Model;
+use z80_machine::{Cpu, Memory};
+
+/// What stands behind the system calls: a mounted disk, which is drive A, and a console, the address of the DMA buffer, the user
+/// from 0 to 31, and the last search.
+#[derive(Drop)]
+pub struct Bdos<S: Sectors, C: Console> {
+    disk: Disk<S>,
+    terminal: Terminal<C>,
+    dma: u16,
+    user: u8,
+    search: Option<Search>,
+}
+
+impl<S: Sectors, C: Console> Model for Bdos<S, C> {
+    ghost use Rattle.std.specs.Prelude.{◌<◌};
+    ghost use Rattle.cpm_bdos.specs.System.{System};
+
+    ghost Value = { System S C };
+
+    ghost view = { λ b. record { disk = b.disk; terminal = b.terminal; dma = b.dma; user = b.user; search = b.search } };
+
+    ghost invariant = { λ b. b.user < 32 };
+}
+
+impl<S: Sectors, C: Console> Bdos<S, C> {
+    ghost use Rattle.std.specs.Prelude.{◌≡◌, ◌%◌};
+    ghost use Rattle.z80_machine.specs.State.{de};
+    ghost use Rattle.cpm_console.specs.Screen.{screen};
+    ghost use Rattle.cpm_bdos.specs.System.{new_system};
+    ghost use Rattle.cpm_bdos.specs.Answer.{Answers, BiosAnswers, CallAnswers, ConsoleAnswers, EntryAnswers, FileAnswers, RecordAnswers, SearchAnswers, SettingAnswers};
+
+    /// A console at column 0, the DMA buffer at 0080H, user 0, and no search.
+    pub fn new(disk: Disk<S>, console: C) -> Bdos<S, C>
+        ensures { result ≡ new_system disk console }
+    {
+        Bdos {
+            disk,
+            terminal: Terminal::new(console),
+            dma: FIRST_DMA,
+            user: 0,
+            search: None,
+        }
+    }
+
+    /// The disk and the console, as they stand.
+    pub fn into_parts(self) -> (Disk<S>, C)
+        ensures disk { result.0 ≡ self.disk }
+        ensures console { result.1 ≡ self.terminal.console }
+    {
+        (self.disk, self.terminal.console)
+    }
+
+    /// Makes a system call: the function is in C, its argument in DE, and the value goes to HL, with A as L and B as H. Other
+    /// registers and the flags stay.
+    ///
+    /// # Errors
+    ///
+    /// [`Stop::UnsupportedFunction`] where no function has the number; others as the functions say. A stop leaves registers and
+    /// memory as they were; what a console took or put stays.
+    pub fn call(&mut self, cpu: &mut Cpu, memory: &mut Memory) -> Result<After, Stop>
+        ensures { CallAnswers S.sectors S.faults C.dialog self.old self.new cpu.old cpu.new memory.old memory.new result }
+    {
+        let Some(function) = Function::of(cpu.main.c) else {
+            return Err(Stop::UnsupportedFunction(cpu.main.c));
+        };
+        match self.answer(function, cpu.main.de(), memory) {
+            Ok(Reply::Value(value)) => {
+                put_value(cpu, value);
+                Ok(After::Return)
+            }
+            Ok(Reply::WarmBoot) => Ok(After::WarmBoot),
+            Err(stop) => Err(stop),
+        }
+    }
+
+    /// Makes a call of the BIOS: entry 2 answers in A whether input is left, 3 the next byte of it, 4 puts C, as they are.
+    ///
+    /// # Errors
+    ///
+    /// [`Stop::UnsupportedBios`] of every other entry, [`Stop::EndOfInput`], [`Stop::ConsoleFault`]. A stop leaves the registers.
+    pub fn bios(&mut self, entry: u8, cpu: &mut Cpu) -> Result<After, Stop>
+        ensures { BiosAnswers C.dialog self.old self.new entry cpu.old cpu.new result }
+    {
+        match BiosEntry::of(entry) {
+            Some(known) => self.enter(known, cpu),
+            None => Err(Stop::UnsupportedBios(entry)),
+        }
+    }
+
+    fn enter(&mut self, entry: BiosEntry, cpu: &mut Cpu) -> Result<After, Stop>
+        ensures others { self.new ≡ record self.old { terminal = self.new.terminal } }
+        ensures answer { EntryAnswers entry (screen C.dialog self.old.terminal) (screen C.dialog self.new.terminal) cpu.old cpu.new result }
+    {
+        match entry {
+            BiosEntry::ConsoleStatus => {
+                cpu.main.a = is_ready(&self.terminal);
+                Ok(After::Return)
+            }
+            BiosEntry::ConsoleInput => match take_raw(&mut self.terminal) {
+                Ok(byte) => {
+                    cpu.main.a = byte;
+                    Ok(After::Return)
+                }
+                Err(stop) => Err(stop),
+            },
+            BiosEntry::ConsoleOutput => match put_raw(&mut self.terminal, cpu.main.c) {
+                Ok(()) => Ok(After::Return),
+                Err(stop) => Err(stop),
+            },
+        }
+    }
+
+    fn answer(
+        &mut self,
+        function: Function,
+        argument: u16,
+        memory: &mut Memory,
+    ) -> Result<Reply, Stop>
+        ensures { Answers S.sectors S.faults C.dialog function argument self.old self.new memory.old memory.new result }
+    {
+        match function {
+            Function::SystemReset => Ok(Reply::WarmBoot),
+            Function::Console(call) => self.console_call(call, argument, memory),
+            Function::Setting(call) => answered(self.setting_call(call, argument)),
+            Function::Search(call) => answered(self.search_call(call, argument, memory)),
+            Function::File(call) => answered(self.file_call(call, argument, memory)),
+            Function::Record(call) => answered(self.record_call(call, argument, memory)),
+        }
+    }
+
+    fn console_call(
+        &mut self,
+        call: ConsoleCall,
+        argument: u16,
+        memory: &mut Memory,
+    ) -> Result<Reply, Stop>
+        ensures others { self.new ≡ record self.old { terminal = self.new.terminal } }
+        ensures answer { ConsoleAnswers call argument (screen C.dialog self.old.terminal) (screen C.dialog self.new.terminal) memory.old memory.new result }
+    {
+        let byte = (argument % 256) as u8;
+        match call {
+            ConsoleCall::Input => byte_answered(take(&mut self.terminal)),
+            ConsoleCall::Output => nothing_answered(put(&mut self.terminal, byte)),
+            ConsoleCall::Direct => byte_answered(direct(&mut self.terminal, byte)),
+            ConsoleCall::PrintString => {
+                nothing_answered(print(&mut self.terminal, memory, argument))
+            }
+            ConsoleCall::ReadLine => read_line(&mut self.terminal, memory, argument),
+            ConsoleCall::Status => Ok(Reply::Value(u16::from(is_ready(&self.terminal)))),
+        }
+    }
+
+    fn setting_call(&mut self, call: SettingCall, argument: u16) -> Result<u16, Stop>
+        ensures others { self.new ≡ record self.old { dma = self.new.dma; user = self.new.user } }
+        ensures answer { SettingAnswers call argument self.old.dma self.old.user self.new.dma self.new.user result }
+    {
+        match set_by(call, argument, self.dma, self.user) {
+            Ok(settings) => {
+                self.dma = settings.dma;
+                self.user = settings.user;
+                Ok(settings.value)
+            }
+            Err(stop) => Err(stop),
+        }
+    }
+
+    fn search_call(
+        &mut self,
+        call: SearchCall,
+        argument: u16,
+        memory: &mut Memory,
+    ) -> Result<u16, Stop>
+        ensures others { self.new ≡ record self.old { search = self.new.search } }
+        ensures answer { SearchAnswers S.sectors call argument self.old.disk self.old.user self.old.dma self.old.search self.new.search memory.old memory.new result }
+    {
+        match call {
+            SearchCall::First => search_first(
+                &self.disk,
+                self.user,
+                self.dma,
+                &mut self.search,
+                memory,
+                argument,
+            ),
+            SearchCall::Next => Ok(search_next(&self.disk, self.dma, &mut self.search, memory)),
+        }
+    }
+
+    fn file_call(&mut self, call: FileCall, argument: u16, memory: &mut Memory) -> Result<u16, Stop>
+        ensures others { self.new ≡ record self.old { disk = self.new.disk } }
+        ensures answer { FileAnswers S.sectors S.faults call argument self.old.disk self.new.disk self.old.user memory.old memory.new result }
+    {
+        match call {
+            FileCall::Open => open(&self.disk, self.user, memory, argument),
+            FileCall::Close => close(&self.disk, self.user, memory, argument),
+            FileCall::Erase => erase(&mut self.disk, self.user, memory, argument),
+            FileCall::Make => make(&mut self.disk, self.user, memory, argument),
+            FileCall::Rename => rename(&mut self.disk, self.user, memory, argument),
+        }
+    }
+
+    fn record_call(
+        &mut self,
+        call: RecordCall,
+        argument: u16,
+        memory: &mut Memory,
+    ) -> Result<u16, Stop>
+        ensures others { self.new ≡ record self.old { disk = self.new.disk } }
+        ensures answer { RecordAnswers S.sectors S.faults call argument self.old.disk self.new.disk self.old.user self.old.dma memory.old memory.new result }
+    {
+        let (user, dma) = (self.user, self.dma);
+        match call {
+            RecordCall::ReadNext => read_next(&mut self.disk, user, dma, memory, argument),
+            RecordCall::WriteNext => write_next(&mut self.disk, user, dma, memory, argument),
+            RecordCall::ReadRandom => read_at(&mut self.disk, user, dma, memory, argument),
+            RecordCall::WriteRandom => write_at(&mut self.disk, user, dma, memory, argument),
+            RecordCall::FileSize => size(&self.disk, user, memory, argument),
+            RecordCall::SetRandom => set_random(self.disk.kind(), memory, argument),
+        }
+    }
+}

@@ -1,0 +1,49 @@
+//! The answer of a call, and where it goes.
+
+ghost use Rattle.std.specs.Prelude.{◌≡◌};
+ghost use Rattle.cpm_bdos.specs.Answer.{answered, nothing_answered, with_value};
+
+use cpm_console_calls::Reply;
+use cpm_fcb::Stop;
+use z80_machine::Cpu;
+
+/// Puts the value of a call to HL, with A as L and B as H.
+pub(crate) fn put_value(cpu: &mut Cpu, value: u16)
+    ensures { cpu.new ≡ with_value value cpu.old }
+{
+    let [high, low] = value.to_be_bytes();
+    cpu.main.h = high;
+    cpu.main.l = low;
+    cpu.main.b = high;
+    cpu.main.a = low;
+}
+
+/// A value as the answer.
+pub(crate) fn answered(outcome: Result<u16, Stop>) -> Result<Reply, Stop>
+    ensures { result ≡ answered outcome }
+{
+    match outcome {
+        Ok(value) => Ok(Reply::Value(value)),
+        Err(stop) => Err(stop),
+    }
+}
+
+/// A byte as the answer.
+pub(crate) fn byte_answered(outcome: Result<u8, Stop>) -> Result<Reply, Stop>
+    ensures { result ≡ answered outcome }
+{
+    match outcome {
+        Ok(byte) => Ok(Reply::Value(u16::from(byte))),
+        Err(stop) => Err(stop),
+    }
+}
+
+/// 0 as the answer, where nothing is named.
+pub(crate) fn nothing_answered(outcome: Result<(), Stop>) -> Result<Reply, Stop>
+    ensures { result ≡ nothing_answered outcome }
+{
+    match outcome {
+        Ok(()) => Ok(Reply::Value(0)),
+        Err(stop) => Err(stop),
+    }
+}

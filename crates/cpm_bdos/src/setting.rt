@@ -1,0 +1,100 @@
+//! The calls that ask neither console nor disk.
+
+ghost use Rattle.std.specs.Prelude.{◌≡◌, ◌<◌, IfOk};
+ghost use Rattle.cpm_bdos.specs.Settings.{set_by, user_set};
+
+use crate::function::SettingCall;
+use cpm_fcb::Stop;
+
+/// The DMA address after a reset.
+pub(crate) const FIRST_DMA: u16 = 0x0080;
+
+/// CP/M 2.2.
+const VERSION: u16 = 0x0022;
+
+/// Drive A alone is there.
+const DRIVE_A: u16 = 0x0001;
+
+/// What asks for the user.
+const ASK: u8 = 0xFF;
+
+/// The DMA address and the user, with the value that a call answers.
+#[derive(Clone, Copy)]
+pub struct Settings {
+    pub value: u16,
+    pub dma: u16,
+    pub user: u8,
+}
+
+/// What a call answers, and the settings then.
+///
+/// # Errors
+///
+/// [`Stop::UnknownDrive`] where another drive than A is selected.
+pub(crate) fn set_by(call: SettingCall, argument: u16, dma: u16, user: u8) -> Result<Settings, Stop>
+    requires { user < 32 }
+    ensures settings { result ≡ set_by call argument dma user }
+    ensures user { IfOk result (λ s. s.user < 32) }
+{
+    let byte = (argument % 256) as u8;
+    match call {
+        SettingCall::Version => Ok(Settings {
+            value: VERSION,
+            dma,
+            user,
+        }),
+        SettingCall::ResetDisks => Ok(Settings {
+            value: 0,
+            dma: FIRST_DMA,
+            user,
+        }),
+        SettingCall::SelectDisk => {
+            if byte == 0 {
+                Ok(Settings {
+                    value: 0,
+                    dma,
+                    user,
+                })
+            } else {
+                Err(Stop::UnknownDrive)
+            }
+        }
+        SettingCall::LoginVector => Ok(Settings {
+            value: DRIVE_A,
+            dma,
+            user,
+        }),
+        SettingCall::CurrentDisk => Ok(Settings {
+            value: 0,
+            dma,
+            user,
+        }),
+        SettingCall::SetDma => Ok(Settings {
+            value: 0,
+            dma: argument,
+            user,
+        }),
+        SettingCall::UserCode => Ok(user_set(byte, dma, user)),
+    }
+}
+
+/// FFH asks for the user, any other byte sets it modulo 32.
+fn user_set(byte: u8, dma: u16, user: u8) -> Settings
+    requires { user < 32 }
+    ensures settings { result ≡ user_set byte dma user }
+    ensures user { result.user < 32 }
+{
+    if byte == ASK {
+        Settings {
+            value: u16::from(user),
+            dma,
+            user,
+        }
+    } else {
+        Settings {
+            value: 0,
+            dma,
+            user: byte % 32,
+        }
+    }
+}
