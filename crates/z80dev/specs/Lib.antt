@@ -5,6 +5,4 @@ pub mod Reading
 pub mod Main
 pub mod Pipe
 pub mod Verdict
-pub mod Storing
-pub mod Finishing
 pub mod Private

@@ -6,7 +6,7 @@ use Rattle.z80dev.specs.declared.fault.Fault.TheVariants as fault
 use Rattle.z80dev.specs.declared.text.TheConstants.{TEXT_LIMIT}
 use Rattle.z80dev.specs.FaultTexts.{fault_text}
 use Rattle.z80dev.specs.Main.{IsRefused, WithFile}
-use Rattle.z80dev.specs.Streams.{AppendsFront}
+use Rattle.z80dev_finish.specs.Streams.{AppendsFront}
 
 -- the exit status of a fault: 3 for a file, 1 for a text that is refused
 abbrev pub status_of : Fault → ℕ

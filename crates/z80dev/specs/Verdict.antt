@@ -7,7 +7,7 @@ use Rattle.certificate.specs.Accepts.{Accepts}
 use Rattle.cert_check.specs.Checks.{IsChecked}
 use Rattle.z80dev.specs.declared.verdict.VerdictFault.{VerdictFault}
 use Rattle.z80dev.specs.declared.verdict.VerdictFault.TheVariants.{Refused, Output}
-use Rattle.z80dev.specs.Streams.{AppendsFront}
+use Rattle.z80dev_finish.specs.Streams.{AppendsFront}
 use Rattle.z80dev.specs.CheckTexts.{verdict_fault_text}
 
 -- the line of a verdict

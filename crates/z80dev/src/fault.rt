@@ -9,19 +9,8 @@ ghost use Rattle.zlink.specs.declared.fault.BuildFault.TheVariants as build;
 use std::alloc::AllocError;
 use std::fmt;
 use z80dev_faults::{Refusal, Told};
+use z80dev_finish::{FILE_FAULT, REFUSED};
 use zlink::{BuildFault, LinkFault};
-
-/// The exit status where all is done.
-pub const DONE: u8 = 0;
-
-/// The exit status where what was read is refused, or memory runs out.
-pub const REFUSED: u8 = 1;
-
-/// The exit status where the words of the command are wrong.
-pub const USAGE: u8 = 2;
-
-/// The exit status where reading or writing fails.
-pub const FILE_FAULT: u8 = 3;
 
 /// The name of the one source.
 pub const SOURCE_NAME: &str = "MAIN";

@@ -3,17 +3,17 @@
 ghost use Rattle.std.specs.Prelude.{◌≡◌, ◌≤◌, ◌⊎◌, false, Result};
 ghost use Rattle.z80dev.specs.Pipe.{Ends, said_at, status_at};
 ghost use Rattle.z80dev.specs.Reading.{IsCutShort, OfText};
-ghost use Rattle.z80dev.specs.Streams.{Says};
+ghost use Rattle.z80dev_finish.specs.Streams.{Says};
 ghost use Rattle.z80dev.specs.Private.Steps.{Writes};
 ghost use Rattle.z80dev.specs.declared.fault.Fault.{Fault};
 ghost use Rattle.z80dev.specs.declared.text.TheConstants.{READ_LIMIT};
 
-use crate::fault::{DONE, Fault, SOURCE_NAME};
+use crate::fault::{Fault, SOURCE_NAME};
 use crate::input::Input;
-use crate::output::Output;
 use crate::text::read_text;
 use std::alloc::Global;
 use std::io::Write;
+use z80dev_finish::{DONE, Output};
 use zlink::{Source, build};
 
 /// Writes the bytes in lower-case hexadecimal, and a line feed.

@@ -4,16 +4,15 @@ ghost use Rattle.std.specs.Prelude.{◌≡◌, ◌⊎◌, false, IfOk, Result, s
 ghost use Rattle.z80dev.specs.declared.verdict.VerdictFault.{VerdictFault};
 ghost use Rattle.z80dev.specs.declared.verdict.VerdictFault.TheVariants as verdict;
 ghost use Rattle.cert_check.specs.declared.fault.CheckFault.TheVariants as check;
-ghost use Rattle.z80dev.specs.Streams.{Says};
+ghost use Rattle.z80dev_finish.specs.Streams.{Says};
 ghost use Rattle.z80dev.specs.Verdict.{VerdictEnds, judged_line, verdict_said, verdict_status};
 
-use crate::fault::{DONE, FILE_FAULT, REFUSED};
-use crate::output::Output;
 use cert_check::{CheckFault, check};
 use certificate::Verdict;
 use std::alloc::{AllocError, Global};
 use std::fmt;
 use std::io::Write;
+use z80dev_finish::{DONE, FILE_FAULT, Output, REFUSED};
 
 /// Why no verdict is printed.
 #[derive(Clone, Copy, Debug, PartialEq, Eq)]

@@ -4,12 +4,14 @@
 use clap::Error;
 use clap::error::ErrorKind;
 use std::alloc::AllocError;
+use std::fmt::Display;
 use std::process::ExitCode;
 use std::{env, fs, io};
 use z80dev::{
     Answer, DONE, Fault, Job, Output, REFUSED, SourceFile, Store, USAGE, Watched, WriteFailed, asm,
     build, check_texts, commands, finish, link, pipe, read_text,
 };
+use z80dev_disk::{DiskKind, Refusal, blank, dir, file_name, get, put};
 
 /// The files of the machine that the program runs on.
 #[derive(Drop)]
@@ -80,36 +82,20 @@ fn refuse_file(rt: &HostRuntime, path: &str, fault: &Fault) -> u8 {
     fault.status()
 }
 
-/// Checks the certificate in one file against the sizes in another.
-fn check_files(rt: &HostRuntime, sizes: &str, cert: &str) -> u8 {
-    let sizes_text = match read_file(rt, sizes) {
-        Ok(text) => text,
-        Err(fault) => return refuse_file(rt, sizes, &fault),
-    };
-    let cert_text = match read_file(rt, cert) {
-        Ok(text) => text,
-        Err(fault) => return refuse_file(rt, cert, &fault),
-    };
-    let mut output = Output::new(rt.stdout());
-    let mut errors = Output::new(rt.stderr());
-    check_texts(
-        rt.alloc(),
-        &sizes_text,
-        &cert_text,
-        &mut output,
-        &mut errors,
-    )
+/// The bytes of a file. Where it is not read it is said why, and the status is given.
+fn read(rt: &HostRuntime, path: &str) -> Result<Vec<u8>, u8> {
+    match read_file(rt, path) {
+        Ok(bytes) => Ok(bytes),
+        Err(fault) => Err(refuse_file(rt, path, &fault)),
+    }
 }
 
-/// The bytes of files, read in order. Where one is not read it is said why, and the status is given.
-fn read_files(rt: &HostRuntime, paths: &[&str]) -> Result<Vec<Vec<u8>>, u8> {
+/// The bytes of files, read in order.
+fn read_all(rt: &HostRuntime, paths: &[&str]) -> Result<Vec<Vec<u8>>, u8> {
     let mut files = Vec::new(rt.alloc());
     for path in paths {
-        let pushed = match read_file(rt, path) {
-            Ok(bytes) => files.push(bytes),
-            Err(fault) => return Err(refuse_file(rt, path, &fault)),
-        };
-        if pushed.is_err() {
+        let bytes = read(rt, path)?;
+        if files.push(bytes).is_err() {
             return Err(refuse_memory(rt));
         }
     }
@@ -123,7 +109,7 @@ fn refuse_memory(rt: &HostRuntime) -> u8 {
 }
 
 /// Does what a command answers.
-fn finish_files(rt: &HostRuntime, out: &str, answer: &Answer<'_>) -> u8 {
+fn finish_files<R: Copy + Display>(rt: &HostRuntime, out: &str, answer: &Answer<R>) -> u8 {
     let mut output = Output::new(rt.stdout());
     let mut errors = Output::new(rt.stderr());
     finish(
@@ -136,22 +122,32 @@ fn finish_files(rt: &HostRuntime, out: &str, answer: &Answer<'_>) -> u8 {
     )
 }
 
+/// Checks the certificate in one file against the sizes in another.
+fn check_files(rt: &HostRuntime, sizes: &str, cert: &str) -> Result<u8, u8> {
+    let sizes_text = read(rt, sizes)?;
+    let cert_text = read(rt, cert)?;
+    let mut output = Output::new(rt.stdout());
+    let mut errors = Output::new(rt.stderr());
+    Ok(check_texts(
+        rt.alloc(),
+        &sizes_text,
+        &cert_text,
+        &mut output,
+        &mut errors,
+    ))
+}
+
 /// Assembles the source in a file to an object.
-fn asm_file(rt: &HostRuntime, out: &str, grow: bool, path: &str) -> u8 {
-    let text = match read_file(rt, path) {
-        Ok(text) => text,
-        Err(fault) => return refuse_file(rt, path, &fault),
-    };
+fn asm_file(rt: &HostRuntime, out: &str, grow: bool, path: &str) -> Result<u8, u8> {
+    let text = read(rt, path)?;
     let source = SourceFile { path, text: &text };
-    finish_files(rt, out, &asm(rt.alloc(), source, grow))
+    Ok(finish_files(rt, out, &asm(rt.alloc(), source, grow)))
 }
 
 /// Links the objects in files to a program.
-fn link_files(rt: &HostRuntime, out: &str, paths: &[&str]) -> u8 {
-    match read_files(rt, paths) {
-        Ok(objects) => finish_files(rt, out, &link(rt.alloc(), &objects)),
-        Err(status) => status,
-    }
+fn link_files(rt: &HostRuntime, out: &str, paths: &[&str]) -> Result<u8, u8> {
+    let objects = read_all(rt, paths)?;
+    Ok(finish_files(rt, out, &link(rt.alloc(), &objects)))
 }
 
 /// Builds the program of sources that were read.
@@ -172,15 +168,58 @@ fn build_texts(
 }
 
 /// Builds the program of the sources in files.
-fn build_files(rt: &HostRuntime, out: &str, grow: bool, list: bool, paths: &[&str]) -> u8 {
-    let texts = match read_files(rt, paths) {
-        Ok(texts) => texts,
-        Err(status) => return status,
-    };
+fn build_files(
+    rt: &HostRuntime,
+    out: &str,
+    grow: bool,
+    list: bool,
+    paths: &[&str],
+) -> Result<u8, u8> {
+    let texts = read_all(rt, paths)?;
     match build_texts(rt, out, grow, list, paths, &texts) {
-        Ok(status) => status,
-        Err(_) => refuse_memory(rt),
+        Ok(status) => Ok(status),
+        Err(_) => Err(refuse_memory(rt)),
     }
+}
+
+/// Lists the files of a disk.
+fn dir_image(rt: &HostRuntime, image: &str) -> Result<u8, u8> {
+    let bytes = read(rt, image)?;
+    Ok(finish_files(rt, image, &dir(rt.alloc(), &bytes)))
+}
+
+/// Says that a word is no name of a file, and gives the status.
+fn refuse_name(rt: &HostRuntime) -> u8 {
+    finish_files(rt, "", &Answer::refused(rt.alloc(), Refusal::BadName))
+}
+
+/// Puts a file on a disk.
+fn put_file(rt: &HostRuntime, image: &str, path: &str, name: &str) -> Result<u8, u8> {
+    let Some(name) = file_name(name) else {
+        return Err(refuse_name(rt));
+    };
+    let bytes = read(rt, image)?;
+    let file = read(rt, path)?;
+    Ok(finish_files(rt, image, &put(rt.alloc(), &bytes, &file, &name)))
+}
+
+/// Gets a file of a disk.
+fn get_file(rt: &HostRuntime, image: &str, name: &str, path: &str) -> Result<u8, u8> {
+    let Some(name) = file_name(name) else {
+        return Err(refuse_name(rt));
+    };
+    let bytes = read(rt, image)?;
+    Ok(finish_files(rt, path, &get(rt.alloc(), &bytes, &name)))
+}
+
+/// Makes the image of a blank disk.
+fn blank_image(rt: &HostRuntime, mega: bool, image: &str) -> u8 {
+    let kind = if mega {
+        DiskKind::Megabyte
+    } else {
+        DiskKind::EightInch
+    };
+    finish_files(rt, image, &blank(rt.alloc(), kind))
 }
 
 /// Prints the file of the text on standard input.
@@ -189,6 +228,26 @@ fn print_file(rt: &HostRuntime) -> u8 {
     let mut output = Output::new(rt.stdout());
     let mut errors = Output::new(rt.stderr());
     pipe(rt.alloc(), &mut input, &mut output, &mut errors)
+}
+
+/// Does a job, and gives the status.
+fn work(rt: &HostRuntime, job: Job<'_>) -> Result<u8, u8> {
+    match job {
+        Job::Pipe => Ok(print_file(rt)),
+        Job::Asm { out, grow, source } => asm_file(rt, out, grow, source),
+        Job::Link { out, objects } => link_files(rt, out, &objects),
+        Job::Build {
+            out,
+            grow,
+            list,
+            sources,
+        } => build_files(rt, out, grow, list, &sources),
+        Job::Check { sizes, cert } => check_files(rt, sizes, cert),
+        Job::Dir { image } => dir_image(rt, image),
+        Job::Put { image, file, name } => put_file(rt, image, file, name),
+        Job::Get { image, name, file } => get_file(rt, image, name, file),
+        Job::Blank { mega, image } => Ok(blank_image(rt, mega, image)),
+    }
 }
 
 fn main(rt: HostRuntime) -> ExitCode {
@@ -200,18 +259,9 @@ fn main(rt: HostRuntime) -> ExitCode {
         }
     };
     ExitCode::from(match commands(rt.alloc(), &words) {
-        Ok(Job::Pipe) => print_file(&rt),
-        Ok(Job::Asm { out, grow, source }) => asm_file(&rt, out, grow, source),
-        Ok(Job::Link { out, objects }) => link_files(&rt, out, &objects),
-        Ok(
-            Job::Build {
-                out,
-                grow,
-                list,
-                sources,
-            },
-        ) => build_files(&rt, out, grow, list, &sources),
-        Ok(Job::Check { sizes, cert }) => check_files(&rt, sizes, cert),
+        Ok(job) => match work(&rt, job) {
+            Ok(status) | Err(status) => status,
+        },
         Err(error) => refuse_words(&rt, &error),
     })
 }

@@ -8,7 +8,7 @@ use Rattle.clap.specs.Words.{App, Row, Rule, Shape, Text, all_of, fault_of, firs
 use Rattle.clap.specs.Simple.{new_shape}
 use Rattle.clap.specs.declared.builder.action.ArgAction.TheVariants.{Append, Set, SetTrue}
 use Rattle.z80dev_commands.specs.declared.Job.{Job}
-use Rattle.z80dev_commands.specs.declared.Job.TheVariants.{Pipe, Asm, Link, Build, Check}
+use Rattle.z80dev_commands.specs.declared.Job.TheVariants.{Pipe, Asm, Link, Build, Check, Dir, Put, Get, Blank}
 
 -- ---- arguments
 
@@ -54,13 +54,33 @@ build_shape = with_rules (codes "build") (out_rule ∷ flag_rule (codes "grow") 
 abbrev pub check_shape : Shape
 check_shape = with_rules (codes "check") (path_rule (codes "SIZES") ∷ path_rule (codes "CERT") ∷ [])
 
+-- `dir IMG`
+abbrev pub dir_shape : Shape
+dir_shape = with_rules (codes "dir") (path_rule (codes "IMG") ∷ [])
+
+-- `put IMG FILE NAME`
+abbrev pub put_shape : Shape
+put_shape = with_rules (codes "put") (path_rule (codes "IMG") ∷ path_rule (codes "FILE") ∷ path_rule (codes "NAME") ∷ [])
+
+-- `get IMG NAME FILE`
+abbrev pub get_shape : Shape
+get_shape = with_rules (codes "get") (path_rule (codes "IMG") ∷ path_rule (codes "NAME") ∷ path_rule (codes "FILE") ∷ [])
+
+-- `blank [--mega] IMG`
+abbrev pub blank_shape : Shape
+blank_shape = with_rules (codes "blank") (flag_rule (codes "mega") ∷ path_rule (codes "IMG") ∷ [])
+
 -- the command's own words: its help and its version
 abbrev pub bare : App
 bare = record { top = record (new_shape (codes "z80dev")) { disable_help_subcommand = true; has_version = true }; subs = [] }
 
--- the command with its commands
+-- the command with its commands that make programs
+abbrev pub programs : App
+programs = with_subcommand (with_subcommand (with_subcommand (with_subcommand bare asm_shape) link_shape) build_shape) check_shape
+
+-- .. and with those on disks
 abbrev pub z80dev : App
-z80dev = with_subcommand (with_subcommand (with_subcommand (with_subcommand bare asm_shape) link_shape) build_shape) check_shape
+z80dev = with_subcommand (with_subcommand (with_subcommand (with_subcommand programs dir_shape) put_shape) get_shape) blank_shape
 
 -- ---- jobs
 
@@ -93,6 +113,10 @@ IsJobOf met (Link out objects) = Meets met (codes "link") (λ rows. Finds (codes
 IsJobOf met (Build out grow list sources) = Meets met (codes "build") (λ rows. Finds (codes "BASE") out rows
     × (is_on (codes "grow") rows ≡ grow) × (is_on (codes "list") rows ≡ list) × FindsAll (codes "SRC") sources.items rows)
 IsJobOf met (Check sizes cert) = Meets met (codes "check") (λ rows. Finds (codes "SIZES") sizes rows × Finds (codes "CERT") cert rows)
+IsJobOf met (Dir image) = Meets met (codes "dir") (λ rows. Finds (codes "IMG") image rows)
+IsJobOf met (Put image file name) = Meets met (codes "put") (λ rows. Finds (codes "IMG") image rows × Finds (codes "FILE") file rows × Finds (codes "NAME") name rows)
+IsJobOf met (Get image name file) = Meets met (codes "get") (λ rows. Finds (codes "IMG") image rows × Finds (codes "NAME") name rows × Finds (codes "FILE") file rows)
+IsJobOf met (Blank mega image) = Meets met (codes "blank") (λ rows. (is_on (codes "mega") rows ≡ mega) × Finds (codes "IMG") image rows)
 
 -- The parse succeeds, and the job is that of the command which the words name, with the values that the parse finds.
 abbrev pub IsJob : List Text → Job → Type 0

@@ -76,6 +76,47 @@ fn check<'a>(found: &ArgMatches<'a>) -> Job<'a>
     }
 }
 
+fn dir<'a>(found: &ArgMatches<'a>) -> Job<'a>
+    requires { AreFound (codes "dir") (rows_of (found_of found.now)) }
+    ensures { IsJobOf (Some (codes "dir", rows_of (found_of found.now))) result }
+{
+    Job::Dir {
+        image: text(found, "IMG"),
+    }
+}
+
+fn put<'a>(found: &ArgMatches<'a>) -> Job<'a>
+    requires { AreFound (codes "put") (rows_of (found_of found.now)) }
+    ensures { IsJobOf (Some (codes "put", rows_of (found_of found.now))) result }
+{
+    Job::Put {
+        image: text(found, "IMG"),
+        file: text(found, "FILE"),
+        name: text(found, "NAME"),
+    }
+}
+
+fn get<'a>(found: &ArgMatches<'a>) -> Job<'a>
+    requires { AreFound (codes "get") (rows_of (found_of found.now)) }
+    ensures { IsJobOf (Some (codes "get", rows_of (found_of found.now))) result }
+{
+    Job::Get {
+        image: text(found, "IMG"),
+        name: text(found, "NAME"),
+        file: text(found, "FILE"),
+    }
+}
+
+fn blank<'a>(found: &ArgMatches<'a>) -> Job<'a>
+    requires { AreFound (codes "blank") (rows_of (found_of found.now)) }
+    ensures { IsJobOf (Some (codes "blank", rows_of (found_of found.now))) result }
+{
+    Job::Blank {
+        mega: flag(found, "mega"),
+        image: text(found, "IMG"),
+    }
+}
+
 /// The job of the command of this name.
 pub(crate) fn job<'a>(
     alloc: Global,
@@ -90,6 +131,10 @@ pub(crate) fn job<'a>(
         "link" => link(alloc, found),
         "build" => build(alloc, found),
         "check" => Ok(check(found)),
+        "dir" => Ok(dir(found)),
+        "put" => Ok(put(found)),
+        "get" => Ok(get(found)),
+        "blank" => Ok(blank(found)),
         _ => unreachable!(),
     }
 }

@@ -42,6 +42,27 @@ pub enum Job<'a> {
         sizes: &'a str,
         cert: &'a str,
     },
+    /// Lists the files of a disk: the path of its image.
+    Dir {
+        image: &'a str,
+    },
+    /// Puts a file on a disk: the paths of its image and of the file, and the name that the file gets there.
+    Put {
+        image: &'a str,
+        file: &'a str,
+        name: &'a str,
+    },
+    /// Gets a file of a disk: the path of its image, the file's name there, and the path of what is written.
+    Get {
+        image: &'a str,
+        name: &'a str,
+        file: &'a str,
+    },
+    /// Makes the image of a blank disk: whether it is a Megabyte disk, and its path.
+    Blank {
+        mega: bool,
+        image: &'a str,
+    },
 }
 
 /// The job that the words ask for, the program's name first.

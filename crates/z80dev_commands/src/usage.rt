@@ -3,7 +3,7 @@
 ghost use Rattle.std.specs.Prelude.{◌≡◌, IfOk, false, codes};
 ghost use Rattle.clap.specs.Words.{app_of, new_app, rule_of};
 ghost use Rattle.clap.specs.declared.builder.command.Command.TheViews.{out-Command};
-ghost use Rattle.z80dev_commands.specs.Commands.{asm_shape, bare, build_shape, check_shape, flag_rule, link_shape, out_rule, path_rule, paths_rule, z80dev};
+ghost use Rattle.z80dev_commands.specs.Commands.{asm_shape, bare, blank_shape, build_shape, check_shape, dir_shape, flag_rule, get_shape, link_shape, out_rule, path_rule, paths_rule, programs, put_shape, z80dev};
 ghost use Rattle.z80dev_commands.specs.Private.{alone};
 
 use clap::{Arg, ArgAction, Command};
@@ -171,13 +171,97 @@ fn bare<'a>(alloc: Global) -> Result<Command<'a>, AllocError>
         .bin_name("z80dev")
 }
 
-/// The command with its commands.
-pub(crate) fn z80dev<'a>(alloc: Global) -> Result<Command<'a>, AllocError>
-    ensures app { IfOk result (λ c. app_of c ≡ z80dev) }
+/// The path of an image.
+fn image<'a>(alloc: Global) -> Arg<'a>
+    ensures rule { rule_of result ≡ path_rule (codes "IMG") }
+    ensures local { result.global ≡ false }
+{
+    path(alloc, "IMG", "The image of the disk")
+}
+
+/// The name of a file on a disk.
+fn name<'a>(alloc: Global) -> Arg<'a>
+    ensures rule { rule_of result ≡ path_rule (codes "NAME") }
+    ensures local { result.global ≡ false }
+{
+    path(alloc, "NAME", "The file's name on the disk, as BIG.DAT")
+}
+
+fn dir<'a>(alloc: Global) -> Result<Command<'a>, AllocError>
+    ensures app { IfOk result (λ c. app_of c ≡ alone dir_shape) }
+    ensures local { IfOk result (λ c. (out-Command c).has_globals ≡ false) }
+{
+    titled(
+        alloc,
+        "dir",
+        "Lists the files of a disk: reads IMG, prints `USER NAME.TYP RECORDS` for each, and RO, SYS where they are set",
+        "Example: z80dev dir A.IMG",
+    )
+    .arg(image(alloc))
+}
+
+fn put<'a>(alloc: Global) -> Result<Command<'a>, AllocError>
+    ensures app { IfOk result (λ c. app_of c ≡ alone put_shape) }
+    ensures local { IfOk result (λ c. (out-Command c).has_globals ≡ false) }
+{
+    titled(
+        alloc,
+        "put",
+        "Puts a file on a disk, for user 0: reads IMG and FILE, writes IMG",
+        "Example: z80dev put A.IMG numbers.com NUMBERS.COM",
+    )
+    .arg(image(alloc))?
+    .arg(path(alloc, "FILE", "The file that is put"))?
+    .arg(name(alloc))
+}
+
+fn get<'a>(alloc: Global) -> Result<Command<'a>, AllocError>
+    ensures app { IfOk result (λ c. app_of c ≡ alone get_shape) }
+    ensures local { IfOk result (λ c. (out-Command c).has_globals ≡ false) }
+{
+    titled(
+        alloc,
+        "get",
+        "Gets a file of user 0 of a disk: reads IMG, writes FILE",
+        "Example: z80dev get A.IMG NUMBERS.COM numbers.com",
+    )
+    .arg(image(alloc))?
+    .arg(name(alloc))?
+    .arg(path(alloc, "FILE", "The file that is written"))
+}
+
+fn blank<'a>(alloc: Global) -> Result<Command<'a>, AllocError>
+    ensures app { IfOk result (λ c. app_of c ≡ alone blank_shape) }
+    ensures local { IfOk result (λ c. (out-Command c).has_globals ≡ false) }
+{
+    titled(
+        alloc,
+        "blank",
+        "Makes the image of a blank disk: writes IMG, of 256,256 bytes or with --mega of 1,048,576",
+        "Example: z80dev blank A.IMG",
+    )
+    .arg(flag(alloc, "mega", "A disk of 1,048,576 bytes"))?
+    .arg(image(alloc))
+}
+
+/// The command with its commands that make programs.
+fn programs<'a>(alloc: Global) -> Result<Command<'a>, AllocError>
+    ensures app { IfOk result (λ c. app_of c ≡ programs) }
 {
     bare(alloc)?
         .subcommand(asm(alloc)?)?
         .subcommand(link(alloc)?)?
         .subcommand(build(alloc)?)?
         .subcommand(check(alloc)?)
+}
+
+/// The command with all its commands.
+pub(crate) fn z80dev<'a>(alloc: Global) -> Result<Command<'a>, AllocError>
+    ensures app { IfOk result (λ c. app_of c ≡ z80dev) }
+{
+    programs(alloc)?
+        .subcommand(dir(alloc)?)?
+        .subcommand(put(alloc)?)?
+        .subcommand(get(alloc)?)?
+        .subcommand(blank(alloc)?)
 }

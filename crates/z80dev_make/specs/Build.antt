@@ -10,10 +10,11 @@ use Rattle.zlink.specs.Built.{IsBuilt, IsExact}
 use Rattle.zlisting.specs.Listing.{listing}
 use Rattle.zlisting.specs.Symbols.{symbols}
 use Rattle.z80dev_faults.specs.Refusals.{of_source, refusal_text}
-use Rattle.z80dev_make.specs.declared.answer.Kind.{Kind}
-use Rattle.z80dev_make.specs.declared.answer.Kind.TheVariants as kind
+use Rattle.z80dev_finish.specs.declared.answer.Kind.{Kind}
+use Rattle.z80dev_finish.specs.declared.answer.Kind.TheVariants as kind
 use Rattle.z80dev_make.specs.declared.answer.SourceFile.{SourceFile}
-use Rattle.z80dev_make.specs.Answers.{Answer, IsSource, no_program, nothing, program_files}
+use Rattle.z80dev_finish.specs.Answers.{Answer, nothing}
+use Rattle.z80dev_make.specs.Answers.{IsSource, no_program, program_files}
 
 abbrev pub path_of : Option SourceFile → List ℕ
 path_of None = []

@@ -8,7 +8,8 @@ use Rattle.zlink.specs.declared.fault.LinkFault.{LinkFault}
 use Rattle.zlink.specs.declared.linking.Linked.{Linked}
 use Rattle.zlink.specs.Linked.{IsExact, IsLinked}
 use Rattle.z80dev_faults.specs.Refusals.{object_text}
-use Rattle.z80dev_make.specs.Answers.{Answer, no_program, nothing, program_files}
+use Rattle.z80dev_finish.specs.Answers.{Answer, nothing}
+use Rattle.z80dev_make.specs.Answers.{no_program, program_files}
 
 -- the bytes are read as this module
 abbrev pub IsObject : List ℕ → Module → Type 0

@@ -3,17 +3,19 @@
 ghost use Rattle.std.specs.Prelude.{◌≡◌, IfOk};
 ghost use Rattle.zmo_module.specs.Modules.{module_of};
 ghost use Rattle.zmo_module.specs.Rules.{IsModule};
-ghost use Rattle.z80dev_make.specs.Answers.{MemoryAside, answer_of};
+ghost use Rattle.z80dev_finish.specs.Answers.{MemoryAside};
+ghost use Rattle.z80dev_make.specs.Answers.{answer_of};
 ghost use Rattle.z80dev_make.specs.Asm.{IsAsm, object_answer};
 
-use crate::answer::{Answer, Kind, NewFile, SourceFile};
+use crate::answer::{SourceFile, refused, without_memory};
 use asm_module::{Module, Why, assemble_with};
 use std::alloc::{AllocError, Global};
 use z80dev_faults::{Refusal, Told};
+use z80dev_finish::{Answer, Kind, NewFile};
 use zmo_object::write;
 
 /// The object of a module, as an answer.
-fn object_of<'a>(alloc: Global, module: &Module) -> Result<Answer<'a>, AllocError>
+fn object_of<'a>(alloc: Global, module: &Module) -> Result<Answer<Told<'a>>, AllocError>
     requires { IsModule (module_of «module».now) }
     ensures { IfOk result (λ answer. answer_of answer ≡ object_answer (module_of «module».now)) }
 {
@@ -27,7 +29,11 @@ fn object_of<'a>(alloc: Global, module: &Module) -> Result<Answer<'a>, AllocErro
 }
 
 /// The object of a source, or what is said of its fault.
-fn assembled<'a>(alloc: Global, file: SourceFile<'a>, grow: bool) -> Result<Answer<'a>, AllocError>
+fn assembled<'a>(
+    alloc: Global,
+    file: SourceFile<'a>,
+    grow: bool,
+) -> Result<Answer<Told<'a>>, AllocError>
     ensures { IfOk result (λ answer. IsAsm file.entry grow (answer_of answer)) }
 {
     match assemble_with(alloc, file.path.as_bytes(), file.text, grow) {
@@ -40,7 +46,7 @@ fn assembled<'a>(alloc: Global, file: SourceFile<'a>, grow: bool) -> Result<Answ
             _ => {
                 let refusal = Refusal::Source(fault);
                 let path = file.path;
-                Ok(Answer::refused(alloc, Told { path, refusal }))
+                Ok(refused(alloc, Told { path, refusal }))
             }
         },
     }
@@ -49,11 +55,11 @@ fn assembled<'a>(alloc: Global, file: SourceFile<'a>, grow: bool) -> Result<Answ
 /// Assembles a source, and answers its object. Where `grow` says so, a written `JR` may become a `JP` when it is linked.
 ///
 /// A source that has a fault is refused with the first.
-pub fn asm<'a>(alloc: Global, file: SourceFile<'a>, grow: bool) -> Answer<'a>
+pub fn asm<'a>(alloc: Global, file: SourceFile<'a>, grow: bool) -> Answer<Told<'a>>
     ensures { MemoryAside (IsAsm file.entry grow) (answer_of result) }
 {
     match assembled(alloc, file, grow) {
         Ok(answer) => answer,
-        Err(_) => Answer::without_memory(alloc),
+        Err(_) => without_memory(alloc),
     }
 }

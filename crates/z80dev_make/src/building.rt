@@ -2,13 +2,15 @@
 
 ghost use Rattle.std.specs.Prelude.{◌≡◌, IfOk, Ok, false, slice_get, string_bytes, true};
 ghost use Rattle.std.specs.List.{AllZip};
-ghost use Rattle.z80dev_make.specs.Answers.{IsSource, MemoryAside, answer_of};
+ghost use Rattle.z80dev_finish.specs.Answers.{MemoryAside};
+ghost use Rattle.z80dev_make.specs.Answers.{IsSource, answer_of};
 ghost use Rattle.z80dev_make.specs.Build.{IsBuild, build_answer, grown_lines, line_from, path_at};
 
-use crate::answer::{Answer, Kind, NewFile, SourceFile, no_program, program};
+use crate::answer::{SourceFile, no_program, program, refused, without_memory};
 use std::alloc::{AllocError, Global};
 use std::fmt;
 use z80dev_faults::{Refusal, Told};
+use z80dev_finish::{Answer, Kind, NewFile};
 use zlink::{BuildFault, Built, Origin, Source, build_with};
 use zlisting::{listing, symbols};
 
@@ -99,7 +101,7 @@ fn plain<'a>(
     files: &[SourceFile<'a>],
     sources: &[Source<'a>],
     built: Built,
-) -> Result<Answer<'a>, AllocError>
+) -> Result<Answer<Told<'a>>, AllocError>
     ensures { IfOk result (λ answer. answer_of answer ≡ build_answer false files.now sources.now (Ok built)) }
 {
     let printed = grown_lines(alloc, files, &built)?;
@@ -113,7 +115,7 @@ fn listed<'a>(
     files: &[SourceFile<'a>],
     sources: &[Source<'a>],
     built: Built,
-) -> Result<Answer<'a>, AllocError>
+) -> Result<Answer<Told<'a>>, AllocError>
     ensures { IfOk result (λ answer. answer_of answer ≡ build_answer true files.now sources.now (Ok built)) }
 {
     let printed = grown_lines(alloc, files, &built)?;
@@ -138,7 +140,7 @@ fn answered<'a>(
     sources: &[Source<'a>],
     building: Result<Built, BuildFault>,
     list: bool,
-) -> Result<Answer<'a>, AllocError>
+) -> Result<Answer<Told<'a>>, AllocError>
     ensures { IfOk result (λ answer. answer_of answer ≡ build_answer list files.now sources.now building) }
 {
     match building {
@@ -152,7 +154,7 @@ fn answered<'a>(
         Err(BuildFault::Asm { source, fault }) => {
             let path = path_at(files, source);
             let refusal = Refusal::of_source(fault);
-            Ok(Answer::refused(alloc, Told { path, refusal }))
+            Ok(refused(alloc, Told { path, refusal }))
         }
         Err(BuildFault::Link(fault)) => no_program(alloc, fault),
     }
@@ -164,7 +166,7 @@ fn built<'a>(
     files: &[SourceFile<'a>],
     grow: bool,
     list: bool,
-) -> Result<Answer<'a>, AllocError>
+) -> Result<Answer<Told<'a>>, AllocError>
     ensures { IfOk result (λ answer. IsBuild files.now grow list (answer_of answer)) }
 {
     let sources = sources_of(alloc, files)?;
@@ -177,11 +179,16 @@ fn built<'a>(
 /// labels. Where `grow` says so, a written `JR` may become a `JP`, and a line tells of each that did, in their order: `grown PATH(LINE)`.
 ///
 /// Where no choice of short and long jumps fits, the two texts are answered and the reason is said. Any other fault is said alone.
-pub fn build<'a>(alloc: Global, files: &[SourceFile<'a>], grow: bool, list: bool) -> Answer<'a>
+pub fn build<'a>(
+    alloc: Global,
+    files: &[SourceFile<'a>],
+    grow: bool,
+    list: bool,
+) -> Answer<Told<'a>>
     ensures { MemoryAside (IsBuild files.now grow list) (answer_of result) }
 {
     match built(alloc, files, grow, list) {
         Ok(answer) => answer,
-        Err(_) => Answer::without_memory(alloc),
+        Err(_) => without_memory(alloc),
     }
 }

@@ -10,8 +10,9 @@ mod building;
 pub mod laws;
 mod linking;
 
-pub use answer::{Answer, Kind, NewFile, SourceFile};
+pub use answer::SourceFile;
 pub use assembling::asm;
 pub use building::build;
 pub use linking::link;
 pub use z80dev_faults::{Refusal, Told};
+pub use z80dev_finish::{Answer, Kind, NewFile};

@@ -1,13 +1,15 @@
 //! The command `link`: objects become a program.
 
 ghost use Rattle.std.specs.Prelude.{◌≡◌, IfOk, map};
-ghost use Rattle.z80dev_make.specs.Answers.{MemoryAside, answer_of};
+ghost use Rattle.z80dev_finish.specs.Answers.{MemoryAside};
+ghost use Rattle.z80dev_make.specs.Answers.{answer_of};
 ghost use Rattle.z80dev_make.specs.Link.{IsLink, link_answer};
 ghost use Rattle.z80dev_make.specs.Private.Steps.{AreRead};
 
-use crate::answer::{Answer, no_program, program};
+use crate::answer::{no_program, program, refused, without_memory};
 use std::alloc::{AllocError, Global};
 use z80dev_faults::{Refusal, Told};
+use z80dev_finish::Answer;
 use zlink::{LinkFault, Linked, Module, link as link_modules};
 use zmo_object::{ObjectFault, read};
 
@@ -29,7 +31,7 @@ fn read_all(alloc: Global, objects: &[Vec<u8>]) -> Result<Vec<Module>, ObjectFau
 fn answered(
     alloc: Global,
     linking: Result<Linked, LinkFault>,
-) -> Result<Answer<'static>, AllocError>
+) -> Result<Answer<Told<'static>>, AllocError>
     ensures { IfOk result (λ answer. answer_of answer ≡ link_answer linking) }
 {
     match linking {
@@ -42,7 +44,7 @@ fn answered(
 }
 
 /// The program of objects, or what is said of their fault.
-fn linked(alloc: Global, objects: &[Vec<u8>]) -> Result<Answer<'static>, AllocError>
+fn linked(alloc: Global, objects: &[Vec<u8>]) -> Result<Answer<Told<'static>>, AllocError>
     ensures { IfOk result (λ answer. IsLink (map (λ o. o.items) objects.now) (answer_of answer)) }
 {
     let modules = match read_all(alloc, objects) {
@@ -50,7 +52,7 @@ fn linked(alloc: Global, objects: &[Vec<u8>]) -> Result<Answer<'static>, AllocEr
         Err(ObjectFault::NoMemory) => return Err(AllocError),
         Err(fault) => {
             let refusal = Refusal::Object(fault);
-            return Ok(Answer::refused(alloc, Told { path: "", refusal }));
+            return Ok(refused(alloc, Told { path: "", refusal }));
         }
     };
     let answer = answered(alloc, link_modules(alloc, &modules))?;
@@ -61,11 +63,11 @@ fn linked(alloc: Global, objects: &[Vec<u8>]) -> Result<Answer<'static>, AllocEr
 ///
 /// Where no choice of short and long jumps fits, the two texts are answered and the reason is said. Any other fault is said alone:
 /// that of the first object that cannot be read, else the first of the modules together.
-pub fn link(alloc: Global, objects: &[Vec<u8>]) -> Answer<'static>
+pub fn link(alloc: Global, objects: &[Vec<u8>]) -> Answer<Told<'static>>
     ensures { MemoryAside (IsLink (map (λ o. o.items) objects.now)) (answer_of result) }
 {
     match linked(alloc, objects) {
         Ok(answer) => answer,
-        Err(_) => Answer::without_memory(alloc),
+        Err(_) => without_memory(alloc),
     }
 }

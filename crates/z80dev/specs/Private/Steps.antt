@@ -1,11 +1,11 @@
 -- How the steps of printing end.
-use Rattle.std.specs.Prelude.{◌≡◌, ℕ, ◌≤◌, Bool, true, false, List, Option, None, Some, Result, Ok, Err, length, take}
+use Rattle.std.specs.Prelude.{◌≡◌, ℕ, Bool, true, List, Option, Result, Ok, Err}
 use Rattle.std.specs.Io.KnownBytes.{Appends, Keeps}
 use Rattle.zlink.specs.declared.fault.LinkFault.TheVariants as link
 use Rattle.zlink.specs.declared.fault.BuildFault.TheVariants as build
 use Rattle.z80dev.specs.declared.fault.Fault.{Fault}
 use Rattle.z80dev.specs.declared.fault.Fault.TheVariants as fault
-use Rattle.z80dev.specs.Streams.{AppendsFront}
+use Rattle.z80dev_finish.specs.Streams.{AppendsFront}
 use Rattle.z80dev.specs.Main.{file_line}
 
 -- How writing a file ends: its line stands behind what the writer held; or memory for it ran out and nothing is written; or
@@ -14,8 +14,3 @@ abbrev pub Writes : List ℕ → Option (List ℕ) → Option (List ℕ) → Boo
 Writes file old new failed (Ok _) = Appends old new (file_line file)
 Writes file old new failed (Err (fault.Build refusal)) = (refusal ≡ build.Link link.NoMemory) × Keeps old new
 Writes file old new failed (Err fault.File) = (failed ≡ true) × AppendsFront old new (file_line file)
-
--- a front of some bytes was put, or the writer failed and nothing was
-abbrev pub PutsSome : Option (List ℕ) → Option (List ℕ) → Bool → List ℕ → Option ℕ → Type 0
-PutsSome old new failed bytes (Some n) = (n ≤ length bytes) × Appends old new (take n bytes) × (failed ≡ false)
-PutsSome old new failed bytes None = Keeps old new × (failed ≡ true)

@@ -1,6 +1,6 @@
-use Rattle.std.proofs.Common.{◌≡◌, true, map, string_bytes, subst, sym}
+use Rattle.std.proofs.Common.{◌≡◌, true, map, refl, string_bytes, subst, sym}
 use Rattle.std.proofs.lemmas.Result.{err_from_is_err_and}
-use Rattle.clap.specs.Words.{app_of, found_of, kind_of, rows_of, takes}
+use Rattle.clap.specs.Words.{HasKind, app_of, fault_of, found_of, is_simple_and_free, kind_of, rows_of, takes}
 use Rattle.clap.specs.declared.error.kind.ErrorKind.{ErrorKind}
 use Rattle.z80dev_commands.specs.Commands.{IsJobOf}
 use Rattle.z80dev_commands.proofs.Rows.{IsMet, met_by}
@@ -10,6 +10,13 @@ pub returns-in_err-matches-clause-taken : goal.returns-in_err-matches-clause-tak
 returns-in_err-matches-clause-taken c =
     let words = map (λ s. string_bytes s) c.args.words.now in
     let refused = subst (λ a. takes a words ≡ true → kind_of c.in_err-matches.field-0.0 ≡ ErrorKind.OutOfMemory) c.in_ok-z80dev.ensures.app c.in_err-matches.ensures.passes in
+    let p = err_from_is_err_and c.from_residual-in_err-matches.result c.from_residual-in_err-matches.ensures.1 in
+    rw (p.1, p.2) refused
+
+pub returns-in_err-matches-clause-refused : goal.returns-in_err-matches-clause-refused
+returns-in_err-matches-clause-refused c =
+    let words = map (λ s. string_bytes s) c.args.words.now in
+    let refused = subst (λ a. is_simple_and_free a ≡ true → HasKind (fault_of a words) c.in_err-matches.field-0.0) c.in_ok-z80dev.ensures.app c.in_err-matches.ensures.kinds refl in
     let p = err_from_is_err_and c.from_residual-in_err-matches.result c.from_residual-in_err-matches.ensures.1 in
     rw (p.1, p.2) refused
 

@@ -1,0 +1,46 @@
+-- Lists that are joined piece by piece.
+use Rattle.std.proofs.Common.{◌≡◌, ◌≤◌, ℕ, zero, suc, ◌+◌, min, length, take, drop, codes, inl, inr, List, [], ◌∷◌, ◌++◌, refl, sym, ap, ◌∙◌, arith}
+use Rattle.std.proofs.lemmas.Bool.{cases_lt}
+use Rattle.std.specs.List.{concat, flat_map, range_with_len}
+use Rattle.std.proofs.lemmas.List.{append_assoc, append-nil, drop_all, length-drop, length-take, take_all}
+use borrow.Rule.Slice.PartMut.{mid_of}
+use Rattle.std.proofs.lemmas.List.Concat.{flat_map-cons}
+
+-- the sectors one after the other
+pub flattened : (xs : List (List ℕ)) → flat_map (λ x. x) xs ≡ concat xs
+flattened [] = refl
+flattened (x ∷ xs) = flat_map-cons (λ y. y) x xs ∙ ap (λ ys. x ++ ys) (flattened xs)
+
+-- one number more
+one_next : (f : ℕ → List ℕ) (a n : ℕ) → flat_map f (range_with_len a (suc n)) ≡ flat_map f (range_with_len a n) ++ f (a + n)
+one_next f a zero = let here : a ≡ a + 0 = omega arith in append-nil (f a) ∙ ap f here
+one_next f a (suc n) =
+    let next : a + 1 + n ≡ a + suc n = omega arith in
+    ap (λ ys. f a ++ ys) (one_next f (a + 1) n) ∙ sym (append_assoc (f a) (flat_map f (range_with_len (a + 1) n)) (f (a + 1 + n)))
+    ∙ ap (λ m. f a ++ flat_map f (range_with_len (a + 1) n) ++ f m) next
+
+pub one_more : (f : ℕ → List ℕ) (n : ℕ) → flat_map f (range_with_len 0 (n + 1)) ≡ flat_map f (range_with_len 0 n) ++ f n
+one_more f n =
+    let next : n + 1 ≡ suc n = omega arith in
+    let here : 0 + n ≡ n = omega arith in
+    ap (λ m. flat_map f (range_with_len 0 m)) next ∙ one_next f 0 n ∙ ap (λ m. flat_map f (range_with_len 0 n) ++ f m) here
+
+-- what is cut off at the front of what is left
+pub cut_off : (rest : List ℕ) (m : ℕ) → m ≡ min (length rest) 128 → (length (take m rest) ≤ 128) × (take m rest ≡ take 128 rest) × (drop m rest ≡ drop 128 rest)
+cut_off rest m is = elim (cases_lt (length rest) 128) as (λ _. (length (take m rest) ≤ 128) × (take m rest ≡ take 128 rest) × (drop m rest ≡ drop 128 rest)) [
+  | inl short ↦ (
+      let all : take m rest ≡ rest = take_all m rest (omega (arith, is, short)) in
+      (omega (arith, ap length all, short), all ∙ sym (take_all 128 rest (omega (arith, short))), drop_all m rest (omega (arith, is, short)) ∙ sym (drop_all 128 rest (omega (arith, short)))))
+  | inr long ↦ (
+      let whole : m ≡ 128 = omega (arith, is, long) in
+      (omega (arith, whole, length-take m rest), ap (λ n. take n rest) whole, ap (λ n. drop n rest) whole))
+]
+
+-- the pieces of a line
+pub line_is : (user name kind records only system : List ℕ) (u n k r o s : List ℕ) → u ≡ user → n ≡ name → k ≡ kind → r ≡ records → o ≡ only → s ≡ system
+    → concat (u ∷ n ∷ codes "." ∷ k ∷ r ∷ o ∷ s ∷ (10 ∷ []) ∷ []) ≡ concat (user ∷ name ∷ codes "." ∷ kind ∷ records ∷ only ∷ system ∷ (10 ∷ []) ∷ [])
+line_is user name kind records only system u n k r o s a b c d e f = rw (a, b, c, d, e, f) refl
+
+-- the type of a name
+pub last_three : (name : List ℕ) → length name ≡ 11 → mid_of 8 3 name ≡ drop 8 name
+last_three name eleven = take_all 3 (drop 8 name) (omega (arith, eleven, length-drop 8 name))

@@ -1,0 +1,12 @@
+use Rattle.std.proofs.Common.{IfSome, subst, sym}
+use Rattle.z80dev_finish.specs.Answers.{MemoryAside}
+use Rattle.z80dev_disk.specs.Dir.{IsDir}
+use Rattle.z80dev_disk.specs.Refusals.{Refuses, RefusesDir}
+use Rattle.z80dev_disk.proofs.Refused.{answers}
+use Rattle.z80dev_disk.proofs.listing.dir.Goals as goal
+
+pub returns-clause-answer : goal.returns-clause-answer
+returns-clause-answer c = subst (MemoryAside (IsDir c.args.image.now)) (sym c.answered.ensures.answer) (answers RefusesDir (IsDir c.args.image.now) c.listed.result c.listed.ensures).0
+
+pub returns-clause-refusals : goal.returns-clause-refusals
+returns-clause-refusals c = subst (λ o. IfSome o (Refuses RefusesDir)) (sym c.answered.ensures.refusal) (answers RefusesDir (IsDir c.args.image.now) c.listed.result c.listed.ensures).1

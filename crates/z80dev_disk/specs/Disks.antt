@@ -1,0 +1,48 @@
+-- Bytes as a disk, and answers about it.
+use Rattle.std.specs.Prelude.{◌≡◌, ◌⊎◌, ℕ, List, [], ◌∷◌, None, Ok, Err, length}
+use Rattle.std.specs.List.{concat}
+use Rattle.cpm_image.specs.Image.{IsImageOf}
+use Rattle.cpm_image.specs.Kind.{sector_count}
+use Rattle.cpm_image.specs.declared.kind.DiskKind.{DiskKind}
+use Rattle.cpm_directory.specs.Rules.{IsFirstFault, IsSound}
+use Rattle.cpm_disk.specs.Image.{Image, directory}
+use Rattle.z80dev_finish.specs.Answers as finish
+use Rattle.z80dev_finish.specs.declared.answer.Answer as made
+use Rattle.z80dev_finish.specs.declared.answer.Kind.TheVariants as kind
+use Rattle.z80dev_disk.specs.Refusals.{refusal_text}
+use Rattle.z80dev_disk.specs.declared.refusal.Refusal.{Refusal}
+use Rattle.z80dev_disk.specs.declared.refusal.Refusal.TheVariants as refusal
+
+-- The bytes are an image of this kind of disk, whose directory keeps the rules.
+pub record IsDisk (bytes : List ℕ) (kind : DiskKind) (image : Image) : Type 0 where
+  pub is_image : IsImageOf bytes (Ok image)
+  pub count : length image ≡ sector_count kind
+  pub sound : IsSound kind (directory kind image)
+
+-- Why they are none: they are no image; or they are one, and this is the first fault of its directory.
+abbrev pub IsNoDisk : List ℕ → Refusal → Type 0
+IsNoDisk bytes (refusal.Image why) = IsImageOf bytes (Err why)
+IsNoDisk bytes (refusal.Disk why) = (kind : DiskKind) × (image : Image) × IsImageOf bytes (Ok image) × (length image ≡ sector_count kind) × IsFirstFault kind (directory kind image) why
+IsNoDisk bytes _ = ⊥
+
+-- what the code's types hold
+abbrev pub answer_of : made.Answer Refusal → finish.Answer
+answer_of answer = finish.answer_by refusal_text answer
+
+-- Nothing is written, and this is said.
+abbrev pub refused : Refusal → finish.Answer
+refused why = finish.nothing (refusal_text why)
+
+-- One file is written.
+abbrev pub one_file : List ℕ → finish.Answer
+one_file bytes = record { files = (kind.Given, bytes) ∷ []; printed = []; said = None }
+
+-- .. an image, sector after sector
+abbrev pub image_file : Image → finish.Answer
+image_file image = one_file (concat image)
+
+-- The bytes are a disk, of which the answer speaks; or they are none, and that is said.
+abbrev pub OfDisk : List ℕ → (DiskKind → Image → finish.Answer → Type 0) → finish.Answer → Type 0
+OfDisk bytes Says answer =
+    ((kind : DiskKind) × (image : Image) × IsDisk bytes kind image × Says kind image answer)
+    ⊎ ((why : Refusal) × IsNoDisk bytes why × (answer ≡ refused why))

@@ -1,0 +1,38 @@
+-- What commands answer: the files that are written, what is printed then, and what is said on standard error.
+use Rattle.std.specs.Prelude.{◌≡◌, ◌⊎◌, ℕ, List, [], Option, Some, codes, map}
+use Rattle.std.specs.Option.{option_map}
+use Rattle.z80dev_finish.specs.declared.answer.Answer as made
+use Rattle.z80dev_finish.specs.declared.answer.Kind.{Kind}
+use Rattle.z80dev_finish.specs.declared.answer.Kind.TheVariants as kind
+use Rattle.z80dev_finish.specs.declared.answer.NewFile.{NewFile}
+
+-- what stands behind the path that was given
+abbrev pub ending : Kind → List ℕ
+ending kind.Object = codes ".zmo"
+ending kind.Sizes = codes ".siz"
+ending kind.Certificate = codes ".crt"
+ending kind.Com = codes ".com"
+ending kind.Listing = codes ".lst"
+ending kind.Symbols = codes ".sym"
+ending kind.Given = []
+
+-- files by what they hold, in the order in which they are written; what is printed on standard output; what is said on standard error
+pub record Answer : Type 0 where
+  pub files : List (Kind × List ℕ)
+  pub printed : List ℕ
+  pub said : Option (List ℕ)
+
+abbrev pub file_of : NewFile → Kind × List ℕ
+file_of f = (f.kind, f.bytes.items)
+
+-- what the code's types hold, where this is the text of a refusal
+abbrev pub answer_by : {R : Type 0} → (R → List ℕ) → made.Answer R → Answer
+answer_by text a = record { files = map file_of a.files.items; printed = a.printed.items; said = option_map text a.refusal }
+
+-- Nothing is made.
+abbrev pub nothing : List ℕ → Answer
+nothing text = record { files = []; printed = []; said = Some text }
+
+-- The answer is what is said, or memory ran out.
+abbrev pub MemoryAside : (Answer → Type 0) → Answer → Type 0
+MemoryAside Is answer = (answer ≡ nothing (codes "NoMemory")) ⊎ Is answer

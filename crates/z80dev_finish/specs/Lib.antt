@@ -1,0 +1,5 @@
+pub mod Streams
+pub mod Answers
+pub mod Storing
+pub mod Finishing
+pub mod Private
