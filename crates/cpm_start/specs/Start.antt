@@ -1,0 +1,54 @@
+-- The state in which a program begins under CP/M 2.2.
+use Rattle.std.specs.Prelude.{◌≡◌, ◌*◌, ◌≤◌, ◌<◌, ℕ, List, [], ◌∷◌, Result, Ok, Err, length, replicate, slice_index_or, ⊤}
+use Rattle.std.specs.List.{flat_map, range_with_len}
+use Rattle.z80_machine.specs.declared.registers.Cpu.{Cpu}
+use Rattle.z80_machine.specs.Cleared.{cleared}
+use Rattle.cpm_fcb.specs.Bytes.{with_bytes}
+use Rattle.cpm_start.specs.declared.limits.TheConstants.{LONGEST_FILE, LONGEST_TAIL}
+use Rattle.cpm_start.specs.declared.fault.StartFault.{StartFault}
+use Rattle.cpm_start.specs.declared.fault.StartFault.TheVariants as fault
+use Rattle.cpm_start.specs.Words.{control, tail_of, upper}
+
+-- JP to an address below 10000H, by its two bytes
+abbrev pub jump_to : ℕ → ℕ → List ℕ
+jump_to low high = 0xC3 ∷ low ∷ high ∷ []
+
+-- the entries of the BIOS from FF00H on: seventeen jumps, each to itself
+abbrev pub bios_entries : List ℕ
+bios_entries = flat_map (λ n. jump_to (3 * n) 0xFF) (range_with_len 0 17)
+
+-- word k of a command, or no bytes where it has fewer
+abbrev pub word_at : List (List ℕ) → ℕ → List ℕ
+word_at words k = upper (slice_index_or words k [])
+
+-- What stands in memory, by addresses: the jumps to the BIOS and to the BDOS, two file control blocks, the tail with its length, the
+-- program, and the BIOS. All else is 0.
+abbrev pub parts : List ℕ → List (List ℕ) → List (ℕ × List ℕ)
+parts file words =
+    (0x0000, jump_to 0x03 0xFF)
+    ∷ (0x0005, jump_to 0x06 0xFE)
+    ∷ (0x005C, control (word_at words 0))
+    ∷ (0x006C, control (word_at words 1))
+    ∷ (0x0080, length (tail_of words) ∷ [])
+    ∷ (0x0081, tail_of words)
+    ∷ (0x0100, file)
+    ∷ (0xFF00, bios_entries)
+    ∷ []
+
+abbrev pub with_parts : List (ℕ × List ℕ) → List ℕ → List ℕ
+with_parts [] memory = memory
+with_parts (part ∷ rest) memory = with_parts rest (with_bytes part.0 part.1 memory)
+
+abbrev pub start_memory : List ℕ → List (List ℕ) → List ℕ
+start_memory file words = with_parts (parts file words) (replicate 65536 0)
+
+-- The return address 0000H is on the stack; all other registers are 0.
+abbrev pub start_cpu : Cpu
+start_cpu = record cleared { sp = 0xFDFE; pc = 0x0100 }
+
+-- Why there is no such state: the file is judged before the tail.
+abbrev pub IsStart : List ℕ → List (List ℕ) → Result (Cpu × List ℕ) StartFault → Type 0
+IsStart file words (Ok (cpu, memory)) = (length file ≤ LONGEST_FILE) × (length (tail_of words) ≤ LONGEST_TAIL) × (cpu ≡ start_cpu) × (memory ≡ start_memory file words)
+IsStart file words (Err fault.ComTooLong) = LONGEST_FILE < length file
+IsStart file words (Err fault.TailTooLong) = (length file ≤ LONGEST_FILE) × (LONGEST_TAIL < length (tail_of words))
+IsStart file words (Err fault.NoMemory) = ⊤

@@ -1,0 +1,29 @@
+//! Why a program is not started.
+
+use std::alloc::AllocError;
+use thiserror::Error;
+
+/// Why a program is not started.
+#[derive(Clone, Copy, Debug, PartialEq, Eq, Error)]
+pub enum StartFault {
+    /// The program has more than 64,512 bytes.
+    #[error("the program is too long")]
+    ComTooLong,
+    /// The words have more than 127 bytes with the spaces before them.
+    #[error("the words are too long")]
+    TailTooLong,
+    /// Memory ran out.
+    #[error("out of memory")]
+    NoMemory,
+}
+
+impl From<AllocError> for StartFault {
+    ghost use Rattle.std.specs.Prelude.{◌≡◌};
+    ghost use Rattle.cpm_start.specs.declared.fault.StartFault.TheVariants as fault;
+
+    ghost from_gives = { λ _ e. e ≡ fault.NoMemory };
+
+    fn from(_: AllocError) -> Self {
+        StartFault::NoMemory
+    }
+}

@@ -1,0 +1,12 @@
+//! The state in which a program begins under CP/M 2.2: page zero, the command's words, the program at 0100H, and the entries of the
+//! system.
+#![tactic(auto)]
+
+mod fault;
+mod limits;
+mod starting;
+mod words;
+
+pub use fault::StartFault;
+pub use limits::{LONGEST_FILE, LONGEST_TAIL};
+pub use starting::start;
