@@ -93,6 +93,23 @@ fn jobs(rt: HostRuntime) -> Result<(), Fail> {
             "z80dev check a.siz b.crt",
             r#"Check { sizes: "a.siz", cert: "b.crt" }"#,
         ),
+        ("z80dev dir A.IMG", r#"Dir { image: "A.IMG" }"#),
+        (
+            "z80dev put A.IMG b C.D",
+            r#"Put { image: "A.IMG", file: "b", name: "C.D" }"#,
+        ),
+        (
+            "z80dev get A.IMG C.D b",
+            r#"Get { image: "A.IMG", name: "C.D", file: "b" }"#,
+        ),
+        (
+            "z80dev blank A.IMG",
+            r#"Blank { mega: false, image: "A.IMG" }"#,
+        ),
+        (
+            "z80dev blank A.IMG --mega",
+            r#"Blank { mega: true, image: "A.IMG" }"#,
+        ),
     ];
     for (line, job) in rows {
         assert!(&rt; job_of(rt.alloc(), line)?.as_str() == job, "{line}");
@@ -130,6 +147,13 @@ fn faults(rt: HostRuntime) -> Result<(), Fail> {
         ("z80dev build --out A B --frob", ErrorKind::UnknownArgument),
         ("z80dev check", ErrorKind::MissingRequiredArgument),
         ("z80dev check a b c", ErrorKind::UnknownArgument),
+        ("z80dev dir", ErrorKind::MissingRequiredArgument),
+        ("z80dev dir a b", ErrorKind::UnknownArgument),
+        ("z80dev put a b", ErrorKind::MissingRequiredArgument),
+        ("z80dev put a b C d", ErrorKind::UnknownArgument),
+        ("z80dev get a", ErrorKind::MissingRequiredArgument),
+        ("z80dev blank --mega", ErrorKind::MissingRequiredArgument),
+        ("z80dev blank --mega --mega a", ErrorKind::ArgumentConflict),
         ("z80dev biuld", ErrorKind::InvalidSubcommand),
         ("z80dev --frob", ErrorKind::UnknownArgument),
         ("z80dev --version", ErrorKind::DisplayVersion),
@@ -189,6 +213,10 @@ fn helps(rt: HostRuntime) -> Result<(), Fail> {
             "z80dev check -h",
             "\nExample: z80dev check PROG.siz PROG.crt\n",
         ),
+        ("z80dev put -h", "Usage: z80dev put <IMG> <FILE> <NAME>\n"),
+        ("z80dev get -h", "Usage: z80dev get <IMG> <NAME> <FILE>\n"),
+        ("z80dev dir -h", "\nExample: z80dev dir A.IMG\n"),
+        ("z80dev blank -h", "Usage: z80dev blank [OPTIONS] <IMG>\n"),
     ];
     for (line, part) in rows {
         assert!(&rt;

@@ -3,7 +3,9 @@
 use std::alloc::Global;
 use std::process::Abort;
 use std::test::Fail;
-use z80dev::{Answer, Kind, Output, SourceFile, Store, WriteFailed, asm, build, finish, link};
+use z80dev::{
+    Answer, Kind, Output, SourceFile, Store, Told, WriteFailed, asm, build, finish, link,
+};
 
 /// Files in memory, of which only so many can be written.
 #[derive(Drop)]
@@ -39,7 +41,7 @@ impl Store for Shelf {
 /// The answer of `finish` for an answer, on a shelf with room for so many files: the status, what is printed and said, and the files.
 fn finished(
     alloc: Global,
-    answer: &Answer<'_>,
+    answer: &Answer<Told<'_>>,
     room: usize,
 ) -> (u8, Vec<u8>, Vec<u8>, Vec<(String, Vec<u8>)>) {
     let mut shelf = Shelf {
@@ -62,7 +64,7 @@ fn finished(
 fn assert_end(
     rt: &impl Abort,
     alloc: Global,
-    answer: &Answer<'_>,
+    answer: &Answer<Told<'_>>,
     status: u8,
     printed: &str,
     said: &str,
@@ -80,7 +82,7 @@ fn assert_end(
 }
 
 /// Whether a file of this kind has these bytes.
-fn holds(answer: &Answer<'_>, kind: Kind, bytes: &[u8]) -> bool {
+fn holds(answer: &Answer<Told<'_>>, kind: Kind, bytes: &[u8]) -> bool {
     answer
         .files
         .iter()
