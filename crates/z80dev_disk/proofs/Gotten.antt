@@ -1,5 +1,5 @@
 -- What is put is gotten.
-use Rattle.std.proofs.Common.{◌≡◌, ◌≢◌, ◌<◌, ◌≤◌, ◌+◌, ◌-◌, ◌*◌, ◌/◌, ◌%◌, ◌⊎◌, ℕ, zero, suc, List, [], ◌∷◌, ◌++◌, Some, None, drop, length, nat_lt, replicate, take, unwrap_or, refl, sym, ap, ap₂, ◌∙◌, inl, inr, arith, if◌then◌else◌, lt-ltb}
+use Rattle.std.proofs.Common.{◌≡◌, ◌≢◌, ◌<◌, ◌≤◌, ◌+◌, ◌-◌, ◌*◌, ◌/◌, ◌%◌, ◌⊎◌, ℕ, zero, suc, List, [], ◌∷◌, ◌++◌, Some, None, drop, length, replicate, take, unwrap_or, refl, sym, ap, ap₂, ◌∙◌, inl, inr, arith, if◌then◌else◌, lt-ltb}
 use Rattle.std.specs.List.{flat_map, range_with_len}
 use Rattle.std.proofs.Math.Seq.{take-add}
 use Rattle.std.proofs.lemmas.Bool.{cases_eq}
@@ -8,7 +8,7 @@ use Rattle.cpm_image.specs.declared.kind.DiskKind.{DiskKind}
 use Rattle.cpm_directory.specs.Searches.{size}
 use Rattle.cpm_disk.specs.Image.{Image, directory}
 use Rattle.z80dev_disk.specs.Disks.{one_file}
-use Rattle.z80dev_disk.specs.Get.{copied, copied_below, got}
+use Rattle.z80dev_disk.specs.Get.{copied, got}
 use Rattle.z80dev_disk.specs.Put.{HasFile, filled, record_at, record_count}
 use Rattle.z80dev_disk.proofs.Lists.{one_more}
 

@@ -1,11 +1,11 @@
 -- The eleven bytes of a name that a word spells.
-use Rattle.std.proofs.Common.{◌≡◌, ◌≤◌, ◌+◌, ◌-◌, ◌%◌, ◌&&◌, not, ℕ, zero, suc, true, List, [], ◌∷◌, ◌++◌, length, take, drop, map, replicate, refl, sym, ap, ap₂, ◌∙◌, arith}
+use Rattle.std.proofs.Common.{◌≡◌, ◌≤◌, ◌+◌, ◌-◌, ◌%◌, ◌&&◌, not, ℕ, zero, suc, true, List, [], ◌∷◌, ◌++◌, length, take, drop, replicate, refl, sym, ap, ap₂, ◌∙◌, arith}
 use Rattle.std.specs.Char.{is_ascii_graphic, is_ascii_lowercase}
 use Rattle.std.specs.List.{list_all}
 use Rattle.std.proofs.lemmas.Bool.{and_parts, leb-true}
 use Rattle.std.proofs.Math.Seq.{drop-append_seam, take-append_seam}
 use Rattle.std.proofs.lemmas.List.{append_assoc, drop-replicate, length-append, length-replicate, map-append, replicate-append-replicate}
-use borrow.Rule.Slice.PartMut.{post_of, put_mid}
+use borrow.Rule.Slice.PartMut.{put_mid}
 use Rattle.cpm_directory.specs.Letters.{letters}
 use Rattle.z80dev_disk.specs.Words.{filled, is_name_byte, is_name_part}
 

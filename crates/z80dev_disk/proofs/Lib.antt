@@ -6,3 +6,4 @@ pub mod Records
 pub mod Sizes
 pub mod On_the_way
 pub mod Unread
+pub mod Gotten

@@ -1,5 +1,5 @@
 -- A file that is put, record by record.
-use Rattle.std.proofs.Common.{◌≡◌, ◌<◌, ◌≤◌, ◌+◌, ◌-◌, ◌*◌, ◌/◌, ◌%◌, ◌==◌, ◌⊎◌, ℕ, Bool, true, false, not, List, [], ◌∷◌, length, drop, take, Option, Some, None, Result, Ok, Err, find, nat_lt, position, refl, sym, ap, subst, ◌∙◌, inl, inr, arith, true≢false, if◌then◌else◌}
+use Rattle.std.proofs.Common.{◌≡◌, ◌<◌, ◌≤◌, ◌+◌, ◌*◌, ◌/◌, ◌%◌, ◌==◌, ℕ, Bool, true, false, not, List, [], ◌∷◌, length, drop, take, Option, Some, None, Result, Ok, Err, find, nat_lt, position, refl, sym, ap, subst, ◌∙◌, inl, inr, arith, true≢false, if◌then◌else◌}
 use Rattle.std.specs.List.{list_any}
 use Rattle.std.proofs.lemmas.Bool.{cases_Bool, ltb-true, not-false}
 use Rattle.std.proofs.lemmas.List.{drop-drop, length-drop}
@@ -10,17 +10,17 @@ use Rattle.cpm_image.specs.declared.kind.DiskKind.TheVariants.{EightInch, Megaby
 use Rattle.cpm_directory.specs.declared.entry.Entry.{Entry}
 use Rattle.cpm_directory.specs.declared.fault.DiskFault.{DiskFault}
 use Rattle.cpm_directory.specs.declared.fault.DiskFault.TheVariants as fault
-use Rattle.cpm_directory.specs.Entries.{at, block, is_extent_of, is_of, new_extent, with_record}
+use Rattle.cpm_directory.specs.Entries.{block, is_extent_of, is_of, new_extent, with_record}
 use Rattle.cpm_directory.specs.Rules.{IsSound}
-use Rattle.cpm_directory.specs.Searches.{file_is_read_only, free_block, free_entry, is_file, size}
-use Rattle.cpm_operations.specs.Steps.{◌>>=◌, block_place, extent_place, found_or_new, given, placing, unless, writing}
+use Rattle.cpm_directory.specs.Searches.{file_is_read_only, free_block, free_entry, is_file}
+use Rattle.cpm_operations.specs.Steps.{◌>>=◌, block_place, extent_place, found_or_new, given, unless, writing}
 use Rattle.cpm_operations.specs.declared.placement.Placement.{Placement}
 use Rattle.cpm_operations.proofs.Results.{unless_ok}
 use Rattle.cpm_disk.specs.Calls.{Mounted, Written}
 use Rattle.cpm_disk.specs.Files.{HasRecord, IsFile, IsNewFile, OthersAreSame}
 use Rattle.cpm_disk.specs.Image.{Image, directory}
 use Rattle.cpm_disk.specs.Operations.{IsCreated, IsWritten}
-use Rattle.z80dev_disk.specs.Put.{HasFile, IsStopped, IsStored, Puts, filled, record_at, record_count}
+use Rattle.z80dev_disk.specs.Put.{IsStopped, IsStored, Puts, filled, record_at, record_count}
 use Rattle.z80dev_disk.specs.Put.Puts.{made, more}
 use Rattle.z80dev_disk.specs.Refusals.{RefusesPut}
 use Rattle.z80dev_disk.proofs.Records.{HoldsFirst, all_records, begins, goes_on}

@@ -1,5 +1,5 @@
 -- Why a command is refused.
-use Rattle.std.proofs.Common.{◌≡◌, ℕ, List, false, Option, Some, None, Result, Ok, Err, IfSome, length, refl, sym, ap, subst, ◌∙◌, inl, inr, arith}
+use Rattle.std.proofs.Common.{◌≡◌, ℕ, List, Result, Ok, Err, IfSome, length, refl, sym, subst, inl, inr, arith}
 use Rattle.cpm_image.specs.Image.{IsImageOf}
 use Rattle.cpm_image.specs.Kind.{IsDiskSize, sector_count}
 use Rattle.cpm_image.specs.declared.fault.ImageFault.{ImageFault}
@@ -12,7 +12,7 @@ use Rattle.cpm_disk.specs.Image.{Image}
 use Rattle.cpm_disk.specs.Mounting.{IsMountFault, RefusesMount}
 use Rattle.z80dev_finish.specs.Answers as finish
 use Rattle.z80dev_finish.specs.declared.answer.Answer as made
-use Rattle.z80dev_disk.specs.Disks.{IsDisk, IsNoDisk, OfDisk, answer_of, refused}
+use Rattle.z80dev_disk.specs.Disks.{IsDisk, IsNoDisk, OfDisk, refused}
 use Rattle.z80dev_disk.specs.Private.{IsAnswered, UnlessMemory, answer_at, refusal_at}
 use Rattle.z80dev_disk.specs.Put.{IsPut, IsStopped}
 use Rattle.z80dev_disk.specs.Refusals.{Refuses, RefusesDir, RefusesPut, of_disk, of_image}

@@ -1,5 +1,5 @@
 -- A part of a name without the blanks at its end.
-use Rattle.std.proofs.Common.{◌≡◌, ℕ, ◌+◌, ◌-◌, ◌==◌, ◌<◌, ◌≤◌, Bool, true, false, List, [], ◌∷◌, ◌++◌, cond, length, take, reverse, get_or, refl, sym, ap, ap₂, subst, ◌∙◌, arith, eqb-true}
+use Rattle.std.proofs.Common.{◌≡◌, ℕ, ◌+◌, ◌-◌, ◌==◌, ◌<◌, true, false, List, [], ◌∷◌, ◌++◌, cond, length, take, reverse, get_or, sym, ap, ◌∙◌, arith}
 use Rattle.std.specs.List.{prefix_len}
 use Rattle.std.proofs.lemmas.List.{length-append, reverse-append, take-append-le, take_all, take_more}
 use Rattle.z80dev_disk.specs.Dir.{trimmed}

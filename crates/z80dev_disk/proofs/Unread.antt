@@ -1,5 +1,5 @@
 -- A record that is not read is not there.
-use Rattle.std.proofs.Common.{◌≡◌, ◌<◌, ◌/◌, ◌%◌, ◌==◌, ℕ, Bool, true, false, ◌&&◌, not, List, [], ◌∷◌, Option, Some, None, Result, Ok, Err, find, nat_lt, option_and_then, refl, sym, ap, ◌∙◌, true≢false, inl, inr, if◌then◌else◌, lt-ltb}
+use Rattle.std.proofs.Common.{◌≡◌, ◌<◌, ◌/◌, ◌%◌, ◌==◌, ℕ, true, false, ◌&&◌, not, List, [], ◌∷◌, Option, Some, None, Ok, Err, find, nat_lt, option_and_then, refl, sym, ap, ◌∙◌, true≢false, inl, inr, if◌then◌else◌, lt-ltb}
 use Rattle.std.specs.List.{list_any}
 use Rattle.std.proofs.lemmas.Bool.{cases_Bool}
 use Rattle.cpm_image.specs.Kind.{file_records}

@@ -1,5 +1,5 @@
 -- What `dir` prints: a line for each file, by user and then by name.
-use Rattle.std.specs.Prelude.{◌≡◌, ℕ, ◌-◌, ◌==◌, true, false, Bool, List, [], ◌∷◌, ◌++◌, None, codes, decimal, drop, if◌then◌else◌, length, reverse, take}
+use Rattle.std.specs.Prelude.{◌≡◌, ℕ, ◌-◌, ◌==◌, Bool, List, [], ◌∷◌, ◌++◌, None, codes, decimal, drop, if◌then◌else◌, length, reverse, take}
 use Rattle.std.specs.List.{concat, flat_map, prefix_len}
 use Rattle.cpm_image.specs.declared.kind.DiskKind.{DiskKind}
 use Rattle.cpm_directory.specs.Searches.{IsListing}

@@ -1,5 +1,5 @@
 -- What `put` answers: an image in which a file of user 0 was made and its records were written, one after the other.
-use Rattle.std.specs.Prelude.{◌≡◌, ◌⊎◌, ◌<◌, ℕ, ◌+◌, ◌-◌, ◌*◌, ◌/◌, ◌%◌, false, List, ◌++◌, Option, None, Some, Ok, Err, drop, if◌then◌else◌, length, nat_lt, replicate, slice_set, take}
+use Rattle.std.specs.Prelude.{◌≡◌, ◌⊎◌, ◌<◌, ℕ, ◌+◌, ◌-◌, ◌*◌, ◌/◌, ◌%◌, false, List, ◌++◌, None, Some, Ok, Err, drop, if◌then◌else◌, length, nat_lt, replicate, slice_set, take}
 use Rattle.cpm_image.specs.Kind.{block_records}
 use Rattle.cpm_image.specs.declared.kind.DiskKind.{DiskKind}
 use Rattle.cpm_directory.specs.Rules.{IsSound}

@@ -6,6 +6,7 @@
 
 mod getting;
 mod image;
+pub mod laws;
 mod listing;
 mod name;
 mod putting;

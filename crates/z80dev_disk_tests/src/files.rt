@@ -14,44 +14,36 @@ fn assert_big(
     alloc: Global,
     kind: DiskKind,
     directory: usize,
-    first: &[u8; 16],
-    second: &[u8; 16],
+    entries: &[u8],
 ) -> Result<(), Fail> {
     let image = with_file(alloc, &file_of(blank(alloc, kind))?, "BIG.DAT", 16_385)?;
-    assert_holds(rt, &image, directory, b"\0BIG     DAT\0\0\0\x80");
-    assert_holds(rt, &image, directory + 16, first);
-    assert_holds(rt, &image, directory + 32, b"\0BIG     DAT\x01\0\0\x01");
-    assert_holds(rt, &image, directory + 48, second);
-    assert!(rt; dir(alloc, &image).printed.as_slice() == b"0 BIG.DAT 129\n");
+    assert_holds(rt, &image, directory, entries);
+    assert!(rt; dir(alloc, &image).printed.as_slice() == b"0 BIG.DAT 129\n".as_slice());
     let mut bytes = vec![in alloc; 0x21; 16_385]?;
     bytes.extend_from_slice(&[0x1A; 127])?;
     assert!(rt; file_of(get(alloc, &image, &name("BIG.DAT")?))? == bytes);
     Ok(())
 }
 
+const TWO: &[u8] = b"\0BIG     DAT\0\0\0\x80\
+    \x02\x03\x04\x05\x06\x07\x08\x09\x0A\x0B\x0C\x0D\x0E\x0F\x10\x11\
+    \0BIG     DAT\x01\0\0\x01\
+    \x12\0\0\0\0\0\0\0\0\0\0\0\0\0\0\0";
+
+const TWO_OF_WORDS: &[u8] = b"\0BIG     DAT\0\0\0\x80\
+    \x04\0\x05\0\x06\0\x07\0\x08\0\x09\0\x0A\0\x0B\0\
+    \0BIG     DAT\x01\0\0\x01\
+    \x0C\0\0\0\0\0\0\0\0\0\0\0\0\0\0\0";
+
 #[test]
 fn a_file_of_two_extents(rt: HostRuntime) -> Result<(), Fail> {
-    assert_big(
-        &rt,
-        rt.alloc(),
-        DiskKind::EightInch,
-        DIRECTORY,
-        b"\x02\x03\x04\x05\x06\x07\x08\x09\x0A\x0B\x0C\x0D\x0E\x0F\x10\x11",
-        b"\x12\0\0\0\0\0\0\0\0\0\0\0\0\0\0\0",
-    )
+    assert_big(&rt, rt.alloc(), DiskKind::EightInch, DIRECTORY, TWO)
 }
 
 #[test]
 fn a_file_of_two_extents_on_a_megabyte(rt: HostRuntime) -> Result<(), Fail> {
     let alloc = rt.alloc();
-    assert_big(
-        &rt,
-        alloc,
-        DiskKind::Megabyte,
-        0,
-        b"\x04\0\x05\0\x06\0\x07\0\x08\0\x09\0\x0A\0\x0B\0",
-        b"\x0C\0\0\0\0\0\0\0\0\0\0\0\0\0\0\0",
-    )?;
+    assert_big(&rt, alloc, DiskKind::Megabyte, 0, TWO_OF_WORDS)?;
     let image = with_file(alloc, &file_of(blank(alloc, DiskKind::Megabyte))?, "A", 1)?;
     assert_holds(&rt, &image, 8_192, b"\x21\x1A");
     Ok(())
@@ -62,7 +54,7 @@ fn files_of_no_records(rt: HostRuntime) -> Result<(), Fail> {
     let alloc = rt.alloc();
     let image = with_file(alloc, &[], "A", 0)?;
     assert_eq!(&rt; image.len(), 256_256);
-    assert!(&rt; dir(alloc, &image).printed.as_slice() == b"0 A. 0\n");
+    assert!(&rt; dir(alloc, &image).printed.as_slice() == b"0 A. 0\n".as_slice());
     assert!(&rt; file_of(get(alloc, &image, &name("A.")?))?.is_empty());
     Ok(())
 }
@@ -105,7 +97,7 @@ fn names_that_are_there_or_not(rt: HostRuntime) -> Result<(), Fail> {
     assert_eq!(&rt; why, Refusal::Disk(DiskFault::NotFound));
     let image = with_file(alloc, &image, "A", 1)?;
     assert_refused(&rt, alloc, &image, "A", 1, DiskFault::Exists)?;
-    assert!(&rt; dir(alloc, &image).printed.as_slice() == b"0 A. 1\n1 A. 1\n");
+    assert!(&rt; dir(alloc, &image).printed.as_slice() == b"0 A. 1\n1 A. 1\n".as_slice());
     Ok(())
 }
 

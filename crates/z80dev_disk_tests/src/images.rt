@@ -101,7 +101,9 @@ fn lines(rt: HostRuntime) -> Result<(), Fail> {
     ];
     let answer = dir(alloc, &image_of(alloc, &entries)?);
     assert!(&rt; answer.refusal.is_none() && answer.files.is_empty());
-    assert!(&rt; answer.printed.as_slice() == b"0 A B.CO 128 RO SYS\n0 B. 261\n3 A.TXT 1\n");
+    assert!(&rt;
+        answer.printed.as_slice() == b"0 A B.CO 128 RO SYS\n0 B. 261\n3 A.TXT 1\n".as_slice()
+    );
     Ok(())
 }
 
@@ -114,6 +116,6 @@ fn foreign_entries(rt: HostRuntime) -> Result<(), Fail> {
     assert!(&rt; answer.refusal.is_none() && answer.printed.is_empty());
     let image = file_of(put(alloc, &image, &[], &name("FILE.TXT")?))?;
     assert!(&rt; image.get(DIRECTORY..DIRECTORY + 32) == Some(&foreign));
-    assert!(&rt; dir(alloc, &image).printed.as_slice() == b"0 FILE.TXT 0\n");
+    assert!(&rt; dir(alloc, &image).printed.as_slice() == b"0 FILE.TXT 0\n".as_slice());
     Ok(())
 }

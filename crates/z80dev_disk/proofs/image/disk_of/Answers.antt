@@ -1,4 +1,3 @@
-use Rattle.std.proofs.Common.{◌≡◌}
 use Rattle.z80dev_disk.proofs.Refused.{no_disk}
 use Rattle.z80dev_disk.proofs.image.disk_of.Goals as goal
 

@@ -1,7 +1,7 @@
 use Rattle.std.proofs.Common.{◌≡◌, ◌++◌, ◌∙◌, ap, ap₂}
 use Rattle.std.specs.List.{concat}
 use Rattle.std.proofs.lemmas.Result.{IfOk-weaker}
-use Rattle.z80dev_disk.specs.Disks.{answer_of, one_file}
+use Rattle.z80dev_disk.specs.Disks.{one_file}
 use Rattle.z80dev_disk.proofs.Lists.{flattened}
 use Rattle.z80dev_disk.proofs.image.image_file.Goals as goal
 

@@ -1,4 +1,4 @@
-use Rattle.std.proofs.Common.{◌≡◌, ◌++◌, ◌∙◌, ap, drop, length, replicate}
+use Rattle.std.proofs.Common.{◌++◌, ◌∙◌, ap, drop, length, replicate}
 use Rattle.std.proofs.lemmas.List.{drop-replicate}
 use Rattle.z80dev_disk.proofs.putting.filled.Goals as goal
 
