@@ -1,0 +1,170 @@
+//! Searches of the directory.
+
+use crate::machine::{DMA, FCB, Plain, new_plain, plain_of};
+use crate::steps::{Step, run};
+use cpm_disk::DiskKind;
+use std::process::Abort;
+use std::test::Fail;
+
+/// Makes files of user 0.
+fn make_files(rt: &impl Abort, m: &mut Plain, names: &[[u8; 11]]) {
+    for name in names {
+        m.put_fcb(FCB, name, [0, 0, 0]);
+        assert!(rt; m.call(22, FCB).is_ok());
+    }
+}
+
+#[test]
+fn next_without_a_first(rt: HostRuntime) -> Result<(), Fail> {
+    let mut m = new_plain(rt.alloc(), b"")?;
+    run(
+        &rt,
+        &mut m,
+        &[Step::Call(18, FCB, Ok(0xFF)), Step::Holds(DMA, &[0; 128])],
+    );
+    Ok(())
+}
+
+#[test]
+fn by_pattern(rt: HostRuntime) -> Result<(), Fail> {
+    for kind in [DiskKind::EightInch, DiskKind::Megabyte] {
+        let mut m = plain_of(rt.alloc(), kind, b"")?;
+        let names = [
+            *b"A       TXT",
+            *b"B       BIN",
+            *b"C       TXT",
+            *b"D       BIN",
+            *b"E       BIN",
+            *b"F       TXT",
+        ];
+        make_files(&rt, &mut m, &names);
+        run(
+            &rt,
+            &mut m,
+            &[
+                Step::Fcb(FCB, *b"????????TXT", [0, 0, 0]),
+                Step::Call(17, FCB, Ok(0)),
+                Step::Holds(DMA, b"\x00A       TXT\x00"),
+                Step::Holds(DMA + 32, b"\x00B       BIN\x00"),
+                Step::Holds(DMA + 96, b"\x00D       BIN\x00"),
+                // The pattern and the user are those of the first call, whatever is changed since; the buffer is that of now.
+                Step::Fcb(FCB, *b"NONE    TXT", [0, 0, 0]),
+                Step::Call(32, 7, Ok(0)),
+                Step::Call(18, FCB, Ok(2)),
+                Step::Call(26, 0x4000, Ok(0)),
+                Step::Call(18, FCB, Ok(1)),
+                Step::Holds(0x4000, b"\x00E       BIN\x00"),
+                Step::Holds(0x4020, b"\x00F       TXT\x00"),
+                Step::Holds(0x4040, &[0xE5; 64]),
+                // It has ended, and stays so.
+                Step::Put(0x4000, &[0x55; 128]),
+                Step::Call(18, FCB, Ok(0xFF)),
+                Step::Call(18, FCB, Ok(0xFF)),
+                Step::Holds(0x4000, &[0x55; 128]),
+                // A first call that finds nothing ends a search too.
+                Step::Call(32, 0, Ok(0)),
+                Step::Fcb(FCB, *b"????????BIN", [0, 0, 0]),
+                Step::Call(17, FCB, Ok(1)),
+                Step::Fcb(FCB, *b"NONE    TXT", [0, 0, 0]),
+                Step::Call(17, FCB, Ok(0xFF)),
+                Step::Call(18, FCB, Ok(0xFF)),
+            ],
+        );
+    }
+    Ok(())
+}
+
+#[test]
+fn every_entry(rt: HostRuntime) -> Result<(), Fail> {
+    for (kind, count) in [(DiskKind::EightInch, 64), (DiskKind::Megabyte, 256)] {
+        let mut m = plain_of(rt.alloc(), kind, b"")?;
+        make_files(&rt, &mut m, &[*b"A       TXT"]);
+        run(
+            &rt,
+            &mut m,
+            &[
+                Step::Fcb(FCB, *b"NONE    XXX", [0, 0, 0]),
+                Step::Put(FCB, b"?"),
+                Step::Call(17, FCB, Ok(0)),
+            ],
+        );
+        for n in 1..count {
+            assert_eq!(rt; m.call(18, FCB), Ok(n % 4));
+        }
+        run(
+            &rt,
+            &mut m,
+            &[
+                Step::Holds(DMA, &[0xE5; 128]),
+                Step::Call(18, FCB, Ok(0xFF)),
+            ],
+        );
+    }
+    Ok(())
+}
+
+#[test]
+fn buffer_over_the_fcb(rt: HostRuntime) -> Result<(), Fail> {
+    // A search writes no byte of the FCB, so the buffer's bytes stay there.
+    let mut m = new_plain(rt.alloc(), b"")?;
+    make_files(&rt, &mut m, &[*b"A       TXT"]);
+    run(
+        &rt,
+        &mut m,
+        &[
+            Step::Fcb(FCB, *b"A       TXT", [0, 0, 0]),
+            Step::Call(26, FCB - 32, Ok(0)),
+            Step::Call(17, FCB, Ok(0)),
+            Step::Holds(FCB - 32, b"\x00A       TXT\x00"),
+            Step::Holds(FCB, &[0xE5; 96]),
+        ],
+    );
+    Ok(())
+}
+
+#[test]
+fn extents_of_a_megabyte_disk(rt: HostRuntime) -> Result<(), Fail> {
+    // Extents 0 and 32, of S2 1: 15 and 17 take S2 as 0, but an EX of `?` in 17 matches both.
+    let name = *b"BIG     DAT";
+    let mut m = plain_of(rt.alloc(), DiskKind::Megabyte, b"")?;
+    make_files(&rt, &mut m, &[name]);
+    run(
+        &rt,
+        &mut m,
+        &[
+            Step::Numbers([0, 16, 0]),
+            Step::Call(34, FCB, Ok(0)),
+            Step::Fcb(FCB, name, [0, 1, 0]),
+            Step::Call(17, FCB, Ok(0)),
+            Step::Call(18, FCB, Ok(0xFF)),
+            Step::Fcb(FCB, name, [0x3F, 0, 0]),
+            Step::Call(17, FCB, Ok(0)),
+            Step::Call(18, FCB, Ok(1)),
+            Step::Call(18, FCB, Ok(0xFF)),
+        ],
+    );
+    // 16 heeds the low six bits of S2.
+    for (place, wanted) in [
+        ([0, 0, 0], 0),
+        ([0, 1, 0], 1),
+        ([0, 0xC1, 0], 1),
+        ([0, 2, 0], 0xFF),
+        ([0x20, 0, 0], 0xFF),
+        ([0, 0x3F, 0], 0xFF),
+    ] {
+        run(
+            &rt,
+            &mut m,
+            &[Step::Fcb(FCB, name, place), Step::Call(16, FCB, Ok(wanted))],
+        );
+    }
+    run(
+        &rt,
+        &mut m,
+        &[
+            Step::Fcb(FCB, name, [0x3F, 1, 0]),
+            Step::Call(15, FCB, Ok(0)),
+        ],
+    );
+    Ok(())
+}
