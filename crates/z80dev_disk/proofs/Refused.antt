@@ -12,8 +12,8 @@ use Rattle.cpm_disk.specs.Image.{Image}
 use Rattle.cpm_disk.specs.Mounting.{IsMountFault, RefusesMount}
 use Rattle.z80dev_finish.specs.Answers as finish
 use Rattle.z80dev_finish.specs.declared.answer.Answer as made
-use Rattle.z80dev_disk.specs.Disks.{IsDisk, IsNoDisk, OfDisk, refused}
-use Rattle.z80dev_disk.specs.Private.{IsAnswered, UnlessMemory, answer_at, refusal_at}
+use Rattle.z80dev_disk.specs.Disks.{UnlessMemory, IsDisk, IsNoDisk, OfDisk, refused}
+use Rattle.z80dev_disk.specs.Private.{IsAnswered, answer_at, refusal_at}
 use Rattle.z80dev_disk.specs.Put.{IsPut, IsStopped}
 use Rattle.z80dev_disk.specs.Refusals.{Refuses, RefusesDir, RefusesPut, of_disk, of_image}
 use Rattle.z80dev_disk.specs.declared.refusal.Refusal.{Refusal}

@@ -1,15 +1,16 @@
 -- Bytes as a disk, and answers about it.
-use Rattle.std.specs.Prelude.{◌≡◌, ◌⊎◌, ℕ, List, [], ◌∷◌, None, Ok, Err, length}
+use Rattle.std.specs.Prelude.{◌≡◌, ◌⊎◌, ℕ, false, List, [], ◌∷◌, None, Result, Ok, Err, length, ⊤}
 use Rattle.std.specs.List.{concat}
 use Rattle.cpm_image.specs.Image.{IsImageOf}
 use Rattle.cpm_image.specs.Kind.{sector_count}
 use Rattle.cpm_image.specs.declared.kind.DiskKind.{DiskKind}
 use Rattle.cpm_directory.specs.Rules.{IsFirstFault, IsSound}
+use Rattle.cpm_disk.specs.Calls.{Mounted}
 use Rattle.cpm_disk.specs.Image.{Image, directory}
 use Rattle.z80dev_finish.specs.Answers as finish
 use Rattle.z80dev_finish.specs.declared.answer.Answer as made
 use Rattle.z80dev_finish.specs.declared.answer.Kind.TheVariants as kind
-use Rattle.z80dev_disk.specs.Refusals.{refusal_text}
+use Rattle.z80dev_disk.specs.Refusals.{RefusesDir, Refuses, refusal_text}
 use Rattle.z80dev_disk.specs.declared.refusal.Refusal.{Refusal}
 use Rattle.z80dev_disk.specs.declared.refusal.Refusal.TheVariants as refusal
 
@@ -24,6 +25,16 @@ abbrev pub IsNoDisk : List ℕ → Refusal → Type 0
 IsNoDisk bytes (refusal.Image why) = IsImageOf bytes (Err why)
 IsNoDisk bytes (refusal.Disk why) = (kind : DiskKind) × (image : Image) × IsImageOf bytes (Ok image) × (length image ≡ sector_count kind) × IsFirstFault kind (directory kind image) why
 IsNoDisk bytes _ = ⊥
+
+-- This holds of a refusal, or memory ran out.
+abbrev pub UnlessMemory : (Refusal → Type 0) → Refusal → Type 0
+UnlessMemory Holds refusal.NoMemory = ⊤
+UnlessMemory Holds why = Holds why
+
+-- the disk that bytes are, mounted, or why they are none
+abbrev pub IsMounted : List ℕ → Result (Mounted Image) Refusal → Type 0
+IsMounted bytes (Ok disk) = (disk.failed ≡ false) × IsDisk bytes disk.kind disk.device
+IsMounted bytes (Err why) = Refuses RefusesDir why × UnlessMemory (IsNoDisk bytes) why
 
 -- what the code's types hold
 abbrev pub answer_of : made.Answer Refusal → finish.Answer

@@ -7,18 +7,8 @@ use Rattle.z80dev_finish.specs.Answers as finish
 use Rattle.z80dev_finish.specs.declared.answer.Answer as made
 use Rattle.z80dev_disk.specs.declared.refusal.Refusal.{Refusal}
 use Rattle.z80dev_disk.specs.declared.refusal.Refusal.TheVariants as refusal
-use Rattle.z80dev_disk.specs.Disks.{IsDisk, IsNoDisk, answer_of, refused}
-use Rattle.z80dev_disk.specs.Refusals.{RefusesDir, Refuses}
-
--- This holds of a refusal, or memory ran out.
-abbrev pub UnlessMemory : (Refusal → Type 0) → Refusal → Type 0
-UnlessMemory Holds refusal.NoMemory = ⊤
-UnlessMemory Holds why = Holds why
-
--- the disk that bytes are, or why they are none
-abbrev pub IsMounted : List ℕ → Result (Mounted Image) Refusal → Type 0
-IsMounted bytes (Ok disk) = (disk.failed ≡ false) × IsDisk bytes disk.kind disk.device
-IsMounted bytes (Err why) = Refuses RefusesDir why × UnlessMemory (IsNoDisk bytes) why
+use Rattle.z80dev_disk.specs.Disks.{UnlessMemory, answer_of, refused}
+use Rattle.z80dev_disk.specs.Refusals.{Refuses}
 
 -- how a command ends: with its answer, or refused
 abbrev pub IsAnswered : (DiskFault → Type 0) → (finish.Answer → Type 0) → Result (made.Answer Refusal) Refusal → Type 0

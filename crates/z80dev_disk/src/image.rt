@@ -3,8 +3,8 @@
 ghost use Rattle.std.specs.Prelude.{◌≡◌, IfOk, false};
 ghost use Rattle.cpm_image.specs.Image.{blank_image};
 ghost use Rattle.z80dev_finish.specs.Answers.{MemoryAside};
-ghost use Rattle.z80dev_disk.specs.Disks.{answer_of, image_file, one_file};
-ghost use Rattle.z80dev_disk.specs.Private.{IsAnswered, IsMounted, answer_at, refusal_at};
+ghost use Rattle.z80dev_disk.specs.Disks.{IsMounted, answer_of, image_file, one_file};
+ghost use Rattle.z80dev_disk.specs.Private.{IsAnswered, answer_at, refusal_at};
 
 use crate::refusal::Refusal;
 use cpm_disk::Disk;
@@ -12,8 +12,12 @@ use cpm_image::{DiskKind, MemoryImage};
 use std::alloc::{AllocError, Global};
 use z80dev_finish::{Answer, Kind, NewFile};
 
-/// The disk whose image bytes are.
-pub(crate) fn disk_of(alloc: Global, bytes: &[u8]) -> Result<Disk<MemoryImage>, Refusal>
+/// The disk whose image bytes are, mounted.
+///
+/// # Errors
+///
+/// In this order: [`ImageFault`](crate::ImageFault) where the bytes are no image; the first fault of the directory.
+pub fn disk_of(alloc: Global, bytes: &[u8]) -> Result<Disk<MemoryImage>, Refusal>
     ensures { IsMounted bytes.now result }
 {
     let image = MemoryImage::from_bytes(alloc, bytes)?;
@@ -24,7 +28,7 @@ pub(crate) fn disk_of(alloc: Global, bytes: &[u8]) -> Result<Disk<MemoryImage>, 
 }
 
 /// The answer that a file is to be written.
-pub(crate) fn one_file(alloc: Global, bytes: Vec<u8>) -> Result<Answer<Refusal>, AllocError>
+pub fn one_file(alloc: Global, bytes: Vec<u8>) -> Result<Answer<Refusal>, AllocError>
     ensures { IfOk result (λ answer. answer_of answer ≡ one_file bytes.items) }
 {
     let mut files = Vec::with_capacity(alloc, 1)?;

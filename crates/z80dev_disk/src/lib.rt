@@ -15,7 +15,7 @@ mod refusal;
 pub use cpm_directory::{DiskFault, Name};
 pub use cpm_image::{DiskKind, ImageFault};
 pub use getting::get;
-pub use image::blank;
+pub use image::{blank, disk_of, one_file};
 pub use listing::dir;
 pub use name::file_name;
 pub use putting::put;

@@ -1,0 +1,4 @@
+pub mod Input
+pub mod Stopped
+pub mod Program
+pub mod Ending
