@@ -1,18 +1,19 @@
 -- What a parse that succeeds found for a command.
-use Rattle.std.proofs.Common.{◌≡◌, ◌∙◌, ◌⊎◌, inl, inr, Bool, true, false, List, [], Option, None, Some, is_some, codes, refl, sym, ap, subst}
-use Rattle.std.specs.Prelude.{IfSome, option_and_then, slice_get}
+use Rattle.std.proofs.Common.{◌≡◌, ◌∙◌, ◌⊎◌, inl, inr, ℕ, Bool, true, false, List, [], Option, None, Some, is_some, codes, refl, sym, ap, subst}
+use Rattle.std.specs.Prelude.{Err, IfSome, Ok, Result, option_and_then, slice_get}
 use Rattle.std.specs.Option.{option_map, option_map_or}
 use Rattle.std.specs.Prelude.{find}
 use Rattle.std.specs.Str.{bytes_eq}
+use Rattle.std.specs.Str.Parse.{ParsesUnsigned}
 use Rattle.std.specs.Prelude.{Box}
 use Rattle.std.specs.Box.{box_value}
-use Rattle.clap.specs.Words.{App, HasMatchesOf, Row, Text, all_of, built, fault_of, first_of, found_of, is_simple_and_free, one_of, rows_of, subcommand_name_of, subcommand_of, subcommand_rows, subcommand_rows_of}
+use Rattle.clap.specs.Words.{App, HasMatchesOf, ReadsOne, Row, Text, all_of, built, fault_of, first_of, found_of, is_simple_and_free, one_of, rows_of, subcommand_name_of, subcommand_of, subcommand_rows, subcommand_rows_of}
 use Rattle.clap.specs.declared.parser.matches.ArgMatches.{ArgMatches}
 use Rattle.clap.specs.declared.parser.matches.ArgMatches.TheViews.{out-ArgMatches, out-SubCommand}
 use Rattle.clap.specs.declared.parser.matches.SubCommand.{SubCommand}
-use Rattle.z80dev_commands.specs.Commands.{IsParsed, is_on, z80dev}
-use Rattle.z80dev_commands.specs.Private.{AreFound, IsFlag}
-use Rattle.z80dev_commands.proofs.Values.{each_named, flag_value, has_flag, required_value, requires}
+use Rattle.z80dev_commands.specs.Commands.{FindsNumber, IsParsed, ReadsAs, is_on, z80dev}
+use Rattle.z80dev_commands.specs.Private.{AreFound, IsFlag, IsNumber}
+use Rattle.z80dev_commands.proofs.Values.{each_named, flag_value, has_parser, is_bool, is_unsigned, number_value, required_value, requires}
 
 -- a parse of the words succeeds, and finds these rows for the command of this name
 abbrev pub IsMet : List Text → Text → List Row → Type 0
@@ -33,6 +34,18 @@ met_by a words m name rows same kinds has is are = (
   sym (subst (λ a. HasMatchesOf a words m) same has refl).1 ∙ rows_met (out-ArgMatches m).subcommand name rows is are,
 )
 
+-- and where the parse meets no command
+pub unmet_by : (a : App) (words : List Text) (m : ArgMatches) → a ≡ z80dev → (is_simple_and_free a ≡ true → fault_of a words ≡ []) → HasMatchesOf a words m
+    → None ≡ subcommand_name_of m → IsParsed words × (subcommand_of z80dev words ≡ None)
+unmet_by a words m same kinds has is = (
+  subst (λ a. is_simple_and_free a ≡ true → fault_of a words ≡ []) same kinds refl,
+  sym (subst (λ a. HasMatchesOf a words m) same has refl).1 ∙ none (out-ArgMatches m).subcommand is,
+)
+  where
+    none : {Z : Type 0} (o : Option (Box SubCommand Z)) → None ≡ option_map (λ b. (out-SubCommand (box_value b)).name.now) o → subcommand_rows o ≡ None
+    none None is = refl
+    none (Some b) is = absurd (cc is)
+
 pub has_text : (name id : Text) (rows : List Row) → each_named name (requires id) (built z80dev).subs ≡ true → AreFound name rows → is_some (first_of id rows) ≡ true
 has_text name id rows is met = required_value z80dev met.0 name id rows is met.2 met.1
 
@@ -43,8 +56,31 @@ has_texts name id rows is met = go (find (λ r. bytes_eq r.id id) rows) (has_tex
     go None e = absurd (cc e)
     go (Some r) e = refl
 
-pub reads_flag : (name id : Text) (rows : List Row) → each_named name (has_flag id) (built z80dev).subs ≡ true → AreFound name rows → IsFlag id rows
+pub reads_flag : (name id : Text) (rows : List Row) → each_named name (has_parser is_bool id) (built z80dev).subs ≡ true → AreFound name rows → IsFlag id rows
 reads_flag name id rows is met = flag_value z80dev met.0 name id rows is met.2 met.1
+
+pub reads_number : (name id : Text) (rows : List Row) → each_named name (has_parser is_unsigned id) (built z80dev).subs ≡ true → AreFound name rows → IsNumber id rows
+reads_number name id rows is met = number_value z80dev met.0 name id rows is met.2 met.1
+
+-- what `get_one` answers of a number, where it reads (`G`) as `u64` does
+module _ (E : Type 0) (G : Text → Result ℕ E → Type 0) (reads : (t : Text) (r : Result ℕ E) → G t r → ParsesUnsigned 64 10 t r) where
+  pub number_is : (id : Text) (rows : List Row) (read : Option Text) (answer : Option ℕ) → one_of id rows ≡ read → IsNumber id rows → (read ≡ None → answer ≡ None)
+      → ((t : Text) → read ≡ Some t → ReadsOne G t answer) → FindsNumber id answer rows
+  number_is id rows read answer is number none value =
+      let first = sym number.0 ∙ is in
+      go read answer first (subst (λ o. IfSome o (λ text. (n : ℕ) × ReadsAs text n)) first number.1) none value
+    where
+      parsed : (n : ℕ) (t : Text) → ParsesUnsigned {E = E} 64 10 t (Ok n) → ReadsAs t n
+      parsed n t p = (p.0.0, sym p.1, rw p.1 p.0.1)
+
+      go : (o : Option Text) (answer : Option ℕ) → first_of id rows ≡ o → IfSome o (λ text. (n : ℕ) × ReadsAs text n) → (o ≡ None → answer ≡ None)
+          → ((t : Text) → o ≡ Some t → ReadsOne G t answer) → FindsNumber id answer rows
+      go None None first number none value = first
+      go None (Some n) first number none value = absurd (cc (none refl))
+      go (Some t) (Some n) first number none value = (t, first, parsed n t (reads t (Ok n) (value t refl)))
+      go (Some t) None first number none value =
+          let fails = value t refl in
+          absurd (reads t (Err fails.0) fails.1 (number.1.0, rw number.1.1 number.1.2))
 
 -- what `get_flag` answers
 pub flag_is : (id : Text) (rows : List Row) (read : Option Text) (answer : Bool) → one_of id rows ≡ read → IsFlag id rows → (read ≡ None → answer ≡ false) → (read ≡ Some (codes "true") → answer ≡ true)

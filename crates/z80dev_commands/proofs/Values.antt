@@ -5,11 +5,13 @@ use Rattle.std.specs.Prelude.{IfSome, encode_utf8, find, option_and_then, slice_
 use Rattle.std.specs.List.{AllByRecursion, fold, list_all, list_any}
 use Rattle.std.specs.Option.{option_map, option_map_or}
 use Rattle.std.specs.Str.{bytes_eq, chars}
+use Rattle.std.specs.Str.Parse.{digits_value, without_leading_plus}
 use Rattle.std.proofs.lemmas.Slice.Eq.{bytes_eq-Decides}
 use Rattle.clap.specs.Lexer.{long_of, short_of}
 use Rattle.clap.specs.Facts.{explicit_source, parser_of_value, unwrap_or_range}
+use Rattle.clap.proofs.ValueTestLemmas.{accepts-Accepts}
 use Rattle.clap.specs.Walk.{Held, Names, Outcome, Row, Rule, Step, Text, Waiting, Walk, action_of, after_flag, after_step, answers_to, arg_by_id, arg_by_index}
-use Rattle.clap.specs.Walk.{arg_by_long, arg_by_short, at_row, attached_value, bundle, bundle_met, bundle_step, default_rows, done, finished, first_of}
+use Rattle.clap.specs.Walk.{arg_by_long, arg_by_short, at_row, attached_value, bundle, bundle_met, bundle_step, default_rows, done, finished, first_of, one_of}
 use Rattle.clap.specs.Walk.{flag_met, has_row, idle, is_empty, is_pending, long_met, long_or_other, more_values, most_values, next, nothing_held, option}
 use Rattle.clap.specs.Walk.{option_met, option_word, plain, plain_word, positional, reacted, reading_by, refused, row_text, rows_after, settled, settled_rows, short_met}
 use Rattle.clap.specs.Walk.{short_or_plain, stop_after, subcommand, subcommand_met, subcommand_or_other, takes_several, takes_values, to_positional, trailing, used}
@@ -31,7 +33,8 @@ use Rattle.clap.specs.declared.builder.action.ArgAction.{ArgAction}
 use Rattle.clap.specs.declared.builder.action.ArgAction.TheVariants as action
 use Rattle.clap.specs.declared.parser.matches.ValueSource.{ValueSource}
 use Rattle.clap.specs.declared.parser.matches.ValueSource.TheVariants as source
-use Rattle.z80dev_commands.specs.Private.{IsFlag}
+use Rattle.z80dev_commands.specs.Commands.{ReadsAs}
+use Rattle.z80dev_commands.specs.Private.{IsFlag, IsNumber}
 
 -- an argument of this id takes the value
 abbrev pub is_taken : List Rule → Text → Text → Bool
@@ -40,9 +43,9 @@ is_taken c id v = list_any (λ a. bytes_eq a.id id && accepts a.ignore_case (par
 abbrev AreTaken : List Rule → Text → List Text → Type 0
 AreTaken c id = AllByRecursion (λ v. is_taken c id v ≡ true)
 
--- a row has values, and an argument of its id takes them
+-- a row has values, an argument of its id takes them, and they are read as they are written
 abbrev IsKept : List Rule → Row → Type 0
-IsKept c r = (0 < length r.values) × AreTaken c r.id r.values
+IsKept c r = (0 < length r.values) × AreTaken c r.id r.values × (r.reading ≡ reading.AsWritten)
 
 abbrev AreKept : List Rule → List Row → Type 0
 AreKept c = AllByRecursion (IsKept c)
@@ -65,8 +68,17 @@ some_stand a = nat_lt 0 (unwrap_or_range a.range).start_inclusive || not (is_emp
 abbrev pub is_valued : Rule → Bool
 is_valued a = is_request (action_of a) || (keeps_values (action_of a) && some_stand a)
 
+abbrev pub is_as_written : Reading → Bool
+is_as_written reading.AsWritten = true
+is_as_written _ = false
+
+as_written : (how : Reading) → is_as_written how ≡ true → how ≡ reading.AsWritten
+as_written reading.AsWritten e = refl
+as_written _ e = absurd (true≢false (sym e))
+
+-- .. and each is read as it is written
 abbrev pub are_valued : List Rule → Bool
-are_valued = list_all is_valued
+are_valued = list_all (λ a. is_valued a && is_as_written (reading_by a))
 
 -- ---- the first of two that fails
 
@@ -100,10 +112,6 @@ found P p (x ∷ rest) h = go (p x) refl (found P p rest h.1)
     go : (b : Bool) → p x ≡ b → IfSome (find p rest) (λ x. P x × (p x ≡ true)) → IfSome (cond b (Some x) (find p rest)) (λ x. P x × (p x ≡ true))
     go true is below = (h.0, is)
     go false is below = below
-
-all_true : {X : Type 0} (q : X → Bool) (xs : List X) → list_all q xs ≡ true → AllByRecursion (λ x. q x ≡ true) xs
-all_true q [] e = tt
-all_true q (x ∷ rest) e = ((both (q x) _ e).0, all_true q rest (both (q x) _ e).1)
 
 -- ---- what an argument takes
 
@@ -170,46 +178,49 @@ module _ (c : List Rule) where
   without_keeps : (id : Text) (rows : List Row) → AreKept c rows → AreKept c (without id rows)
   without_keeps id rows h = change_keeps id (λ _. []) [] rows (λ r same had. tt) tt h
 
-  values_keep : (id : Text) (how : Reading) (from : ValueSource) (values : List Text) (rows : List Row) → 0 < length values → AreTaken c id values → AreKept c rows
-      → AreKept c (with_values id how from values rows)
-  values_keep id how from values rows some are h =
+  values_keep : (id : Text) (how : Reading) (from : ValueSource) (values : List Text) (rows : List Row) → how ≡ reading.AsWritten → 0 < length values → AreTaken c id values
+      → AreKept c rows → AreKept c (with_values id how from values rows)
+  values_keep id how from values rows as_is some are h =
       change_keeps id (more_values from values) (record { id = id; values = values; count = None; source = Some from; reading = how } ∷ []) rows
-      (λ r same had. ((some_left r.values values had.0, joined (λ v. is_taken c r.id v ≡ true) r.values values had.1 (subst (λ i. AreTaken c i values) (sym same) are)), tt)) ((some, are), tt) h
+      (λ r same had. ((some_left r.values values had.0, joined (λ v. is_taken c r.id v ≡ true) r.values values had.1 (subst (λ i. AreTaken c i values) (sym same) are), had.2), tt)) ((some, are, as_is), tt) h
 
-  set_keeps : (again : Bool) (a : Rule) (values : List Text) (rows : List Row) → Suits c a → 0 < length values → set_fault again a values rows ≡ [] → AreKept c rows
-      → AreKept c (with_values a.id (reading_by a) source.CommandLine values (without a.id rows))
-  set_keeps again a values rows suits some e h =
-      values_keep a.id (reading_by a) source.CommandLine values (without a.id rows) some (taken c a values suits (second (repeat_fault again a.id rows) _ e)) (without_keeps a.id rows h)
+  set_keeps : (again : Bool) (a : Rule) (values : List Text) (rows : List Row) → Suits c a → reading_by a ≡ reading.AsWritten → 0 < length values → set_fault again a values rows ≡ []
+      → AreKept c rows → AreKept c (with_values a.id (reading_by a) source.CommandLine values (without a.id rows))
+  set_keeps again a values rows suits as_is some e h =
+      values_keep a.id (reading_by a) source.CommandLine values (without a.id rows) as_is some (taken c a values suits (second (repeat_fault again a.id rows) _ e)) (without_keeps a.id rows h)
 
-  action_keeps : (x : ArgAction) (stand again : Bool) (a : Rule) (values : List Text) (rows : List Row) → Suits c a → (is_request x || (keeps_values x && stand)) ≡ true
+  action_keeps : (x : ArgAction) (stand again : Bool) (a : Rule) (values : List Text) (rows : List Row) → Suits c a → reading_by a ≡ reading.AsWritten → (is_request x || (keeps_values x && stand)) ≡ true
       → (stand ≡ true → 0 < length values) → action_fault x again a values rows ≡ [] → AreKept c rows → AreKept c (used_as x a.id (reading_by a) values rows)
-  action_keeps action.Set stand again a values rows suits valued some e h = set_keeps again a values rows suits (some valued) e h
-  action_keeps action.SetTrue stand again a values rows suits valued some e h = set_keeps again a values rows suits (some valued) e h
-  action_keeps action.SetFalse stand again a values rows suits valued some e h = set_keeps again a values rows suits (some valued) e h
-  action_keeps action.Append stand again a values rows suits valued some e h = values_keep a.id (reading_by a) source.CommandLine values rows (some valued) (taken c a values suits e) h
-  action_keeps action.Count stand again a values rows suits valued some e h = absurd (true≢false (sym valued))
-  action_keeps action.Help stand again a values rows suits valued some e h = h
-  action_keeps action.HelpShort stand again a values rows suits valued some e h = h
-  action_keeps action.HelpLong stand again a values rows suits valued some e h = h
-  action_keeps action.Version stand again a values rows suits valued some e h = h
+  action_keeps action.Set stand again a values rows suits as_is valued some e h = set_keeps again a values rows suits as_is (some valued) e h
+  action_keeps action.SetTrue stand again a values rows suits as_is valued some e h = set_keeps again a values rows suits as_is (some valued) e h
+  action_keeps action.SetFalse stand again a values rows suits as_is valued some e h = set_keeps again a values rows suits as_is (some valued) e h
+  action_keeps action.Append stand again a values rows suits as_is valued some e h = values_keep a.id (reading_by a) source.CommandLine values rows as_is (some valued) (taken c a values suits e) h
+  action_keeps action.Count stand again a values rows suits as_is valued some e h = absurd (true≢false (sym valued))
+  action_keeps action.Help stand again a values rows suits as_is valued some e h = h
+  action_keeps action.HelpShort stand again a values rows suits as_is valued some e h = h
+  action_keeps action.HelpLong stand again a values rows suits as_is valued some e h = h
+  action_keeps action.Version stand again a values rows suits as_is valued some e h = h
 
--- a rule whose uses leave values, which it takes
+-- a rule whose uses leave values, which it takes, and reads as they are written
 abbrev IsGood : List Rule → Rule → Type 0
-IsGood c a = (is_valued a ≡ true) × Suits c a
+IsGood c a = (is_valued a ≡ true) × Suits c a × (reading_by a ≡ reading.AsWritten)
 
 abbrev AreGood : List Rule → Type 0
 AreGood c = AllByRecursion (IsGood c) c
 
 good_of : (c : List Rule) → are_valued c ≡ true → AreGood c
-good_of c valued = zipped c (all_true is_valued c valued) (suit c)
+good_of c valued = zipped c valued (suit c)
   where
-    zipped : (xs : List Rule) → AllByRecursion (λ a. is_valued a ≡ true) xs → AllByRecursion (Suits c) xs → AllByRecursion (IsGood c) xs
+    zipped : (xs : List Rule) → are_valued xs ≡ true → AllByRecursion (Suits c) xs → AllByRecursion (IsGood c) xs
     zipped [] v s = tt
-    zipped (a ∷ rest) v s = ((v.0, s.0), zipped rest v.1 s.1)
+    zipped (a ∷ rest) v s =
+        let two = both (is_valued a && is_as_written (reading_by a)) _ v in
+        let here = both (is_valued a) _ two.0 in
+        ((here.0, s.0, as_written (reading_by a) here.1), zipped rest two.1 s.1)
 
 use_keeps : (c : List Rule) (again : Bool) (a : Rule) (values : List Text) (rows : List Row) → IsGood c a → use_fault again a values rows ≡ [] → AreKept c rows → AreKept c (used a values rows)
 use_keeps c again a values rows good e h =
-    action_keeps c (action_of a) (some_stand a) again a (values_or_missing a values) rows good.1 good.0 (λ stand. some_values a values stand (first _ _ e))
+    action_keeps c (action_of a) (some_stand a) again a (values_or_missing a values) rows good.1 good.2 good.0 (λ stand. some_values a values stand (first _ _ e))
     (second (range_kinds (unwrap_or_range a.range).start_inclusive (most_values a) (length values)) _ e) h
 
 -- ---- the rules that a walk finds
@@ -361,8 +372,8 @@ module _ (s : Shape) (all : AreGood s.rules) where
 -- ---- defaults
 
 module _ (c : List Rule) where
-  default_keeps : (rows : List Row) (a : Rule) → Suits c a → default_fault rows a ≡ [] → AreKept c rows → AreKept c (with_default rows a)
-  default_keeps rows a suits e had = go (has_row a.id rows) a.defaults e
+  default_keeps : (rows : List Row) (a : Rule) → IsGood c a → default_fault rows a ≡ [] → AreKept c rows → AreKept c (with_default rows a)
+  default_keeps rows a good e had = go (has_row a.id rows) a.defaults e
     where
       fault : (b : Bool) (kinds : Kinds) → cond b [] kinds ≡ [] → b ≡ false → kinds ≡ []
       fault true kinds e is = absurd (true≢false is)
@@ -374,13 +385,13 @@ module _ (c : List Rule) where
       go : (b : Bool) (values : List Text) → cond (b || is_empty values) [] (given_default_fault a values) ≡ [] → AreKept c (cond b rows (default_rows a.id (reading_by a) values rows))
       go true values e = had
       go false [] e = had
-      go false (v ∷ vs) e = values_keep c a.id (reading_by a) source.DefaultValue (v ∷ vs) rows (omega arith) (taken c a (v ∷ vs) suits (second (request_kinds (action_of a)) _ (fault _ _ e (not_empty v vs)))) had
+      go false (v ∷ vs) e = values_keep c a.id (reading_by a) source.DefaultValue (v ∷ vs) rows good.2 (omega arith) (taken c a (v ∷ vs) good.1 (second (request_kinds (action_of a)) _ (fault _ _ e (not_empty v vs)))) had
 
-  defaults_keep : (rows : List Row) (rest : List Rule) → AllByRecursion (Suits c) rest → defaults_fault rows rest ≡ [] → AreKept c rows → AreKept c (fold with_default rows rest)
+  defaults_keep : (rows : List Row) (rest : List Rule) → AllByRecursion (IsGood c) rest → defaults_fault rows rest ≡ [] → AreKept c rows → AreKept c (fold with_default rows rest)
   unfolding defaults_fault
-  defaults_keep rows [] suits e had = had
-  defaults_keep rows (a ∷ rest) suits e had =
-      defaults_keep (with_default rows a) rest suits.1 (second (default_fault rows a) _ e) (default_keeps rows a suits.0 (first _ _ e) had)
+  defaults_keep rows [] good e had = had
+  defaults_keep rows (a ∷ rest) good e had =
+      defaults_keep (with_default rows a) rest good.1 (second (default_fault rows a) _ e) (default_keeps rows a good.0 (first _ _ e) had)
 
 -- ---- a level
 
@@ -394,7 +405,7 @@ level_keeps s words valued e =
     let last = second (settle_fault s.rules s.args_override_self end) _ after in
     let had : AreKept s.rules end.rows = walk_keeps s all [] (walk_from nothing_held) words (first walked_fault _ e) tt in
     let settles = settle_keeps s.rules all s.args_override_self end (first _ _ after) had in
-    defaults_keep s.rules (settled s.rules end).rows s.rules (suit s.rules) (first _ _ last) settles
+    defaults_keep s.rules (settled s.rules end).rows s.rules all (first _ _ last) settles
 
 -- ---- what has to be given
 
@@ -452,15 +463,19 @@ level_value s words id valued is e =
     asks true e = e
     asks false e = e
 
--- ---- what a flag reads as
+-- ---- what a flag and a number read as
 
 abbrev pub is_bool : ValueParser → Bool
 is_bool parser.Bool = true
 is_bool _ = false
 
--- each argument of this id reads a bool
-abbrev pub is_flag : List Rule → Text → Bool
-is_flag rules id = list_all (λ a. not (bytes_eq a.id id) || is_bool (parser_of_value a.parser)) rules
+abbrev pub is_unsigned : ValueParser → Bool
+is_unsigned (parser.Unsigned low high) = true
+is_unsigned _ = false
+
+-- each argument of this id has such a parser
+abbrev pub have_parser : (ValueParser → Bool) → List Rule → Text → Bool
+have_parser p rules id = list_all (λ a. not (bytes_eq a.id id) || p (parser_of_value a.parser)) rules
 
 bool_text_of : (p : ValueParser) (ignore_case : Bool) (v : Text) → is_bool p ≡ true → accepts ignore_case p v ≡ true → (v ≡ codes "true") ⊎ (v ≡ codes "false")
 bool_text_of parser.Bool ignore_case v is e = go (bytes_eq v (codes "true")) refl e
@@ -470,43 +485,38 @@ bool_text_of parser.Bool ignore_case v is e = go (bytes_eq v (codes "true")) ref
     go false is e = inr ((bytes_eq-Decides v (codes "false")).0 e)
 bool_text_of _ ignore_case v is e = absurd (true≢false (sym is))
 
-taken_bool : (c : List Rule) (id v : Text) → is_flag c id ≡ true → is_taken c id v ≡ true → (v ≡ codes "true") ⊎ (v ≡ codes "false")
-taken_bool [] id v is e = absurd (true≢false (sym e))
-taken_bool (a ∷ rest) id v is e = go (bytes_eq a.id id) (accepts a.ignore_case (parser_of_value a.parser) v) refl (both _ _ is).0 e (taken_bool rest id v (both _ _ is).1)
-  where
-    go : (same takes : Bool) → accepts a.ignore_case (parser_of_value a.parser) v ≡ takes → (not same || is_bool (parser_of_value a.parser)) ≡ true → ((same && takes) || is_taken rest id v) ≡ true
-        → (is_taken rest id v ≡ true → (v ≡ codes "true") ⊎ (v ≡ codes "false")) → (v ≡ codes "true") ⊎ (v ≡ codes "false")
-    go true true takes is e below = bool_text_of (parser_of_value a.parser) a.ignore_case v is takes
-    go true false takes is e below = below e
-    go false true takes is e below = below e
-    go false false takes is e below = below e
+number_of : (p : ValueParser) (ignore_case : Bool) (v : Text) → is_unsigned p ≡ true → accepts ignore_case p v ≡ true → (n : ℕ) × ReadsAs v n
+number_of (parser.Unsigned low high) ignore_case v is e =
+    let in_bounds = accepts-Accepts ignore_case (parser.Unsigned low high) v e in
+    (digits_value 10 (without_leading_plus v), (in_bounds.0, refl, in_bounds.1))
+number_of _ ignore_case v is e = absurd (true≢false (sym is))
 
-read_true : (how : Reading) → read_as how (codes "true") ≡ codes "true"
-read_true reading.AsWritten = refl
-read_true reading.WithoutMinus = refl
-read_true reading.Boolish = refl
-read_true reading.Falsey = refl
+-- what holds of the texts that such a parser takes holds of each value that is taken
+module _ (p : ValueParser → Bool) (Q : Text → Type 0) (each : (q : ValueParser) (ignore_case : Bool) (v : Text) → p q ≡ true → accepts ignore_case q v ≡ true → Q v) where
+  taken_by : (c : List Rule) (id v : Text) → have_parser p c id ≡ true → is_taken c id v ≡ true → Q v
+  taken_by [] id v is e = absurd (true≢false (sym e))
+  taken_by (a ∷ rest) id v is e = go (bytes_eq a.id id) (accepts a.ignore_case (parser_of_value a.parser) v) refl (both _ _ is).0 e (taken_by rest id v (both _ _ is).1)
+    where
+      go : (same takes : Bool) → accepts a.ignore_case (parser_of_value a.parser) v ≡ takes → (not same || p (parser_of_value a.parser)) ≡ true → ((same && takes) || is_taken rest id v) ≡ true
+          → (is_taken rest id v ≡ true → Q v) → Q v
+      go true true takes is e below = each (parser_of_value a.parser) a.ignore_case v is takes
+      go true false takes is e below = below e
+      go false true takes is e below = below e
+      go false false takes is e below = below e
 
-read_false : (how : Reading) → read_as how (codes "false") ≡ codes "false"
-read_false reading.AsWritten = refl
-read_false reading.WithoutMinus = refl
-read_false reading.Boolish = refl
-read_false reading.Falsey = refl
+  -- an argument's value is read as it is written, and is a text of its parser
+  read_there : (c : List Rule) (id : Text) (rows : List Row) → have_parser p c id ≡ true → AreKept c rows → (one_of id rows ≡ first_of id rows) × IfSome (first_of id rows) Q
+  read_there c id rows is had = go (find (λ r. bytes_eq r.id id) rows) (found (IsKept c) (λ r. bytes_eq r.id id) rows had)
+    where
+      at : (how : Reading) (values : List Text) → how ≡ reading.AsWritten → AreTaken c id values
+          → (option_map (read_as how) (slice_get values 0) ≡ slice_get values 0) × IfSome (slice_get values 0) Q
+      at how [] as_is h = (refl, tt)
+      at how (v ∷ vs) as_is h = (ap (λ r. Some (read_as r v)) as_is, taken_by c id v is h.0)
 
-flag_there : (c : List Rule) (id : Text) (rows : List Row) → is_flag c id ≡ true → AreKept c rows → IsFlag id rows
-flag_there c id rows is had = go (find (λ r. bytes_eq r.id id) rows) (found (IsKept c) (λ r. bytes_eq r.id id) rows had)
-  where
-    reads : (how : Reading) (v : Text) → (v ≡ codes "true") ⊎ (v ≡ codes "false") → (read_as how v ≡ codes "true") ⊎ (read_as how v ≡ codes "false")
-    reads how v (inl e) = inl (ap (read_as how) e ∙ read_true how)
-    reads how v (inr e) = inr (ap (read_as how) e ∙ read_false how)
-
-    at : (how : Reading) (values : List Text) → AreTaken c id values → IfSome (option_map (read_as how) (slice_get values 0)) (λ text. (text ≡ codes "true") ⊎ (text ≡ codes "false"))
-    at how [] h = tt
-    at how (v ∷ vs) h = reads how v (taken_bool c id v is h.0)
-
-    go : (o : Option Row) → IfSome o (λ r. IsKept c r × (bytes_eq r.id id ≡ true)) → IfSome (option_and_then row_text o) (λ text. (text ≡ codes "true") ⊎ (text ≡ codes "false"))
-    go None h = tt
-    go (Some r) h = at r.reading r.values (subst (λ i. AreTaken c i r.values) ((bytes_eq-Decides r.id id).0 h.1) h.0.1)
+      go : (o : Option Row) → IfSome o (λ r. IsKept c r × (bytes_eq r.id id ≡ true))
+          → (option_and_then row_text o ≡ option_and_then (λ r. slice_get r.values 0) o) × IfSome (option_and_then (λ r. slice_get r.values 0) o) Q
+      go None h = (refl, tt)
+      go (Some r) h = at r.reading r.values h.0.2 (subst (λ i. AreTaken c i r.values) ((bytes_eq-Decides r.id id).0 h.1) h.0.1)
 
 -- ---- a subcommand
 
@@ -566,9 +576,9 @@ test_at name test subs rows is l = wanted (bytes_eq l.shape.name name) _ (l.test
 abbrev pub requires : Text → Shape → Bool
 requires id s = are_valued s.rules && is_required s.rules id
 
--- uses leave values, and the arguments of this id are flags
-abbrev pub has_flag : Text → Shape → Bool
-has_flag id s = are_valued s.rules && is_flag s.rules id
+-- uses leave values, and the arguments of this id have such a parser
+abbrev pub has_parser : (ValueParser → Bool) → Text → Shape → Bool
+has_parser p id s = are_valued s.rules && have_parser p s.rules id
 
 -- a parse without a fault, which names a subcommand, has a value for each argument that has to be given to it
 pub required_value : (a : App) (words : List Text) (name id : Text) (rows : List Row) → each_named name (requires id) (built a).subs ≡ true
@@ -578,10 +588,23 @@ required_value a words name id rows is met e =
     let two = both (are_valued l.shape.rules) _ (test_at name (requires id) (built a).subs rows is l) in
     subst (λ r. is_some (first_of id r) ≡ true) l.ends (level_value l.shape l.words id two.0 two.1 l.parsed)
 
--- and its flags read as a bool, where they are there
-pub flag_value : (a : App) (words : List Text) (name id : Text) (rows : List Row) → each_named name (has_flag id) (built a).subs ≡ true
+-- and what is read of an argument, where it has a value, is a text of its parser, as it is written
+read_value : (p : ValueParser → Bool) (Q : Text → Type 0) → ((q : ValueParser) (ignore_case : Bool) (v : Text) → p q ≡ true → accepts ignore_case q v ≡ true → Q v)
+    → (a : App) (words : List Text) (name id : Text) (rows : List Row) → each_named name (has_parser p id) (built a).subs ≡ true
+    → subcommand_of a words ≡ Some (name, rows) → fault_of a words ≡ [] → (one_of id rows ≡ first_of id rows) × IfSome (first_of id rows) Q
+read_value p Q each a words name id rows is met e =
+    let l = level_of a words name rows met e in
+    let two = both (are_valued l.shape.rules) _ (test_at name (has_parser p id) (built a).subs rows is l) in
+    subst (λ r. (one_of id r ≡ first_of id r) × IfSome (first_of id r) Q) l.ends (read_there p Q each l.shape.rules id (rows_after l.shape.rules [] l.words) two.1 (level_keeps l.shape l.words two.0 l.parsed))
+
+-- so a flag reads as a bool
+pub flag_value : (a : App) (words : List Text) (name id : Text) (rows : List Row) → each_named name (has_parser is_bool id) (built a).subs ≡ true
     → subcommand_of a words ≡ Some (name, rows) → fault_of a words ≡ [] → IsFlag id rows
 flag_value a words name id rows is met e =
-    let l = level_of a words name rows met e in
-    let two = both (are_valued l.shape.rules) _ (test_at name (has_flag id) (built a).subs rows is l) in
-    subst (λ r. IsFlag id r) l.ends (flag_there l.shape.rules id (rows_after l.shape.rules [] l.words) two.1 (level_keeps l.shape l.words two.0 l.parsed))
+    let read = read_value is_bool (λ v. (v ≡ codes "true") ⊎ (v ≡ codes "false")) bool_text_of a words name id rows is met e in
+    subst (λ o. IfSome o (λ v. (v ≡ codes "true") ⊎ (v ≡ codes "false"))) (sym read.0) read.1
+
+-- and a number as one
+pub number_value : (a : App) (words : List Text) (name id : Text) (rows : List Row) → each_named name (has_parser is_unsigned id) (built a).subs ≡ true
+    → subcommand_of a words ≡ Some (name, rows) → fault_of a words ≡ [] → IsNumber id rows
+number_value = read_value is_unsigned (λ v. (n : ℕ) × ReadsAs v n) number_of

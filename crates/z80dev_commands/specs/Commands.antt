@@ -1,14 +1,16 @@
 -- The words that the command takes, and which job they ask for.
-use Rattle.std.specs.Prelude.{◌≡◌, Bool, true, false, List, [], ◌∷◌, Option, None, Some, codes, map}
+use Rattle.std.specs.Prelude.{◌≡◌, ◌<◌, ◌^◌, ℕ, Bool, true, false, List, [], ◌∷◌, Option, None, Some, codes, map, option_map, unwrap_or}
 use Rattle.std.specs.Borrow.{Bor}
 use Rattle.std.specs.Option.{option_map_or}
 use Rattle.std.specs.Str.{bytes_eq}
+use Rattle.std.specs.Str.Parse.{IsNumeral, digits_value, without_leading_plus}
 use Rattle.clap.specs.Lexer.{usize_max}
 use Rattle.clap.specs.Words.{App, Row, Rule, Shape, Text, all_of, fault_of, first_of, new_rule, one_of, subcommand_of, with_subcommand}
 use Rattle.clap.specs.Simple.{new_shape}
 use Rattle.clap.specs.declared.builder.action.ArgAction.TheVariants.{Append, Set, SetTrue}
+use Rattle.clap.specs.declared.builder.value_parser.ValueParser.TheVariants.{Unsigned}
 use Rattle.z80dev_commands.specs.declared.Job.{Job}
-use Rattle.z80dev_commands.specs.declared.Job.TheVariants.{Pipe, Asm, Link, Build, Check, Dir, Put, Get, Blank}
+use Rattle.z80dev_commands.specs.declared.Job.TheVariants.{Pipe, Asm, Link, Build, Check, Dir, Put, Get, Blank, Run}
 
 -- ---- arguments
 
@@ -27,6 +29,18 @@ paths_rule name = record (new_rule name) {
 -- `--out BASE`, which has to be given
 abbrev pub out_rule : Rule
 out_rule = record (path_rule (codes "BASE")) { long = Some (codes "out") }
+
+-- `--NAME ID`, which may be left out
+abbrev pub option_rule : Text → Text → Rule
+option_rule name id = record (new_rule id) { long = Some name; action = Some Set }
+
+-- .. whose value is a number of `u64`
+abbrev pub number_rule : Text → Text → Rule
+number_rule name id = record (option_rule name id) { parser = Some (Unsigned 0 18446744073709551615) }
+
+-- words, none or more
+abbrev pub words_rule : Text → Rule
+words_rule name = record (paths_rule name) { required = false }
 
 -- `--NAME`
 abbrev pub flag_rule : Text → Rule
@@ -70,6 +84,11 @@ get_shape = with_rules (codes "get") (path_rule (codes "IMG") ∷ path_rule (cod
 abbrev pub blank_shape : Shape
 blank_shape = with_rules (codes "blank") (flag_rule (codes "mega") ∷ path_rule (codes "IMG") ∷ [])
 
+-- `run [--disk IMG] [--steps N] COM [WORD..]`
+abbrev pub run_shape : Shape
+run_shape = with_rules (codes "run")
+    (option_rule (codes "disk") (codes "IMG") ∷ number_rule (codes "steps") (codes "N") ∷ path_rule (codes "COM") ∷ words_rule (codes "WORD") ∷ [])
+
 -- the command's own words: its help and its version
 abbrev pub bare : App
 bare = record { top = record (new_shape (codes "z80dev")) { disable_help_subcommand = true; has_version = true }; subs = [] }
@@ -78,9 +97,9 @@ bare = record { top = record (new_shape (codes "z80dev")) { disable_help_subcomm
 abbrev pub programs : App
 programs = with_subcommand (with_subcommand (with_subcommand (with_subcommand bare asm_shape) link_shape) build_shape) check_shape
 
--- .. and with those on disks
+-- .. with those on disks, and with the one that runs a program
 abbrev pub z80dev : App
-z80dev = with_subcommand (with_subcommand (with_subcommand (with_subcommand programs dir_shape) put_shape) get_shape) blank_shape
+z80dev = with_subcommand (with_subcommand (with_subcommand (with_subcommand (with_subcommand programs dir_shape) put_shape) get_shape) blank_shape) run_shape
 
 -- ---- jobs
 
@@ -95,6 +114,23 @@ Finds id value rows = first_of id rows ≡ Some value.now
 -- its values are these texts, in this order
 abbrev pub FindsAll : Text → List (Bor Text) → List Row → Type 0
 FindsAll id values rows = all_of id rows ≡ Some (map (λ value. value.now) values)
+
+-- the argument's value is this text, where it has one
+abbrev pub FindsIfGiven : Text → Option (Bor Text) → List Row → Type 0
+FindsIfGiven id value rows = first_of id rows ≡ option_map (λ text. text.now) value
+
+-- its values are these texts, in this order, and none where it has none
+abbrev pub FindsAny : Text → List (Bor Text) → List Row → Type 0
+FindsAny id values rows = unwrap_or (all_of id rows) [] ≡ map (λ value. value.now) values
+
+-- `u64` reads the text as this number: its decimal digits, a plus before them or none
+abbrev pub ReadsAs : Text → ℕ → Type 0
+ReadsAs text n = IsNumeral 10 (without_leading_plus text) × (digits_value 10 (without_leading_plus text) ≡ n) × (n < 2 ^ 64)
+
+-- the argument's value reads as this number, where it has one
+abbrev pub FindsNumber : Text → Option ℕ → List Row → Type 0
+FindsNumber id None rows = first_of id rows ≡ None
+FindsNumber id (Some n) rows = (text : Text) × (first_of id rows ≡ Some text) × ReadsAs text n
 
 -- the flag's value reads as true
 abbrev pub is_on : Text → List Row → Bool
@@ -117,6 +153,8 @@ IsJobOf met (Dir image) = Meets met (codes "dir") (λ rows. Finds (codes "IMG") 
 IsJobOf met (Put image file name) = Meets met (codes "put") (λ rows. Finds (codes "IMG") image rows × Finds (codes "FILE") file rows × Finds (codes "NAME") name rows)
 IsJobOf met (Get image name file) = Meets met (codes "get") (λ rows. Finds (codes "IMG") image rows × Finds (codes "NAME") name rows × Finds (codes "FILE") file rows)
 IsJobOf met (Blank mega image) = Meets met (codes "blank") (λ rows. (is_on (codes "mega") rows ≡ mega) × Finds (codes "IMG") image rows)
+IsJobOf met (Run disk steps program words) = Meets met (codes "run") (λ rows. FindsIfGiven (codes "IMG") disk rows
+    × FindsNumber (codes "N") steps rows × Finds (codes "COM") program rows × FindsAny (codes "WORD") words.items rows)
 
 -- The parse succeeds, and the job is that of the command which the words name, with the values that the parse finds.
 abbrev pub IsJob : List Text → Job → Type 0

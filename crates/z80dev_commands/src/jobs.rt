@@ -2,8 +2,8 @@
 
 ghost use Rattle.std.specs.Prelude.{◌≡◌, true, IfOk, Some, codes, is_some, map};
 ghost use Rattle.clap.specs.Words.{all_of, first_of, found_of, rows_of};
-ghost use Rattle.z80dev_commands.specs.Commands.{Finds, FindsAll, IsJobOf, is_on};
-ghost use Rattle.z80dev_commands.specs.Private.{AreFound, IsFlag};
+ghost use Rattle.z80dev_commands.specs.Commands.{Finds, FindsAll, FindsAny, FindsIfGiven, FindsNumber, IsJobOf, is_on};
+ghost use Rattle.z80dev_commands.specs.Private.{AreFound, IsFlag, IsNumber};
 
 use crate::Job;
 use clap::ArgMatches;
@@ -23,6 +23,35 @@ fn texts<'a>(alloc: Global, found: &ArgMatches<'a>, id: &str) -> Result<Vec<&'a 
     ensures { IfOk result (λ texts. FindsAll id.now texts.items (rows_of (found_of found.now))) }
 {
     found.get_strs(id).unwrap().to_vec(alloc)
+}
+
+/// The value of an argument that may have one.
+fn text_if_given<'a>(found: &ArgMatches<'a>, id: &str) -> Option<&'a str>
+    ensures { FindsIfGiven id.now result (rows_of (found_of found.now)) }
+{
+    found.get_str(id)
+}
+
+/// The values of an argument that may have some.
+fn texts_if_given<'a>(
+    alloc: Global,
+    found: &ArgMatches<'a>,
+    id: &str,
+) -> Result<Vec<&'a str>, AllocError>
+    ensures { IfOk result (λ texts. FindsAny id.now texts.items (rows_of (found_of found.now))) }
+{
+    match found.get_strs(id) {
+        Some(texts) => texts.to_vec(alloc),
+        None => Ok(Vec::new(alloc)),
+    }
+}
+
+/// The number of an option that may be given.
+fn number(found: &ArgMatches, id: &str) -> Option<u64>
+    requires { IsNumber id.now (rows_of (found_of found.now)) }
+    ensures { FindsNumber id.now result (rows_of (found_of found.now)) }
+{
+    found.get_one(id)
 }
 
 /// Whether a flag is given.
@@ -117,6 +146,18 @@ fn blank<'a>(found: &ArgMatches<'a>) -> Job<'a>
     }
 }
 
+fn run<'a>(alloc: Global, found: &ArgMatches<'a>) -> Result<Job<'a>, AllocError>
+    requires { AreFound (codes "run") (rows_of (found_of found.now)) }
+    ensures { IfOk result (IsJobOf (Some (codes "run", rows_of (found_of found.now)))) }
+{
+    Ok(Job::Run {
+        disk: text_if_given(found, "IMG"),
+        steps: number(found, "N"),
+        program: text(found, "COM"),
+        words: texts_if_given(alloc, found, "WORD")?,
+    })
+}
+
 /// The job of the command of this name.
 pub(crate) fn job<'a>(
     alloc: Global,
@@ -135,6 +176,7 @@ pub(crate) fn job<'a>(
         "put" => Ok(put(found)),
         "get" => Ok(get(found)),
         "blank" => Ok(blank(found)),
+        "run" => run(alloc, found),
         _ => unreachable!(),
     }
 }

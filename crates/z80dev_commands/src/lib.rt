@@ -63,6 +63,14 @@ pub enum Job<'a> {
         mega: bool,
         image: &'a str,
     },
+    /// Runs a program: the path of the image of its disk, where one is given, the most turns that it may take, where
+    /// a number is given and else the caller's default, the path of its .COM file, and the words of its command line.
+    Run {
+        disk: Option<&'a str>,
+        steps: Option<u64>,
+        program: &'a str,
+        words: Vec<&'a str>,
+    },
 }
 
 /// The job that the words ask for, the program's name first.

@@ -3,10 +3,10 @@
 ghost use Rattle.std.specs.Prelude.{◌≡◌, IfOk, false, codes};
 ghost use Rattle.clap.specs.Words.{app_of, new_app, rule_of};
 ghost use Rattle.clap.specs.declared.builder.command.Command.TheViews.{out-Command};
-ghost use Rattle.z80dev_commands.specs.Commands.{asm_shape, bare, blank_shape, build_shape, check_shape, dir_shape, flag_rule, get_shape, link_shape, out_rule, path_rule, paths_rule, programs, put_shape, z80dev};
+ghost use Rattle.z80dev_commands.specs.Commands.{asm_shape, bare, blank_shape, build_shape, check_shape, dir_shape, flag_rule, get_shape, link_shape, number_rule, option_rule, out_rule, path_rule, paths_rule, programs, put_shape, run_shape, words_rule, z80dev};
 ghost use Rattle.z80dev_commands.specs.Private.{alone};
 
-use clap::{Arg, ArgAction, Command};
+use clap::{Arg, ArgAction, Command, value_parser};
 use std::alloc::{AllocError, Global};
 
 /// The version of the command, and the toolchain that its proofs were made with.
@@ -49,6 +49,31 @@ fn out<'a>(alloc: Global) -> Arg<'a>
         "The path of what is written, without its ending",
     )
     .long("out")
+}
+
+/// `--NAME ID`, which may be left out.
+fn option<'a>(alloc: Global, name: &'a str, id: &'a str, help: &'a str) -> Arg<'a>
+    ensures rule { rule_of result ≡ option_rule name.now id.now }
+    ensures local { result.global ≡ false }
+{
+    Arg::new(alloc, id)
+        .long(name)
+        .action(ArgAction::Set)
+        .help(help)
+}
+
+/// `--steps N`.
+fn steps<'a>(alloc: Global) -> Arg<'a>
+    ensures rule { rule_of result ≡ number_rule (codes "steps") (codes "N") }
+    ensures local { result.global ≡ false }
+{
+    option(
+        alloc,
+        "steps",
+        "N",
+        "The most turns that the program may take",
+    )
+    .value_parser(value_parser!(u64))
 }
 
 /// A flag of this name.
@@ -244,6 +269,35 @@ fn blank<'a>(alloc: Global) -> Result<Command<'a>, AllocError>
     .arg(image(alloc))
 }
 
+/// The words of the command line of a program that runs.
+fn words<'a>(alloc: Global) -> Arg<'a>
+    ensures rule { rule_of result ≡ words_rule (codes "WORD") }
+    ensures local { result.global ≡ false }
+{
+    paths(alloc, "WORD", "The words of its command line").required(false)
+}
+
+fn run<'a>(alloc: Global) -> Result<Command<'a>, AllocError>
+    ensures app { IfOk result (λ c. app_of c ≡ alone run_shape) }
+    ensures local { IfOk result (λ c. (out-Command c).has_globals ≡ false) }
+{
+    titled(
+        alloc,
+        "run",
+        "Runs a CP/M program: reads COM, IMG and standard input, prints what the program prints, writes IMG",
+        "Example: z80dev run --disk A.IMG PROG.COM FILE.TXT",
+    )
+    .arg(option(
+        alloc,
+        "disk",
+        "IMG",
+        "The image of the disk, else a blank disk",
+    ))?
+    .arg(steps(alloc))?
+    .arg(path(alloc, "COM", "The program"))?
+    .arg(words(alloc))
+}
+
 /// The command with its commands that make programs.
 fn programs<'a>(alloc: Global) -> Result<Command<'a>, AllocError>
     ensures app { IfOk result (λ c. app_of c ≡ programs) }
@@ -263,5 +317,6 @@ pub(crate) fn z80dev<'a>(alloc: Global) -> Result<Command<'a>, AllocError>
         .subcommand(dir(alloc)?)?
         .subcommand(put(alloc)?)?
         .subcommand(get(alloc)?)?
-        .subcommand(blank(alloc)?)
+        .subcommand(blank(alloc)?)?
+        .subcommand(run(alloc)?)
 }

@@ -118,6 +118,68 @@ fn jobs(rt: HostRuntime) -> Result<(), Fail> {
 }
 
 #[test]
+fn runs(rt: HostRuntime) -> Result<(), Fail> {
+    let rows = [
+        (
+            "z80dev run A.COM",
+            r#"Run { disk: None, steps: None, program: "A.COM", words: [] }"#,
+        ),
+        (
+            "z80dev run A.COM B C B",
+            r#"Run { disk: None, steps: None, program: "A.COM", words: ["B", "C", "B"] }"#,
+        ),
+        (
+            "z80dev run --disk D.IMG --steps 100 A.COM B",
+            r#"Run { disk: Some("D.IMG"), steps: Some(100), program: "A.COM", words: ["B"] }"#,
+        ),
+        (
+            "z80dev run --disk=D.IMG A.COM",
+            r#"Run { disk: Some("D.IMG"), steps: None, program: "A.COM", words: [] }"#,
+        ),
+        (
+            "z80dev run A.COM B --steps 7 C --disk D.IMG E",
+            r#"Run { disk: Some("D.IMG"), steps: Some(7), program: "A.COM", words: ["B", "C", "E"] }"#,
+        ),
+        (
+            "z80dev run A.COM -- -b --disk -- C",
+            r#"Run { disk: None, steps: None, program: "A.COM", words: ["-b", "--disk", "--", "C"] }"#,
+        ),
+        (
+            "z80dev run --steps=5 -- A.COM --steps 6",
+            r#"Run { disk: None, steps: Some(5), program: "A.COM", words: ["--steps", "6"] }"#,
+        ),
+        (
+            "z80dev run A.COM - B",
+            r#"Run { disk: None, steps: None, program: "A.COM", words: ["-", "B"] }"#,
+        ),
+        (
+            "z80dev run - asm",
+            r#"Run { disk: None, steps: None, program: "-", words: ["asm"] }"#,
+        ),
+        (
+            "z80dev run A.COM  B",
+            r#"Run { disk: None, steps: None, program: "A.COM", words: ["", "B"] }"#,
+        ),
+        (
+            "z80dev run --steps 0 A.COM",
+            r#"Run { disk: None, steps: Some(0), program: "A.COM", words: [] }"#,
+        ),
+        (
+            "z80dev run --steps +007 A.COM",
+            r#"Run { disk: None, steps: Some(7), program: "A.COM", words: [] }"#,
+        ),
+        (
+            "z80dev run --steps 18446744073709551615 A.COM",
+            r#"Run { disk: None, steps: Some(18446744073709551615), program: "A.COM", words: [] }"#,
+        ),
+    ];
+    for (line, job) in rows {
+        assert!(&rt; job_of(rt.alloc(), line)?.as_str() == job, "{line}");
+    }
+    Ok(())
+}
+
+#[test]
 fn faults(rt: HostRuntime) -> Result<(), Fail> {
     let rows = [
         ("z80dev asm", ErrorKind::MissingRequiredArgument),
@@ -154,6 +216,32 @@ fn faults(rt: HostRuntime) -> Result<(), Fail> {
         ("z80dev get a", ErrorKind::MissingRequiredArgument),
         ("z80dev blank --mega", ErrorKind::MissingRequiredArgument),
         ("z80dev blank --mega --mega a", ErrorKind::ArgumentConflict),
+        ("z80dev run", ErrorKind::MissingRequiredArgument),
+        (
+            "z80dev run --disk D.IMG --steps 5",
+            ErrorKind::MissingRequiredArgument,
+        ),
+        ("z80dev run A.COM --disk", ErrorKind::InvalidValue),
+        ("z80dev run A.COM --steps", ErrorKind::InvalidValue),
+        ("z80dev run A.COM -b", ErrorKind::UnknownArgument),
+        ("z80dev run A.COM B --frob", ErrorKind::UnknownArgument),
+        ("z80dev run --steps -1 A.COM", ErrorKind::UnknownArgument),
+        ("z80dev run --steps=-1 A.COM", ErrorKind::ValueValidation),
+        ("z80dev run --steps x A.COM", ErrorKind::ValueValidation),
+        ("z80dev run --steps 1x A.COM", ErrorKind::ValueValidation),
+        ("z80dev run --steps= A.COM", ErrorKind::ValueValidation),
+        (
+            "z80dev run --steps 18446744073709551616 A.COM",
+            ErrorKind::ValueValidation,
+        ),
+        (
+            "z80dev run --steps 1 --steps 2 A.COM",
+            ErrorKind::ArgumentConflict,
+        ),
+        (
+            "z80dev run --disk A --disk B A.COM",
+            ErrorKind::ArgumentConflict,
+        ),
         ("z80dev biuld", ErrorKind::InvalidSubcommand),
         ("z80dev --frob", ErrorKind::UnknownArgument),
         ("z80dev --version", ErrorKind::DisplayVersion),
@@ -217,6 +305,15 @@ fn helps(rt: HostRuntime) -> Result<(), Fail> {
         ("z80dev get -h", "Usage: z80dev get <IMG> <NAME> <FILE>\n"),
         ("z80dev dir -h", "\nExample: z80dev dir A.IMG\n"),
         ("z80dev blank -h", "Usage: z80dev blank [OPTIONS] <IMG>\n"),
+        (
+            "z80dev run -h",
+            "Usage: z80dev run [OPTIONS] <COM> [WORD]...\n",
+        ),
+        ("z80dev run -h", "\n      --steps <N> "),
+        (
+            "z80dev run -h",
+            "\nExample: z80dev run --disk A.IMG PROG.COM FILE.TXT\n",
+        ),
     ];
     for (line, part) in rows {
         assert!(&rt;

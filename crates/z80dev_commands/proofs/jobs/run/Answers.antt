@@ -1,0 +1,9 @@
+use Rattle.std.proofs.Common.{codes, refl}
+use Rattle.z80dev_commands.proofs.Rows.{has_text, reads_number}
+use Rattle.z80dev_commands.proofs.jobs.run.Goals as goal
+
+pub number-requires : goal.number-requires
+number-requires c = reads_number (codes "run") (codes "N") _ refl c.requires
+
+pub text-requires : goal.text-requires
+text-requires c = has_text (codes "run") (codes "COM") _ refl c.requires
