@@ -11,7 +11,11 @@ use z80dev::{
     Answer, DONE, Fault, Job, Output, REFUSED, SourceFile, Store, USAGE, Watched, WriteFailed, asm,
     build, check_texts, commands, finish, link, pipe, read_text,
 };
-use z80dev_disk::{DiskKind, Refusal, blank, dir, file_name, get, put};
+use z80dev_disk::{DiskKind, Refusal, blank, dir, file_name, get, one_file, put};
+use z80dev_run::{Ran, conclude, run_program};
+
+/// The turns of a run that names no number.
+const STEPS: u64 = 100_000_000;
 
 /// The files of the machine that the program runs on.
 #[derive(Drop)]
@@ -222,6 +226,44 @@ fn blank_image(rt: &HostRuntime, mega: bool, image: &str) -> u8 {
     finish_files(rt, image, &blank(rt.alloc(), kind))
 }
 
+/// Writes the image of a run, where it has a disk of its own, and says why it stopped, if it has not finished.
+fn end_run<W: Drop>(rt: &HostRuntime, disk: Option<&str>, ran: Ran<W>) -> u8 {
+    if let Some(path) = disk {
+        let status = match one_file(rt.alloc(), ran.image) {
+            Ok(answer) => finish_files(rt, path, &answer),
+            Err(_) => refuse_memory(rt),
+        };
+        if status != DONE {
+            return status;
+        }
+    }
+    conclude(rt.alloc(), ran.why, ran.pc, &mut Output::new(rt.stderr()))
+}
+
+/// Runs a program on a disk, on a blank one where none is given.
+fn run_file(
+    rt: &HostRuntime,
+    disk: Option<&str>,
+    steps: u64,
+    path: &str,
+    words: &[&str],
+) -> Result<u8, u8> {
+    let alloc = rt.alloc();
+    let image = match disk {
+        Some(path) => read(rt, path)?,
+        None => Vec::new(alloc),
+    };
+    let program = read(rt, path)?;
+    let input = match read_text(alloc, &mut Watched::new(rt.stdin())) {
+        Ok(text) => text,
+        Err(fault) => return Err(refuse_file(rt, "-", &fault)),
+    };
+    match run_program(alloc, &program, words, &image, &input, rt.stdout(), steps) {
+        Ok(ran) => Ok(end_run(rt, disk, ran)),
+        Err(refusal) => Err(finish_files(rt, "", &Answer::refused(alloc, refusal))),
+    }
+}
+
 /// Prints the file of the text on standard input.
 fn print_file(rt: &HostRuntime) -> u8 {
     let mut input = Watched::new(rt.stdin());
@@ -247,6 +289,12 @@ fn work(rt: &HostRuntime, job: Job<'_>) -> Result<u8, u8> {
         Job::Put { image, file, name } => put_file(rt, image, file, name),
         Job::Get { image, name, file } => get_file(rt, image, name, file),
         Job::Blank { mega, image } => Ok(blank_image(rt, mega, image)),
+        Job::Run {
+            disk,
+            steps,
+            program,
+            words,
+        } => run_file(rt, disk, steps.unwrap_or(STEPS), program, &words),
     }
 }
 
