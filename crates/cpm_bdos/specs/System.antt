@@ -1,5 +1,5 @@
 -- What stands behind the system calls.
-use Rattle.std.specs.Prelude.{ℕ, Option, None}
+use Rattle.std.specs.Prelude.{◌≡◌, ℕ, List, Option, None}
 use Rattle.cpm_console.specs.declared.terminal.Terminal.{Terminal}
 use Rattle.cpm_disk.specs.Calls.{Mounted}
 use Rattle.cpm_file_calls.specs.declared.search.Search.{Search}
@@ -16,3 +16,10 @@ pub record System (S C : Type 0) : Type 0 where
 -- column 0, the DMA buffer at 0080H, user 0, and no search
 abbrev pub new_system : {S C : Type 0} → Mounted S → C → System S C
 new_system disk console = record { disk = disk; terminal = record { console = console; column = 0 }; dma = first_dma; user = 0; search = None }
+
+-- What a stop leaves as it was, with the registers: the memory, the DMA address, the user and the search.
+pub record IsKept {S C : Type 0} (old new : System S C) (before now : List ℕ) : Type 0 where
+  pub memory : now ≡ before
+  pub dma : new.dma ≡ old.dma
+  pub user : new.user ≡ old.user
+  pub search : new.search ≡ old.search

@@ -39,10 +39,9 @@ impl<S: Sectors, C: Console> Model for Bdos<S, C> {
 }
 
 impl<S: Sectors, C: Console> Bdos<S, C> {
-    ghost use Rattle.std.specs.Prelude.{◌≡◌, ◌%◌};
-    ghost use Rattle.z80_machine.specs.State.{de};
+    ghost use Rattle.std.specs.Prelude.{◌≡◌, OnErr};
     ghost use Rattle.cpm_console.specs.Screen.{screen};
-    ghost use Rattle.cpm_bdos.specs.System.{new_system};
+    ghost use Rattle.cpm_bdos.specs.System.{IsKept, new_system};
     ghost use Rattle.cpm_bdos.specs.Answer.{Answers, BiosAnswers, CallAnswers, ConsoleAnswers, EntryAnswers, FileAnswers, RecordAnswers, SearchAnswers, SettingAnswers};
 
     /// A console at column 0, the DMA buffer at 0080H, user 0, and no search.
@@ -74,7 +73,8 @@ impl<S: Sectors, C: Console> Bdos<S, C> {
     /// [`Stop::UnsupportedFunction`] where no function has the number; others as the functions say. A stop leaves registers and
     /// memory as they were; what a console took or put stays.
     pub fn call(&mut self, cpu: &mut Cpu, memory: &mut Memory) -> Result<After, Stop>
-        ensures { CallAnswers S.sectors S.faults C.dialog self.old self.new cpu.old cpu.new memory.old memory.new result }
+        ensures answer { CallAnswers S.sectors S.faults C.dialog self.old self.new cpu.old cpu.new memory.old memory.new result }
+        ensures stopped { OnErr result ((cpu.new ≡ cpu.old) × IsKept self.old self.new memory.old memory.new) }
     {
         let Some(function) = Function::of(cpu.main.c) else {
             return Err(Stop::UnsupportedFunction(cpu.main.c));
