@@ -17,10 +17,11 @@ use z80dev_run::{Ran, conclude, run_program};
 /// The turns of a run that names no number.
 const STEPS: u64 = 100_000_000;
 
-/// The files of the machine that the program runs on.
+/// The files of the machine that the program runs on, and whether one could not be written.
 #[derive(Drop)]
 struct HostFiles<'a> {
     rt: &'a HostRuntime,
+    failed: bool,
 }
 
 impl Store for HostFiles<'_> {
@@ -28,18 +29,28 @@ impl Store for HostFiles<'_> {
 
     ghost written = { λ _. None };
 
-    /// Writes the bytes beside the file, and gives them its name when all are written.
+    ghost failed = { λ files. files.failed };
+
     fn write(&mut self, path: &str, bytes: &[u8]) -> Result<(), WriteFailed> {
-        let Ok(part) = format!(in self.rt.alloc(); "{path}.part") else {
-            return Err(WriteFailed);
-        };
-        let answer = write_new(self.rt, &part, bytes);
-        if answer.is_ok() && fs::rename(self.rt, &part, path).is_ok() {
-            return Ok(());
+        let answer = replace(self.rt, path, bytes);
+        if answer.is_err() {
+            self.failed = true;
         }
-        let _ = fs::remove_file(self.rt, &part);
-        Err(WriteFailed)
+        answer
     }
+}
+
+/// Writes the bytes beside the file, and gives them its name when all are written.
+fn replace(rt: &HostRuntime, path: &str, bytes: &[u8]) -> Result<(), WriteFailed> {
+    let Ok(part) = format!(in rt.alloc(); "{path}.part") else {
+        return Err(WriteFailed);
+    };
+    let answer = write_new(rt, &part, bytes);
+    if answer.is_ok() && fs::rename(rt, &part, path).is_ok() {
+        return Ok(());
+    }
+    let _ = fs::remove_file(rt, &part);
+    Err(WriteFailed)
 }
 
 /// Writes a file anew.
@@ -114,13 +125,14 @@ fn refuse_memory(rt: &HostRuntime) -> u8 {
 
 /// Does what a command answers.
 fn finish_files<R: Copy + Display>(rt: &HostRuntime, out: &str, answer: &Answer<R>) -> u8 {
+    let mut files = HostFiles { rt, failed: false };
     let mut output = Output::new(rt.stdout());
     let mut errors = Output::new(rt.stderr());
     finish(
         rt.alloc(),
         out,
         answer,
-        &mut HostFiles { rt },
+        &mut files,
         &mut output,
         &mut errors,
     )

@@ -91,7 +91,7 @@ fn write_files<S: Store, R>(
     files: &[NewFile],
     store: &mut S,
 ) -> Result<(), FinishFault<R>>
-    ensures { FilesEnd base.now (map file_of files.now) (S.written store.old) (S.written store.new) result }
+    ensures { FilesEnd base.now (map file_of files.now) (S.written store.old) (S.written store.new) (S.failed store.old) (S.failed store.new) result }
 {
     for file in files {
         let path = path_of(alloc, base, file.kind)?;
@@ -112,7 +112,7 @@ fn finish_all<S: Store, W: Write, R: Copy>(
 ) -> Result<(), FinishFault<R>>
     requires { output.old.failed ≡ false }
     ensures { Finishes answer.now.printed.items answer.now.refusal
-        (FilesEnd base.now (map file_of answer.now.files.items) (S.written store.old) (S.written store.new))
+        (FilesEnd base.now (map file_of answer.now.files.items) (S.written store.old) (S.written store.new) (S.failed store.old) (S.failed store.new))
         (W.contents output.old.stream) (W.contents output.new.stream) output.new.failed result }
 {
     write_files(alloc, base, &answer.files, store)?;
@@ -147,7 +147,7 @@ pub fn finish<S: Store, W: Write, E: Write, R: Copy + fmt::Display>(
     // There is one end that the status, the files, the lines and what is said all speak of.
     ensures ends { (end : Result Unit (FinishFault R)) × (result ≡ finish_status_at end)
         × Finishes answer.now.printed.items answer.now.refusal
-        (FilesEnd base.now (map file_of answer.now.files.items) (S.written store.old) (S.written store.new))
+        (FilesEnd base.now (map file_of answer.now.files.items) (S.written store.old) (S.written store.new) (S.failed store.old) (S.failed store.new))
         (W.contents output.old.stream) (W.contents output.new.stream) output.new.failed end
         × FinishSays R.output (E.contents errors.old.stream) (E.contents errors.new.stream) errors.new.failed end }
 {

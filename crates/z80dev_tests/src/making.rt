@@ -1,5 +1,7 @@
 //! What `asm`, `link` and `build` answer, and how `finish` does it.
 
+ghost use Rattle.std.specs.Prelude.{◌≡◌};
+
 use std::alloc::Global;
 use std::process::Abort;
 use std::test::Fail;
@@ -7,20 +9,20 @@ use z80dev::{
     Answer, Kind, Output, SourceFile, Store, Told, WriteFailed, asm, build, finish, link,
 };
 
-/// Files in memory, of which only so many can be written.
+/// Files in memory, of which only so many can be written, and whether one could not be.
 #[derive(Drop)]
 struct Shelf {
     alloc: Global,
     room: usize,
     files: Vec<(String, Vec<u8>)>,
+    failed: bool,
 }
 
-impl Store for Shelf {
-    ghost use Rattle.std.specs.Prelude.{None};
-
-    ghost written = { λ _. None };
-
-    fn write(&mut self, path: &str, bytes: &[u8]) -> Result<(), WriteFailed> {
+impl Shelf {
+    /// The file behind those before, if there is room.
+    fn add(&mut self, path: &str, bytes: &[u8]) -> Result<(), WriteFailed>
+        ensures { self.new.failed ≡ self.old.failed }
+    {
         if self.files.len() == self.room {
             return Err(WriteFailed);
         }
@@ -38,6 +40,22 @@ impl Store for Shelf {
     }
 }
 
+impl Store for Shelf {
+    ghost use Rattle.std.specs.Prelude.{None};
+
+    ghost written = { λ _. None };
+
+    ghost failed = { λ shelf. shelf.failed };
+
+    fn write(&mut self, path: &str, bytes: &[u8]) -> Result<(), WriteFailed> {
+        let answer = self.add(path, bytes);
+        if answer.is_err() {
+            self.failed = true;
+        }
+        answer
+    }
+}
+
 /// The answer of `finish` for an answer, on a shelf with room for so many files: the status, what is printed and said, and the files.
 fn finished(
     alloc: Global,
@@ -48,6 +66,7 @@ fn finished(
         alloc,
         room,
         files: Vec::new(alloc),
+        failed: false,
     };
     let mut output = Output::new(Vec::new(alloc));
     let mut errors = Output::new(Vec::new(alloc));
