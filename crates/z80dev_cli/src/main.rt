@@ -240,8 +240,9 @@ fn blank_image(rt: &HostRuntime, mega: bool, image: &str) -> u8 {
 
 /// Writes the image of a run, where it has a disk of its own, and says why it stopped, if it has not finished.
 fn end_run<W: Drop>(rt: &HostRuntime, disk: Option<&str>, ran: Ran<W>) -> u8 {
+    let Ran { why, pc, image, .. } = ran;
     if let Some(path) = disk {
-        let status = match one_file(rt.alloc(), ran.image) {
+        let status = match one_file(rt.alloc(), image) {
             Ok(answer) => finish_files(rt, path, &answer),
             Err(_) => refuse_memory(rt),
         };
@@ -249,7 +250,7 @@ fn end_run<W: Drop>(rt: &HostRuntime, disk: Option<&str>, ran: Ran<W>) -> u8 {
             return status;
         }
     }
-    conclude(rt.alloc(), ran.why, ran.pc, &mut Output::new(rt.stderr()))
+    conclude(rt.alloc(), why, pc, &mut Output::new(rt.stderr()))
 }
 
 /// Runs a program on a disk, on a blank one where none is given.
