@@ -1,5 +1,7 @@
 -- What a step of building a command adds.
-use Rattle.std.proofs.Common.{◌≡◌, ◌∙◌, ◌||◌, false, ap, ap₂}
+use Rattle.std.proofs.Common.{◌≡◌, ◌∙◌, ◌||◌, false, ap, ap₂, subst}
+use Rattle.std.specs.Prelude.{IfOk, Ok, Result}
+use Rattle.std.proofs.lemmas.Result.{IfOk-weaker}
 use Rattle.clap.specs.Words.{AddsArg, AddsSubcommand, App, Rule, Shape, app_of, rule_of, with_rule, with_subcommand}
 use Rattle.clap.specs.declared.builder.arg.Arg.{Arg}
 use Rattle.clap.specs.declared.builder.command.Command.{Command}
@@ -16,3 +18,12 @@ with_argument old new arg a r adds is local made = (adds.shape local ∙ ap₂ w
 pub with_command : (old sub new : Command) (a : App) (s : Shape) → AddsSubcommand old sub new → (out-Command sub).has_globals ≡ false → app_of old ≡ a → app_of sub ≡ alone s
     → app_of new ≡ with_subcommand a s
 with_command old sub new a s adds local before is = adds.shape local ∙ ap₂ with_subcommand before (ap (λ (x : App). x.top) is)
+
+-- .. of commands that memory may not have lasted for
+pub with_made : {E : Type 0} (old sub new : Result Command E) (a : App) (s : Shape) → IfOk old (λ c. app_of c ≡ a) → IfOk sub (λ c. app_of c ≡ alone s)
+    → IfOk sub (λ c. (out-Command c).has_globals ≡ false) → IfOk new (λ n. (o : Command) × (m : Command) × (old ≡ Ok o) × (sub ≡ Ok m) × AddsSubcommand o m n)
+    → IfOk new (λ c. app_of c ≡ with_subcommand a s)
+with_made {E = E} old sub new a s before is local adds = IfOk-weaker new _ _ (λ n made. with_command made.0 made.1 n a s made.4
+    (subst (λ (r : Result Command E). IfOk r (λ c. (out-Command c).has_globals ≡ false)) made.3 local)
+    (subst (λ (r : Result Command E). IfOk r (λ c. app_of c ≡ a)) made.2 before)
+    (subst (λ (r : Result Command E). IfOk r (λ c. app_of c ≡ alone s)) made.3 is)) adds

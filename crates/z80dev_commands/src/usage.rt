@@ -1,7 +1,7 @@
 //! The command as `clap` has it: its commands, and the arguments of each.
 
-ghost use Rattle.std.specs.Prelude.{◌≡◌, IfOk, false, codes};
-ghost use Rattle.clap.specs.Words.{app_of, new_app, rule_of};
+ghost use Rattle.std.specs.Prelude.{◌≡◌, IfOk, Ok, false, codes};
+ghost use Rattle.clap.specs.Words.{AddsSubcommand, app_of, new_app, rule_of};
 ghost use Rattle.clap.specs.declared.builder.command.Command.TheViews.{out-Command};
 ghost use Rattle.z80dev_commands.specs.Commands.{asm_shape, bare, blank_shape, build_shape, check_shape, dir_shape, flag_rule, get_shape, link_shape, number_rule, option_rule, out_rule, path_rule, paths_rule, programs, put_shape, run_shape, words_rule, z80dev};
 ghost use Rattle.z80dev_commands.specs.Private.{alone};
@@ -298,25 +298,33 @@ fn run<'a>(alloc: Global) -> Result<Command<'a>, AllocError>
     .arg(words(alloc))
 }
 
+/// A command with one more, where memory lasted for both.
+fn with_command<'a>(
+    command: Result<Command<'a>, AllocError>,
+    more: Result<Command<'a>, AllocError>,
+) -> Result<Command<'a>, AllocError>
+    ensures { IfOk result (λ new. (old : _) × (sub : _) × (command.entry ≡ Ok old) × (more.entry ≡ Ok sub) × AddsSubcommand old sub new) }
+{
+    command?.subcommand(more?)
+}
+
 /// The command with its commands that make programs.
 fn programs<'a>(alloc: Global) -> Result<Command<'a>, AllocError>
     ensures app { IfOk result (λ c. app_of c ≡ programs) }
 {
-    bare(alloc)?
-        .subcommand(asm(alloc)?)?
-        .subcommand(link(alloc)?)?
-        .subcommand(build(alloc)?)?
-        .subcommand(check(alloc)?)
+    let command = with_command(bare(alloc), asm(alloc));
+    let command = with_command(command, link(alloc));
+    let command = with_command(command, build(alloc));
+    with_command(command, check(alloc))
 }
 
 /// The command with all its commands.
 pub(crate) fn z80dev<'a>(alloc: Global) -> Result<Command<'a>, AllocError>
     ensures app { IfOk result (λ c. app_of c ≡ z80dev) }
 {
-    programs(alloc)?
-        .subcommand(dir(alloc)?)?
-        .subcommand(put(alloc)?)?
-        .subcommand(get(alloc)?)?
-        .subcommand(blank(alloc)?)?
-        .subcommand(run(alloc)?)
+    let command = with_command(programs(alloc), dir(alloc));
+    let command = with_command(command, put(alloc));
+    let command = with_command(command, get(alloc));
+    let command = with_command(command, blank(alloc));
+    with_command(command, run(alloc))
 }
