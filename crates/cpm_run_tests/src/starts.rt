@@ -20,12 +20,32 @@ fn stands(memory: &Memory, address: u16, bytes: &[u8]) -> bool {
 #[test]
 fn words(rt: HostRuntime) -> Result<(), Fail> {
     let rows: [(&[&[u8]], &[u8], &[u8], &[u8]); 6] = [
-        (&[b"b:x.y", b"*.com"], b"\x0C B:X.Y *.COM", b"\x02X       Y  \0\0\0\0", b"\0????????COM\0"),
+        (
+            &[b"b:x.y", b"*.com"],
+            b"\x0C B:X.Y *.COM",
+            b"\x02X       Y  \0\0\0\0",
+            b"\0????????COM\0",
+        ),
         (&[], b"\0", b"\0           \0", b"\0           \0"),
         (&[b""], b"\x01 ", b"\0           \0", b"\0           \0"),
-        (&[b"a:", b"q:"], b"\x06 A: Q:", b"\x01           \0", b"\0Q:         \0"),
-        (&[b"longername.text", b"a.b.c"], b"\x16 LONGERNAME.TEXT A.B.C", b"\0LONGERNATEX\0", b"\0A       B.C\0"),
-        (&[b"ab*cd.e*f", b"p:z"], b"\x0E AB*CD.E*F P:Z", b"\0AB??????E??\0", b"\x10Z          \0"),
+        (
+            &[b"a:", b"q:"],
+            b"\x06 A: Q:",
+            b"\x01           \0",
+            b"\0Q:         \0",
+        ),
+        (
+            &[b"longername.text", b"a.b.c"],
+            b"\x16 LONGERNAME.TEXT A.B.C",
+            b"\0LONGERNATEX\0",
+            b"\0A       B.C\0",
+        ),
+        (
+            &[b"ab*cd.e*f", b"p:z"],
+            b"\x0E AB*CD.E*F P:Z",
+            b"\0AB??????E??\0",
+            b"\x10Z          \0",
+        ),
     ];
     for (words, tail, first, second) in rows {
         let (_, memory) = start(rt.alloc(), &[], words)?;
