@@ -1,8 +1,8 @@
 -- The answer of a system call: the function is in C, its argument in DE, the value goes to HL, with A as L and B as H.
 -- (CP/M 2.2 Interface Guide, the system functions; Alteration Guide, the BIOS entry points.)
 use Rattle.std.specs.Prelude.{◌≡◌, ◌/◌, ◌%◌, ℕ, List, Option, Some, None, Result, Ok, Err, ⊤}
-use Rattle.z80_machine.specs.State.{de, with_hl, with_main}
-use Rattle.z80_machine.specs.declared.registers.Cpu.{Cpu}
+use Rattle.z80_cpu.specs.State.{de, with_hl, with_main}
+use Rattle.z80_cpu.specs.declared.registers.Cpu.{Cpu}
 use Rattle.cpm_console.specs.Dialog.{Dialog}
 use Rattle.cpm_console.specs.Line.{typed_line}
 use Rattle.cpm_console.specs.Screen.{Screen, screen}

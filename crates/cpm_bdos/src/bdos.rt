@@ -14,7 +14,7 @@ use cpm_file_calls::{Search, close, erase, make, open, rename, search_first, sea
 use cpm_image::Sectors;
 use cpm_record_calls::{read_at, read_next, set_random, size, write_at, write_next};
 use std::marker::Model;
-use z80_machine::{Cpu, Memory};
+use z80_cpu::{Cpu, Memory};
 
 /// What stands behind the system calls: a mounted disk, which is drive A, and a console, the address of the DMA buffer, the user
 /// from 0 to 31, and the last search.

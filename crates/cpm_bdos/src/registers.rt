@@ -5,7 +5,7 @@ ghost use Rattle.cpm_bdos.specs.Answer.{answered, nothing_answered, with_value};
 
 use cpm_console_calls::Reply;
 use cpm_fcb::Stop;
-use z80_machine::Cpu;
+use z80_cpu::Cpu;
 
 /// Puts the value of a call to HL, with A as L and B as H.
 pub(crate) fn put_value(cpu: &mut Cpu, value: u16)

@@ -9,7 +9,7 @@ use crate::raw::stop_of;
 use crate::reply::Reply;
 use cpm_console::{Console, Terminal};
 use cpm_fcb::{Stop, put_field};
-use z80_machine::Memory;
+use z80_cpu::Memory;
 
 /// Reads a line to a buffer in memory, whose first byte is its room: the second becomes the count of the line's bytes, which
 /// follow: function 10. Memory changes at the end alone.

@@ -7,7 +7,7 @@ ghost use Rattle.cpm_console_calls.specs.Texts.{Speaks, is_echoed, printed, put_
 use crate::raw::stop_of;
 use cpm_console::{Console, Terminal};
 use cpm_fcb::Stop;
-use z80_machine::Memory;
+use z80_cpu::Memory;
 
 /// Whether a byte is echoed when it is taken.
 fn is_echoed(byte: u8) -> bool

@@ -3,7 +3,7 @@
 ghost use Rattle.std.specs.Prelude.{◌≡◌, ◌≤◌, ◌+◌, length};
 ghost use Rattle.cpm_fcb.specs.Bytes.{bytes_at, with_bytes};
 
-use z80_machine::Memory;
+use z80_cpu::Memory;
 
 /// The bytes from an address on.
 pub fn bytes_at<const N: usize>(memory: &Memory, address: u16) -> [u8; N]

@@ -6,7 +6,7 @@ ghost use Rattle.cpm_fcb.specs.Fcbs.{has_question, name_judged};
 use crate::bytes::bytes_at;
 use crate::stop::Stop;
 use std::marker::Model;
-use z80_machine::Memory;
+use z80_cpu::Memory;
 
 /// The byte of a name, or of a drive, that stands for any, `?`.
 const QUESTION: u8 = 0x3F;

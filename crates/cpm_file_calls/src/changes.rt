@@ -8,7 +8,7 @@ use crate::opening::NOT_FOUND;
 use cpm_disk::{Disk, DiskFault, Name, Pattern};
 use cpm_fcb::{Fcb, Stop, put_field, stop_of};
 use cpm_image::Sectors;
-use z80_machine::Memory;
+use z80_cpu::Memory;
 
 /// Makes extent 0 of a new file; FCB bytes 12 to 31 become 0: function 22.
 ///

@@ -8,7 +8,7 @@ ghost use Rattle.cpm_file_calls.specs.Opening.{closed, code_of, extent_entry, ex
 use cpm_disk::{Disk, DiskKind, Name, Pattern};
 use cpm_fcb::{Fcb, Stop, put_field};
 use cpm_image::Sectors;
-use z80_machine::Memory;
+use z80_cpu::Memory;
 
 /// What a call answers that finds nothing.
 pub(crate) const NOT_FOUND: u16 = 0xFF;

@@ -9,7 +9,7 @@ use crate::search::{Search, Sought};
 use cpm_disk::{Disk, Pattern};
 use cpm_fcb::{Fcb, Stop, put_bytes, put_field};
 use cpm_image::Sectors;
-use z80_machine::Memory;
+use z80_cpu::Memory;
 
 /// The byte that stands for any, `?`.
 const QUESTION: u8 = 0x3F;

@@ -6,7 +6,7 @@ ghost use Rattle.cpm_record_calls.specs.Entries.{with_extent_entry};
 use cpm_disk::{Disk, Name};
 use cpm_fcb::put_field;
 use cpm_image::Sectors;
-use z80_machine::Memory;
+use z80_cpu::Memory;
 
 /// Puts bytes 15 to 31 of the entry of a record's extent to an FCB.
 pub(crate) fn put_entry<S: Sectors>(

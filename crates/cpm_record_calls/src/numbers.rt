@@ -8,7 +8,7 @@ use crate::place::Place;
 use cpm_disk::{Disk, DiskKind, Name};
 use cpm_fcb::{Fcb, Stop, put_field};
 use cpm_image::Sectors;
-use z80_machine::Memory;
+use z80_cpu::Memory;
 
 /// What is answered where there is no such file.
 const NO_FILE: u16 = 0xFF;

@@ -8,7 +8,7 @@ use crate::entries::put_entry;
 use cpm_disk::{Disk, DiskFault, DiskKind, Name};
 use cpm_fcb::{Fcb, Stop, bytes_at, put_bytes, put_field, stop_of};
 use cpm_image::Sectors;
-use z80_machine::Memory;
+use z80_cpu::Memory;
 
 /// What a read answers where the record was not written.
 const UNWRITTEN: u16 = 1;

@@ -10,7 +10,7 @@ use crate::place::Place;
 use cpm_disk::{Disk, DiskFault, DiskKind, Name};
 use cpm_fcb::{Fcb, Stop, bytes_at, put_bytes, put_field, stop_of};
 use cpm_image::Sectors;
-use z80_machine::Memory;
+use z80_cpu::Memory;
 
 /// What a read answers where there is no record.
 const NO_RECORD: u16 = 1;

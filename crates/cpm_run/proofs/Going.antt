@@ -2,8 +2,8 @@
 use Rattle.std.proofs.Common.{◌≡◌, ◌≢◌, ℕ, ◌+◌, ◌-◌, ◌<◌, ◌≤◌, inr, Bool, true, false, Option, Some, None, refl, sym, subst, arith}
 use Rattle.std.specs.Prelude.{◌==◌, ◌||◌, nat_le}
 use Rattle.std.proofs.lemmas.Bool.Decides.{nat_tests}
-use Rattle.z80_machine.specs.State.{Machine}
-use Rattle.z80_machine.specs.declared.outcome.Step.{Step}
+use Rattle.z80_cpu.specs.State.{Machine}
+use Rattle.z80_machine.specs.Types.{Step}
 use Rattle.z80_machine.specs.declared.runs.Watch.{Watch}
 use Rattle.z80_machine.specs.declared.runs.Stop.{Stop}
 use Rattle.z80_machine.specs.Run.{Ended, Ran, Turns, is_watched}

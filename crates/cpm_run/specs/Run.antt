@@ -1,7 +1,7 @@
 -- What a run of a program comes to.
 use Rattle.std.specs.Prelude.{◌≡◌, ◌<◌, ◌≤◌, ◌+◌, ◌⊎◌, ℕ, true, false, List, Some, Ok, Err}
-use Rattle.z80_machine.specs.State.{machine}
-use Rattle.z80_machine.specs.declared.registers.Cpu.{Cpu}
+use Rattle.z80_cpu.specs.State.{machine}
+use Rattle.z80_cpu.specs.declared.registers.Cpu.{Cpu}
 use Rattle.cpm_console.specs.Dialog.{Dialog}
 use Rattle.cpm_disk.specs.Calls.{Mounted}
 use Rattle.cpm_disk.specs.Image.{Image}

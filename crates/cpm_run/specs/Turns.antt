@@ -1,11 +1,11 @@
 -- A run of a program under CP/M, turn by turn.
 use Rattle.std.specs.Prelude.{◌≡◌, ◌+◌, ◌-◌, ◌/◌, ◌%◌, ◌==◌, ◌&&◌, ◌||◌, ℕ, Bool, false, nat_le, List, Option, Some, None, Result, Ok, Err, if◌then◌else◌}
-use Rattle.z80_machine.specs.State.{Machine, machine}
-use Rattle.z80_machine.specs.Stack.{returned}
+use Rattle.z80_cpu.specs.State.{Machine, machine}
+use Rattle.z80_cpu.specs.Stack.{returned}
 use Rattle.z80_machine.specs.Turn.{IsTurn as IsStep}
-use Rattle.z80_machine.specs.declared.outcome.Step.{Step}
-use Rattle.z80_machine.specs.declared.outcome.Step.TheVariants as step
-use Rattle.z80_machine.specs.declared.registers.Cpu.{Cpu}
+use Rattle.z80_machine.specs.Types.{Step}
+use Rattle.z80_turns.specs.declared.outcome.Step.TheVariants as step
+use Rattle.z80_cpu.specs.declared.registers.Cpu.{Cpu}
 use Rattle.cpm_console.specs.Dialog.{Dialog}
 use Rattle.cpm_disk.specs.Image.{Image}
 use Rattle.cpm_fcb.specs.declared.stop.Stop.{Stop}

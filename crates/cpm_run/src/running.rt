@@ -1,7 +1,7 @@
 //! Runs.
 
 ghost use Rattle.std.specs.Prelude.{◌≡◌, map};
-ghost use Rattle.z80_machine.specs.State.{machine};
+ghost use Rattle.z80_cpu.specs.State.{machine};
 ghost use Rattle.cpm_run.specs.Run.{Ends, IsRun};
 
 use crate::ending::{RunEnd, Why, unstarted};

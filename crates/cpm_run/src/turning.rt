@@ -1,9 +1,9 @@
 //! One turn of a run.
 
 ghost use Rattle.std.specs.Prelude.{◌≡◌};
-ghost use Rattle.z80_machine.specs.State.{machine};
+ghost use Rattle.z80_cpu.specs.State.{machine};
 ghost use Rattle.z80_machine.specs.Turn.{IsTurn as IsStep};
-ghost use Rattle.z80_machine.specs.declared.outcome.Step.{Step};
+ghost use Rattle.z80_machine.specs.Types.{Step};
 ghost use Rattle.cpm_run.specs.Turns.{Comes, IsTurn, TurnAt, Call, Entry, Program, State, stepped};
 
 use crate::ending::Why;

@@ -1,8 +1,8 @@
 -- The state in which a program begins under CP/M 2.2.
 use Rattle.std.specs.Prelude.{◌≡◌, ◌*◌, ◌≤◌, ◌<◌, ℕ, List, [], ◌∷◌, Result, Ok, Err, length, replicate, slice_index_or, ⊤}
 use Rattle.std.specs.List.{flat_map, range_with_len}
-use Rattle.z80_machine.specs.declared.registers.Cpu.{Cpu}
-use Rattle.z80_machine.specs.Cleared.{cleared}
+use Rattle.z80_cpu.specs.declared.registers.Cpu.{Cpu}
+use Rattle.z80_cpu.specs.Cleared.{cleared}
 use Rattle.cpm_fcb.specs.Bytes.{with_bytes}
 use Rattle.cpm_start.specs.declared.limits.TheConstants.{LONGEST_FILE, LONGEST_TAIL}
 use Rattle.cpm_start.specs.declared.fault.StartFault.{StartFault}

@@ -10,7 +10,7 @@ use crate::limits::{LONGEST_FILE, LONGEST_TAIL};
 use crate::words::{control, tail_of, upper};
 use cpm_fcb::put_bytes;
 use std::alloc::{AllocError, Global};
-use z80_machine::{Cpu, Memory};
+use z80_cpu::{Cpu, Memory};
 
 /// JP to where the BIOS has its warm start.
 const TO_BIOS: [u8; 3] = [0xC3, 0x03, 0xFF];

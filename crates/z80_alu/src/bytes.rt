@@ -56,7 +56,7 @@ impl Flags {
 
     /// The flags of AND, XOR and OR.
     #[inline(always)]
-    fn set_logic(&mut self, value: u8, half_carry: bool)
+    pub fn set_logic(&mut self, value: u8, half_carry: bool)
         ensures { self.new ≡ logic_flags value half_carry self.old }
     {
         self.set_parity(value, half_carry);

@@ -4,7 +4,7 @@ use Rattle.std.proofs.lemmas.List.{take-append-drop, take-append-le, take_all, a
 use Rattle.std.proofs.lemmas.Bool.{cases_lt}
 use Rattle.z80_instr.specs.Codes.{Codes}
 use Rattle.z80_machine.specs.Types.{Instr, Step}
-use Rattle.z80_machine.specs.State.{Machine}
+use Rattle.z80_cpu.specs.State.{Machine}
 use Rattle.z80_machine.specs.Turn.{StandsAtPc, IsTurnOf, IsTurn}
 
 abbrev pub Prefix : Type 0

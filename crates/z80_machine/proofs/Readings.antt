@@ -4,7 +4,7 @@ use Rattle.z80_instr.specs.Codes.{Codes}
 use Rattle.z80_table.specs.Reading.{read}
 use Rattle.z80_table.specs.declared.DecodeFault.{DecodeFault}
 use Rattle.z80_machine.specs.Types.{Instr, Step}
-use Rattle.z80_machine.specs.State.{Machine}
+use Rattle.z80_cpu.specs.State.{Machine}
 use Rattle.z80_machine.specs.Turn.{bytes_at_pc, StandsAtPc, IsTurnOf, IsTurn}
 use Rattle.z80_machine.specs.Private.Opcodes.{AreBytes, IsTurnBy}
 use Rattle.z80_machine.proofs.AtPc.{stands}

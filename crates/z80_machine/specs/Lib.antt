@@ -1,13 +1,4 @@
 pub mod Types
-pub mod Cleared
-pub mod State
-pub mod Operands
-pub mod Stack
-pub mod Exchange
-pub mod Arithmetic
-pub mod Jumps
-pub mod Blocks
-pub mod Effect
 pub mod Turn
 pub mod Run
 pub mod Private

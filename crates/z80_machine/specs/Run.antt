@@ -3,7 +3,7 @@ use Rattle.std.specs.Prelude.{◌≡◌, ◌<◌, ℕ, ◌+◌, Bool, true, fals
 use Rattle.z80_machine.specs.Types.{Step}
 use Rattle.z80_machine.specs.declared.runs.Watch.{Watch}
 use Rattle.z80_machine.specs.declared.runs.Stop.{Stop}
-use Rattle.z80_machine.specs.State.{Machine}
+use Rattle.z80_cpu.specs.State.{Machine}
 use Rattle.z80_machine.specs.Turn.{IsTurn}
 
 abbrev pub is_watched : Watch → ℕ → Bool

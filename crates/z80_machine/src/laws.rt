@@ -1,7 +1,7 @@
 //! Laws of a turn, as functions that do nothing: their calls bring the clauses.
 ghost use Rattle.std.specs.Prelude.{◌≡◌, ◌↔◌, ℕ};
 ghost use Rattle.z80_machine.specs.Types.{Instr, Step};
-ghost use Rattle.z80_machine.specs.State.{Machine};
+ghost use Rattle.z80_cpu.specs.State.{Machine};
 ghost use Rattle.z80_machine.specs.Turn.{StandsAtPc, IsTurn, IsTurnOf};
 
 /// One instruction at the most stands at PC.

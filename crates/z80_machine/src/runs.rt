@@ -1,12 +1,11 @@
 //! Many turns at once.
 ghost use Rattle.std.specs.Prelude.{◌≡◌};
-ghost use Rattle.z80_machine.specs.State.{machine};
+ghost use Rattle.z80_cpu.specs.State.{machine};
 ghost use Rattle.z80_machine.specs.Run.{is_watched, Ran};
 
-use crate::memory::Memory;
-use crate::outcome::Step;
-use crate::registers::Cpu;
 use crate::turn::step;
+use z80_cpu::{Cpu, Memory};
+use z80_turns::outcome::Step;
 
 /// Addresses at which a run stops: those from `from` on, and `at`.
 #[derive(Clone, Copy, Debug, PartialEq, Eq)]

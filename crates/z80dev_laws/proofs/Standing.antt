@@ -6,7 +6,7 @@ use Rattle.std.specs.Option.{option_map}
 use Rattle.std.proofs.lemmas.Option.{slice_get-map, slice_get_within}
 use Rattle.z80_instr.specs.declared.Instr.{Instr}
 use Rattle.z80_instr.specs.Codes.{Codes}
-use Rattle.z80_machine.specs.State.{Machine}
+use Rattle.z80_cpu.specs.State.{Machine}
 use Rattle.z80_machine.specs.Turn.{bytes_at_pc, StandsAtPc}
 use Rattle.ruler.specs.Choice.{Choice, size_of, IsValid, bytes_before, place}
 use Rattle.asm_reads.specs.Statement.{Statement}

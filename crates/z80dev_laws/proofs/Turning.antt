@@ -8,13 +8,13 @@ use Rattle.z80_instr.specs.declared.Instr.{Instr}
 use Rattle.z80_instr.specs.declared.ShortCond.{ShortCond}
 use Rattle.z80_instr.specs.Codes.{is_signed_byte, in_range}
 use Rattle.z80_instr.specs.Table.{canonical}
-use Rattle.z80_machine.specs.Types.{Flags}
-use Rattle.z80_machine.specs.declared.registers.Cpu.{Cpu}
-use Rattle.z80_machine.specs.declared.outcome.Step.{Step}
-use Rattle.z80_machine.specs.State.{Machine, on_cpu, machine, with_main, with_pc, one_less, up_by, displaced}
-use Rattle.z80_machine.specs.Operands.{condition_holds, short_condition_holds}
-use Rattle.z80_machine.specs.Jumps.{jumped_if}
-use Rattle.z80_machine.specs.Effect.{effect}
+use Rattle.z80_cpu.specs.Types.{Flags}
+use Rattle.z80_cpu.specs.declared.registers.Cpu.{Cpu}
+use Rattle.z80_machine.specs.Types.{Step}
+use Rattle.z80_cpu.specs.State.{Machine, on_cpu, machine, with_main, with_pc, one_less, up_by, displaced}
+use Rattle.z80_cpu.specs.Operands.{condition_holds, short_condition_holds}
+use Rattle.z80_cpu.specs.Jumps.{jumped_if}
+use Rattle.z80_cpu.specs.Effect.{effect}
 use Rattle.z80_machine.specs.Turn.{StandsAtPc, carried_out, IsTurnOf, IsTurn}
 use Rattle.ruler.specs.Choice.{Choice, IsValid, size_of, bytes_before, place}
 use Rattle.z80_instr.specs.declared.Branch.{Branch}

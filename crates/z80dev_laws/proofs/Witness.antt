@@ -6,9 +6,9 @@ use Rattle.ruler.specs.Choice.{Choice, IsSettled, ShortsReach, IsValid, bytes_be
 use Rattle.asm_reads.specs.Statement.{Statement, Jump}
 use Rattle.asm_reads.specs.Pieces.{IsPiece}
 use Rattle.zlink.specs.Reads.{Reads, shape}
-use Rattle.z80_machine.specs.State.{Machine, machine, with_pc}
-use Rattle.z80_machine.specs.declared.registers.Cpu.{Cpu}
-use Rattle.z80_machine.specs.declared.outcome.Step.{Step}
+use Rattle.z80_cpu.specs.State.{Machine, machine, with_pc}
+use Rattle.z80_cpu.specs.declared.registers.Cpu.{Cpu}
+use Rattle.z80_machine.specs.Types.{Step}
 use Rattle.z80dev_laws.specs.Turns.{IsAt, Walks}
 
 abbrev c : Choice

@@ -2,12 +2,12 @@
 use Rattle.std.specs.Prelude.{◌≡◌, ℕ, zero, suc, ◌+◌, Bool, true, if◌then◌else◌, List, Option, Some, None, length, nat_eq, slice_get, slice_range}
 use Rattle.z80_instr.specs.declared.Instr.{Instr}
 use Rattle.z80_instr.specs.declared.ShortCond.{ShortCond}
-use Rattle.z80_machine.specs.Types.{Flags}
-use Rattle.z80_machine.specs.declared.registers.Cpu.{Cpu}
-use Rattle.z80_machine.specs.declared.outcome.Step.{Step}
-use Rattle.z80_machine.specs.State.{Machine, on_cpu, with_main, with_pc, one_less}
-use Rattle.z80_machine.specs.Operands.{short_condition_holds}
-use Rattle.z80_machine.specs.Effect.{effect}
+use Rattle.z80_cpu.specs.Types.{Flags}
+use Rattle.z80_cpu.specs.declared.registers.Cpu.{Cpu}
+use Rattle.z80_machine.specs.Types.{Step}
+use Rattle.z80_cpu.specs.State.{Machine, on_cpu, with_main, with_pc, one_less}
+use Rattle.z80_cpu.specs.Operands.{short_condition_holds}
+use Rattle.z80_cpu.specs.Effect.{effect}
 use Rattle.z80_machine.specs.Turn.{IsTurn}
 use Rattle.ruler.specs.Choice.{Choice, place}
 use Rattle.z80_instr.specs.declared.Branch.{Branch}

@@ -2,8 +2,8 @@
 ghost use Rattle.std.specs.Prelude.{◌≡◌, ◌↔◌, ℕ, ◌+◌, ◌<◌, ◌≤◌, List, Option, length, slice_index};
 ghost use Rattle.z80_instr.specs.declared.Instr.{Instr};
 ghost use Rattle.z80_instr.specs.declared.ShortCond.{ShortCond};
-ghost use Rattle.z80_machine.specs.declared.outcome.Step.{Step};
-ghost use Rattle.z80_machine.specs.State.{Machine, byte_at, on_cpu};
+ghost use Rattle.z80_machine.specs.Types.{Step};
+ghost use Rattle.z80_cpu.specs.State.{Machine, byte_at, on_cpu};
 ghost use Rattle.z80_machine.specs.Turn.{IsTurn};
 ghost use Rattle.ruler.specs.Choice.{Choice, IsValid, place};
 ghost use Rattle.z80_instr.specs.declared.Branch.{Branch};

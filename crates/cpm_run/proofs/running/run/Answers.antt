@@ -1,5 +1,5 @@
 use Rattle.std.proofs.Common.{inl, refl}
-use Rattle.z80_machine.specs.State.{machine}
+use Rattle.z80_cpu.specs.State.{machine}
 use Rattle.cpm_run.proofs.Going.{at, ends_from}
 use Rattle.cpm_run.proofs.running.run.Goals as goal
 

@@ -1,6 +1,6 @@
 use Rattle.std.proofs.Common.{◌+◌, ◌-◌, inl, inr, refl, sym, ◌∙◌, arith, None, Some}
-use Rattle.z80_machine.specs.State.{machine}
-use Rattle.z80_machine.specs.declared.outcome.Step.{Step}
+use Rattle.z80_cpu.specs.State.{machine}
+use Rattle.z80_machine.specs.Types.{Step}
 use Rattle.z80_machine.specs.declared.runs.Stop.{Stop}
 use Rattle.cpm_run.specs.declared.ending.Why.{Why}
 use Rattle.cpm_run.specs.Turns.Goes.{none, more}

@@ -1,5 +1,5 @@
 use Rattle.std.proofs.Common.{◌≤◌, ◌-◌}
-use Rattle.z80_machine.specs.State.{machine}
+use Rattle.z80_cpu.specs.State.{machine}
 use Rattle.cpm_run.specs.Turns.{Goes}
 use Rattle.cpm_run.proofs.running.turns_of.Given as goal
 

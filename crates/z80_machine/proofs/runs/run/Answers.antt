@@ -1,5 +1,5 @@
 use Rattle.std.proofs.Common.{sym, ◌∙◌, arith}
-use Rattle.z80_machine.specs.State.{machine}
+use Rattle.z80_cpu.specs.State.{machine}
 use Rattle.z80_machine.specs.Run.Turns.{none, more}
 use Rattle.z80_machine.proofs.runs.run.Goals as goal
 

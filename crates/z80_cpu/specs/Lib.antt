@@ -1,0 +1,10 @@
+pub mod Types
+pub mod Cleared
+pub mod State
+pub mod Operands
+pub mod Stack
+pub mod Exchange
+pub mod Arithmetic
+pub mod Jumps
+pub mod Blocks
+pub mod Effect

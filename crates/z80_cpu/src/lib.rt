@@ -1,0 +1,26 @@
+//! The registers of the Zilog Z80 and 64 KB of memory, and what each documented instruction does to them, by the Z80 CPU User
+//! Manual (UM0080).
+//!
+//! [`Cpu`] has the registers, [`Memory`] the bytes, and [`Cpu::execute`] carries out an instruction, PC being at the one that
+//! follows. Where the next instruction is found is another crate's matter. Time, interrupts and ports are left out: `IN` gives
+//! FFH, `OUT` goes nowhere, and R is a plain byte.
+#![tactic(auto)]
+
+mod arithmetic;
+mod blocks;
+mod conditions;
+mod display;
+mod exchange;
+mod execute;
+mod jumps;
+mod memory;
+mod operands;
+mod registers;
+mod rotations;
+mod stack;
+mod words;
+
+pub use memory::{MEMORY_SIZE, Memory};
+pub use operands::displaced;
+pub use registers::{Cpu, Registers};
+pub use z80_alu::Flags;

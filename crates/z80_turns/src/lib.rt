@@ -1,0 +1,49 @@
+//! The turn of each documented instruction of the Z80 that an emulator meets often, as a function that knows its registers: PC is
+//! moved behind the instruction, which is then carried out. Which of them is due is another crate's matter.
+#![tactic(auto)]
+
+mod bits;
+mod counts;
+mod extended;
+mod indexed;
+mod jumps;
+mod loads;
+mod numbers;
+mod operations;
+pub mod outcome;
+mod words;
+
+pub use bits::{
+    turn_bit, turn_bit_at_hl, turn_reset, turn_reset_at_hl, turn_rotate, turn_rotate_at_hl,
+    turn_set, turn_set_at_hl,
+};
+pub use counts::{turn_decrement, turn_decrement_at_hl, turn_increment, turn_increment_at_hl};
+pub use extended::{
+    turn_add_pair_with_carry, turn_behind_prefix, turn_block, turn_load_pair_from, turn_negate,
+    turn_store_pair, turn_subtract_pair_with_carry,
+};
+pub use indexed::{
+    turn_add_index, turn_decrement_index, turn_decrement_indexed, turn_exchange_index,
+    turn_increment_index, turn_increment_indexed, turn_jump_index, turn_load_byte_indexed,
+    turn_load_index, turn_load_index_from, turn_load_indexed, turn_load_sp, turn_operate_indexed,
+    turn_pop_index, turn_push_index, turn_store_index, turn_store_indexed,
+};
+pub use jumps::{
+    turn_call, turn_call_if, turn_djnz, turn_jump, turn_jump_hl, turn_jump_if, turn_jump_relative,
+    turn_jump_relative_if, turn_ret, turn_ret_if,
+};
+pub use loads::{
+    turn_load, turn_load_a, turn_load_a_at, turn_load_at_hl, turn_load_byte, turn_load_byte_at_hl,
+    turn_store, turn_store_a, turn_store_a_at,
+};
+pub use numbers::next_byte;
+pub use operations::{
+    turn_add, turn_add_byte, turn_add_carry_and_byte, turn_add_with_carry, turn_and, turn_and_byte,
+    turn_compare, turn_compare_byte, turn_nop, turn_operate_at_hl, turn_or, turn_or_byte,
+    turn_subtract, turn_subtract_byte, turn_subtract_carry_and_byte, turn_subtract_with_carry,
+    turn_whole, turn_xor, turn_xor_byte,
+};
+pub use words::{
+    turn_add_hl, turn_decrement_word, turn_increment_word, turn_load_hl, turn_load_word, turn_pop,
+    turn_push, turn_store_hl,
+};
