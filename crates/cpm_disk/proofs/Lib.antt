@@ -13,3 +13,4 @@ pub mod Others
 pub mod Maps
 pub mod Written
 pub mod Stopped
+pub mod Remembered

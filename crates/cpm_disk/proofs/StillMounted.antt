@@ -1,14 +1,16 @@
 -- How calls end.
-use Rattle.std.proofs.Common.{◌≡◌, ◌⊎◌, ℕ, Bool, true, List, ◌++◌, drop, length, slice_set, take, sym, ap, subst, ◌∙◌, inl, inr, take_at, true≢false}
+use Rattle.std.proofs.Common.{◌≡◌, ◌⊎◌, ℕ, Bool, true, false, List, None, Option, Some, ◌++◌, drop, length, slice_set, take, sym, ap, subst, ◌∙◌, inl, inr, take_at, true≢false}
 use Rattle.cpm_image.specs.Kind.{entry_count}
 use Rattle.cpm_image.specs.declared.kind.DiskKind.{DiskKind}
 use Rattle.cpm_directory.specs.declared.entry.Entry.{Entry}
 use Rattle.cpm_directory.specs.Entries.{at}
+use Rattle.cpm_directory.specs.Searches.{file_is_read_only}
 use Rattle.cpm_operations.specs.declared.placement.Placement.{Placement}
 use Rattle.cpm_operations.specs.Kept.{IsBetween, IsKeptBy, StaysSound}
 use Rattle.cpm_disk.specs.Calls.{Changed, PartlyChanged, PartlyWritten, Written}
 use Rattle.cpm_disk.specs.Image.{Image, IsOfDirectory, SameBut, directory}
 use Rattle.cpm_disk.specs.Private.State.{IsMounted}
+use Rattle.cpm_disk.specs.declared.writable.Writable.{Writable}
 use Rattle.cpm_disk.proofs.Places.{same_all}
 
 pub partly : (kind : DiskKind) (old new : Image) (entries : List Entry) → (new ≡ old) ⊎ Changed kind old new entries → PartlyChanged kind old new entries
@@ -23,21 +25,23 @@ pub whole : (n : ℕ) (new items : List Entry) → length new ≡ n → take n (
 whole n new items long = take_at new (drop (length new) items) n long
 
 -- a disk whose entries changed is mounted as before
-pub mounted_changed : (kind : DiskKind) (image new : Image) (entries changed items : List Entry) (failed : Bool) → IsMounted kind image entries failed → StaysSound kind (directory kind image) changed → Changed kind image new changed → items ≡ changed → length changed ≡ entry_count kind → IsMounted kind new items failed
-mounted_changed kind image new entries changed items failed was kept made same long = record {
+pub mounted_changed : (kind : DiskKind) (image new : Image) (entries changed items : List Entry) (failed : Bool) (known : Option Writable) → IsMounted kind image entries failed known → StaysSound kind (directory kind image) changed → Changed kind image new changed → items ≡ changed → length changed ≡ entry_count kind → IsMounted kind new items failed None
+mounted_changed kind image new entries changed items failed known was kept made same long = record {
   count = made.rest.count ∙ was.count;
   sound = kept (directory kind new) (λ k. inr (ap (λ es. at es k) made.entries_are));
   size = ap length same ∙ long;
   entries_are = λ _. same ∙ sym made.entries_are;
+  may_write = λ _. tt;
 }
 
 -- and one that was stopped keeps the rules
-pub mounted_partly : (kind : DiskKind) (image new : Image) (entries changed items : List Entry) (failed : Bool) → IsMounted kind image entries failed → StaysSound kind (directory kind image) changed → PartlyChanged kind image new changed → length items ≡ entry_count kind → IsMounted kind new items true
-mounted_partly kind image new entries changed items failed was kept left long = record {
+pub mounted_partly : (kind : DiskKind) (image new : Image) (entries changed items : List Entry) (failed : Bool) (known now : Option Writable) → IsMounted kind image entries failed known → StaysSound kind (directory kind image) changed → PartlyChanged kind image new changed → length items ≡ entry_count kind → IsMounted kind new items true now
+mounted_partly kind image new entries changed items failed known now was kept left long = record {
   count = left.rest.count ∙ was.count;
   sound = kept (directory kind new) left.between;
   size = long;
   entries_are = λ failed_is. absurd (true≢false failed_is);
+  may_write = λ failed_is. absurd (true≢false failed_is);
 }
 
 -- what a stopped write leaves of the directory
@@ -49,18 +53,20 @@ write_count : (kind : DiskKind) (old new : Image) (p : Placement) (i : ℕ) (byt
 write_count kind old new p i bytes (inl put) = put.0.rest.count
 write_count kind old new p i bytes (inr none) = none.1.count
 
-pub mounted_written : (kind : DiskKind) (image new : Image) (entries items : List Entry) (failed : Bool) (user : ℕ) (name : List ℕ) (p : Placement) (i : ℕ) (bytes : List ℕ) → IsMounted kind image entries failed → IsKeptBy kind user name (directory kind image) p → Written kind image new p i bytes → items ≡ slice_set (directory kind image) p.number p.entry → length items ≡ entry_count kind → IsMounted kind new items failed
-mounted_written kind image new entries items failed user name p i bytes was kept made same long = record {
+pub mounted_written : (kind : DiskKind) (image new : Image) (entries items : List Entry) (failed : Bool) (known : Option Writable) (user : ℕ) (name : List ℕ) (p : Placement) (i : ℕ) (bytes : List ℕ) → IsMounted kind image entries failed known → IsKeptBy kind user name (directory kind image) p → Written kind image new p i bytes → items ≡ slice_set (directory kind image) p.number p.entry → length items ≡ entry_count kind → file_is_read_only user name (directory kind new) ≡ false → IsMounted kind new items failed (Some (record { user = user; name = name }))
+mounted_written kind image new entries items failed known user name p i bytes was kept made same long free = record {
   count = made.data_are.rest.count ∙ was.count;
   sound = kept.sound (directory kind new) (λ k. inr (ap (λ es. at es k) made.entries_are));
   size = long;
   entries_are = λ _. same ∙ sym made.entries_are;
+  may_write = λ _. ap (file_is_read_only user name) (same ∙ sym made.entries_are) ∙ free;
 }
 
-pub mounted_partly_written : (kind : DiskKind) (image new : Image) (entries items : List Entry) (failed : Bool) (user : ℕ) (name : List ℕ) (p : Placement) (i : ℕ) (bytes : List ℕ) → IsMounted kind image entries failed → IsKeptBy kind user name (directory kind image) p → PartlyWritten kind image new p i bytes → length items ≡ entry_count kind → IsMounted kind new items true
-mounted_partly_written kind image new entries items failed user name p i bytes was kept left long = record {
+pub mounted_partly_written : (kind : DiskKind) (image new : Image) (entries items : List Entry) (failed : Bool) (known : Option Writable) (user : ℕ) (name : List ℕ) (p : Placement) (i : ℕ) (bytes : List ℕ) → IsMounted kind image entries failed known → IsKeptBy kind user name (directory kind image) p → PartlyWritten kind image new p i bytes → length items ≡ entry_count kind → IsMounted kind new items true known
+mounted_partly_written kind image new entries items failed known user name p i bytes was kept left long = record {
   count = write_count kind image new p i bytes left ∙ was.count;
   sound = kept.sound (directory kind new) (write_between kind image new p i bytes left);
   size = long;
   entries_are = λ failed_is. absurd (true≢false failed_is);
+  may_write = λ failed_is. absurd (true≢false failed_is);
 }

@@ -8,12 +8,13 @@ use crate::block::write_all;
 use crate::change::{Change, change_all};
 use crate::reader::read_entries;
 use crate::records::{read_record, store};
+use crate::writable::{Writable, is_known};
 use cpm_directory::laws::is_name;
 use cpm_directory::{
     DiskFault, Entry, Listed, Name, Pattern, find, judge, list, position_of, size,
 };
 use cpm_image::{DiskKind, Sectors};
-use cpm_operations::{creation, erasure, reading, renaming, writing};
+use cpm_operations::{creation, erasure, extent_near, reading_at, renaming, writing_at};
 use std::alloc::Global;
 use std::marker::Model;
 
@@ -30,6 +31,10 @@ pub struct Disk<S: Sectors> {
     kind: DiskKind,
     entries: Vec<Entry>,
     failed: bool,
+    /// The entry of the last record that was read or written, at which the next one's is looked for first. Nothing rests on it.
+    near: u16,
+    /// The file that was written last, where no other call has changed the directory since.
+    writable: Option<Writable>,
 }
 
 impl<S: Sectors> Model for Disk<S> {
@@ -37,7 +42,7 @@ impl<S: Sectors> Model for Disk<S> {
 
     ghost view = { λ d. record { device = d.device; kind = d.kind; failed = d.failed } };
 
-    ghost invariant = { λ d. IsMounted d.kind (S.sectors d.device) d.entries.items d.failed };
+    ghost invariant = { λ d. IsMounted d.kind (S.sectors d.device) d.entries.items d.failed d.writable };
 }
 
 impl<S: Sectors> Disk<S> {
@@ -76,6 +81,8 @@ impl<S: Sectors> Disk<S> {
                     kind,
                     entries,
                     failed: false,
+                    near: 0,
+                    writable: None,
                 }),
                 Err(fault) => Err((fault, device)),
             },
@@ -171,6 +178,7 @@ impl<S: Sectors> Disk<S> {
         // A law: a file is found by a name whose bytes are below 80H.
         is_name(name);
         let (number, entry) = creation(&self.entries, user, name)?;
+        self.writable = None;
         match store(
             &mut self.device,
             self.kind,
@@ -204,6 +212,7 @@ impl<S: Sectors> Disk<S> {
             return Err(DiskFault::Failed);
         }
         let count = erasure(&self.entries, user, &pattern.name)?;
+        self.writable = None;
         let change = Change::Erase {
             user,
             pattern: pattern.name,
@@ -238,6 +247,7 @@ impl<S: Sectors> Disk<S> {
         is_name(old);
         is_name(new);
         renaming(&self.entries, user, old, new)?;
+        self.writable = None;
         let change = Change::Rename {
             user,
             old: *old,
@@ -273,10 +283,14 @@ impl<S: Sectors> Disk<S> {
         if self.failed {
             return Err(DiskFault::Failed);
         }
-        let place = reading(self.kind, &self.entries, user, name, number)?;
+        let at = extent_near(self.kind, &self.entries, self.near, user, name, number);
+        let place = reading_at(self.kind, &self.entries, at, user, name, number)?;
         let mut bytes = [0; 128];
         match read_record(&mut self.device, self.kind, place, &mut bytes) {
-            Ok(()) => Ok(bytes),
+            Ok(()) => {
+                self.near = at.unwrap_or(self.near);
+                Ok(bytes)
+            }
             Err(_) => {
                 self.failed = true;
                 Err(DiskFault::Fault)
@@ -313,7 +327,9 @@ impl<S: Sectors> Disk<S> {
         if self.failed {
             return Err(DiskFault::Failed);
         }
-        let place = writing(self.kind, &self.entries, user, name, number)?;
+        let at = extent_near(self.kind, &self.entries, self.near, user, name, number);
+        let may_write = is_known(&self.writable, user, name);
+        let place = writing_at(self.kind, &self.entries, at, may_write, user, name, number)?;
         match write_all(
             &mut self.device,
             self.kind,
@@ -322,7 +338,11 @@ impl<S: Sectors> Disk<S> {
             number % u32::from(self.kind.block_records()),
             bytes,
         ) {
-            Ok(()) => Ok(()),
+            Ok(()) => {
+                self.near = place.number;
+                self.writable = Some(Writable { user, name: *name });
+                Ok(())
+            }
             Err(_) => {
                 self.failed = true;
                 Err(DiskFault::Fault)

@@ -6,6 +6,7 @@ mod change;
 mod disk;
 mod reader;
 mod records;
+mod writable;
 
 pub use cpm_directory::{DiskFault, Listed, Name, Pattern};
 pub use cpm_image::DiskKind;

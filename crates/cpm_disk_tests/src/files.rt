@@ -1,8 +1,9 @@
 //! What the calls make of a directory.
 
-use crate::calls::Call;
-use crate::support::{BLANK, Row, assert_entries, disk_of, erase, image_of, mounted, read, write};
 use cpm_disk::{Disk, DiskFault, Listed, Name};
+use cpm_disk_calls::{
+    BLANK, Call, Row, assert_entries, disk_of, erase, image_of, mounted, read, write,
+};
 use cpm_image::{MemoryImage, Sectors, logical};
 use std::alloc::Global;
 use std::process::Abort;
@@ -144,6 +145,41 @@ fn new_extent(rt: HostRuntime) -> Result<(), Fail> {
     write(&mut disk, &[(FILE, 4_095, 2)])?;
     assert_eq!(rt; read(&mut disk, FILE, 4_095), Ok([2; 128]));
     assert_eq!(rt; disk.size(0, &Name::new(FILE)), Some(4_096));
+    Ok(())
+}
+
+/// One file is used after another, and under another name: what was found of the last one is of no use then.
+#[test]
+fn one_file_after_another(rt: HostRuntime) -> Result<(), Fail> {
+    let mut disk = disk_of(&rt, rt.alloc(), &[])?;
+    for (user, call, wanted) in [
+        (0, Call::Create(FILE), Ok(0)),
+        (0, Call::Write(FILE, 0, 1), Ok(0)),
+        (1, Call::Read(FILE, 0), Err(DiskFault::NotFound)),
+        (1, Call::Write(FILE, 0, 2), Err(DiskFault::NotFound)),
+        (0, Call::Create(OTHER), Ok(1)),
+        (0, Call::Write(OTHER, 0, 3), Ok(0)),
+        (0, Call::Write(FILE, 128, 4), Ok(0)),
+        (0, Call::Write(OTHER, 1, 5), Ok(0)),
+        (0, Call::Write(FILE, 1, 6), Ok(0)),
+        (0, Call::Rename(FILE, BIG), Ok(0)),
+        (0, Call::Write(FILE, 0, 7), Err(DiskFault::NotFound)),
+        (0, Call::Create(FILE), Ok(3)),
+        (0, Call::Write(FILE, 0, 8), Ok(0)),
+        (0, Call::Read(BIG, 0), Ok(1)),
+        (0, Call::Read(FILE, 0), Ok(8)),
+        (0, Call::Read(FILE, 1), Err(DiskFault::Unwritten)),
+        (0, Call::Read(FILE, 128), Err(DiskFault::NoExtent)),
+        (0, Call::Read(BIG, 128), Ok(4)),
+        (0, Call::Read(BIG, 1), Ok(6)),
+        (0, Call::Read(OTHER, 1), Ok(5)),
+        (0, Call::Erase(FILE), Ok(1)),
+        (0, Call::Read(FILE, 0), Err(DiskFault::NotFound)),
+        (0, Call::Write(FILE, 0, 9), Err(DiskFault::NotFound)),
+    ] {
+        assert!(rt; user < 32);
+        assert_eq!(rt; call.make_for(user, &mut disk), wanted, "{call:?}");
+    }
     Ok(())
 }
 

@@ -1,9 +1,8 @@
 //! Disks of 1,048,576 bytes.
 
-use crate::calls::Call;
-use crate::support::{mounted, read, write};
 use cpm_disk::{Disk, DiskFault, DiskKind, Name, Pattern};
-use cpm_image::{DeviceFault, MemoryImage, Sectors};
+use cpm_disk_calls::{Call, mounted, read, write};
+use cpm_image::MemoryImage;
 use std::alloc::Global;
 use std::process::Abort;
 use std::test::Fail;
@@ -67,12 +66,17 @@ fn big_file(rt: HostRuntime) -> Result<(), Fail> {
     Ok(())
 }
 
+/// A disk with a file of three records, in extents of which S2 counts the last two.
+fn far_records(alloc: Global) -> Result<Disk<MemoryImage>, Fail> {
+    let mut disk = blank_disk(alloc)?;
+    disk.create(0, &Name::new(BIG))?;
+    write(&mut disk, &[(BIG, 0, 1), (BIG, 4_096, 2), (BIG, 65_535, 3)])?;
+    Ok(disk)
+}
+
 #[test]
 fn extents_by_s2(rt: HostRuntime) -> Result<(), Fail> {
-    let mut disk = blank_disk(rt.alloc())?;
-    let name = Name::new(BIG);
-    disk.create(0, &name)?;
-    write(&mut disk, &[(BIG, 0, 1), (BIG, 4_096, 2), (BIG, 65_535, 3)])?;
+    let mut disk = far_records(rt.alloc())?;
     assert_entry(
         &rt,
         &disk,
@@ -102,11 +106,18 @@ fn extents_by_s2(rt: HostRuntime) -> Result<(), Fail> {
     ] {
         assert_eq!(rt; read(&mut disk, BIG, number), wanted, "record {number}");
     }
-    assert_eq!(rt; disk.size(0, &name), Some(65_536));
     assert_eq!(rt;
         Call::Write(BIG, 65_536, 1).make(&mut disk),
         Err(DiskFault::TooFar)
     );
+    Ok(())
+}
+
+#[test]
+fn found_by_s2(rt: HostRuntime) -> Result<(), Fail> {
+    let disk = far_records(rt.alloc())?;
+    let name = Name::new(BIG);
+    assert_eq!(rt; disk.size(0, &name), Some(65_536));
     // The extent's number, and the pattern's EX and S2.
     for (number, wanted) in [(0, Some(0)), (32, Some(1)), (511, Some(2)), (1, None)] {
         assert_eq!(rt;
@@ -174,45 +185,5 @@ fn full_of_files(rt: HostRuntime) -> Result<(), Fail> {
         Err(DiskFault::DirectoryFull)
     );
     assert_eq!(rt; disk.list(rt.alloc())?.len(), 256);
-    Ok(())
-}
-
-/// A device of 100 sectors, which is never read.
-#[derive(Drop)]
-struct Short {
-    calls: u64,
-}
-
-impl Sectors for Short {
-    ghost use Rattle.std.specs.Prelude.{replicate, ℕ};
-
-    ghost sectors = { λ _. replicate 100 (replicate {A = ℕ} 128 0) };
-
-    ghost faults = { λ device. device.calls };
-
-    fn len(&self) -> u32 {
-        100
-    }
-
-    fn read(&mut self, _: u32, _: &mut [u8; 128]) -> Result<(), DeviceFault> {
-        self.calls = self.calls.saturating_add(1);
-        Err(DeviceFault)
-    }
-
-    fn write(&mut self, _: u32, _: &[u8; 128]) -> Result<(), DeviceFault> {
-        self.calls = self.calls.saturating_add(1);
-        Err(DeviceFault)
-    }
-}
-
-#[test]
-fn wrong_size(rt: HostRuntime) -> Result<(), Fail> {
-    match Disk::mount(rt.alloc(), Short { calls: 0 }) {
-        Ok(_) => panic!(&rt; "a disk of 100 sectors"),
-        Err((fault, device)) => {
-            assert_eq!(rt; fault, DiskFault::WrongSize);
-            assert_eq!(rt; device.calls, 0);
-        }
-    }
     Ok(())
 }

@@ -1,7 +1,7 @@
 //! What is found in a directory.
 
-use crate::support::disk_of;
 use cpm_disk::{Disk, Name, Pattern};
+use cpm_disk_calls::disk_of;
 use cpm_image::MemoryImage;
 use std::test::Fail;
 

@@ -5,3 +5,4 @@ pub mod Kept
 pub mod Placements
 pub mod RecordPlaces
 pub mod Worth
+pub mod Near

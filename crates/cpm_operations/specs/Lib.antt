@@ -1,3 +1,4 @@
 pub mod Steps
 pub mod Refusals
 pub mod Kept
+pub mod Near

@@ -4,8 +4,10 @@
 //! way leaves of it, each entry as before or as it was to be, keeps the rules of a directory.
 #![tactic(auto)]
 
+mod nearby;
 mod operations;
 mod placement;
 
+pub use nearby::{extent_near, reading_at, writing_at};
 pub use operations::{creation, erasure, reading, renaming, writing};
 pub use placement::Placement;

@@ -7,8 +7,9 @@ ghost use Rattle.cpm_directory.specs.Rules.{IsSound};
 ghost use Rattle.cpm_image.specs.Kind.{block_records, directory_records, entry_blocks, file_records, number_limit, record_count};
 ghost use Rattle.cpm_image.specs.declared.kind.DiskKind.{DiskKind};
 ghost use Rattle.cpm_operations.specs.Kept.{IsKeptBy, IsPut, StaysSound};
+ghost use Rattle.cpm_operations.specs.Near.{placing_in};
 ghost use Rattle.cpm_operations.specs.Refusals.{RefusesCreation, RefusesErasure, RefusesReading, RefusesRenaming, RefusesWriting};
-ghost use Rattle.cpm_operations.specs.Steps.{after_erasure, after_renaming, block_place, creation, erasure, extent_place, placing, reading, renaming, writing};
+ghost use Rattle.cpm_operations.specs.Steps.{after_erasure, after_renaming, block_place, creation, erasure, extent_place, placing, reading, renaming, writing, written_place};
 
 use crate::Placement;
 use cpm_directory::laws::is_name;
@@ -111,6 +112,18 @@ fn first_entry(entries: &[Entry], user: u8, name: &Name) -> Option<Entry>
     None
 }
 
+/// The disk's logical record that holds record `i` of an extent, where that is there.
+pub(crate) fn record_of(kind: DiskKind, entry: &Entry, i: u8) -> Result<u32, DiskFault>
+    requires { i < 128 }
+    ensures step { result ≡ written_place kind i entry.now }
+    ensures refusals { IfErr result RefusesReading }
+{
+    if !entry.has_record(kind, i) {
+        return Err(DiskFault::Unwritten);
+    }
+    Ok(entry.place_on_disk(kind, i))
+}
+
 /// The number of the disk's logical record that holds a file's record.
 fn read_place(
     kind: DiskKind,
@@ -131,10 +144,7 @@ fn read_place(
     let extent = (number / 128) as u16;
     let i = (number % 128) as u8;
     let entry = extent_entry(entries, user, name, extent).ok_or(DiskFault::NoExtent)?;
-    if !entry.has_record(kind, i) {
-        return Err(DiskFault::Unwritten);
-    }
-    Ok(entry.place_on_disk(kind, i))
+    record_of(kind, &entry, i)
 }
 
 /// The number and the entry of a file's extent: the one that it has, else the lowest free one, under the name of the
@@ -178,6 +188,28 @@ fn block_of(
     Ok((block, true))
 }
 
+/// Where record `i` of an extent goes, whose entry has a number.
+pub(crate) fn place_in(
+    kind: DiskKind,
+    entries: &[Entry],
+    number: u16,
+    entry: &Entry,
+    i: u8,
+) -> Result<Placement, DiskFault>
+    requires { i < 128 }
+    ensures step { result ≡ placing_in kind number entry.now i entries.now }
+    ensures refusals { IfErr result RefusesWriting }
+    ensures placed { IfOk result (λ p. block kind p.entry (i / block_records kind) ≡ p.block) }
+{
+    let (block, is_new) = block_of(kind, entries, entry, i / kind.block_records())?;
+    Ok(Placement {
+        number,
+        entry: entry.with_record(kind, i, block),
+        block,
+        is_new,
+    })
+}
+
 /// Where a record of a file goes.
 fn place(
     kind: DiskKind,
@@ -192,15 +224,8 @@ fn place(
     ensures refusals { IfErr result RefusesWriting }
     ensures placed { IfOk result (λ p. block kind p.entry (number % 128 / block_records kind) ≡ p.block) }
 {
-    let i = (number % 128) as u8;
     let (at, entry) = extent_of(entries, user, name, (number / 128) as u16)?;
-    let (block, is_new) = block_of(kind, entries, &entry, i / kind.block_records())?;
-    Ok(Placement {
-        number: at,
-        entry: entry.with_record(kind, i, block),
-        block,
-        is_new,
-    })
+    place_in(kind, entries, at, &entry, (number % 128) as u8)
 }
 
 /// Where a record of a file goes, if it may be written.

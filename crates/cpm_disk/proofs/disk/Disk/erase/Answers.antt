@@ -19,7 +19,7 @@ invariant_of-self g c =
     let asked = c.deref.ensures.value ∙ c.self.invariant.entries_are c.if-self.false in
     let kept = subst (λ es. IsSound c.self.inside.kind es → StaysSound c.self.inside.kind es (after_erasure c.args.user c.args.pattern.now.name es)) asked (c.erasure.ensures.kept c.self.inside.kind) c.self.invariant.sound in
     let now : c.change_all.new.entries ≡ after_erasure c.args.user c.args.pattern.now.name (directory c.self.inside.kind (g.S.Sectors.sectors c.self.inside.device)) = c.in-Ok.ensures.entries ∙ ap (after_erasure c.args.user c.args.pattern.now.name) entries in
-    mounted_changed c.self.inside.kind _ _ c.self.inside.entries.items (after_erasure c.args.user c.args.pattern.now.name (directory c.self.inside.kind (g.S.Sectors.sectors c.self.inside.device))) _ c.self.inside.failed c.self.invariant kept
+    mounted_changed c.self.inside.kind _ _ c.self.inside.entries.items (after_erasure c.args.user c.args.pattern.now.name (directory c.self.inside.kind (g.S.Sectors.sectors c.self.inside.device))) _ c.self.inside.failed _ c.self.invariant kept
     (subst (Changed c.self.inside.kind (g.S.Sectors.sectors c.self.inside.device) (g.S.Sectors.sectors c.change_all.new.device)) now c.in-Ok.ensures.changed)
     (whole _ c.change_all.new.entries c.self.inside.entries.items (c.in-Ok.ensures.size ∙ sym c.self.invariant.size ∙ ap length (sym c.deref_mut.ensures.value) ∙ c.deref_mut.ensures.len) ∙ now) (ap length (sym now) ∙ c.in-Ok.ensures.size)
 

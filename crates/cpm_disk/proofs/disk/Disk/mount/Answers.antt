@@ -12,4 +12,5 @@ invariant_of-result g c =
       sound = subst (IsSound c.in-Some.kind) (c.deref.ensures.value ∙ entries) c.in-Ok-judge.ensures.judged;
       size = ap length entries ∙ length_directory c.in-Some.kind (g.S.Sectors.sectors c.read_entries.new.device);
       entries_are = λ _. entries;
+      may_write = λ _. tt;
     }

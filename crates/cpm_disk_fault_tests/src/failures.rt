@@ -1,8 +1,7 @@
 //! What a device that fails at one call leaves, for each call in turn.
 
-use crate::calls::Call;
-use crate::support::{copy_of, image_of_kind, mounted, read, write};
 use cpm_disk::{Disk, DiskFault, DiskKind, Name, Pattern};
+use cpm_disk_calls::{Call, copy_of, image_of_kind, mounted, read, write};
 use cpm_image::{FailedWrite, Failing, MemoryImage};
 use std::alloc::Global;
 use std::process::Abort;

@@ -1,8 +1,7 @@
 //! The refusals of each call, in their order.
 
-use crate::calls::Call;
-use crate::support::{bytes_of_row, image_of, mounted, put_entry};
 use cpm_disk::DiskFault;
+use cpm_disk_calls::{Call, bytes_of_row, image_of, mounted, put_entry};
 use cpm_image::MemoryImage;
 use std::alloc::Global;
 use std::process::Abort;

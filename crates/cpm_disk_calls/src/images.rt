@@ -1,4 +1,4 @@
-//! Images, entries and mounted disks for the tests.
+//! Images, entries and mounted disks.
 
 use cpm_disk::{Disk, DiskFault, DiskKind, Name, Pattern};
 use cpm_image::{MemoryImage, Sectors, logical_of};

@@ -1,8 +1,8 @@
-//! The rules of a directory, which `mount` judges.
+//! What `mount` judges: the size of a device, and the rules of a directory.
 
-use crate::support::{BLANK, Row, bytes_of_row, put_entry};
 use cpm_disk::{Disk, DiskFault};
-use cpm_image::MemoryImage;
+use cpm_disk_calls::{BLANK, Row, bytes_of_row, put_entry};
+use cpm_image::{DeviceFault, MemoryImage, Sectors};
 use std::alloc::Global;
 use std::process::Abort;
 use std::test::Fail;
@@ -170,6 +170,46 @@ fn faults_in_order(rt: HostRuntime) -> Result<(), Fail> {
     for (first, second, fault) in rows {
         let entries = (bytes_of_row(&first), bytes_of_row(&second));
         assert_judged(&rt, rt.alloc(), &entries.0, &entries.1, Some(fault))?;
+    }
+    Ok(())
+}
+
+/// A device of 100 sectors, which is never read.
+#[derive(Drop)]
+struct Short {
+    calls: u64,
+}
+
+impl Sectors for Short {
+    ghost use Rattle.std.specs.Prelude.{replicate, ℕ};
+
+    ghost sectors = { λ _. replicate 100 (replicate {A = ℕ} 128 0) };
+
+    ghost faults = { λ device. device.calls };
+
+    fn len(&self) -> u32 {
+        100
+    }
+
+    fn read(&mut self, _: u32, _: &mut [u8; 128]) -> Result<(), DeviceFault> {
+        self.calls = self.calls.saturating_add(1);
+        Err(DeviceFault)
+    }
+
+    fn write(&mut self, _: u32, _: &[u8; 128]) -> Result<(), DeviceFault> {
+        self.calls = self.calls.saturating_add(1);
+        Err(DeviceFault)
+    }
+}
+
+#[test]
+fn wrong_size(rt: HostRuntime) -> Result<(), Fail> {
+    match Disk::mount(rt.alloc(), Short { calls: 0 }) {
+        Ok(_) => panic!(&rt; "a disk of 100 sectors"),
+        Err((fault, device)) => {
+            assert_eq!(rt; fault, DiskFault::WrongSize);
+            assert_eq!(rt; device.calls, 0);
+        }
     }
     Ok(())
 }

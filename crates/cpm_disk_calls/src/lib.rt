@@ -1,0 +1,11 @@
+//! What the crates of tests of disks share: calls as values, and images by rows of their directories.
+#![tactic(auto)]
+
+mod calls;
+mod images;
+
+pub use calls::Call;
+pub use images::{
+    BLANK, Row, assert_entries, bytes_of_row, copy_of, disk_of, erase, image_of, image_of_kind,
+    mounted, put_entry, read, write,
+};

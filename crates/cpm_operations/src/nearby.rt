@@ -1,0 +1,111 @@
+//! Records of a file whose extent's entry is looked for at one number first.
+
+ghost use Rattle.std.specs.Prelude.{◌≡◌, ◌<◌, ◌≤◌, ◌/◌, ◌%◌, IfErr, IfOk, IfSome, None, false, length, position, slice_index_or, true};
+ghost use Rattle.cpm_directory.specs.Entries.{blank, block, is_extent_of};
+ghost use Rattle.cpm_directory.specs.Rules.{IsSound};
+ghost use Rattle.cpm_directory.specs.Searches.{file_is_read_only};
+ghost use Rattle.cpm_image.specs.Kind.{block_records, directory_records, file_records, record_count};
+ghost use Rattle.cpm_operations.specs.Kept.{IsKeptBy};
+ghost use Rattle.cpm_operations.specs.Near.{IsExtentAt};
+ghost use Rattle.cpm_operations.specs.Refusals.{RefusesReading, RefusesWriting};
+ghost use Rattle.cpm_operations.specs.Steps.{reading, writing};
+
+use crate::Placement;
+use crate::operations::{place_in, reading, record_of, writing};
+use cpm_directory::{DiskFault, Entry, Name, position_of};
+use cpm_image::DiskKind;
+
+/// Whether the entry of a number is that of a file's extent.
+fn is_extent_at(entries: &[Entry], at: u16, user: u8, name: &Name, number: u16) -> bool
+    ensures { result ≡ true → (at < length entries.now) × (is_extent_of user name.now number (slice_index_or entries.now at blank) ≡ true) }
+{
+    let place = usize::from(at);
+    if place >= entries.len() {
+        return false;
+    }
+    entries[place].is_extent_of(user, name, number)
+}
+
+/// The number of the entry of the extent of a file's record, looked for at the entry `near` first. `None` also where a file
+/// has no record of that number.
+pub fn extent_near(
+    kind: DiskKind,
+    entries: &[Entry],
+    near: u16,
+    user: u8,
+    name: &Name,
+    number: u32,
+) -> Option<u16>
+    requires { length entries.now ≤ 65536 }
+    ensures found { IfSome result (IsExtentAt kind user name.now number entries.now) }
+    ensures none { result ≡ None → number < file_records kind → position (is_extent_of user name.now (number / 128)) entries.now ≡ None }
+{
+    if number >= kind.file_records() {
+        return None;
+    }
+    let extent = (number / 128) as u16;
+    if is_extent_at(entries, near, user, name, extent) {
+        return Some(near);
+    }
+    position_of(entries, user, name, extent)
+}
+
+/// As [`reading`], where the entry of the record's extent may be known: then no other is looked at.
+///
+/// # Errors
+///
+/// As of [`reading`].
+pub fn reading_at(
+    kind: DiskKind,
+    entries: &[Entry],
+    at: Option<u16>,
+    user: u8,
+    name: &Name,
+    number: u32,
+) -> Result<u32, DiskFault>
+    requires user { user < 32 }
+    requires at { IfSome at (IsExtentAt kind user name.now number entries.now) }
+    requires sound { IsSound kind entries.now }
+    ensures step { result ≡ reading kind user name.now number entries.now }
+    ensures refusals { IfErr result RefusesReading }
+    ensures within { IfOk result (λ n. (directory_records kind ≤ n) × (n < record_count kind)) }
+{
+    match at {
+        Some(at) => record_of(kind, &entries[usize::from(at)], (number % 128) as u8),
+        None => reading(kind, entries, user, name, number),
+    }
+}
+
+/// As [`writing`], where the entry of the record's extent may be known, and that the file is not read-only: where both are,
+/// other entries are looked at for a free block alone.
+///
+/// # Errors
+///
+/// As of [`writing`].
+pub fn writing_at(
+    kind: DiskKind,
+    entries: &[Entry],
+    at: Option<u16>,
+    may_write: bool,
+    user: u8,
+    name: &Name,
+    number: u32,
+) -> Result<Placement, DiskFault>
+    requires user { user < 32 }
+    requires size { length entries.now ≤ 65535 }
+    requires at { IfSome at (IsExtentAt kind user name.now number entries.now) }
+    requires may_write { may_write ≡ true → file_is_read_only user name.now entries.now ≡ false }
+    requires sound { IsSound kind entries.now }
+    ensures step { result ≡ writing kind user name.now number entries.now }
+    ensures placed { IfOk result (λ p. block kind p.entry (number % 128 / block_records kind) ≡ p.block) }
+    ensures refusals { IfErr result RefusesWriting }
+    ensures kept { IfOk result (IsKeptBy kind user name.now entries.now) }
+{
+    if may_write {
+        if let Some(at) = at {
+            let entry = entries[usize::from(at)];
+            return place_in(kind, entries, at, &entry, (number % 128) as u8);
+        }
+    }
+    writing(kind, entries, user, name, number)
+}
