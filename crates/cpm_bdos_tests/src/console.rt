@@ -1,8 +1,7 @@
 //! The calls of the console.
 
-use crate::machine::{Machine, Plain, new_plain};
-use crate::steps::{Step, run};
 use cpm_bdos::{After, Stop};
+use cpm_bdos_steps::{Machine, Plain, Step, new_plain, run};
 use std::alloc::Global;
 use std::process::Abort;
 use std::test::Fail;

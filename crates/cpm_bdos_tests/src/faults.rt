@@ -1,7 +1,7 @@
 //! Disks and consoles that fail.
 
-use crate::machine::{DMA, FCB, Machine};
 use cpm_bdos::Stop;
+use cpm_bdos_steps::{DMA, FCB, Machine};
 use cpm_console::{FailingConsole, MemoryConsole};
 use cpm_disk::{Disk, DiskKind};
 use cpm_image::{FailedWrite, Failing, MemoryImage};
@@ -58,7 +58,7 @@ fn failing_device(rt: HostRuntime) -> Result<(), Fail> {
 #[test]
 fn third_put(rt: HostRuntime) -> Result<(), Fail> {
     let alloc = rt.alloc();
-    let disk = crate::machine::mounted(alloc, MemoryImage::blank(alloc, DiskKind::EightInch)?)?;
+    let disk = cpm_bdos_steps::mounted(alloc, MemoryImage::blank(alloc, DiskKind::EightInch)?)?;
     let console = MemoryConsole::new(alloc, Vec::new(alloc));
     let mut m = Machine::new(alloc, disk, FailingConsole::once(console, 2, false))?;
     m.put(0x0200, b"Hi$");
@@ -74,7 +74,7 @@ fn third_put(rt: HostRuntime) -> Result<(), Fail> {
 
 /// Makes a call whose console fails after some good calls, and answers whether it was done. A stop leaves registers and memory.
 fn is_done(rt: &impl Abort, alloc: Global, function: u8, good_calls: u64) -> Result<bool, Fail> {
-    let disk = crate::machine::mounted(alloc, MemoryImage::blank(alloc, DiskKind::EightInch)?)?;
+    let disk = cpm_bdos_steps::mounted(alloc, MemoryImage::blank(alloc, DiskKind::EightInch)?)?;
     let console = MemoryConsole::new(alloc, b"A\x01\r".to_vec(alloc)?);
     let failing = FailingConsole::from_then_on(console, good_calls, true);
     let mut m = Machine::new(alloc, disk, failing)?;

@@ -1,8 +1,7 @@
 //! Files opened, closed, made, erased and renamed.
 
-use crate::machine::{FCB, Plain, new_plain, plain_of};
-use crate::steps::{Step, run};
 use cpm_bdos::Stop;
+use cpm_bdos_steps::{FCB, Plain, Step, new_plain, plain_of, run};
 use cpm_disk::DiskKind;
 use std::process::Abort;
 use std::test::Fail;
@@ -241,7 +240,7 @@ fn users(rt: HostRuntime) -> Result<(), Fail> {
 #[test]
 fn read_only(rt: HostRuntime) -> Result<(), Fail> {
     // The high bit of the first byte of the type is set.
-    let mut m = crate::machine::plain_with_entry(
+    let mut m = cpm_bdos_steps::plain_with_entry(
         &rt,
         rt.alloc(),
         b"\x00FILE    \xD4XT\x00\x00\x00\x00",
@@ -272,7 +271,7 @@ fn read_only(rt: HostRuntime) -> Result<(), Fail> {
 fn close_by_extent(rt: HostRuntime) -> Result<(), Fail> {
     // On an eight inch disk S2 of the FCB is not looked at; no entry has an EX above 31.
     let entry = b"\x00FILE    TXT\x05\x00\x00\x00";
-    let mut m = crate::machine::plain_with_entry(&rt, rt.alloc(), entry)?;
+    let mut m = cpm_bdos_steps::plain_with_entry(&rt, rt.alloc(), entry)?;
     for (place, wanted) in [
         ([5, 0, 0], 0),
         ([5, 7, 0], 0),

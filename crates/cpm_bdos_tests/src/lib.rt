@@ -1,5 +1,5 @@
-//! Tests of the system calls by their families, as tables of calls with what they answer and leave. Expected values are the
-//! guide's; none was taken from a run.
+//! Tests of the system calls by their families, but for those of records, as tables of calls with what they answer and leave.
+//! Expected values are the guide's; none was taken from a run.
 #![tactic(auto)]
 
 #[cfg(test)]
@@ -9,14 +9,6 @@ mod faults;
 #[cfg(test)]
 mod files;
 #[cfg(test)]
-mod machine;
-#[cfg(test)]
-mod random;
-#[cfg(test)]
 mod searches;
 #[cfg(test)]
-mod sequential;
-#[cfg(test)]
 mod settings;
-#[cfg(test)]
-mod steps;

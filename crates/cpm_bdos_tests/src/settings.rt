@@ -1,9 +1,9 @@
 //! The calls that ask neither console nor disk, and numbers without a function.
 
-use crate::machine::new_plain;
 use cpm_bdos::{After, Stop};
+use cpm_bdos_steps::new_plain;
 use std::test::Fail;
-use z80_machine::{Cpu, Flags};
+use z80_cpu::{Cpu, Flags};
 
 #[test]
 fn values(rt: HostRuntime) -> Result<(), Fail> {

@@ -1,8 +1,7 @@
 //! Records read and written by number, sizes, and the number of an FCB's place.
 
-use crate::machine::{DMA, FCB, Plain, new_plain, plain_of};
-use crate::steps::{Step, run};
 use cpm_bdos::Stop;
+use cpm_bdos_steps::{DMA, FCB, Plain, Step, new_plain, plain_of, run};
 use cpm_disk::DiskKind;
 use std::process::Abort;
 use std::test::Fail;

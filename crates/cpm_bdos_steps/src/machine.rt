@@ -7,7 +7,7 @@ use cpm_image::{MemoryImage, Sectors, logical};
 use std::alloc::Global;
 use std::process::Abort;
 use std::test::Fail;
-use z80_machine::{Cpu, Memory};
+use z80_cpu::{Cpu, Memory};
 
 /// Where the tests have their FCB.
 pub const FCB: u16 = 0x005C;
