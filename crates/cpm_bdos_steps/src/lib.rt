@@ -4,5 +4,7 @@
 mod machine;
 mod steps;
 
-pub use machine::{DMA, FCB, Machine, Plain, mounted, new_plain, plain_of, plain_with_entry};
-pub use steps::{Step, run};
+pub use machine::{
+    DMA, FCB, Machine, OtherByte, Plain, mounted, new_plain, plain_of, plain_with_entry,
+};
+pub use steps::{Missed, Step, run};

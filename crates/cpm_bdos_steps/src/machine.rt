@@ -5,7 +5,6 @@ use cpm_console::{Console, MemoryConsole};
 use cpm_disk::{Disk, DiskKind};
 use cpm_image::{MemoryImage, Sectors, logical};
 use std::alloc::Global;
-use std::process::Abort;
 use std::test::Fail;
 use z80_cpu::{Cpu, Memory};
 
@@ -14,6 +13,14 @@ pub const FCB: u16 = 0x005C;
 
 /// The DMA buffer that a new system has.
 pub const DMA: u16 = 0x0080;
+
+/// A byte of memory that is another than the one that a test expects.
+#[derive(Clone, Copy, Debug, PartialEq)]
+pub struct OtherByte {
+    pub address: u16,
+    pub found: u8,
+    pub wanted: u8,
+}
 
 /// A processor with memory, and what stands behind its calls.
 #[derive(Drop)]
@@ -72,13 +79,24 @@ impl<S: Sectors + Drop, C: Console + Drop> Machine<S, C> {
         self.put(DMA, &[byte; 128]);
     }
 
-    /// Asserts bytes of memory.
-    pub fn assert_bytes(&self, rt: &impl Abort, address: u16, wanted: &[u8]) {
+    /// Compares bytes of memory with those that a test expects.
+    ///
+    /// # Errors
+    /// The first that is another.
+    pub fn expect_bytes(&self, address: u16, wanted: &[u8]) -> Result<(), OtherByte> {
         let mut next = address;
         for byte in wanted {
-            assert_eq!(rt; self.memory.get(next), *byte, "address {next}");
+            let found = self.memory.get(next);
+            if found != *byte {
+                return Err(OtherByte {
+                    address: next,
+                    found,
+                    wanted: *byte,
+                });
+            }
             next = next.wrapping_add(1);
         }
+        Ok(())
     }
 }
 
@@ -104,13 +122,15 @@ pub fn new_plain(alloc: Global, input: &[u8]) -> Result<Plain, Fail> {
 }
 
 /// A machine with an eight inch disk whose entry 0 begins with some bytes; those after them are 0.
-pub fn plain_with_entry(rt: &impl Abort, alloc: Global, entry: &[u8; 16]) -> Result<Plain, Fail> {
+pub fn plain_with_entry(alloc: Global, entry: &[u8; 16]) -> Result<Plain, Fail> {
     let mut image = MemoryImage::blank(alloc, DiskKind::EightInch)?;
     let mut record = [0xE5; 128];
     record[..16].copy_from_slice(entry);
     record[16..32].copy_from_slice(&[0; 16]);
     let sector = logical(0);
-    assert!(rt; sector < image.len());
+    if sector >= image.len() {
+        return Err(Fail::from("no such sector"));
+    }
     image.write(sector, &record)?;
     Machine::new(
         alloc,

@@ -1,10 +1,9 @@
 //! What a test does, as a table.
 
-use crate::machine::{FCB, Machine};
+use crate::machine::{FCB, Machine, OtherByte};
 use cpm_bdos::Stop;
 use cpm_console::Console;
 use cpm_image::Sectors;
-use std::process::Abort;
 
 /// A step of a test.
 #[derive(Clone, Copy, Debug)]
@@ -17,18 +16,27 @@ pub enum Step<'a> {
     Fill(u8),
     /// Puts bytes.
     Put(u16, &'a [u8]),
-    /// Makes a call of a function with its argument, and asserts its answer.
+    /// Makes a call of a function with its argument, and expects its answer.
     Call(u8, u16, Result<u16, Stop>),
-    /// Asserts bytes of memory.
+    /// Expects bytes of memory.
     Holds(u16, &'a [u8]),
 }
 
+/// What another answer or byte was met by.
+#[derive(Clone, Copy, Debug)]
+pub enum Missed<'a> {
+    Answer(Step<'a>, Result<u16, Stop>),
+    Byte(OtherByte),
+}
+
 /// Takes steps in turn.
-pub fn run<S: Sectors + Drop, C: Console + Drop>(
-    rt: &impl Abort,
+///
+/// # Errors
+/// The first answer or byte that is another than its step expects.
+pub fn run<'a, S: Sectors + Drop, C: Console + Drop>(
     m: &mut Machine<S, C>,
-    steps: &[Step<'_>],
-) {
+    steps: &[Step<'a>],
+) -> Result<(), Missed<'a>> {
     for step in steps {
         match *step {
             Step::Fcb(address, name, place) => m.put_fcb(address, &name, place),
@@ -36,9 +44,17 @@ pub fn run<S: Sectors + Drop, C: Console + Drop>(
             Step::Fill(byte) => m.fill_buffer(byte),
             Step::Put(address, bytes) => m.put(address, bytes),
             Step::Call(function, argument, wanted) => {
-                assert_eq!(rt; m.call(function, argument), wanted, "{step:?}");
+                let answer = m.call(function, argument);
+                if answer != wanted {
+                    return Err(Missed::Answer(*step, answer));
+                }
             }
-            Step::Holds(address, wanted) => m.assert_bytes(rt, address, wanted),
+            Step::Holds(address, wanted) => {
+                if let Err(byte) = m.expect_bytes(address, wanted) {
+                    return Err(Missed::Byte(byte));
+                }
+            }
         }
     }
+    Ok(())
 }

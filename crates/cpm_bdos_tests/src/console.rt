@@ -40,7 +40,6 @@ fn direct_input_and_output(rt: HostRuntime) -> Result<(), Fail> {
     // A tab that is put raw stays one, and the column with it.
     let mut m = new_plain(rt.alloc(), b"A")?;
     run(
-        &rt,
         &mut m,
         &[
             Step::Call(11, 0, Ok(0xFF)),
@@ -51,7 +50,7 @@ fn direct_input_and_output(rt: HostRuntime) -> Result<(), Fail> {
             Step::Call(6, 0x42, Ok(0)),
             Step::Call(2, 0x09, Ok(0)),
         ],
-    );
+    )?;
     assert_output(&rt, m, b"\tB        ");
     Ok(())
 }
@@ -60,10 +59,9 @@ fn direct_input_and_output(rt: HostRuntime) -> Result<(), Fail> {
 fn string_across_the_top(rt: HostRuntime) -> Result<(), Fail> {
     let mut m = new_plain(rt.alloc(), b"")?;
     run(
-        &rt,
         &mut m,
         &[Step::Put(0xFFFE, b"H\ti$"), Step::Call(9, 0xFFFE, Ok(0))],
-    );
+    )?;
     assert_output(&rt, m, b"H       i");
     Ok(())
 }
@@ -90,8 +88,8 @@ fn assert_line(
     let mut m = new_plain(alloc, input)?;
     m.put(0x0200, &[room]);
     assert_eq!(rt; m.call(10, 0x0200), Ok(0));
-    m.assert_bytes(rt, 0x0200, &[room]);
-    m.assert_bytes(rt, 0x0201, buffer);
+    m.expect_bytes(0x0200, &[room])?;
+    m.expect_bytes(0x0201, buffer)?;
     assert_output(rt, m, output);
     Ok(())
 }
@@ -119,14 +117,13 @@ fn lines(rt: HostRuntime) -> Result<(), Fail> {
 fn line_across_the_top(rt: HostRuntime) -> Result<(), Fail> {
     let mut m = new_plain(rt.alloc(), b"ABC\n")?;
     run(
-        &rt,
         &mut m,
         &[
             Step::Put(0xFFFD, &[9]),
             Step::Call(10, 0xFFFD, Ok(0)),
             Step::Holds(0xFFFD, b"\x09\x03ABC\0"),
         ],
-    );
+    )?;
     Ok(())
 }
 
@@ -137,7 +134,7 @@ fn line_without_an_end(rt: HostRuntime) -> Result<(), Fail> {
     m.cpu.main.set_hl(0x1234);
     assert_eq!(rt; m.call(10, 0x0200), Err(Stop::EndOfInput));
     assert_eq!(rt; m.cpu.main.hl(), 0x1234);
-    m.assert_bytes(&rt, 0x0200, &[5, 0, 0, 0]);
+    m.expect_bytes(0x0200, &[5, 0, 0, 0])?;
     assert_output(&rt, m, b"AB");
     Ok(())
 }
@@ -150,13 +147,12 @@ fn warm_boot_from_an_empty_line(rt: HostRuntime) -> Result<(), Fail> {
     m.cpu.main.set_de(0x0200);
     assert_eq!(rt; m.bdos.call(&mut m.cpu, &mut m.memory), Ok(After::WarmBoot));
     run(
-        &rt,
         &mut m,
         &[
             Step::Holds(0x0200, &[5, 0, 0]),
             Step::Call(6, 0xFF, Ok(0x5A)),
         ],
-    );
+    )?;
     assert_output(&rt, m, b"A\x08 \x08");
     Ok(())
 }

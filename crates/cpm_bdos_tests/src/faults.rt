@@ -1,7 +1,7 @@
 //! Disks and consoles that fail.
 
 use cpm_bdos::Stop;
-use cpm_bdos_steps::{DMA, FCB, Machine};
+use cpm_bdos_steps::{DMA, FCB, Machine, OtherByte};
 use cpm_console::{FailingConsole, MemoryConsole};
 use cpm_disk::{Disk, DiskKind};
 use cpm_image::{FailedWrite, Failing, MemoryImage};
@@ -23,23 +23,28 @@ fn broken(alloc: Global, call: u32) -> Result<Broken, Fail> {
 }
 
 /// Asserts that a call stops so, and leaves registers and FCB.
-fn assert_stops(rt: &impl Abort, m: &mut Broken, function: u8, stop: Stop) {
+fn assert_stops(
+    rt: &impl Abort,
+    m: &mut Broken,
+    function: u8,
+    stop: Stop,
+) -> Result<(), OtherByte> {
     m.put_fcb(FCB, b"FILE    TXT", [0, 0, 0]);
     m.put(FCB + 17, b"NEW     TXT");
     m.cpu.main.set_hl(0x1234);
     assert_eq!(rt; m.call(function, FCB), Err(stop), "function {function}");
     assert_eq!(rt; m.cpu.main.hl(), 0x1234);
-    m.assert_bytes(rt, FCB, b"\x00FILE    TXT\x00\x00\x00\x00\x00NEW     TXT");
-    m.assert_bytes(rt, FCB + 32, &[0; 4]);
+    m.expect_bytes(FCB, b"\x00FILE    TXT\x00\x00\x00\x00\x00NEW     TXT")?;
+    m.expect_bytes(FCB + 32, &[0; 4])
 }
 
 #[test]
 fn failing_device(rt: HostRuntime) -> Result<(), Fail> {
     let mut m = broken(rt.alloc(), 0)?;
-    assert_stops(&rt, &mut m, 22, Stop::DiskFault);
+    assert_stops(&rt, &mut m, 22, Stop::DiskFault)?;
     // It has failed: the calls that ask for changes and records stop, those that look find nothing.
     for function in [19, 20, 21, 22, 23, 33, 34] {
-        assert_stops(&rt, &mut m, function, Stop::DiskFault);
+        assert_stops(&rt, &mut m, function, Stop::DiskFault)?;
     }
     for function in [15, 16, 17, 18, 35] {
         m.put_fcb(FCB, b"FILE    TXT", [0, 0, 0]);
@@ -47,7 +52,7 @@ fn failing_device(rt: HostRuntime) -> Result<(), Fail> {
     }
     m.put(FCB, b"?");
     assert_eq!(rt; m.call(17, FCB), Ok(0));
-    m.assert_bytes(&rt, DMA, &[0xE5; 128]);
+    m.expect_bytes(DMA, &[0xE5; 128])?;
     // Drives are judged first.
     m.put_fcb(FCB, b"FILE    TXT", [0, 0, 0]);
     m.put(FCB, &[2]);
@@ -84,7 +89,7 @@ fn is_done(rt: &impl Abort, alloc: Global, function: u8, good_calls: u64) -> Res
     if let Err(stop) = answer {
         assert_eq!(rt; stop, Stop::ConsoleFault);
         assert_eq!(rt; m.cpu.main.hl(), 0x1234);
-        m.assert_bytes(rt, 0x0241, b"\x09Hi$\0");
+        m.expect_bytes(0x0241, b"\x09Hi$\0")?;
     }
     Ok(answer.is_ok())
 }

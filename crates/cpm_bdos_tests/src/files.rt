@@ -96,13 +96,12 @@ fn drives(rt: HostRuntime) -> Result<(), Fail> {
     ] {
         for function in [15, 16, 17, 19, 20, 21, 22, 23, 33, 34, 35, 36] {
             run(
-                &rt,
                 &mut m,
                 &[
                     Step::Fcb(FCB, *b"FIL?    TXT", [0x40, 0, 0xFF]),
                     Step::Put(FCB, &[drive]),
                 ],
-            );
+            )?;
             m.cpu.main.set_hl(0x1234);
             assert_eq!(rt; m.call(function, FCB), Err(stop), "function {function}");
             assert_eq!(rt; m.cpu.main.hl(), 0x1234);
@@ -110,14 +109,13 @@ fn drives(rt: HostRuntime) -> Result<(), Fail> {
     }
     for drive in [0, 1] {
         run(
-            &rt,
             &mut m,
             &[
                 Step::Fcb(FCB, FILE, [0, 0, 0]),
                 Step::Put(FCB, &[drive]),
                 Step::Call(15, FCB, Ok(0xFF)),
             ],
-        );
+        )?;
     }
     Ok(())
 }
@@ -126,7 +124,6 @@ fn drives(rt: HostRuntime) -> Result<(), Fail> {
 fn open_copies_the_entry(rt: HostRuntime) -> Result<(), Fail> {
     let mut m = new_plain(rt.alloc(), b"")?;
     run(
-        &rt,
         &mut m,
         &[
             Step::Fcb(FCB, FILE, [0, 0, 0]),
@@ -140,7 +137,7 @@ fn open_copies_the_entry(rt: HostRuntime) -> Result<(), Fail> {
             Step::Holds(FCB + 17, &[0; 15]),
             Step::Holds(FCB + 32, &[0x77; 4]),
         ],
-    );
+    )?;
     Ok(())
 }
 
@@ -148,7 +145,6 @@ fn open_copies_the_entry(rt: HostRuntime) -> Result<(), Fail> {
 fn make_clears_the_fcb(rt: HostRuntime) -> Result<(), Fail> {
     let mut m = new_plain(rt.alloc(), b"")?;
     run(
-        &rt,
         &mut m,
         &[
             Step::Put(FCB, &[0x77; 36]),
@@ -163,7 +159,7 @@ fn make_clears_the_fcb(rt: HostRuntime) -> Result<(), Fail> {
             Step::Call(22, FCB, Ok(0xFF)),
             Step::Holds(FCB + 12, &[0x55; 20]),
         ],
-    );
+    )?;
     Ok(())
 }
 
@@ -172,14 +168,13 @@ fn full_directories(rt: HostRuntime) -> Result<(), Fail> {
     let mut m = new_plain(rt.alloc(), b"")?;
     for n in 0..64u8 {
         run(
-            &rt,
             &mut m,
             &[
                 Step::Fcb(FCB, FILE, [0, 0, 0]),
                 Step::Put(FCB + 1, &[0x40 + n]),
                 Step::Call(22, FCB, Ok(u16::from(n % 4))),
             ],
-        );
+        )?;
     }
     assert_calls(&rt, &mut m, &[(22, *b"0       TXT", Ok(0xFF))]);
     Ok(())
@@ -200,14 +195,13 @@ fn names_change(rt: HostRuntime) -> Result<(), Fail> {
         (FILE, *b"NEW     TXT", Ok(0)),
     ] {
         run(
-            &rt,
             &mut m,
             &[
                 Step::Fcb(FCB, from, [0, 0, 0]),
                 Step::Put(FCB + 17, &to),
                 Step::Call(23, FCB, wanted),
             ],
-        );
+        )?;
     }
     assert_calls(
         &rt,
@@ -241,19 +235,17 @@ fn users(rt: HostRuntime) -> Result<(), Fail> {
 fn read_only(rt: HostRuntime) -> Result<(), Fail> {
     // The high bit of the first byte of the type is set.
     let mut m = cpm_bdos_steps::plain_with_entry(
-        &rt,
         rt.alloc(),
         b"\x00FILE    \xD4XT\x00\x00\x00\x00",
     )?;
     for function in [19, 21, 23, 34] {
         run(
-            &rt,
             &mut m,
             &[
                 Step::Fcb(FCB, FILE, [0, 0, 0]),
                 Step::Put(FCB + 17, b"NEW     TXT"),
             ],
-        );
+        )?;
         m.cpu.main.set_hl(0x1234);
         assert_eq!(rt;
             m.call(function, FCB),
@@ -261,7 +253,7 @@ fn read_only(rt: HostRuntime) -> Result<(), Fail> {
             "function {function}"
         );
         assert_eq!(rt; m.cpu.main.hl(), 0x1234);
-        m.assert_bytes(&rt, FCB + 32, &[0; 4]);
+        m.expect_bytes(FCB + 32, &[0; 4])?;
     }
     assert_calls(&rt, &mut m, &[(15, FILE, Ok(0)), (16, FILE, Ok(0))]);
     Ok(())
@@ -271,7 +263,7 @@ fn read_only(rt: HostRuntime) -> Result<(), Fail> {
 fn close_by_extent(rt: HostRuntime) -> Result<(), Fail> {
     // On an eight inch disk S2 of the FCB is not looked at; no entry has an EX above 31.
     let entry = b"\x00FILE    TXT\x05\x00\x00\x00";
-    let mut m = cpm_bdos_steps::plain_with_entry(&rt, rt.alloc(), entry)?;
+    let mut m = cpm_bdos_steps::plain_with_entry(rt.alloc(), entry)?;
     for (place, wanted) in [
         ([5, 0, 0], 0),
         ([5, 7, 0], 0),
@@ -280,10 +272,9 @@ fn close_by_extent(rt: HostRuntime) -> Result<(), Fail> {
         ([0x25, 0, 0], 0xFF),
     ] {
         run(
-            &rt,
             &mut m,
             &[Step::Fcb(FCB, FILE, place), Step::Call(16, FCB, Ok(wanted))],
-        );
+        )?;
     }
     Ok(())
 }
@@ -292,7 +283,6 @@ fn close_by_extent(rt: HostRuntime) -> Result<(), Fail> {
 fn across_the_top(rt: HostRuntime) -> Result<(), Fail> {
     let mut m = new_plain(rt.alloc(), b"")?;
     run(
-        &rt,
         &mut m,
         &[
             Step::Fcb(0xFFF0, FILE, [0x55, 0x55, 0x55]),
@@ -305,6 +295,6 @@ fn across_the_top(rt: HostRuntime) -> Result<(), Fail> {
             Step::Holds(0x0010, &[1]),
             Step::Holds(0xFFFF, &[1, 2, 0, 0]),
         ],
-    );
+    )?;
     Ok(())
 }

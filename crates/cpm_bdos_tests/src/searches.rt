@@ -17,10 +17,9 @@ fn make_files(rt: &impl Abort, m: &mut Plain, names: &[[u8; 11]]) {
 fn next_without_a_first(rt: HostRuntime) -> Result<(), Fail> {
     let mut m = new_plain(rt.alloc(), b"")?;
     run(
-        &rt,
         &mut m,
         &[Step::Call(18, FCB, Ok(0xFF)), Step::Holds(DMA, &[0; 128])],
-    );
+    )?;
     Ok(())
 }
 
@@ -38,7 +37,6 @@ fn by_pattern(rt: HostRuntime) -> Result<(), Fail> {
         ];
         make_files(&rt, &mut m, &names);
         run(
-            &rt,
             &mut m,
             &[
                 Step::Fcb(FCB, *b"????????TXT", [0, 0, 0]),
@@ -68,7 +66,7 @@ fn by_pattern(rt: HostRuntime) -> Result<(), Fail> {
                 Step::Call(17, FCB, Ok(0xFF)),
                 Step::Call(18, FCB, Ok(0xFF)),
             ],
-        );
+        )?;
     }
     Ok(())
 }
@@ -79,25 +77,23 @@ fn every_entry(rt: HostRuntime) -> Result<(), Fail> {
         let mut m = plain_of(rt.alloc(), kind, b"")?;
         make_files(&rt, &mut m, &[*b"A       TXT"]);
         run(
-            &rt,
             &mut m,
             &[
                 Step::Fcb(FCB, *b"NONE    XXX", [0, 0, 0]),
                 Step::Put(FCB, b"?"),
                 Step::Call(17, FCB, Ok(0)),
             ],
-        );
+        )?;
         for n in 1..count {
             assert_eq!(rt; m.call(18, FCB), Ok(n % 4));
         }
         run(
-            &rt,
             &mut m,
             &[
                 Step::Holds(DMA, &[0xE5; 128]),
                 Step::Call(18, FCB, Ok(0xFF)),
             ],
-        );
+        )?;
     }
     Ok(())
 }
@@ -108,7 +104,6 @@ fn buffer_over_the_fcb(rt: HostRuntime) -> Result<(), Fail> {
     let mut m = new_plain(rt.alloc(), b"")?;
     make_files(&rt, &mut m, &[*b"A       TXT"]);
     run(
-        &rt,
         &mut m,
         &[
             Step::Fcb(FCB, *b"A       TXT", [0, 0, 0]),
@@ -117,7 +112,7 @@ fn buffer_over_the_fcb(rt: HostRuntime) -> Result<(), Fail> {
             Step::Holds(FCB - 32, b"\x00A       TXT\x00"),
             Step::Holds(FCB, &[0xE5; 96]),
         ],
-    );
+    )?;
     Ok(())
 }
 
@@ -128,7 +123,6 @@ fn extents_of_a_megabyte_disk(rt: HostRuntime) -> Result<(), Fail> {
     let mut m = plain_of(rt.alloc(), DiskKind::Megabyte, b"")?;
     make_files(&rt, &mut m, &[name]);
     run(
-        &rt,
         &mut m,
         &[
             Step::Numbers([0, 16, 0]),
@@ -141,7 +135,7 @@ fn extents_of_a_megabyte_disk(rt: HostRuntime) -> Result<(), Fail> {
             Step::Call(18, FCB, Ok(1)),
             Step::Call(18, FCB, Ok(0xFF)),
         ],
-    );
+    )?;
     // 16 heeds the low six bits of S2.
     for (place, wanted) in [
         ([0, 0, 0], 0),
@@ -152,18 +146,16 @@ fn extents_of_a_megabyte_disk(rt: HostRuntime) -> Result<(), Fail> {
         ([0, 0x3F, 0], 0xFF),
     ] {
         run(
-            &rt,
             &mut m,
             &[Step::Fcb(FCB, name, place), Step::Call(16, FCB, Ok(wanted))],
-        );
+        )?;
     }
     run(
-        &rt,
         &mut m,
         &[
             Step::Fcb(FCB, name, [0x3F, 1, 0]),
             Step::Call(15, FCB, Ok(0)),
         ],
-    );
+    )?;
     Ok(())
 }

@@ -1,9 +1,10 @@
 //! Images, entries and mounted disks.
 
+ghost use Rattle.std.specs.Prelude.{◌<◌};
+
 use cpm_disk::{Disk, DiskFault, DiskKind, Name, Pattern};
 use cpm_image::{MemoryImage, Sectors, logical_of};
 use std::alloc::Global;
-use std::process::Abort;
 use std::test::Fail;
 
 /// An entry as a blank disk has it, free.
@@ -26,17 +27,16 @@ pub fn bytes_of_row(row: &Row) -> [u8; 32] {
 }
 
 /// Puts an entry into the directory of an image.
-pub fn put_entry(
-    rt: &impl Abort,
-    image: &mut MemoryImage,
-    at: u16,
-    entry: &[u8; 32],
-) -> Result<(), Fail> {
+pub fn put_entry(image: &mut MemoryImage, at: u16, entry: &[u8; 32]) -> Result<(), Fail> {
     let kind = DiskKind::of_size(image.len()).ok_or("no disk")?;
     let record = u32::from(at / 4);
-    assert!(rt; at < kind.entry_count() && record < kind.record_count());
+    if at >= kind.entry_count() || record >= kind.record_count() {
+        return Err(Fail::from("no such entry"));
+    }
     let sector = logical_of(kind, record);
-    assert!(rt; sector < image.len());
+    if sector >= image.len() {
+        return Err(Fail::from("no such sector"));
+    }
     let mut bytes = [0; 128];
     image.read(sector, &mut bytes)?;
     let from = 32 * usize::from(at % 4);
@@ -46,22 +46,17 @@ pub fn put_entry(
 }
 
 /// A blank image of a kind but for some entries of its directory.
-pub fn image_of_kind(
-    rt: &impl Abort,
-    alloc: Global,
-    kind: DiskKind,
-    rows: &[Row],
-) -> Result<MemoryImage, Fail> {
+pub fn image_of_kind(alloc: Global, kind: DiskKind, rows: &[Row]) -> Result<MemoryImage, Fail> {
     let mut image = MemoryImage::blank(alloc, kind)?;
     for row in rows {
-        put_entry(rt, &mut image, row.0, &bytes_of_row(row))?;
+        put_entry(&mut image, row.0, &bytes_of_row(row))?;
     }
     Ok(image)
 }
 
 /// A blank eight inch image but for some entries of its directory.
-pub fn image_of(rt: &impl Abort, alloc: Global, rows: &[Row]) -> Result<MemoryImage, Fail> {
-    image_of_kind(rt, alloc, DiskKind::EightInch, rows)
+pub fn image_of(alloc: Global, rows: &[Row]) -> Result<MemoryImage, Fail> {
+    image_of_kind(alloc, DiskKind::EightInch, rows)
 }
 
 /// The disk of an image that keeps the rules.
@@ -73,8 +68,8 @@ pub fn mounted(alloc: Global, image: MemoryImage) -> Result<Disk<MemoryImage>, F
 }
 
 /// The disk of a blank image but for some entries.
-pub fn disk_of(rt: &impl Abort, alloc: Global, rows: &[Row]) -> Result<Disk<MemoryImage>, Fail> {
-    let image = image_of(rt, alloc, rows)?;
+pub fn disk_of(alloc: Global, rows: &[Row]) -> Result<Disk<MemoryImage>, Fail> {
+    let image = image_of(alloc, rows)?;
     mounted(alloc, image)
 }
 
@@ -83,13 +78,30 @@ pub fn copy_of(alloc: Global, image: &MemoryImage) -> Result<MemoryImage, Fail> 
     Ok(MemoryImage::from_bytes(alloc, image.sectors().as_flattened())?)
 }
 
-/// Asserts what some entries of a disk are.
-pub fn assert_entries(rt: &impl Abort, disk: &Disk<MemoryImage>, rows: &[Row]) {
+/// An entry that is none, or another than the one that a test expects: what there is, if any.
+#[derive(Clone, Copy, Debug)]
+pub struct OtherEntry {
+    pub at: u16,
+    pub found: Option<[u8; 32]>,
+}
+
+/// Compares some entries of a disk with those that a test expects.
+///
+/// # Errors
+/// The first that is another.
+pub fn expect_entries(disk: &Disk<MemoryImage>, rows: &[Row]) -> Result<(), OtherEntry> {
     for row in rows {
         let at = row.0;
-        assert!(rt; at < disk.kind().entry_count());
-        assert_eq!(rt; disk.entry(at), bytes_of_row(row), "entry {at}");
+        let found = if at < disk.kind().entry_count() {
+            Some(disk.entry(at))
+        } else {
+            None
+        };
+        if found != Some(bytes_of_row(row)) {
+            return Err(OtherEntry { at, found });
+        }
     }
+    Ok(())
 }
 
 /// Reads a record of a file of user 0.
@@ -114,19 +126,17 @@ pub fn write(
 
 /// Erases a user's files.
 pub fn erase(
-    rt: &impl Abort,
     disk: &mut Disk<MemoryImage>,
     user: u8,
     name: [u8; 11],
     extent: u8,
-) -> Result<u16, DiskFault> {
-    assert!(rt; user < 32);
-    disk.erase(
-        user,
-        &Pattern {
-            name,
-            extent,
-            high: 0,
-        },
-    )
+) -> Result<u16, DiskFault>
+    requires { user < 32 }
+{
+    let pattern = Pattern {
+        name,
+        extent,
+        high: 0,
+    };
+    disk.erase(user, &pattern)
 }

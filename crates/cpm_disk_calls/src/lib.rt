@@ -6,6 +6,6 @@ mod images;
 
 pub use calls::Call;
 pub use images::{
-    BLANK, Row, assert_entries, bytes_of_row, copy_of, disk_of, erase, image_of, image_of_kind,
-    mounted, put_entry, read, write,
+    BLANK, OtherEntry, Row, bytes_of_row, copy_of, disk_of, erase, expect_entries, image_of,
+    image_of_kind, mounted, put_entry, read, write,
 };

@@ -16,7 +16,6 @@ const NEW: [u8; 11] = *b"NEW     TXT";
 /// An image with records of a file in two extents, which lie in two records of the directory, and of another file.
 fn base(rt: &impl Abort, alloc: Global, kind: DiskKind) -> Result<MemoryImage, Fail> {
     let image = image_of_kind(
-        rt,
         alloc,
         kind,
         &[

@@ -19,8 +19,8 @@ fn image_of_two(
     second: &[u8; 32],
 ) -> Result<MemoryImage, Fail> {
     let mut image = MemoryImage::from_bytes(alloc, &[])?;
-    put_entry(rt, &mut image, 9, first)?;
-    put_entry(rt, &mut image, 14, second)?;
+    put_entry(&mut image, 9, first)?;
+    put_entry(&mut image, 14, second)?;
     Ok(image)
 }
 

@@ -18,7 +18,6 @@ const LOCKED: [u8; 11] = *b"LOCKED  TXT";
 /// A disk of three files of user 0, and one of user 1 and a foreign entry that user 0 does not see.
 fn three_files(rt: &impl Abort, alloc: Global) -> Result<MemoryImage, Fail> {
     image_of(
-        rt,
         alloc,
         &[
             (0, 0, FILE, 0, 20, [2, 0, 3, 0]),
@@ -34,7 +33,7 @@ fn three_files(rt: &impl Abort, alloc: Global) -> Result<MemoryImage, Fail> {
 /// A disk whose entries and blocks are all taken, but one entry if need be: `FILE` has room for a block in its extent 0, and
 /// none of its records 8 to 15.
 fn taken(rt: &impl Abort, alloc: Global, free: Option<u16>) -> Result<MemoryImage, Fail> {
-    let mut image = image_of(rt, alloc, &[(0, 0, FILE, 0, 8, [2, 0, 0, 0])])?;
+    let mut image = image_of(alloc, &[(0, 0, FILE, 0, 8, [2, 0, 0, 0])])?;
     let mut next = 3;
     for at in 1..64u8 {
         let row = (u16::from(at), 3 + at / 32, OTHER, at % 32, 0, [0; 4]);
@@ -46,7 +45,7 @@ fn taken(rt: &impl Abort, alloc: Global, free: Option<u16>) -> Result<MemoryImag
             }
         }
         if Some(row.0) != free {
-            put_entry(rt, &mut image, row.0, &entry)?;
+            put_entry(&mut image, row.0, &entry)?;
         }
     }
     Ok(image)

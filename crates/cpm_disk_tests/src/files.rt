@@ -2,7 +2,7 @@
 
 use cpm_disk::{Disk, DiskFault, Listed, Name};
 use cpm_disk_calls::{
-    BLANK, Call, Row, assert_entries, disk_of, erase, image_of, mounted, read, write,
+    BLANK, Call, Row, disk_of, erase, expect_entries, image_of, mounted, read, write,
 };
 use cpm_image::{MemoryImage, Sectors, logical};
 use std::alloc::Global;
@@ -35,7 +35,7 @@ fn assert_big(rt: &impl Abort, disk: &mut Disk<MemoryImage>) -> Result<(), Fail>
 
 #[test]
 fn big_file(rt: HostRuntime) -> Result<(), Fail> {
-    let mut disk = disk_of(&rt, rt.alloc(), &[])?;
+    let mut disk = disk_of(rt.alloc(), &[])?;
     assert_eq!(rt; Call::Create(BIG).make(&mut disk), Ok(0));
     write_big(&mut disk)?;
     assert_big(&rt, &mut disk)?;
@@ -80,18 +80,17 @@ fn new_block(rt: HostRuntime) -> Result<(), Fail> {
         (0, 0, FILE, 0, 3, [2, 0, 0, 0]),
         (1, 0, OTHER, 0, 0, [0; 4]),
     ];
-    let mut disk = disk_of(&rt, rt.alloc(), &rows)?;
+    let mut disk = disk_of(rt.alloc(), &rows)?;
     // The records of a new block are zeros but for the one that is written. A record before the last leaves the count. In a
     // block that was there a record between is what the disk holds.
     write(&mut disk, &[(OTHER, 10, 10), (OTHER, 8, 8), (FILE, 5, 5)])?;
-    assert_entries(
-        &rt,
+    expect_entries(
         &disk,
         &[
             (0, 0, FILE, 0, 6, [2, 0, 0, 0]),
             (1, 0, OTHER, 0, 11, [0, 3, 0, 0]),
         ],
-    );
+    )?;
     let rows = [
         (7, Err(DiskFault::Unwritten)),
         (8, Ok([8; 128])),
@@ -130,17 +129,16 @@ fn new_extent(rt: HostRuntime) -> Result<(), Fail> {
         (3, 0, attributed, 1, 2, [5, 0, 0, 0]),
         (7, 0, FILE, 0, 2, [2, 0, 0, 0]),
     ];
-    let mut disk = disk_of(&rt, rt.alloc(), &rows)?;
+    let mut disk = disk_of(rt.alloc(), &rows)?;
     write(&mut disk, &[(FILE, 256 + 17, 1), (FILE, 31 * 128 + 24, 1)])?;
-    assert_entries(&rt, &disk, &rows);
-    assert_entries(
-        &rt,
+    expect_entries(&disk, &rows)?;
+    expect_entries(
         &disk,
         &[
             (0, 0, attributed, 2, 18, [0, 0, 3, 0]),
             (1, 0, attributed, 31, 25, [0, 0, 0, 4]),
         ],
-    );
+    )?;
     // The last record that a file may have.
     write(&mut disk, &[(FILE, 4_095, 2)])?;
     assert_eq!(rt; read(&mut disk, FILE, 4_095), Ok([2; 128]));
@@ -151,7 +149,7 @@ fn new_extent(rt: HostRuntime) -> Result<(), Fail> {
 /// One file is used after another, and under another name: what was found of the last one is of no use then.
 #[test]
 fn one_file_after_another(rt: HostRuntime) -> Result<(), Fail> {
-    let mut disk = disk_of(&rt, rt.alloc(), &[])?;
+    let mut disk = disk_of(rt.alloc(), &[])?;
     for (user, call, wanted) in [
         (0, Call::Create(FILE), Ok(0)),
         (0, Call::Write(FILE, 0, 1), Ok(0)),
@@ -190,24 +188,23 @@ fn erase_by_user(rt: HostRuntime) -> Result<(), Fail> {
         (1, 1, FILE, 0, 1, [3, 0, 0, 0]),
         (2, 1, FILE, 1, 1, [4, 0, 0, 0]),
     ];
-    let mut disk = disk_of(&rt, rt.alloc(), &rows)?;
+    let mut disk = disk_of(rt.alloc(), &rows)?;
     write(&mut disk, &[(FILE, 0, 10)])?;
-    assert_eq!(rt; erase(&rt, &mut disk, 1, FILE, 9), Ok(2));
-    assert_entries(
-        &rt,
+    assert_eq!(rt; erase(&mut disk, 1, FILE, 9), Ok(2));
+    expect_entries(
         &disk,
         &[
             (0, 0, FILE, 0, 1, [2, 0, 0, 0]),
             (1, 0xE5, FILE, 0, 1, [3, 0, 0, 0]),
             (2, 0xE5, FILE, 1, 1, [4, 0, 0, 0]),
         ],
-    );
+    )?;
     assert_eq!(rt; read(&mut disk, FILE, 0), Ok([10; 128]));
-    assert_eq!(rt; erase(&rt, &mut disk, 1, FILE, 9), Err(DiskFault::NotFound));
+    assert_eq!(rt; erase(&mut disk, 1, FILE, 9), Err(DiskFault::NotFound));
     // The lowest free entry and the lowest free block are taken again.
     assert_eq!(rt; Call::Create(FILE).make_for(2, &mut disk), Ok(1));
     Call::Write(FILE, 0, 13).make_for(2, &mut disk)?;
-    assert_entries(&rt, &disk, &[(1, 2, FILE, 0, 1, [3, 0, 0, 0])]);
+    expect_entries(&disk, &[(1, 2, FILE, 0, 1, [3, 0, 0, 0])])?;
     Ok(())
 }
 
@@ -222,10 +219,9 @@ fn erase_by_pattern(rt: HostRuntime) -> Result<(), Fail> {
         (4, 0, attributed, 0, 0, [0; 4]),
         (5, 0x20, *b"A5      TXT", 0, 0, [0; 4]),
     ];
-    let mut disk = disk_of(&rt, rt.alloc(), &rows)?;
-    assert_eq!(rt; erase(&rt, &mut disk, 0, *b"A?      TXT", 0), Ok(3));
-    assert_entries(
-        &rt,
+    let mut disk = disk_of(rt.alloc(), &rows)?;
+    assert_eq!(rt; erase(&mut disk, 0, *b"A?      TXT", 0), Ok(3));
+    expect_entries(
         &disk,
         &[
             (0, 0xE5, *b"A1      TXT", 0, 0, [0; 4]),
@@ -235,7 +231,7 @@ fn erase_by_pattern(rt: HostRuntime) -> Result<(), Fail> {
             (4, 0xE5, attributed, 0, 0, [0; 4]),
             (5, 0x20, *b"A5      TXT", 0, 0, [0; 4]),
         ],
-    );
+    )?;
     Ok(())
 }
 
@@ -249,11 +245,10 @@ fn rename_keeps_attributes(rt: HostRuntime) -> Result<(), Fail> {
         (6, 1, FILE, 0, 0, [0; 4]),
         (7, 0x21, FILE, 0, 0, [0; 4]),
     ];
-    let mut disk = disk_of(&rt, rt.alloc(), &rows)?;
+    let mut disk = disk_of(rt.alloc(), &rows)?;
     Call::Rename(FILE, *b"NEWNAME\xC1COM").make(&mut disk)?;
     let renamed = *b"\xCE\xC5\xD7\xCE\xC1\xCD\xC5\xC1C\xCF\xCD";
-    assert_entries(
-        &rt,
+    expect_entries(
         &disk,
         &[
             (2, 0, renamed, 1, 4, [6, 0, 0, 0]),
@@ -261,7 +256,7 @@ fn rename_keeps_attributes(rt: HostRuntime) -> Result<(), Fail> {
             (6, 1, FILE, 0, 0, [0; 4]),
             (7, 0x21, FILE, 0, 0, [0; 4]),
         ],
-    );
+    )?;
     Ok(())
 }
 
@@ -284,10 +279,10 @@ fn others_stay(rt: HostRuntime) -> Result<(), Fail> {
         (2, 0xE4, BIG, 0xFF, 0xFF, [4, 0, 0, 0]),
         (3, 0, FILE, 0, 8, [5, 0, 0, 0]),
     ];
-    let before = image_of(&rt, rt.alloc(), &rows)?;
-    let mut disk = disk_of(&rt, rt.alloc(), &rows)?;
+    let before = image_of(rt.alloc(), &rows)?;
+    let mut disk = disk_of(rt.alloc(), &rows)?;
     work(&mut disk)?;
-    assert_entries(&rt, &disk, &rows);
+    expect_entries(&disk, &rows)?;
     let after = disk.unmount();
     // The system's tracks, and the sectors behind the last record.
     for (n, (old, new)) in before.sectors().iter().zip(after.sectors()).enumerate() {
@@ -309,7 +304,7 @@ fn sizes(rt: HostRuntime) -> Result<(), Fail> {
         (5, 0x20, BIG, 0, 9, [0; 4]),
         (6, 0xE5, BIG, 0, 9, [0; 4]),
     ];
-    let disk = disk_of(&rt, rt.alloc(), &rows)?;
+    let disk = disk_of(rt.alloc(), &rows)?;
     let rows = [
         (FILE, Some(640)),
         (OTHER, Some(9)),
@@ -353,7 +348,7 @@ fn listing(rt: HostRuntime) -> Result<(), Fail> {
         (5, 0, *b"FILE    T\xD8T", 0, 5, [5, 0, 0, 0]),
         (6, 31, *b"\xC6ILE    TX\xD4", 3, 0, [0; 4]),
     ];
-    let disk = disk_of(&rt, rt.alloc(), &rows)?;
+    let disk = disk_of(rt.alloc(), &rows)?;
     let listed = list(rt.alloc(), &disk)?;
     let rows = [
         (0, *b"FILE    TXT", 5, false, true),
@@ -370,7 +365,7 @@ fn listing(rt: HostRuntime) -> Result<(), Fail> {
 
 #[test]
 fn blank_disk(rt: HostRuntime) -> Result<(), Fail> {
-    let disk = disk_of(&rt, rt.alloc(), &[])?;
+    let disk = disk_of(rt.alloc(), &[])?;
     assert_eq!(rt; list(rt.alloc(), &disk)?.len(), 0);
     assert_eq!(rt; disk.size(0, &Name::new(FILE)), None);
     Ok(())

@@ -33,7 +33,7 @@ fn entries_found(rt: HostRuntime) -> Result<(), Fail> {
         (12, 0, *b"FILE2   TXT", 0, 0, [0; 4]),
         (63, 0, *b"FIL?    TXT", 0, 0, [0; 4]),
     ];
-    let disk = disk_of(&rt, rt.alloc(), &entries)?;
+    let disk = disk_of(rt.alloc(), &entries)?;
     let rows = [
         // The extent is heeded, but for `?`.
         (FILE, 0x3F, 0, Some(1)),
@@ -88,7 +88,7 @@ fn extents_found(rt: HostRuntime) -> Result<(), Fail> {
         (62, 0, FILE, 31, 0, [0; 4]),
         (63, 0, *b"FIL?    TXT", 0, 0, [0; 4]),
     ];
-    let disk = disk_of(&rt, rt.alloc(), &entries)?;
+    let disk = disk_of(rt.alloc(), &entries)?;
     let rows = [
         (0, FILE, 0, Some(6)),
         (0, FILE, 1, Some(1)),

@@ -21,7 +21,6 @@ fn reads(rt: HostRuntime) -> Result<(), Fail> {
     let mut m = new_plain(rt.alloc(), b"")?;
     make_file(&rt, &mut m);
     run(
-        &rt,
         &mut m,
         &[
             Step::Fill(0),
@@ -74,7 +73,7 @@ fn reads(rt: HostRuntime) -> Result<(), Fail> {
             Step::Call(20, FCB, Ok(0)),
             Step::Holds(FCB + 32, &[1]),
         ],
-    );
+    )?;
     Ok(())
 }
 
@@ -82,7 +81,6 @@ fn reads(rt: HostRuntime) -> Result<(), Fail> {
 fn without_a_file(rt: HostRuntime) -> Result<(), Fail> {
     let mut m = new_plain(rt.alloc(), b"")?;
     run(
-        &rt,
         &mut m,
         &[
             Step::Fcb(FCB, FILE, [7, 7, 7]),
@@ -110,7 +108,7 @@ fn without_a_file(rt: HostRuntime) -> Result<(), Fail> {
             Step::Holds(FCB + 14, &[7]),
             Step::Holds(FCB + 32, &[7]),
         ],
-    );
+    )?;
     Ok(())
 }
 
@@ -119,7 +117,6 @@ fn writes(rt: HostRuntime) -> Result<(), Fail> {
     let mut m = new_plain(rt.alloc(), b"")?;
     make_file(&rt, &mut m);
     run(
-        &rt,
         &mut m,
         &[
             Step::Fill(0x42),
@@ -147,7 +144,7 @@ fn writes(rt: HostRuntime) -> Result<(), Fail> {
             Step::Holds(FCB + 32, &[0]),
             Step::Holds(DMA, &[0; 128]),
         ],
-    );
+    )?;
     Ok(())
 }
 
@@ -159,13 +156,11 @@ fn full_disks(rt: HostRuntime) -> Result<(), Fail> {
     for block in 1..241u16 {
         let [low, high] = (8 * block).to_le_bytes();
         run(
-            &rt,
             &mut m,
             &[Step::Numbers([low, high, 0]), Step::Call(34, FCB, Ok(0))],
-        );
+        )?;
     }
     run(
-        &rt,
         &mut m,
         &[
             Step::Fcb(FCB, FILE, [7, 7, 7]),
@@ -178,7 +173,7 @@ fn full_disks(rt: HostRuntime) -> Result<(), Fail> {
             Step::Call(21, FCB, Ok(2)),
             Step::Holds(FCB + 32, &[8]),
         ],
-    );
+    )?;
     Ok(())
 }
 
@@ -188,17 +183,15 @@ fn full_directories(rt: HostRuntime) -> Result<(), Fail> {
     make_file(&rt, &mut m);
     for n in 0..63u8 {
         run(
-            &rt,
             &mut m,
             &[
                 Step::Fcb(FCB, *b"X       TXT", [0, 0, 0]),
                 Step::Put(FCB + 2, &[0x40 + n]),
             ],
-        );
+        )?;
         assert!(rt; m.call(22, FCB).is_ok());
     }
     run(
-        &rt,
         &mut m,
         &[
             Step::Fcb(FCB, FILE, [7, 7, 7]),
@@ -212,7 +205,7 @@ fn full_directories(rt: HostRuntime) -> Result<(), Fail> {
             Step::Holds(FCB + 12, &[1]),
             Step::Holds(FCB + 32, &[0]),
         ],
-    );
+    )?;
     Ok(())
 }
 
@@ -221,7 +214,6 @@ fn sizes(rt: HostRuntime) -> Result<(), Fail> {
     let mut m = new_plain(rt.alloc(), b"")?;
     make_file(&rt, &mut m);
     run(
-        &rt,
         &mut m,
         &[
             Step::Numbers([9, 9, 9]),
@@ -240,7 +232,7 @@ fn sizes(rt: HostRuntime) -> Result<(), Fail> {
             Step::Call(35, FCB, Ok(0xFF)),
             Step::Holds(FCB + 33, &[0, 0, 0]),
         ],
-    );
+    )?;
     Ok(())
 }
 
@@ -258,9 +250,9 @@ fn numbers_of_places(rt: HostRuntime) -> Result<(), Fail> {
             let mut m = plain_of(rt.alloc(), kind, b"")?;
             m.put_fcb(FCB, b"NONE    TXT", place);
             assert_eq!(rt; m.call(36, FCB), Ok(0));
-            m.assert_bytes(&rt, FCB + 33, &numbers);
-            m.assert_bytes(&rt, FCB + 12, &[place[0], 0, place[1]]);
-            m.assert_bytes(&rt, FCB + 32, &[place[2]]);
+            m.expect_bytes(FCB + 33, &numbers)?;
+            m.expect_bytes(FCB + 12, &[place[0], 0, place[1]])?;
+            m.expect_bytes(FCB + 32, &[place[2]])?;
         }
     }
     Ok(())
@@ -271,7 +263,6 @@ fn megabyte_disks(rt: HostRuntime) -> Result<(), Fail> {
     let mut m = plain_of(rt.alloc(), DiskKind::Megabyte, b"")?;
     make_file(&rt, &mut m);
     run(
-        &rt,
         &mut m,
         &[
             Step::Holds(FCB + 15, b"\x01\x04\x00\x00\x00"),
@@ -311,7 +302,7 @@ fn megabyte_disks(rt: HostRuntime) -> Result<(), Fail> {
             Step::Holds(DMA + 32, b"\x00FILE    TXT\x00\x00\x01\x01\x05\x00"),
             Step::Holds(DMA + 64, b"\x00FILE    TXT\x1F\x00\x0F\x80\x00"),
         ],
-    );
+    )?;
     Ok(())
 }
 
@@ -321,7 +312,6 @@ fn buffer_over_the_fcb(rt: HostRuntime) -> Result<(), Fail> {
     let mut m = new_plain(rt.alloc(), b"")?;
     make_file(&rt, &mut m);
     run(
-        &rt,
         &mut m,
         &[
             Step::Call(26, FCB, Ok(0)),
@@ -332,6 +322,6 @@ fn buffer_over_the_fcb(rt: HostRuntime) -> Result<(), Fail> {
             Step::Holds(FCB + 12, &[0, 0x41, 0, 1, 2]),
             Step::Holds(FCB + 32, &[0, 0x41]),
         ],
-    );
+    )?;
     Ok(())
 }

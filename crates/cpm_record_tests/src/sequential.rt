@@ -21,7 +21,6 @@ fn records_in_turn(rt: HostRuntime) -> Result<(), Fail> {
         make_file(&rt, &mut m);
         for n in 0..3 {
             run(
-                &rt,
                 &mut m,
                 &[
                     Step::Fill(0x41 + n),
@@ -29,33 +28,30 @@ fn records_in_turn(rt: HostRuntime) -> Result<(), Fail> {
                     Step::Holds(FCB + 32, &[n + 1]),
                     Step::Holds(FCB + 15, &[n + 1]),
                 ],
-            );
+            )?;
         }
         run(
-            &rt,
             &mut m,
             &[Step::Fcb(FCB, FILE, [0, 0, 0]), Step::Call(15, FCB, Ok(0))],
-        );
+        )?;
         for n in 0..3 {
             run(
-                &rt,
                 &mut m,
                 &[
                     Step::Call(20, FCB, Ok(0)),
                     Step::Holds(DMA, &[0x41 + n; 128]),
                 ],
-            );
+            )?;
         }
         // Where there is no record the answer is 1, and FCB and buffer stay.
         run(
-            &rt,
             &mut m,
             &[
                 Step::Call(20, FCB, Ok(1)),
                 Step::Holds(FCB + 32, &[3]),
                 Step::Holds(DMA, &[0x43; 128]),
             ],
-        );
+        )?;
     }
     Ok(())
 }
@@ -64,7 +60,6 @@ fn records_in_turn(rt: HostRuntime) -> Result<(), Fail> {
 fn files_that_are_not_there(rt: HostRuntime) -> Result<(), Fail> {
     let mut m = new_plain(rt.alloc(), b"")?;
     run(
-        &rt,
         &mut m,
         &[
             Step::Fcb(FCB, FILE, [0, 0, 0]),
@@ -72,7 +67,7 @@ fn files_that_are_not_there(rt: HostRuntime) -> Result<(), Fail> {
             Step::Call(21, FCB, Err(Stop::BadFcb)),
             Step::Holds(FCB + 12, &[0; 24]),
         ],
-    );
+    )?;
     Ok(())
 }
 
@@ -81,7 +76,6 @@ fn own_blocks_alone(rt: HostRuntime) -> Result<(), Fail> {
     // Block 2 is another file's: what the FCB says of blocks is not believed.
     let mut m = new_plain(rt.alloc(), b"")?;
     run(
-        &rt,
         &mut m,
         &[
             Step::Fcb(FCB, *b"OTHER   TXT", [0, 0, 0]),
@@ -105,7 +99,7 @@ fn own_blocks_alone(rt: HostRuntime) -> Result<(), Fail> {
             Step::Call(20, FCB, Ok(0)),
             Step::Holds(DMA, &[0x22; 128]),
         ],
-    );
+    )?;
     Ok(())
 }
 
@@ -146,8 +140,8 @@ fn places_out_of_range(rt: HostRuntime) -> Result<(), Fail> {
             make_file(&rt, &mut m);
             m.put_fcb(FCB, &FILE, place);
             assert_eq!(rt; m.call(20, FCB), read, "20 at {place:?}");
-            m.assert_bytes(&rt, FCB + 12, &[place[0], 0, place[1]]);
-            m.assert_bytes(&rt, FCB + 32, &[place[2]]);
+            m.expect_bytes(FCB + 12, &[place[0], 0, place[1]])?;
+            m.expect_bytes(FCB + 32, &[place[2]])?;
             assert_eq!(rt; m.call(21, FCB), write, "21 at {place:?}");
         }
     }
@@ -159,10 +153,9 @@ fn next_extent(rt: HostRuntime) -> Result<(), Fail> {
     let mut m = new_plain(rt.alloc(), b"")?;
     make_file(&rt, &mut m);
     for n in 0..128u8 {
-        run(&rt, &mut m, &[Step::Fill(n), Step::Call(21, FCB, Ok(0))]);
+        run(&mut m, &[Step::Fill(n), Step::Call(21, FCB, Ok(0))])?;
     }
     run(
-        &rt,
         &mut m,
         &[
             Step::Holds(FCB + 12, b"\x00\x00\x00\x80\x02"),
@@ -183,7 +176,7 @@ fn next_extent(rt: HostRuntime) -> Result<(), Fail> {
             Step::Holds(FCB + 12, &[1]),
             Step::Holds(FCB + 32, &[128]),
         ],
-    );
+    )?;
     Ok(())
 }
 
@@ -193,7 +186,6 @@ fn next_high_number(rt: HostRuntime) -> Result<(), Fail> {
     let mut m = plain_of(rt.alloc(), DiskKind::Megabyte, b"")?;
     make_file(&rt, &mut m);
     run(
-        &rt,
         &mut m,
         &[
             Step::Fcb(FCB, FILE, [31, 0x80, 128]),
@@ -206,7 +198,7 @@ fn next_high_number(rt: HostRuntime) -> Result<(), Fail> {
             Step::Call(20, FCB, Ok(0)),
             Step::Holds(DMA, &[0x5A; 128]),
         ],
-    );
+    )?;
     Ok(())
 }
 
@@ -216,7 +208,6 @@ fn buffer_over_the_fcb(rt: HostRuntime) -> Result<(), Fail> {
     let mut m = new_plain(rt.alloc(), b"")?;
     make_file(&rt, &mut m);
     run(
-        &rt,
         &mut m,
         &[
             Step::Fill(0x77),
@@ -231,6 +222,6 @@ fn buffer_over_the_fcb(rt: HostRuntime) -> Result<(), Fail> {
             ),
             Step::Holds(FCB + 33, &[0x77; 95]),
         ],
-    );
+    )?;
     Ok(())
 }
