@@ -9,8 +9,8 @@
  *     Where refusals go on, a front of that line is enough.
  *
  * From the environment: REFUSE_INPUT, the file that is standard input; REFUSE_STATUS, the status of ample memory; REFUSE_PRINTS, whether
- * a front of the output of ample memory may stand before `error: NoMemory`; REFUSE_ALSO, ends that are taken as that line is, each a line
- * of a status, a blank, and what is said; REFUSE_NOT_YET, one such end that is counted apart.
+ * a front of the output of ample memory may stand before `error: NoMemory`; the files have to be the new ones where all of it stands there;
+ * REFUSE_ALSO, ends that are taken as that line is, each a line of a status, a blank, and what is said.
  * Prints `ok` and how many runs there were of each kind, or the first runs that ended otherwise, and then `FAILED`. */
 #define _GNU_SOURCE
 #include <dirent.h>
@@ -226,7 +226,7 @@ static int input, output, errors;
 static struct folder *before, *after;
 static struct end ample;
 static int prints, faults;
-static long runs, sames, not_yet;
+static long runs, sames;
 static int is_touched = 1; /* whether the folder may not be as it was found */
 
 static void empty(int fd)
@@ -342,12 +342,11 @@ static void judge(struct end end, long nth, int all_after)
 {
     const char *why = NULL;
     int same = end.status == ample.status && is_same(end.out, ample.out) && is_same(end.err, ample.err);
-    const char *files = judge_files(same);
-    int is_not_yet = !same && is_one_of(end, text("REFUSE_NOT_YET"), all_after);
+    int has_run = prints && ample.out.len > 0 && is_same(end.out, ample.out);
+    const char *files = judge_files(same || has_run);
     runs++;
     sames += same;
-    not_yet += is_not_yet;
-    if (!same && !is_not_yet && !is_one_of(end, "1 error: NoMemory", all_after) && !is_one_of(end, text("REFUSE_ALSO"), all_after))
+    if (!same && !is_one_of(end, "1 error: NoMemory", all_after) && !is_one_of(end, text("REFUSE_ALSO"), all_after))
         why = "another end";
     else if (!same && (prints ? !begins(end.out, ample.out.bytes, ample.out.len) : end.out.len != 0))
         why = "standard output";
@@ -419,7 +418,7 @@ __attribute__((constructor)) static void refuse(void)
         printf("no call for memory was seen\n");
         faults++;
     }
-    printf("%s: %ld calls, %ld runs, %ld as with ample memory, %ld not yet\n", faults == 0 ? "ok" : "FAILED", calls, runs, sames, not_yet);
+    printf("%s: %ld calls, %ld runs, %ld as with ample memory\n", faults == 0 ? "ok" : "FAILED", calls, runs, sames);
     fflush(stdout);
     _exit(faults == 0 ? 0 : 1);
 }

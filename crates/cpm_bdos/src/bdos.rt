@@ -108,22 +108,11 @@ impl<S: Sectors, C: Console> Bdos<S, C> {
         ensures answer { EntryAnswers entry (screen C.dialog self.old.terminal) (screen C.dialog self.new.terminal) cpu.old cpu.new result }
     {
         match entry {
-            BiosEntry::ConsoleStatus => {
-                cpu.main.a = is_ready(&self.terminal);
-                Ok(After::Return)
-            }
-            BiosEntry::ConsoleInput => match take_raw(&mut self.terminal) {
-                Ok(byte) => {
-                    cpu.main.a = byte;
-                    Ok(After::Return)
-                }
-                Err(stop) => Err(stop),
-            },
-            BiosEntry::ConsoleOutput => match put_raw(&mut self.terminal, cpu.main.c) {
-                Ok(()) => Ok(After::Return),
-                Err(stop) => Err(stop),
-            },
+            BiosEntry::ConsoleStatus => cpu.main.a = is_ready(&self.terminal),
+            BiosEntry::ConsoleInput => cpu.main.a = take_raw(&mut self.terminal)?,
+            BiosEntry::ConsoleOutput => put_raw(&mut self.terminal, cpu.main.c)?,
         }
+        Ok(After::Return)
     }
 
     fn answer(
@@ -170,14 +159,10 @@ impl<S: Sectors, C: Console> Bdos<S, C> {
         ensures others { self.new ≡ record self.old { dma = self.new.dma; user = self.new.user } }
         ensures answer { SettingAnswers call argument self.old.dma self.old.user self.new.dma self.new.user result }
     {
-        match set_by(call, argument, self.dma, self.user) {
-            Ok(settings) => {
-                self.dma = settings.dma;
-                self.user = settings.user;
-                Ok(settings.value)
-            }
-            Err(stop) => Err(stop),
-        }
+        let settings = set_by(call, argument, self.dma, self.user)?;
+        self.dma = settings.dma;
+        self.user = settings.user;
+        Ok(settings.value)
     }
 
     fn search_call(

@@ -37,42 +37,35 @@ pub(crate) fn set_by(call: SettingCall, argument: u16, dma: u16, user: u8) -> Re
     ensures user { IfOk result (λ s. s.user < 32) }
 {
     let byte = (argument % 256) as u8;
+    let kept = Settings {
+        value: 0,
+        dma,
+        user,
+    };
     match call {
         SettingCall::Version => Ok(Settings {
             value: VERSION,
-            dma,
-            user,
+            ..kept
         }),
         SettingCall::ResetDisks => Ok(Settings {
-            value: 0,
             dma: FIRST_DMA,
-            user,
+            ..kept
         }),
         SettingCall::SelectDisk => {
             if byte == 0 {
-                Ok(Settings {
-                    value: 0,
-                    dma,
-                    user,
-                })
+                Ok(kept)
             } else {
                 Err(Stop::UnknownDrive)
             }
         }
         SettingCall::LoginVector => Ok(Settings {
             value: DRIVE_A,
-            dma,
-            user,
+            ..kept
         }),
-        SettingCall::CurrentDisk => Ok(Settings {
-            value: 0,
-            dma,
-            user,
-        }),
+        SettingCall::CurrentDisk => Ok(kept),
         SettingCall::SetDma => Ok(Settings {
-            value: 0,
             dma: argument,
-            user,
+            ..kept
         }),
         SettingCall::UserCode => Ok(user_set(byte, dma, user)),
     }

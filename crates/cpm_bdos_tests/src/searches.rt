@@ -1,6 +1,6 @@
 //! Searches of the directory.
 
-use cpm_bdos_steps::{DMA, FCB, Plain, Step, new_plain, plain_of, run};
+use cpm_bdos_steps::{DMA, FCB, Plain, Step, new_plain, plain_of, plain_with_entry, run};
 use cpm_disk::DiskKind;
 use std::process::Abort;
 use std::test::Fail;
@@ -99,6 +99,56 @@ fn every_entry(rt: HostRuntime) -> Result<(), Fail> {
 }
 
 #[test]
+fn foreign_entries(rt: HostRuntime) -> Result<(), Fail> {
+    // An entry of user byte 20H is found by the drive `?` alone.
+    let mut m = plain_with_entry(rt.alloc(), b"\x20FILE    TXT\x00\x00\x00\x00")?;
+    run(
+        &mut m,
+        &[
+            Step::Fcb(FCB, [b'?'; 11], [0x3F, 0, 0]),
+            Step::Call(17, FCB, Ok(0xFF)),
+            Step::Put(FCB, b"?"),
+            Step::Call(17, FCB, Ok(0)),
+            Step::Holds(DMA, b"\x20FILE    TXT"),
+        ],
+    )?;
+    Ok(())
+}
+
+#[test]
+fn extents_of_an_eight_inch_disk(rt: HostRuntime) -> Result<(), Fail> {
+    // Extents 0 and 1: an EX of `?` matches both.
+    let name = *b"FILE    TXT";
+    let mut m = new_plain(rt.alloc(), b"")?;
+    make_files(&rt, &mut m, &[name]);
+    run(
+        &mut m,
+        &[
+            Step::Numbers([0x80, 0, 0]),
+            Step::Call(34, FCB, Ok(0)),
+            Step::Fcb(FCB, name, [0x3F, 0, 0]),
+            Step::Call(17, FCB, Ok(0)),
+            Step::Call(18, FCB, Ok(1)),
+            Step::Call(18, FCB, Ok(0xFF)),
+            Step::Fcb(FCB, name, [1, 0, 0]),
+            Step::Call(17, FCB, Ok(1)),
+            Step::Call(18, FCB, Ok(0xFF)),
+            // S2 of the FCB is not looked at, and becomes the entry's.
+            Step::Fcb(FCB, name, [1, 7, 0]),
+            Step::Call(15, FCB, Ok(1)),
+            Step::Holds(FCB + 12, b"\x01\x00\x00\x01\x02\x00"),
+            Step::Fcb(FCB, name, [2, 7, 0]),
+            Step::Call(15, FCB, Ok(0xFF)),
+            Step::Holds(FCB + 12, b"\x02\x00\x07\x00"),
+            Step::Fcb(FCB, name, [0x3F, 0, 0]),
+            Step::Call(15, FCB, Ok(0)),
+            Step::Holds(FCB + 12, &[0; 20]),
+        ],
+    )?;
+    Ok(())
+}
+
+#[test]
 fn buffer_over_the_fcb(rt: HostRuntime) -> Result<(), Fail> {
     // A search writes no byte of the FCB, so the buffer's bytes stay there.
     let mut m = new_plain(rt.alloc(), b"")?;
@@ -155,6 +205,40 @@ fn extents_of_a_megabyte_disk(rt: HostRuntime) -> Result<(), Fail> {
         &[
             Step::Fcb(FCB, name, [0x3F, 1, 0]),
             Step::Call(15, FCB, Ok(0)),
+        ],
+    )?;
+    Ok(())
+}
+
+#[test]
+fn higher_extent_in_a_lower_entry(rt: HostRuntime) -> Result<(), Fail> {
+    // Entry 0 has extent 32, of S2 1, and entry 1 extent 0.
+    let name = *b"BIG     DAT";
+    let other = *b"A       TXT";
+    let mut m = plain_of(rt.alloc(), DiskKind::Megabyte, b"")?;
+    make_files(&rt, &mut m, &[other, name]);
+    run(
+        &mut m,
+        &[
+            Step::Fcb(FCB, other, [0, 0, 0]),
+            Step::Call(19, FCB, Ok(0)),
+            Step::Fcb(FCB, name, [0, 0, 0]),
+            Step::Numbers([0, 16, 0]),
+            Step::Call(34, FCB, Ok(0)),
+            // 15 takes S2 as 0, also where EX is `?`.
+            Step::Fcb(FCB, name, [0, 1, 0]),
+            Step::Call(15, FCB, Ok(1)),
+            Step::Holds(FCB + 12, &[0; 20]),
+            Step::Fcb(FCB, name, [0x3F, 1, 0]),
+            Step::Call(15, FCB, Ok(1)),
+            // So does 17, but for an EX of `?`.
+            Step::Fcb(FCB, name, [0, 1, 0]),
+            Step::Call(17, FCB, Ok(1)),
+            Step::Call(18, FCB, Ok(0xFF)),
+            Step::Fcb(FCB, name, [0x3F, 1, 0]),
+            Step::Call(17, FCB, Ok(0)),
+            Step::Call(18, FCB, Ok(1)),
+            Step::Call(18, FCB, Ok(0xFF)),
         ],
     )?;
     Ok(())

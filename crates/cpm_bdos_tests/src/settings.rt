@@ -1,7 +1,7 @@
 //! The calls that ask neither console nor disk, and numbers without a function.
 
 use cpm_bdos::{After, Stop};
-use cpm_bdos_steps::new_plain;
+use cpm_bdos_steps::{DMA, FCB, Step, new_plain, run};
 use std::test::Fail;
 use z80_cpu::{Cpu, Flags};
 
@@ -27,6 +27,29 @@ fn values(rt: HostRuntime) -> Result<(), Fail> {
     ] {
         assert_eq!(rt; m.call(function, argument), wanted, "function {function}");
     }
+    Ok(())
+}
+
+#[test]
+fn buffer_after_a_reset(rt: HostRuntime) -> Result<(), Fail> {
+    // 26 moves the buffer, and 13 puts it back to 0080H; the user stays.
+    let mut m = new_plain(rt.alloc(), b"")?;
+    run(
+        &mut m,
+        &[
+            Step::Call(32, 3, Ok(0)),
+            Step::Fcb(FCB, *b"FILE    TXT", [0, 0, 0]),
+            Step::Call(22, FCB, Ok(0)),
+            Step::Call(26, 0x4000, Ok(0)),
+            Step::Call(17, FCB, Ok(0)),
+            Step::Holds(0x4000, b"\x03FILE    TXT"),
+            Step::Holds(DMA, &[0; 128]),
+            Step::Call(13, 0, Ok(0)),
+            Step::Call(17, FCB, Ok(0)),
+            Step::Holds(DMA, b"\x03FILE    TXT"),
+            Step::Call(32, 0x00FF, Ok(3)),
+        ],
+    )?;
     Ok(())
 }
 

@@ -25,13 +25,15 @@ pub fn read_line<C: Console>(
     ensures { ReadsLine (typed_line (byte_at address memory.old) (screen C.dialog terminal.old)) address (screen C.dialog terminal.old) (screen C.dialog terminal.new) memory.old memory.new result }
 {
     let mut buffer = [0; 255];
-    match terminal.read_line(memory.get(address), &mut buffer) {
-        Ok(Some(count)) => {
+    match terminal
+        .read_line(memory.get(address), &mut buffer)
+        .map_err(stop_of)?
+    {
+        Some(count) => {
             put_field(memory, address, 1, &[count]);
             put_field(memory, address, 2, &buffer[..usize::from(count)]);
             Ok(Reply::Value(0))
         }
-        Ok(None) => Ok(Reply::WarmBoot),
-        Err(error) => Err(stop_of(error)),
+        None => Ok(Reply::WarmBoot),
     }
 }

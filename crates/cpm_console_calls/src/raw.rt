@@ -35,10 +35,7 @@ pub fn is_ready<C: Console>(terminal: &Terminal<C>) -> u8
 pub fn take_raw<C: Console>(terminal: &mut Terminal<C>) -> Result<u8, Stop>
     ensures { TakesRaw (screen C.dialog terminal.old) (screen C.dialog terminal.new) result }
 {
-    match terminal.console.get() {
-        Ok(byte) => Ok(byte),
-        Err(error) => Err(stop_of(error)),
-    }
+    terminal.console.get().map_err(stop_of)
 }
 
 /// Puts a byte: the BIOS's CONOUT.
@@ -49,10 +46,7 @@ pub fn take_raw<C: Console>(terminal: &mut Terminal<C>) -> Result<u8, Stop>
 pub fn put_raw<C: Console>(terminal: &mut Terminal<C>, byte: u8) -> Result<(), Stop>
     ensures { PutsRaw (screen C.dialog terminal.old) (screen C.dialog terminal.new) byte result }
 {
-    match terminal.console.put(byte) {
-        Ok(()) => Ok(()),
-        Err(error) => Err(stop_of(error)),
-    }
+    terminal.console.put(byte).map_err(stop_of)
 }
 
 /// Takes the next byte, or answers 0 where none is left, at FFH; puts any other byte: function 6.
@@ -70,9 +64,7 @@ pub fn direct<C: Console>(terminal: &mut Terminal<C>, byte: u8) -> Result<u8, St
             Ok(0)
         }
     } else {
-        match put_raw(terminal, byte) {
-            Ok(()) => Ok(0),
-            Err(stop) => Err(stop),
-        }
+        put_raw(terminal, byte)?;
+        Ok(0)
     }
 }

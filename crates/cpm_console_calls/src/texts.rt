@@ -45,10 +45,7 @@ pub fn take<C: Console>(terminal: &mut Terminal<C>) -> Result<u8, Stop>
 pub fn put<C: Console>(terminal: &mut Terminal<C>, byte: u8) -> Result<(), Stop>
     ensures { Speaks (screen C.dialog terminal.old) (screen C.dialog terminal.new) (put_talk (screen C.dialog terminal.old) byte) result }
 {
-    match terminal.put_char(byte) {
-        Ok(()) => Ok(()),
-        Err(error) => Err(stop_of(error)),
-    }
+    terminal.put_char(byte).map_err(stop_of)
 }
 
 /// Puts the bytes from an address on up to a dollar sign, at most 65,536, tabs as blanks: function 9.

@@ -8,8 +8,8 @@ use crate::stop::Stop;
 use std::marker::Model;
 use z80_cpu::Memory;
 
-/// The byte of a name, or of a drive, that stands for any, `?`.
-const QUESTION: u8 = 0x3F;
+/// The byte of a name, of a drive or of EX that stands for any, `?`.
+pub const QUESTION: u8 = 0x3F;
 
 /// The last drive that a byte may name, from 1 for A.
 const LAST_DRIVE: u8 = 16;
@@ -125,10 +125,8 @@ impl Fcb {
     pub fn judge_file(&self) -> Result<(), Stop>
         ensures { result ≡ file_judged self.now }
     {
-        match self.judge_drive() {
-            Ok(()) => judge_name(&self.name()),
-            Err(stop) => Err(stop),
-        }
+        self.judge_drive()?;
+        judge_name(&self.name())
     }
 
     /// Judges the drive, the name of a file, and the name that it is to have.
@@ -139,10 +137,8 @@ impl Fcb {
     pub fn judge_names(&self) -> Result<(), Stop>
         ensures { result ≡ names_judged self.now }
     {
-        match self.judge_file() {
-            Ok(()) => judge_name(&self.new_name()),
-            Err(stop) => Err(stop),
-        }
+        self.judge_file()?;
+        judge_name(&self.new_name())
     }
 }
 

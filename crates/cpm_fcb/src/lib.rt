@@ -6,5 +6,5 @@ mod fcb;
 mod stop;
 
 pub use bytes::{bytes_at, put_bytes, put_field};
-pub use fcb::Fcb;
+pub use fcb::{Fcb, QUESTION};
 pub use stop::{Stop, stop_of};

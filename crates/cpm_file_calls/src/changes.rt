@@ -25,9 +25,7 @@ pub fn make<S: Sectors>(
     ensures { Makes S.sectors S.faults disk.old disk.new user address memory.old memory.new result }
 {
     let fcb = Fcb::at(memory, address);
-    if let Err(stop) = fcb.judge_file() {
-        return Err(stop);
-    }
+    fcb.judge_file()?;
     match disk.create(user, &Name::new(fcb.name())) {
         Ok(number) => {
             put_field(memory, address, 12, &[0; 20]);
@@ -52,9 +50,7 @@ pub fn erase<S: Sectors>(
     ensures { Erases S.sectors S.faults disk.old disk.new user address memory.now result }
 {
     let fcb = Fcb::at(memory, address);
-    if let Err(stop) = fcb.judge_drive() {
-        return Err(stop);
-    }
+    fcb.judge_drive()?;
     let pattern = Pattern {
         name: fcb.name(),
         extent: 0,
@@ -79,9 +75,7 @@ pub fn rename<S: Sectors>(
     ensures { Renames S.sectors S.faults disk.old disk.new user address memory.now result }
 {
     let fcb = Fcb::at(memory, address);
-    if let Err(stop) = fcb.judge_names() {
-        return Err(stop);
-    }
+    fcb.judge_names()?;
     let old = Name::new(fcb.name());
     let new = Name::new(fcb.new_name());
     renamed(disk.rename(user, &old, &new))

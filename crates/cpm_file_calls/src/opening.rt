@@ -40,9 +40,7 @@ pub fn open<S: Sectors>(
     ensures { Ends (opened S.sectors disk.now user address memory.old) memory.old memory.new result }
 {
     let fcb = Fcb::at(memory, address);
-    if let Err(stop) = fcb.judge_drive() {
-        return Err(stop);
-    }
+    fcb.judge_drive()?;
     let pattern = Pattern {
         name: fcb.name(),
         extent: fcb.extent(),
@@ -77,10 +75,8 @@ pub fn close<S: Sectors>(
     ensures { result ≡ closed S.sectors disk.now user address memory.now }
 {
     let fcb = Fcb::at(memory, address);
-    match fcb.judge_file() {
-        Ok(()) => Ok(code_of(extent_entry(disk, user, &fcb))),
-        Err(stop) => Err(stop),
-    }
+    fcb.judge_file()?;
+    Ok(code_of(extent_entry(disk, user, &fcb)))
 }
 
 /// The entry of the extent that an FCB stands in.

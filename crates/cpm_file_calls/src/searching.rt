@@ -7,12 +7,9 @@ ghost use Rattle.cpm_file_calls.specs.Searching.{SearchesFirst, answer_of, next_
 use crate::opening::code_of;
 use crate::search::{Search, Sought};
 use cpm_disk::{Disk, Pattern};
-use cpm_fcb::{Fcb, Stop, put_bytes, put_field};
+use cpm_fcb::{Fcb, QUESTION, Stop, put_bytes, put_field};
 use cpm_image::Sectors;
 use z80_cpu::Memory;
-
-/// The byte that stands for any, `?`.
-const QUESTION: u8 = 0x3F;
 
 /// Searches for the first entry that matches an FCB. The four entries of its directory record go to the DMA buffer: function
 /// 17.
@@ -31,9 +28,7 @@ pub fn search_first<S: Sectors>(
     ensures { SearchesFirst S.sectors disk.now user dma address search.old search.new memory.old memory.new result }
 {
     let fcb = Fcb::at(memory, address);
-    if let Err(stop) = judge_sought(&fcb) {
-        return Err(stop);
-    }
+    judge_sought(&fcb)?;
     *search = searched(disk, sought_by(&fcb), user, 0);
     put_searched(disk, dma, memory, *search);
     Ok(answer_of(*search))

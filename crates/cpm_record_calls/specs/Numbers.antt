@@ -12,13 +12,13 @@ use Rattle.cpm_fcb.specs.Files.{size_of}
 use Rattle.cpm_record_calls.specs.Places.{place_of, record_at}
 
 -- R0 to R2 as 24 bits, the low byte first
-abbrev pub with_record : ℕ → ℕ → List ℕ → List ℕ
-with_record address number memory = with_bytes (address + 33) ((number % 256) ∷ (number / 256 % 256) ∷ (number / 65536) ∷ []) memory
+abbrev pub with_random : ℕ → ℕ → List ℕ → List ℕ
+with_random address number memory = with_bytes (address + 33) ((number % 256) ∷ (number / 256 % 256) ∷ (number / 65536) ∷ []) memory
 
 -- 35: the size, or 0 and FFH without the file
 abbrev pub sized_as : ℕ → List ℕ → Option ℕ → Result Done Stop
-sized_as address memory (Some size) = done 0 (with_record address size memory)
-sized_as address memory None = done 0xFF (with_record address 0 memory)
+sized_as address memory (Some size) = done 0 (with_random address size memory)
+sized_as address memory None = done 0xFF (with_random address 0 memory)
 
 abbrev pub sized : {S : Type 0} → (S → Image) → Mounted S → ℕ → ℕ → List ℕ → Result Done Stop
 sized sectors disk user address memory =
@@ -29,4 +29,4 @@ sized sectors disk user address memory =
 abbrev pub numbered : DiskKind → ℕ → List ℕ → Result Done Stop
 numbered kind address memory =
     let fcb = fcb_at address memory in
-    and_then (file_judged fcb) (done 0 (with_record address (record_at kind (place_of fcb)) memory))
+    and_then (file_judged fcb) (done 0 (with_random address (record_at kind (place_of fcb)) memory))

@@ -15,8 +15,8 @@ use Rattle.cpm_fcb.specs.Fcbs.{fcb_at, file_judged, name_of, overflow_of, random
 use Rattle.cpm_record_calls.specs.Entries.{with_extent_entry}
 
 -- EX, S2 and CR are set to the place of the record, also where it is not there; a stop leaves them
-abbrev pub with_number : ℕ → ℕ → List ℕ → List ℕ
-with_number address number memory =
+abbrev pub with_place_of : ℕ → ℕ → List ℕ → List ℕ
+with_place_of address number memory =
     with_bytes (address + 32) ((number % 128) ∷ []) (with_bytes (address + 14) ((number / 4096) ∷ []) (with_bytes (address + 12) ((number / 128 % 32) ∷ []) memory))
 
 -- whether a file may have the record of R0 to R2
@@ -30,16 +30,16 @@ Within false old new before now result asked = (result ≡ Ok 6) × (new ≡ old
 
 -- 1 unwritten, 4 no extent or no file
 abbrev pub refused_read : ℕ → ℕ → List ℕ → DiskFault → Result Done Stop
-refused_read address number memory fault.NotFound = done 4 (with_number address number memory)
-refused_read address number memory fault.NoExtent = done 4 (with_number address number memory)
-refused_read address number memory fault.Unwritten = done 1 (with_number address number memory)
+refused_read address number memory fault.NotFound = done 4 (with_place_of address number memory)
+refused_read address number memory fault.NoExtent = done 4 (with_place_of address number memory)
+refused_read address number memory fault.Unwritten = done 1 (with_place_of address number memory)
 refused_read address number memory refusal = Err (stop_of refusal)
 
 -- 33: the record goes to the DMA buffer, and then the FCB changes
 abbrev pub read_at : {S : Type 0} → (S → Image) → Mounted S → ℕ → ℕ → ℕ → ℕ → List ℕ → Result (List ℕ) DiskFault → Result Done Stop
 read_at sectors disk user dma address number memory (Ok bytes) =
     let name = letters (name_of (fcb_at address memory)) in
-    done 0 (with_extent_entry sectors disk user name number address (with_number address number (with_bytes dma bytes memory)))
+    done 0 (with_extent_entry sectors disk user name number address (with_place_of address number (with_bytes dma bytes memory)))
 read_at sectors disk user dma address number memory (Err refusal) = refused_read address number memory refusal
 
 abbrev pub ReadsAt : {S : Type 0} → (S → Image) → (S → ℕ) → Mounted S → Mounted S → ℕ → ℕ → ℕ → List ℕ → List ℕ → Result ℕ Stop → Type 0
@@ -53,15 +53,15 @@ ReadsAt sectors faults old new user dma address before now result =
 
 -- 2 disk full, 5 directory full
 abbrev pub refused_write : ℕ → ℕ → List ℕ → DiskFault → Result Done Stop
-refused_write address number memory fault.DiskFull = done 2 (with_number address number memory)
-refused_write address number memory fault.DirectoryFull = done 5 (with_number address number memory)
+refused_write address number memory fault.DiskFull = done 2 (with_place_of address number memory)
+refused_write address number memory fault.DirectoryFull = done 5 (with_place_of address number memory)
 refused_write address number memory refusal = Err (stop_of refusal)
 
 -- 34
 abbrev pub write_at : {S : Type 0} → (S → Image) → Mounted S → ℕ → ℕ → ℕ → List ℕ → Result ⊤ DiskFault → Result Done Stop
 write_at sectors disk user address number memory (Ok written) =
     let name = letters (name_of (fcb_at address memory)) in
-    done 0 (with_extent_entry sectors disk user name number address (with_number address number memory))
+    done 0 (with_extent_entry sectors disk user name number address (with_place_of address number memory))
 write_at sectors disk user address number memory (Err refusal) = refused_write address number memory refusal
 
 abbrev pub WritesAt : {S : Type 0} → (S → Image) → (S → ℕ) → Mounted S → Mounted S → ℕ → ℕ → ℕ → List ℕ → List ℕ → Result ℕ Stop → Type 0

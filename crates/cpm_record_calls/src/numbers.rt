@@ -2,7 +2,7 @@
 
 ghost use Rattle.std.specs.Prelude.{◌≡◌, ◌<◌, ◌^◌};
 ghost use Rattle.cpm_fcb.specs.Stops.{Ends};
-ghost use Rattle.cpm_record_calls.specs.Numbers.{numbered, sized, with_record};
+ghost use Rattle.cpm_record_calls.specs.Numbers.{numbered, sized, with_random};
 
 use crate::place::Place;
 use cpm_disk::{Disk, DiskKind, Name};
@@ -28,16 +28,14 @@ pub fn size<S: Sectors>(
     ensures { Ends (sized S.sectors disk.now user address memory.old) memory.old memory.new result }
 {
     let fcb = Fcb::at(memory, address);
-    if let Err(stop) = fcb.judge_file() {
-        return Err(stop);
-    }
+    fcb.judge_file()?;
     match disk.size(user, &Name::new(fcb.name())) {
         Some(size) => {
-            put_record(memory, address, size);
+            put_random(memory, address, size);
             Ok(0)
         }
         None => {
-            put_record(memory, address, 0);
+            put_random(memory, address, 0);
             Ok(NO_FILE)
         }
     }
@@ -52,17 +50,15 @@ pub fn set_random(kind: DiskKind, memory: &mut Memory, address: u16) -> Result<u
     ensures { Ends (numbered kind address memory.old) memory.old memory.new result }
 {
     let fcb = Fcb::at(memory, address);
-    if let Err(stop) = fcb.judge_file() {
-        return Err(stop);
-    }
-    put_record(memory, address, Place::of(&fcb).record(kind));
+    fcb.judge_file()?;
+    put_random(memory, address, Place::of(&fcb).record(kind));
     Ok(0)
 }
 
 /// Puts a number of 24 bits to R0 to R2, the low byte first.
-fn put_record(memory: &mut Memory, address: u16, number: u32)
+fn put_random(memory: &mut Memory, address: u16, number: u32)
     requires { number < 2 ^ 24 }
-    ensures { memory.new ≡ with_record address number memory.old }
+    ensures { memory.new ≡ with_random address number memory.old }
 {
     let low = (number % 256) as u8;
     let middle = (number / 256 % 256) as u8;

@@ -2,7 +2,7 @@
 
 ghost use Rattle.std.specs.Prelude.{◌≡◌, ◌<◌};
 ghost use Rattle.cpm_fcb.specs.Stops.{Ends};
-ghost use Rattle.cpm_record_calls.specs.Random.{ReadsAt, WritesAt, is_within, refused_read, refused_write, with_number};
+ghost use Rattle.cpm_record_calls.specs.Random.{ReadsAt, WritesAt, is_within, refused_read, refused_write, with_place_of};
 
 use crate::entries::put_entry;
 use cpm_disk::{Disk, DiskFault, DiskKind, Name};
@@ -42,9 +42,7 @@ pub fn read_at<S: Sectors>(
     ensures { ReadsAt S.sectors S.faults disk.old disk.new user dma address memory.old memory.new result }
 {
     let fcb = Fcb::at(memory, address);
-    if let Err(stop) = fcb.judge_file() {
-        return Err(stop);
-    }
+    fcb.judge_file()?;
     if !is_within(&fcb, disk.kind()) {
         return Ok(TOO_FAR);
     }
@@ -53,7 +51,7 @@ pub fn read_at<S: Sectors>(
     match disk.read_block_of(user, &name, u32::from(number)) {
         Ok(bytes) => {
             put_bytes(memory, dma, &bytes);
-            put_number(memory, address, number);
+            put_place_of(memory, address, number);
             put_entry(disk, user, &name, u32::from(number), memory, address);
             Ok(0)
         }
@@ -78,9 +76,7 @@ pub fn write_at<S: Sectors>(
     ensures { WritesAt S.sectors S.faults disk.old disk.new user dma address memory.old memory.new result }
 {
     let fcb = Fcb::at(memory, address);
-    if let Err(stop) = fcb.judge_file() {
-        return Err(stop);
-    }
+    fcb.judge_file()?;
     if !is_within(&fcb, disk.kind()) {
         return Ok(TOO_FAR);
     }
@@ -88,7 +84,7 @@ pub fn write_at<S: Sectors>(
     let number = fcb.random();
     match disk.write_block_of(user, &name, u32::from(number), &bytes_at(memory, dma)) {
         Ok(()) => {
-            put_number(memory, address, number);
+            put_place_of(memory, address, number);
             put_entry(disk, user, &name, u32::from(number), memory, address);
             Ok(0)
         }
@@ -104,8 +100,8 @@ fn is_within(fcb: &Fcb, kind: DiskKind) -> bool
 }
 
 /// Sets EX, S2 and CR to the place of a record.
-fn put_number(memory: &mut Memory, address: u16, number: u16)
-    ensures { memory.new ≡ with_number address number memory.old }
+fn put_place_of(memory: &mut Memory, address: u16, number: u16)
+    ensures { memory.new ≡ with_place_of address number memory.old }
 {
     put_field(memory, address, 12, &[(number / 128 % 32) as u8]);
     put_field(memory, address, 14, &[(number / 4096) as u8]);
@@ -121,7 +117,7 @@ fn not_read(fault: DiskFault, memory: &mut Memory, address: u16, number: u16) ->
         DiskFault::Unwritten => UNWRITTEN,
         _ => return Err(stop_of(fault)),
     };
-    put_number(memory, address, number);
+    put_place_of(memory, address, number);
     Ok(value)
 }
 
@@ -139,6 +135,6 @@ fn not_written(
         DiskFault::DirectoryFull => DIRECTORY_FULL,
         _ => return Err(stop_of(fault)),
     };
-    put_number(memory, address, number);
+    put_place_of(memory, address, number);
     Ok(value)
 }

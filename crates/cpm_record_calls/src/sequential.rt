@@ -39,9 +39,7 @@ pub fn read_next<S: Sectors>(
 {
     let fcb = Fcb::at(memory, address);
     let kind = disk.kind();
-    if let Err(stop) = judge(&fcb, kind) {
-        return Err(stop);
-    }
+    judge(&fcb, kind)?;
     let old = Place::of(&fcb);
     let Some(new) = old.turned(kind) else {
         return Ok(NO_RECORD);
@@ -77,9 +75,7 @@ pub fn write_next<S: Sectors>(
 {
     let fcb = Fcb::at(memory, address);
     let kind = disk.kind();
-    if let Err(stop) = judge(&fcb, kind) {
-        return Err(stop);
-    }
+    judge(&fcb, kind)?;
     let old = Place::of(&fcb);
     let Some(new) = old.turned(kind) else {
         return Ok(DISK_FULL);
@@ -101,10 +97,8 @@ fn judge(fcb: &Fcb, kind: DiskKind) -> Result<(), Stop>
     ensures judged { result ≡ sequential_judged kind fcb.now }
     ensures within { OnOk result (current_of fcb.now ≤ 128) }
 {
-    match fcb.judge_file() {
-        Ok(()) => Place::of(fcb).judge(kind),
-        Err(stop) => Err(stop),
-    }
+    fcb.judge_file()?;
+    Place::of(fcb).judge(kind)
 }
 
 /// Puts CR behind a record, EX where CR was 128, and S2 where it went up.

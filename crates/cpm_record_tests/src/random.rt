@@ -150,7 +150,7 @@ fn writes(rt: HostRuntime) -> Result<(), Fail> {
 
 #[test]
 fn full_disks(rt: HostRuntime) -> Result<(), Fail> {
-    // A record in each of the 241 blocks, then none is free; 16 extents more than there is room for entries.
+    // A record in each of the 241 blocks, of sixteen extents; then no block is free, though entries are.
     let mut m = new_plain(rt.alloc(), b"")?;
     make_file(&rt, &mut m);
     for block in 1..241u16 {

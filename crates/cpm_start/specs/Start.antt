@@ -1,5 +1,5 @@
 -- The state in which a program begins under CP/M 2.2.
-use Rattle.std.specs.Prelude.{◌≡◌, ◌*◌, ◌≤◌, ◌<◌, ℕ, List, [], ◌∷◌, Result, Ok, Err, length, replicate, slice_index_or, ⊤}
+use Rattle.std.specs.Prelude.{◌≡◌, ◌*◌, ◌≤◌, ◌<◌, ℕ, List, [], ◌∷◌, Result, Ok, Err, length, replicate, slice_index_or}
 use Rattle.std.specs.List.{flat_map, range_with_len}
 use Rattle.z80_cpu.specs.declared.registers.Cpu.{Cpu}
 use Rattle.z80_cpu.specs.Cleared.{cleared}
@@ -51,4 +51,4 @@ abbrev pub IsStart : List ℕ → List (List ℕ) → Result (Cpu × List ℕ) S
 IsStart file words (Ok (cpu, memory)) = (length file ≤ LONGEST_FILE) × (length (tail_of words) ≤ LONGEST_TAIL) × (cpu ≡ start_cpu) × (memory ≡ start_memory file words)
 IsStart file words (Err fault.ComTooLong) = LONGEST_FILE < length file
 IsStart file words (Err fault.TailTooLong) = (length file ≤ LONGEST_FILE) × (LONGEST_TAIL < length (tail_of words))
-IsStart file words (Err fault.NoMemory) = ⊤
+IsStart file words (Err fault.NoMemory) = length file ≤ LONGEST_FILE

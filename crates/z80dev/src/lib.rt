@@ -18,4 +18,4 @@ pub use z80dev_finish::{
     Answer, DONE, FILE_FAULT, FinishFault, Kind, NewFile, Output, REFUSED, Store, USAGE,
     WriteFailed, finish,
 };
-pub use z80dev_make::{Refusal, SourceFile, Told, asm, build, link};
+pub use z80dev_make::{Jumps, Made, Refusal, SourceFile, Told, asm, build, link};

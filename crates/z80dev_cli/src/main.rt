@@ -1,90 +1,56 @@
 //! The command `z80dev`.
 #![tactic(auto)]
 
+mod files;
+mod words;
+
 use clap::Error;
 use clap::error::ErrorKind;
+use files::HostFiles;
 use std::alloc::AllocError;
 use std::fmt::Display;
+use std::io::{LineWriter, Write};
 use std::process::ExitCode;
-use std::{env, fs, io};
+use words::{WordsFault, words_of};
 use z80dev::{
-    Answer, DONE, Fault, Job, Output, REFUSED, SourceFile, Store, USAGE, Watched, WriteFailed, asm,
+    Answer, DONE, Fault, Job, Jumps, Made, Output, REFUSED, SourceFile, Store, USAGE, Watched, asm,
     build, check_texts, commands, finish, link, pipe, read_text,
 };
-use z80dev_disk::{DiskKind, Refusal, blank, dir, file_name, get, one_file, put};
-use z80dev_run::{Ran, conclude, run_program};
+use z80dev_disk::{DiskKind, Refusal, blank, dir, file_name, get, put};
+use z80dev_run::{Ran, Stop, Why, conclude, run_program};
 
 /// The turns of a run that names no number.
 const STEPS: u64 = 100_000_000;
 
-/// The files of the machine that the program runs on, and whether one could not be written.
-#[derive(Drop)]
-struct HostFiles<'a> {
-    rt: &'a HostRuntime,
-    failed: bool,
-}
-
-impl Store for HostFiles<'_> {
-    ghost use Rattle.std.specs.Prelude.{None};
-
-    ghost written = { λ _. None };
-
-    ghost failed = { λ files. files.failed };
-
-    fn write(&mut self, path: &str, bytes: &[u8]) -> Result<(), WriteFailed> {
-        let answer = replace(self.rt, path, bytes);
-        if answer.is_err() {
-            self.failed = true;
+/// Says why the words are not known, and gives the status.
+fn refuse_call(rt: &HostRuntime, fault: WordsFault) -> u8 {
+    match fault {
+        WordsFault::NotText(number) => {
+            let _ = eprintln!(rt; "error: word {number} is not UTF-8");
+            USAGE
         }
-        answer
+        WordsFault::NoMemory => refuse_memory(rt),
     }
 }
 
-/// Writes the bytes beside the file, and gives them its name when all are written.
-fn replace(rt: &HostRuntime, path: &str, bytes: &[u8]) -> Result<(), WriteFailed> {
-    let Ok(part) = format!(in rt.alloc(); "{path}.part") else {
-        return Err(WriteFailed);
-    };
-    let answer = write_new(rt, &part, bytes);
-    if answer.is_ok() && fs::rename(rt, &part, path).is_ok() {
-        return Ok(());
-    }
-    let _ = fs::remove_file(rt, &part);
-    Err(WriteFailed)
-}
-
-/// Writes a file anew.
-fn write_new(rt: &HostRuntime, path: &str, bytes: &[u8]) -> Result<(), WriteFailed> {
-    match fs::create(rt, path) {
-        Ok(file) => Output::new(file).put(bytes),
-        Err(_) => Err(WriteFailed),
+/// Prints the help or the version, and gives the status.
+fn show(rt: &HostRuntime, text: &Error) -> u8 {
+    match text.print(rt) {
+        Ok(()) => DONE,
+        Err(_) => refuse_file(rt, "-", &Fault::File),
     }
 }
 
-/// The words that the program was called with, its name first.
-fn words_of(rt: &HostRuntime) -> io::Result<Vec<String>> {
-    Ok(env::args(rt)?.collect(rt.alloc())?)
-}
-
-/// Says what is wrong with the words, or the help that they call for, and gives the status. A fault of a standard stream
-/// does not change it.
+/// Says what is wrong with the words, or shows the help that they call for, and gives the status. A fault of standard error does not
+/// change it.
 fn refuse_words(rt: &HostRuntime, error: &Error) -> u8 {
-    let _ = match error.kind() {
-        ErrorKind::OutOfMemory => eprintln!(rt; "error: NoMemory"),
-        _ => error.print(rt),
-    };
     match error.kind() {
-        ErrorKind::OutOfMemory => REFUSED,
-        ErrorKind::DisplayHelp | ErrorKind::DisplayVersion => DONE,
-        _ => USAGE,
-    }
-}
-
-/// The bytes of a file.
-fn read_file(rt: &HostRuntime, path: &str) -> Result<Vec<u8>, Fault> {
-    match fs::open(rt, path) {
-        Ok(file) => read_text(rt.alloc(), &mut Watched::new(file)),
-        Err(_) => Err(Fault::File),
+        ErrorKind::OutOfMemory => refuse_memory(rt),
+        ErrorKind::DisplayHelp | ErrorKind::DisplayVersion => show(rt, error),
+        _ => {
+            let _ = error.print(rt);
+            USAGE
+        }
     }
 }
 
@@ -99,7 +65,7 @@ fn refuse_file(rt: &HostRuntime, path: &str, fault: &Fault) -> u8 {
 
 /// The bytes of a file. Where it is not read it is said why, and the status is given.
 fn read(rt: &HostRuntime, path: &str) -> Result<Vec<u8>, u8> {
-    match read_file(rt, path) {
+    match files::read(rt, path) {
         Ok(bytes) => Ok(bytes),
         Err(fault) => Err(refuse_file(rt, path, &fault)),
     }
@@ -125,7 +91,7 @@ fn refuse_memory(rt: &HostRuntime) -> u8 {
 
 /// Does what a command answers.
 fn finish_files<R: Copy + Display>(rt: &HostRuntime, out: &str, answer: &Answer<R>) -> u8 {
-    let mut files = HostFiles { rt, failed: false };
+    let mut files = HostFiles::new(rt);
     let mut output = Output::new(rt.stdout());
     let mut errors = Output::new(rt.stderr());
     finish(
@@ -166,12 +132,19 @@ fn link_files(rt: &HostRuntime, out: &str, paths: &[&str]) -> Result<u8, u8> {
     Ok(finish_files(rt, out, &link(rt.alloc(), &objects)))
 }
 
+/// What is asked of `build`, but for its sources.
+#[derive(Clone, Copy)]
+struct Wanted<'a> {
+    out: &'a str,
+    grow: bool,
+    list: bool,
+    verbose: bool,
+}
+
 /// Builds the program of sources that were read.
 fn build_texts(
     rt: &HostRuntime,
-    out: &str,
-    grow: bool,
-    list: bool,
+    wanted: Wanted<'_>,
     paths: &[&str],
     texts: &[Vec<u8>],
 ) -> Result<u8, AllocError> {
@@ -179,20 +152,25 @@ fn build_texts(
     for (path, text) in paths.iter().zip(texts) {
         sources.push(SourceFile { path: *path, text })?;
     }
-    let answer = build(rt.alloc(), &sources, grow, list);
-    Ok(finish_files(rt, out, &answer))
+    let Made { answer, jumps } = build(rt.alloc(), &sources, wanted.grow, wanted.list);
+    let status = finish_files(rt, wanted.out, &answer);
+    if wanted.verbose && status == DONE {
+        tell_jumps(rt, jumps);
+    }
+    Ok(status)
+}
+
+/// Says how many jumps of a program are short and long. A fault of standard error changes nothing.
+fn tell_jumps(rt: &HostRuntime, jumps: Option<Jumps>) {
+    if let Some(jumps) = jumps {
+        let _ = eprintln!(rt; "{jumps}");
+    }
 }
 
 /// Builds the program of the sources in files.
-fn build_files(
-    rt: &HostRuntime,
-    out: &str,
-    grow: bool,
-    list: bool,
-    paths: &[&str],
-) -> Result<u8, u8> {
+fn build_files(rt: &HostRuntime, wanted: Wanted<'_>, paths: &[&str]) -> Result<u8, u8> {
     let texts = read_all(rt, paths)?;
-    match build_texts(rt, out, grow, list, paths, &texts) {
+    match build_texts(rt, wanted, paths, &texts) {
         Ok(status) => Ok(status),
         Err(_) => Err(refuse_memory(rt)),
     }
@@ -238,22 +216,33 @@ fn blank_image(rt: &HostRuntime, mega: bool, image: &str) -> u8 {
     finish_files(rt, image, &blank(rt.alloc(), kind))
 }
 
-/// Writes the image of a run, where it has a disk of its own, and says why it stopped, if it has not finished.
-fn end_run<W: Drop>(rt: &HostRuntime, disk: Option<&str>, ran: Ran<W>) -> u8 {
-    let Ran { why, pc, image, .. } = ran;
-    if let Some(path) = disk {
-        let status = match one_file(rt.alloc(), image) {
-            Ok(answer) => finish_files(rt, path, &answer),
-            Err(_) => refuse_memory(rt),
-        };
-        if status != DONE {
-            return status;
+/// Writes the image of a run, where it has a disk of its own. It asks for no memory, so that no change of the disk is lost for want of it.
+fn keep_disk<W>(rt: &HostRuntime, disk: Option<&str>, ran: &Ran<W>) -> Result<(), u8> {
+    match disk {
+        Some(path) if HostFiles::new(rt).write(path, ran.image_bytes()).is_err() => {
+            Err(refuse_file(rt, path, &Fault::File))
         }
+        _ => Ok(()),
     }
-    conclude(rt.alloc(), why, pc, &mut Output::new(rt.stderr()))
 }
 
-/// Runs a program on a disk, on a blank one where none is given.
+/// Writes what a run leaves, and says why it stopped, if it has not finished.
+fn end_run<W: Write + Drop>(
+    rt: &HostRuntime,
+    disk: Option<&str>,
+    mut ran: Ran<W>,
+) -> Result<u8, u8> {
+    let printed = ran.output.flush();
+    keep_disk(rt, disk, &ran)?;
+    let why = match printed {
+        Ok(()) => ran.why,
+        Err(_) => Why::Stopped(Stop::ConsoleFault),
+    };
+    let mut errors = Output::new(rt.stderr());
+    Ok(conclude(rt.alloc(), why, ran.pc, &mut errors))
+}
+
+/// Runs a program on a disk, on a blank one where none is given. What it prints is written a line at a time.
 fn run_file(
     rt: &HostRuntime,
     disk: Option<&str>,
@@ -271,8 +260,11 @@ fn run_file(
         Ok(text) => text,
         Err(fault) => return Err(refuse_file(rt, "-", &fault)),
     };
-    match run_program(alloc, &program, words, &image, &input, rt.stdout(), steps) {
-        Ok(ran) => Ok(end_run(rt, disk, ran)),
+    let Ok(output) = LineWriter::new(alloc, rt.stdout()) else {
+        return Err(refuse_memory(rt));
+    };
+    match run_program(alloc, &program, words, &image, &input, output, steps) {
+        Ok(ran) => end_run(rt, disk, ran),
         Err(refusal) => Err(finish_files(rt, "", &Answer::refused(alloc, refusal))),
     }
 }
@@ -295,8 +287,17 @@ fn work(rt: &HostRuntime, job: Job<'_>) -> Result<u8, u8> {
             out,
             grow,
             list,
+            verbose,
             sources,
-        } => build_files(rt, out, grow, list, &sources),
+        } => {
+            let wanted = Wanted {
+                out,
+                grow,
+                list,
+                verbose,
+            };
+            build_files(rt, wanted, &sources)
+        }
         Job::Check { sizes, cert } => check_files(rt, sizes, cert),
         Job::Dir { image } => dir_image(rt, image),
         Job::Put { image, file, name } => put_file(rt, image, file, name),
@@ -314,10 +315,7 @@ fn work(rt: &HostRuntime, job: Job<'_>) -> Result<u8, u8> {
 fn main(rt: HostRuntime) -> ExitCode {
     let words = match words_of(&rt) {
         Ok(words) => words,
-        Err(error) => {
-            let _ = eprintln!(rt; "error: {error}");
-            return ExitCode::from(USAGE);
-        }
+        Err(fault) => return ExitCode::from(refuse_call(&rt, fault)),
     };
     ExitCode::from(match commands(rt.alloc(), &words) {
         Ok(job) => match work(&rt, job) {

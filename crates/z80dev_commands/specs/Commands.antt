@@ -46,6 +46,10 @@ words_rule name = record (paths_rule name) { required = false }
 abbrev pub flag_rule : Text → Rule
 flag_rule name = record (new_rule name) { long = Some name; action = Some SetTrue }
 
+-- `--verbose`, or `-v`
+abbrev pub verbose_rule : Rule
+verbose_rule = record (flag_rule (codes "verbose")) { short = Some 118 }
+
 -- ---- commands
 
 -- a command of this name with these arguments
@@ -60,9 +64,9 @@ asm_shape = with_rules (codes "asm") (out_rule ∷ flag_rule (codes "grow") ∷ 
 abbrev pub link_shape : Shape
 link_shape = with_rules (codes "link") (out_rule ∷ paths_rule (codes "OBJ") ∷ [])
 
--- `build --out BASE [--grow] [--list] SRC..`
+-- `build --out BASE [--grow] [--list] [--verbose] SRC..`
 abbrev pub build_shape : Shape
-build_shape = with_rules (codes "build") (out_rule ∷ flag_rule (codes "grow") ∷ flag_rule (codes "list") ∷ paths_rule (codes "SRC") ∷ [])
+build_shape = with_rules (codes "build") (out_rule ∷ flag_rule (codes "grow") ∷ flag_rule (codes "list") ∷ verbose_rule ∷ paths_rule (codes "SRC") ∷ [])
 
 -- `check SIZES CERT`
 abbrev pub check_shape : Shape
@@ -146,8 +150,8 @@ IsJobOf met Pipe = met ≡ None
 IsJobOf met (Asm out grow source) =
     Meets met (codes "asm") (λ rows. Finds (codes "BASE") out rows × (is_on (codes "grow") rows ≡ grow) × Finds (codes "SRC") source rows)
 IsJobOf met (Link out objects) = Meets met (codes "link") (λ rows. Finds (codes "BASE") out rows × FindsAll (codes "OBJ") objects.items rows)
-IsJobOf met (Build out grow list sources) = Meets met (codes "build") (λ rows. Finds (codes "BASE") out rows
-    × (is_on (codes "grow") rows ≡ grow) × (is_on (codes "list") rows ≡ list) × FindsAll (codes "SRC") sources.items rows)
+IsJobOf met (Build out grow list verbose sources) = Meets met (codes "build") (λ rows. Finds (codes "BASE") out rows
+    × (is_on (codes "grow") rows ≡ grow) × (is_on (codes "list") rows ≡ list) × (is_on (codes "verbose") rows ≡ verbose) × FindsAll (codes "SRC") sources.items rows)
 IsJobOf met (Check sizes cert) = Meets met (codes "check") (λ rows. Finds (codes "SIZES") sizes rows × Finds (codes "CERT") cert rows)
 IsJobOf met (Dir image) = Meets met (codes "dir") (λ rows. Finds (codes "IMG") image rows)
 IsJobOf met (Put image file name) = Meets met (codes "put") (λ rows. Finds (codes "IMG") image rows × Finds (codes "FILE") file rows × Finds (codes "NAME") name rows)

@@ -91,6 +91,7 @@ fn build<'a>(alloc: Global, found: &ArgMatches<'a>) -> Result<Job<'a>, AllocErro
         out: text(found, "BASE"),
         grow: flag(found, "grow"),
         list: flag(found, "list"),
+        verbose: flag(found, "verbose"),
         sources: texts(alloc, found, "SRC")?,
     })
 }

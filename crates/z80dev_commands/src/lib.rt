@@ -1,6 +1,7 @@
 //! The words of the command `z80dev`: which job they ask for.
 #![tactic(auto)]
 
+mod help;
 mod jobs;
 mod usage;
 
@@ -30,11 +31,13 @@ pub enum Job<'a> {
         objects: Vec<&'a str>,
     },
     /// Assembles and links source texts: the path of what is written, without its ending, whether a written `JR` may
-    /// grow, whether a listing and the symbols are written, and the paths of the texts in the order of the words.
+    /// grow, whether a listing and the symbols are written, whether it is said how many jumps are short, and the paths of the texts in the
+    /// order of the words.
     Build {
         out: &'a str,
         grow: bool,
         list: bool,
+        verbose: bool,
         sources: Vec<&'a str>,
     },
     /// Checks a certificate: the paths of the sizes text and of the certificate.

@@ -3,17 +3,15 @@
 ghost use Rattle.std.specs.Prelude.{◌≡◌, IfOk, Ok, false, codes};
 ghost use Rattle.clap.specs.Words.{AddsSubcommand, app_of, new_app, rule_of};
 ghost use Rattle.clap.specs.declared.builder.command.Command.TheViews.{out-Command};
-ghost use Rattle.z80dev_commands.specs.Commands.{asm_shape, bare, blank_shape, build_shape, check_shape, dir_shape, flag_rule, get_shape, link_shape, number_rule, option_rule, out_rule, path_rule, paths_rule, programs, put_shape, run_shape, words_rule, z80dev};
+ghost use Rattle.z80dev_commands.specs.Commands.{asm_shape, bare, blank_shape, build_shape, check_shape, dir_shape, flag_rule, get_shape, link_shape, number_rule, option_rule, out_rule, path_rule, paths_rule, programs, put_shape, run_shape, verbose_rule, words_rule, z80dev};
 ghost use Rattle.z80dev_commands.specs.Private.{alone};
 
+use crate::help;
 use clap::{Arg, ArgAction, Command, value_parser};
 use std::alloc::{AllocError, Global};
 
 /// The version of the command, and the toolchain that its proofs were made with.
 const VERSION: &str = "0.1.0, proved with rattle-kit-13b";
-
-/// How the command is used, below its help.
-const EXAMPLE: &str = "Example: printf 'JP X\\nNOP\\nX: RET\\n' | z80dev   prints 180100c9";
 
 /// A path that has to be given, and what is said of it.
 fn path<'a>(alloc: Global, name: &'a str, help: &'a str) -> Arg<'a>
@@ -46,7 +44,7 @@ fn out<'a>(alloc: Global) -> Arg<'a>
     path(
         alloc,
         "BASE",
-        "The path of what is written, without its ending",
+        "The path of each file that is written, without its ending",
     )
     .long("out")
 }
@@ -71,7 +69,7 @@ fn steps<'a>(alloc: Global) -> Arg<'a>
         alloc,
         "steps",
         "N",
-        "The most turns that the program may take",
+        "The most turns (instructions, repetitions, system calls), else 100000000",
     )
     .value_parser(value_parser!(u64))
 }
@@ -99,12 +97,25 @@ fn grow<'a>(alloc: Global) -> Arg<'a>
     )
 }
 
-/// A command without its arguments: what it reads and writes in a line, and an example below its help.
-fn titled<'a>(alloc: Global, name: &'a str, about: &'a str, example: &'a str) -> Command<'a>
+/// `--verbose`, or `-v`.
+fn verbose<'a>(alloc: Global) -> Arg<'a>
+    ensures rule { rule_of result ≡ verbose_rule }
+    ensures local { result.global ≡ false }
+{
+    flag(
+        alloc,
+        "verbose",
+        "Says on standard error how many jumps are short and long, and the bytes saved",
+    )
+    .short('v')
+}
+
+/// A command without its arguments: what it does in a line, and what stands below its help.
+fn titled<'a>(alloc: Global, name: &'a str, about: &'a str, below: &'a str) -> Command<'a>
     ensures app { app_of result ≡ new_app name.now }
     ensures local { (out-Command result).has_globals ≡ false }
 {
-    Command::new(alloc, name).about(about).after_help(example)
+    Command::new(alloc, name).about(about).after_help(below)
 }
 
 fn asm<'a>(alloc: Global) -> Result<Command<'a>, AllocError>
@@ -114,8 +125,8 @@ fn asm<'a>(alloc: Global) -> Result<Command<'a>, AllocError>
     titled(
         alloc,
         "asm",
-        "Assembles a source text: reads SRC, writes the object file BASE.zmo",
-        "Example: z80dev asm --out MAIN MAIN.ASM",
+        "Assembles a source text to an object",
+        help::ASM,
     )
     .arg(out(alloc))?
     .arg(grow(alloc))?
@@ -126,18 +137,13 @@ fn link<'a>(alloc: Global) -> Result<Command<'a>, AllocError>
     ensures app { IfOk result (λ c. app_of c ≡ alone link_shape) }
     ensures local { IfOk result (λ c. (out-Command c).has_globals ≡ false) }
 {
-    titled(
-        alloc,
-        "link",
-        "Links object files: reads each OBJ, writes the sizes BASE.siz, the certificate BASE.crt and the file BASE.com",
-        "Example: z80dev link --out PROG MAIN.zmo PRINT.zmo",
-    )
-    .arg(out(alloc))?
-    .arg(paths(
-        alloc,
-        "OBJ",
-        "The object files, in the order of their modules",
-    ))
+    titled(alloc, "link", "Links objects to a program", help::LINK)
+        .arg(out(alloc))?
+        .arg(paths(
+            alloc,
+            "OBJ",
+            "The objects, in the order in which they are laid",
+        ))
 }
 
 fn build<'a>(alloc: Global) -> Result<Command<'a>, AllocError>
@@ -147,20 +153,21 @@ fn build<'a>(alloc: Global) -> Result<Command<'a>, AllocError>
     titled(
         alloc,
         "build",
-        "Assembles and links source texts: reads each SRC, writes BASE.siz, BASE.crt and BASE.com",
-        "Example: z80dev build --out PROG MAIN.ASM PRINT.ASM",
+        "Assembles and links source texts to a program",
+        help::BUILD,
     )
     .arg(out(alloc))?
     .arg(grow(alloc))?
     .arg(flag(
         alloc,
         "list",
-        "Writes the listing BASE.lst and the symbols BASE.sym too",
+        "Writes the listing BASE.lst and the labels BASE.sym too",
     ))?
+    .arg(verbose(alloc))?
     .arg(paths(
         alloc,
         "SRC",
-        "The source texts, in the order of their modules",
+        "The source texts, in the order in which they are laid",
     ))
 }
 
@@ -171,14 +178,14 @@ fn check<'a>(alloc: Global) -> Result<Command<'a>, AllocError>
     titled(
         alloc,
         "check",
-        "Checks a certificate: reads SIZES and CERT, prints `best N`, `range K` or `size N`",
-        "Example: z80dev check PROG.siz PROG.crt",
+        "Proves the certificate of a program's length",
+        help::CHECK,
     )
     .arg(path(alloc, "SIZES", "The sizes text: a line for each statement"))?
     .arg(path(
         alloc,
         "CERT",
-        "The certificate: the jumps that must be long, and the verdict",
+        "The certificate: the jumps that have to be long, and the verdict",
     ))
 }
 
@@ -187,11 +194,9 @@ fn bare<'a>(alloc: Global) -> Result<Command<'a>, AllocError>
     ensures app { IfOk result (λ c. app_of c ≡ bare) }
 {
     Command::new(alloc, "z80dev")
-        .about(
-            "Without a command: prints the .COM file of the Z80 source text on standard input in hexadecimal",
-        )
+        .about("Makes Z80 programs for CP/M 2.2, puts them on disks and runs them")
         .version(VERSION)
-        .after_help(EXAMPLE)
+        .after_help(help::WITHOUT_COMMAND)
         .disable_help_subcommand(true)
         .bin_name("z80dev")
 }
@@ -201,7 +206,7 @@ fn image<'a>(alloc: Global) -> Arg<'a>
     ensures rule { rule_of result ≡ path_rule (codes "IMG") }
     ensures local { result.global ≡ false }
 {
-    path(alloc, "IMG", "The image of the disk")
+    path(alloc, "IMG", "The path of the disk's image")
 }
 
 /// The name of a file on a disk.
@@ -216,43 +221,27 @@ fn dir<'a>(alloc: Global) -> Result<Command<'a>, AllocError>
     ensures app { IfOk result (λ c. app_of c ≡ alone dir_shape) }
     ensures local { IfOk result (λ c. (out-Command c).has_globals ≡ false) }
 {
-    titled(
-        alloc,
-        "dir",
-        "Lists the files of a disk: reads IMG, prints `USER NAME.TYP RECORDS` for each, and RO, SYS where they are set",
-        "Example: z80dev dir A.IMG",
-    )
-    .arg(image(alloc))
+    titled(alloc, "dir", "Lists the files of a disk", help::DIR).arg(image(alloc))
 }
 
 fn put<'a>(alloc: Global) -> Result<Command<'a>, AllocError>
     ensures app { IfOk result (λ c. app_of c ≡ alone put_shape) }
     ensures local { IfOk result (λ c. (out-Command c).has_globals ≡ false) }
 {
-    titled(
-        alloc,
-        "put",
-        "Puts a file on a disk, for user 0: reads IMG and FILE, writes IMG",
-        "Example: z80dev put A.IMG numbers.com NUMBERS.COM",
-    )
-    .arg(image(alloc))?
-    .arg(path(alloc, "FILE", "The file that is put"))?
-    .arg(name(alloc))
+    titled(alloc, "put", "Puts a file on a disk", help::PUT)
+        .arg(image(alloc))?
+        .arg(path(alloc, "FILE", "The path of the file that is put"))?
+        .arg(name(alloc))
 }
 
 fn get<'a>(alloc: Global) -> Result<Command<'a>, AllocError>
     ensures app { IfOk result (λ c. app_of c ≡ alone get_shape) }
     ensures local { IfOk result (λ c. (out-Command c).has_globals ≡ false) }
 {
-    titled(
-        alloc,
-        "get",
-        "Gets a file of user 0 of a disk: reads IMG, writes FILE",
-        "Example: z80dev get A.IMG NUMBERS.COM numbers.com",
-    )
-    .arg(image(alloc))?
-    .arg(name(alloc))?
-    .arg(path(alloc, "FILE", "The file that is written"))
+    titled(alloc, "get", "Gets a file from a disk", help::GET)
+        .arg(image(alloc))?
+        .arg(name(alloc))?
+        .arg(path(alloc, "FILE", "The path of the file that is written"))
 }
 
 fn blank<'a>(alloc: Global) -> Result<Command<'a>, AllocError>
@@ -262,10 +251,14 @@ fn blank<'a>(alloc: Global) -> Result<Command<'a>, AllocError>
     titled(
         alloc,
         "blank",
-        "Makes the image of a blank disk: writes IMG, of 256,256 bytes or with --mega of 1,048,576",
-        "Example: z80dev blank A.IMG",
+        "Makes the image of a blank disk",
+        help::BLANK,
     )
-    .arg(flag(alloc, "mega", "A disk of 1,048,576 bytes"))?
+    .arg(flag(
+        alloc,
+        "mega",
+        "Makes one of 1,048,576 bytes instead of 256,256",
+    ))?
     .arg(image(alloc))
 }
 
@@ -281,21 +274,16 @@ fn run<'a>(alloc: Global) -> Result<Command<'a>, AllocError>
     ensures app { IfOk result (λ c. app_of c ≡ alone run_shape) }
     ensures local { IfOk result (λ c. (out-Command c).has_globals ≡ false) }
 {
-    titled(
-        alloc,
-        "run",
-        "Runs a CP/M program: reads COM, IMG and standard input, prints what the program prints, writes IMG",
-        "Example: z80dev run --disk A.IMG PROG.COM FILE.TXT",
-    )
-    .arg(option(
-        alloc,
-        "disk",
-        "IMG",
-        "The image of the disk, else a blank disk",
-    ))?
-    .arg(steps(alloc))?
-    .arg(path(alloc, "COM", "The program"))?
-    .arg(words(alloc))
+    titled(alloc, "run", "Runs a CP/M program", help::RUN)
+        .arg(option(
+            alloc,
+            "disk",
+            "IMG",
+            "The path of the image of drive A, else a blank disk",
+        ))?
+        .arg(steps(alloc))?
+        .arg(path(alloc, "COM", "The path of the program"))?
+        .arg(words(alloc))
 }
 
 /// A command with one more, where memory lasted for both.

@@ -75,19 +75,27 @@ fn jobs(rt: HostRuntime) -> Result<(), Fail> {
         ),
         (
             "z80dev build --out A B",
-            r#"Build { out: "A", grow: false, list: false, sources: ["B"] }"#,
+            r#"Build { out: "A", grow: false, list: false, verbose: false, sources: ["B"] }"#,
         ),
         (
             "z80dev build --out A --grow B",
-            r#"Build { out: "A", grow: true, list: false, sources: ["B"] }"#,
+            r#"Build { out: "A", grow: true, list: false, verbose: false, sources: ["B"] }"#,
         ),
         (
             "z80dev build --out A --list B",
-            r#"Build { out: "A", grow: false, list: true, sources: ["B"] }"#,
+            r#"Build { out: "A", grow: false, list: true, verbose: false, sources: ["B"] }"#,
         ),
         (
             "z80dev build C B --list --grow --out A",
-            r#"Build { out: "A", grow: true, list: true, sources: ["C", "B"] }"#,
+            r#"Build { out: "A", grow: true, list: true, verbose: false, sources: ["C", "B"] }"#,
+        ),
+        (
+            "z80dev build -v --out A B",
+            r#"Build { out: "A", grow: false, list: false, verbose: true, sources: ["B"] }"#,
+        ),
+        (
+            "z80dev build --verbose --out A B",
+            r#"Build { out: "A", grow: false, list: false, verbose: true, sources: ["B"] }"#,
         ),
         (
             "z80dev check a.siz b.crt",
@@ -207,6 +215,11 @@ fn faults(rt: HostRuntime) -> Result<(), Fail> {
             ErrorKind::ArgumentConflict,
         ),
         ("z80dev build --out A B --frob", ErrorKind::UnknownArgument),
+        (
+            "z80dev build --out A -v --verbose B",
+            ErrorKind::ArgumentConflict,
+        ),
+        ("z80dev link -v --out A B", ErrorKind::UnknownArgument),
         ("z80dev check", ErrorKind::MissingRequiredArgument),
         ("z80dev check a b c", ErrorKind::UnknownArgument),
         ("z80dev dir", ErrorKind::MissingRequiredArgument),
@@ -259,19 +272,17 @@ fn helps(rt: HostRuntime) -> Result<(), Fail> {
     let rows = [
         (
             "z80dev --help",
-            "\n  asm    Assembles a source text: reads SRC, writes ",
+            "\n  asm    Assembles a source text to an object\n",
         ),
+        ("z80dev --help", "\n  link   Links objects to a program\n"),
         (
             "z80dev --help",
-            "\n  link   Links object files: reads each OBJ, writes ",
+            "\n  build  Assembles and links source texts to a program\n",
         ),
+        ("z80dev --help", "\n  run    Runs a CP/M program\n"),
         (
             "z80dev --help",
-            "\n  build  Assembles and links source texts: reads each SRC, writes ",
-        ),
-        (
-            "z80dev --help",
-            "\n  check  Checks a certificate: reads SIZES and CERT, prints ",
+            "\nWithout a command z80dev waits for a source text on standard input",
         ),
         (
             "z80dev asm -h",
@@ -279,7 +290,7 @@ fn helps(rt: HostRuntime) -> Result<(), Fail> {
         ),
         (
             "z80dev asm -h",
-            "\nExample: z80dev asm --out MAIN MAIN.ASM\n",
+            "\nExample: z80dev asm --out main main.asm\nwrites main.zmo.\n",
         ),
         (
             "z80dev link -h",
@@ -287,23 +298,28 @@ fn helps(rt: HostRuntime) -> Result<(), Fail> {
         ),
         (
             "z80dev link -h",
-            "\nExample: z80dev link --out PROG MAIN.zmo PRINT.zmo\n",
+            "\nExample: z80dev link --out game main.zmo print.zmo\n",
         ),
         (
             "z80dev build -h",
             "Usage: z80dev build [OPTIONS] --out <BASE> <SRC>...\n",
         ),
+        ("z80dev build -h", "\n  -v, --verbose "),
         (
             "z80dev build -h",
-            "\nExample: z80dev build --out PROG MAIN.ASM PRINT.ASM\n",
+            "\nExample: z80dev build --list --out game main.asm print.asm\n",
         ),
         (
             "z80dev check -h",
-            "\nExample: z80dev check PROG.siz PROG.crt\n",
+            "\nExample: z80dev check game.siz game.crt\n",
         ),
         ("z80dev put -h", "Usage: z80dev put <IMG> <FILE> <NAME>\n"),
+        (
+            "z80dev put -h",
+            "\nExample: z80dev put a.img game.com GAME.COM\n",
+        ),
         ("z80dev get -h", "Usage: z80dev get <IMG> <NAME> <FILE>\n"),
-        ("z80dev dir -h", "\nExample: z80dev dir A.IMG\n"),
+        ("z80dev dir -h", "\nExample: z80dev dir a.img\n"),
         ("z80dev blank -h", "Usage: z80dev blank [OPTIONS] <IMG>\n"),
         (
             "z80dev run -h",
@@ -312,7 +328,7 @@ fn helps(rt: HostRuntime) -> Result<(), Fail> {
         ("z80dev run -h", "\n      --steps <N> "),
         (
             "z80dev run -h",
-            "\nExample: z80dev run --disk A.IMG PROG.COM FILE.TXT\n",
+            "\nExample: z80dev run --disk a.img game.com FILE.TXT\n",
         ),
     ];
     for (line, part) in rows {

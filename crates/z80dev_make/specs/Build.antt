@@ -1,5 +1,5 @@
 -- What `build` answers of sources.
-use Rattle.std.specs.Prelude.{◌≡◌, ℕ, Bool, true, false, List, [], ◌∷◌, ◌++◌, None, Some, Option, Result, Ok, Err, codes, decimal, slice_get}
+use Rattle.std.specs.Prelude.{◌≡◌, ◌⊎◌, ℕ, Bool, true, false, List, [], ◌∷◌, ◌++◌, None, Some, Option, Result, Ok, Err, codes, decimal, slice_get}
 use Rattle.std.specs.List.{AllZip, flat_map}
 use Rattle.zlink.specs.declared.building.Built.{Built}
 use Rattle.zlink.specs.declared.fault.BuildFault.{BuildFault}
@@ -14,6 +14,8 @@ use Rattle.z80dev_finish.specs.declared.answer.Kind.{Kind}
 use Rattle.z80dev_finish.specs.declared.answer.Kind.TheVariants as kind
 use Rattle.z80dev_make.specs.declared.answer.SourceFile.{SourceFile}
 use Rattle.z80dev_finish.specs.Answers.{Answer, nothing}
+use Rattle.z80dev_make.specs.declared.jumps.Jumps.{Jumps}
+use Rattle.z80dev_make.specs.Jumps.{jumps_of}
 use Rattle.z80dev_make.specs.Answers.{IsSource, no_program, program_files}
 
 abbrev pub path_of : Option SourceFile → List ℕ
@@ -46,11 +48,16 @@ build_answer list files sources (Ok b) = record { files = built_files list sourc
 build_answer list files sources (Err (build.Asm source fault)) = nothing (refusal_text (path_at files source) (of_source fault))
 build_answer list files sources (Err (build.Link fault)) = no_program fault
 
--- Each source is named by its path, and this is what building them answers.
-pub record IsBuild (files : List SourceFile) (grow list : Bool) (answer : Answer) : Type 0 where
+-- Each source is named by its path, this is what building them answers, and these are the jumps of the program.
+pub record IsBuild (files : List SourceFile) (grow list : Bool) (answer : Answer) (jumps : Option Jumps) : Type 0 where
   pub sources : List Source
   pub named : AllZip IsSource files sources
   pub result : Result Built BuildFault
   pub built : IsBuilt grow sources result
   pub exact : IsExact grow sources result
   pub answers : answer ≡ build_answer list files sources result
+  pub counted : jumps ≡ jumps_of result
+
+-- .. or memory ran out.
+abbrev pub IsMade : List SourceFile → Bool → Bool → Answer → Option Jumps → Type 0
+IsMade files grow list answer jumps = ((answer ≡ nothing (codes "NoMemory")) × (jumps ≡ None)) ⊎ IsBuild files grow list answer jumps

@@ -1,5 +1,6 @@
 pub mod Answers
 pub mod Asm
 pub mod Link
+pub mod Jumps
 pub mod Build
 pub mod Private

@@ -2,11 +2,11 @@
 
 ghost use Rattle.std.specs.Prelude.{◌≡◌, IfOk, Ok, false, slice_get, string_bytes, true};
 ghost use Rattle.std.specs.List.{AllZip};
-ghost use Rattle.z80dev_finish.specs.Answers.{MemoryAside};
 ghost use Rattle.z80dev_make.specs.Answers.{IsSource, answer_of};
-ghost use Rattle.z80dev_make.specs.Build.{IsBuild, build_answer, grown_lines, line_from, path_at};
+ghost use Rattle.z80dev_make.specs.Build.{IsBuild, IsMade, build_answer, grown_lines, line_from, path_at};
 
 use crate::answer::{SourceFile, no_program, program, refused, without_memory};
+use crate::jumps::{Jumps, jumps_of};
 use std::alloc::{AllocError, Global};
 use std::fmt;
 use z80dev_faults::{Refusal, Told};
@@ -160,35 +160,44 @@ fn answered<'a>(
     }
 }
 
+/// What building answers.
+#[derive(Debug, Drop)]
+pub struct Made<'a> {
+    /// What is to be done.
+    pub answer: Answer<Told<'a>>,
+    /// The jumps of the program, where there is one.
+    pub jumps: Option<Jumps>,
+}
+
 /// The program of sources, or what is said of their fault.
 fn built<'a>(
     alloc: Global,
     files: &[SourceFile<'a>],
     grow: bool,
     list: bool,
-) -> Result<Answer<Told<'a>>, AllocError>
-    ensures { IfOk result (λ answer. IsBuild files.now grow list (answer_of answer)) }
+) -> Result<Made<'a>, AllocError>
+    ensures { IfOk result (λ made. IsBuild files.now grow list (answer_of made.answer) made.jumps) }
 {
     let sources = sources_of(alloc, files)?;
     let building = build_with(alloc, &sources, grow);
+    let jumps = jumps_of(&building);
     let answer = answered(alloc, files, &sources, building, list)?;
-    Ok(answer)
+    Ok(Made { answer, jumps })
 }
 
 /// Builds the program of sources in their order, and answers it with its two texts, and, where `list` says so, with its listing and its
 /// labels. Where `grow` says so, a written `JR` may become a `JP`, and a line tells of each that did, in their order: `grown PATH(LINE)`.
+/// How many jumps are short and long stands beside the answer.
 ///
 /// Where no choice of short and long jumps fits, the two texts are answered and the reason is said. Any other fault is said alone.
-pub fn build<'a>(
-    alloc: Global,
-    files: &[SourceFile<'a>],
-    grow: bool,
-    list: bool,
-) -> Answer<Told<'a>>
-    ensures { MemoryAside (IsBuild files.now grow list) (answer_of result) }
+pub fn build<'a>(alloc: Global, files: &[SourceFile<'a>], grow: bool, list: bool) -> Made<'a>
+    ensures { IsMade files.now grow list (answer_of result.answer) result.jumps }
 {
     match built(alloc, files, grow, list) {
-        Ok(answer) => answer,
-        Err(_) => without_memory(alloc),
+        Ok(made) => made,
+        Err(_) => Made {
+            answer: without_memory(alloc),
+            jumps: None,
+        },
     }
 }

@@ -7,12 +7,14 @@
 mod answer;
 mod assembling;
 mod building;
+mod jumps;
 pub mod laws;
 mod linking;
 
 pub use answer::SourceFile;
 pub use assembling::asm;
-pub use building::build;
+pub use building::{Made, build};
+pub use jumps::Jumps;
 pub use linking::link;
 pub use z80dev_faults::{Refusal, Told};
 pub use z80dev_finish::{Answer, Kind, NewFile};

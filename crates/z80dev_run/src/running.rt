@@ -23,9 +23,18 @@ pub struct Ran<W> {
     /// Where the next instruction would be.
     pub pc: u16,
     /// The image of the disk.
-    pub image: Vec<u8>,
+    pub image: MemoryImage,
     /// Where the output went.
     pub output: W,
+}
+
+impl<W> Ran<W> {
+    /// The image as a file has it: its sectors, one after the other. Nothing is copied, so that no memory can be wanting for it.
+    pub fn image_bytes(&self) -> &[u8]
+        ensures { result.now ≡ concat self.now.image }
+    {
+        self.image.sectors().as_flattened()
+    }
 }
 
 /// The words as bytes.
@@ -36,15 +45,6 @@ fn bytes_of<'a>(alloc: Global, words: &[&'a str]) -> Result<Vec<&'a [u8]>, Alloc
     for word in words {
         bytes.push(word.as_bytes())?;
     }
-    Ok(bytes)
-}
-
-/// The sectors of an image, one after the other.
-fn image_bytes(alloc: Global, image: &MemoryImage) -> Result<Vec<u8>, AllocError>
-    ensures { IfOk result (λ bytes. bytes.items ≡ concat image.now) }
-{
-    let mut bytes = Vec::new(alloc);
-    bytes.extend_from_slice(image.sectors().as_flattened())?;
     Ok(bytes)
 }
 
@@ -63,19 +63,18 @@ pub fn run_program<W: Write + Drop>(
     output: W,
     steps: u64,
 ) -> Result<Ran<W>, Refusal>
-    ensures ran { IfOk result (λ ran. IsRan program.now (map (λ w. w.now) words.now) image.now input.now (W.contents output) steps ran.why ran.turns ran.pc ran.image.items (W.contents ran.output)) }
+    ensures ran { IfOk result (λ ran. IsRan program.now (map (λ w. w.now) words.now) image.now input.now (W.contents output) steps ran.why ran.turns ran.pc (concat ran.image) (W.contents ran.output)) }
     ensures refused { IfErr result (λ why. why ≢ refusal.NoMemory → IsMounted image.now (Err why)) }
 {
     let disk = disk_of(alloc, image)?;
     let words = bytes_of(alloc, words)?;
     let console = StreamConsole::new(typed(alloc, input)?, output);
     let end = run(alloc, program, &words, disk, console, steps);
-    let image = end.disk.unmount();
     Ok(Ran {
         why: end.why,
         turns: end.turns,
         pc: end.pc,
-        image: image_bytes(alloc, &image)?,
+        image: end.disk.unmount(),
         output: end.console.into_writer(),
     })
 }

@@ -196,7 +196,7 @@ fn programs_of_sources(rt: HostRuntime) -> Result<(), Fail> {
         path: "w.asm",
         text: WRITTEN,
     };
-    let answer = build(alloc, &[written], true, false);
+    let answer = build(alloc, &[written], true, false).answer;
     assert_end(&rt, alloc, &answer, 0, "grown w.asm(1)\n", "", THREE)?;
     assert!(&rt; holds(&answer, Kind::Sizes, LONG_SIZES));
     assert!(&rt;
@@ -206,7 +206,7 @@ fn programs_of_sources(rt: HostRuntime) -> Result<(), Fail> {
             b"Z80CERT 1\nL 2\nL 0\nBEST 260\n"
         )
     );
-    let answer = build(alloc, &[written], false, false);
+    let answer = build(alloc, &[written], false, false).answer;
     assert_end(&rt, alloc, &answer, 1, "", "error: Range(0)\n", &THREE[..2])?;
     assert!(&rt; holds(&answer, Kind::Certificate, b"Z80CERT 1\nL 2\nRANGE 0\n"));
     let calls = SourceFile {
@@ -217,14 +217,14 @@ fn programs_of_sources(rt: HostRuntime) -> Result<(), Fail> {
         path: "g.asm",
         text: GIVES,
     };
-    let answer = build(alloc, &[calls, gives], false, false);
+    let answer = build(alloc, &[calls, gives], false, false).answer;
     assert_end(&rt, alloc, &answer, 0, "", "", THREE)?;
     assert!(&rt; holds(&answer, Kind::Com, b"\x18\x00\xC9"));
     let faulty = SourceFile {
         path: "f.asm",
         text: b"X:\nX:\n",
     };
-    let answer = build(alloc, &[calls, faulty, gives], false, false);
+    let answer = build(alloc, &[calls, faulty, gives], false, false).answer;
     assert_end(
         &rt,
         alloc,
@@ -236,6 +236,39 @@ fn programs_of_sources(rt: HostRuntime) -> Result<(), Fail> {
     )
 }
 
+/// What is said of the jumps of a program that is built, and nothing where none is.
+fn jumps_told(alloc: Global, texts: &[&[u8]], grow: bool) -> Result<String, Fail> {
+    let mut sources = Vec::new(alloc);
+    for text in texts {
+        sources.push(SourceFile {
+            path: "s.asm",
+            text: *text,
+        })?;
+    }
+    match build(alloc, &sources, grow, false).jumps {
+        Some(jumps) => Ok(format!(in alloc; "{jumps}")?),
+        None => Ok(String::new(alloc)),
+    }
+}
+
+#[test]
+fn jumps_of_programs(rt: HostRuntime) -> Result<(), Fail> {
+    let alloc = rt.alloc();
+    // One leads over a byte and one over 128, of which neither DJNZ nor a written JR is one.
+    let both = b"BACK: DJNZ BACK\nJR BACK\nJP NEAR\nNOP\nNEAR: JP FAR\nDS 128\nFAR: RET\n";
+    let told = jumps_told(alloc, &[both], false)?;
+    assert!(&rt; told.as_str() == "1 jumps short, 1 long, 1 bytes saved");
+    let told = jumps_told(alloc, &[both], true)?;
+    assert!(&rt; told.as_str() == "2 jumps short, 1 long, 2 bytes saved");
+    let told = jumps_told(alloc, &[WRITTEN], true)?;
+    assert!(&rt; told.as_str() == "0 jumps short, 2 long, 0 bytes saved");
+    let told = jumps_told(alloc, &[CALLS, GIVES], false)?;
+    assert!(&rt; told.as_str() == "1 jumps short, 0 long, 1 bytes saved");
+    assert!(&rt; jumps_told(alloc, &[WRITTEN], false)?.is_empty());
+    assert!(&rt; jumps_told(alloc, &[b"FOO\n"], false)?.is_empty());
+    Ok(())
+}
+
 #[test]
 fn files_that_cannot_be_written(rt: HostRuntime) -> Result<(), Fail> {
     let alloc = rt.alloc();
@@ -243,7 +276,7 @@ fn files_that_cannot_be_written(rt: HostRuntime) -> Result<(), Fail> {
         path: "w.asm",
         text: WRITTEN,
     };
-    let answer = build(alloc, &[written], true, false);
+    let answer = build(alloc, &[written], true, false).answer;
     let said = [
         "error: file P.siz\n",
         "error: file P.crt\n",

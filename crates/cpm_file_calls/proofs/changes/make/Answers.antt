@@ -4,9 +4,9 @@ use Rattle.cpm_fcb.specs.Fcbs.{file_judged, name_of}
 use Rattle.cpm_disk.specs.Operations.{IsCreated}
 use Rattle.cpm_file_calls.proofs.changes.make.Goals as goal
 
-pub returns-in-Err-create : goal.returns-in-Err-create
-returns-in-Err-create g c =
+pub returns-in-Err : goal.returns-in-Err
+returns-in-Err g c =
     let fcb = c.at-fcb.ensures in
-    let go = ap file_judged (sym fcb) ∙ sym c.judge_file.ensures ∙ c.in_default.is in
+    let go = ap file_judged (sym fcb) ∙ sym c.in_ok-judge_file.ensures in
     let name = c.new.ensures ∙ ap letters (c.name.ensures ∙ ap name_of fcb) in
-    rw go (Err c.in-Err-create.fault, subst (λ n. IsCreated g.S.Sectors.sectors g.S.Sectors.faults c.args.disk.now c.create.new.self c.args.user n (Err c.in-Err-create.fault)) name c.in-Err-create.ensures.done, c.not_made.ensures c.args.address c.args.memory.now)
+    rw go (Err c.in-Err.fault, subst (λ n. IsCreated g.S.Sectors.sectors g.S.Sectors.faults c.args.disk.now c.create.new.self c.args.user n (Err c.in-Err.fault)) name c.in-Err.ensures.done, c.not_made.ensures c.args.address c.args.memory.now)

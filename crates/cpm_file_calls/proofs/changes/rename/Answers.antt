@@ -6,7 +6,7 @@ use Rattle.cpm_file_calls.proofs.changes.rename.Goals as goal
 pub returns : goal.returns
 returns g c =
     let fcb = c.at-fcb.ensures in
-    let go = ap names_judged (sym fcb) ∙ sym c.judge_names.ensures ∙ c.in_default.is in
+    let go = ap names_judged (sym fcb) ∙ sym c.in_ok-judge_names.ensures in
     let old = c.new-old.ensures ∙ ap letters (c.name.ensures ∙ ap name_of fcb) in
     let new = c.new-new.ensures ∙ ap letters (c.new_name.ensures ∙ ap new_name_of fcb) in
     rw go (c.rename.result, rw (← old, ← new) c.rename.ensures.done, c.renamed.ensures)

@@ -10,14 +10,14 @@ use Rattle.cpm_record_calls.proofs.sequential.write_next.Goals as goal
 pub put_place-requires : goal.put_place-requires
 put_place-requires g c =
     let current : c.of-old.result.current ≡ current_of c.at-fcb.result = ap (λ p. p.current) c.of-old.ensures in
-    c.in-Some.ensures.within (subst (λ n. n ≤ 128) (sym current) c.in_default.ensures.within)
+    c.in-Some.ensures.within (subst (λ n. n ≤ 128) (sym current) c.in_ok-judge.ensures.within)
 
 pub returns-in-Ok : goal.returns-in-Ok
 returns-in-Ok g c =
     let here = fcb_at c.args.address c.args.memory.now in
     let kind = c.kind-kind.ensures.kind in
     let fcb = c.at-fcb.ensures in
-    let go = ap (λ k. sequential_judged k here) (sym kind) ∙ ap (sequential_judged c.kind-kind.result) (sym fcb) ∙ sym c.judge.ensures.judged ∙ c.in_default.is in
+    let go = ap (λ k. sequential_judged k here) (sym kind) ∙ ap (sequential_judged c.kind-kind.result) (sym fcb) ∙ sym c.in_ok-judge.ensures.judged in
     let name = c.new-name.ensures ∙ ap letters (c.name.ensures ∙ ap name_of fcb) in
     let old = c.of-old.ensures ∙ ap place_of fcb in
     let turn : turned c.args.disk.now.kind (place_of here) ≡ Some c.in-Some.new =
@@ -29,17 +29,17 @@ returns-in-Ok g c =
     (c.put_place.ensures ∙ ap (λ p. with_place c.args.address p c.in-Some.new c.args.memory.now) old) in
     rw (go, turn) (Ok tt, written, ap (done 0) (sym now))
 
-pub returns-in-Err-write_block_of : goal.returns-in-Err-write_block_of
-returns-in-Err-write_block_of g c =
+pub returns-in-Err : goal.returns-in-Err
+returns-in-Err g c =
     let here = fcb_at c.args.address c.args.memory.now in
     let kind = c.kind-kind.ensures.kind in
     let fcb = c.at-fcb.ensures in
-    let go = ap (λ k. sequential_judged k here) (sym kind) ∙ ap (sequential_judged c.kind-kind.result) (sym fcb) ∙ sym c.judge.ensures.judged ∙ c.in_default.is in
+    let go = ap (λ k. sequential_judged k here) (sym kind) ∙ ap (sequential_judged c.kind-kind.result) (sym fcb) ∙ sym c.in_ok-judge.ensures.judged in
     let name = c.new-name.ensures ∙ ap letters (c.name.ensures ∙ ap name_of fcb) in
     let turn : turned c.args.disk.now.kind (place_of here) ≡ Some c.in-Some.new =
     ap (λ k. turned k (place_of here)) (sym kind) ∙ ap (λ f. turned c.kind-kind.result (place_of f)) (sym fcb) ∙ ap (turned c.kind-kind.result) (sym c.of-old.ensures) ∙ sym c.turned.ensures.place ∙ c.in-Some.is in
     rw (go, turn) (
-      Err c.in-Err-write_block_of.fault,
-      written_as g.S.Sectors.sectors g.S.Sectors.faults c.args.disk.now c.write_block_of.new.self c.args.user _ _ _ _ _ _ _ _ name (c.record-number.ensures ∙ ap (λ k. record_at k c.in-Some.new) kind) c.bytes_at.ensures c.in-Err-write_block_of.is c.write_block_of.ensures.done,
+      Err c.in-Err.fault,
+      written_as g.S.Sectors.sectors g.S.Sectors.faults c.args.disk.now c.write_block_of.new.self c.args.user _ _ _ _ _ _ _ _ name (c.record-number.ensures ∙ ap (λ k. record_at k c.in-Some.new) kind) c.bytes_at.ensures c.in-Err.is c.write_block_of.ensures.done,
       c.not_written.ensures c.args.memory.now,
     )

@@ -11,4 +11,5 @@ returns c = record {
   built = subst (λ s. IsBuilt c.args.grow s c.build_with-building.result) c.deref.ensures.value c.build_with-building.ensures.answer;
   exact = subst (λ s. IsExact c.args.grow s c.build_with-building.result) c.deref.ensures.value c.build_with-building.ensures.exact;
   answers = c.in_ok-answer.ensures ∙ ap (λ s. build_answer c.args.list c.args.files.now s c.build_with-building.result) c.deref-2.ensures.value;
+  counted = c.jumps_of-jumps.ensures;
 }

@@ -15,6 +15,6 @@ returns-clause-ran g c = (
       (ap (λ (words : List (Bor (List ℕ))). map (λ w. w.now) words) c.deref.ensures.value ∙ c.in_ok-words.ensures)
       (c.new-console.ensures ∙ ap (λ bytes. dialog_of bytes (g.W.Write.contents c.args.output) 0) c.in_ok-typed.ensures)
       c.run-end.ensures,
-  c.in_ok-image_bytes.ensures ∙ ap concat c.unmount-image.ensures.device,
+  ap concat c.unmount.ensures.device,
   c.into_writer.ensures,
 )
