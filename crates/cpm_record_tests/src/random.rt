@@ -63,14 +63,29 @@ fn reads(rt: HostRuntime) -> Result<(), Fail> {
             Step::Holds(FCB + 12, &[7]),
             Step::Holds(FCB + 14, &[7]),
             Step::Holds(FCB + 32, &[7]),
-            // A read does not make CR grow, so it reads again in turn.
+        ],
+    )?;
+    Ok(())
+}
+
+#[test]
+fn read_again_in_turn(rt: HostRuntime) -> Result<(), Fail> {
+    // A read by number does not make CR grow.
+    let mut m = new_plain(rt.alloc(), b"")?;
+    make_file(&rt, &mut m);
+    run(
+        &mut m,
+        &[
+            Step::Fill(0),
             Step::Fcb(FCB, FILE, [7, 7, 7]),
             Step::Numbers([0, 0, 0]),
             Step::Call(33, FCB, Ok(0)),
             Step::Holds(FCB + 12, &[0]),
             Step::Holds(FCB + 14, &[0]),
             Step::Holds(FCB + 32, &[0]),
+            Step::Fill(0),
             Step::Call(20, FCB, Ok(0)),
+            Step::Holds(DMA, &[0x41; 128]),
             Step::Holds(FCB + 32, &[1]),
         ],
     )?;

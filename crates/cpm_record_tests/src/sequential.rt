@@ -1,7 +1,7 @@
 //! Records read and written in turn.
 
 use cpm_bdos::Stop;
-use cpm_bdos_steps::{DMA, FCB, Plain, Step, new_plain, plain_of, run};
+use cpm_bdos_steps::{DMA, FCB, Missed, Plain, Step, new_plain, plain_of, run};
 use cpm_disk::DiskKind;
 use std::process::Abort;
 use std::test::Fail;
@@ -148,35 +148,51 @@ fn places_out_of_range(rt: HostRuntime) -> Result<(), Fail> {
     Ok(())
 }
 
-#[test]
-fn next_extent(rt: HostRuntime) -> Result<(), Fail> {
-    let mut m = new_plain(rt.alloc(), b"")?;
-    make_file(&rt, &mut m);
-    for n in 0..128u8 {
-        run(&mut m, &[Step::Fill(n), Step::Call(21, FCB, Ok(0))])?;
-    }
+/// Asserts that CR 128 reads the first record of the next extent, and answers 1 where there is none: then the FCB stays at the end of
+/// this one.
+fn assert_read_on(m: &mut Plain) -> Result<(), Missed<'static>> {
     run(
-        &mut m,
+        m,
         &[
-            Step::Holds(FCB + 12, b"\x00\x00\x00\x80\x02"),
-            Step::Holds(FCB + 32, &[128]),
-            Step::Fill(0xAA),
-            Step::Call(21, FCB, Ok(0)),
-            // Entry 1 has EX 1, RC 1 and block 12H.
-            Step::Holds(FCB + 12, b"\x01\x00\x00\x01\x12\x00"),
-            Step::Holds(FCB + 32, &[1]),
             Step::Fcb(FCB, FILE, [0, 0, 128]),
             Step::Call(20, FCB, Ok(0)),
             Step::Holds(DMA, &[0xAA; 128]),
-            Step::Holds(FCB + 12, &[1]),
+            Step::Holds(FCB + 12, &[1, 0, 0]),
             Step::Holds(FCB + 32, &[1]),
-            // Where the next extent is not there, the FCB stays at the end of this one.
             Step::Fcb(FCB, FILE, [1, 0, 128]),
             Step::Call(20, FCB, Ok(1)),
-            Step::Holds(FCB + 12, &[1]),
+            Step::Holds(FCB + 12, &[1, 0, 0]),
             Step::Holds(FCB + 32, &[128]),
         ],
-    )?;
+    )
+}
+
+#[test]
+fn next_extent(rt: HostRuntime) -> Result<(), Fail> {
+    // The blocks of records 0 and 128: an extent of an eight inch disk has sixteen, one of a Megabyte disk eight.
+    for (kind, first, second) in [
+        (DiskKind::EightInch, 0x02, 0x12),
+        (DiskKind::Megabyte, 0x04, 0x0C),
+    ] {
+        let mut m = plain_of(rt.alloc(), kind, b"")?;
+        make_file(&rt, &mut m);
+        for n in 0..128u8 {
+            run(&mut m, &[Step::Fill(n), Step::Call(21, FCB, Ok(0))])?;
+        }
+        m.expect_bytes(FCB + 12, &[0, 0, 0, 0x80, first])?;
+        run(
+            &mut m,
+            &[
+                Step::Holds(FCB + 32, &[128]),
+                Step::Fill(0xAA),
+                Step::Call(21, FCB, Ok(0)),
+                Step::Holds(FCB + 32, &[1]),
+            ],
+        )?;
+        // Entry 1 has EX 1, RC 1 and one block.
+        m.expect_bytes(FCB + 12, &[1, 0, 0, 1, second, 0])?;
+        assert_read_on(&mut m)?;
+    }
     Ok(())
 }
 
