@@ -1,0 +1,15 @@
+//! Random system calls on random disks of both kinds, beside a plain model of the files.
+#![tactic(auto)]
+
+#[cfg(test)]
+mod asked;
+#[cfg(test)]
+mod cases;
+#[cfg(test)]
+mod filled;
+#[cfg(test)]
+mod model;
+#[cfg(test)]
+mod player;
+#[cfg(test)]
+mod records;
