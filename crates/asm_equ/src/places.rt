@@ -10,13 +10,14 @@ ghost use Rattle.asm_equ.specs.Private.Placed.{Defines, HasPlaces};
 use crate::layout::Layout;
 use asm_expr::{Meaning, Names, Statement};
 use asm_names::{Kind, NameTable};
+use name_key::NameKey;
 use std::alloc::{AllocError, Global};
 
-/// No names, and the statements.
-fn passed(alloc: Global, statements: &[Statement]) -> Result<Names, AllocError>
+/// No names, which are to be looked up by a key, and the statements.
+fn passed(alloc: Global, key: NameKey, statements: &[Statement]) -> Result<Names, AllocError>
     ensures { IfOk result (λ names. names ≡ record empty { statements = statements.now }) }
 {
-    let mut names = Names::new(alloc);
+    let mut names = Names::keyed(alloc, key);
     for statement in statements {
         match statement {
             Statement::Sized(size) => names.pass_fixed(*size)?,
@@ -75,7 +76,7 @@ pub(crate) fn places_of(
     ensures { IfOk result (HasPlaces table.now (layout_of layout.now)) }
 {
     let mut places = Places {
-        names: passed(alloc, &layout.statements)?,
+        names: passed(alloc, table.key(), &layout.statements)?,
         external: layout.statements.len() as u16 + 1,
     };
     let mut at = 0;

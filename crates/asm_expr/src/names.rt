@@ -10,13 +10,14 @@ use crate::meaning::Meaning;
 use crate::statement::Statement;
 use crate::worth::Worth;
 use indexmap::IndexMap;
+use name_key::NameKey;
 use std::alloc::{AllocError, Global};
 use std::marker::Model;
 
 /// What the names of a module stand for, the place of `$`, and the statements in order. Clauses see the table.
 #[derive(Debug, Drop)]
 pub struct Names {
-    meanings: IndexMap<Vec<u8>, Meaning>,
+    meanings: IndexMap<Vec<u8>, Meaning, NameKey>,
     here: u16,
     statements: Layout,
 }
@@ -37,8 +38,15 @@ impl Names {
     pub fn new(alloc: Global) -> Names
         ensures { result ≡ empty }
     {
+        Names::keyed(alloc, NameKey::of(&[]))
+    }
+
+    /// No names, which are to be looked up by this key, and no statements.
+    pub fn keyed(alloc: Global, key: NameKey) -> Names
+        ensures { result ≡ empty }
+    {
         Names {
-            meanings: IndexMap::new(alloc),
+            meanings: IndexMap::with_hasher(alloc, key),
             here: 0,
             statements: Layout::new(alloc),
         }

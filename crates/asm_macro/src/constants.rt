@@ -16,6 +16,7 @@ ghost use Rattle.asm_macro.specs.Private.Constants.{constants_in, table_of};
 use crate::fault::MacroFault;
 use asm_expr::{Meaning, Names, Settled, constant, is_constant, is_defined, parse, settle};
 use asm_scan::Token;
+use name_key::NameKey;
 use std::alloc::{AllocError, Global};
 use std::marker::Model;
 
@@ -66,11 +67,11 @@ fn value_of(alloc: Global, names: &Names, tokens: &[Token<'_>]) -> Result<u16, M
 }
 
 impl Constants {
-    pub(crate) fn new(alloc: Global) -> Constants
+    pub(crate) fn new(alloc: Global, key: NameKey) -> Constants
         ensures { result ≡ [] }
     {
         Constants {
-            names: Names::new(alloc),
+            names: Names::keyed(alloc, key),
         }
     }
 

@@ -22,6 +22,7 @@ use crate::moves::{Given, Stop, Taken};
 use asm_replace::Replacements;
 use asm_texts::{Block, Book, Choice, Macro, Span, put_shown};
 use indexmap::IndexMap;
+use name_key::NameKey;
 use std::alloc::{AllocError, Global};
 
 /// The most lines and turns of a whole expansion.
@@ -33,7 +34,7 @@ pub(crate) struct Expansion<'a> {
     pub alloc: Global,
     /// The lines of the source.
     pub lines: Vec<&'a [u8]>,
-    pub macros: IndexMap<Vec<u8>, Macro>,
+    pub macros: IndexMap<Vec<u8>, Macro, NameKey>,
     pub constants: Constants,
     /// How many LOCAL names there were.
     pub counter: u64,

@@ -11,6 +11,7 @@ use crate::fault::MacroFault;
 use asm_texts::{Book, Span};
 use bstr::ByteSlice;
 use indexmap::IndexMap;
+use name_key::NameKey;
 use std::alloc::{AllocError, Global};
 
 /// The most bytes of a source text.
@@ -52,11 +53,12 @@ pub(crate) fn begin(alloc: Global, text: &[u8]) -> Result<Expansion<'_>, MacroFa
     }
     let lines = lines_of(alloc, text)?;
     let end = lines.len();
+    let key = NameKey::of(text);
     Ok(Expansion {
         alloc,
         lines,
-        macros: IndexMap::new(alloc),
-        constants: Constants::new(alloc),
+        macros: IndexMap::with_hasher(alloc, key),
+        constants: Constants::new(alloc, key),
         counter: 0,
         count: 0,
         text: Span {

@@ -2,6 +2,7 @@
 
 use asm_replace::{Replacements, arguments, local_name, replace};
 use asm_scan::tokens;
+use name_key::NameKey;
 use std::alloc::Global;
 use std::process::Abort;
 use std::test::Fail;
@@ -13,7 +14,7 @@ fn assert_replaced(
     line: &[u8],
     want: &[u8],
 ) -> Result<(), Fail> {
-    let mut names = Replacements::new(alloc);
+    let mut names = Replacements::with_hasher(alloc, NameKey::of(&[]));
     for (name, text) in table {
         names.insert(name.to_vec(alloc)?, text.to_vec(alloc)?)?;
     }

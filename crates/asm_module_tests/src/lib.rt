@@ -9,8 +9,4 @@ mod meanings;
 #[cfg(test)]
 mod names;
 #[cfg(test)]
-mod orders;
-#[cfg(test)]
-mod sources;
-#[cfg(test)]
 mod states;

@@ -10,6 +10,7 @@ use crate::fault::NameFault;
 use crate::kind::SourceLine;
 use crate::table::NameTable;
 use asm_spell::{Body, Line};
+use name_key::{KeyMixer, NameKey};
 use std::alloc::Global;
 
 /// The most statements that a module may have.
@@ -75,6 +76,30 @@ impl Naming {
     }
 }
 
+/// Mixes in the names that a line defines.
+fn mix(mixer: &mut KeyMixer, line: &Line) {
+    match line {
+        Line::Equ { name, .. } => mixer.mix(name),
+        Line::Statement { label, body } => {
+            if let Some(name) = label {
+                mixer.mix(name);
+            }
+            if let Some(Body::External(names)) = body {
+                mixer.mix_all(names);
+            }
+        }
+    }
+}
+
+/// The key of the names that lines define.
+fn key_of(lines: &[SourceLine]) -> NameKey {
+    let mut mixer = KeyMixer::new();
+    for line in lines {
+        mix(&mut mixer, &line.line);
+    }
+    mixer.key()
+}
+
 /// The names of a source's lines.
 ///
 /// # Errors
@@ -84,7 +109,7 @@ pub fn names_of(alloc: Global, lines: &[SourceLine]) -> Result<NameTable, (u32, 
     ensures { IsNamed (lines_of lines.now) result }
 {
     let mut naming = Naming {
-        table: NameTable::new(alloc),
+        table: NameTable::new(alloc, key_of(lines)),
         statements: 0,
     };
     for (at, line) in lines.iter().enumerate() {

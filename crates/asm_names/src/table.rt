@@ -11,6 +11,7 @@ use crate::fault::NameFault;
 use crate::kind::Kind;
 use asm_spell::{Body, Line};
 use indexmap::IndexMap;
+use name_key::NameKey;
 use std::alloc::{AllocError, Global};
 use std::marker::Model;
 
@@ -18,7 +19,7 @@ use std::marker::Model;
 #[derive(Debug, Drop)]
 pub struct NameTable {
     alloc: Global,
-    kinds: IndexMap<Vec<u8>, Kind>,
+    kinds: IndexMap<Vec<u8>, Kind, NameKey>,
 }
 
 impl Model for NameTable {
@@ -31,14 +32,19 @@ impl Model for NameTable {
 }
 
 impl NameTable {
-    /// No names.
-    pub(crate) fn new(alloc: Global) -> NameTable
+    /// No names, which are to be looked up by a key.
+    pub(crate) fn new(alloc: Global, key: NameKey) -> NameTable
         ensures { result ≡ [] }
     {
         NameTable {
             alloc,
-            kinds: IndexMap::new(alloc),
+            kinds: IndexMap::with_hasher(alloc, key),
         }
+    }
+
+    /// The key of the names, by which they may be looked up in other tables too.
+    pub fn key(&self) -> NameKey {
+        *self.kinds.hasher()
     }
 
     /// How many names there are.

@@ -12,10 +12,11 @@ ghost use Rattle.asm_replace.specs.Views.{table};
 use asm_line::is_name;
 use asm_scan::{Token, blank_len};
 use indexmap::IndexMap;
+use name_key::NameKey;
 use std::alloc::AllocError;
 
 /// What stands in the place of each name, which is in upper case.
-pub type Replacements = IndexMap<Vec<u8>, Vec<u8>>;
+pub type Replacements = IndexMap<Vec<u8>, Vec<u8>, NameKey>;
 
 /// What stands behind the first token of a line.
 pub fn after<'a>(line: &'a [u8], token: &Token<'_>) -> &'a [u8]

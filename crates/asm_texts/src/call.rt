@@ -8,6 +8,7 @@ ghost use Rattle.asm_texts.specs.Prepared.{macro_seen, macros_seen};
 
 use crate::span::Span;
 use indexmap::IndexMap;
+use name_key::NameKey;
 
 /// A macro: its parameters in upper case, and the lines of its body.
 #[derive(Debug, Drop)]
@@ -17,7 +18,7 @@ pub struct Macro {
 }
 
 /// The macro of a name in upper case.
-pub fn macro_of<'a>(macros: &'a IndexMap<Vec<u8>, Macro>, name: &[u8]) -> Option<&'a Macro>
+pub fn macro_of<'a>(macros: &'a IndexMap<Vec<u8>, Macro, NameKey>, name: &[u8]) -> Option<&'a Macro>
     ensures { (texts : List (List ℕ)) → option_map (λ m. macro_seen texts m.now) result ≡ lookup (bytes_eq name.now) (macros_seen texts macros.now.entries) }
 {
     macros.get(name)

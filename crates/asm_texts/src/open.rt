@@ -18,6 +18,7 @@ use crate::span::Span;
 use asm_line::{BlockWord, Head, form_of, names};
 use asm_replace::{Replacements, after, arguments, local_name};
 use asm_scan::{Token, blank_len};
+use name_key::{KeyMixer, NameKey};
 use std::alloc::{AllocError, Global};
 
 /// What a line at the beginning of a body is.
@@ -112,15 +113,16 @@ fn text_at(alloc: Global, texts: &[Vec<u8>], at: usize) -> Result<Vec<u8>, Alloc
     }
 }
 
-/// What the parameters are replaced by: a missing argument is empty, one too many is dropped.
+/// What the parameters are replaced by, to be looked up by a key: a missing argument is empty, one too many is dropped.
 fn with_arguments(
     alloc: Global,
+    key: NameKey,
     parameters: &[Vec<u8>],
     arguments: &[Vec<u8>],
 ) -> Result<Replacements, AllocError>
     ensures { IfOk result (λ replaced. SaySame (table replaced.entries) (arguments_of (texts parameters.now) (texts arguments.now))) }
 {
-    let mut replaced = Replacements::new(alloc);
+    let mut replaced = Replacements::with_hasher(alloc, key);
     let mut at = 0;
     while at < parameters.len() {
         let name = text_at(alloc, parameters, at)?;
@@ -142,7 +144,10 @@ pub(crate) fn names_of(
     requires { counter + length locals.now < 2 ^ 64 }
     ensures { IfOk result (λ replaced. SaySame (table replaced.entries) (arguments_of (texts parameters.now) (texts arguments.now) ++ local_names counter (texts locals.now))) }
 {
-    let mut replaced = with_arguments(alloc, parameters, arguments)?;
+    let mut mixer = KeyMixer::new();
+    mixer.mix_all(parameters);
+    mixer.mix_all(locals);
+    let mut replaced = with_arguments(alloc, mixer.key(), parameters, arguments)?;
     let mut number = counter;
     let mut at = 0;
     while at < locals.len() {

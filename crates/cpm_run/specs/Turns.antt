@@ -13,7 +13,6 @@ use Rattle.cpm_bdos.specs.declared.outcome.After.{After}
 use Rattle.cpm_bdos.specs.declared.outcome.After.TheVariants as after
 use Rattle.cpm_bdos.specs.Answer.{BiosAnswers, CallAnswers}
 use Rattle.cpm_bdos.specs.System.{System}
-use Rattle.cpm_run.specs.declared.places.TheConstants.{BDOS, BIOS}
 use Rattle.cpm_run.specs.declared.ending.Why.{Why}
 use Rattle.cpm_run.specs.declared.ending.Why.TheVariants as why
 
@@ -22,13 +21,21 @@ pub record State (S C : Type 0) : Type 0 where
   pub machine : Machine
   pub system : System S C
 
+-- where programs call the BDOS
+abbrev pub bdos : ℕ
+bdos = 0xFE06
+
+-- where the BIOS has its entries
+abbrev pub bios : ℕ
+bios = 0xFF00
+
 -- A program has finished where it comes to the cold or the warm start of the BIOS, its entries 0 and 1.
 abbrev pub is_finished : ℕ → Bool
-is_finished pc = (pc == BIOS) || (pc == BIOS + 3)
+is_finished pc = (pc == bios) || (pc == bios + 3)
 
 -- the number of an entry of the BIOS from 2 to 16, three bytes each
 abbrev pub bios_entry : ℕ → Option ℕ
-bios_entry pc = if nat_le (BIOS + 6) pc && nat_le pc (BIOS + 48) && ((pc - BIOS) % 3 == 0) then Some ((pc - BIOS) / 3) else None
+bios_entry pc = if nat_le (bios + 6) pc && nat_le pc (bios + 48) && ((pc - bios) % 3 == 0) then Some ((pc - bios) / 3) else None
 
 -- What stands at a place: a system call, an entry of the BIOS, or the program's own bytes.
 pub data Place : Type 0 where
@@ -41,7 +48,7 @@ entry_or_program (Some n) = Entry n
 entry_or_program None = Program
 
 abbrev pub place_of : ℕ → Place
-place_of pc = if pc == BDOS then Call else entry_or_program (bios_entry pc)
+place_of pc = if pc == bdos then Call else entry_or_program (bios_entry pc)
 
 -- what a step of the machine ends the run with, if it does
 abbrev pub stepped : Step → Option Why

@@ -11,6 +11,7 @@ ghost use Rattle.zlink_program.specs.Private.Judged.{Judges, clashes, once, part
 
 use crate::fault::JoinFault;
 use indexmap::IndexMap;
+use name_key::{KeyMixer, NameKey};
 use std::alloc::{AllocError, Global};
 use std::marker::Model;
 use zmo_module::Module;
@@ -18,7 +19,7 @@ use zmo_module::Module;
 /// Public names, each with the number of a statement of the whole.
 #[derive(Drop)]
 pub(crate) struct PublicNames<'a> {
-    statements: IndexMap<&'a [u8], u32>,
+    statements: IndexMap<&'a [u8], u32, NameKey>,
 }
 
 impl<'a> Model for PublicNames<'a> {
@@ -30,6 +31,22 @@ impl<'a> Model for PublicNames<'a> {
     ghost view = { λ n. map (λ e. (e.0.now, e.1)) n.statements.entries };
 }
 
+/// Mixes in the names of a module's labels.
+fn mix(mixer: &mut KeyMixer, module: &Module) {
+    for label in &module.labels {
+        mixer.mix(&label.name);
+    }
+}
+
+/// The key of the names of modules.
+fn key_of(modules: &[Module]) -> NameKey {
+    let mut mixer = KeyMixer::new();
+    for module in modules {
+        mix(&mut mixer, module);
+    }
+    mixer.key()
+}
+
 impl<'a> PublicNames<'a> {
     /// The public names of modules, or the first that is given twice.
     pub(crate) fn of(alloc: Global, modules: &'a [Module]) -> Result<PublicNames<'a>, JoinFault>
@@ -38,7 +55,7 @@ impl<'a> PublicNames<'a> {
         ensures { Judges (first_of (once (map module_of modules.now)) (parts (map module_of modules.now))) (λ names. names ≡ publics (parts (map module_of modules.now))) result }
     {
         let mut names = PublicNames {
-            statements: IndexMap::new(alloc),
+            statements: IndexMap::with_hasher(alloc, key_of(modules)),
         };
         let mut base = 0;
         for (number, module) in modules.iter().enumerate() {

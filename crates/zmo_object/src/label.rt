@@ -12,6 +12,7 @@ ghost use Rattle.zmo_object.specs.Private.{Labelled, Named, counts_of, lists_of}
 use crate::header::Counts;
 use crate::names::Names;
 use asm_parse::is_name;
+use name_key::NameKey;
 use std::alloc::{AllocError, Global};
 use zmo_fields::{FieldFault, counted, number, put_counted, put_word};
 use zmo_module::Label;
@@ -170,7 +171,7 @@ pub(crate) fn read_lists(
 ) -> Result<(Lists, &[u8]), FieldFault>
     ensures { Gives (λ x. (lists_of x.0, x.1.now)) result (lists_at (counts_of counts) bytes.now) }
 {
-    let mut names = Names::new(alloc);
+    let mut names = Names::new(alloc, NameKey::of(bytes));
     let (labels, rest) = labels(alloc, counts.statements, counts.labels, &mut names, bytes)?;
     let (publics, rest) = publics(alloc, usize::from(counts.labels), counts.publics, rest)?;
     let (externals, rest) = externals(alloc, counts.externals, &mut names, rest)?;

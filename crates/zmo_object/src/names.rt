@@ -5,13 +5,14 @@ ghost use Rattle.std.specs.List.{list_any};
 ghost use Rattle.std.specs.Str.{bytes_eq};
 
 use indexmap::IndexSet;
+use name_key::NameKey;
 use std::alloc::{AllocError, Global};
 use std::marker::Model;
 
 /// The names so far, in order.
 #[derive(Drop)]
 pub(crate) struct Names<'a> {
-    set: IndexSet<&'a [u8]>,
+    set: IndexSet<&'a [u8], NameKey>,
 }
 
 impl<'a> Model for Names<'a> {
@@ -23,12 +24,12 @@ impl<'a> Model for Names<'a> {
 }
 
 impl<'a> Names<'a> {
-    /// No names.
-    pub(crate) fn new(alloc: Global) -> Names<'a>
+    /// No names, which are to be looked up by a key.
+    pub(crate) fn new(alloc: Global, key: NameKey) -> Names<'a>
         ensures { result ≡ [] }
     {
         Names {
-            set: IndexSet::new(alloc),
+            set: IndexSet::with_hasher(alloc, key),
         }
     }
 

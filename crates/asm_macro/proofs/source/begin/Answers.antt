@@ -15,17 +15,17 @@ returns-then-text-gt-LONGEST_TEXT c = long c.if-text-gt-LONGEST_TEXT.true
 
 pub returns : goal.returns
 returns c =
-    let x : Expansion = record { alloc = c.args.alloc; lines = c.in_ok-lines.lines; macros = c.new.result; constants = c.new-2.result; counter = 0; count = 0; text = record { at = 0; end = c.len-end.result; number = None }; around = c.new-3.result; calls = c.new-4.result; turns = 0; book = c.new-5.result; books = c.new-6.result } in
+    let x : Expansion = record { alloc = c.args.alloc; lines = c.in_ok-lines.lines; macros = c.with_hasher.result; constants = c.new.result; counter = 0; count = 0; text = record { at = 0; end = c.len-end.result; number = None }; around = c.new-2.result; calls = c.new-3.result; turns = 0; book = c.new-4.result; books = c.new-5.result } in
     let n : c.len-end.result ≡ length c.in_ok-lines.lines.items = omega (arith, c.len-end.ensures, c.in_ok-lines.lines.ok) in
     let text : x.text ≡ record { at = 0; end = length c.in_ok-lines.lines.items; number = None } = ap (λ n. record { at = 0; end = n; number = None }) n in
-    let rest = begun_rest x c.new.ensures.empty c.new-2.ensures refl refl c.new-4.ensures.items c.new-3.ensures.items refl text (length-map c.in_ok-lines.lines.items (λ line. line.now)) in (
+    let rest = begun_rest x c.with_hasher.ensures.empty c.new.ensures refl refl c.new-3.ensures.items c.new-2.ensures.items refl text (length-map c.in_ok-lines.lines.items (λ line. line.now)) in (
       record {
         short = omega (arith, c.in_ok-lines.ensures.few, c.if-text-gt-LONGEST_TEXT.false);
-        turns = sym (ap (λ fs. turns_in (reverse fs)) c.new-3.ensures.items);
-        shallow = omega (arith, ap length c.new-4.ensures.items);
+        turns = sym (ap (λ fs. turns_in (reverse fs)) c.new-2.ensures.items);
+        shallow = omega (arith, ap length c.new-3.ensures.items);
         few = omega arith;
-        book = c.new-5.ensures (texts_in x) (innermost (tables_in x));
-        books = subst (λ bs. AreBooks (texts_in x) (tables_in x) (reverse bs)) (sym c.new-6.ensures.items) tt;
+        book = c.new-4.ensures (texts_in x) (innermost (tables_in x));
+        books = subst (λ bs. AreBooks (texts_in x) (tables_in x) (reverse bs)) (sym c.new-5.ensures.items) tt;
       },
       refl,
       λ lines end r. short (omega (arith, c.if-text-gt-LONGEST_TEXT.false)) (from_begin c.args.text.now lines end (subst (λ y. Remains (Within y) lines end) (rest ∙ ap (λ ts. record { depth = 0; state = start; text = numbered 1 ts; around = [] }) c.in_ok-lines.ensures.lines) r)),
