@@ -8,7 +8,11 @@
  *   - status 1, `error: NoMemory` and nothing on standard output, and of the files each either as before or the whole new one.
  *     Where refusals go on, a front of that line is enough.
  *
- * From the environment: REFUSE_INPUT, the file that is standard input; REFUSE_STATUS, the status of ample memory; REFUSE_PRINTS, whether
+ * A program that prints what calls answered, REFUSE_CALLS, goes on where a call was refused. Its lines are those of ample memory, but
+ * that an answer, from ` => ` or ` | ` to the next ` | ` or the end of the line, may break off with `NoMemory`, or a run with
+ * `Stopped(ConsoleFault)`; or it ends with status 1 and a front of such lines. Where the Nth call alone is refused, one answer may.
+ *
+ * From the environment: REFUSE_PROGRAM, with what the program's name begins, if it is not z80dev; REFUSE_INPUT, the file that is standard input; REFUSE_STATUS, the status of ample memory; REFUSE_PRINTS, whether
  * a front of the output of ample memory may stand before `error: NoMemory`; the files have to be the new ones where all of it stands there;
  * REFUSE_ALSO, ends that are taken as that line is, each a line of a status, a blank, and what is said.
  * Prints `ok` and how many runs there were of each kind, or the first runs that ended otherwise, and then `FAILED`. */
@@ -225,7 +229,7 @@ struct end {
 static int input, output, errors;
 static struct folder *before, *after;
 static struct end ample;
-static int prints, faults;
+static int prints, calls, faults;
 static long runs, sames;
 static int is_touched = 1; /* whether the folder may not be as it was found */
 
@@ -291,6 +295,55 @@ static int is_one_of(struct end end, const char *ends, int all_after)
     return 0;
 }
 
+/* How long the word is that says at a place that a call was refused, or 0. */
+static size_t refusal_at(struct text text, size_t at)
+{
+    static const char *const words[] = {"NoMemory", "Stopped(ConsoleFault)"};
+    for (size_t i = 0; i < sizeof words / sizeof *words; i++) {
+        size_t len = strlen(words[i]);
+        if (at + len <= text.len && memcmp(text.bytes + at, words[i], len) == 0)
+            return len;
+    }
+    return 0;
+}
+
+/* Where the answer ends that stands at a place. */
+static size_t answer_end(struct text text, size_t at)
+{
+    while (at < text.len && text.bytes[at] != '\n' && !(at + 2 < text.len && memcmp(text.bytes + at, " | ", 3) == 0))
+        at++;
+    return at;
+}
+
+/* How many answers of these say that memory was refused, where the others are those of ample memory; -1 where one is another. */
+static int count_refused(struct text out, int is_cut)
+{
+    size_t at = 0, want = 0;
+    int refused = 0;
+    while (at < out.len) {
+        if (refusal_at(out, at) > 0 && refusal_at(ample.out, want) == 0) {
+            refused++;
+            at = answer_end(out, at);
+            want = answer_end(ample.out, want);
+        } else if (want < ample.out.len && out.bytes[at] == ample.out.bytes[want]) {
+            at++;
+            want++;
+        } else {
+            return -1;
+        }
+    }
+    return is_cut || want == ample.out.len ? refused : -1;
+}
+
+/* Whether calls that a program made and printed ended as they should. */
+static int are_answers(struct end end, int all_after)
+{
+    int refused = count_refused(end.out, end.status == 1);
+    if (end.status == 1)
+        return refused >= 0 && (all_after || refused == 0);
+    return end.status == 0 && end.err.len == 0 && refused >= 0 && (all_after || refused <= 1);
+}
+
 static const char *text(const char *name)
 {
     const char *text = getenv(name);
@@ -346,7 +399,9 @@ static void judge(struct end end, long nth, int all_after)
     const char *files = judge_files(same || has_run);
     runs++;
     sames += same;
-    if (!same && !is_one_of(end, "1 error: NoMemory", all_after) && !is_one_of(end, text("REFUSE_ALSO"), all_after))
+    if (!same && calls)
+        why = are_answers(end, all_after) ? NULL : "other answers";
+    else if (!same && !is_one_of(end, "1 error: NoMemory", all_after) && !is_one_of(end, text("REFUSE_ALSO"), all_after))
         why = "another end";
     else if (!same && (prints ? !begins(end.out, ample.out.bytes, ample.out.len) : end.out.len != 0))
         why = "standard output";
@@ -365,7 +420,8 @@ static int is_program(void)
     if (len < 0)
         return 0;
     path[len] = 0;
-    return strncmp(strrchr(path, '/'), "/z80dev", 7) == 0;
+    const char *name = *text("REFUSE_PROGRAM") == 0 ? "z80dev" : text("REFUSE_PROGRAM");
+    return strncmp(strrchr(path, '/') + 1, name, strlen(name)) == 0;
 }
 
 static long number(const char *name, long otherwise)
@@ -385,11 +441,12 @@ __attribute__((constructor)) static void refuse(void)
     if (input < 0 || output < 0 || errors < 0 || counts == MAP_FAILED)
         die(path);
     prints = number("REFUSE_PRINTS", 0);
+    calls = number("REFUSE_CALLS", 0);
     before = read_folder();
     if (run(0, 0, &ample))
         return;
     after = read_folder();
-    long calls = counts->calls;
+    long most = counts->calls;
     if (ample.status != number("REFUSE_STATUS", 0)) {
         printf("with ample memory: status %d, %.*s", ample.status, (int)ample.err.len, ample.err.bytes);
         faults++;
@@ -397,7 +454,7 @@ __attribute__((constructor)) static void refuse(void)
     for (long nth = 1;; nth++) {
         int met = 0;
         for (int all_after = 0; all_after < 2; all_after++) {
-            if (all_after && calls > 200 && nth % 4 != 0)
+            if (all_after && most > 200 && nth % 4 != 0)
                 continue;
             struct end end;
             if (is_touched)
@@ -414,11 +471,11 @@ __attribute__((constructor)) static void refuse(void)
             break;
     }
     restore(before);
-    if (calls == 0) {
+    if (most == 0) {
         printf("no call for memory was seen\n");
         faults++;
     }
-    printf("%s: %ld calls, %ld runs, %ld as with ample memory\n", faults == 0 ? "ok" : "FAILED", calls, runs, sames);
+    printf("%s: %ld calls, %ld runs, %ld as with ample memory\n", faults == 0 ? "ok" : "FAILED", most, runs, sames);
     fflush(stdout);
     _exit(faults == 0 ? 0 : 1);
 }

@@ -16,6 +16,7 @@ pub mod Steps
 pub mod Sizes
 pub mod Refs
 pub mod Answers
+mod OneTerm
 pub mod Heads
 pub mod Offsets
 pub mod Equates

@@ -5,6 +5,7 @@ pub mod Items
 pub mod Distances
 pub mod Names
 pub mod Settling
+pub mod Alone
 pub mod Equating
 pub mod Origins
 pub mod Offsets

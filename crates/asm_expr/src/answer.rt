@@ -1,13 +1,15 @@
 //! What names make of an expression: the items of an object.
 
-ghost use Rattle.std.specs.Prelude.{◌≡◌, ◌⊎◌, List, Err, None, IfErr, IfOk, map};
+ghost use Rattle.std.specs.Prelude.{◌≡◌, ◌⊎◌, ◌∷◌, [], List, Err, None, IfErr, IfOk, map};
 ghost use Rattle.std.specs.List.{AllPass};
 ghost use Rattle.std.specs.Option.{option_map};
 ghost use Rattle.asm_parse.specs.declared.fault.ExprFault.{ExprFault};
+ghost use Rattle.asm_parse.specs.declared.item.Item.{Item};
 ghost use Rattle.asm_expr.specs.Postfix.{source};
 ghost use Rattle.asm_expr.specs.Settling.{IsWorthOf, is_known, item_known, items_known, settled};
 ghost use Rattle.asm_expr.specs.Private.Folding.{unknown_at_end};
 
+use crate::alone::atom_alone;
 use crate::atom::Atom;
 use crate::expr::Expr;
 use crate::names::Names;
@@ -65,6 +67,31 @@ fn unknown_of(items: &[Item<Part>]) -> Unknown
     }
 }
 
+/// The expression of one item.
+fn leaf(alloc: Global, atom: Atom) -> Result<Expr, ExprFault>
+    ensures items { IfOk result (λ expr. expr ≡ Item.Leaf atom ∷ []) }
+    ensures memory { IfErr result (λ why. why ≡ ExprFault.NoMemory) }
+{
+    let mut items = Vec::with_capacity(alloc, 1)?;
+    items.push(Item::Leaf(atom))?;
+    Ok(Expr::known(items))
+}
+
+/// What the names make of an expression of any number of terms.
+fn settle_items(alloc: Global, parsed: &Tree, names: &Names) -> Result<Settled, ExprFault>
+    requires { AllPass (is_known names.now) parsed.now }
+    ensures settled { (result ≡ settled names.now (source parsed.now)) ⊎ (result ≡ Err ExprFault.NoMemory) }
+    ensures worth { IfOk result (λ answer. IsWorthOf names.now (source parsed.now) answer) }
+{
+    // Called for what it says of the table: the items that are settled are no more than the most items.
+    names.counted();
+    let reduced = reduce(parsed, names)?;
+    match items_known(alloc, reduced.as_slice())? {
+        Some(items) => Ok(Settled::Known(Expr::known(items))),
+        None => Ok(Settled::Unknown(unknown_of(reduced.as_slice()))),
+    }
+}
+
 /// What the names make of an expression: its items with each fixed part as its number. A part may have no value, since the
 /// line that gives it is faulty: a name that stands for none, or a distance over a statement whose size is not known. That is
 /// no fault of this expression, and what is answered is whether the whole is one number all the same.
@@ -80,11 +107,10 @@ pub fn settle(alloc: Global, parsed: &Tree, names: &Names) -> Result<Settled, Ex
     ensures settled { (result ≡ settled names.now (source parsed.now)) ⊎ (result ≡ Err ExprFault.NoMemory) }
     ensures worth { IfOk result (λ answer. IsWorthOf names.now (source parsed.now) answer) }
 {
-    // Called for what it says of the table: the items that are settled are no more than the most items.
+    // Called for what it says of the table.
     names.counted();
-    let reduced = reduce(parsed, names)?;
-    match items_known(alloc, reduced.as_slice())? {
-        Some(items) => Ok(Settled::Known(Expr::known(items))),
-        None => Ok(Settled::Unknown(unknown_of(reduced.as_slice()))),
+    match atom_alone(parsed, names) {
+        Some(atom) => Ok(Settled::Known(leaf(alloc, atom)?)),
+        None => settle_items(alloc, parsed, names),
     }
 }

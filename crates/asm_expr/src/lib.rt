@@ -1,6 +1,7 @@
 //! Expressions of Z80 assembler source: what names make of trees, postfix items, and values at places.
 #![tactic(auto)]
 
+mod alone;
 mod answer;
 mod arithmetic;
 mod atom;
@@ -20,6 +21,7 @@ mod unknown;
 mod weigh;
 mod worth;
 
+pub use alone::number_alone;
 pub use answer::{Settled, settle};
 pub use asm_parse::{Binary, ExprFault, Item, Term, Tree, Unary, is_reserved, parse};
 pub use atom::Atom;

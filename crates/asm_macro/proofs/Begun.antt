@@ -1,7 +1,7 @@
 -- An expansion before its first line.
 use Rattle.std.proofs.Common.{◌≡◌, ◌+◌, ◌-◌, ◌∙◌, sym, ap, refl, ℕ, List, [], ◌∷◌, ◌++◌, None, map, length, take, reverse, arith, subst, append-nil}
 use Rattle.std.proofs.Math.Seq.{take-length}
-use Rattle.asm_replace.specs.Views as replaced
+use Rattle.asm_texts.specs.Prepared.{said}
 use Rattle.asm_macro.specs.declared.expansion.Expansion.{Expansion}
 use Rattle.asm_texts.specs.Lines.{Numbered}
 use Rattle.asm_macro.specs.Texts.{numbered, source_lines}
@@ -35,10 +35,10 @@ pub begun_rest : (x : Expansion) → x.macros.entries ≡ [] → x.constants ≡
 begun_rest x m k c n calls around turns text all =
     let t = texts_in x in
     ap (λ cs. record {
-      depth = length (map (λ names. replaced.table names.entries) (reverse cs)) + x.turns;
+      depth = length (map (λ call. said call) (reverse cs)) + x.turns;
       state = state_of x;
-      text = text_of t (innermost (map (λ names. replaced.table names.entries) (reverse cs))) x.text;
-      around = around_seen t (map (λ names. replaced.table names.entries) (reverse cs)) (reverse x.around.items);
+      text = text_of t (innermost (map (λ call. said call) (reverse cs))) x.text;
+      around = around_seen t (map (λ call. said call) (reverse cs)) (reverse x.around.items);
     }) calls
     ∙ ap (λ fs. record { depth = 0 + x.turns; state = state_of x; text = text_of t None x.text; around = around_seen t [] (reverse fs) }) around
     ∙ ap (λ n. record { depth = 0 + n; state = state_of x; text = text_of t None x.text; around = [] }) turns

@@ -1,12 +1,12 @@
 -- Stacks that are kept in vectors, the innermost last.
-use Rattle.std.proofs.Common.{◌≡◌, ◌<◌, ◌-◌, ◌∙◌, sym, ap, refl, List, [], ◌∷◌, ◌++◌, Option, Some, Bor, length, map, reverse, get_or, arith, take, drop_of_length-le, ◌+◌, ◌≤◌, option_copied}
+use Rattle.std.proofs.Common.{◌≡◌, ◌<◌, ◌-◌, ◌∙◌, sym, ap, refl, List, [], ◌∷◌, ◌++◌, Option, Some, Bor, length, map, reverse, get_or, arith, take, drop_of_length-le, ◌+◌, ◌≤◌, option_copied, Result, Ok, Err, OnOk}
 use Rattle.std.specs.List.{slice_get}
 use Rattle.std.specs.Option.{option_map}
 use Rattle.std.proofs.lemmas.List.{drop_more, get_or-reverse, length-map, length-reverse, reverse-append, take-append-drop}
 use Rattle.std.proofs.lemmas.Option.{slice_get-get_or}
 use Rattle.asm_replace.specs.Replaced.{Table}
-use Rattle.asm_replace.specs.Views as replaced
 use Rattle.asm_texts.proofs.Macros.{copied}
+use Rattle.asm_texts.specs.Prepared.{said}
 use Rattle.asm_macro.specs.declared.expansion.Expansion.{Expansion}
 use Rattle.asm_macro.specs.Private.Moves.{tables_in}
 use Rattle.asm_macro.specs.Private.Frames.{below, innermost}
@@ -45,4 +45,8 @@ popped_tables f (x ∷ xs) ys e =
 
 -- so many calls are open
 pub depth_is : (x : Expansion) → length (tables_in x) ≡ length x.calls.items
-depth_is x = length-map (reverse x.calls.items) (λ names. replaced.table names.entries) ∙ length-reverse x.calls.items
+depth_is x = length-map (reverse x.calls.items) (λ call. said call) ∙ length-reverse x.calls.items
+
+pub given_ok : {T E P : Type 0} (r : Result T E) → P → OnOk r P
+given_ok (Ok x) p = p
+given_ok (Err e) p = tt

@@ -13,11 +13,11 @@ use Rattle.asm_texts.specs.Blocks.{Body, Branches, Section}
 use Rattle.asm_texts.specs.Blocks.{is_alone}
 use Rattle.asm_macro.specs.Parts.{Part, Stop, Turns, Go, renumbered, turns, closing, passed, resumed, behind_first}
 use Rattle.asm_macro.specs.Ahead.{Around, Rest}
-use Rattle.asm_macro.specs.Private.Frames.{around_seen, behind_other, innermost, next_of, outside, turns_in}
+use Rattle.asm_macro.specs.Private.Frames.{around_seen, behind_other, below, innermost, next_of, outside, turns_in}
 use Rattle.asm_texts.specs.Spans.{body_seen, lines_from, text_of}
 use Rattle.asm_macro.specs.Private.Allows.{Allows}
 use Rattle.asm_macro.specs.declared.moves.Stop as moves
-use Rattle.asm_macro.specs.Private.Moves.{IsSound, On, Resumes, in_text, moved, next_move, rest_of, state_of, tables_in, texts_in}
+use Rattle.asm_macro.specs.Private.Moves.{IsSound, Moved, On, Resumes, in_text, moved, next_move, rest_of, state_of, tables_in, texts_in}
 use Rattle.asm_macro.proofs.Stacks.{pushed}
 
 renumbered-from : (n : ℕ) (number : Option ℕ) (at : ℕ) (names : Option Table) (texts : List (List ℕ)) → renumbered n (lines_from number at names texts) ≡ lines_from (Some n) at names texts
@@ -90,3 +90,14 @@ popped x left f over is =
 
 pub turns_popped : (x : Expansion) (left : List Following) (n number : ℕ) (body : Block) → IsSound x → x.around.items ≡ left ++ Following.Turns n number body ∷ [] → turns_in (reverse left) ≡ x.turns - 1
 turns_popped x left n number body sound is = omega (arith, sound.turns, ap turns_in (ap reverse is ∙ pushed left (Following.Turns n number body)))
+
+outside_below : (s : Span) (tables : List Table) → outside (Following.Rest s) tables ≡ below tables
+outside_below s [] = refl
+outside_below s (t ∷ ts) = refl
+
+-- a call is over
+pub rest_popped : (x : Expansion) (left : List Following) (s : Span) (tables : List Table) → (rest_of x).text ≡ [] → x.around.items ≡ left ++ Following.Rest s ∷ [] → x.turns ≡ turns_in (reverse left) → tables ≡ below (tables_in x)
+    → next_move (rest_of x) ≡ On [] (record { depth = length tables + x.turns; state = state_of x; text = text_of (texts_in x) (innermost tables) s; around = around_seen (texts_in x) tables (reverse left) })
+rest_popped x left s tables over is turns same =
+    let to : List Table → ℕ → Moved = λ ts n. On [] (record { depth = length ts + n; state = state_of x; text = text_of (texts_in x) (innermost ts) s; around = around_seen (texts_in x) ts (reverse left) }) in
+    popped x left (Following.Rest s) over is ∙ ap (λ ts. to ts (turns_in (reverse left))) (outside_below s (tables_in x) ∙ sym same) ∙ ap (to tables) (sym turns)

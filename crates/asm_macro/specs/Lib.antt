@@ -8,4 +8,5 @@ pub mod Expands
 pub mod Ahead
 pub mod Views
 pub mod Given
+pub mod Kept
 pub mod Private

@@ -16,7 +16,7 @@ impl<'a> Expansion<'a> {
     pub(crate) fn body(&mut self) -> Result<Option<Block>, AllocError>
         requires sound { IsSound self.old }
         ensures sound { OnOk result (IsSound self.new) }
-        ensures kept { OnOk result (self.new ≡ record self.old { book = self.new.book }) }
+        ensures kept { OnOk result (self.new ≡ record self.old { book = self.new.book; source = self.new.source }) }
         ensures body { IfOk result (λ found. option_map (body_seen (texts_in self.old) (innermost (tables_in self.old))) found ≡ body_of (rest_of self.old).text) }
     {
         body_of(
@@ -24,6 +24,7 @@ impl<'a> Expansion<'a> {
             &self.lines,
             self.calls.last(),
             self.text,
+            &mut self.source,
             &mut self.book,
         )
     }
@@ -32,7 +33,7 @@ impl<'a> Expansion<'a> {
     pub(crate) fn branches(&mut self) -> Result<Option<Choice>, AllocError>
         requires sound { IsSound self.old }
         ensures sound { OnOk result (IsSound self.new) }
-        ensures kept { OnOk result (self.new ≡ record self.old { book = self.new.book }) }
+        ensures kept { OnOk result (self.new ≡ record self.old { book = self.new.book; source = self.new.source }) }
         ensures branches { IfOk result (λ found. option_map (branches_seen (texts_in self.old) (innermost (tables_in self.old))) found ≡ branches_of (rest_of self.old).text) }
     {
         branches_of(
@@ -40,6 +41,7 @@ impl<'a> Expansion<'a> {
             &self.lines,
             self.calls.last(),
             self.text,
+            &mut self.source,
             &mut self.book,
         )
     }

@@ -2,11 +2,14 @@
 
 ghost use Rattle.std.specs.Prelude.{◌≡◌, ℕ, Ok, Err, None, false};
 ghost use Rattle.asm_macro.specs.Ahead.{begun, Halted, IsNext, Over, seen};
+ghost use Rattle.asm_macro.specs.Kept.{AreOf};
+ghost use Rattle.asm_macro.specs.declared.expander.Stage.{Stage};
 
 use crate::expansion::Expansion;
 use crate::fault::MacroFault;
 use crate::moves::{Given, Stop};
 use crate::source::begin;
+use asm_scan::Token;
 use std::alloc::Global;
 use std::marker::Model;
 
@@ -27,25 +30,43 @@ enum Stage<'a> {
     Halted(u32, MacroFault),
 }
 
+/// All is given. (Called, since room for a stage is made ready where it stands, at each line.)
+#[inline(never)]
+fn end(stage: &mut Stage<'_>)
+    ensures { stage.new ≡ Stage.Over }
+{
+    *stage = Stage::Over;
+}
+
+/// A fault came, on a line.
+#[inline(never)]
+fn halt(stage: &mut Stage<'_>, number: u32, why: MacroFault)
+    ensures { stage.new ≡ Stage.Halted number why }
+{
+    *stage = Stage::Halted(number, why);
+}
+
 /// The expansion of a source text, line by line.
 #[derive(Debug, Drop)]
 pub struct Expander<'a> {
     alloc: Global,
     stage: Stage<'a>,
-    /// The line that was given last, and its number.
+    /// The line that was given last, its number, and its tokens, where they are kept.
     buffer: Vec<u8>,
     number: u32,
+    tokens: Option<Vec<Token<'a>>>,
 }
 
 impl<'a> Model for Expander<'a> {
     ghost use Rattle.asm_macro.specs.Ahead.{Standing};
+    ghost use Rattle.asm_macro.specs.Kept.{AreOf};
     ghost use Rattle.asm_macro.specs.Private.Stages.{IsSoundStage, standing};
 
     ghost Value = { Standing };
 
     ghost view = { λ e. standing e.number e.buffer.items e.stage };
 
-    ghost invariant = { λ e. IsSoundStage e.stage };
+    ghost invariant = { λ e. IsSoundStage e.stage × AreOf e.buffer.items e.tokens };
 
     ghost use Rattle.asm_macro.specs.contracts.fault.MacroFault as fault;
     ghost use Rattle.std.specs.Coded.{codes};
@@ -71,6 +92,7 @@ impl<'a> Expander<'a> {
             stage: Stage::Before(text),
             buffer: Vec::new(alloc),
             number: 0,
+            tokens: None,
         }
     }
 
@@ -95,7 +117,7 @@ impl<'a> Expander<'a> {
         ensures halted { (number : ℕ) (why : MacroFault) → self.old.ahead ≡ Halted number why → result ≡ Err (number, why) }
     {
         let reached = match &mut self.stage {
-            Stage::Within(expansion) => expansion.go_on(&mut self.buffer),
+            Stage::Within(expansion) => expansion.go_on(&mut self.buffer, &mut self.tokens),
             Stage::Halted(number, why) => return Err((*number, *why)),
             Stage::Before(_) | Stage::Over => return Ok(false),
         };
@@ -106,35 +128,35 @@ impl<'a> Expander<'a> {
             }
             Ok(Given::Last(number)) => {
                 self.number = number;
-                self.stage = Stage::Over;
+                end(&mut self.stage);
                 Ok(true)
             }
             Ok(Given::Refused(number)) => {
                 self.number = number;
-                self.stage = Stage::Halted(number, MacroFault::Stray);
+                halt(&mut self.stage, number, MacroFault::Stray);
                 Ok(true)
             }
             Ok(Given::Over) => {
-                self.stage = Stage::Over;
+                end(&mut self.stage);
                 Ok(false)
             }
             Err(Stop::At(number, why)) => {
-                self.stage = Stage::Halted(number, why);
+                halt(&mut self.stage, number, why);
                 Err((number, why))
             }
             Err(Stop::NoMemory) => {
-                self.stage = Stage::Halted(self.number, MacroFault::NoMemory);
+                halt(&mut self.stage, self.number, MacroFault::NoMemory);
                 Err((self.number, MacroFault::NoMemory))
             }
         }
     }
 
-    /// Goes on to the next line; false behind the last, and from then on.
+    /// Goes on to the next line, which [`line`](Expander::line) then gives; false behind the last, and from then on.
     ///
     /// # Errors
     ///
     /// The line on which the expansion stops, and why; from then on every call answers it again.
-    fn advance(&mut self) -> Result<bool, (u32, MacroFault)>
+    pub fn advance(&mut self) -> Result<bool, (u32, MacroFault)>
         ensures next { IsNext self.old result self.new }
         ensures over { self.old.ahead ≡ Over → result ≡ Ok false }
         ensures halted { (number : ℕ) (why : MacroFault) → self.old.ahead ≡ Halted number why → result ≡ Err (number, why) }
@@ -161,12 +183,21 @@ impl<'a> Expander<'a> {
     }
 
     /// The line that was given last.
-    fn line(&self) -> Line<'_>
+    pub fn line(&self) -> Line<'_>
         ensures { seen result ≡ self.now.given }
     {
         Line {
             number: self.number,
             text: self.buffer.as_slice(),
         }
+    }
+
+    /// The tokens of the line that was given last, which it need not be cut into again; None where they are not kept, as those
+    /// of a line in a call.
+    pub fn take_tokens(&mut self) -> Option<Vec<Token<'a>>>
+        ensures same { self.new ≡ self.old }
+        ensures tokens { AreOf self.old.given.text result }
+    {
+        self.tokens.take()
     }
 }

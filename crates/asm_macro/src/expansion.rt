@@ -1,12 +1,12 @@
 //! What is known from the lines before, and what is still to be expanded.
 
-ghost use Rattle.std.specs.Prelude.{◌≡◌, ◌≢◌, ◌<◌, ◌≤◌, ◌+◌, ◌∷◌, ℕ, IfOk, OnOk, List, [], Some, length, reverse};
+ghost use Rattle.std.specs.Prelude.{◌≡◌, ◌≢◌, ◌<◌, ◌≤◌, ◌+◌, ◌∷◌, ℕ, IfOk, OnOk, List, [], Some, length, reverse, slice_index_or};
 ghost use Rattle.asm_replace.specs.Replaced.{Table};
 ghost use Rattle.asm_texts.specs.Books.{IsBook};
 ghost use Rattle.std.specs.Option.{option_map};
-ghost use Rattle.asm_replace.specs.Views.{table};
 ghost use Rattle.asm_macro.specs.Ahead.{Around, seen};
-ghost use Rattle.asm_macro.specs.Parts.{behind_first, resumed, turns};
+ghost use Rattle.asm_macro.specs.Kept.{AreOf};
+ghost use Rattle.asm_macro.specs.Parts.{behind_first, part, resumed, turns};
 ghost use Rattle.asm_macro.specs.declared.frame.Following.{Following};
 ghost use Rattle.asm_texts.specs.Spans.{body_seen, branches_seen};
 ghost use Rattle.asm_macro.specs.Private.Frames.{AreBooks, below, innermost, next_of};
@@ -19,8 +19,8 @@ use crate::expander::Line;
 use crate::fault::MacroFault;
 use crate::frame::Following;
 use crate::moves::{Given, Stop, Taken};
-use asm_replace::Replacements;
-use asm_texts::{Block, Book, Choice, Macro, Span, put_shown};
+use asm_scan::Token;
+use asm_texts::{Block, Book, Call, Choice, Macro, Span, put_shown};
 use indexmap::IndexMap;
 use name_key::NameKey;
 use std::alloc::{AllocError, Global};
@@ -44,14 +44,16 @@ pub(crate) struct Expansion<'a> {
     pub text: Span,
     /// What follows it and those around, the innermost last.
     pub around: Vec<Following>,
-    /// What names are replaced by in the open calls, the innermost last.
-    pub calls: Vec<Replacements>,
+    /// The open calls, the innermost last.
+    pub calls: Vec<Call>,
     /// How many repetitions are open.
     pub turns: usize,
-    /// Where the blocks end of the innermost call's text, or of the source, as far as they were looked for.
+    /// Where the blocks end of the innermost call's text, where they end elsewhere than its lines as they stand.
     pub book: Book,
     /// And of the texts around the open calls, the innermost last.
     pub books: Vec<Book>,
+    /// Where the blocks of the source end.
+    pub source: Book,
 }
 
 /// Where the blocks end of the text around a call that is over.
@@ -123,6 +125,7 @@ impl<'a> Expansion<'a> {
     }
 
     /// Goes on behind a text that is over, in the one around it.
+    #[inline(never)]
     fn resume(&mut self) -> Result<(), Stop>
         requires sound { IsSound self.old }
         requires inner { 0 < length self.old.around.items }
@@ -160,6 +163,8 @@ impl<'a> Expansion<'a> {
         ensures count { self.new.count ≡ self.old.count }
         ensures around { self.new.around ≡ self.old.around }
         ensures line { IfOk result (λ number. rest_of self.old ≡ record (rest_of self.new) { text = record { number = number; text = buffer.new.items } ∷ (rest_of self.new).text }) }
+        ensures calls { self.new.calls ≡ self.old.calls }
+        ensures plain { OnOk result (length self.old.calls.items ≡ 0 → slice_index_or (texts_in self.old) self.old.text.at [] ≡ buffer.new.items) }
     {
         let at = self.text.at;
         put_shown(self.alloc, self.calls.last(), self.lines[at], buffer)?;
@@ -170,28 +175,60 @@ impl<'a> Expansion<'a> {
         }
     }
 
+    /// Takes up a line that was written to a buffer. Where no call is open it is a line of the source, whose tokens are kept.
+    fn take_written(
+        &mut self,
+        number: u32,
+        source: &'a [u8],
+        written: &[u8],
+        kept: &mut Option<Vec<Token<'a>>>,
+    ) -> Result<Taken, Stop>
+        requires sound { IsSound self.old }
+        requires same { length self.old.calls.items ≡ 0 → source.now ≡ written.now }
+        ensures sound { OnOk result (IsSound self.new) }
+        ensures count { OnOk result (self.old.count < self.new.count) }
+        ensures around { OnOk result (length self.new.around.items ≤ length self.old.around.items + 1) }
+        ensures taken { Takes (record { number = number; text = written.now }) result (rest_of self.new) (moved (rest_of self.old).depth (rest_of self.old).around
+            (part (rest_of self.old).depth (state_of self.old) (record { number = number; text = written.now }) (rest_of self.old).text)) }
+        ensures kept { AreOf written.now kept.new }
+    {
+        if self.calls.is_empty() {
+            let text = source;
+            return self.take(Line { number, text }, kept);
+        }
+        *kept = None;
+        let text = written;
+        self.take(Line { number, text }, &mut None)
+    }
+
     /// Takes up the first line of the innermost text.
-    fn take_line(&mut self, buffer: &mut Vec<u8>) -> Result<Option<Given>, Stop>
+    fn take_line(
+        &mut self,
+        buffer: &mut Vec<u8>,
+        kept: &mut Option<Vec<Token<'a>>>,
+    ) -> Result<Option<Given>, Stop>
         requires sound { IsSound self.old }
         requires at { self.old.text.at < self.old.text.end }
         requires within { self.old.text.at < length self.old.lines.items }
         ensures sound { OnOk result (IsSound self.new) }
         ensures less { IfOk result (λ given. Lessens self.old given self.new) }
         ensures gives { Gives buffer.new.items result (rest_of self.new) (next_move (rest_of self.old)) }
+        ensures kept { AreOf buffer.new.items kept.new }
     {
+        *kept = None;
+        let source = self.lines[self.text.at];
         let number = self.put_line(buffer)?;
-        match self.take(Line {
-            number,
-            text: buffer.as_slice(),
-        })? {
+        match self.take_written(number, source, buffer, kept)? {
             Taken::Nothing => Ok(None),
             Taken::Line => Ok(Some(Given::Line(number))),
             Taken::Last => Ok(Some(Given::Last(number))),
             Taken::Label(label) => {
+                *kept = None;
                 *buffer = label;
                 Ok(Some(Given::Line(number)))
             }
             Taken::Refused(label) => {
+                *kept = None;
                 *buffer = label;
                 Ok(Some(Given::Refused(number)))
             }
@@ -199,14 +236,20 @@ impl<'a> Expansion<'a> {
     }
 
     /// Goes on by one line, or by the end of a text.
-    fn step(&mut self, buffer: &mut Vec<u8>) -> Result<Option<Given>, Stop>
+    fn step(
+        &mut self,
+        buffer: &mut Vec<u8>,
+        kept: &mut Option<Vec<Token<'a>>>,
+    ) -> Result<Option<Given>, Stop>
         requires sound { IsSound self.old }
+        requires kept { AreOf buffer.old.items kept.old }
         ensures sound { OnOk result (IsSound self.new) }
         ensures less { IfOk result (λ given. Lessens self.old given self.new) }
         ensures gives { Gives buffer.new.items result (rest_of self.new) (next_move (rest_of self.old)) }
+        ensures kept { AreOf buffer.new.items kept.new }
     {
         if self.text.at < self.text.end && self.text.at < self.lines.len() {
-            return self.take_line(buffer);
+            return self.take_line(buffer, kept);
         }
         if self.around.is_empty() {
             return Ok(Some(Given::Over));
@@ -216,14 +259,20 @@ impl<'a> Expansion<'a> {
     }
 
     /// Goes on to the next line that is given.
-    pub(crate) fn go_on(&mut self, buffer: &mut Vec<u8>) -> Result<Given, Stop>
+    pub(crate) fn go_on(
+        &mut self,
+        buffer: &mut Vec<u8>,
+        kept: &mut Option<Vec<Token<'a>>>,
+    ) -> Result<Given, Stop>
         requires sound { IsSound self.old }
+        requires kept { AreOf buffer.old.items kept.old }
         ensures sound { OnOk result (IsSound self.new) }
         ensures count { IfOk result (λ given. given ≢ Given.Over → self.old.count < self.new.count) }
         ensures goes { Goes (rest_of self.old) buffer.new.items result (rest_of self.new) }
+        ensures kept { AreOf buffer.new.items kept.new }
     {
         loop {
-            match self.step(buffer)? {
+            match self.step(buffer, kept)? {
                 Some(given) => return Ok(given),
                 None => {}
             }

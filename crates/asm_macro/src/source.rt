@@ -71,5 +71,6 @@ pub(crate) fn begin(alloc: Global, text: &[u8]) -> Result<Expansion<'_>, MacroFa
         turns: 0,
         book: Book::new(alloc),
         books: Vec::new(alloc),
+        source: Book::new(alloc),
     })
 }

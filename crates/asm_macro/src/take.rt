@@ -1,14 +1,17 @@
 //! Lines that are taken up.
 
-ghost use Rattle.std.specs.Prelude.{◌≡◌, ◌≢◌, ◌<◌, ◌≤◌, ◌+◌, ◌||◌, nat_lt, IfOk, OnOk, Ok, [], List, ℕ, None, Some, length, true};
+ghost use Rattle.std.specs.Prelude.{◌≡◌, ◌≢◌, ◌<◌, ◌≤◌, ◌+◌, ◌||◌, nat_lt, IfOk, OnOk, Ok, [], List, ℕ, None, Some, codes, false, length, true};
 ghost use Rattle.std.specs.Option.{option_map};
 ghost use Rattle.asm_scan.specs.Tokens.{lexemes};
 ghost use Rattle.asm_scan.specs.Scanned.{scanned};
 ghost use Rattle.asm_words.specs.Words.{upper};
 ghost use Rattle.asm_line.specs.Views.{form_seen, head_seen};
-ghost use Rattle.asm_replace.specs.Views.{table as table_seen, texts};
+ghost use Rattle.asm_replace.specs.Views.{texts};
 ghost use Rattle.asm_replace.specs.Replaced.{Table};
-ghost use Rattle.asm_texts.specs.Prepared.{SaySame, body_texts};
+ghost use Rattle.asm_texts.specs.Books.{IsCall};
+ghost use Rattle.asm_texts.specs.Prepared.{SaySame, body_texts, macros_seen, said};
+ghost use Rattle.std.specs.Map.{lookup};
+ghost use Rattle.std.specs.Str.{bytes_eq};
 ghost use Rattle.asm_macro.specs.Private.Entering.{Entered};
 ghost use Rattle.asm_macro.specs.State.{macro_named, table};
 ghost use Rattle.asm_macro.specs.Values.{worth};
@@ -20,6 +23,7 @@ ghost use Rattle.asm_macro.specs.Private.Allows.{stopped};
 ghost use Rattle.asm_texts.specs.Spans.{branches_seen};
 ghost use Rattle.asm_macro.specs.Private.Frames.{innermost};
 ghost use Rattle.asm_macro.specs.Private.Heads.{by_head, defined, kept};
+ghost use Rattle.asm_macro.specs.Kept.{AreOf};
 ghost use Rattle.asm_macro.specs.Private.Moves.{IsSound, Resumes, Takes, moved, rest_of, state_of, tables_in, texts_in};
 
 use crate::closing::closes;
@@ -29,10 +33,11 @@ use crate::fault::MacroFault;
 use crate::frame::Following;
 use crate::moves::{Stop, Taken, begun, refused};
 use asm_line::{BlockWord, Form, Head, form_of, names};
-use asm_replace::Replacements;
 use asm_scan::{ScanFault, Token, tokens};
-use asm_texts::{Book, Choice, Macro, Span, label_before, macro_of, prepare};
+use asm_texts::{Book, Call, Choice, Macro, Span, label_before, macro_of, prepare};
 use asm_words::is_reserved;
+use indexmap::IndexMap;
+use name_key::NameKey;
 use std::alloc::{AllocError, Global};
 use std::mem;
 
@@ -77,6 +82,24 @@ fn may_not_stand(labelled: bool, depth: usize, reserved: bool) -> bool
     labelled || depth > 0 || reserved
 }
 
+/// The longest word that is looked up as a macro's name without memory of its own.
+const SHORT: usize = 16;
+
+/// Whether a word is short, names no macro and is not END.
+fn is_plain(macros: &IndexMap<Vec<u8>, Macro, NameKey>, word: &[u8]) -> bool
+    ensures none { (texts : List (List ℕ)) → result ≡ true → lookup (bytes_eq (upper word.now)) (macros_seen texts macros.now.entries) ≡ None }
+    ensures no_end { result ≡ true → bytes_eq (upper word.now) (codes "END") ≡ false }
+{
+    if word.len() > SHORT {
+        return false;
+    }
+    let mut bytes = [0; SHORT];
+    let name = &mut bytes[..word.len()];
+    name.copy_from_slice(word);
+    name.make_ascii_uppercase();
+    macro_of(macros, name).is_none() && &*name != b"END".as_slice()
+}
+
 impl<'a> Expansion<'a> {
     /// Goes on with the second branch of an IF, if there is one.
     fn second(&mut self, choice: Choice) -> Result<(), Stop>
@@ -119,6 +142,7 @@ impl<'a> Expansion<'a> {
     }
 
     /// `IF e`.
+    #[inline(never)]
     fn condition(&mut self, line: Line<'_>, tokens: &[Token<'_>]) -> Result<(), Stop>
         requires sound { IsSound self.old }
         ensures sound { OnOk result (IsSound self.new) }
@@ -138,6 +162,7 @@ impl<'a> Expansion<'a> {
     }
 
     /// `REPT n`.
+    #[inline(never)]
     fn repetition(&mut self, line: Line<'_>, tokens: &[Token<'_>]) -> Result<(), Stop>
         requires sound { IsSound self.old }
         ensures sound { OnOk result (IsSound self.new) }
@@ -166,19 +191,20 @@ impl<'a> Expansion<'a> {
         &mut self,
         line: Line<'_>,
         body: Span,
-        names: Replacements,
+        call: Call,
         counter: u64,
     ) -> Result<(), AllocError>
         requires sound { IsSound self.old }
+        requires call { IsCall (texts_in self.old) call }
         requires shallow { length self.old.calls.items + self.old.turns < 16 }
         ensures sound { OnOk result (IsSound self.new) }
         ensures count { OnOk result (self.new.count ≡ self.old.count) }
         ensures around { OnOk result (length self.new.around.items ≤ length self.old.around.items + 1) }
-        ensures entered { OnOk result ((names_said : Table) → SaySame (table_seen names.entries) names_said → Entered (rest_of self.old) (seen line.entry).number names_said (body_texts (texts_in self.old) body) counter (rest_of self.new)) }
+        ensures entered { OnOk result ((names_said : Table) → SaySame (said call) names_said → Entered (rest_of self.old) (seen line.entry).number names_said (body_texts (texts_in self.old) body) counter (rest_of self.new)) }
     {
         asm_replace::laws::by_names();
         self.around.push(Following::Rest(self.text))?;
-        self.calls.push(names)?;
+        self.calls.push(call)?;
         let book = mem::replace(&mut self.book, Book::new(self.alloc));
         self.books.push(book)?;
         self.counter = counter;
@@ -217,7 +243,6 @@ impl<'a> Expansion<'a> {
         let label = label_before(self.alloc, line.text, tokens, form)?;
         let prepared = prepare(
             self.alloc,
-            &self.lines,
             called,
             line.text,
             tokens,
@@ -226,8 +251,8 @@ impl<'a> Expansion<'a> {
         )?;
         match prepared {
             None => refused(line.number, label),
-            Some(call) => {
-                self.enter(line, call.body, call.names, call.counter)?;
+            Some(ready) => {
+                self.enter(line, ready.body, ready.call, ready.counter)?;
                 Ok(begun(label))
             }
         }
@@ -249,16 +274,14 @@ impl<'a> Expansion<'a> {
             return Err(Stop::At(line.number, MacroFault::Unclosed));
         };
         closes(self.alloc, &self.lines, self.calls.last(), body.stretch.end)?;
-        let called = Macro {
-            parameters,
-            body: body.stretch.lines,
-        };
+        let called = Macro::new(self.alloc, &self.lines, parameters, body.stretch.lines)?;
         self.macros.insert(key, called)?;
         self.text = body.after;
         Ok(())
     }
 
     /// `name MACRO ..`.
+    #[inline(never)]
     fn define(&mut self, line: Line<'_>, form: Form<'_>, name: &[u8]) -> Result<(), Stop>
         requires sound { IsSound self.old }
         ensures sound { OnOk result (IsSound self.new) }
@@ -314,6 +337,7 @@ impl<'a> Expansion<'a> {
                 Ok(Taken::Nothing)
             }
             Head::Block(_) => Err(Stop::At(line.number, MacroFault::Stray)),
+            Head::Word(name) if is_plain(&self.macros, name) => Ok(Taken::Line),
             Head::Word(name) => self.word(line, tokens, form, name),
             Head::Nothing => Ok(Taken::Line),
         }
@@ -340,17 +364,27 @@ impl<'a> Expansion<'a> {
         self.take_head(line, tokens, form)
     }
 
-    /// Takes up a line, behind which the innermost text goes on.
-    pub(crate) fn take(&mut self, line: Line<'_>) -> Result<Taken, Stop>
+    /// Takes up a line, behind which the innermost text goes on, and keeps its tokens.
+    pub(crate) fn take<'b>(
+        &mut self,
+        line: Line<'b>,
+        kept: &mut Option<Vec<Token<'b>>>,
+    ) -> Result<Taken, Stop>
         requires sound { IsSound self.old }
         ensures sound { OnOk result (IsSound self.new) }
         ensures count { OnOk result (self.old.count < self.new.count) }
         ensures around { OnOk result (length self.new.around.items ≤ length self.old.around.items + 1) }
         ensures taken { Takes (seen line.entry) result (rest_of self.new) (moved (rest_of self.old).depth (rest_of self.old).around
             (part (rest_of self.old).depth (state_of self.old) (seen line.entry) (rest_of self.old).text)) }
+        ensures kept { AreOf line.entry.text.now kept.new }
     {
+        *kept = None;
         match tokens(self.alloc, line.text) {
-            Ok(found) => self.take_form(line, &found),
+            Ok(found) => {
+                let taken = self.take_form(line, &found)?;
+                *kept = Some(found);
+                Ok(taken)
+            }
             Err(ScanFault::NoMemory) => Err(Stop::NoMemory),
             Err(why) => {
                 if self.count >= MOST_LINES {

@@ -1,6 +1,7 @@
 //! Whole expansions.
 
 use asm_macro::{Expander, MacroFault, expand};
+use asm_scan::Token;
 use std::alloc::Global;
 use std::process::Abort;
 use std::test::Fail;
@@ -190,6 +191,137 @@ fn conditions_of_calls(rt: HostRuntime) -> Result<(), Fail> {
     Ok(())
 }
 
+#[test]
+fn words_of_blocks_by_arguments(rt: HostRuntime) -> Result<(), Fail> {
+    let alloc = rt.alloc();
+    let rows: [(&[u8], &str); 12] = [
+        (
+            b"K MACRO W\nIF 0\nW 1\n A\nENDIF\n B\nENDIF\n C\nENDM\n K IF\n",
+            "10  C|",
+        ),
+        (
+            b"K MACRO W\nIF 0\nW 1\n A\nENDIF\n B\nENDIF\n C\nENDM\n K DB\n",
+            "fault 10 Stray",
+        ),
+        (
+            b"K MACRO W\nREPT 2\n A\nW\n B\nENDM\nENDM\n K NOP\n",
+            "8  A|8 NOP|8  B|8  A|8 NOP|8  B|",
+        ),
+        (
+            b"K MACRO W\nREPT 2\n A\nW\n B\nENDM\nENDM\n K ENDM\n",
+            "fault 8 Stray",
+        ),
+        // behind a label
+        (
+            b"K MACRO L,W\nIF 0\nL: W\nENDIF\n D\nENDM\n K X,NOP\n",
+            "7  D|",
+        ),
+        (
+            b"K MACRO L,W\nIF 0\nL: W\nENDIF\n D\nENDM\n K X,ENDIF\n",
+            "fault 7 Stray",
+        ),
+        // behind a name
+        (
+            b"K MACRO V,W\nIF 0\nN W\nENDIF\n D\nENDM\n K 1,EQU\n",
+            "7  D|",
+        ),
+        (
+            b"K MACRO V,W\nIF 0\nN W\nENDIF\n D\nENDM\n K 1,MACRO\n",
+            "fault 7 Unclosed",
+        ),
+        // an argument of several words
+        (
+            b"K MACRO W\nIF 0\nW\nENDIF\n D\nENDM\n K N MACRO\n",
+            "fault 7 Unclosed",
+        ),
+        (
+            b"K MACRO V,W\nIF 0\nN: V W\nENDIF\n D\nENDM\n K Q,MACRO\n",
+            "fault 7 Unclosed",
+        ),
+        // LOCAL names
+        (
+            b"K MACRO\nLOCAL L\nIF 0\nL: A\nENDIF\nL: B\nENDM\n K\n K\n",
+            "8 ??00000: B|9 ??00001: B|",
+        ),
+        (
+            b"K MACRO\nLOCAL ENDIF\nIF 0\nENDIF\nENDM\n K\n",
+            "fault 6 Unclosed",
+        ),
+    ];
+    for (text, want) in rows {
+        assert_expands(&rt, alloc, text, want)?;
+    }
+    Ok(())
+}
+
+#[test]
+fn calls_and_repetitions_within_calls(rt: HostRuntime) -> Result<(), Fail> {
+    let alloc = rt.alloc();
+    let rows: [(&[u8], &str); 4] = [
+        (
+            b"Q MACRO W\nIF 0\n A\nW\n B\nENDIF\nENDM\nK MACRO V\nIF 1\n Q V\nENDIF\n C\nENDM\n K ELSE\n K NOP\n",
+            "14  B|14  C|15  C|",
+        ),
+        (
+            b"K MACRO W\nREPT 2\nIF 0\n A\nW\n B\nENDIF\nENDM\nENDM\n K ELSE\n K NOP\n",
+            "10  B|10  B|",
+        ),
+        (
+            b"K MACRO W\nIF 0\n A\nW\n B\nENDIF\nIF 1\n C\nW\n D\nENDIF\nENDM\n K ELSE\n",
+            "13  B|13  C|",
+        ),
+        // what stands in a LOCAL line of another form is found at each call, behind its label
+        (b"K MACRO\nLOCAL 5\nENDM\n RET\nX: K\n", "fault 5 Stray"),
+    ];
+    for (text, want) in rows {
+        assert_expands(&rt, alloc, text, want)?;
+    }
+    Ok(())
+}
+
+/// A line that is too long with its names replaced is no word of blocks, and says nothing where it is not taken up.
+#[test]
+fn too_long_by_arguments(rt: HostRuntime) -> Result<(), Fail> {
+    let alloc = rt.alloc();
+    let name = vec![in alloc; b'N'; 252]?;
+    let rows: [(&[u8], &str); 4] = [
+        (b"K MACRO X\nIF 0\nIF  X\nENDIF\n D\nENDM\n K ", "7  D|"),
+        (
+            b"K MACRO X\nIF 0\nIF X\nENDIF\n D\nENDM\n K ",
+            "fault 7 Unclosed",
+        ),
+        (b"K MACRO X\nIF 0\n LD  A,X\nENDIF\n D\nENDM\n K ", "7  D|"),
+        (
+            b"K MACRO X\nIF 1\n LD  A,X\nENDIF\n D\nENDM\n K ",
+            "fault 7 LineTooLong",
+        ),
+    ];
+    for (before, want) in rows {
+        let mut text = before.to_vec(alloc)?;
+        text.extend_from_slice(&name)?;
+        assert_expands(&rt, alloc, &text, want)?;
+    }
+    Ok(())
+}
+
+/// 5,000 calls of a macro that passes over 5,000 lines: were each of these read by each call, this would take many seconds.
+fn assert_many_calls(rt: &impl Abort, alloc: Global, line: &[u8]) -> Result<(), Fail> {
+    let mut text = b"K MACRO X\nIF 0\n".to_vec(alloc)?;
+    text.extend_from_slice(&around(alloc, line, b"ENDIF\nENDM\n", b" K 1\n", 5_000)?)?;
+    text.extend_from_slice(b" RET\n")?;
+    assert_expands(rt, alloc, &text, "10005  RET|")
+}
+
+#[test]
+fn many_calls_over_a_branch(rt: HostRuntime) -> Result<(), Fail> {
+    assert_many_calls(&rt, rt.alloc(), b" NOP\n")
+}
+
+#[test]
+fn many_calls_over_a_branch_with_the_parameter(rt: HostRuntime) -> Result<(), Fail> {
+    assert_many_calls(&rt, rt.alloc(), b" LD A,X\n")
+}
+
 /// The next line is this one, with its number; or, of an empty text, there is none.
 fn assert_next(rt: &impl Abort, expander: &mut Expander<'_>, number: u32, text: &[u8]) {
     match expander.next_line() {
@@ -219,6 +351,29 @@ fn lines_one_by_one(rt: HostRuntime) -> Result<(), Fail> {
     for (number, text) in rows {
         assert_next(&rt, &mut expander, number, text);
     }
+    Ok(())
+}
+
+fn token_count(kept: Option<Vec<Token<'_>>>) -> usize {
+    match kept {
+        Some(tokens) => tokens.len(),
+        None => 0,
+    }
+}
+
+/// The tokens of a source's own line are kept until they are taken; those of a line in a call, and of a label before one, are not.
+#[test]
+fn tokens_of_lines(rt: HostRuntime) -> Result<(), Fail> {
+    let text = b"K MACRO\n NOP\nENDM\n LD A,5\nX: K\n RET\n";
+    let mut expander = Expander::new(rt.alloc(), text);
+    let rows: [(&[u8], usize); 4] = [(b" LD A,5", 4), (b"X:", 0), (b" NOP", 0), (b" RET", 1)];
+    for (text, count) in rows {
+        assert!(rt; expander.advance().is_ok());
+        assert_eq!(rt; expander.line().text, text);
+        assert_eq!(rt; token_count(expander.take_tokens()), count);
+        assert!(rt; expander.take_tokens().is_none());
+    }
+    assert_next(&rt, &mut expander, 0, b"");
     Ok(())
 }
 

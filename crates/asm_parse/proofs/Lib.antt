@@ -4,4 +4,5 @@ pub mod Depths
 pub mod Stacks
 pub mod Readers
 pub mod Parsed
+mod Alone
 mod Definable

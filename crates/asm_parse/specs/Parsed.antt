@@ -1,6 +1,6 @@
 -- What symbols spell, as a function of them. laws::parsed says that it is what IsParsed says, so that nobody need believe how it is
 -- found: it is here for definitions that speak of the expression of some tokens.
-use Rattle.std.specs.Prelude.{◌≡◌, ℕ, List, Option, Some, None, Result, Ok, Err, if◌then◌else◌, map, nat_lt}
+use Rattle.std.specs.Prelude.{List, Option, Some, None, Result, Ok, Err, if◌then◌else◌, map, nat_lt}
 use Rattle.asm_scan.specs.Tokens.{Lexeme}
 use Rattle.asm_parse.specs.declared.fault.ExprFault.{ExprFault}
 use Rattle.asm_parse.specs.declared.item.Item.{Item}

@@ -1,13 +1,13 @@
 //! From tokens to expressions: operators wait on a stack until what binds less tightly follows, and are then put behind
 //! their operands.
 
-ghost use Rattle.std.specs.Prelude.{◌≡◌, ◌≤◌, ◌⊎◌, ℕ, List, ◌++◌, map, max, Some, Ok, Err, IfOk, IfErr};
+ghost use Rattle.std.specs.Prelude.{◌≡◌, ◌≤◌, ◌⊎◌, ◌∷◌, [], ℕ, List, ◌++◌, map, max, Some, Ok, Err, IfOk, IfErr};
 ghost use Rattle.asm_scan.specs.Tokens.{lexeme, lexemes};
 ghost use Rattle.asm_parse.specs.declared.fault.ExprFault.{ExprFault};
 ghost use Rattle.asm_parse.specs.Expression.{postfix};
 ghost use Rattle.asm_parse.specs.Source.{source_item};
 ghost use Rattle.asm_parse.specs.Grammar.{IsParsed, Phrase, character, expression, symbol};
-ghost use Rattle.asm_parse.specs.Parsed.{parsed};
+ghost use Rattle.asm_parse.specs.Parsed.{parsed, parsed_symbols};
 ghost use Rattle.asm_parse.specs.Private.Parsing.{Frame, reduce};
 ghost use Rattle.asm_parse.specs.Private.Readers.{room_in};
 ghost use Rattle.asm_parse.specs.Private.Stacks.{IsReduced, closed_item, level_of, open_in, part_symbol, pendings, written};
@@ -290,6 +290,18 @@ impl Reader {
     }
 }
 
+/// The expression that a token alone spells: most have one token, and need none of the reader's lists.
+fn term_alone(alloc: Global, token: &Token<'_>) -> Result<Tree, ExprFault>
+    ensures { (result ≡ parsed_symbols (symbol (lexeme token.now) ∷ [])) ⊎ (result ≡ Err ExprFault.NoMemory) }
+{
+    let Part::Term(term) = part_of(alloc, token)? else {
+        return Err(ExprFault::Syntax);
+    };
+    let mut items = Vec::with_capacity(alloc, 1)?;
+    items.push(Item::Leaf(term))?;
+    Ok(Tree::known(items))
+}
+
 /// The expression that the tokens spell.
 ///
 /// # Errors
@@ -301,9 +313,12 @@ pub fn parse(alloc: Global, tokens: &[Token<'_>]) -> Result<Tree, ExprFault>
     // Tokens spell one thing alone.
     ensures parsed { (result ≡ parsed (lexemes tokens.entry.now)) ⊎ (result ≡ Err ExprFault.NoMemory) }
 {
+    if let [token] = tokens {
+        return term_alone(alloc, token);
+    }
     let mut reader = Reader {
         pending: Vec::new(alloc),
-        items: Vec::new(alloc),
+        items: Vec::with_capacity(alloc, tokens.len())?,
         deepest: 0,
         complete: false,
     };

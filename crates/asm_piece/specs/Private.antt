@@ -2,3 +2,4 @@
 pub mod Views
 pub mod Laying
 pub mod Defined
+pub mod Filled

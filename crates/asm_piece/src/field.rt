@@ -1,15 +1,19 @@
 //! Values of fields, and the rule of each for its range.
 
-ghost use Rattle.std.specs.Prelude.{◌≡◌, IfOk, true};
+ghost use Rattle.std.specs.Prelude.{◌≡◌, ◌∷◌, [], IfOk, true};
 ghost use Rattle.std.specs.List.{AllPass};
 ghost use Rattle.asm_expr.specs.Postfix.{source};
 ghost use Rattle.asm_expr.specs.Settling.{is_known};
 ghost use Rattle.asm_spell.specs.Faults.{Gives};
+ghost use Rattle.asm_parse.specs.declared.item.Item.{Item};
+ghost use Rattle.asm_expr.specs.declared.atom.Atom.{Atom};
+ghost use Rattle.asm_expr.specs.declared.answer.Settled.{Settled};
 ghost use Rattle.asm_piece.specs.Fields.{IsAllowed, byte, distance, filled, fixed, is_number_unknown, number, settled_in, word};
+ghost use Rattle.asm_piece.specs.Private.Filled.{filled_by};
 ghost use Rattle.asm_piece.specs.Private.Views.{same};
 
 use crate::cell::Filling;
-use asm_expr::{Atom, Expr, Item, Names, Offset, Settled, Tree, Unknown, items, offset_from_here};
+use asm_expr::{Atom, Expr, Item, Names, Offset, Settled, Tree, Unknown, items, number_alone, offset_from_here};
 use asm_spell::StmtFault;
 use std::alloc::Global;
 use z80_form::Field;
@@ -99,6 +103,28 @@ fn distance(offset: Offset) -> Result<Filling, StmtFault>
     }
 }
 
+/// What fills a field other than a distance, by what its expression is settled to.
+fn of_settled(field: Field, settled: Settled) -> Result<Filling, StmtFault>
+    ensures { result ≡ filled_by field settled }
+{
+    match field {
+        Field::Byte => byte(settled),
+        Field::Word => Ok(word(settled)),
+        _ => fixed(field, settled),
+    }
+}
+
+/// The same of a number.
+fn of_number(field: Field, n: u16) -> Result<Filling, StmtFault>
+    ensures { result ≡ filled_by field (Settled.Known (Item.Leaf (Atom.Number n) ∷ [])) }
+{
+    match field {
+        Field::Word => Ok(Filling::Number(n)),
+        _ if field.allows(n) => Ok(Filling::Number(n)),
+        _ => Err(StmtFault::ByteRange),
+    }
+}
+
 /// What names make of an expression.
 pub(crate) fn settle_expr(alloc: Global, tree: &Tree, names: &Names) -> Result<Settled, StmtFault>
     requires { AllPass (is_known names.now) tree.now }
@@ -118,10 +144,12 @@ pub(crate) fn fill(
     ensures filled { Gives same result (filled names.now field tree.now) }
     ensures allowed { IfOk result (IsAllowed field) }
 {
-    match field {
-        Field::Distance => distance(offset_from_here(alloc, tree, names)?),
-        Field::Byte => byte(settle_expr(alloc, tree, names)?),
-        Field::Word => Ok(word(settle_expr(alloc, tree, names)?)),
-        _ => fixed(field, settle_expr(alloc, tree, names)?),
+    if let Field::Distance = field {
+        return distance(offset_from_here(alloc, tree, names)?);
+    }
+    // Most fields are one number, which needs no list of items.
+    match number_alone(tree, names) {
+        Some(n) => of_number(field, n),
+        None => of_settled(field, settle_expr(alloc, tree, names)?),
     }
 }

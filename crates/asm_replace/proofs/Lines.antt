@@ -12,29 +12,26 @@ use Rattle.asm_scan.specs.Classes.{is_blank}
 use Rattle.asm_scan.specs.Tokens.{Lexeme}
 use Rattle.asm_scan.specs.Lines.{BeginsToken, BeginsTokens}
 use Rattle.asm_line.specs.Tokens.{is_name}
+use Rattle.asm_replace.specs.Fronts.{IsLeft}
 use Rattle.asm_replace.specs.Pieces.{gap, behind}
 use Rattle.asm_replace.specs.Replaced.{Table, replaced, swapped}
-
--- a token is no name of the table
-abbrev pub IsNone : Table → Lexeme → Type 0
-IsNone table token = is_name token ≡ true → lookup (bytes_eq (upper token.text)) table ≡ None
 
 kept_by : (named : Bool) (found : Option (List ℕ)) (text : List ℕ) → (named ≡ true → found ≡ None) → (if named then unwrap_or found text else text) ≡ text
 kept_by true found text none = ap (λ f. unwrap_or f text) (none refl)
 kept_by false found text none = refl
 
-kept : (table : Table) (token : Lexeme) → IsNone table token → swapped table token ≡ token.text
+pub kept : (table : Table) (token : Lexeme) → IsLeft table token → swapped table token ≡ token.text
 kept table token none = kept_by (is_name token) (lookup (bytes_eq (upper token.text)) table) token.text none
 
-after_token : (line : List ℕ) (token : Lexeme) (after : List ℕ) → BeginsToken line token after → behind line token ≡ after
+pub after_token : (line : List ℕ) (token : Lexeme) (after : List ℕ) → BeginsToken line token after → behind line token ≡ after
 after_token line token after begins = ap (drop (length token.text)) begins.bytes_are ∙ drop-append_seam token.text after
 
 pub whole : (table : Table) (line : List ℕ) (tokens : List Lexeme) (rest : List ℕ) → BeginsTokens line tokens rest
-    → All (IsNone table) tokens → replaced table line tokens ≡ line
+    → All (IsLeft table) tokens → replaced table line tokens ≡ line
 whole table line [] rest begins none = refl
 whole table line (token ∷ tokens) rest begins none =
-    ap (λ r. (gap line ++ swapped table token) ++ r) (ap (λ l. replaced table l tokens) (after_token line token begins.0 begins.1) ∙ whole table begins.0 tokens rest begins.2 (All-tail (IsNone table) token tokens none))
-    ∙ ap (λ t. (gap line ++ t) ++ begins.0) (kept table token (All-head (IsNone table) token tokens none))
+    ap (λ r. (gap line ++ swapped table token) ++ r) (ap (λ l. replaced table l tokens) (after_token line token begins.0 begins.1) ∙ whole table begins.0 tokens rest begins.2 (All-tail (IsLeft table) token tokens none))
+    ∙ ap (λ t. (gap line ++ t) ++ begins.0) (kept table token (All-head (IsLeft table) token tokens none))
     ∙ append_assoc (gap line) token.text begins.0
     ∙ ap (λ b. gap line ++ b) (sym begins.1.bytes_are)
     ∙ take-append-drop (prefix_len is_blank line) line

@@ -1,68 +1,93 @@
--- Lines taken so far, and those that are left.
-use Rattle.std.proofs.Common.{◌≡◌, ◌∙◌, ◌<◌, ◌≤◌, ◌+◌, sym, ap, refl, subst, ℕ, List, [], ◌∷◌, ◌++◌, Option, Some, None, Result, Ok, Err, append-nil, append_assoc, length, map, drop, get_or}
-use Rattle.std.proofs.lemmas.List.{drop_all, map-append, at_drop_more}
+-- Lines read so far, and one more.
+use Rattle.std.proofs.Common.{◌≡◌, ◌∙◌, sym, ap, refl, ℕ, List, [], ◌∷◌, ◌++◌, Option, Some, None, Result, Ok, Err, append-nil, true, false, is_some}
+use Rattle.std.proofs.lemmas.List.{map-append}
 use Rattle.asm_spell.specs.Line.{Line, line_of}
 use Rattle.asm_texts.specs.Lines.{Numbered}
-use Rattle.asm_names.specs.Lines.{Taken, lines_of, taken_of}
+use Rattle.asm_names.specs.Lines.{lines_of, taken_of}
 use Rattle.asm_names.specs.declared.kind.SourceLine.{SourceLine}
-use Rattle.asm_macro.specs.Views.{lines_seen}
-use Rattle.asm_macro.specs.declared.whole.ExpandedLine.{ExpandedLine}
+use Rattle.asm_macro.specs.Ahead.{Ahead, Remains}
+use Rattle.asm_macro.specs.Expands.{End, IsExpansion}
 use Rattle.asm_source.specs.declared.fault.LineFault.{LineFault}
+use Rattle.asm_source.specs.declared.reading.Reading.{Reading}
+use Rattle.asm_source.specs.Private.Steps.{Reads}
 use Rattle.asm_source.specs.Read.{read_line, taken, unread, unread_or, with_line}
 
--- No line so far spells nothing; those that are found, and what is taken of the rest, are what is taken of all.
-pub record GoesOn (all : List Numbered) (found : List Taken) (fault : Option (ℕ × LineFault)) (rest : List Numbered) : Type 0 where
-  pub none : fault ≡ None
-  pub lines : taken all ≡ found ++ taken rest
-  pub unread_is : unread all ≡ unread rest
+-- Where each line so far spells something, the next one is taken if it does, and is else the first that does not.
+taken_by : (l : Numbered) (before : List Numbered) (n : Numbered) (r : Result Line LineFault)
+    → (unread before ≡ None → taken (before ++ n ∷ []) ≡ taken before ++ with_line n.number (read_line n.text) []) → unread_or l.number r (unread before) ≡ None
+    → with_line l.number r (taken (before ++ n ∷ [])) ≡ with_line l.number r (taken before) ++ with_line n.number (read_line n.text) []
+taken_by l before n (Ok line) others e = ap (λ ls. record { number = l.number; line = line } ∷ ls) (others e)
+taken_by l before n (Err why) others e = absurd cc
 
-pub start : (all : List Numbered) → GoesOn all [] None all
-start all = record { none = refl; lines = refl; unread_is = refl }
+taken_more : (before : List Numbered) (n : Numbered) → unread before ≡ None → taken (before ++ n ∷ []) ≡ taken before ++ with_line n.number (read_line n.text) []
+taken_more [] n e = refl
+taken_more (l ∷ before) n e = taken_by l before n (read_line l.text) (taken_more before n) e
 
-step : (all rest : List Numbered) (found : List Taken) (fault : Option (ℕ × LineFault)) (n : Numbered) (line : Line) → GoesOn all found fault (n ∷ rest) → read_line n.text ≡ Ok line
-    → GoesOn all (found ++ record { number = n.number; line = line } ∷ []) fault rest
-step all rest found fault n line was e =
-    let w = was.none in
+unread_by : (l : Numbered) (before : List Numbered) (n : Numbered) (r : Result Line LineFault)
+    → (unread before ≡ None → unread (before ++ n ∷ []) ≡ unread_or n.number (read_line n.text) None) → unread_or l.number r (unread before) ≡ None
+    → unread_or l.number r (unread (before ++ n ∷ [])) ≡ unread_or n.number (read_line n.text) None
+unread_by l before n (Ok line) others e = others e
+unread_by l before n (Err why) others e = absurd cc
+
+unread_more : (before : List Numbered) (n : Numbered) → unread before ≡ None → unread (before ++ n ∷ []) ≡ unread_or n.number (read_line n.text) None
+unread_more [] n e = refl
+unread_more (l ∷ before) n e = unread_by l before n (read_line l.text) (unread_more before n) e
+
+-- Behind one that spells nothing, nothing changes.
+taken_still : (l : Numbered) (before : List Numbered) (n : Numbered) (x : ℕ × LineFault) (r : Result Line LineFault)
+    → (unread before ≡ Some x → taken (before ++ n ∷ []) ≡ taken before) → unread_or l.number r (unread before) ≡ Some x
+    → with_line l.number r (taken (before ++ n ∷ [])) ≡ with_line l.number r (taken before)
+taken_still l before n x (Ok line) others e = ap (λ ls. record { number = l.number; line = line } ∷ ls) (others e)
+taken_still l before n x (Err why) others e = refl
+
+taken_behind : (before : List Numbered) (n : Numbered) (x : ℕ × LineFault) → unread before ≡ Some x → taken (before ++ n ∷ []) ≡ taken before
+taken_behind [] n x e = absurd cc
+taken_behind (l ∷ before) n x e = taken_still l before n x (read_line l.text) (taken_behind before n x) e
+
+unread_still : (l : Numbered) (before : List Numbered) (n : Numbered) (x : ℕ × LineFault) (r : Result Line LineFault)
+    → (unread before ≡ Some x → unread (before ++ n ∷ []) ≡ Some x) → unread_or l.number r (unread before) ≡ Some x → unread_or l.number r (unread (before ++ n ∷ [])) ≡ Some x
+unread_still l before n x (Ok line) others e = others e
+unread_still l before n x (Err why) others e = e
+
+unread_behind : (before : List Numbered) (n : Numbered) (x : ℕ × LineFault) → unread before ≡ Some x → unread (before ++ n ∷ []) ≡ Some x
+unread_behind [] n x e = absurd cc
+unread_behind (l ∷ before) n x e = unread_still l before n x (read_line l.text) (unread_behind before n x) e
+
+stays_by : (before : List Numbered) (n : Numbered) (r : Reading) (o : Option (ℕ × LineFault)) → r.unread ≡ o → is_some o ≡ true → Reads before r → Reads (before ++ n ∷ []) r
+stays_by before n r (Some x) e some was =
+    let is : unread before ≡ Some x = sym was.unread_is ∙ e in
+    record { lines_are = was.lines_are ∙ sym (taken_behind before n x is); unread_is = e ∙ sym (unread_behind before n x is) }
+stays_by before n r None e some was = absurd cc
+
+pub stays : (before : List Numbered) (n : Numbered) (r : Reading) → is_some r.unread ≡ true → Reads before r → Reads (before ++ n ∷ []) r
+stays before n r some was = stays_by before n r r.unread refl some was
+
+none_by : (o : Option (ℕ × LineFault)) → is_some o ≡ false → o ≡ None
+none_by None e = refl
+none_by (Some x) e = absurd cc
+
+pub took : (before : List Numbered) (n : Numbered) (r new : Reading) (l : SourceLine) → is_some r.unread ≡ false → new.unread ≡ r.unread → new.lines.items ≡ r.lines.items ++ l ∷ []
+    → l.number ≡ n.number → Ok (line_of l.line) ≡ read_line n.text → Reads before r → Reads (before ++ n ∷ []) new
+took before n r new l none same pushed number reads was =
+    let now_none = none_by r.unread none in
+    let is : unread before ≡ None = sym was.unread_is ∙ now_none in
     record {
-      none = w;
-      lines = was.lines ∙ ap (λ r. found ++ with_line n.number r (taken rest)) e ∙ sym (append_assoc found (record { number = n.number; line = line } ∷ []) (taken rest));
-      unread_is = was.unread_is ∙ ap (λ r. unread_or n.number r (unread rest)) e;
+      lines_are = ap lines_of pushed ∙ map-append taken_of r.lines.items (l ∷ []) ∙ ap (λ ls. ls ++ taken_of l ∷ []) was.lines_are
+        ∙ ap (λ m. taken before ++ record { number = m; line = line_of l.line } ∷ []) number ∙ ap (λ x. taken before ++ with_line n.number x []) reads ∙ sym (taken_more before n is);
+      unread_is = same ∙ now_none ∙ ap (λ x. unread_or n.number x None) reads ∙ sym (unread_more before n is);
     }
 
-stop : (all rest : List Numbered) (found : List Taken) (fault : Option (ℕ × LineFault)) (n : Numbered) (why : LineFault) → GoesOn all found fault (n ∷ rest) → read_line n.text ≡ Err why
-    → (found ≡ taken all) × (Some (n.number, why) ≡ unread all)
-stop all rest found fault n why was e = (
-  sym (was.lines ∙ ap (λ r. found ++ with_line n.number r (taken rest)) e ∙ append-nil found),
-  sym (was.unread_is ∙ ap (λ r. unread_or n.number r (unread rest)) e),
-)
+pub stopped : (before : List Numbered) (n : Numbered) (r new : Reading) (why : LineFault) → is_some r.unread ≡ false → new.lines ≡ r.lines → new.unread ≡ Some (n.number, why)
+    → Err why ≡ read_line n.text → Reads before r → Reads (before ++ n ∷ []) new
+stopped before n r new why none same now reads was =
+    let is : unread before ≡ None = sym was.unread_is ∙ none_by r.unread none in
+    record {
+      lines_are = ap (λ ls. lines_of ls.items) same ∙ was.lines_are ∙ sym (append-nil (taken before)) ∙ ap (λ x. taken before ++ with_line n.number x []) reads ∙ sym (taken_more before n is);
+      unread_is = now ∙ ap (λ x. unread_or n.number x None) reads ∙ sym (unread_more before n is);
+    }
 
-finished : (all : List Numbered) (found : List Taken) (fault : Option (ℕ × LineFault)) → GoesOn all found fault [] → (found ≡ taken all) × (fault ≡ unread all)
-finished all found fault was = (sym (was.lines ∙ append-nil found), was.none ∙ sym was.unread_is)
-
--- The same of the lines as the code has them, by how many of them are done.
-
-abbrev seen : ExpandedLine → Numbered
-seen l = record { number = l.number; text = l.text.items }
-
-next : (all : List ExpandedLine) (found : List Taken) (fault : Option (ℕ × LineFault)) (k : ℕ) (d : ExpandedLine) → k < length all
-    → GoesOn (lines_seen all) found fault (lines_seen (drop k all)) → GoesOn (lines_seen all) found fault (seen (get_or all k d) ∷ lines_seen (drop (k + 1) all))
-next all found fault k d lt was = subst (λ rest. GoesOn (lines_seen all) found fault rest) (at_drop_more lines_seen all k d lt) was
-
-pub took : (all : List ExpandedLine) (before : List SourceLine) (fault : Option (ℕ × LineFault)) (k : ℕ) (d : ExpandedLine) (l : SourceLine) → k < length all
-    → l.number ≡ (get_or all k d).number → read_line (get_or all k d).text.items ≡ Ok (line_of l.line)
-    → GoesOn (lines_seen all) (lines_of before) fault (lines_seen (drop k all)) → GoesOn (lines_seen all) (lines_of (before ++ l ∷ [])) fault (lines_seen (drop (k + 1) all))
-took all before fault k d l lt number reads was =
-    let on = step (lines_seen all) (lines_seen (drop (k + 1) all)) (lines_of before) fault (seen (get_or all k d)) (line_of l.line) (next all (lines_of before) fault k d lt was) reads in
-    let one : lines_of before ++ record { number = (get_or all k d).number; line = line_of l.line } ∷ [] ≡ lines_of (before ++ l ∷ []) =
-    ap (λ n. lines_of before ++ record { number = n; line = line_of l.line } ∷ []) (sym number) ∙ sym (map-append taken_of before (l ∷ [])) in
-    subst (λ found. GoesOn (lines_seen all) found fault (lines_seen (drop (k + 1) all))) one on
-
-pub ended : (all : List ExpandedLine) (before : List SourceLine) (fault : Option (ℕ × LineFault)) (k : ℕ) (d : ExpandedLine) (why : LineFault) → k < length all
-    → read_line (get_or all k d).text.items ≡ Err why → GoesOn (lines_seen all) (lines_of before) fault (lines_seen (drop k all))
-    → (lines_of before ≡ taken (lines_seen all)) × (Some ((get_or all k d).number, why) ≡ unread (lines_seen all))
-ended all before fault k d why lt reads was =
-    stop (lines_seen all) (lines_seen (drop (k + 1) all)) (lines_of before) fault (seen (get_or all k d)) why (next all (lines_of before) fault k d lt was) reads
-
-pub all_done : (all : List ExpandedLine) (before : List SourceLine) (fault : Option (ℕ × LineFault)) (k : ℕ) → length all ≤ k
-    → GoesOn (lines_seen all) (lines_of before) fault (lines_seen (drop k all)) → (lines_of before ≡ taken (lines_seen all)) × (fault ≡ unread (lines_seen all))
-all_done all before fault k le was = finished (lines_seen all) (lines_of before) fault (subst (λ rest. GoesOn (lines_seen all) (lines_of before) fault (lines_seen rest)) (drop_all k all le) was)
+-- The lines so far are read, and with what is still to come they are the expansion.
+pub record Standing (text : List ℕ) (r : Reading) (ahead : Ahead) : Type 0 where
+  pub before : List Numbered
+  pub reads : Reads before r
+  pub leads : (more : List Numbered) (end : End) → Remains ahead more end → IsExpansion text (before ++ more) end

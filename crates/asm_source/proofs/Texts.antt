@@ -1,5 +1,5 @@
 -- What an expansion says of its text.
-use Rattle.std.proofs.Common.{◌≤◌, ℕ, List, Ok, Err, length, subst, sym}
+use Rattle.std.proofs.Common.{◌≤◌, ℕ, List, Ok, Err, length}
 use Rattle.asm_macro.specs.declared.fault.MacroFault.{MacroFault}
 use Rattle.asm_macro.specs.Expands.{IsDone, IsExpanded, IsExpansion, End, long, short}
 use Rattle.asm_texts.specs.Lines.{Numbered}
@@ -14,19 +14,15 @@ short_by text lines end done (short below expands) = below
 pub short_text : (text : List ℕ) (lines : List Numbered) → IsExpanded text (Ok lines) → length text ≤ 16777216
 short_text text lines (end, done, is) = short_by text lines end done is
 
--- What stops the expansion stops the reading.
-pub stopped : (text : List ℕ) (fault : ℕ × MacroFault) → IsExpanded text (Err fault) → IsSourceText text (Err fault)
-stopped text (number, MacroFault.Unclosed) is = is
-stopped text (number, MacroFault.Stray) is = is
-stopped text (number, MacroFault.TooDeep) is = is
-stopped text (number, MacroFault.TooManyLines) is = is
-stopped text (number, MacroFault.Redefined) is = is
-stopped text (number, MacroFault.ConditionNamesLabel) is = is
-stopped text (number, MacroFault.LineTooLong) is = is
-stopped text (number, MacroFault.Scan fault) is = is
-stopped text (number, MacroFault.Expr fault) is = is
-stopped text (number, MacroFault.NoMemory) is = tt
-
--- So does want of memory.
-pub refused : (text : List ℕ) (lines : List Numbered) (fault : ℕ × MacroFault) → IsReading lines (Err fault) → IsSourceText text (Err fault)
-refused text lines (number, why) is = subst (λ w. IsSourceText text (Err (number, w))) (sym is) tt
+-- What stops the reading.
+pub refused : (text : List ℕ) (fault : ℕ × MacroFault) → IsReading text (Err fault) → IsSourceText text (Err fault)
+refused text (number, MacroFault.Unclosed) is = is
+refused text (number, MacroFault.Stray) is = is
+refused text (number, MacroFault.TooDeep) is = is
+refused text (number, MacroFault.TooManyLines) is = is
+refused text (number, MacroFault.Redefined) is = is
+refused text (number, MacroFault.ConditionNamesLabel) is = is
+refused text (number, MacroFault.LineTooLong) is = is
+refused text (number, MacroFault.Scan fault) is = is
+refused text (number, MacroFault.Expr fault) is = is
+refused text (number, MacroFault.NoMemory) is = tt

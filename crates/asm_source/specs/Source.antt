@@ -1,5 +1,5 @@
 -- What is answered of a source text.
-use Rattle.std.specs.Prelude.{◌≡◌, ℕ, List, [], ◌∷◌, Option, Some, None, Result, Ok, Err, length}
+use Rattle.std.specs.Prelude.{◌≡◌, ℕ, List, [], ◌∷◌, Some, Result, Ok, Err, length}
 use Rattle.asm_spell.specs.Line as line
 use Rattle.asm_spell.specs.Line.{Line}
 use Rattle.asm_macro.specs.declared.fault.MacroFault.{MacroFault}

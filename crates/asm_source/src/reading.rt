@@ -1,30 +1,51 @@
 //! Lines, as far as they spell something.
 
-ghost use Rattle.std.specs.Prelude.{◌≡◌, IfOk};
-ghost use Rattle.asm_macro.specs.Views.{lines_seen};
-ghost use Rattle.asm_source.specs.Private.Steps.{IsReading, line_seen};
+ghost use Rattle.std.specs.Prelude.{◌≡◌, ◌++◌, ◌∷◌, [], IfOk, List, OnOk};
+ghost use Rattle.asm_macro.specs.Ahead.{seen};
+ghost use Rattle.asm_macro.specs.Kept.{AreOf};
+ghost use Rattle.asm_scan.specs.Tokens.{lexemes};
+ghost use Rattle.asm_spell.specs.Spelling.{spelled};
+ghost use Rattle.asm_texts.specs.Lines.{Numbered};
+ghost use Rattle.asm_source.specs.Private.Steps.{IsReading, Reads, line_seen};
 ghost use Rattle.asm_source.specs.Read as lines;
 
 use crate::fault::LineFault;
-use asm_macro::{ExpandedLine, MacroFault};
+use asm_macro::{Expander, Line as MacroLine, MacroFault};
 use asm_names::SourceLine;
-use asm_scan::{ScanFault, tokens};
+use asm_scan::{ScanFault, Token, tokens};
 use asm_spell::{Line, StmtFault, statement};
 use std::alloc::{AllocError, Global};
 
-/// What a line spells, or why it spells nothing.
-fn read_line(alloc: Global, text: &[u8]) -> Result<Result<Line, LineFault>, AllocError>
-    ensures { IfOk result (λ read. line_seen read ≡ lines.read_line text.now) }
+/// What the tokens of a line spell, or why they spell nothing.
+fn read_tokens(
+    alloc: Global,
+    tokens: &[Token<'_>],
+) -> Result<Result<Line, LineFault>, AllocError>
+    ensures { IfOk result (λ read. line_seen read ≡ lines.spelled_by (spelled (lexemes tokens.entry.now))) }
 {
-    let tokens = match tokens(alloc, text) {
-        Ok(tokens) => tokens,
-        Err(ScanFault::NoMemory) => return Err(AllocError),
-        Err(why) => return Ok(Err(LineFault::Scan(why))),
-    };
-    match statement(alloc, &tokens) {
+    match statement(alloc, tokens) {
         Ok(line) => Ok(Ok(line)),
         Err(StmtFault::NoMemory) => Err(AllocError),
         Err(why) => Ok(Err(LineFault::Stmt(why))),
+    }
+}
+
+/// What a line spells, or why it spells nothing, by its tokens where they are kept.
+fn read_line(
+    alloc: Global,
+    text: &[u8],
+    kept: Option<Vec<Token<'_>>>,
+) -> Result<Result<Line, LineFault>, AllocError>
+    requires { AreOf text.now kept }
+    ensures { IfOk result (λ read. line_seen read ≡ lines.read_line text.now) }
+{
+    if let Some(found) = kept {
+        return read_tokens(alloc, &found);
+    }
+    match tokens(alloc, text) {
+        Ok(found) => read_tokens(alloc, &found),
+        Err(ScanFault::NoMemory) => Err(AllocError),
+        Err(why) => Ok(Err(LineFault::Scan(why))),
     }
 }
 
@@ -37,34 +58,49 @@ pub(crate) struct Reading {
     pub(crate) unread: Option<(u32, LineFault)>,
 }
 
-/// Reads lines up to the first that spells nothing.
+impl Reading {
+    /// Reads a line behind the others, unless one of these spells nothing.
+    fn take(
+        &mut self,
+        alloc: Global,
+        line: MacroLine<'_>,
+        kept: Option<Vec<Token<'_>>>,
+    ) -> Result<(), AllocError>
+        requires { AreOf line.text.now kept }
+        ensures { (before : List Numbered) → Reads before self.old → OnOk result (Reads (before ++ seen line.entry ∷ []) self.new) }
+    {
+        if self.unread.is_some() {
+            return Ok(());
+        }
+        let number = line.number;
+        match read_line(alloc, line.text, kept)? {
+            Ok(line) => self.lines.push(SourceLine { number, line })?,
+            Err(why) => self.unread = Some((number, why)),
+        }
+        Ok(())
+    }
+}
+
+/// Expands a text, and reads the lines of its expansion up to the first that spells nothing. The expansion is gone through
+/// to its end all the same, since it may stop.
 ///
 /// # Errors
 ///
-/// The line for which memory was out.
-pub(crate) fn read_lines(
-    alloc: Global,
-    expanded: &[ExpandedLine],
-) -> Result<Reading, (u32, MacroFault)>
-    ensures { IsReading (lines_seen expanded.now) result }
+/// The line on which the expansion stops, and why; or the line for which memory was out.
+pub(crate) fn read_lines(alloc: Global, text: &[u8]) -> Result<Reading, (u32, MacroFault)>
+    ensures { IsReading text.now result }
 {
     let mut reading = Reading {
         lines: Vec::new(alloc),
         unread: None,
     };
-    for line in expanded {
-        let number = line.number;
-        match read_line(alloc, &line.text) {
-            Ok(Ok(line)) => {
-                if reading.lines.push(SourceLine { number, line }).is_err() {
-                    return Err((number, MacroFault::NoMemory));
-                }
-            }
-            Ok(Err(why)) => {
-                reading.unread = Some((number, why));
-                return Ok(reading);
-            }
-            Err(AllocError) => return Err((number, MacroFault::NoMemory)),
+    let mut expander = Expander::new(alloc, text);
+    while expander.advance()? {
+        let kept = expander.take_tokens();
+        let line = expander.line();
+        match reading.take(alloc, line, kept) {
+            Ok(()) => {}
+            Err(AllocError) => return Err((line.number, MacroFault::NoMemory)),
         }
     }
     Ok(reading)

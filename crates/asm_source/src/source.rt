@@ -5,7 +5,7 @@ ghost use Rattle.asm_source.specs.Source.{IsSourceText};
 use crate::fault::LineFault;
 use crate::last::{last_listed, line_count};
 use crate::reading::{Reading, read_lines};
-use asm_macro::{MacroFault, expand};
+use asm_macro::MacroFault;
 use asm_names::SourceLine;
 use std::alloc::Global;
 
@@ -28,8 +28,7 @@ pub struct SourceText {
 pub fn read_source(alloc: Global, text: &[u8]) -> Result<SourceText, (u32, MacroFault)>
     ensures { IsSourceText text.now result }
 {
-    let expanded = expand(alloc, text)?;
-    let Reading { lines, unread } = read_lines(alloc, &expanded.lines)?;
+    let Reading { lines, unread } = read_lines(alloc, text)?;
     let count = line_count(text);
     let last = last_listed(&lines, count);
     Ok(SourceText {

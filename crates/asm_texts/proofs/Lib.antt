@@ -3,3 +3,4 @@ pub mod Macros
 mod Openings
 mod Branches
 mod Books
+mod Unvaried

@@ -1,5 +1,6 @@
 -- The macros that are kept, by their names.
-use Rattle.std.proofs.Common.{◌≡◌, ◌∙◌, cond, sym, refl, ℕ, true, false, List, [], ◌∷◌, Option, Some, None, Vec, Bor, map, option_copied}
+use Rattle.std.proofs.Common.{◌≡◌, ◌∙◌, All, IfSome, cond, subst, sym, refl, ℕ, true, false, List, [], ◌∷◌, Option, Some, None, Vec, Bor, map, option_copied}
+use Rattle.std.proofs.lemmas.List.Elements.{All-head, All-tail}
 use Rattle.std.specs.Global.{Global}
 use Rattle.std.specs.Map.{lookup}
 use Rattle.std.specs.Option.{option_map}
@@ -30,3 +31,19 @@ absent all entries name e = none_mapped (macro_seen all) (lookup (λ k. bytes_eq
 pub copied : {X Y : Type 0} (f : X → Y) (o : Option (Bor X)) → option_map (λ n. f n.now) o ≡ option_map f (option_copied o)
 copied f None = refl
 copied f (Some x) = refl
+
+found_entry : {V : Type 0} (P : V → Type 0) (entries : List (Vec ℕ Global × V)) (name : List ℕ) → All (λ e. P e.1) entries → IfSome (lookup (λ k. bytes_eq name k.items) entries) P
+found_entry P [] name all = tt
+found_entry {V} P (e ∷ es) name all =
+    elim (bytes_eq name e.0.items) as (λ b. IfSome (cond b (Some e.1) (lookup (λ k. bytes_eq name k.items) es)) P) [
+      | true ↦ All-head (λ (e : Vec ℕ Global × V). P e.1) e es all
+      | false ↦ found_entry P es name (All-tail (λ (e : Vec ℕ Global × V). P e.1) e es all)
+    ]
+
+lent : {V : Type 0} (P : V → Type 0) (o : Option (Bor V)) → IfSome (option_copied o) P → IfSome o (λ v. P v.now)
+lent P None all = tt
+lent P (Some v) all = all
+
+-- what holds of each value holds of one that is found
+pub of_entry : {V : Type 0} (P : V → Type 0) (entries : List (Vec ℕ Global × V)) (name : List ℕ) (o : Option (Bor V)) → option_copied o ≡ lookup (λ k. bytes_eq name k.items) entries → All (λ e. P e.1) entries → IfSome o (λ v. P v.now)
+of_entry P entries name o e all = lent P o (subst (λ x. IfSome x P) (sym e) (found_entry P entries name all))

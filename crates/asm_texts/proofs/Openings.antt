@@ -161,3 +161,7 @@ local_turn t now whole number ps at name text h n e i same =
 -- nothing is left
 pub say_all : (t u whole : Table) → u ≡ [] → SaySame (t ++ u) whole → SaySame t whole
 say_all t u whole e same = λ name. ap (lookup (bytes_eq name)) (sym (append-nil t) ∙ ap (λ v. t ++ v) (sym e)) ∙ same name
+
+pub same_some : {X Y : Type 0} (f : X → Y) (o : Option (Bor X)) → is_some o ≡ is_some (option_map f (option_copied o))
+same_some f None = refl
+same_some f (Some x) = refl

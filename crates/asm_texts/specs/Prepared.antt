@@ -8,6 +8,7 @@ use Rattle.asm_replace.specs.Replaced.{Table, arguments_of, local_names}
 use Rattle.asm_replace.specs.Views as replaced
 use Rattle.asm_texts.specs.declared.span.Span.{Span}
 use Rattle.asm_texts.specs.declared.call.Macro as kept
+use Rattle.asm_texts.specs.declared.call.Call.{Call}
 use Rattle.asm_texts.specs.declared.prepared.Prepared.{Prepared}
 use Rattle.asm_texts.specs.Lines.{Numbered}
 use Rattle.asm_texts.specs.Calls.{Macro, Opened, arguments_in, opened}
@@ -16,6 +17,10 @@ use Rattle.asm_texts.specs.Spans.{text_of}
 -- the lines of a span as they stand
 abbrev pub body_texts : List (List ℕ) → Span → List (List ℕ)
 body_texts all s = take (s.end - s.at) (drop s.at all)
+
+-- what the names of a call are replaced by
+abbrev pub said : Call → Table
+said c = replaced.table c.names.entries
 
 -- Tables that say the same of each name.
 abbrev pub SaySame : Table → Table → Type 0
@@ -37,5 +42,5 @@ abbrev pub Prepares : List (List ℕ) → kept.Macro → List ℕ → List Lexem
 Prepares all m text tokens rest counter None = opened (body_texts all m.body) ≡ None
 Prepares all m text tokens rest counter (Some p) =
     (o : Opened) × (opened (body_texts all m.body) ≡ Some o)
-    × SaySame (replaced.table p.names.entries) (arguments_of (replaced.texts m.parameters.items) (arguments_in text tokens rest) ++ local_names counter o.locals)
+    × SaySame (said p.call) (arguments_of (replaced.texts m.parameters.items) (arguments_in text tokens rest) ++ local_names counter o.locals)
     × (p.counter ≡ counter + length o.locals) × (body_texts all p.body ≡ o.lines)

@@ -1,1 +1,3 @@
 pub mod Openings
+pub mod Varying
+pub mod Chosen

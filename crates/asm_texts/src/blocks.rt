@@ -1,15 +1,16 @@
 //! The blocks with which texts begin.
 
-ghost use Rattle.std.specs.Prelude.{◌≡◌, ◌<◌, ◌≤◌, ◌+◌, IfOk, length, map};
+ghost use Rattle.std.specs.Prelude.{◌≡◌, ◌<◌, ◌≤◌, ◌+◌, IfOk, IfSome, None, length, map};
 ghost use Rattle.std.specs.Option.{option_map};
-ghost use Rattle.asm_replace.specs.Views.{table};
-ghost use Rattle.asm_texts.specs.Blocks.{body_of, branches_of};
-ghost use Rattle.asm_texts.specs.Books.{IsBook};
+ghost use Rattle.asm_texts.specs.Blocks.{body_of, branches_of, roles};
+ghost use Rattle.asm_texts.specs.Books.{IsBook, IsCall};
+ghost use Rattle.asm_texts.specs.Prepared.{said};
+ghost use Rattle.asm_texts.specs.Private.Chosen.{Has, opened};
 ghost use Rattle.asm_texts.specs.Spans.{behind_of, body_seen, branches_seen, front_of, text_of};
 
 use crate::book::Book;
+use crate::call::Call;
 use crate::span::{Block, Choice, Place, Span, Stretch};
-use asm_replace::Replacements;
 use std::alloc::{AllocError, Global};
 
 /// The first lines of a text, up to one of them.
@@ -39,21 +40,63 @@ fn behind(span: Span, len: usize) -> Span
     }
 }
 
-/// The body with which a text begins, if an ENDM closes it. The book is one of lines around the text, or of none.
+/// Looks through the lines of a text, unless that is done; whether they stand in the book of the source as well as in the call.
+fn open(
+    alloc: Global,
+    lines: &[&[u8]],
+    call: Option<&Call>,
+    span: Span,
+    source: &mut Book,
+    book: &mut Book,
+) -> Result<bool, AllocError>
+    requires few { length lines.now ≤ 16777216 }
+    requires call { IfSome call (λ c. IsCall (map (λ line. line.now) lines.now) c.now) }
+    requires source { IsBook (map (λ line. line.now) lines.now) None source.old }
+    requires book { IsBook (map (λ line. line.now) lines.now) (option_map (λ c. said c.now) call) book.old }
+    ensures source { IsBook (map (λ line. line.now) lines.now) None source.new }
+    ensures book { IsBook (map (λ line. line.now) lines.now) (option_map (λ c. said c.now) call.entry) book.new }
+    ensures has { IfOk result (λ plain. Has (roles (text_of (map (λ line. line.now) lines.now) (option_map (λ c. said c.now) call.entry) span)) span (opened plain source.new book.new)) }
+{
+    let Some(call) = call else {
+        source.open(alloc, lines, None, span)?;
+        return Ok(true);
+    };
+    if book.is_plain(alloc, lines, call, span)? {
+        source.open(alloc, lines, None, span)?;
+        return Ok(true);
+    }
+    book.open(alloc, lines, Some(call), span)?;
+    Ok(false)
+}
+
+/// The book of the source, or the other.
+fn opened<'a>(plain: bool, source: &'a Book, book: &'a Book) -> &'a Book
+    ensures { result.now ≡ opened plain source.now book.now }
+{
+    if plain { source } else { book }
+}
+
+/// The body with which a text begins, if an ENDM closes it. The books are of lines around the
+/// text, or of none: one of the source's as they stand, and one of the call's.
 pub fn body_of(
     alloc: Global,
     lines: &[&[u8]],
-    names: Option<&Replacements>,
+    call: Option<&Call>,
     span: Span,
+    source: &mut Book,
     book: &mut Book,
 ) -> Result<Option<Block>, AllocError>
     requires few { length lines.now ≤ 16777216 }
-    requires book { IsBook (map (λ line. line.now) lines.now) (option_map (λ n. table n.now.entries) names) book.old }
-    ensures book { IsBook (map (λ line. line.now) lines.now) (option_map (λ n. table n.now.entries) names.entry) book.new }
-    ensures body { IfOk result (λ found. option_map (body_seen (map (λ line. line.now) lines.now) (option_map (λ n. table n.now.entries) names.entry)) found
-        ≡ body_of (text_of (map (λ line. line.now) lines.now) (option_map (λ n. table n.now.entries) names.entry) span)) }
+    requires call { IfSome call (λ c. IsCall (map (λ line. line.now) lines.now) c.now) }
+    requires source { IsBook (map (λ line. line.now) lines.now) None source.old }
+    requires book { IsBook (map (λ line. line.now) lines.now) (option_map (λ c. said c.now) call) book.old }
+    ensures source { IsBook (map (λ line. line.now) lines.now) None source.new }
+    ensures book { IsBook (map (λ line. line.now) lines.now) (option_map (λ c. said c.now) call.entry) book.new }
+    ensures body { IfOk result (λ found. option_map (body_seen (map (λ line. line.now) lines.now) (option_map (λ c. said c.now) call.entry)) found
+        ≡ body_of (text_of (map (λ line. line.now) lines.now) (option_map (λ c. said c.now) call.entry) span)) }
 {
-    book.open(alloc, lines, names, span)?;
+    let plain = open(alloc, lines, call, span, source, book)?;
+    let book = opened(plain, source, book);
     let from = span.at.saturating_sub(book.at);
     let to = span.end.saturating_sub(book.at);
     match book.links.body(from, to) {
@@ -65,22 +108,27 @@ pub fn body_of(
     }
 }
 
-/// The branches of an IF with which a text begins, if an ENDIF closes it. The book is one of lines around the text, or of
-/// none.
+/// The branches of an IF with which a text begins, if an ENDIF closes it. The books are of lines around the
+/// text, or of none: one of the source's as they stand, and one of the call's.
 pub fn branches_of(
     alloc: Global,
     lines: &[&[u8]],
-    names: Option<&Replacements>,
+    call: Option<&Call>,
     span: Span,
+    source: &mut Book,
     book: &mut Book,
 ) -> Result<Option<Choice>, AllocError>
     requires few { length lines.now ≤ 16777216 }
-    requires book { IsBook (map (λ line. line.now) lines.now) (option_map (λ n. table n.now.entries) names) book.old }
-    ensures book { IsBook (map (λ line. line.now) lines.now) (option_map (λ n. table n.now.entries) names.entry) book.new }
-    ensures branches { IfOk result (λ found. option_map (branches_seen (map (λ line. line.now) lines.now) (option_map (λ n. table n.now.entries) names.entry)) found
-        ≡ branches_of (text_of (map (λ line. line.now) lines.now) (option_map (λ n. table n.now.entries) names.entry) span)) }
+    requires call { IfSome call (λ c. IsCall (map (λ line. line.now) lines.now) c.now) }
+    requires source { IsBook (map (λ line. line.now) lines.now) None source.old }
+    requires book { IsBook (map (λ line. line.now) lines.now) (option_map (λ c. said c.now) call) book.old }
+    ensures source { IsBook (map (λ line. line.now) lines.now) None source.new }
+    ensures book { IsBook (map (λ line. line.now) lines.now) (option_map (λ c. said c.now) call.entry) book.new }
+    ensures branches { IfOk result (λ found. option_map (branches_seen (map (λ line. line.now) lines.now) (option_map (λ c. said c.now) call.entry)) found
+        ≡ branches_of (text_of (map (λ line. line.now) lines.now) (option_map (λ c. said c.now) call.entry) span)) }
 {
-    book.open(alloc, lines, names, span)?;
+    let plain = open(alloc, lines, call, span, source, book)?;
+    let book = opened(plain, source, book);
     let from = span.at.saturating_sub(book.at);
     let to = span.end.saturating_sub(book.at);
     let Some(found) = book.links.branches(alloc, from, to)? else {

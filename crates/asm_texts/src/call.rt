@@ -1,25 +1,86 @@
 //! Macros and their calls.
 
-ghost use Rattle.std.specs.Prelude.{◌≡◌, List, ℕ};
+ghost use Rattle.std.specs.Prelude.{◌≡◌, IfOk, IfSome, All, List, map, ℕ};
 ghost use Rattle.std.specs.Option.{option_map};
 ghost use Rattle.std.specs.Map.{lookup};
 ghost use Rattle.std.specs.Str.{bytes_eq};
 ghost use Rattle.asm_texts.specs.Prepared.{macro_seen, macros_seen};
+ghost use Rattle.asm_replace.specs.Views.{texts};
+ghost use Rattle.asm_texts.specs.Private.Varying.{IsKept, VariesIn};
 
+use crate::open::{Opened, names_of, open};
 use crate::span::Span;
+use crate::varying::{Varying, varying_of};
+use asm_replace::Replacements;
 use indexmap::IndexMap;
 use name_key::NameKey;
+use std::alloc::{AllocError, Global};
+use std::rc::Rc;
 
-/// A macro: its parameters in upper case, and the lines of its body.
+/// A macro: its parameters in upper case, the lines of its body, and what is found out of these once.
 #[derive(Debug, Drop)]
 pub struct Macro {
     pub parameters: Vec<Vec<u8>>,
     pub body: Span,
+    /// None where a LOCAL line has another form.
+    pub(crate) opened: Option<Opened>,
+    pub(crate) varying: Rc<Varying>,
+}
+
+/// What names are replaced by in a call, and which lines may be other things to blocks there.
+#[derive(Debug, Drop)]
+pub struct Call {
+    pub(crate) names: Replacements,
+    pub(crate) varying: Rc<Varying>,
+}
+
+/// Which lines of an opened body may be other things to blocks in a call.
+fn varying_in(
+    alloc: Global,
+    lines: &[&[u8]],
+    parameters: &[Vec<u8>],
+    opened: Option<&Opened>,
+) -> Result<Varying, AllocError>
+    ensures { IfOk result (λ found. VariesIn (map (λ line. line.now) lines.now) (texts parameters.now) (option_map (λ o. o.now) opened.entry) found) }
+{
+    let Some(opened) = opened else {
+        return Ok(Varying::none(alloc));
+    };
+    // What the names are replaced by counts for nothing here.
+    let names = names_of(alloc, parameters, &[], &opened.locals, 0)?;
+    varying_of(alloc, lines, &names, opened.rest)
+}
+
+impl Macro {
+    ghost use Rattle.std.specs.Prelude.{◌≡◌, IfOk, map};
+    ghost use Rattle.asm_texts.specs.Private.Varying.{IsKept};
+
+    /// Looks through a body, whose lines are not looked through again by each call.
+    pub fn new(
+        alloc: Global,
+        lines: &[&[u8]],
+        parameters: Vec<Vec<u8>>,
+        body: Span,
+    ) -> Result<Macro, AllocError>
+        ensures kept { IfOk result (λ m. IsKept (map (λ line. line.now) lines.now) m) }
+        ensures parts { IfOk result (λ m. (m.parameters ≡ parameters) × (m.body ≡ body)) }
+    {
+        let opened = open(alloc, lines, body)?;
+        let varying = varying_in(alloc, lines, &parameters, opened.as_ref())?;
+        let varying = Rc::new(alloc, varying)?;
+        Ok(Macro {
+            parameters,
+            body,
+            opened,
+            varying,
+        })
+    }
 }
 
 /// The macro of a name in upper case.
 pub fn macro_of<'a>(macros: &'a IndexMap<Vec<u8>, Macro, NameKey>, name: &[u8]) -> Option<&'a Macro>
-    ensures { (texts : List (List ℕ)) → option_map (λ m. macro_seen texts m.now) result ≡ lookup (bytes_eq name.now) (macros_seen texts macros.now.entries) }
+    ensures found { (texts : List (List ℕ)) → option_map (λ m. macro_seen texts m.now) result ≡ lookup (bytes_eq name.now) (macros_seen texts macros.now.entries) }
+    ensures kept { (texts : List (List ℕ)) → All (λ e. IsKept texts e.1) macros.now.entries → IfSome result (λ m. IsKept texts m.now) }
 {
     macros.get(name)
 }

@@ -9,10 +9,11 @@ mod open;
 mod prepared;
 mod reading;
 mod span;
+mod varying;
 
 pub use blocks::{body_of, branches_of};
 pub use book::Book;
-pub use call::{Macro, macro_of};
+pub use call::{Call, Macro, macro_of};
 pub use prepared::{Prepared, label_before, prepare};
 pub use reading::{is_alone, line_at, put_shown};
 pub use span::{Block, Choice, Place, Span, Stretch};

@@ -1,23 +1,25 @@
 //! A call of a macro, made ready.
 
-ghost use Rattle.std.specs.Prelude.{◌≡◌, IfOk, Ok, map, ℕ};
+ghost use Rattle.std.specs.Prelude.{◌≡◌, IfOk, IfSome, List, ℕ};
 ghost use Rattle.asm_scan.specs.Tokens.{lexemes};
 ghost use Rattle.asm_line.specs.Views.{form_seen};
 ghost use Rattle.asm_texts.specs.Calls.{label_lines};
+ghost use Rattle.asm_texts.specs.Books.{IsCall};
 ghost use Rattle.asm_texts.specs.Prepared.{Prepares, labels};
+ghost use Rattle.asm_texts.specs.Private.Varying.{IsKept};
 
-use crate::call::Macro;
-use crate::open::{arguments_of, label_of, names_of, open};
+use crate::call::{Call, Macro};
+use crate::open::{arguments_of, label_of, names_of};
 use crate::span::Span;
 use asm_line::Form;
-use asm_replace::Replacements;
 use asm_scan::Token;
 use std::alloc::{AllocError, Global};
+use std::rc::Rc;
 
-/// What names are replaced by, the lines of the body, and the number of the next LOCAL name.
+/// The call, the lines of the body, and the number of the next LOCAL name.
 #[derive(Debug, Drop)]
 pub struct Prepared {
-    pub names: Replacements,
+    pub call: Call,
     pub body: Span,
     pub counter: u64,
 }
@@ -26,17 +28,16 @@ pub struct Prepared {
 /// behind the macro's name.
 pub fn prepare(
     alloc: Global,
-    lines: &[&[u8]],
     called: &Macro,
     line: &[u8],
     tokens: &[Token<'_>],
     rest: &[Token<'_>],
     counter: u64,
 ) -> Result<Option<Prepared>, AllocError>
-    ensures { IfOk result (λ found. Prepares (map (λ line. line.now) lines.now) called.now line.now (lexemes tokens.entry.now) (lexemes rest.entry.now) counter found) }
+    ensures prepares { (texts : List (List ℕ)) → IsKept texts called.now → IfOk result (λ found. Prepares texts called.now line.now (lexemes tokens.entry.now) (lexemes rest.entry.now) counter found) }
+    ensures call { (texts : List (List ℕ)) → IsKept texts called.now → IfOk result (λ found. IfSome found (λ p. IsCall texts p.call)) }
 {
-    let found = open(alloc, lines, called.body)?;
-    let Some(opened) = found else {
+    let Some(opened) = &called.opened else {
         return Ok(None);
     };
     let arguments = arguments_of(alloc, line, tokens, rest)?;
@@ -50,8 +51,9 @@ pub fn prepare(
         &opened.locals,
         counter,
     )?;
+    let varying = Rc::clone(&called.varying)?;
     Ok(Some(Prepared {
-        names,
+        call: Call { names, varying },
         body: opened.rest,
         counter: next,
     }))

@@ -8,8 +8,10 @@ ghost use Rattle.asm_scan.specs.Tokens.{lexemes};
 ghost use Rattle.asm_texts.specs.Lines.{form_of, heard};
 ghost use Rattle.asm_texts.specs.Blocks.{role_of_head};
 ghost use Rattle.asm_texts.specs.Blocks.{is_alone};
+ghost use Rattle.asm_texts.specs.Prepared.{said};
 ghost use Rattle.asm_texts.specs.Spans.{shown};
 
+use crate::call::Call;
 use asm_block::Role;
 use asm_line::{BlockWord, Head, form_of};
 use asm_replace::{Replacements, replace};
@@ -24,7 +26,7 @@ pub fn line_at<'a>(lines: &[&'a [u8]], at: usize) -> &'a [u8]
 }
 
 /// What a line's head is to blocks.
-fn role_of_head(head: Head<'_>) -> Role
+pub(crate) fn role_of_head(head: Head<'_>) -> Role
     ensures { result ≡ role_of_head (head_seen head.entry) }
 {
     match head {
@@ -94,17 +96,17 @@ fn put_replaced(
     }
 }
 
-/// Writes a line as it stands in a call with these names, or in none, in the place of what was written.
+/// Writes a line as it stands in a call, or in none, in the place of what was written.
 pub fn put_shown(
     alloc: Global,
-    names: Option<&Replacements>,
+    call: Option<&Call>,
     line: &[u8],
     out: &mut Vec<u8>,
 ) -> Result<(), AllocError>
-    ensures { OnOk result (out.new.items ≡ shown (option_map (λ n. table n.now.entries) names.entry) line.now) }
+    ensures { OnOk result (out.new.items ≡ shown (option_map (λ c. said c.now) call.entry) line.now) }
 {
-    match names {
-        Some(names) => put_replaced(alloc, names, line, out),
+    match call {
+        Some(call) => put_replaced(alloc, &call.names, line, out),
         None => {
             out.clear();
             out.extend_from_slice(line)

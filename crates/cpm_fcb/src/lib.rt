@@ -2,9 +2,11 @@
 #![tactic(auto)]
 
 mod bytes;
+mod entry;
 mod fcb;
 mod stop;
 
 pub use bytes::{bytes_at, put_bytes, put_field};
+pub use entry::put_entry;
 pub use fcb::{Fcb, QUESTION};
 pub use stop::{Stop, stop_of};

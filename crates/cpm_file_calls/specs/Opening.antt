@@ -1,5 +1,5 @@
 -- Opening and closing files: 15, 16. (CP/M 2.2 Interface Guide.)
-use Rattle.std.specs.Prelude.{◌+◌, ◌*◌, ◌%◌, ℕ, nat_le, List, Option, Some, None, Result, Ok, drop, if◌then◌else◌}
+use Rattle.std.specs.Prelude.{◌+◌, ◌*◌, ◌%◌, ℕ, nat_le, List, Option, Some, None, Result, Ok, if◌then◌else◌}
 use Rattle.cpm_image.specs.declared.kind.DiskKind.{DiskKind}
 use Rattle.cpm_image.specs.declared.kind.DiskKind.TheVariants.{EightInch, Megabyte}
 use Rattle.cpm_directory.specs.declared.pattern.Pattern.{Pattern}
@@ -7,10 +7,9 @@ use Rattle.cpm_directory.specs.Letters.{letters}
 use Rattle.cpm_disk.specs.Calls.{Mounted}
 use Rattle.cpm_disk.specs.Image.{Image}
 use Rattle.cpm_fcb.specs.declared.stop.Stop.{Stop}
-use Rattle.cpm_fcb.specs.Bytes.{with_bytes}
 use Rattle.cpm_fcb.specs.Stops.{Done, and_then, done}
 use Rattle.cpm_fcb.specs.Fcbs.{drive_judged, extent_of, fcb_at, file_judged, name_of, s2_of}
-use Rattle.cpm_fcb.specs.Files.{entry_bytes, extent_found, found}
+use Rattle.cpm_fcb.specs.Files.{extent_found, found, with_entry}
 
 -- the number of an entry modulo 4, or FFH
 abbrev pub code_of : Option ℕ → ℕ
@@ -21,17 +20,12 @@ code_of None = 0xFF
 abbrev pub open_pattern : List ℕ → Pattern
 open_pattern fcb = record { name = name_of fcb; extent = extent_of fcb; high = 0 }
 
--- bytes 1 to 31 of the entry go to the FCB
-abbrev pub with_entry : {S : Type 0} → (S → Image) → Mounted S → ℕ → Option ℕ → List ℕ → List ℕ
-with_entry sectors disk address (Some k) memory = with_bytes (address + 1) (drop 1 (entry_bytes sectors disk k)) memory
-with_entry sectors disk address None memory = memory
-
--- 15
+-- 15: bytes 1 to 31 of the entry go to the FCB
 abbrev pub opened : {S : Type 0} → (S → Image) → Mounted S → ℕ → ℕ → List ℕ → Result Done Stop
 opened sectors disk user address memory =
     let fcb = fcb_at address memory in
     let entry = found sectors disk user (open_pattern fcb) 0 in
-    and_then (drive_judged fcb) (done (code_of entry) (with_entry sectors disk address entry memory))
+    and_then (drive_judged fcb) (done (code_of entry) (with_entry sectors disk 1 address entry memory))
 
 -- the number of an FCB's extent: 32 times the low six bits of S2, which count on a Megabyte disk alone, and EX
 abbrev pub extent_number : DiskKind → List ℕ → ℕ

@@ -1,12 +1,11 @@
 //! Opening and closing files.
 
-ghost use Rattle.std.specs.Prelude.{◌≡◌, ◌<◌, IfSome};
-ghost use Rattle.cpm_image.specs.Kind.{entry_count};
+ghost use Rattle.std.specs.Prelude.{◌≡◌};
 ghost use Rattle.cpm_fcb.specs.Stops.{Ends};
-ghost use Rattle.cpm_file_calls.specs.Opening.{closed, code_of, extent_entry, extent_number, opened, with_entry};
+ghost use Rattle.cpm_file_calls.specs.Opening.{closed, code_of, extent_entry, extent_number, opened};
 
 use cpm_disk::{Disk, DiskKind, Name, Pattern};
-use cpm_fcb::{Fcb, Stop, put_field};
+use cpm_fcb::{Fcb, Stop, put_entry};
 use cpm_image::Sectors;
 use z80_cpu::Memory;
 
@@ -47,18 +46,8 @@ pub fn open<S: Sectors>(
         high: 0,
     };
     let found = disk.find(user, &pattern, 0);
-    put_entry(disk, found, memory, address);
+    put_entry(disk, found, 1, memory, address);
     Ok(code_of(found))
-}
-
-/// Puts bytes 1 to 31 of an entry to an FCB.
-fn put_entry<S: Sectors>(disk: &Disk<S>, entry: Option<u16>, memory: &mut Memory, address: u16)
-    requires { IfSome entry (λ k. k < entry_count disk.now.kind) }
-    ensures { memory.new ≡ with_entry S.sectors disk.now address entry memory.old }
-{
-    if let Some(number) = entry {
-        put_field(memory, address, 1, disk.entry(number).split_at(1).1);
-    }
 }
 
 /// Closes a file: answers the entry of the FCB's name, EX and, on a Megabyte disk, the low six bits of S2: function 16.

@@ -13,8 +13,8 @@ use Rattle.cpm_directory.specs.declared.entry.Entry.{Entry}
 use Rattle.cpm_directory.specs.Entries.{at, blank, extent_number, is_extent_of, is_of}
 use Rattle.cpm_directory.specs.Rules.{IsSound}
 use Rattle.cpm_directory.specs.Searches.{file_is_read_only, is_file}
-use Rattle.cpm_operations.specs.Near.{IsExtentAt, placing_in}
-use Rattle.cpm_operations.specs.Steps.{reading, writing, written_place}
+use Rattle.cpm_operations.specs.Near.{IsExtentAt}
+use Rattle.cpm_operations.specs.Steps.{placing_in, reading, writing, written_place}
 use Rattle.cpm_operations.proofs.Entries.{below_extent, of_file}
 
 -- what the test of an extent of a file says

@@ -9,11 +9,7 @@ use Rattle.cpm_operations.specs.declared.placement.Placement.{Placement}
 use Rattle.cpm_directory.specs.declared.fault.DiskFault.TheVariants as fault
 use Rattle.cpm_directory.specs.Entries.{at, block, erased, has_record, is_extent_of, is_match, is_of, is_read_only, new_extent, place_on_disk, renamed, with_record}
 use Rattle.cpm_directory.specs.Searches.{file_is_read_only, free_block, free_entry, is_file}
-
-infixl 10 ◌>>=◌
-abbrev pub ◌>>=◌ : {A B : Type 0} → Result A DiskFault → (A → Result B DiskFault) → Result B DiskFault
-(Ok x) >>= f = f x
-(Err e) >>= f = Err e
+pub use Rattle.results.specs.Results.{◌>>=◌}
 
 -- goes on where a test holds, else refuses
 abbrev pub unless : {A : Type 0} → Bool → DiskFault → Result A DiskFault → Result A DiskFault
@@ -88,12 +84,17 @@ block_place kind e group entries = if block kind e group == 0
     then (given (free_block kind entries) fault.DiskFull >>= λ b. Ok (b, true))
     else Ok (block kind e group, false)
 
--- where a record of a file goes: the entry's number, the entry as it is to be, the block, and whether it is new
+-- where record i of an extent goes, by the number of the extent's entry and that entry: the entry as it is to be, the block, and whether it is new
+abbrev pub placing_in : DiskKind → ℕ → Entry → ℕ → List Entry → Result Placement DiskFault
+placing_in kind k e i entries =
+    block_place kind e (i / block_records kind) entries >>= λ found.
+    Ok (record { number = k; entry = with_record kind e i found.0; block = found.0; is_new = found.1 })
+
+-- where a record of a file goes
 abbrev pub placing : DiskKind → ℕ → List ℕ → ℕ → List Entry → Result Placement DiskFault
 placing kind user name number entries =
     extent_place user name (number / 128) entries >>= λ place.
-    block_place kind place.1 (number % 128 / block_records kind) entries >>= λ found.
-    Ok (record { number = place.0; entry = with_record kind place.1 (number % 128) found.0; block = found.0; is_new = found.1 })
+    placing_in kind place.0 place.1 (number % 128) entries
 
 abbrev pub writing : DiskKind → ℕ → List ℕ → ℕ → List Entry → Result Placement DiskFault
 writing kind user name number entries =

@@ -7,9 +7,8 @@ ghost use Rattle.cpm_directory.specs.Rules.{IsSound};
 ghost use Rattle.cpm_image.specs.Kind.{block_records, directory_records, entry_blocks, file_records, number_limit, record_count};
 ghost use Rattle.cpm_image.specs.declared.kind.DiskKind.{DiskKind};
 ghost use Rattle.cpm_operations.specs.Kept.{IsKeptBy, IsPut, StaysSound};
-ghost use Rattle.cpm_operations.specs.Near.{placing_in};
 ghost use Rattle.cpm_operations.specs.Refusals.{RefusesCreation, RefusesErasure, RefusesReading, RefusesRenaming, RefusesWriting};
-ghost use Rattle.cpm_operations.specs.Steps.{after_erasure, after_renaming, block_place, creation, erasure, extent_place, placing, reading, renaming, writing, written_place};
+ghost use Rattle.cpm_operations.specs.Steps.{after_erasure, after_renaming, block_place, creation, erasure, extent_place, placing, placing_in, reading, renaming, writing, written_place};
 
 use crate::Placement;
 use cpm_directory::laws::is_name;

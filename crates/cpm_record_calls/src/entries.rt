@@ -4,12 +4,12 @@ ghost use Rattle.std.specs.Prelude.{◌≡◌, ◌<◌, ◌/◌};
 ghost use Rattle.cpm_record_calls.specs.Entries.{with_extent_entry};
 
 use cpm_disk::{Disk, Name};
-use cpm_fcb::put_field;
+use cpm_fcb::put_entry;
 use cpm_image::Sectors;
 use z80_cpu::Memory;
 
 /// Puts bytes 15 to 31 of the entry of a record's extent to an FCB.
-pub(crate) fn put_entry<S: Sectors>(
+pub(crate) fn put_extent_entry<S: Sectors>(
     disk: &Disk<S>,
     user: u8,
     name: &Name,
@@ -20,7 +20,6 @@ pub(crate) fn put_entry<S: Sectors>(
     requires { number / 128 < 65536 }
     ensures { memory.new ≡ with_extent_entry S.sectors disk.now user name.now number address memory.old }
 {
-    if let Some(entry) = disk.find_extent(user, name, (number / 128) as u16) {
-        put_field(memory, address, 15, disk.entry(entry).split_at(15).1);
-    }
+    let entry = disk.find_extent(user, name, (number / 128) as u16);
+    put_entry(disk, entry, 15, memory, address);
 }

@@ -4,7 +4,7 @@ ghost use Rattle.std.specs.Prelude.{◌≡◌, ◌<◌};
 ghost use Rattle.cpm_fcb.specs.Stops.{Ends};
 ghost use Rattle.cpm_record_calls.specs.Random.{ReadsAt, WritesAt, is_within, refused_read, refused_write, with_place_of};
 
-use crate::entries::put_entry;
+use crate::entries::put_extent_entry;
 use cpm_disk::{Disk, DiskFault, DiskKind, Name};
 use cpm_fcb::{Fcb, Stop, bytes_at, put_bytes, put_field, stop_of};
 use cpm_image::Sectors;
@@ -52,7 +52,7 @@ pub fn read_at<S: Sectors>(
         Ok(bytes) => {
             put_bytes(memory, dma, &bytes);
             put_place_of(memory, address, number);
-            put_entry(disk, user, &name, u32::from(number), memory, address);
+            put_extent_entry(disk, user, &name, u32::from(number), memory, address);
             Ok(0)
         }
         Err(fault) => not_read(fault, memory, address, number),
@@ -85,7 +85,7 @@ pub fn write_at<S: Sectors>(
     match disk.write_block_of(user, &name, u32::from(number), &bytes_at(memory, dma)) {
         Ok(()) => {
             put_place_of(memory, address, number);
-            put_entry(disk, user, &name, u32::from(number), memory, address);
+            put_extent_entry(disk, user, &name, u32::from(number), memory, address);
             Ok(0)
         }
         Err(fault) => not_written(fault, memory, address, number),

@@ -5,7 +5,7 @@ ghost use Rattle.cpm_fcb.specs.Stops.{Ends};
 ghost use Rattle.cpm_fcb.specs.Fcbs.{current_of};
 ghost use Rattle.cpm_record_calls.specs.Sequential.{ReadsNext, WritesNext, refused_read, refused_write, sequential_judged, with_extent, with_place, with_s2};
 
-use crate::entries::put_entry;
+use crate::entries::put_extent_entry;
 use crate::place::Place;
 use cpm_disk::{Disk, DiskFault, DiskKind, Name};
 use cpm_fcb::{Fcb, Stop, bytes_at, put_bytes, put_field, stop_of};
@@ -50,7 +50,7 @@ pub fn read_next<S: Sectors>(
         Ok(bytes) => {
             put_bytes(memory, dma, &bytes);
             put_place(memory, address, old, new);
-            put_entry(disk, user, &name, number, memory, address);
+            put_extent_entry(disk, user, &name, number, memory, address);
             Ok(0)
         }
         Err(fault) => not_read(fault),
@@ -85,7 +85,7 @@ pub fn write_next<S: Sectors>(
     match disk.write_block_of(user, &name, number, &bytes_at(memory, dma)) {
         Ok(()) => {
             put_place(memory, address, old, new);
-            put_entry(disk, user, &name, number, memory, address);
+            put_extent_entry(disk, user, &name, number, memory, address);
             Ok(0)
         }
         Err(fault) => not_written(fault),

@@ -88,7 +88,9 @@ correction a f =
 abbrev pub adjusted : ℕ → Flags → ℕ
 adjusted a f = if f.subtract then difference_of a (correction a f) false else sum_of a (correction a f) false
 
--- S, Z and P of the result; N is kept
+-- S, Z and P of the result; N is kept. C is 1 where it was, or where A was above 99H, so that a digit went out at the top. H, which
+-- the manual leaves open, is by this project's choice whether the correction of the low digit carried out of it, or borrowed where N
+-- is set.
 abbrev pub adjust_flags : ℕ → Flags → Flags
 adjust_flags a f = record f {
   sign = is_negative_byte (adjusted a f);
@@ -98,7 +100,10 @@ adjust_flags a f = record f {
   carry = f.carry || nat_lt 0x99 a;
 }
 
--- CPL
+-- CPL: every bit of A turned over; H 1, N 1
+abbrev pub complemented : ℕ → ℕ
+complemented a = 255 - a
+
 abbrev pub complement_flags : Flags → Flags
 complement_flags f = record f { half_carry = true; subtract = true }
 

@@ -69,7 +69,7 @@ rrd_accumulator a value = a / 16 * 16 + value % 16
 abbrev pub bit_of : Octal → ℕ → ℕ
 bit_of bit value = bit_at value (octal_code bit)
 
--- BIT: Z where the bit is 0, H 1, N 0
+-- BIT: Z where the bit is 0, H 1, N 0. S and P/V, which the manual leaves open, are kept by this project's choice.
 abbrev pub bit_flags : Octal → ℕ → Flags → Flags
 bit_flags bit value f = record f { zero = bit_of bit value == 0; half_carry = true; subtract = false }
 

@@ -4,10 +4,11 @@ use crate::bits::{has_even_parity, is_negative};
 use crate::flags::Flags;
 
 impl Flags {
-    ghost use Rattle.std.specs.Prelude.{◌≡◌, ◌-◌};
-    ghost use Rattle.z80_alu.specs.Bytes.{correction, adjusted, adjust_flags, complement_flags, set_carry_flags, complement_carry_flags};
+    ghost use Rattle.std.specs.Prelude.{◌≡◌};
+    ghost use Rattle.z80_alu.specs.Bytes.{correction, adjusted, adjust_flags, complemented, complement_flags, set_carry_flags, complement_carry_flags};
 
     /// DAA: A made the decimal result of the last operation.
+    #[inline(always)]
     pub fn adjust(&mut self, a: u8) -> u8
         ensures value { result ≡ adjusted a self.old }
         ensures flags { self.new ≡ adjust_flags a self.old }
@@ -21,6 +22,7 @@ impl Flags {
         value
     }
 
+    #[inline(always)]
     fn adjusted(&self, a: u8) -> u8
         ensures { result ≡ adjusted a self.now }
     {
@@ -33,6 +35,7 @@ impl Flags {
     }
 
     /// What is added to A, or taken away.
+    #[inline(always)]
     fn correction(&self, a: u8) -> u8
         ensures { result ≡ correction a self.now }
     {
@@ -46,8 +49,9 @@ impl Flags {
     }
 
     /// CPL: every bit of A turned over.
+    #[inline(always)]
     pub fn complement(&mut self, a: u8) -> u8
-        ensures value { result ≡ 255 - a }
+        ensures value { result ≡ complemented a }
         ensures flags { self.new ≡ complement_flags self.old }
     {
         self.half_carry = true;
@@ -56,6 +60,7 @@ impl Flags {
     }
 
     /// SCF.
+    #[inline(always)]
     pub fn set_carry(&mut self)
         ensures { self.new ≡ set_carry_flags self.old }
     {
@@ -65,6 +70,7 @@ impl Flags {
     }
 
     /// CCF.
+    #[inline(always)]
     pub fn complement_carry(&mut self)
         ensures { self.new ≡ complement_carry_flags self.old }
     {

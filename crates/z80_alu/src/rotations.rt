@@ -13,6 +13,7 @@ impl Flags {
     ghost use Rattle.z80_alu.specs.Bytes.{parity_flags};
 
     /// RLCA, RRCA, RLA and RRA, of the rotation's name without the A.
+    #[inline(always)]
     pub fn rotate_accumulator(&mut self, rotation: Rotation, value: u8) -> u8
         ensures value { result ≡ rotated rotation value self.old.carry }
         ensures flags { self.new ≡ rotate_accumulator_flags rotation value self.old }
@@ -25,6 +26,7 @@ impl Flags {
     }
 
     /// A rotation or a shift.
+    #[inline(always)]
     pub fn rotate(&mut self, rotation: Rotation, value: u8) -> u8
         ensures value { result ≡ rotated rotation value self.old.carry }
         ensures flags { self.new ≡ rotate_flags rotation value self.old }
@@ -58,6 +60,7 @@ impl Flags {
     }
 
     /// BIT.
+    #[inline(always)]
     pub fn test_bit(&mut self, bit: Octal, value: u8)
         ensures { self.new ≡ bit_flags bit value self.old }
     {
@@ -68,6 +71,7 @@ impl Flags {
 }
 
 /// SET.
+#[inline(always)]
 pub fn set_bit(bit: Octal, value: u8) -> u8
     ensures { result ≡ rotations.set_bit bit value }
 {
@@ -75,6 +79,7 @@ pub fn set_bit(bit: Octal, value: u8) -> u8
 }
 
 /// RES.
+#[inline(always)]
 pub fn reset_bit(bit: Octal, value: u8) -> u8
     ensures { result ≡ rotations.reset_bit bit value }
 {
@@ -105,24 +110,28 @@ fn bit_out(rotation: Rotation, value: u8) -> bool
     }
 }
 
+#[inline(always)]
 fn shifted_left(value: u8, bit_in: bool) -> u8
     ensures { result ≡ shifted_left value bit_in }
 {
     value << 1 | bit_in as u8
 }
 
+#[inline(always)]
 fn shifted_right(value: u8, bit_in: bool) -> u8
     ensures { result ≡ shifted_right value bit_in }
 {
     (bit_in as u8) << 7 | value >> 1
 }
 
+#[inline(always)]
 fn highest_bit(value: u8) -> bool
     ensures { result ≡ highest_bit value }
 {
     value & 0x80 != 0
 }
 
+#[inline(always)]
 fn lowest_bit(value: u8) -> bool
     ensures { result ≡ lowest_bit value }
 {

@@ -1,8 +1,8 @@
 -- Arithmetic on registers, and LD A,I and LD A,R. What the operations give is said in the crate of the unit.
 --
 -- Z80 CPU User Manual (Zilog UM0080), the arithmetic groups and "Rotate and Shift Group".
-use Rattle.std.specs.Prelude.{ℕ, ◌-◌, false}
-use Rattle.z80_alu.specs.Bytes.{difference_of, subtract_flags, parity_flags, accumulator_after, operation_flags, adjusted, adjust_flags, complement_flags}
+use Rattle.std.specs.Prelude.{ℕ, false}
+use Rattle.z80_alu.specs.Bytes.{difference_of, subtract_flags, parity_flags, accumulator_after, operation_flags, adjusted, adjust_flags, complemented, complement_flags}
 use Rattle.z80_alu.specs.Words.{word_sum_of, add_word_flags, adc_word_flags, word_difference_of, sbc_word_flags}
 use Rattle.z80_alu.specs.Rotations.{rotated, rotate_accumulator_flags}
 use Rattle.z80_cpu.specs.Types.{IndexRegister, RegisterPair, WordRegister, Addend, AluOperation, Rotation, Cpu}
@@ -24,7 +24,7 @@ abbrev pub adjusted_a : Cpu → Cpu
 adjusted_a cpu = let r = cpu.main in with_a_and_flags (adjusted r.a r.flags) (adjust_flags r.a r.flags) cpu
 
 abbrev pub complemented_a : Cpu → Cpu
-complemented_a cpu = let r = cpu.main in with_a_and_flags (255 - r.a) (complement_flags r.flags) cpu
+complemented_a cpu = let r = cpu.main in with_a_and_flags (complemented r.a) (complement_flags r.flags) cpu
 
 abbrev pub negated_a : Cpu → Cpu
 negated_a cpu = let r = cpu.main in with_a_and_flags (difference_of 0 r.a false) (subtract_flags 0 r.a false r.flags) cpu

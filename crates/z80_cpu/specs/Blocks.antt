@@ -1,7 +1,7 @@
 -- Block transfer, search, input and output: one byte a turn. Where a repeating form goes on, PC goes back to it.
 --
 -- Z80 CPU User Manual (Zilog UM0080), LDI to CPDR of "Exchange, Block Transfer, and Search Group", INI to OTDR of "Input
--- and Output Group". What the manual leaves open of the flags of INI to OTDR is this project's: C and the others are kept.
+-- and Output Group".
 use Rattle.std.specs.Prelude.{ℕ, Bool, true, false, not, ◌&&◌, if◌then◌else◌}
 use Rattle.z80_alu.specs.Flags.{is_zero}
 use Rattle.z80_alu.specs.Bytes.{difference_of, subtract_flags}
@@ -29,7 +29,11 @@ repeats BlockStep.DecrementRepeat = true
 abbrev pub again_if : Bool → BlockStep → Cpu → Cpu
 again_if more step cpu = if repeats step && more then with_pc (down_by 2 cpu.pc) cpu else cpu
 
--- LDI, LDD: from (HL) to (DE), BC one less; P/V where BC is not 0 then
+-- LDI, LDD: the byte at (HL) is copied to (DE) ..
+abbrev pub copied : Machine → Machine
+copied m = store_byte (de m.cpu.main) (byte_at (hl m.cpu.main) m.memory) m
+
+-- .. HL and DE go on, and BC is one less; H 0, N 0, P/V where BC is not 0 then
 abbrev pub load_flags : ℕ → Flags → Flags
 load_flags count f = record f { half_carry = false; parity_overflow = not (is_zero count); subtract = false }
 
@@ -52,7 +56,8 @@ compared step value cpu =
     again_if (not (is_zero count) && not (is_zero (difference_of r.a value false))) step
     (with_main (record counted { flags = compare_flags r.a value count r.flags }) cpu)
 
--- INI to OTDR: B one less; Z where it is 0 then, N 1
+-- INI to OTDR: B one less; Z where it is 0 then, N 1. C is kept, as the manual says; S, H and P/V, which it leaves open, are kept by this
+-- project's choice.
 abbrev pub port_flags : ℕ → Flags → Flags
 port_flags count f = record f { zero = is_zero count; subtract = true }
 
@@ -64,8 +69,7 @@ counted_down step cpu =
     (with_main (record (with_hl (stepped step (hl r)) r) { b = count; flags = port_flags count r.flags }) cpu)
 
 abbrev pub block : BlockOperation → BlockStep → Machine → Machine
-block BlockOperation.Load step m =
-    on_cpu (loaded step) (store_byte (de m.cpu.main) (byte_at (hl m.cpu.main) m.memory) m)
+block BlockOperation.Load step m = on_cpu (loaded step) (copied m)
 block BlockOperation.Compare step m = on_cpu (compared step (byte_at (hl m.cpu.main) m.memory)) m
 block BlockOperation.Input step m = on_cpu (counted_down step) (store_byte (hl m.cpu.main) port_value m)
 block BlockOperation.Output step m = on_cpu (counted_down step) m

@@ -8,7 +8,7 @@ use Rattle.z80_instr.specs.Table.{octal_code}
 use Rattle.z80_alu.specs.Bytes.{sum_of, difference_of, parity_flags, increment_flags, decrement_flags, set_carry_flags, complement_carry_flags}
 use Rattle.z80_alu.specs.Rotations.{rotated, rotate_flags, rld_byte, rld_accumulator, rrd_byte, rrd_accumulator, bit_flags, set_bit, reset_bit}
 use Rattle.z80_cpu.specs.Types.{Rotation, Instr}
-use Rattle.z80_cpu.specs.State.{Machine, on_cpu, with_main, with_a, with_flags, with_a_and_flags, with_pc, displaced, byte_at, word_at, store_byte, store_word, register_value, with_register, hl, word_value, with_word, hl_or_index_value, with_hl_or_index, stack_operand_value, with_stack_operand}
+use Rattle.z80_cpu.specs.State.{Machine, on_cpu, with_main, with_a, with_flags, with_a_and_flags, with_pc, down_by, displaced, byte_at, word_at, store_byte, store_word, register_value, with_register, hl, word_value, with_word, hl_or_index_value, with_hl_or_index, stack_operand_value, with_stack_operand}
 use Rattle.z80_cpu.specs.Operands.{address_of, pointer_address, operand_value, with_operand, condition_holds, short_condition_holds}
 use Rattle.z80_cpu.specs.Stack.{pushed, top, popped, called, returned}
 use Rattle.z80_cpu.specs.Exchange.{ex_de_hl, ex_af, exx}
@@ -57,7 +57,8 @@ effect Instr.Neg m = on_cpu negated_a m
 effect Instr.Ccf m = on_cpu (with_flags (complement_carry_flags m.cpu.main.flags)) m
 effect Instr.Scf m = on_cpu (with_flags (set_carry_flags m.cpu.main.flags)) m
 effect Instr.Nop m = m
-effect Instr.Halt m = m
+-- (the processor stays at HALT: PC goes back by its one byte)
+effect Instr.Halt m = on_cpu (with_pc (down_by 1 m.cpu.pc)) m
 effect Instr.Di m = on_cpu (λ cpu. record cpu { iff1 = false; iff2 = false }) m
 effect Instr.Ei m = on_cpu (λ cpu. record cpu { iff1 = true; iff2 = true }) m
 effect (Instr.Im mode) m = on_cpu (λ cpu. record cpu { mode = mode }) m

@@ -48,6 +48,7 @@ impl Cpu {
     }
 
     /// DAA.
+    #[inline(always)]
     pub fn adjust(&mut self)
         ensures { self.new ≡ adjusted_a self.old }
     {
@@ -55,6 +56,7 @@ impl Cpu {
     }
 
     /// CPL.
+    #[inline(always)]
     pub fn complement(&mut self)
         ensures { self.new ≡ complemented_a self.old }
     {

@@ -9,7 +9,7 @@ use crate::registers::Cpu;
 use z80_instr::{BlockOperation, BlockStep};
 
 /// What a port gives: none is there.
-pub(crate) const PORT_VALUE: u8 = 0xFF;
+pub const PORT_VALUE: u8 = 0xFF;
 
 fn stepped(step: BlockStep, address: u16) -> u16
     ensures { result ≡ stepped step address }

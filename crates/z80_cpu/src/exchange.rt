@@ -12,6 +12,7 @@ use z80_instr::HlOrIndex;
 
 impl Registers {
     /// All but A and F exchanged with those of another set.
+    #[inline(always)]
     fn exchange(&mut self, other: &mut Registers)
         ensures own { self.new ≡ with_others_of other.old self.old }
         ensures others { other.new ≡ with_others_of self.old other.old }
@@ -27,6 +28,7 @@ impl Registers {
 
 impl Cpu {
     /// EX DE,HL.
+    #[inline(always)]
     pub fn ex_de_hl(&mut self)
         ensures { self.new ≡ ex_de_hl self.old }
     {
@@ -35,6 +37,7 @@ impl Cpu {
     }
 
     /// EX AF,AF'.
+    #[inline(always)]
     pub fn ex_af(&mut self)
         ensures { self.new ≡ ex_af self.old }
     {
@@ -42,6 +45,7 @@ impl Cpu {
         mem::swap(&mut self.main.flags, &mut self.shadow.flags);
     }
 
+    #[inline(always)]
     pub fn exx(&mut self)
         ensures { self.new ≡ exx self.old }
     {
@@ -49,6 +53,7 @@ impl Cpu {
     }
 
     /// EX (SP),HL and EX (SP),IX.
+    #[inline(always)]
     pub fn ex_sp(&mut self, memory: &mut Memory, register: HlOrIndex)
         ensures { machine self.new memory.new ≡ effect (Instr.ExSp register) (machine self.old memory.old) }
     {

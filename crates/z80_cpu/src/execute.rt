@@ -61,7 +61,8 @@ impl Cpu {
             Instr::Neg => self.negate(),
             Instr::Ccf => self.main.flags.complement_carry(),
             Instr::Scf => self.main.flags.set_carry(),
-            Instr::Nop | Instr::Halt => {}
+            Instr::Nop => {}
+            Instr::Halt => self.pc = self.pc.wrapping_sub(1),
             Instr::Di => self.set_interrupts(false),
             Instr::Ei => self.set_interrupts(true),
             Instr::Im(mode) => self.mode = mode,
@@ -112,7 +113,8 @@ impl Cpu {
     }
 
     /// DI and EI.
-    fn set_interrupts(&mut self, accepted: bool)
+    #[inline(always)]
+    pub fn set_interrupts(&mut self, accepted: bool)
         ensures { self.new ≡ record self.old { iff1 = accepted; iff2 = accepted } }
     {
         self.iff1 = accepted;

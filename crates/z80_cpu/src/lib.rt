@@ -20,6 +20,7 @@ mod rotations;
 mod stack;
 mod words;
 
+pub use blocks::PORT_VALUE;
 pub use memory::{MEMORY_SIZE, Memory};
 pub use operands::displaced;
 pub use registers::{Cpu, Registers};

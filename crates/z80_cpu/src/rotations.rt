@@ -12,6 +12,7 @@ use z80_instr::{Octal, Operand, Rotation};
 
 impl Cpu {
     /// RLCA, RLA, RRCA and RRA, of the rotation's name without the A.
+    #[inline(always)]
     pub fn rotate_accumulator(&mut self, rotation: Rotation)
         ensures { self.new ≡ rotated_a rotation self.old }
     {

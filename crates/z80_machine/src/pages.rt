@@ -2,11 +2,13 @@
 //! is decoded.
 ghost use Rattle.std.specs.Prelude.{◌≡◌};
 ghost use Rattle.z80_cpu.specs.State.{machine, byte_at, up_by};
-ghost use Rattle.z80_table.specs.Reading.{bits_entry, extended_entry, read_index};
+ghost use Rattle.z80_table.specs.Reading.{read, bits_entry, extended_entry};
 ghost use Rattle.z80_machine.specs.Types.{IndexRegister};
-ghost use Rattle.z80_machine.specs.Private.Opcodes.{read_from, read_second, read_index_second, IsTurnOrNone};
+ghost use Rattle.z80_machine.specs.Turn.{bytes_at_pc};
+ghost use Rattle.z80_machine.specs.Private.Opcodes.{read_from, read_second, read_index_second, IsTurnBy, IsTurnOrNone};
 
 use crate::rows::{operand_rows, pair_rows, single_rows};
+use crate::turn::turn_decoded;
 use z80_cpu::{Cpu, Memory};
 use z80_instr::{
     Addend, AluOperation, BlockOperation, BlockStep, IndexRegister, Instr, InterruptMode, Octal,
@@ -14,40 +16,65 @@ use z80_instr::{
 };
 use z80_turns::outcome::Step;
 use z80_turns::{
-    next_byte, turn_add_index, turn_add_pair_with_carry, turn_behind_prefix, turn_bit,
-    turn_bit_at_hl, turn_block, turn_decrement_index, turn_decrement_indexed, turn_exchange_index,
-    turn_increment_index, turn_increment_indexed, turn_jump_index, turn_load_byte_indexed,
-    turn_load_index, turn_load_index_from, turn_load_indexed, turn_load_pair_from, turn_load_sp,
-    turn_negate, turn_operate_indexed, turn_pop_index, turn_push_index, turn_reset,
-    turn_reset_at_hl, turn_rotate, turn_rotate_at_hl, turn_set, turn_set_at_hl, turn_store_index,
-    turn_store_indexed, turn_store_pair, turn_subtract_pair_with_carry,
+    fourth_byte, next_byte, turn_add_index, turn_add_pair_with_carry, turn_behind_prefix, turn_bit,
+    turn_bit_at_hl, turn_bit_indexed, turn_block, turn_decrement_index, turn_decrement_indexed,
+    turn_exchange_index, turn_increment_index, turn_increment_indexed, turn_jump_index,
+    turn_load_byte_indexed, turn_load_index, turn_load_index_from, turn_load_indexed,
+    turn_load_pair_from, turn_load_sp, turn_negate, turn_operate_indexed, turn_pop_index,
+    turn_push_index, turn_reset, turn_reset_at_hl, turn_reset_indexed, turn_rotate,
+    turn_rotate_at_hl, turn_rotate_indexed, turn_set, turn_set_at_hl, turn_set_indexed,
+    turn_store_index, turn_store_indexed, turn_store_pair, turn_subtract_pair_with_carry,
 };
 
-/// The turn of an instruction behind a prefix.
+/// The turn of an instruction behind a prefix. A page is called: all of them would be too much in the place of a single turn.
 #[inline(always)]
 pub(crate) fn try_pages(cpu: &mut Cpu, memory: &mut Memory, opcode: u8) -> Option<Step>
+    requires { opcode ≡ byte_at cpu.old.pc memory.old }
     ensures { IsTurnOrNone (read_from opcode (machine cpu.old memory.old)) result
         (machine cpu.old memory.old) (machine cpu.new memory.new) }
 {
     match opcode {
-        0xCB => try_bits(cpu, memory),
-        0xED => try_extended(cpu, memory),
-        0xDD => try_index(cpu, memory, IndexRegister::Ix),
-        0xFD => try_index(cpu, memory, IndexRegister::Iy),
+        0xCB => Some(turn_bits(cpu, memory)),
+        0xED => Some(turn_extended(cpu, memory)),
+        0xDD => Some(turn_index(cpu, memory, IndexRegister::Ix)),
+        0xFD => Some(turn_index(cpu, memory, IndexRegister::Iy)),
         _ => None,
     }
 }
 
 /// Behind CB.
 #[inline(never)]
-fn try_bits(cpu: &mut Cpu, memory: &mut Memory) -> Option<Step>
-    ensures { IsTurnOrNone (read_second bits_entry (byte_at (up_by 1 cpu.old.pc) memory.old) (machine cpu.old memory.old)) result
+fn turn_bits(cpu: &mut Cpu, memory: &mut Memory) -> Step
+    requires { read (bytes_at_pc (machine cpu.old memory.old)) ≡
+        read_second bits_entry (byte_at (up_by 1 cpu.old.pc) memory.old) (machine cpu.old memory.old) }
+    ensures { IsTurnBy (read_second bits_entry (byte_at (up_by 1 cpu.old.pc) memory.old) (machine cpu.old memory.old)) result
         (machine cpu.old memory.old) (machine cpu.new memory.new) }
 {
     let second = next_byte(cpu, memory);
-    if let Some(step) = try_rotations_left(cpu, memory, second) {
-        return Some(step);
+    if let Some(step) = try_bits(cpu, memory, second) {
+        return step;
     }
+    turn_decoded(cpu, memory)
+}
+
+/// By the upper bit of the opcode behind CB.
+#[inline(always)]
+fn try_bits(cpu: &mut Cpu, memory: &mut Memory, second: u8) -> Option<Step>
+    ensures { IsTurnOrNone (read_second bits_entry second (machine cpu.old memory.old)) result
+        (machine cpu.old memory.old) (machine cpu.new memory.new) }
+{
+    if second < 0x80 {
+        try_bits_lower(cpu, memory, second)
+    } else {
+        try_bits_upper(cpu, memory, second)
+    }
+}
+
+/// Behind CB, below 80H.
+fn try_bits_lower(cpu: &mut Cpu, memory: &mut Memory, second: u8) -> Option<Step>
+    ensures { IsTurnOrNone (read_second bits_entry second (machine cpu.old memory.old)) result
+        (machine cpu.old memory.old) (machine cpu.new memory.new) }
+{
     if let Some(step) = try_shifts(cpu, memory, second) {
         return Some(step);
     }
@@ -57,6 +84,14 @@ fn try_bits(cpu: &mut Cpu, memory: &mut Memory) -> Option<Step>
     if let Some(step) = try_bits_high(cpu, memory, second) {
         return Some(step);
     }
+    try_rotations_left(cpu, memory, second)
+}
+
+/// Behind CB, from 80H on.
+fn try_bits_upper(cpu: &mut Cpu, memory: &mut Memory, second: u8) -> Option<Step>
+    ensures { IsTurnOrNone (read_second bits_entry second (machine cpu.old memory.old)) result
+        (machine cpu.old memory.old) (machine cpu.new memory.new) }
+{
     if let Some(step) = try_resets_low(cpu, memory, second) {
         return Some(step);
     }
@@ -70,7 +105,6 @@ fn try_bits(cpu: &mut Cpu, memory: &mut Memory) -> Option<Step>
 }
 
 /// RLC, RRC, RL and RR.
-#[inline(always)]
 fn try_rotations_left(cpu: &mut Cpu, memory: &mut Memory, second: u8) -> Option<Step>
     ensures { IsTurnOrNone (read_second bits_entry second (machine cpu.old memory.old)) result
         (machine cpu.old memory.old) (machine cpu.new memory.new) }
@@ -182,18 +216,23 @@ fn try_sets_high(cpu: &mut Cpu, memory: &mut Memory, second: u8) -> Option<Step>
 
 /// Behind ED.
 #[inline(never)]
-fn try_extended(cpu: &mut Cpu, memory: &mut Memory) -> Option<Step>
-    ensures { IsTurnOrNone (read_second extended_entry (byte_at (up_by 1 cpu.old.pc) memory.old) (machine cpu.old memory.old)) result
+fn turn_extended(cpu: &mut Cpu, memory: &mut Memory) -> Step
+    requires { read (bytes_at_pc (machine cpu.old memory.old)) ≡
+        read_second extended_entry (byte_at (up_by 1 cpu.old.pc) memory.old) (machine cpu.old memory.old) }
+    ensures { IsTurnBy (read_second extended_entry (byte_at (up_by 1 cpu.old.pc) memory.old) (machine cpu.old memory.old)) result
         (machine cpu.old memory.old) (machine cpu.new memory.new) }
 {
     let second = next_byte(cpu, memory);
     if let Some(step) = try_blocks(cpu, memory, second) {
-        return Some(step);
+        return step;
     }
     if let Some(step) = try_pairs(cpu, memory, second) {
-        return Some(step);
+        return step;
     }
-    try_rest(cpu, memory, second)
+    if let Some(step) = try_rest(cpu, memory, second) {
+        return step;
+    }
+    turn_decoded(cpu, memory)
 }
 
 /// Block transfer, search, input and output.
@@ -274,19 +313,26 @@ fn try_rest(cpu: &mut Cpu, memory: &mut Memory, second: u8) -> Option<Step>
 
 /// Behind DD and FD.
 #[inline(never)]
-fn try_index(cpu: &mut Cpu, memory: &mut Memory, index: IndexRegister) -> Option<Step>
-    ensures { IsTurnOrNone (read_index_second index (byte_at (up_by 1 cpu.old.pc) memory.old) (machine cpu.old memory.old)) result
+fn turn_index(cpu: &mut Cpu, memory: &mut Memory, index: IndexRegister) -> Step
+    requires { read (bytes_at_pc (machine cpu.old memory.old)) ≡
+        read_index_second index (byte_at (up_by 1 cpu.old.pc) memory.old) (machine cpu.old memory.old) }
+    ensures { IsTurnBy (read_index_second index (byte_at (up_by 1 cpu.old.pc) memory.old) (machine cpu.old memory.old)) result
         (machine cpu.old memory.old) (machine cpu.new memory.new) }
 {
     let second = next_byte(cpu, memory);
-    if let Some(step) = try_index_bytes(cpu, memory, index, second) {
-        return Some(step);
+    if let Some(step) = try_index_words(cpu, memory, index, second) {
+        return step;
     }
-    try_index_words(cpu, memory, index, second)
+    if let Some(step) = try_index_bytes(cpu, memory, index, second) {
+        return step;
+    }
+    if let Some(step) = try_index_bits(cpu, memory, index, second) {
+        return step;
+    }
+    turn_decoded(cpu, memory)
 }
 
 /// Loads, operations and counts of a byte at IX or IY and a displacement.
-#[inline(always)]
 fn try_index_bytes(
     cpu: &mut Cpu,
     memory: &mut Memory,
@@ -351,5 +397,63 @@ fn try_index_words(
         0x19 => turn_add_index(index, Addend::De);
         0x29 => turn_add_index(index, Addend::Itself);
         0x39 => turn_add_index(index, Addend::Sp);
+    )
+}
+
+/// After CB, a displacement and an opcode.
+#[inline(always)]
+fn try_index_bits(
+    cpu: &mut Cpu,
+    memory: &mut Memory,
+    index: IndexRegister,
+    second: u8,
+) -> Option<Step>
+    ensures { IsTurnOrNone (read_index_second index second (machine cpu.old memory.old)) result
+        (machine cpu.old memory.old) (machine cpu.new memory.new) }
+{
+    match second {
+        0xCB => try_bits_at_index(cpu, memory, index),
+        _ => None,
+    }
+}
+
+/// The rotate, shift and bit groups at IX or IY and a displacement.
+fn try_bits_at_index(cpu: &mut Cpu, memory: &mut Memory, index: IndexRegister) -> Option<Step>
+    ensures { IsTurnOrNone (read_index_second index 0xCB (machine cpu.old memory.old)) result
+        (machine cpu.old memory.old) (machine cpu.new memory.new) }
+{
+    let fourth = fourth_byte(cpu, memory);
+    single_rows!(cpu, memory, fourth;
+        0x06 => turn_rotate_indexed(index, Rotation::Rlc);
+        0x0E => turn_rotate_indexed(index, Rotation::Rrc);
+        0x16 => turn_rotate_indexed(index, Rotation::Rl);
+        0x1E => turn_rotate_indexed(index, Rotation::Rr);
+        0x26 => turn_rotate_indexed(index, Rotation::Sla);
+        0x2E => turn_rotate_indexed(index, Rotation::Sra);
+        0x3E => turn_rotate_indexed(index, Rotation::Srl);
+        0x46 => turn_bit_indexed(index, Octal::Zero);
+        0x4E => turn_bit_indexed(index, Octal::One);
+        0x56 => turn_bit_indexed(index, Octal::Two);
+        0x5E => turn_bit_indexed(index, Octal::Three);
+        0x66 => turn_bit_indexed(index, Octal::Four);
+        0x6E => turn_bit_indexed(index, Octal::Five);
+        0x76 => turn_bit_indexed(index, Octal::Six);
+        0x7E => turn_bit_indexed(index, Octal::Seven);
+        0x86 => turn_reset_indexed(index, Octal::Zero);
+        0x8E => turn_reset_indexed(index, Octal::One);
+        0x96 => turn_reset_indexed(index, Octal::Two);
+        0x9E => turn_reset_indexed(index, Octal::Three);
+        0xA6 => turn_reset_indexed(index, Octal::Four);
+        0xAE => turn_reset_indexed(index, Octal::Five);
+        0xB6 => turn_reset_indexed(index, Octal::Six);
+        0xBE => turn_reset_indexed(index, Octal::Seven);
+        0xC6 => turn_set_indexed(index, Octal::Zero);
+        0xCE => turn_set_indexed(index, Octal::One);
+        0xD6 => turn_set_indexed(index, Octal::Two);
+        0xDE => turn_set_indexed(index, Octal::Three);
+        0xE6 => turn_set_indexed(index, Octal::Four);
+        0xEE => turn_set_indexed(index, Octal::Five);
+        0xF6 => turn_set_indexed(index, Octal::Six);
+        0xFE => turn_set_indexed(index, Octal::Seven);
     )
 }

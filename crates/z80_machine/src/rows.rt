@@ -1,4 +1,4 @@
-//! Rows of the opcode table: opcodes that differ in an operand, a register pair or a condition alone.
+//! Rows of the opcode table: opcodes that differ in an operand or a register pair alone.
 
 /// A match on the opcode by rows of eight, for B C D E H L (HL) A: the turn that is named first has the register as its
 /// last argument, and the second is that of `(HL)`.
@@ -38,21 +38,32 @@ macro_rules! pair_rows {
     };
 }
 
-/// The same by rows of eight, for NZ Z NC C PO PE P M.
-macro_rules! condition_rows {
+/// The same, where the row that stands first is of a turn that stores a register, and of one that has the place of `(HL)`.
+macro_rules! stored_rows {
     ($cpu:ident, $memory:ident, $opcode:ident;
-     $($nz:literal $z:literal $nc:literal $c:literal $po:literal $pe:literal $p:literal $m:literal => $turn:ident;)*) => {
+     $sb:literal $sc:literal $sd:literal $se:literal $sh:literal $sl:literal $between:literal $sa:literal
+       => $store:ident / $other:ident;
+     $($b:literal $c:literal $d:literal $e:literal $h:literal $l:literal $hl:literal $a:literal
+       => $turn:ident ($argument:expr) / $turn_at_hl:ident ($same:expr);)*) => {
         match $opcode {
             $(
-                $nz => Some($turn($cpu, $memory, Cond::NotZero)),
-                $z => Some($turn($cpu, $memory, Cond::Zero)),
-                $nc => Some($turn($cpu, $memory, Cond::NotCarry)),
-                $c => Some($turn($cpu, $memory, Cond::Carry)),
-                $po => Some($turn($cpu, $memory, Cond::ParityOdd)),
-                $pe => Some($turn($cpu, $memory, Cond::ParityEven)),
-                $p => Some($turn($cpu, $memory, Cond::Plus)),
-                $m => Some($turn($cpu, $memory, Cond::Minus)),
+                $b => Some($turn($cpu, $memory, $argument, Register::B)),
+                $c => Some($turn($cpu, $memory, $argument, Register::C)),
+                $d => Some($turn($cpu, $memory, $argument, Register::D)),
+                $e => Some($turn($cpu, $memory, $argument, Register::E)),
+                $h => Some($turn($cpu, $memory, $argument, Register::H)),
+                $l => Some($turn($cpu, $memory, $argument, Register::L)),
+                $hl => Some($turn_at_hl($cpu, $memory, $same)),
+                $a => Some($turn($cpu, $memory, $argument, Register::A)),
             )*
+            $sb => Some($store($cpu, $memory, Register::B)),
+            $sc => Some($store($cpu, $memory, Register::C)),
+            $sd => Some($store($cpu, $memory, Register::D)),
+            $se => Some($store($cpu, $memory, Register::E)),
+            $sh => Some($store($cpu, $memory, Register::H)),
+            $sl => Some($store($cpu, $memory, Register::L)),
+            $sa => Some($store($cpu, $memory, Register::A)),
+            $between => Some($other($cpu, $memory)),
             _ => None,
         }
     };
@@ -68,7 +79,7 @@ macro_rules! single_rows {
     };
 }
 
-pub(crate) use condition_rows;
 pub(crate) use operand_rows;
 pub(crate) use pair_rows;
 pub(crate) use single_rows;
+pub(crate) use stored_rows;

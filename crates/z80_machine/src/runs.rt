@@ -1,9 +1,9 @@
 //! Many turns at once.
-ghost use Rattle.std.specs.Prelude.{◌≡◌};
+ghost use Rattle.std.specs.Prelude.{◌≡◌, ◌<◌, ℕ, false};
 ghost use Rattle.z80_cpu.specs.State.{machine};
 ghost use Rattle.z80_machine.specs.Run.{is_watched, Ran};
 
-use crate::turn::step;
+use crate::turn::turn_by_table;
 use z80_cpu::{Cpu, Memory};
 use z80_turns::outcome::Step;
 
@@ -19,6 +19,25 @@ impl Watch {
         ensures { result ≡ is_watched self address }
     {
         address >= self.from || address == self.at
+    }
+
+    /// The lowest address that is watched.
+    fn first(self) -> u16
+        ensures { (address : ℕ) → address < result → is_watched self address ≡ false }
+    {
+        if self.at < self.from {
+            self.at
+        } else {
+            self.from
+        }
+    }
+
+    /// The same as `has`, where the lowest address is known: most addresses are below it.
+    fn has_beyond(self, first: u16, address: u16) -> bool
+        requires { (address : ℕ) → address < first → is_watched self address ≡ false }
+        ensures { result ≡ is_watched self address }
+    {
+        address >= first && self.has(address)
     }
 }
 
@@ -40,11 +59,12 @@ pub enum Stop {
 pub fn run(cpu: &mut Cpu, memory: &mut Memory, watch: Watch, limit: u64) -> (u64, Stop)
     ensures { Ran watch limit result.0 result.1 (machine cpu.old memory.old) (machine cpu.new memory.new) }
 {
+    let first = watch.first();
     for turns in 0..limit {
-        if watch.has(cpu.pc) {
+        if watch.has_beyond(first, cpu.pc) {
             return (turns, Stop::Watched);
         }
-        match step(cpu, memory) {
+        match turn_by_table::<true>(cpu, memory) {
             Step::Done => {}
             Step::Halted => return (turns, Stop::Halted),
             Step::Undocumented => return (turns, Stop::Undocumented),

@@ -13,7 +13,6 @@ use z80_table::decode;
 use z80_turns::outcome::Step;
 
 /// Carries out the instruction at PC.
-#[inline(always)]
 pub fn step(cpu: &mut Cpu, memory: &mut Memory) -> Step
     ensures turn { IsTurn result (machine cpu.old memory.old) (machine cpu.new memory.new) }
 
@@ -21,14 +20,31 @@ pub fn step(cpu: &mut Cpu, memory: &mut Memory) -> Step
     ensures known { (instr : Instr) (size : ℕ) → StandsAtPc (machine cpu.old memory.old) instr size →
         IsTurnOf instr size result (machine cpu.old memory.old) (machine cpu.new memory.new) }
 {
-    // A law: what the table reads stands at PC.
+    turn_by_table::<false>(cpu, memory)
+}
+
+/// A turn, by the table of a run or by that of single turns.
+#[inline(always)]
+pub(crate) fn turn_by_table<const IN_RUN: bool>(cpu: &mut Cpu, memory: &mut Memory) -> Step
+    ensures turn { IsTurn result (machine cpu.old memory.old) (machine cpu.new memory.new) }
+    ensures known { (instr : Instr) (size : ℕ) → StandsAtPc (machine cpu.old memory.old) instr size →
+        IsTurnOf instr size result (machine cpu.old memory.old) (machine cpu.new memory.new) }
+{
+    // Laws: what the table reads stands at PC, and there are bytes.
     z80_table::laws::reading();
-    let [opcode, ..] = fetch(cpu, memory);
-    turn_of(cpu, memory, opcode)
+    has_bytes(cpu, memory);
+    let opcode = memory.get(cpu.pc);
+    turn_of::<IN_RUN>(cpu, memory, opcode)
+}
+
+/// A law: what stands at PC are bytes.
+fn has_bytes(cpu: &Cpu, memory: &Memory)
+    ensures { AreBytes (bytes_at_pc (machine cpu.now memory.now)) }
+{
+    let _bytes = fetch(cpu, memory);
 }
 
 /// The four bytes at PC: no instruction is longer.
-#[inline(always)]
 fn fetch(cpu: &Cpu, memory: &Memory) -> [u8; 4]
     ensures bytes { result ≡ bytes_at_pc (machine cpu.now memory.now) }
     ensures range { AreBytes (bytes_at_pc (machine cpu.now memory.now)) }
@@ -43,6 +59,7 @@ fn fetch(cpu: &Cpu, memory: &Memory) -> [u8; 4]
 }
 
 /// The turn of the instruction at PC, whatever it is, by the decoder.
+#[inline(never)]
 pub(crate) fn turn_decoded(cpu: &mut Cpu, memory: &mut Memory) -> Step
     ensures { IsTurnBy (read (bytes_at_pc (machine cpu.old memory.old))) result
         (machine cpu.old memory.old) (machine cpu.new memory.new) }

@@ -8,7 +8,7 @@ use crate::numbers::pass;
 use crate::outcome::Step;
 use z80_alu::{reset_bit, set_bit};
 use z80_cpu::{Cpu, Memory};
-use z80_instr::{Memory as MemoryOperand, Octal, Operand, Register, Rotation};
+use z80_instr::{Octal, Register, Rotation};
 
 #[inline(always)]
 pub fn turn_rotate(
@@ -33,7 +33,9 @@ pub fn turn_rotate_at_hl(cpu: &mut Cpu, memory: &mut Memory, rotation: Rotation)
         (machine cpu.old memory.old) (machine cpu.new memory.new) }
 {
     pass(cpu, 2);
-    cpu.rotate(memory, rotation, Operand::Memory(MemoryOperand::Hl));
+    let address = cpu.main.hl();
+    let outcome = cpu.main.flags.rotate(rotation, memory.get(address));
+    memory.set(address, outcome);
     Step::Done
 }
 

@@ -7,7 +7,7 @@ ghost use Rattle.z80_turns.specs.Types.{Instr, Operand, MemoryOperand};
 use crate::numbers::pass;
 use crate::outcome::Step;
 use z80_cpu::{Cpu, Memory};
-use z80_instr::{Memory as MemoryOperand, Operand, Register};
+use z80_instr::Register;
 
 #[inline(always)]
 pub fn turn_increment(cpu: &mut Cpu, memory: &mut Memory, register: Register) -> Step
@@ -27,7 +27,9 @@ pub fn turn_increment_at_hl(cpu: &mut Cpu, memory: &mut Memory) -> Step
         (machine cpu.old memory.old) (machine cpu.new memory.new) }
 {
     pass(cpu, 1);
-    cpu.increment(memory, Operand::Memory(MemoryOperand::Hl));
+    let address = cpu.main.hl();
+    let sum = cpu.main.flags.increment(memory.get(address));
+    memory.set(address, sum);
     Step::Done
 }
 
@@ -49,6 +51,8 @@ pub fn turn_decrement_at_hl(cpu: &mut Cpu, memory: &mut Memory) -> Step
         (machine cpu.old memory.old) (machine cpu.new memory.new) }
 {
     pass(cpu, 1);
-    cpu.decrement(memory, Operand::Memory(MemoryOperand::Hl));
+    let address = cpu.main.hl();
+    let difference = cpu.main.flags.decrement(memory.get(address));
+    memory.set(address, difference);
     Step::Done
 }

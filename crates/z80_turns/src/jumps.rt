@@ -8,7 +8,7 @@ ghost use Rattle.z80_turns.specs.Numbers.{next_signed, next_word};
 use crate::numbers::{next_signed, next_word, pass};
 use crate::outcome::Step;
 use z80_cpu::{Cpu, Memory, displaced};
-use z80_instr::{Cond, ShortCond};
+use z80_instr::{Cond, Octal, ShortCond};
 
 #[inline(always)]
 pub fn turn_jump(cpu: &mut Cpu, memory: &mut Memory) -> Step
@@ -114,5 +114,16 @@ pub fn turn_ret_if(cpu: &mut Cpu, memory: &mut Memory, condition: Cond) -> Step
 {
     pass(cpu, 1);
     cpu.ret_if(memory, condition);
+    Step::Done
+}
+
+/// RST.
+#[inline(always)]
+pub fn turn_restart(cpu: &mut Cpu, memory: &mut Memory, place: Octal) -> Step
+    ensures { IsTurnOf (Instr.Restart place) 1 result
+        (machine cpu.old memory.old) (machine cpu.new memory.new) }
+{
+    pass(cpu, 1);
+    cpu.call(memory, 8 * place.number() as u16);
     Step::Done
 }

@@ -2,10 +2,13 @@
 //! moved behind the instruction, which is then carried out. Which of them is due is another crate's matter.
 #![tactic(auto)]
 
+mod accumulator;
 mod bits;
+mod control;
 mod counts;
 mod extended;
 mod indexed;
+mod indexed_bits;
 mod jumps;
 mod loads;
 mod numbers;
@@ -13,9 +16,17 @@ mod operations;
 pub mod outcome;
 mod words;
 
+pub use accumulator::{
+    turn_adjust, turn_complement, turn_complement_carry, turn_rla, turn_rlca, turn_rra, turn_rrca,
+    turn_set_carry,
+};
 pub use bits::{
     turn_bit, turn_bit_at_hl, turn_reset, turn_reset_at_hl, turn_rotate, turn_rotate_at_hl,
     turn_set, turn_set_at_hl,
+};
+pub use control::{
+    turn_disable, turn_enable, turn_exchange_af, turn_exchange_de_hl, turn_exchange_others,
+    turn_exchange_top, turn_halt, turn_input, turn_nop, turn_output,
 };
 pub use counts::{turn_decrement, turn_decrement_at_hl, turn_increment, turn_increment_at_hl};
 pub use extended::{
@@ -28,22 +39,20 @@ pub use indexed::{
     turn_load_index, turn_load_index_from, turn_load_indexed, turn_load_sp, turn_operate_indexed,
     turn_pop_index, turn_push_index, turn_store_index, turn_store_indexed,
 };
+pub use indexed_bits::{
+    turn_bit_indexed, turn_reset_indexed, turn_rotate_indexed, turn_set_indexed,
+};
 pub use jumps::{
     turn_call, turn_call_if, turn_djnz, turn_jump, turn_jump_hl, turn_jump_if, turn_jump_relative,
-    turn_jump_relative_if, turn_ret, turn_ret_if,
+    turn_jump_relative_if, turn_restart, turn_ret, turn_ret_if,
 };
 pub use loads::{
     turn_load, turn_load_a, turn_load_a_at, turn_load_at_hl, turn_load_byte, turn_load_byte_at_hl,
     turn_store, turn_store_a, turn_store_a_at,
 };
-pub use numbers::next_byte;
-pub use operations::{
-    turn_add, turn_add_byte, turn_add_carry_and_byte, turn_add_with_carry, turn_and, turn_and_byte,
-    turn_compare, turn_compare_byte, turn_nop, turn_operate_at_hl, turn_or, turn_or_byte,
-    turn_subtract, turn_subtract_byte, turn_subtract_carry_and_byte, turn_subtract_with_carry,
-    turn_whole, turn_xor, turn_xor_byte,
-};
+pub use numbers::{fourth_byte, next_byte};
+pub use operations::{turn_operate, turn_operate_at_hl, turn_operate_byte};
 pub use words::{
-    turn_add_hl, turn_decrement_word, turn_increment_word, turn_load_hl, turn_load_word, turn_pop,
-    turn_push, turn_store_hl,
+    turn_add_hl, turn_decrement_word, turn_increment_word, turn_load_hl, turn_load_sp_hl,
+    turn_load_word, turn_pop, turn_push, turn_store_hl,
 };

@@ -2,7 +2,7 @@
 ghost use Rattle.std.specs.Prelude.{◌≡◌};
 ghost use Rattle.z80_cpu.specs.State.{machine};
 ghost use Rattle.z80_turns.specs.Turning.{IsTurnOf};
-ghost use Rattle.z80_turns.specs.Types.{Instr, WordRegister, RegisterPair};
+ghost use Rattle.z80_turns.specs.Types.{HlOrIndex, Instr, WordRegister, RegisterPair};
 ghost use Rattle.z80_turns.specs.Numbers.{next_word};
 
 use crate::numbers::{next_word, pass};
@@ -91,5 +91,16 @@ pub fn turn_pop(cpu: &mut Cpu, memory: &mut Memory, operand: StackOperand) -> St
     pass(cpu, 1);
     let word = cpu.pop(memory);
     cpu.set_stack_operand(operand, word);
+    Step::Done
+}
+
+/// LD SP,HL.
+#[inline(always)]
+pub fn turn_load_sp_hl(cpu: &mut Cpu, memory: &mut Memory) -> Step
+    ensures { IsTurnOf (Instr.LoadSp HlOrIndex.Hl) 1 result
+        (machine cpu.old memory.old) (machine cpu.new memory.new) }
+{
+    pass(cpu, 1);
+    cpu.sp = cpu.main.hl();
     Step::Done
 }

@@ -47,6 +47,7 @@ fn put_sizes(
     ensures { OnOk result (sizes.new.items ≡ sizes.old.items
         ++ map (sized_by (stands_by (length statements.now) links.now.base links.now.externals.items)) (map statement_of statements.now)) }
 {
+    sizes.reserve(statements.len())?;
     for statement in statements {
         sizes.push(sized(statement, statements.len(), links))?;
     }

@@ -1,7 +1,7 @@
 -- One move of an expansion: a line that is taken up, or what follows a text that is over.
-use Rattle.std.specs.Prelude.{◌≡◌, Option, Some, None, ◌+◌, ◌*◌, ◌-◌, ◌≤◌, ◌<◌, ℕ, List, [], ◌∷◌, Result, Ok, Err, length, map, reverse}
+use Rattle.std.specs.Prelude.{◌≡◌, Option, Some, None, ◌+◌, ◌*◌, ◌-◌, ◌≤◌, ◌<◌, ℕ, List, [], ◌∷◌, Result, Ok, Err, Vec, All, length, map, reverse}
+use Rattle.std.specs.Global.{Global}
 use Rattle.asm_replace.specs.Replaced.{Table}
-use Rattle.asm_replace.specs.Views as replaced
 use Rattle.asm_texts.specs.declared.book.Book.{Book}
 use Rattle.asm_macro.specs.declared.expansion.Expansion.{Expansion}
 use Rattle.asm_macro.specs.declared.frame.Following.{Following}
@@ -16,8 +16,11 @@ use Rattle.asm_macro.specs.Expands.{Ended, Stopped, IsDone}
 use Rattle.asm_macro.specs.Expands as expands
 use Rattle.asm_macro.specs.Ahead.{Around, Rest, Remains, Within}
 use Rattle.asm_texts.specs.Spans.{text_of}
-use Rattle.asm_texts.specs.Prepared.{macros_seen}
-use Rattle.asm_texts.specs.Books.{IsBook}
+use Rattle.asm_texts.specs.declared.call.Macro.{Macro}
+use Rattle.asm_texts.specs.declared.call.Call.{Call}
+use Rattle.asm_texts.specs.Prepared.{macros_seen, said}
+use Rattle.asm_texts.specs.Private.Varying.{IsKept}
+use Rattle.asm_texts.specs.Books.{IsBook, IsCall}
 use Rattle.asm_macro.specs.Private.Frames.{AreBooks, around_seen, innermost, turns_in}
 
 -- the lines of the source
@@ -26,7 +29,7 @@ texts_in x = map (λ line. line.now) x.lines.items
 
 -- the names of the open calls, the innermost first
 abbrev pub tables_in : Expansion → List Table
-tables_in x = map (λ names. replaced.table names.entries) (reverse x.calls.items)
+tables_in x = map (λ call. said call) (reverse x.calls.items)
 
 abbrev pub state_of : Expansion → state.State
 state_of x = record {
@@ -46,17 +49,21 @@ rest_of x = record {
 }
 
 -- The source has no more lines than bytes; the open repetitions are counted; calls and repetitions nest to 16; no more lines
--- are taken up than may be; and the books of the innermost text and of those around are so.
-pub record Sound (texts : List (List ℕ)) (tables : List Table) (around : List Following) (lines calls repeated taken : ℕ) (own : Book) (others : List Book) : Type 0 where
+-- are taken up than may be; the books of the innermost text, of those around and of the source are so; and so is what is kept of
+-- macros and of the open calls.
+pub record Sound (texts : List (List ℕ)) (tables : List Table) (around : List Following) (lines calls repeated taken : ℕ) (own : Book) (others : List Book) (bottom : Book) (kept : List (Vec ℕ Global × Macro)) (called : List Call) : Type 0 where
   pub short : lines ≤ 16777216
   pub turns : repeated ≡ turns_in around
   pub shallow : calls + repeated ≤ 16
   pub few : taken ≤ 60000
   pub book : IsBook texts (innermost tables) own
   pub books : AreBooks texts tables others
+  pub source : IsBook texts None bottom
+  pub macros : All (λ e. IsKept texts e.1) kept
+  pub open_calls : All (IsCall texts) called
 
 abbrev pub IsSound : Expansion → Type 0
-IsSound x = Sound (texts_in x) (tables_in x) (reverse x.around.items) (length x.lines.items) (length x.calls.items) x.turns x.count x.book (reverse x.books.items)
+IsSound x = Sound (texts_in x) (tables_in x) (reverse x.around.items) (length x.lines.items) (length x.calls.items) x.turns x.count x.book (reverse x.books.items) x.source x.macros.entries x.calls.items
 
 -- Lines are given, and then the rest is to come; a line is given as the last; lines are given, and then comes a fault; or all is
 -- expanded.

@@ -2,16 +2,17 @@ use Rattle.std.proofs.Common.{false, Ok, Err, map, refl, sym, subst, arith}
 use Rattle.std.proofs.lemmas.List.{length-map}
 use Rattle.std.proofs.lemmas.Result.{err_from_is_err_and}
 use Rattle.asm_scan.specs.Tokens.{lexeme, lexemes}
-use Rattle.asm_parse.specs.Grammar.{IsParsed, symbol}
+use Rattle.asm_parse.specs.Grammar.{symbol}
 use Rattle.asm_parse.specs.Private.Parsing.{step}
 use Rattle.asm_parse.specs.Private.Stacks.{part_symbol}
 use Rattle.asm_parse.specs.Private.Readers.{Reads}
 use Rattle.asm_parse.proofs.Readers.{read_start, read_end, read_next, read_stops, symbol_at}
+use Rattle.asm_parse.proofs.Alone.{spelled}
 use Rattle.asm_parse.proofs.Parsed.{only_parsed}
 use Rattle.asm_parse.proofs.reader.parse.Goals as goal
 
 pub loop-token-init : goal.loop-token-init
-loop-token-init c = read_start _ (record { pending = c.new.result; items = c.new-2.result; deepest = 0; complete = false }) c.new.ensures.items c.new-2.ensures.items refl refl
+loop-token-init c = read_start _ (record { pending = c.new.result; items = c.in_ok-with_capacity.field-0; deepest = 0; complete = false }) c.new.ensures.items c.in_ok-with_capacity.ensures.items refl refl
 
 pub loop-token-preserved : goal.loop-token-preserved
 loop-token-preserved c =
@@ -41,3 +42,6 @@ returns-clause-parsed c =
     let s = c.loop-token.invariant in
     let all = read_end symbols c.loop-token.token-index c.loop-token.reader (omega (arith, length-map c.args.tokens.now lexeme, length-map (lexemes c.args.tokens.now) symbol)) s in
     only_parsed symbols c.finish.result (c.finish.ensures symbols s.state s.holds all)
+
+pub returns-in-len1-clause-spelled : goal.returns-in-len1-clause-spelled
+returns-in-len1-clause-spelled c = spelled c.args.tokens.now _ c.term_alone.result c.in-len1.len_at_least c.in-len1.len_below c.term_alone.ensures

@@ -3,20 +3,45 @@ use Rattle.std.specs.Option.{option_map}
 use Rattle.std.proofs.lemmas.List.{drop_more, length-map, map-append}
 use Rattle.asm_block.specs.Blocks.{between, branch_lengths}
 use Rattle.asm_block.specs.Views.{lengths_seen}
-use Rattle.asm_replace.specs.Views.{table}
+use Rattle.asm_texts.specs.Prepared.{said}
 use Rattle.asm_texts.specs.Lines.{form_of}
-use Rattle.asm_texts.specs.Blocks.{branches_of_lengths, role_of_head}
+use Rattle.asm_texts.specs.Blocks.{branches_of_lengths, role_of_head, roles}
 use Rattle.asm_texts.specs.Spans.{front_of, section_of, text_of}
+use Rattle.asm_texts.specs.Private.Chosen.{Has}
 use Rattle.asm_texts.proofs.Texts.{room}
 use Rattle.asm_texts.proofs.Branches.{left_fits, reached_all, start, step}
 use Rattle.asm_texts.proofs.blocks.branches_of.Goals as goal
 
+pub front-first-requires : goal.front-first-requires
+front-first-requires c =
+    let names = option_map (λ c. said c.now) c.args.call in
+    let seen = map (λ line. line.now) c.args.lines.now in
+    let links = c.opened-book.result.now.links in
+    let text = ap (λ f. between f c.saturating_sub-to.result links) c.saturating_sub-from.ensures ∙ ap (λ t. between (c.args.span.at - c.opened-book.result.now.at) t links) c.saturating_sub-to.ensures ∙ subst (Has (roles (text_of seen names c.args.span)) c.args.span) (sym c.opened-book.ensures) c.in_ok-plain.ensures.has in
+    let lengths = lengths_seen c.in-Some.found in
+    let fits = subst (λ rs. lengths.0 + sum (map (λ n. n + 1) lengths.1) < length rs) text
+    (subst (λ o. IfSome o (λ b. b.first + sum (map (λ n. n + 1) b.others.items) < length (between c.saturating_sub-from.result c.saturating_sub-to.result links))) c.in-Some.is c.in_ok-found.ensures.within) in
+    let lines = length-map (text_of seen names c.args.span) (λ l. role_of_head (form_of l.text).head) in
+    room seen names c.args.span c.in-Some.found.first (omega (arith, fits, lines)) (omega (arith, c.requires.few, length-map c.args.lines.now (λ line. line.now)))
+
+pub behind-rest-requires : goal.behind-rest-requires
+behind-rest-requires c =
+    let names = option_map (λ c. said c.now) c.args.call in
+    let seen = map (λ line. line.now) c.args.lines.now in
+    let links = c.opened-book.result.now.links in
+    let text = ap (λ f. between f c.saturating_sub-to.result links) c.saturating_sub-from.ensures ∙ ap (λ t. between (c.args.span.at - c.opened-book.result.now.at) t links) c.saturating_sub-to.ensures ∙ subst (Has (roles (text_of seen names c.args.span)) c.args.span) (sym c.opened-book.ensures) c.in_ok-plain.ensures.has in
+    let lengths = lengths_seen c.in-Some.found in
+    let fits = subst (λ rs. lengths.0 + sum (map (λ n. n + 1) lengths.1) < length rs) text
+    (subst (λ o. IfSome o (λ b. b.first + sum (map (λ n. n + 1) b.others.items) < length (between c.saturating_sub-from.result c.saturating_sub-to.result links))) c.in-Some.is c.in_ok-found.ensures.within) in
+    let lines = length-map (text_of seen names c.args.span) (λ l. role_of_head (form_of l.text).head) in
+    room seen names c.args.span c.in-Some.found.first (omega (arith, fits, lines)) (omega (arith, c.requires.few, length-map c.args.lines.now (λ line. line.now)))
+
 pub loop-at-init : goal.loop-at-init
 loop-at-init c =
-    let names = option_map (λ n. table n.now.entries) c.args.names in
+    let names = option_map (λ c. said c.now) c.args.call in
     let seen = map (λ line. line.now) c.args.lines.now in
-    let links = c.open.new.self.links in
-    let text = ap (λ f. between f c.saturating_sub-to.result links) c.saturating_sub-from.ensures ∙ ap (λ t. between (c.args.span.at - c.open.new.self.at) t links) c.saturating_sub-to.ensures ∙ c.in_ok-open.ensures.has in
+    let links = c.opened-book.result.now.links in
+    let text = ap (λ f. between f c.saturating_sub-to.result links) c.saturating_sub-from.ensures ∙ ap (λ t. between (c.args.span.at - c.opened-book.result.now.at) t links) c.saturating_sub-to.ensures ∙ subst (Has (roles (text_of seen names c.args.span)) c.args.span) (sym c.opened-book.ensures) c.in_ok-plain.ensures.has in
     let lengths = lengths_seen c.in-Some.found in
     let fits = subst (λ rs. lengths.0 + sum (map (λ n. n + 1) lengths.1) < length rs) text
     (subst (λ o. IfSome o (λ b. b.first + sum (map (λ n. n + 1) b.others.items) < length (between c.saturating_sub-from.result c.saturating_sub-to.result links))) c.in-Some.is c.in_ok-found.ensures.within) in
@@ -25,7 +50,7 @@ loop-at-init c =
 
 pub front-requires : goal.front-requires
 front-requires c =
-    let names = option_map (λ n. table n.now.entries) c.args.names in
+    let names = option_map (λ c. said c.now) c.args.call in
     let seen = map (λ line. line.now) c.args.lines.now in
     let i = c.loop-at.invariant in
     let lens = c.in-Some.found.others.items in
@@ -37,7 +62,7 @@ front-requires c =
 
 pub behind-rest-requires-in-loop-at : goal.behind-rest-requires-in-loop-at
 behind-rest-requires-in-loop-at c =
-    let names = option_map (λ n. table n.now.entries) c.args.names in
+    let names = option_map (λ c. said c.now) c.args.call in
     let seen = map (λ line. line.now) c.args.lines.now in
     let i = c.loop-at.invariant in
     let lens = c.in-Some.found.others.items in
@@ -49,7 +74,7 @@ behind-rest-requires-in-loop-at c =
 
 pub loop-at-preserved : goal.loop-at-preserved
 loop-at-preserved c =
-    let names = option_map (λ n. table n.now.entries) c.args.names in
+    let names = option_map (λ c. said c.now) c.args.call in
     let seen = map (λ line. line.now) c.args.lines.now in
     let i = c.loop-at.invariant in
     let lens = c.in-Some.found.others.items in
@@ -64,10 +89,10 @@ loop-at-preserved c =
 
 pub returns-clause-branches : goal.returns-clause-branches
 returns-clause-branches c =
-    let names = option_map (λ n. table n.now.entries) c.args.names in
+    let names = option_map (λ c. said c.now) c.args.call in
     let seen = map (λ line. line.now) c.args.lines.now in
-    let links = c.open.new.self.links in
-    let text = ap (λ f. between f c.saturating_sub-to.result links) c.saturating_sub-from.ensures ∙ ap (λ t. between (c.args.span.at - c.open.new.self.at) t links) c.saturating_sub-to.ensures ∙ c.in_ok-open.ensures.has in
+    let links = c.opened-book.result.now.links in
+    let text = ap (λ f. between f c.saturating_sub-to.result links) c.saturating_sub-from.ensures ∙ ap (λ t. between (c.args.span.at - c.opened-book.result.now.at) t links) c.saturating_sub-to.ensures ∙ subst (Has (roles (text_of seen names c.args.span)) c.args.span) (sym c.opened-book.ensures) c.in_ok-plain.ensures.has in
     let lens = c.in-Some.found.others.items in
     let is = sym (ap (option_map lengths_seen) c.in-Some.is) ∙ c.in_ok-found.ensures.is ∙ ap (branch_lengths 0 0) text in
     let over = drop_of_length-le lens (omega (arith, c.loop-at-test.false, c.len.ensures)) in

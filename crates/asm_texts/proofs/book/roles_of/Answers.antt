@@ -2,7 +2,7 @@ use Rattle.std.proofs.Common.{ap, ◌∙◌, sym, arith, map, []}
 use Rattle.std.proofs.Math.ListN.{get_or-map}
 use Rattle.std.specs.Option.{option_map}
 use Rattle.std.proofs.lemmas.List.{length-map}
-use Rattle.asm_replace.specs.Views.{table}
+use Rattle.asm_texts.specs.Prepared.{said}
 use Rattle.asm_texts.specs.Lines.{form_of}
 use Rattle.asm_texts.specs.Blocks.{role_of_head}
 use Rattle.asm_texts.specs.Spans.{shown}
@@ -11,7 +11,7 @@ use Rattle.asm_texts.proofs.book.roles_of.Goals as goal
 
 pub loop-at-preserved : goal.loop-at-preserved
 loop-at-preserved c =
-    let names = option_map (λ n. table n.now.entries) c.args.names in
+    let names = option_map (λ c. said c.now) c.args.call in
     let seen = map (λ line. line.now) c.args.lines.now in
     let line = get_or-map (λ line. line.now) c.args.lines.now c.loop-at.at (record { ref_ptr = (0, 0); now = [] }) in
     let text = c.deref.ensures.value ∙ c.in_ok-put_shown.ensures ∙ ap (shown names) (sym line) in

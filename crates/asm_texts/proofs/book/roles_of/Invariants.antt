@@ -1,6 +1,6 @@
 use Rattle.std.proofs.Common.{◌≡◌, ◌++◌, ◌-◌, map, length}
 use Rattle.std.specs.Option.{option_map}
-use Rattle.asm_replace.specs.Views.{table}
+use Rattle.asm_texts.specs.Prepared.{said}
 use Rattle.asm_texts.specs.Blocks.{roles}
 use Rattle.asm_texts.specs.Spans.{text_of}
 use Rattle.asm_texts.proofs.book.roles_of.Given as goal
@@ -9,7 +9,7 @@ use Rattle.asm_texts.proofs.book.roles_of.Given as goal
 abbrev pub invariant-loop-at : goal.invariant-loop-at
 invariant-loop-at l =
     let seen = map (λ line. line.now) l.lines in
-    let names = option_map (λ n. table n.now.entries) l.names in
+    let names = option_map (λ c. said c.now) l.call in
     roles (text_of seen names l.span) ≡ l.found.items ++ roles (text_of seen names (record l.span { at = l.at }))
 
 abbrev pub decreases-loop-at : goal.decreases-loop-at

@@ -1,6 +1,6 @@
 use Rattle.std.proofs.Common.{◌≡◌, ◌%◌, IfSome, ap, get_or, subst, ◌∙◌}
-use Rattle.cpm_operations.specs.Near.{IsExtentAt, placing_in}
-use Rattle.cpm_operations.specs.Steps.{writing}
+use Rattle.cpm_operations.specs.Near.{IsExtentAt}
+use Rattle.cpm_operations.specs.Steps.{placing_in, writing}
 use Rattle.cpm_operations.proofs.Near.{past, write_at}
 use Rattle.cpm_operations.proofs.Worth.{placed_soundly}
 use Rattle.cpm_operations.proofs.nearby.writing_at.Goals as goal

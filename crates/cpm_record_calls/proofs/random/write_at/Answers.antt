@@ -14,7 +14,7 @@ returns-in-Ok g c =
     let number = c.random-number.ensures ∙ ap random_of fcb in
     let within : is_within c.args.disk.now.kind (fcb_at c.args.address c.args.memory.now) ≡ true =
     ap (λ k. is_within k (fcb_at c.args.address c.args.memory.now)) (sym c.kind.ensures.kind) ∙ ap (is_within c.kind.result) (sym fcb) ∙ sym c.is_within.ensures ∙ c.if-not-is_within.false in
-    let now = c.put_entry.ensures
+    let now = c.put_extent_entry.ensures
     ∙ entered_as g.S.Sectors.sectors c.write_block_of.new.self c.args.user _ _ _ _ c.args.address _ _ name (c.from-in-Ok.ensures ∙ number)
     (c.put_place_of.ensures ∙ ap (λ n. with_place_of c.args.address n c.args.memory.now) number) in
     rw (go, within) (

@@ -24,7 +24,7 @@ returns-in-Ok g c =
     ap (λ k. turned k (place_of here)) (sym kind) ∙ ap (turned c.kind-kind.result) (sym old) ∙ sym c.turned.ensures.place ∙ c.in-Some.is in
     let number = c.record-number.ensures ∙ ap (λ k. record_at k c.in-Some.new) kind in
     let written = written_as g.S.Sectors.sectors g.S.Sectors.faults c.args.disk.now c.write_block_of.new.self c.args.user _ _ _ _ _ _ _ (Ok tt) name number c.bytes_at.ensures c.in-Ok.is c.write_block_of.ensures.done in
-    let now = c.put_entry.ensures
+    let now = c.put_extent_entry.ensures
     ∙ entered_as g.S.Sectors.sectors c.write_block_of.new.self c.args.user _ _ _ _ c.args.address _ _ name (number ∙ ap (λ k. record_at k c.in-Some.new) (sym written.2))
     (c.put_place.ensures ∙ ap (λ p. with_place c.args.address p c.in-Some.new c.args.memory.now) old) in
     rw (go, turn) (Ok tt, written, ap (done 0) (sym now))

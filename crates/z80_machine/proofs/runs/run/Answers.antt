@@ -9,8 +9,8 @@ loop-turns-init c = none (machine c.args.cpu.now c.args.memory.now)
 pub loop-turns-preserved : goal.loop-turns-preserved
 loop-turns-preserved c =
     more c.loop-turns.turns (machine c.args.cpu.now c.args.memory.now) (machine c.loop-turns.cpu c.loop-turns.memory)
-    (machine c.step.new.cpu c.step.new.memory)
-    c.loop-turns.invariant (sym c.has.ensures ∙ c.if-has.false) c.in-Done.ensures.turn
+    (machine c.turn_by_table.new.cpu c.turn_by_table.new.memory)
+    c.loop-turns.invariant (sym c.has_beyond.ensures ∙ c.if-has_beyond.false) c.in-Done.ensures.turn
 
 pub returns-in-Undocumented : goal.returns-in-Undocumented
 returns-in-Undocumented c = (
@@ -18,7 +18,7 @@ returns-in-Undocumented c = (
   (
     machine c.loop-turns.cpu c.loop-turns.memory,
     c.loop-turns.invariant,
-    sym c.has.ensures ∙ c.if-has.false,
+    sym c.has_beyond.ensures ∙ c.if-has_beyond.false,
     c.in-Undocumented.ensures.turn,
   ),
 )

@@ -1,7 +1,7 @@
 use Rattle.std.proofs.Common.{◌∙◌, ◌-◌, ap, sym, subst, map, length, Ok, Err, []}
 use Rattle.std.specs.List.{slice_get}
 use Rattle.std.proofs.lemmas.Result.{err_from_is_err_and}
-use Rattle.asm_replace.specs.Views.{table}
+use Rattle.asm_texts.specs.Prepared.{said}
 use Rattle.asm_macro.specs.Parts.{Go, passed}
 use Rattle.asm_macro.specs.Private.Allows.{Allows}
 use Rattle.asm_texts.specs.Spans.{section_of, text_of}
@@ -15,7 +15,7 @@ pub returns-in_err-passes-clause-resumed : goal.returns-in_err-passes-clause-res
 returns-in_err-passes-clause-resumed c =
     let x = c.args.self.now in
     let lines2 = ap (map (λ line. line.now)) c.deref.ensures.value in
-    let names2 = last_table (λ n. table n.entries) x.calls.items c.last.result (c.last.ensures.value ∙ ap (λ xs. slice_get xs (length xs - 1)) c.deref-2.ensures.value) in
+    let names2 = last_table (λ n. said n) x.calls.items c.last.result (c.last.ensures.value ∙ ap (λ xs. slice_get xs (length xs - 1)) c.deref-2.ensures.value) in
     let others_seen = map (section_of (texts_in x) (innermost (tables_in x))) c.args.choice.others.items in
     let after = text_of (texts_in x) (innermost (tables_in x)) c.args.choice.after in
     let go = Go [] (state_of x) after in
@@ -31,7 +31,7 @@ pub returns-clause-resumed : goal.returns-clause-resumed
 returns-clause-resumed c =
     let x = c.args.self.now in
     let lines2 = ap (map (λ line. line.now)) c.deref.ensures.value in
-    let names2 = last_table (λ n. table n.entries) x.calls.items c.last.result (c.last.ensures.value ∙ ap (λ xs. slice_get xs (length xs - 1)) c.deref-2.ensures.value) in
+    let names2 = last_table (λ n. said n) x.calls.items c.last.result (c.last.ensures.value ∙ ap (λ xs. slice_get xs (length xs - 1)) c.deref-2.ensures.value) in
     let others_seen = map (section_of (texts_in x) (innermost (tables_in x))) c.args.choice.others.items in
     let after = text_of (texts_in x) (innermost (tables_in x)) c.args.choice.after in
     let go = Go [] (state_of x) after in

@@ -1,7 +1,7 @@
 use Rattle.std.proofs.Common.{◌≡◌, ◌∙◌, ◌-◌, ap, sym, subst, map, length, arith, Ok, Err}
 use Rattle.std.specs.List.{slice_get}
 use Rattle.std.proofs.lemmas.Result.{err_from_is_err_and}
-use Rattle.asm_replace.specs.Views.{table}
+use Rattle.asm_texts.specs.Prepared.{said}
 use Rattle.asm_macro.specs.Parts.{chosen, closing, second_of}
 use Rattle.asm_macro.specs.Private.Allows.{Allows}
 use Rattle.asm_texts.specs.Spans.{branches_seen, line_of}
@@ -15,7 +15,7 @@ pub returns-in_err-closes-clause-chosen : goal.returns-in_err-closes-clause-chos
 returns-in_err-closes-clause-chosen c =
     let x = c.args.self.now in
     let lines1 = ap (map (λ line. line.now)) c.deref.ensures.value in
-    let names1 = last_table (λ n. table n.entries) x.calls.items c.last.result (c.last.ensures.value ∙ ap (λ xs. slice_get xs (length xs - 1)) c.deref-then-value-eq0.ensures.value) in
+    let names1 = last_table (λ n. said n) x.calls.items c.last.result (c.last.ensures.value ∙ ap (λ xs. slice_get xs (length xs - 1)) c.deref-then-value-eq0.ensures.value) in
     let b = branches_seen (texts_in x) (innermost (tables_in x)) c.args.choice in
     let p = second_of (rest_of x).depth (state_of x) b.others b.after in
     let zero : c.args.value ≡ 0 = omega (arith, c.if-value-eq0.true) in
@@ -30,7 +30,7 @@ pub returns-then-value-eq0-clause-chosen : goal.returns-then-value-eq0-clause-ch
 returns-then-value-eq0-clause-chosen c =
     let x = c.args.self.now in
     let lines1 = ap (map (λ line. line.now)) c.deref.ensures.value in
-    let names1 = last_table (λ n. table n.entries) x.calls.items c.last.result (c.last.ensures.value ∙ ap (λ xs. slice_get xs (length xs - 1)) c.deref-then-value-eq0.ensures.value) in
+    let names1 = last_table (λ n. said n) x.calls.items c.last.result (c.last.ensures.value ∙ ap (λ xs. slice_get xs (length xs - 1)) c.deref-then-value-eq0.ensures.value) in
     let b = branches_seen (texts_in x) (innermost (tables_in x)) c.args.choice in
     let p = second_of (rest_of x).depth (state_of x) b.others b.after in
     let zero : c.args.value ≡ 0 = omega (arith, c.if-value-eq0.true) in

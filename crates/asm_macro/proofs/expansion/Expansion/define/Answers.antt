@@ -25,6 +25,6 @@ returns-clause-taken c =
     ∙ ap (λ n. (c.is_some.result || nat_lt 0 n) || is_reserved (upper c.args.name.now)) (sym depth)
     ∙ ap (λ b. (c.is_some.result || nat_lt 0 (c.len.result + x.turns)) || b) (sym reserved) ∙ sym c.if-may_not_stand.ensures in
     let none = none_new (λ m. macro_seen (texts_in x) m.now) c.macro_of.result (macro_named (state_of x) (upper c.args.name.now))
-    (c.macro_of.ensures (texts_in x) ∙ ap (λ k. lookup (bytes_eq k) (macros_seen (texts_in x) x.macros.entries)) (c.deref-2.ensures.value ∙ key)) (sym c.is_some-2.ensures ∙ c.if-is_some.false) in
+    (c.macro_of.ensures.found (texts_in x) ∙ ap (λ k. lookup (bytes_eq k) (macros_seen (texts_in x) x.macros.entries)) (c.deref-2.ensures.value ∙ key)) (sym c.is_some-2.ensures ∙ c.if-is_some.false) in
     subst (λ p. Resumes c.keep.result (rest_of c.keep.new.self) (moved (rest_of x).depth (rest_of x).around p))
     (sym (defined_is (rest_of x).depth (state_of x) (seen c.args.line) f c.args.name.now c.in_ok-key.key.items (rest_of x).text (texts c.in-Some.parameters.items) key found stands none)) c.keep.ensures.taken

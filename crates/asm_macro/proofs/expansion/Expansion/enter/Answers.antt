@@ -1,7 +1,8 @@
-use Rattle.std.proofs.Common.{◌∙◌, ◌∷◌, [], ap, map, reverse, sym, subst, length, length-append, arith}
-use Rattle.asm_replace.specs.Views.{table}
+use Rattle.std.proofs.Common.{◌∙◌, ◌∷◌, ◌++◌, [], ap, map, reverse, sym, subst, length, length-append, arith}
+use Rattle.asm_texts.specs.Prepared.{said}
 use Rattle.asm_macro.specs.declared.frame.Following.{Following}
-use Rattle.asm_texts.specs.Books.{IsBook}
+use Rattle.std.proofs.lemmas.List.Elements.{All-push, All-same}
+use Rattle.asm_texts.specs.Books.{IsBook, IsCall}
 use Rattle.asm_macro.specs.Private.Frames.{AreBooks, innermost, turns_in}
 use Rattle.asm_macro.specs.Private.Moves.{tables_in, texts_in}
 use Rattle.asm_macro.proofs.Stacks.{pushed}
@@ -11,23 +12,26 @@ use Rattle.asm_macro.proofs.expansion.Expansion.enter.Goals as goal
 pub returns-clause-entered : goal.returns-clause-entered
 returns-clause-entered c = λ u same.
     let x = c.args.self.now in
-    let tables = ap (λ cs. map (λ names. table names.entries) (reverse cs)) c.in_ok-push-2.ensures.items ∙ ap (map (λ names. table names.entries)) (pushed x.calls.items c.args.names) in
+    let tables = ap (λ cs. map (λ call. said call) (reverse cs)) c.in_ok-push-2.ensures.items ∙ ap (map (λ call. said call)) (pushed x.calls.items c.args.call) in
     let around = ap reverse c.in_ok-push.ensures.items ∙ pushed x.around.items (Following.Rest x.text) in
-    entered c.by_names.ensures x (map (λ names. table names.entries) (reverse c.push-2.new.self.items)) (reverse c.push.new.self.items) (table c.args.names.entries) u c.args.line.number c.args.counter c.args.body c.requires.sound same tables around
+    entered c.by_names.ensures x (map (λ call. said call) (reverse c.push-2.new.self.items)) (reverse c.push.new.self.items) (said c.args.call) u c.args.line.number c.args.counter c.args.body c.requires.sound same tables around
 
 pub returns-clause-sound : goal.returns-clause-sound
 returns-clause-sound c =
     let x = c.args.self.now in
     let sound = c.requires.sound in
-    let tables = ap (λ cs. map (λ names. table names.entries) (reverse cs)) c.in_ok-push-2.ensures.items ∙ ap (map (λ names. table names.entries)) (pushed x.calls.items c.args.names) in
+    let tables = ap (λ cs. map (λ call. said call) (reverse cs)) c.in_ok-push-2.ensures.items ∙ ap (map (λ call. said call)) (pushed x.calls.items c.args.call) in
     let around = ap reverse c.in_ok-push.ensures.items ∙ pushed x.around.items (Following.Rest x.text) in
     let books = ap reverse c.in_ok-push-3.ensures.items ∙ pushed x.books.items c.replace-book.result in
     record {
       short = sound.short;
       turns = sound.turns ∙ sym (ap turns_in around);
-      shallow = omega (arith, c.requires.shallow, ap length c.in_ok-push-2.ensures.items, length-append x.calls.items (c.args.names ∷ []));
+      shallow = omega (arith, c.requires.shallow, ap length c.in_ok-push-2.ensures.items, length-append x.calls.items (c.args.call ∷ []));
       few = sound.few;
-      book = subst (λ b. IsBook (texts_in x) (innermost (map (λ names. table names.entries) (reverse c.push-2.new.self.items))) b) (sym c.replace-book.ensures.after) (c.new.ensures (texts_in x) (innermost (map (λ names. table names.entries) (reverse c.push-2.new.self.items))));
+      book = subst (λ b. IsBook (texts_in x) (innermost (map (λ call. said call) (reverse c.push-2.new.self.items))) b) (sym c.replace-book.ensures.after) (c.new.ensures (texts_in x) (innermost (map (λ call. said call) (reverse c.push-2.new.self.items))));
+      source = sound.source;
+      macros = sound.macros;
+      open_calls = All-same (IsCall (texts_in x)) c.push-2.new.self.items (x.calls.items ++ c.args.call ∷ []) c.in_ok-push-2.ensures.items (All-push (IsCall (texts_in x)) x.calls.items c.args.call sound.open_calls c.requires.call);
       books = subst (λ ts. AreBooks (texts_in x) ts (reverse c.push-3.new.self.items)) (sym tables)
-          (subst (λ bs. AreBooks (texts_in x) (table c.args.names.entries ∷ tables_in x) bs) (sym books) (subst (IsBook (texts_in x) (innermost (tables_in x))) (sym c.replace-book.ensures.value) sound.book, sound.books));
+          (subst (λ bs. AreBooks (texts_in x) (said c.args.call ∷ tables_in x) bs) (sym books) (subst (IsBook (texts_in x) (innermost (tables_in x))) (sym c.replace-book.ensures.value) sound.book, sound.books));
     }

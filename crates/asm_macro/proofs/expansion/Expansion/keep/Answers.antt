@@ -1,12 +1,14 @@
-use Rattle.std.proofs.Common.{◌≡◌, ◌∙◌, ◌-◌, ap, sym, subst, map, length, None, Some, Err, []}
+use Rattle.std.proofs.Common.{◌≡◌, ◌∙◌, ◌-◌, ap, sym, subst, map, length, None, Some, Err, [], ◌∷◌, ◌++◌}
 use Rattle.std.specs.List.{slice_get}
 use Rattle.std.specs.Option.{option_map}
 use Rattle.std.proofs.lemmas.Result.{err_from_is_err_and}
+use Rattle.std.proofs.lemmas.List.Elements.{All-push, All-same}
 use Rattle.indexmap.proofs.CallerLemmas.{insert_entry-new}
-use Rattle.asm_replace.specs.Views.{table, texts}
-use Rattle.asm_texts.specs.declared.call.Macro.{Macro}
+use Rattle.asm_replace.specs.Views.{texts}
 use Rattle.asm_texts.specs.Blocks.{body_of}
 use Rattle.asm_texts.specs.Spans.{body_seen, line_of}
+use Rattle.asm_texts.specs.Prepared.{said}
+use Rattle.asm_texts.specs.Private.Varying.{IsKept}
 use Rattle.asm_macro.specs.State.{macro_named, with_macro}
 use Rattle.asm_macro.specs.Ahead.{seen}
 use Rattle.asm_macro.specs.Parts.{Part, Go, closing}
@@ -29,7 +31,7 @@ returns-in_err-closes-clause-taken c =
     let found = subst (λ z. body_of (rest_of z).text ≡ Some (body_seen (texts_in z) (innermost (tables_in z)) c.in-Some.body)) (sym same)
     (sym c.in_ok-found.ensures.body ∙ ap (option_map (body_seen (texts_in x) (innermost (tables_in x)))) c.in-Some.is) in
     let lines = ap (map (λ line. line.now)) c.deref.ensures.value in
-    let names = last_table (λ n. table n.entries) y.calls.items c.last.result (c.last.ensures.value ∙ ap (λ xs. slice_get xs (length xs - 1)) c.deref-2.ensures.value) in
+    let names = last_table (λ n. said n) y.calls.items c.last.result (c.last.ensures.value ∙ ap (λ xs. slice_get xs (length xs - 1)) c.deref-2.ensures.value) in
     let why = c.in_err-closes.field-0.0 in
     let end = subst (λ ts. Allows (Err why) (closing (line_of ts (innermost (tables_in y)) c.in-Some.body.stretch.end))) lines
     (subst (λ n. Allows (Err why) (closing (line_of (map (λ line. line.now) c.deref.result.now) n c.in-Some.body.stretch.end))) names c.in_err-closes.ensures) in
@@ -50,12 +52,32 @@ returns-clause-taken c =
     let found = subst (λ z. body_of (rest_of z).text ≡ Some (body_seen (texts_in z) (innermost (tables_in z)) c.in-Some.body)) (sym same)
     (sym c.in_ok-found.ensures.body ∙ ap (option_map (body_seen (texts_in x) (innermost (tables_in x)))) c.in-Some.is) in
     let lines = ap (map (λ line. line.now)) c.deref.ensures.value in
-    let names = last_table (λ n. table n.entries) y.calls.items c.last.result (c.last.ensures.value ∙ ap (λ xs. slice_get xs (length xs - 1)) c.deref-2.ensures.value) in
+    let names = last_table (λ n. said n) y.calls.items c.last.result (c.last.ensures.value ∙ ap (λ xs. slice_get xs (length xs - 1)) c.deref-2.ensures.value) in
     let end = subst (λ ts. (p : Part) → closing (line_of ts (innermost (tables_in y)) c.in-Some.body.stretch.end) p ≡ p) lines
     (subst (λ n. (p : Part) → closing (line_of (map (λ line. line.now) c.deref.result.now) n c.in-Some.body.stretch.end) p ≡ p) names c.in_ok-closes.ensures) in
-    let called : Macro = record { parameters = c.args.parameters; body = c.in-Some.body.stretch.lines } in
+    let called = c.in_ok-called.called in
     let outside = subst (λ z. length z.calls.items ≡ 0) (sym same) c.requires.outside in
     let new = subst (λ z. macro_named (state_of z) c.args.key.items ≡ None) (sym same) c.requires.new in
     ap (λ z. moved (rest_of z).depth (rest_of z).around (kept (state_of z) (seen c.args.line) c.args.key.items (texts c.args.parameters.items) (body_of (rest_of z).text))) (sym same)
-    ∙ kept_is y (seen c.args.line) c.insert.new.self.entries c.args.key c.args.parameters c.in-Some.body outside found end
+    ∙ kept_is y (seen c.args.line) c.insert.new.self.entries c.args.key c.args.parameters c.in-Some.body called outside found end c.in_ok-called.ensures.parts.0 c.in_ok-called.ensures.parts.1
     (c.in_ok-insert.ensures.entries ∙ insert_entry-new _ y.macros c.args.key called (absent (texts_in y) y.macros.entries c.args.key.items new))
+
+pub returns-clause-sound : goal.returns-clause-sound
+returns-clause-sound c =
+    let y = c.body.new.self in
+    let sound = c.in_ok-found.ensures.sound in
+    let called = c.in_ok-called.called in
+    let new = subst (λ z. macro_named (state_of z) c.args.key.items ≡ None) (sym c.in_ok-found.ensures.kept) c.requires.new in
+    let entries = c.in_ok-insert.ensures.entries ∙ insert_entry-new _ y.macros c.args.key called (absent (texts_in y) y.macros.entries c.args.key.items new) in
+    let kept = subst (λ ls. IsKept (map (λ line. line.now) ls) called) c.deref-3.ensures.value c.in_ok-called.ensures.kept in
+    record {
+      short = sound.short;
+      turns = sound.turns;
+      shallow = sound.shallow;
+      few = sound.few;
+      book = sound.book;
+      books = sound.books;
+      source = sound.source;
+      macros = All-same (λ e. IsKept (texts_in y) e.1) c.insert.new.self.entries (y.macros.entries ++ (c.args.key, called) ∷ []) entries (All-push (λ e. IsKept (texts_in y) e.1) y.macros.entries (c.args.key, called) sound.macros kept);
+      open_calls = sound.open_calls;
+    }

@@ -1,14 +1,15 @@
-use Rattle.std.proofs.Common.{◌≡◌, ◌∙◌, ◌+◌, ◌-◌, ◌++◌, ◌∷◌, [], ap, sym, subst, length, reverse, length-take, arith, take}
+use Rattle.std.proofs.Common.{◌≡◌, ◌∙◌, ◌+◌, ◌-◌, ◌++◌, ◌∷◌, [], ap, sym, subst, length, reverse, length-take, arith, map, take}
 use Rattle.std.specs.Vec.{vec_len}
 use Rattle.asm_macro.specs.declared.frame.Following.{Following}
 use Rattle.asm_macro.specs.Parts.{turns}
 use Rattle.asm_macro.specs.Private.Frames.{AreBooks, around_seen, innermost, turns_in}
 use Rattle.asm_texts.specs.Spans.{body_seen}
 use Rattle.asm_macro.specs.Private.Moves.{Resumes, moved, rest_of, state_of, tables_in, texts_in}
-use Rattle.asm_replace.specs.Views.{table}
-use Rattle.asm_texts.specs.Books.{IsBook}
+use Rattle.asm_texts.specs.Prepared.{said}
+use Rattle.std.proofs.lemmas.List.Elements.{All-same, All-take}
+use Rattle.asm_texts.specs.Books.{IsBook, IsCall}
 use Rattle.asm_macro.proofs.Stacks.{popped_tables, pushed}
-use Rattle.asm_macro.proofs.Turned.{popped, turns_popped}
+use Rattle.asm_macro.proofs.Turned.{popped, rest_popped, turns_popped}
 use Rattle.asm_macro.proofs.expansion.Expansion.resume.Goals as goal
 
 pub returns-in-Turns-clause-resumed : goal.returns-in-Turns-clause-resumed
@@ -30,13 +31,27 @@ returns-in-Rest-clause-sound c =
     let around = ap reverse (c.in-Some.ensures.items ∙ ap (λ f. left ++ f ∷ []) c.in-Rest.is) ∙ pushed left (Following.Rest c.in-Rest.text) in
     let len : vec_len x.calls - 1 ≡ length x.calls.items - 1 = omega (arith, x.calls.ok) in
     let rest = c.pop-in-Rest.ensures.rest ∙ ap (λ n. take n x.calls.items) len in
-    let tables = popped_tables (λ names. table names.entries) x.calls.items c.pop-in-Rest.new.self.items rest in
+    let tables = popped_tables (λ call. said call) x.calls.items c.pop-in-Rest.new.self.items rest in
     let books = c.outer_book.ensures (texts_in x) (tables_in x) sound.books in
     record {
       short = sound.short;
       turns = sound.turns ∙ ap turns_in around;
       shallow = omega (arith, sound.shallow, ap length rest, length-take (length x.calls.items - 1) x.calls.items);
       few = sound.few;
+      source = sound.source;
+      macros = sound.macros;
+      open_calls = All-same (IsCall (texts_in x)) c.pop-in-Rest.new.self.items (take (length x.calls.items - 1) x.calls.items) rest (All-take (IsCall (texts_in x)) (length x.calls.items - 1) x.calls.items sound.open_calls);
       book = subst (λ ts. IsBook (texts_in x) (innermost ts) c.outer_book.result) (sym tables) books.0;
       books = subst (λ ts. AreBooks (texts_in x) ts (reverse c.outer_book.new.books.items)) (sym tables) books.1;
     }
+
+pub returns-in-Rest-clause-resumed : goal.returns-in-Rest-clause-resumed
+returns-in-Rest-clause-resumed c =
+    let x = c.args.self.now in
+    let left = c.pop.new.self.items in
+    let is = c.in-Some.ensures.items ∙ ap (λ f. left ++ f ∷ []) c.in-Rest.is in
+    let around = ap reverse is ∙ pushed left (Following.Rest c.in-Rest.text) in
+    let len : vec_len x.calls - 1 ≡ length x.calls.items - 1 = omega (arith, x.calls.ok) in
+    let rest = c.pop-in-Rest.ensures.rest ∙ ap (λ n. take n x.calls.items) len in
+    let tables = popped_tables (λ call. said call) x.calls.items c.pop-in-Rest.new.self.items rest in
+    rest_popped x left c.in-Rest.text (map (λ call. said call) (reverse c.pop-in-Rest.new.self.items)) c.requires.over is (c.requires.sound.turns ∙ ap turns_in around) tables

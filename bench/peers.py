@@ -1,0 +1,126 @@
+"""The programs that are compared: which of them are here, and how each is called."""
+
+import re
+import shutil
+import subprocess
+
+import dialects
+
+
+def found(*names):
+    """The first of some programs that is here."""
+    return next((path for path in map(shutil.which, names) if path), None)
+
+
+class Z80dev:
+    title = "z80dev"
+    dialect = dialects.Ours()
+
+    def __init__(self, path):
+        self.path = path
+
+    def build(self, base):
+        """The commands that make a program of one source text."""
+        return [[self.path, "build", "--out", base, f"{base}.asm"]]
+
+    def assemble(self, base):
+        return [self.path, "asm", "--out", base, f"{base}.asm"]
+
+    def link(self, bases):
+        return [self.path, "link", "--out", "linked", *(f"{base}.zmo" for base in bases)]
+
+    def check(self, base):
+        return [self.path, "check", f"{base}.siz", f"{base}.crt"]
+
+    def made(self, folder, base):
+        """The bytes of a program that was made."""
+        return (folder / f"{base}.com").read_bytes()
+
+
+class Gnu:
+    title = "GNU as, ld"
+    package = "binutils-z80"
+    dialect = dialects.Gnu()
+
+    def __init__(self):
+        self.assembler = found("z80-unknown-coff-as", "z80-elf-as")
+        self.linker = found("z80-unknown-coff-ld", "z80-elf-ld")
+        self.is_here = bool(self.assembler and self.linker)
+
+    def build(self, base):
+        return [self.assemble(base), self.link([base], base)]
+
+    def assemble(self, base):
+        return [self.assembler, "-o", f"{base}.o", f"{base}.s"]
+
+    def link(self, bases, name="linked"):
+        return [self.linker, "-Ttext", "0x100", "--oformat", "binary", "-o", f"{name}.bin", *(f"{base}.o" for base in bases)]
+
+    def made(self, folder, base):
+        return (folder / f"{base}.bin").read_bytes()
+
+
+class Pasmo:
+    title = "pasmo"
+    package = "pasmo"
+    dialect = dialects.Pasmo()
+
+    def __init__(self):
+        self.path = found("pasmo")
+        self.is_here = bool(self.path)
+
+    def build(self, base):
+        return [[self.path, f"{base}.asm", f"{base}.com"]]
+
+    def assemble(self, base):
+        return None
+
+    def made(self, folder, base):
+        return (folder / f"{base}.com").read_bytes()
+
+
+class Sdcc:
+    title = "sdas, sdld"
+    package = "sdcc"
+    dialect = dialects.Sdas()
+
+    def __init__(self):
+        self.assembler = found("sdasz80")
+        self.linker = found("sdldz80")
+        self.is_here = bool(self.assembler and self.linker)
+
+    def build(self, base):
+        return [self.assemble(base), self.link([base], base)]
+
+    def assemble(self, base):
+        return [self.assembler, "-o", f"{base}.rel", f"{base}.s"]
+
+    def link(self, bases, name="linked"):
+        return [self.linker, "-b", "_CODE=0x100", "-i", f"{name}.ihx", *(f"{base}.rel" for base in bases)]
+
+    def made(self, folder, base):
+        """Of Intel HEX; room is left out there."""
+        memory = {}
+        for line in (folder / f"{base}.ihx").read_text().split():
+            record = bytes.fromhex(line[1:])
+            if record[3] == 0:
+                start = record[1] * 256 + record[2]
+                memory.update(zip(range(start, start + record[0]), record[4:-1]))
+        return bytes(memory.get(at, 0) for at in range(0x100, max(memory) + 1))
+
+
+class Host:
+    title = "GNU as for x86-64"
+    package = "binutils, on x86-64"
+    dialect = dialects.Host()
+
+    def __init__(self):
+        self.path = found("x86_64-linux-gnu-as", "as")
+        self.is_here = bool(self.path) and bool(re.search("x86.64", subprocess.run([self.path, "--version"], capture_output=True, text=True).stdout))
+
+    def build(self, base):
+        return [[self.path, "-o", f"{base}.o", f"{base}.s"]]
+
+
+def all_peers():
+    return [Gnu(), Pasmo(), Sdcc(), Host()]

@@ -1,0 +1,328 @@
+"""The programs that are measured, each the same for a dialect as for any other, and at any time."""
+
+JUMPS = 18_999
+STATEMENTS = 20_000
+# The last jumps of a chain, which go back to its first statement.
+BACK = 70
+
+
+class Chance:
+    """Numbers that look like chance and are always the same."""
+
+    def __init__(self, seed):
+        self.state = seed
+
+    def below(self, count):
+        self.state = (self.state * 6364136223846793005 + 1442695040888963407) % 2**64
+        return (self.state >> 33) % count
+
+    def of(self, items):
+        return items[self.below(len(items))]
+
+
+def lines_of(lines):
+    return "\n".join(lines) + "\n"
+
+
+# -- ladders
+
+def ladder(dialect):
+    """Jumps, each over the next 63 statements: all reach but the last 63, and each of these pushes out others, until all are long."""
+    lines = dialect.begin("ladder", [], [])
+    for k in range(JUMPS):
+        lines.append(dialect.jump(f"L{k}", "", f"L{k + 64}"))
+    lines.append(dialect.room(f"L{JUMPS}", 4))
+    for k in range(JUMPS + 1, JUMPS + 64):
+        lines.append(dialect.numbers(f"L{k}", ["1", "2"]))
+    return lines_of(lines)
+
+
+def chain(dialect, distance):
+    """Jumps from each statement to the one so many on, and from the last ones to the first."""
+    lines = dialect.begin("chain", [], [])
+    for k in range(STATEMENTS):
+        lines.append(dialect.jump(f"L{k}", "", f"L{k + distance}" if k < STATEMENTS - BACK else "L0"))
+    return lines_of(lines)
+
+
+# -- modules of one statement
+
+def single(dialect, number, count):
+    here, there = f"M{number}", f"M{(number + 1) % count}"
+    return lines_of([*dialect.begin(f"m{number}", [here], [there]), dialect.jump(here, "", there)])
+
+
+# -- a program of the whole language
+
+BYTES = ("A", "B", "C", "D", "E", "H", "L")
+WORDS = ("BC", "DE", "HL")
+INDEXES = ("IX", "IY")
+CONDITIONS = ("NZ", "Z", "NC", "C")
+ALONE = ("RET", "RET", "RET", "NOP", "EXX", "LDIR", "LDI", "CPIR", "SCF", "CCF", "CPL", "RLCA", "RRA", "NEG", "DAA", "EI", "RETI")
+STEMS = ("LOOP", "NEXT", "DONE", "PUT", "GET", "READ", "TAB", "FLAG", "COUNT", "BUFFER", "PRINT", "SKIP")
+TEXTS = ("File not found", "Disk full", "OK", "Usage", "Error in line ", "Bye", "Ready", "Name?")
+REMARKS = ("the next one", "is there more?", "leave it as it was", "all done", "count in B")
+CONSTANTS = 120
+
+# What the lines of a hundred are: a kind, how many of it, and how many statements one comes to.
+KINDS = (
+    ("operands", 40, 1),
+    ("jump", 12, 1),
+    ("alone", 12, 1),
+    ("bytes", 9, 1),
+    ("text", 4, 1),
+    ("words", 8, 1),
+    ("room", 3, 1),
+    ("move", 2, 2),
+    ("wait", 2, 2),
+    ("avoid", 2, 4),
+    ("choose", 2, 1),
+    ("repeat", 2, 6),
+    ("if", 2, 2),
+)
+SIZES = {kind: size for kind, _, size in KINDS}
+
+
+class Mix:
+    """A program of so many statements. Of a module, `publics` are labels of it and `externals` those of another one."""
+
+    def __init__(self, dialect, statements, seed, module="main", publics=(), externals=()):
+        self.dialect = dialect
+        self.chance = Chance(seed)
+        self.module = module
+        self.publics = list(publics)
+        self.externals = list(externals)
+        self.constants = []
+        self.lines = []
+        self.kinds = self.plan(statements)
+        count = (len(self.kinds) + 2) // 3
+        self.labels = [self.publics[k] if k < len(self.publics) else f"{self.chance.of(STEMS)}{k}" for k in range(count)]
+
+    def plan(self, statements):
+        each = [kind for kind, weight, _ in KINDS for _ in range(weight)]
+        kinds = []
+        while statements > 0:
+            kind = self.chance.of(each)
+            if SIZES[kind] > statements:
+                kind = "alone"
+            kinds.append(kind)
+            statements -= SIZES[kind]
+        return kinds
+
+    # -- names and numbers
+
+    def label_near(self, at, reach):
+        """A label at most so many labels away."""
+        low = max(0, at // 3 - reach)
+        high = min(len(self.labels), at // 3 + reach + 1)
+        return self.labels[low + self.chance.below(high - low)]
+
+    def target(self, at):
+        if self.externals and self.chance.below(8) == 0:
+            return self.chance.of(self.externals)
+        return self.label_near(at, 15 if self.chance.below(4) else 300)
+
+    def constant(self):
+        return self.chance.of(self.constants)[0]
+
+    def number(self):
+        """An expression of at most a byte, without labels."""
+        d, chance = self.dialect, self.chance
+        return (
+            lambda: str(chance.below(256)),
+            lambda: d.hexadecimal(chance.below(256)),
+            lambda: self.constant(),
+            lambda: f"{self.constant()}+{chance.below(50)}",
+            lambda: f"2*({self.constant()}+1)",
+            lambda: d.both(self.constant(), "AND", d.hexadecimal(15)),
+            lambda: d.both(d.both(self.constant(), "MOD", "16"), "SHL", "2"),
+            lambda: d.both(f"{self.constant()}*2", "OR", "1"),
+        )[chance.below(8)]()
+
+    def byte(self, at):
+        """An expression of a byte."""
+        part = self.chance.below(8)
+        if part == 0:
+            return self.dialect.low(self.label_near(at, 40))
+        if part == 1:
+            return self.dialect.high(self.label_near(at, 40))
+        return self.number()
+
+    def word(self, at):
+        """An expression of a word."""
+        d, chance = self.dialect, self.chance
+        first = chance.below(len(self.labels))
+        second = first + chance.below(len(self.labels) - first)
+        return (
+            lambda: self.target(at),
+            lambda: self.target(at),
+            lambda: self.label_near(at, 60),
+            lambda: f"{self.label_near(at, 60)}+{chance.below(20)}",
+            lambda: f"{self.label_near(at, 60)}+{self.constant()}*2",
+            lambda: f"{self.labels[second]}-{self.labels[first]}+1",
+            lambda: d.hexadecimal(chance.below(65536)),
+            lambda: f"{self.constant()}*{chance.below(100)}",
+        )[chance.below(8)]()
+
+    # -- statements
+
+    def operands(self, at):
+        """A word and the operands of an instruction."""
+        d, c = self.dialect, self.chance
+        value = lambda: d.value(self.byte(at))
+        place = lambda: d.place(c.of(INDEXES), c.below(256) - 128)
+        r = lambda: c.of(BYTES)
+        rr = lambda: c.of(WORDS)
+        return (
+            lambda: ("LD", f"{r()},{r()}"),
+            lambda: ("LD", f"{r()},{r()}"),
+            lambda: ("LD", f"{r()},{value()}"),
+            lambda: ("LD", f"{r()},{value()}"),
+            lambda: ("LD", f"{r()},(HL)"),
+            lambda: ("LD", f"(HL),{r()}"),
+            lambda: ("LD", f"{rr()},{d.value(self.word(at))}"),
+            lambda: ("LD", f"{rr()},{d.value(self.word(at))}"),
+            lambda: ("LD", f"A,({self.label_near(at, 60)})"),
+            lambda: ("LD", f"({self.label_near(at, 60)}+1),A"),
+            lambda: ("LD", f"HL,({self.label_near(at, 60)})"),
+            lambda: ("LD", f"{r()},{place()}"),
+            lambda: ("LD", f"{place()},{value()}"),
+            lambda: ("ADD", f"A,{r()}"),
+            lambda: ("ADC", f"A,{value()}"),
+            lambda: ("SUB", r()),
+            lambda: ("CP", d.value(d.character(chr(65 + c.below(26))))),
+            lambda: ("CP", value()),
+            lambda: ("AND", value()),
+            lambda: ("OR", "(HL)"),
+            lambda: ("XOR", r()),
+            lambda: ("XOR", place()),
+            lambda: ("INC", r()),
+            lambda: ("DEC", rr()),
+            lambda: ("INC", "(HL)"),
+            lambda: ("PUSH", c.of(("AF", "BC", "DE", "HL", "IX"))),
+            lambda: ("POP", c.of(("AF", "BC", "DE", "HL", "IX"))),
+            lambda: ("ADD", f"HL,{rr()}"),
+            lambda: ("SBC", f"HL,{rr()}"),
+            lambda: ("EX", c.of(("DE,HL", "(SP),HL"))),
+            lambda: ("BIT", f"{c.below(8)},{r()}"),
+            lambda: ("SET", f"{c.below(8)},(HL)"),
+            lambda: ("RES", f"{c.below(8)},{place()}"),
+            lambda: ("SLA", r()),
+            lambda: ("RL", "(HL)"),
+            lambda: ("IN", f"A,({d.hexadecimal(c.below(256))})"),
+            lambda: ("OUT", f"(C),{r()}"),
+            lambda: ("RET", c.of(CONDITIONS)),
+        )[c.below(38)]()
+
+    def jump(self, at, label):
+        d, c = self.dialect, self.chance
+        part = c.below(20)
+        if part < 8:
+            return d.jump(label, c.of(CONDITIONS), self.target(at))
+        if part < 12:
+            return d.jump(label, "", self.target(at))
+        if part < 16:
+            return d.line(label, "CALL", self.target(at))
+        if part < 17:
+            return d.line(label, "CALL", f"{c.of(CONDITIONS)},{self.target(at)}")
+        if part < 19:
+            return d.line(label, "DJNZ", self.labels[at // 3])
+        return d.line(label, "JP", "(HL)")
+
+    def item(self, at, kind, label):
+        """The lines of one item; a label stands alone before a block."""
+        d, c = self.dialect, self.chance
+        if kind == "operands":
+            return [d.line(label, *self.operands(at))]
+        if kind == "jump":
+            return [self.jump(at, label)]
+        if kind == "alone":
+            return [d.line(label, c.of(ALONE))]
+        if kind == "bytes":
+            return [d.numbers(label, [self.byte(at) for _ in range(1 + c.below(6))])]
+        if kind == "text":
+            return d.text(label, c.of(TEXTS), [13, 10])
+        if kind == "words":
+            return [d.words(label, [self.word(at) for _ in range(1 + c.below(3))])]
+        if kind == "room":
+            return [d.room(label, 1 + c.below(6))]
+        if kind == "move":
+            return [d.line(label, "MOVE", f"{c.of(BYTES)},{c.of(('B', 'C', '(HL)'))}")]
+        if kind in ("wait", "avoid", "choose"):
+            return [d.line(label, kind.upper(), self.constant())]
+        alone = [f"{label}:"] if label else []
+        if kind == "repeat":
+            return [*alone, d.repeat(3), d.line("", "INC", c.of(WORDS)), d.line("", "RRCA"), "\t" + d.end_of_repeat]
+        return [
+            *alone,
+            d.condition(f"{self.constant()}/50"),
+            d.line("", "LD", f"A,{d.value(self.number())}"),
+            d.line("", "CPL"),
+            "\t" + d.else_word,
+            d.line("", "LD", f"B,{d.value(self.number())}"),
+            d.line("", "SCF"),
+            "\t" + d.end_of_if,
+        ]
+
+    # -- the text
+
+    def define(self, name, parameters, local, body):
+        lines, said = self.dialect.macro(name, parameters, local)
+        self.lines += [*lines, *body(said), "\t" + self.dialect.end]
+
+    def macros(self):
+        d = self.dialect
+        self.define("MOVE", ["TO", "FROM"], "", lambda p: [
+            d.line("", "LD", f"A,{p('FROM')}"),
+            d.line("", "LD", f"{p('TO')},A"),
+        ])
+        self.define("WAIT", ["TURNS"], "BACK", lambda p: [
+            d.line("", "LD", f"B,{d.value(p('TURNS'))}"),
+            d.line(p("BACK"), "DJNZ", p("BACK")),
+        ])
+        self.define("AVOID", ["WANT"], "AWAY", lambda p: [
+            d.line("", "CP", d.value(p("WANT"))),
+            d.jump("", "NZ", p("AWAY")),
+            d.line("", "INC", "HL"),
+            d.line(p("AWAY"), "DEC", "DE"),
+        ])
+        self.define("CHOOSE", ["WHICH"], "", lambda p: [
+            d.condition(f"{p('WHICH')}/50"),
+            d.line("", "LD", f"A,{d.value(p('WHICH'))}"),
+            "\t" + d.else_word,
+            d.line("", "LD", f"A,{d.value('1')}"),
+            "\t" + d.end_of_if,
+        ])
+
+    def equates(self):
+        for k in range(CONSTANTS):
+            if k % 3 == 2:
+                name, worth = self.chance.of(self.constants)
+                if worth < 90:
+                    self.constants.append((f"K{k}", worth + 5))
+                    self.lines.append(self.dialect.equ(f"K{k}", f"{name}+5"))
+                    continue
+            worth = self.chance.below(90)
+            self.constants.append((f"K{k}", worth))
+            self.lines.append(self.dialect.equ(f"K{k}", str(worth)))
+
+    def source(self):
+        self.lines = self.dialect.begin(self.module, self.publics, self.externals)
+        self.equates()
+        self.macros()
+        for at, kind in enumerate(self.kinds):
+            made = self.item(at, kind, self.labels[at // 3] if at % 3 == 0 else "")
+            if at % 8 == 0:
+                made[-1] += f"\t; {self.chance.of(REMARKS)}"
+            self.lines += made
+        return lines_of(self.lines)
+
+
+def mixed(dialect, statements):
+    return Mix(dialect, statements, 23).source()
+
+
+def module(dialect, number, count, statements):
+    publics = [f"M{number}A", f"M{number}B"]
+    there = (number + 1) % count
+    return Mix(dialect, statements, 100 + number, f"m{number}", publics, [f"M{there}A", f"M{there}B"]).source()

@@ -1,0 +1,52 @@
+//! Expressions of one term, which most are.
+
+ghost use Rattle.std.specs.Prelude.{◌≡◌, ◌∷◌, [], ℕ, Ok, Some};
+ghost use Rattle.asm_parse.specs.declared.item.Item.{Item};
+ghost use Rattle.asm_parse.specs.Source.{operand};
+ghost use Rattle.asm_expr.specs.declared.atom.Atom.{Atom};
+ghost use Rattle.asm_expr.specs.declared.answer.Settled.{Settled};
+ghost use Rattle.asm_expr.specs.Alone.{atom_alone, atom_of, number_alone};
+ghost use Rattle.asm_expr.specs.Postfix.{source};
+ghost use Rattle.asm_expr.specs.Settling.{settled};
+
+use crate::atom::Atom;
+use crate::meaning::Meaning;
+use crate::names::Names;
+use asm_parse::{Item, Term, Tree};
+
+/// What a term stands for; None where that has no value, or is an expression.
+fn atom_of(term: &Term, names: &Names) -> Option<Atom>
+    ensures { result ≡ atom_of names.now (operand term.now) }
+{
+    match term {
+        Term::Number(n) => Some(Atom::Number(*n)),
+        Term::Here => Some(Atom::Ref(names.here())),
+        Term::Name(name) => match names.meaning(name) {
+            Some(Meaning::Label(r) | Meaning::External(r)) => Some(Atom::Ref(*r)),
+            Some(Meaning::Constant(n)) => Some(Atom::Number(*n)),
+            _ => None,
+        },
+    }
+}
+
+/// What an expression of one term stands for; None for any other, and where that has no value, or is an expression.
+pub(crate) fn atom_alone(parsed: &Tree, names: &Names) -> Option<Atom>
+    ensures alone { result ≡ atom_alone names.now parsed.now }
+{
+    match parsed.items() {
+        [Item::Leaf(term)] => atom_of(term, names),
+        _ => None,
+    }
+}
+
+/// The number for which an expression of one term stands: a number, or the name of a constant. None for any other expression,
+/// and for a term that stands for something else.
+pub fn number_alone(parsed: &Tree, names: &Names) -> Option<u16>
+    ensures alone { result ≡ number_alone names.now parsed.now }
+    ensures settled { (n : ℕ) → result ≡ Some n → settled names.now (source parsed.now) ≡ Ok (Settled.Known (Item.Leaf (Atom.Number n) ∷ [])) }
+{
+    match atom_alone(parsed, names) {
+        Some(Atom::Number(n)) => Some(n),
+        _ => None,
+    }
+}

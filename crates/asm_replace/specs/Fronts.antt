@@ -1,0 +1,35 @@
+-- Lines whose first tokens are left as they are.
+use Rattle.std.specs.Prelude.{◌≡◌, Bool, true, false, List, [], ◌∷◌, ◌++◌, None, Result, Ok, Err}
+use Rattle.std.specs.Map.{lookup}
+use Rattle.std.specs.Str.{bytes_eq}
+use Rattle.asm_scan.specs.declared.fault.ScanFault.{ScanFault}
+use Rattle.asm_scan.specs.declared.token.Kind.{Kind}
+use Rattle.asm_scan.specs.Tokens.{Lexeme}
+use Rattle.asm_words.specs.Words.{upper}
+use Rattle.asm_line.specs.Tokens.{is_name}
+use Rattle.asm_replace.specs.Replaced.{Table}
+
+-- a token is no name of the table
+abbrev pub IsLeft : Table → Lexeme → Type 0
+IsLeft table token = is_name token ≡ true → lookup (bytes_eq (upper token.text)) table ≡ None
+
+abbrev pub NextIsLeft : Table → List Lexeme → Type 0
+NextIsLeft table [] = Unit {0}
+NextIsLeft table (token ∷ tokens) = IsLeft table token
+
+-- a token of this kind may go on in what stands in the place of the next one
+abbrev pub goes_on : Kind → Bool
+goes_on (Kind.Number n) = true
+goes_on Kind.Quoted = true
+goes_on _ = false
+
+-- The first tokens of a line are left as they are, and so is the next, where the last of them may go on in it.
+abbrev pub AreLeft : Table → List Lexeme → List Lexeme → Type 0
+AreLeft table [] more = Unit {0}
+AreLeft table (token ∷ []) more = IsLeft table token × (goes_on token.kind ≡ true → NextIsLeft table more)
+AreLeft table (token ∷ other ∷ front) more = IsLeft table token × AreLeft table (other ∷ front) more
+
+-- What is read of a line begins with these tokens, if it is tokens.
+abbrev pub Begins : List Lexeme → Result (List Lexeme) ScanFault → Type 0
+Begins front (Ok tokens) = (others : List Lexeme) × (tokens ≡ front ++ others)
+Begins front (Err fault) = Unit {0}

@@ -1,0 +1,191 @@
+//! Lines of a body that may be other things to blocks in a call than they are as they stand.
+
+ghost use Rattle.std.specs.Prelude.{◌≡◌, ◌≤◌, ◌<◌, [], IfOk, Some, length, map, slice_index_or, take, true};
+ghost use Rattle.std.specs.List.{list_any};
+ghost use Rattle.asm_scan.specs.Tokens.{lexeme, lexemes};
+ghost use Rattle.asm_replace.specs.Fronts.{goes_on};
+ghost use Rattle.asm_replace.specs.Views.{table};
+ghost use Rattle.asm_texts.specs.Books.{IsCall, Stand, Stands};
+ghost use Rattle.asm_texts.specs.Lines.{heard};
+ghost use Rattle.asm_texts.specs.Prepared.{said};
+ghost use Rattle.asm_texts.specs.Private.Varying.{IsVarying, asked, asked_labelled, asked_of, is_held, may_vary, with_next};
+
+use crate::call::Call;
+use crate::reading::{heard, put_shown, role_of, role_of_head};
+use crate::span::Span;
+use asm_block::Role;
+use asm_line::{form_of, is_name};
+use asm_replace::Replacements;
+use asm_scan::{Kind, Mark, Token};
+use std::alloc::{AllocError, Global};
+
+/// Of the lines from one on and before another those that may be other things to blocks in a call, by their places.
+#[derive(Debug, Drop)]
+pub(crate) struct Varying {
+    pub at: usize,
+    pub end: usize,
+    pub places: Vec<usize>,
+}
+
+impl Varying {
+    /// Of no lines.
+    pub fn none(alloc: Global) -> Varying {
+        Varying {
+            at: 0,
+            end: 0,
+            places: Vec::new(alloc),
+        }
+    }
+}
+
+/// Whether a token is a name that is replaced.
+fn is_held(alloc: Global, names: &Replacements, token: &Token<'_>) -> Result<bool, AllocError>
+    ensures { IfOk result (λ held. held ≡ is_held (table names.now.entries) (lexeme token.now)) }
+{
+    if !is_name(token) {
+        return Ok(false);
+    }
+    let key = token.text.to_ascii_uppercase(alloc)?;
+    Ok(names.get(key.as_slice()).is_some())
+}
+
+/// Whether some of these tokens is one.
+fn any_held(alloc: Global, names: &Replacements, tokens: &[Token<'_>]) -> Result<bool, AllocError>
+    ensures { IfOk result (λ held. held ≡ list_any (is_held (table names.now.entries)) (lexemes tokens.now)) }
+{
+    for token in tokens {
+        if is_held(alloc, names, token)? {
+            return Ok(true);
+        }
+    }
+    Ok(false)
+}
+
+/// So many tokens, and one more where this one, the last of them, may go on in it.
+fn with_next(token: &Token<'_>, count: usize) -> usize
+    requires { count < 5 }
+    ensures { result ≡ with_next (goes_on token.now.kind) count }
+{
+    match token.kind {
+        Kind::Number(_) | Kind::Quoted => count + 1,
+        _ => count,
+    }
+}
+
+/// How many of a line's first tokens say its head, by those behind a name and a colon.
+fn asked_labelled(rest: &[Token<'_>]) -> usize
+    ensures { result ≡ asked_labelled (lexemes rest.now) }
+{
+    match rest {
+        [_, last, ..] => with_next(last, 4),
+        _ => 5,
+    }
+}
+
+/// How many of a line's first tokens say its head, and one more where the last of them may go on in that.
+fn asked(tokens: &[Token<'_>]) -> usize
+    ensures { result ≡ asked (lexemes tokens.now) }
+{
+    let [_, second, rest @ ..] = tokens else {
+        return 5;
+    };
+    if matches!(second.kind, Kind::Mark(Mark::Colon)) {
+        asked_labelled(rest)
+    } else {
+        with_next(second, 2)
+    }
+}
+
+/// The tokens of a line that are asked for names. Of a word of blocks all are, since it is none where its line is too long.
+fn asked_of<'a, 'b>(role: Role, tokens: &'b [Token<'a>]) -> &'b [Token<'a>]
+    ensures { lexemes result.now ≡ asked_of role (lexemes tokens.now) }
+{
+    match role {
+        Role::Other => tokens.get(..asked(tokens)).unwrap_or(tokens),
+        _ => tokens,
+    }
+}
+
+/// Whether what a line is to blocks may hang on what these names are replaced by.
+fn may_vary(alloc: Global, names: &Replacements, line: &[u8]) -> Result<bool, AllocError>
+    ensures { IfOk result (λ varies. varies ≡ may_vary (table names.now.entries) (heard line.now)) }
+{
+    match heard(alloc, line)? {
+        Some(found) => {
+            let role = role_of_head(form_of(&found).head);
+            any_held(alloc, names, asked_of(role, &found))
+        }
+        None => Ok(false),
+    }
+}
+
+/// Which lines of a body may be other things to blocks in a call, where these names are replaced.
+pub(crate) fn varying_of(
+    alloc: Global,
+    lines: &[&[u8]],
+    names: &Replacements,
+    body: Span,
+) -> Result<Varying, AllocError>
+    ensures { IfOk result (λ found. IsVarying (map (λ line. line.now) lines.now) (table names.now.entries) found) }
+{
+    asm_replace::laws::unreplaced();
+    asm_replace::laws::front_stays();
+    let mut places = Vec::new(alloc);
+    let mut at = body.at;
+    while at < body.end && at < lines.len() {
+        if may_vary(alloc, names, lines[at])? {
+            places.push(at)?;
+        }
+        at += 1;
+    }
+    Ok(Varying {
+        at: body.at,
+        end: body.end,
+        places,
+    })
+}
+
+/// Whether a line, if it is one of a text, is to blocks what it is as it stands.
+fn stands(
+    alloc: Global,
+    lines: &[&[u8]],
+    call: &Call,
+    span: Span,
+    at: usize,
+) -> Result<bool, AllocError>
+    ensures { IfOk result (λ stands. stands ≡ true → span.at ≤ at → at < span.end → at < length lines.now → Stands (map (λ line. line.now) lines.now) (Some (said call.now)) at) }
+{
+    if at < span.at || at >= span.end || at >= lines.len() {
+        return Ok(true);
+    }
+    let mut buffer = Vec::new(alloc);
+    put_shown(alloc, Some(call), lines[at], &mut buffer)?;
+    let shown = role_of(alloc, &buffer)?;
+    let plain = role_of(alloc, lines[at])?;
+    Ok(shown == plain)
+}
+
+/// Whether all lines of a text of a call are to blocks what they are as they stand. Those alone are read that may be something
+/// else.
+pub(crate) fn all_stand(
+    alloc: Global,
+    lines: &[&[u8]],
+    call: &Call,
+    span: Span,
+) -> Result<bool, AllocError>
+    requires { IsCall (map (λ line. line.now) lines.now) call.now }
+    ensures { IfOk result (λ stand. stand ≡ true → Stand (map (λ line. line.now) lines.now) (Some (said call.now)) span.at span.end) }
+{
+    let varying: &Varying = &call.varying;
+    if span.at < varying.at || varying.end < span.end {
+        return Ok(false);
+    }
+    let mut next = 0;
+    while next < varying.places.len() {
+        if !stands(alloc, lines, call, span, varying.places[next])? {
+            return Ok(false);
+        }
+        next += 1;
+    }
+    Ok(true)
+}

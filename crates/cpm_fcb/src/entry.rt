@@ -1,0 +1,32 @@
+//! Entries of a directory in FCBs.
+
+ghost use Rattle.std.specs.Prelude.{◌≡◌, ◌<◌, ◌≤◌, IfSome};
+ghost use Rattle.cpm_image.specs.Kind.{entry_count};
+ghost use Rattle.cpm_fcb.specs.Files.{with_entry};
+
+use crate::bytes::put_field;
+use cpm_disk::Disk;
+use cpm_image::Sectors;
+use z80_cpu::Memory;
+
+/// Puts the bytes of an entry, where there is one, from the one with this offset on, to an FCB.
+pub fn put_entry<S: Sectors>(
+    disk: &Disk<S>,
+    entry: Option<u16>,
+    offset: u16,
+    memory: &mut Memory,
+    address: u16,
+)
+    requires entry { IfSome entry (λ k. k < entry_count disk.now.kind) }
+    requires offset { offset ≤ 32 }
+    ensures { memory.new ≡ with_entry S.sectors disk.now offset address entry memory.old }
+{
+    if let Some(number) = entry {
+        put_field(
+            memory,
+            address,
+            offset,
+            disk.entry(number).split_at(offset as usize).1,
+        );
+    }
+}
