@@ -13,7 +13,9 @@ ghost use Rattle.asm_piece.specs.Private.Filled.{filled_by};
 ghost use Rattle.asm_piece.specs.Private.Views.{same};
 
 use crate::cell::Filling;
-use asm_expr::{Atom, Expr, Item, Names, Offset, Settled, Tree, Unknown, items, number_alone, offset_from_here};
+use asm_expr::{
+    Atom, Expr, Item, Names, Offset, Settled, Tree, Unknown, items, number_alone, offset_from_here,
+};
 use asm_spell::StmtFault;
 use std::alloc::Global;
 use z80_form::Field;

@@ -73,7 +73,7 @@ took before n r new l none same pushed number reads was =
     let is : unread before ≡ None = sym was.unread_is ∙ now_none in
     record {
       lines_are = ap lines_of pushed ∙ map-append taken_of r.lines.items (l ∷ []) ∙ ap (λ ls. ls ++ taken_of l ∷ []) was.lines_are
-        ∙ ap (λ m. taken before ++ record { number = m; line = line_of l.line } ∷ []) number ∙ ap (λ x. taken before ++ with_line n.number x []) reads ∙ sym (taken_more before n is);
+          ∙ ap (λ m. taken before ++ record { number = m; line = line_of l.line } ∷ []) number ∙ ap (λ x. taken before ++ with_line n.number x []) reads ∙ sym (taken_more before n is);
       unread_is = same ∙ now_none ∙ ap (λ x. unread_or n.number x None) reads ∙ sym (unread_more before n is);
     }
 

@@ -17,10 +17,7 @@ use asm_spell::{Line, StmtFault, statement};
 use std::alloc::{AllocError, Global};
 
 /// What the tokens of a line spell, or why they spell nothing.
-fn read_tokens(
-    alloc: Global,
-    tokens: &[Token<'_>],
-) -> Result<Result<Line, LineFault>, AllocError>
+fn read_tokens(alloc: Global, tokens: &[Token<'_>]) -> Result<Result<Line, LineFault>, AllocError>
     ensures { IfOk result (λ read. line_seen read ≡ lines.spelled_by (spelled (lexemes tokens.entry.now))) }
 {
     match statement(alloc, tokens) {
