@@ -5,3 +5,4 @@ pub mod Heads
 pub mod Entering
 pub mod Constants
 pub mod Moves
+pub mod Collected

@@ -1,11 +1,14 @@
 //! A whole expansion.
 
+ghost use Rattle.std.specs.Prelude.{◌≡◌, ◌++◌, ◌∷◌, [], OnOk};
+ghost use Rattle.asm_macro.specs.Ahead.{seen};
 ghost use Rattle.asm_macro.specs.Expands.{IsExpanded};
-ghost use Rattle.asm_macro.specs.Views.{expanded_seen};
+ghost use Rattle.asm_macro.specs.Private.Collected.{Collected};
+ghost use Rattle.asm_macro.specs.Views.{expanded_seen, lines_seen};
 
-use crate::expander::Expander;
+use crate::expander::{Expander, Line};
 use crate::fault::MacroFault;
-use std::alloc::Global;
+use std::alloc::{AllocError, Global};
 
 /// A line of an expansion, and the number in the source of the line from which it comes.
 #[derive(Debug, Drop)]
@@ -20,6 +23,35 @@ pub struct Expanded {
     pub lines: Vec<ExpandedLine>,
 }
 
+/// Puts a line behind others.
+fn put(alloc: Global, lines: &mut Vec<ExpandedLine>, line: Line<'_>) -> Result<(), AllocError>
+    ensures { OnOk result (lines_seen lines.new.items ≡ lines_seen lines.old.items ++ seen line.entry ∷ []) }
+{
+    let text = Vec::from_slice(alloc, line.text)?;
+    lines.push(ExpandedLine {
+        number: line.number,
+        text,
+    })?;
+    Ok(())
+}
+
+/// Puts all lines that are still to come behind others.
+fn collect(
+    alloc: Global,
+    expander: &mut Expander<'_>,
+    lines: &mut Vec<ExpandedLine>,
+) -> Result<(), (u32, MacroFault)>
+    ensures { Collected expander.old.ahead (lines_seen lines.old.items) result (lines_seen lines.new.items) }
+{
+    while let Some(line) = expander.next_line()? {
+        let number = line.number;
+        if put(alloc, lines, line).is_err() {
+            return Err((number, MacroFault::NoMemory));
+        }
+    }
+    Ok(())
+}
+
 /// The expansion of a source text.
 ///
 /// # Errors
@@ -29,16 +61,9 @@ pub fn expand(alloc: Global, text: &[u8]) -> Result<Expanded, (u32, MacroFault)>
     ensures { IsExpanded text.now (expanded_seen result) }
 {
     let mut lines = Vec::new(alloc);
-    let mut expander = Expander::new(alloc, text);
-    while let Some(line) = expander.next_line()? {
-        let number = line.number;
-        let mut text = Vec::new(alloc);
-        if text.extend_from_slice(line.text).is_err() {
-            return Err((number, MacroFault::NoMemory));
-        }
-        if lines.push(ExpandedLine { number, text }).is_err() {
-            return Err((number, MacroFault::NoMemory));
-        }
+    let collected = collect(alloc, &mut Expander::new(alloc, text), &mut lines);
+    match collected {
+        Ok(()) => Ok(Expanded { lines }),
+        Err(stop) => Err(stop),
     }
-    Ok(Expanded { lines })
 }
