@@ -70,6 +70,7 @@ fn block_named(name: &[u8]) -> Option<BlockWord>
 }
 
 /// A line whose word, if it is one, is this token.
+#[inline(always)]
 fn worded<'a>(
     label: Option<&'a [u8]>,
     tokens: &'a [Token<'a>],
@@ -94,6 +95,7 @@ fn worded<'a>(
 }
 
 /// What stands behind a label, if there is one.
+#[inline(always)]
 fn headed<'a>(label: Option<&'a [u8]>, tokens: &'a [Token<'a>]) -> Form<'a>
     ensures { form_seen result ≡ headed (option_map (λ name. name.now) label.entry) (lexemes tokens.entry.now) }
 {
@@ -119,6 +121,7 @@ fn headed<'a>(label: Option<&'a [u8]>, tokens: &'a [Token<'a>]) -> Form<'a>
 }
 
 /// A line that begins with a name and a colon.
+#[inline(always)]
 fn labelled<'a>(name: &'a [u8], tokens: &'a [Token<'a>]) -> Form<'a>
     ensures { form_seen result ≡ labelled name.now (lexemes tokens.entry.now) }
 {

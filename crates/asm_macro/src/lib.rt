@@ -16,4 +16,5 @@ mod whole;
 
 pub use expander::{Expander, Line};
 pub use fault::MacroFault;
+pub use source::source_part;
 pub use whole::{Expanded, ExpandedLine, expand};

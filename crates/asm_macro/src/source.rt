@@ -26,8 +26,9 @@ fn end_of(text: &[u8]) -> usize
 }
 
 /// The text up to its first byte 1AH, CP/M's end of a text file.
-fn before_end(text: &[u8]) -> &[u8]
-    ensures { result.now ≡ source_part text.now }
+pub fn source_part(text: &[u8]) -> &[u8]
+    ensures part { result.now ≡ source_part text.now }
+    ensures within { length result.now ≤ length text.now }
 {
     &text[..end_of(text)]
 }
@@ -38,7 +39,7 @@ fn lines_of(alloc: Global, text: &[u8]) -> Result<Vec<&[u8]>, AllocError>
     ensures few { IfOk result (λ found. length found.items ≤ length text.now) }
 {
     let mut found = Vec::new(alloc);
-    for line in before_end(text).lines() {
+    for line in source_part(text).lines() {
         found.push(line)?;
     }
     Ok(found)

@@ -77,7 +77,7 @@ skipped (b ∷ bs) rest w =
 
 -- A line around its first token.
 
-whole_line : (line : List ℕ) (token : Lexeme) (after : List ℕ) → BeginsToken line token after → line ≡ (gap line ++ token.text) ++ after
+pub whole_line : (line : List ℕ) (token : Lexeme) (after : List ℕ) → BeginsToken line token after → line ≡ (gap line ++ token.text) ++ after
 whole_line line token after b = sym (take-append-drop (prefix_len is_blank line) line) ∙ ap (λ r. gap line ++ r) b.bytes_are ∙ sym (append_assoc (gap line) token.text after)
 
 some_front : (line : List ℕ) (token : Lexeme) (after : List ℕ) → BeginsToken line token after → 0 < length (gap line ++ token.text)

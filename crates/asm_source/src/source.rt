@@ -3,7 +3,7 @@
 ghost use Rattle.asm_source.specs.Source.{IsSourceText};
 
 use crate::fault::LineFault;
-use crate::last::{last_listed, line_count};
+use crate::last::last_listed;
 use crate::reading::{Reading, read_lines};
 use asm_macro::MacroFault;
 use asm_names::SourceLine;
@@ -29,8 +29,7 @@ pub fn read_source(alloc: Global, text: &[u8]) -> Result<SourceText, (u32, Macro
     ensures { IsSourceText text.now result }
 {
     let Reading { lines, unread } = read_lines(alloc, text)?;
-    let count = line_count(text);
-    let last = last_listed(&lines, count);
+    let last = last_listed(&lines, text);
     Ok(SourceText {
         lines,
         unread,

@@ -4,3 +4,4 @@ mod Openings
 mod Branches
 mod Books
 mod Unvaried
+mod Pairs

@@ -9,6 +9,7 @@ ghost use Rattle.asm_texts.specs.Lines.{form_of, heard};
 ghost use Rattle.asm_texts.specs.Blocks.{role_of_head};
 ghost use Rattle.asm_texts.specs.Blocks.{is_alone};
 ghost use Rattle.asm_texts.specs.Prepared.{said};
+ghost use Rattle.asm_texts.specs.Private.Pairs.{has_pair, is_pair};
 ghost use Rattle.asm_texts.specs.Spans.{shown};
 
 use crate::call::Call;
@@ -57,10 +58,40 @@ pub(crate) fn heard(alloc: Global, line: &[u8]) -> Result<Option<Vec<Token<'_>>>
     }
 }
 
+/// Whether two small letters stand side by side in IF, ELSE, ENDIF, MACRO, REPT or ENDM.
+fn is_pair(a: u8, b: u8) -> bool
+    ensures { result ≡ is_pair a b }
+{
+    (a == b'i' && b == b'f')
+        || (a == b'l' && b == b's')
+        || (a == b'c' && b == b'r')
+        || (a == b'p' && b == b't')
+        || (a == b'd' && b == b'm')
+}
+
+/// Whether two bytes of a line stand so, in either case: few lines without a word of blocks have such, and to look for them
+/// costs much less than to cut the line.
+fn has_pair(line: &[u8]) -> bool
+    ensures { result ≡ has_pair line.now }
+{
+    let mut before = 0;
+    for byte in line {
+        let small = byte.to_ascii_lowercase();
+        if is_pair(before, small) {
+            return true;
+        }
+        before = small;
+    }
+    false
+}
+
 /// What a line is to blocks. One that does not scan has no word.
 pub(crate) fn role_of(alloc: Global, line: &[u8]) -> Result<Role, AllocError>
     ensures { IfOk result (λ role. role ≡ role_of_head (form_of line.now).head) }
 {
+    if !has_pair(line) {
+        return Ok(Role::Other);
+    }
     match heard(alloc, line)? {
         Some(found) => Ok(role_of_head(form_of(&found).head)),
         None => Ok(Role::Other),
