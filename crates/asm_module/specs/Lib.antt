@@ -1,3 +1,4 @@
+pub mod Below
 pub mod Whys
 pub mod Source
 pub mod Assembled

@@ -8,8 +8,7 @@ use Rattle.asm_macro.specs.declared.fault.MacroFault.{MacroFault}
 use Rattle.asm_macro.specs.declared.fault.MacroFault.TheVariants as expansion
 use Rattle.asm_spell.specs.declared.fault.StmtFault.{StmtFault}
 use Rattle.asm_spell.specs.declared.fault.StmtFault.TheVariants as statement
-use Rattle.asm_module.specs.declared.fault.Why.{Why}
-use Rattle.asm_module.specs.declared.fault.Why.TheVariants as why
+use Rattle.zlink.specs.Types.{Why}
 
 abbrev pub scan_name : ScanFault → List ℕ
 scan_name scan.BadByte = codes "BadByte"
@@ -52,12 +51,12 @@ statement_name (statement.Expr fault) = expression_name fault
 statement_name statement.NoMemory = codes "NoMemory"
 
 abbrev pub why_name : Why → List ℕ
-why_name (why.Macro fault) = macro_name fault
-why_name (why.Stmt fault) = statement_name fault
-why_name why.Duplicate = codes "Duplicate"
-why_name why.Undefined = codes "Undefined"
-why_name why.PublicNotLabel = codes "PublicNotLabel"
-why_name why.EquCircle = codes "EquCircle"
-why_name why.TooManyStatements = codes "TooManyStatements"
-why_name why.TooManyNames = codes "TooManyNames"
-why_name why.NoMemory = codes "NoMemory"
+why_name (Why.Macro fault) = macro_name fault
+why_name (Why.Stmt fault) = statement_name fault
+why_name Why.Duplicate = codes "Duplicate"
+why_name Why.Undefined = codes "Undefined"
+why_name Why.PublicNotLabel = codes "PublicNotLabel"
+why_name Why.EquCircle = codes "EquCircle"
+why_name Why.TooManyStatements = codes "TooManyStatements"
+why_name Why.TooManyNames = codes "TooManyNames"
+why_name Why.NoMemory = codes "NoMemory"

@@ -1,7 +1,6 @@
 -- Why there is no file, and how it is printed: by name, with the numbers in parentheses; a fault of a line behind its source and line.
 use Rattle.std.specs.Prelude.{ℕ, List, ◌++◌, codes, decimal}
-use Rattle.asm_module.specs.declared.fault.AsmFault.{AsmFault}
-use Rattle.asm_module.specs.declared.fault.Why.{Why}
+use Rattle.zlink.specs.Types.{AsmFault, Why}
 use Rattle.zmo_object.specs.declared.fault.ObjectFault.{ObjectFault}
 use Rattle.zmo_object.specs.declared.fault.ObjectFault.TheVariants as object
 use Rattle.zlink_program.specs.declared.fault.JoinFault.{JoinFault}

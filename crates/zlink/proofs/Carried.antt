@@ -13,8 +13,7 @@ use Rattle.asm_expr.specs.declared.statement.Statement as sizing
 use Rattle.ruler.specs.Choice as choice
 use Rattle.ruler.specs.Choice.{Choice, bytes_before, place}
 use Rattle.ruler.proofs.Places.{place-next}
-use Rattle.asm_stands.specs.Stands.{size_of, sizes}
-use Rattle.asm_rules.specs.Program.{IsAt}
+use Rattle.asm_module.specs.Below.{IsAt, size_of, sizes}
 use Rattle.asm_reads.specs.Linked.{IsLike}
 use Rattle.asm_reads.specs.Pieces.{IsPiece}
 use Rattle.asm_reads.specs.Statement.{Statement}

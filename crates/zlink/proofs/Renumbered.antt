@@ -13,7 +13,7 @@ use Rattle.z80_form.specs.Numbers.{with_numbers}
 use Rattle.z80_instr.specs.Codes.{Codes}
 use Rattle.ruler.specs.declared.shape.Statement.{Statement as Sized}
 use Rattle.ruler.specs.declared.shape.Statement.TheVariants as sized
-use Rattle.asm_stands.specs.Stands.{size_of}
+use Rattle.asm_module.specs.Below.{size_of}
 use Rattle.asm_reads.specs.Linked.{IsLike, target_in}
 use Rattle.asm_reads.specs.Pieces as pieces
 use Rattle.asm_reads.specs.Pieces.{IsPiece, datum_bytes, valued, width}

@@ -1,3 +1,4 @@
+pub mod Types
 pub mod Program
 pub mod Reads
 pub mod Certified
