@@ -1,3 +1,4 @@
 pub mod Places
 pub mod Sizes
-pub mod TreeSums
+pub mod Moves
+pub mod Widening

@@ -1,2 +1,2 @@
 -- What private contracts alone cite: no reviewer need believe it.
-pub mod SumTree
+pub mod Spans

@@ -1,12 +1,20 @@
 //! How far a short jump reaches.
 
-ghost use Rattle.std.specs.Prelude.{◌↔◌, IsTrue};
-ghost use Rattle.ruler.specs.Choice.{IsNear};
+ghost use Rattle.ruler.specs.Private.Spans.{IsSpan};
 
-/// Whether a short jump at the place `from` reaches the place `to`: from its end, the displacement is -128 to 127.
-pub(crate) fn is_near(from: u32, to: u32) -> bool
-    ensures { IsTrue result ↔ IsNear from to }
+/// The longest span over which a short jump reaches its target.
+pub(crate) const LONGEST: u8 = 129;
+
+/// How far it is from a short jump to its target: the bytes from one place to the other, and three more where the
+/// target is behind, since a short jump reaches 129 bytes ahead of its first byte and 126 back. 255 stands for all
+/// that is longer.
+pub(crate) fn span(from: u32, to: u32) -> u8
+    ensures { IsSpan from to result }
 {
-    let gap = i64::from(to) - i64::from(from) - 2;
-    (-128..=127).contains(&gap)
+    let bytes = if from <= to {
+        to - from
+    } else {
+        (from - to).saturating_add(3)
+    };
+    bytes.min(255) as u8
 }

@@ -1,37 +1,41 @@
-//! A ruler over a tree of sums.
+//! A ruler that keeps how far each jump goes.
 
-use crate::limits::FIRST_PLACE;
-use crate::reach::is_near;
+use crate::reach::LONGEST;
 use crate::ruler::Ruler;
 use crate::shape::{Shape, Statement};
-use crate::sum_tree::SumTree;
+use crate::spans::{all_places, all_spans, all_targets, widen};
 use std::alloc::{AllocError, Global};
 use std::marker::Model;
 
-/// A program and the sizes of its statements, in a tree that gives each place and takes each change in a time in the
-/// order of the logarithm of their count.
+/// A program with how far each of its jumps goes. A test reads one number, and a change goes over the 257 statements
+/// around it at most.
 #[derive(Drop)]
 pub struct Sums {
     statements: Vec<Statement>,
     long: Vec<bool>,
-    tree: SumTree,
+    /// The statement that each goes to, itself where it is no jump.
+    targets: Vec<u16>,
+    /// How far that is, exact as far as a short jump reaches.
+    spans: Vec<u8>,
+    /// The bytes of all statements.
+    bytes: u32,
     asked: u64,
 }
 
 impl Model for Sums {
     ghost use Rattle.ruler.specs.Sums.{Layout};
-    ghost use Rattle.ruler.specs.Private.SumTree.{HoldsSizes};
+    ghost use Rattle.ruler.specs.Private.Spans.{HoldsSpans};
 
     ghost Value = { Layout };
 
     ghost view = { λ s. record { shape = s.statements.items; long = s.long.items; asked = s.asked } };
 
-    ghost invariant = { λ s. HoldsSizes s.statements.items s.long.items s.tree };
+    ghost invariant = { λ s. HoldsSpans s.statements.items s.long.items s.targets.items s.spans.items s.bytes };
 }
 
 impl Sums {
-    ghost use Rattle.std.specs.Prelude.{◌≡◌, ◌≤◌, ℕ, false, length, vec_len, IfOk, MatchOption};
-    ghost use Rattle.ruler.specs.Choice.{chosen, place, total, ShortsReach, IsLowestShortMiss};
+    ghost use Rattle.std.specs.Prelude.{◌≡◌, ◌<◌, ◌↔◌, ℕ, true, false, length, vec_len, IfOk, IsTrue, MatchOption};
+    ghost use Rattle.ruler.specs.Choice.{chosen, total, IsJump, IsShort, Reaches, ShortsReach, IsLowestShortMiss};
 
     /// The program with every jump short, and no test counted. Its only error is that memory runs out; no other method
     /// takes any.
@@ -42,31 +46,50 @@ impl Sums {
     {
         let statements = shape.statements().to_vec(alloc)?;
         let long = vec![in alloc; false; statements.len()]?;
-        let mut tree = SumTree::new(alloc, statements.len())?;
-        for (k, statement) in statements.iter().enumerate() {
-            tree.add(k, statement.size(false));
-        }
+        let targets = all_targets(alloc, &statements)?;
+        let places = all_places(alloc, &statements)?;
+        let spans = all_spans(alloc, &targets, &places)?;
+        let bytes = places[statements.len()];
         Ok(Sums {
             statements,
             long,
-            tree,
+            targets,
+            spans,
+            bytes,
             asked: 0,
         })
     }
 
-    /// Where statement `k` stands, or the end.
-    fn place(&self, k: usize) -> u32
-        requires { k ≤ length self.now.shape }
-        ensures { result ≡ place (chosen self.now.long) self.now.shape k }
+    /// Whether jump `k` reaches its target as a short jump.
+    fn reaches(&self, k: usize) -> bool
+        requires { k < length self.now.shape }
+        ensures jump { (t : ℕ) → IsJump self.now.shape k t →
+            (IsTrue result ↔ Reaches (chosen self.now.long) self.now.shape k t) }
+        ensures short { (t : ℕ) → IsShort self.now.shape k t →
+            (IsTrue result ↔ Reaches (chosen self.now.long) self.now.shape k t) }
     {
-        FIRST_PLACE + self.tree.sum_before(k)
+        self.spans[k] <= LONGEST
+    }
+
+    /// Whether statement `k` is a jump that is always short and does not reach its target.
+    fn misses(&self, k: usize) -> bool
+        requires { k < length self.now.shape }
+        ensures yes { result ≡ true → (t : ℕ) × IsShort self.now.shape k t
+            × (¬ Reaches (chosen self.now.long) self.now.shape k t) }
+        ensures none { result ≡ false → (t : ℕ) → IsShort self.now.shape k t →
+            Reaches (chosen self.now.long) self.now.shape k t }
+    {
+        match self.statements[k] {
+            Statement::Short(_) => !self.reaches(k),
+            Statement::Fixed(_) | Statement::Jump(_) => false,
+        }
     }
 
     /// The bytes of all statements.
     pub fn total(&self) -> u32
         ensures { result ≡ total (chosen self.now.long) self.now.shape }
     {
-        self.tree.sum_before(self.statements.len())
+        self.bytes
     }
 
     /// The lowest jump that is always short and does not reach its target.
@@ -74,11 +97,9 @@ impl Sums {
         ensures { MatchOption result (ShortsReach (chosen self.now.long) self.now.shape)
             (IsLowestShortMiss (chosen self.now.long) self.now.shape) }
     {
-        for (k, statement) in self.statements.iter().enumerate() {
-            if let Statement::Short(target) = *statement
-                && !is_near(self.place(k), self.place(target as usize))
-            {
-                return Some(k as u32);
+        for k in 0..self.len() {
+            if self.misses(k as usize) {
+                return Some(k);
             }
         }
         None
@@ -115,15 +136,13 @@ impl Ruler for Sums {
 
     fn fits(&mut self, k: u32) -> bool {
         self.asked += 1;
-        self.target(k).is_some_and(|target| is_near(
-            self.place(k as usize),
-            self.place(target as usize),
-        ))
+        self.reaches(k as usize)
     }
 
     fn lengthen(&mut self, k: u32) {
         self.long[k as usize] = true;
-        self.tree.add(k as usize, 1);
+        self.bytes += 1;
+        widen(&self.targets, &mut self.spans, k as usize);
     }
 
     fn asked(&self) -> u64 {
