@@ -1,73 +1,129 @@
--- The bytes before a statement, and whether a short jump reaches its target.
-use Rattle.std.proofs.Common.{◌≡◌, ℕ, zero, suc, ◌+◌, ◌-◌, ◌<◌, ◌≤◌, Bool, true, false, List, length, refl, ap, arith, inl, inr, get_or, add-one, MatchBool}
+-- The sizes of statements, the bytes before one, and whether a short jump reaches its target.
+use Rattle.std.proofs.Common.{◌≡◌, ℕ, zero, suc, ◌+◌, ◌-◌, ◌^◌, ◌<◌, ◌≤◌, Bool, true, false, List, [], ◌∷◌, All, length, refl, ap, sym, subst, ◌∙◌, arith, get_or, get_or-set_same, get_or-set_other, add-one, inl, inr, MatchBool, ◌⊎◌, not, sum, take, drop, nat_le}
 use Rattle.std.specs.Option.{option_map_or}
-use Rattle.std.proofs.lemmas.Bool.{cases_lt}
-use Rattle.std.proofs.lemmas.Option.{slice_get-get_or}
+use Rattle.std.specs.Prelude.{slice_set as set, slice_get}
+use Rattle.std.proofs.lemmas.Bool.{leb-true, cases_eq, cases_lt}
+use Rattle.std.proofs.lemmas.Option.{slice_get_within, slice_get_past}
+use Rattle.std.proofs.lemmas.List.{drop-take, get_or_past, length-set, take_all, take-take}
+use Rattle.std.proofs.lemmas.List.Elements.{All-head, All-set, All-tail}
+use Rattle.std.proofs.lemmas.List.Sums.{sum_by-cons, sum_by-le, sum_by-take-drop, sum_by_more}
 use Rattle.certificate.specs.declared.shape.Statement.{Statement}
-use Rattle.certificate.specs.Choice.{Choice, size_of, size_at, bytes_before, Reaches}
+use Rattle.certificate.specs.declared.shape.Statement.TheVariants.{Jump}
+use Rattle.certificate.specs.Choice.{Choice, chosen, size_of, IsShape, size_at, bytes_before, IsJump, IsNear, IsShort, Reaches, total}
+use Rattle.cert_check.specs.Faults.{IsStillShort}
+use Rattle.cert_check.specs.Private.Following.{IsLayout, IsSize}
 
-pub size_read : (c : Choice) (shape : List Statement) (k : ℕ) (d : Statement) → k < length shape → size_at c shape k ≡ size_of (c k) (get_or shape k d)
-size_read c shape k d lt = ap (λ o. option_map_or (size_of (c k)) o 0) (slice_get-get_or shape k d lt)
+-- Sums of sizes.
 
-pub bytes_step : (c : Choice) (shape : List Statement) (k : ℕ) → bytes_before c shape (k + 1) ≡ bytes_before c shape k + size_at c shape k
-unfolding bytes_before
-bytes_step c shape k = rw (add-one k) refl
+-- not too many of them are added up within a machine's number
+pub bytes_fit : (sizes : List ℕ) → All IsSize sizes → length sizes ≤ 20000 → sum sizes < 2 ^ 32
+bytes_fit sizes bytes few = let le = sum_by-le (λ x. x) 65535 sizes (λ k d lt. (bytes k d lt).1) in omega arith
 
-pub bytes_grow : (c : Choice) (shape : List Statement) (a b : ℕ) → a ≤ b → bytes_before c shape a ≤ bytes_before c shape b
-unfolding bytes_before
-bytes_grow c shape a zero le = let e : a ≡ 0 = omega arith in rw e (omega arith)
-bytes_grow c shape a (suc b) le =
-    elim (cases_lt b a) as (λ _. bytes_before c shape a ≤ bytes_before c shape (suc b)) [
-      | inl lt ↦ (let e : a ≡ suc b = omega arith in rw e (omega arith))
-      | inr ge ↦ (let before = bytes_grow c shape a b ge in omega arith)
-    ]
+at_least : (sizes : List ℕ) → All IsSize sizes → length sizes ≤ sum sizes
+at_least [] bytes = omega arith
+at_least (n ∷ ns) bytes =
+    let one = All-head IsSize n ns bytes in
+    let rest = at_least ns (All-tail IsSize n ns bytes) in
+    omega (arith, sum_by-cons (λ (x : ℕ). x) n ns)
 
--- what a walk goes through, a statement more
-pub walk_on : (c : Choice) (shape : List Statement) (k left bytes from limit : ℕ) (d : Statement) → k < length shape → bytes_before c shape k + left ≡ bytes_before c shape from + limit → bytes ≡ size_of (c k) (get_or shape k d) → bytes ≤ left → bytes_before c shape (k + 1) + (left - bytes) ≡ bytes_before c shape from + limit
-walk_on c shape k left bytes from limit d lt so_far size le =
-    let step = bytes_step c shape k in
-    let read = size_read c shape k d lt in
+-- more statements than a limit take more bytes than it
+pub too_many : (sizes : List ℕ) (limit : ℕ) → All IsSize sizes → limit < length sizes → MatchBool (nat_le (length sizes) limit) (sum sizes ≤ limit) (limit < sum sizes)
+too_many sizes limit bytes lt = by_test (nat_le (length sizes) limit) refl
+  where
+    by_test : (b : Bool) → nat_le (length sizes) limit ≡ b → MatchBool b (sum sizes ≤ limit) (limit < sum sizes)
+    by_test true e = let le = leb-true (length sizes) limit e in absurd (omega arith)
+    by_test false e = let least = at_least sizes bytes in omega arith
+
+-- a part is the difference of two sums
+part : (sizes : List ℕ) (a b : ℕ) → a ≤ b → sum (take a sizes) + sum (take (b - a) (drop a sizes)) ≡ sum (take b sizes)
+part sizes a b le =
+    let whole = sum_by-take-drop (λ (x : ℕ). x) (take (a + (b - a)) sizes) a in
+    let end : a + (b - a) ≡ b = omega arith in
+    (rw (take-take a (a + (b - a)) sizes (omega arith), drop-take a (b - a) sizes) at whole) ∙ ap (λ n. sum (take n sizes)) end
+
+ahead : (sizes : List ℕ) (k t : ℕ) → k < t → k < length sizes → get_or sizes k 0 ≡ 2 → sum (take t sizes) ≡ sum (take k sizes) + 2 + sum (take (t - (k + 1)) (drop (k + 1) sizes))
+ahead sizes k t lt within short =
+    let step = sum_by_more (λ (x : ℕ). x) sizes k 0 within in
+    let whole = part sizes (k + 1) t (omega arith) in
     omega arith
 
--- and a statement that is too much
-pub walk_stops : (c : Choice) (shape : List Statement) (k to left bytes from limit : ℕ) (d : Statement) → k < to → k < length shape → bytes_before c shape k + left ≡ bytes_before c shape from + limit → bytes ≡ size_of (c k) (get_or shape k d) → left < bytes → bytes_before c shape from + limit < bytes_before c shape to
-walk_stops c shape k to left bytes from limit d below lt so_far size more =
-    let step = bytes_step c shape k in
-    let read = size_read c shape k d lt in
-    let grown = bytes_grow c shape (k + 1) to (omega arith) in
-    omega arith
+-- the bytes up to a target ahead tell whether it is reached
+pub reached_ahead : (sizes : List ℕ) (k t : ℕ) (r : Bool) → k < t → k < length sizes → get_or sizes k 0 ≡ 2 → MatchBool r (sum (take (t - (k + 1)) (drop (k + 1) sizes)) ≤ 127) (127 < sum (take (t - (k + 1)) (drop (k + 1) sizes))) → MatchBool r (IsNear (sum (take k sizes)) (sum (take t sizes))) (¬ IsNear (sum (take k sizes)) (sum (take t sizes)))
+reached_ahead sizes k t true lt within short near = let e = ahead sizes k t lt within short in (omega arith, omega arith)
+reached_ahead sizes k t false lt within short far = λ near. (let e = ahead sizes k t lt within short in let high = near.1 in absurd (omega arith))
 
-pub add_on : (c : Choice) (shape : List Statement) (k bytes more : ℕ) (d : Statement) → k < length shape → bytes ≡ bytes_before c shape k → more ≡ size_of (c k) (get_or shape k d) → bytes + more ≡ bytes_before c shape (k + 1)
-add_on c shape k bytes more d lt so_far size =
-    let step = bytes_step c shape k in
-    let read = size_read c shape k d lt in
-    omega arith
+-- and so do those from a target behind
+pub reached_back : (sizes : List ℕ) (k t : ℕ) (r : Bool) → t ≤ k → MatchBool r (sum (take (k - t) (drop t sizes)) ≤ 126) (126 < sum (take (k - t) (drop t sizes))) → MatchBool r (IsNear (sum (take k sizes)) (sum (take t sizes))) (¬ IsNear (sum (take k sizes)) (sum (take t sizes)))
+reached_back sizes k t true le near = let e = part sizes t k le in (omega arith, omega arith)
+reached_back sizes k t false le far = λ near. (let e = part sizes t k le in let low = near.0 in absurd (omega arith))
 
-pub no_bytes : (c : Choice) (shape : List Statement) → bytes_before c shape 0 ≡ 0
+-- The bytes before a statement.
+
+-- the sum of the sizes before a statement is what the choice takes there
+pub sum_before : (c : Choice) (shape : List Statement) (sizes : List ℕ) → ((k : ℕ) → get_or sizes k 0 ≡ size_at c shape k) → (k : ℕ) → k ≤ length sizes → sum (take k sizes) ≡ bytes_before c shape k
 unfolding bytes_before
-no_bytes c shape = refl
+sum_before c shape sizes each zero le = refl
+sum_before c shape sizes each (suc k) le =
+    let step = sum_by_more (λ (x : ℕ). x) sizes k 0 (omega arith) in
+    let before = sum_before c shape sizes each k (omega arith) in
+    let here = each k in
+    let next : sum (take (suc k) sizes) ≡ sum (take (k + 1) sizes) = ap (λ n. sum (take n sizes)) (sym (add-one k)) in
+    omega arith
 
-ahead : (c : Choice) (shape : List Statement) (k t : ℕ) → size_at c shape k ≡ 2 → k < t → bytes_before c shape t ≤ bytes_before c shape (k + 1) + 127 → Reaches c shape k t
-ahead c shape k t short lt near =
-    let step = bytes_step c shape k in
-    let grown = bytes_grow c shape k t (omega arith) in
-    (omega arith, omega arith)
+pub all_bytes : (shape : List Statement) (long : List Bool) (sizes : List ℕ) → IsLayout shape long sizes → sum sizes ≡ total (chosen long) shape
+all_bytes shape long sizes layout =
+    sym (ap sum (take_all (length shape) sizes (omega (arith, layout.count)))) ∙ sum_before (chosen long) shape sizes layout.each (length shape) (omega (arith, layout.count))
 
-too_far_ahead : (c : Choice) (shape : List Statement) (k t : ℕ) → size_at c shape k ≡ 2 → bytes_before c shape (k + 1) + 127 < bytes_before c shape t → ¬ Reaches c shape k t
-too_far_ahead c shape k t short far (low, high) = let step = bytes_step c shape k in absurd (omega arith)
+pub all_fit : (shape : List Statement) (long : List Bool) (sizes : List ℕ) → IsLayout shape long sizes → sum sizes < 2 ^ 32
+all_fit shape long sizes layout = bytes_fit sizes layout.bytes (omega (arith, layout.count, layout.is_shape.few))
 
--- the walk to a target ahead tells whether it is reached
-pub reached_ahead : (c : Choice) (shape : List Statement) (k t : ℕ) (r : Bool) → size_at c shape k ≡ 2 → k < t → MatchBool r (bytes_before c shape t ≤ bytes_before c shape (k + 1) + 127) (bytes_before c shape (k + 1) + 127 < bytes_before c shape t) → MatchBool r (Reaches c shape k t) (¬ Reaches c shape k t)
-reached_ahead c shape k t true short lt near = ahead c shape k t short lt near
-reached_ahead c shape k t false short lt far = too_far_ahead c shape k t short far
+module _ (shape : List Statement) (long : List Bool) (sizes : List ℕ) (layout : IsLayout shape long sizes) (k t : ℕ) (within : k < length shape) (target : t ≤ length shape) where
+  places : (sum (take k sizes) ≡ bytes_before (chosen long) shape k) × (sum (take t sizes) ≡ bytes_before (chosen long) shape t)
+  places =
+      let count = layout.count in
+      (sum_before (chosen long) shape sizes layout.each k (omega arith), sum_before (chosen long) shape sizes layout.each t (omega arith))
 
-back : (c : Choice) (shape : List Statement) (k t : ℕ) → t ≤ k → bytes_before c shape k ≤ bytes_before c shape t + 126 → Reaches c shape k t
-back c shape k t le near = let grown = bytes_grow c shape t k le in (omega arith, omega arith)
+  pub reaches : IsNear (sum (take k sizes)) (sum (take t sizes)) → Reaches (chosen long) shape k t
+  reaches near = let (from, to) = places in let (low, high) = near in (omega arith, omega arith)
 
-too_far_back : (c : Choice) (shape : List Statement) (k t : ℕ) → bytes_before c shape t + 126 < bytes_before c shape k → ¬ Reaches c shape k t
-too_far_back c shape k t far (low, high) = absurd (omega arith)
+  pub reached : Reaches (chosen long) shape k t → IsNear (sum (take k sizes)) (sum (take t sizes))
+  reached near = let (from, to) = places in let (low, high) = near in (omega arith, omega arith)
 
--- and so does the walk from a target behind
-pub reached_back : (c : Choice) (shape : List Statement) (k t : ℕ) (r : Bool) → t ≤ k → MatchBool r (bytes_before c shape k ≤ bytes_before c shape t + 126) (bytes_before c shape t + 126 < bytes_before c shape k) → MatchBool r (Reaches c shape k t) (¬ Reaches c shape k t)
-reached_back c shape k t true le near = back c shape k t le near
-reached_back c shape k t false le far = too_far_back c shape k t far
+  same_target : (u : ℕ) → IsShort shape k t ⊎ (IsJump shape k t × (chosen long k ≡ false)) → IsShort shape k u ⊎ (IsJump shape k u × (chosen long k ≡ false)) → u ≡ t
+  same_target u (inl a) (inl b) = cc
+  same_target u (inl a) (inr b) = let jump = b.0 in absurd (cc)
+  same_target u (inr a) (inl b) = let jump = a.0 in absurd (cc)
+  same_target u (inr a) (inr b) = let one = a.0 in let other = b.0 in cc
+
+  -- a jump that is short is still short where it does not reach its target
+  pub still : (r : Bool) → IsShort shape k t ⊎ (IsJump shape k t × (chosen long k ≡ false)) → MatchBool r (IsNear (sum (take k sizes)) (sum (take t sizes))) (¬ IsNear (sum (take k sizes)) (sum (take t sizes))) → MatchBool (not r) (IsStillShort (chosen long) shape k) (¬ IsStillShort (chosen long) shape k)
+  still true jump near = λ s. s.misses (subst (λ u. Reaches (chosen long) shape k u) (sym (same_target s.target jump s.jump)) (reaches near))
+  still false jump far = record { target = t; jump = jump; misses = λ near. far (reached near) }
+
+-- a size for each statement is a layout
+pub laid : (shape : List Statement) (long : List Bool) (sizes : List ℕ) → IsShape shape → length long ≡ length shape → length sizes ≡ length shape → ((k : ℕ) → k < length shape → get_or sizes k 0 ≡ size_at (chosen long) shape k) → All IsSize sizes → IsLayout shape long sizes
+laid shape long sizes is_shape len count each bytes = record {
+  is_shape = is_shape;
+  len = len;
+  count = count;
+  each = λ k. elim (cases_lt k (length shape)) [
+    | inl lt ↦ each k lt
+    | inr ge ↦ get_or_past sizes k 0 (omega arith) ∙ sym (ap (λ o. option_map_or (size_of (chosen long k)) o 0) (slice_get_past shape k ge))
+  ];
+  bytes = bytes;
+}
+
+-- and once a jump more is long
+pub longer : (shape : List Statement) (long : List Bool) (sizes : List ℕ) (k t : ℕ) → IsLayout shape long sizes → IsJump shape k t → IsLayout shape (set long k true) (set sizes k 3)
+longer shape long sizes k t layout jump =
+    let within = slice_get_within shape k (Jump t) jump in
+    record {
+      is_shape = layout.is_shape;
+      len = length-set long k true ∙ layout.len;
+      count = length-set sizes k 3 ∙ layout.count;
+      each = λ j. elim (cases_eq j k) [
+        | inl e ↦ rw e (get_or-set_same sizes k 3 0 (omega (arith, layout.count)) ∙ sym (ap (λ o. option_map_or (size_of (get_or (set long k true) k false)) o 0) jump ∙ ap (λ b. size_of b (Jump t)) (get_or-set_same long k true false (omega (arith, layout.len)))))
+        | inr ne ↦ get_or-set_other sizes k j 3 0 ne ∙ layout.each j ∙ sym (ap (λ b. option_map_or (size_of b) (slice_get shape j) 0) (get_or-set_other long k j true false ne))
+      ];
+      bytes = All-set IsSize sizes k 3 (omega arith, omega arith) layout.bytes;
+    }

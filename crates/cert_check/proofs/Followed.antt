@@ -1,17 +1,18 @@
 -- A forcing order gone along, member by member.
-use Rattle.std.proofs.Common.{◌≡◌, ℕ, ◌+◌, ◌<◌, ◌≤◌, Bool, true, false, List, [], ◌∷◌, ◌++◌, length, refl, ap, sym, subst, ◌∙◌, arith, inl, inr, get_or, take, eqb, ◌||◌, get_or-set_same, get_or-set_other}
+use Rattle.std.proofs.Common.{◌≡◌, ℕ, ◌+◌, ◌<◌, ◌≤◌, Bool, true, false, List, [], ◌∷◌, ◌++◌, length, refl, ap, sym, subst, ◌∙◌, arith, inl, inr, get_or, take, eqb, ◌||◌, get_or-set_same, get_or-set_other, sum}
 use Rattle.std.specs.Prelude.{slice_set as set}
 use Rattle.std.proofs.lemmas.Bool.{cases_lt, cases_eq, eq-eqb, ne_eqb}
 use Rattle.std.proofs.lemmas.List.{take_all, take-append-le, take_more, length_push, length-set, get_or_push, get_or_append_left}
 use Rattle.std.proofs.lemmas.List.Folds.{list_any_more}
-use Rattle.std.proofs.lemmas.Option.{slice_get_within}
+use Rattle.std.proofs.lemmas.Option.{slice_get_within, get_or_from_slice_get}
 use Rattle.std.proofs.Math.Bool.{or-true, or-false}
 use Rattle.std.proofs.Math.Path.{fun_ext}
 use Rattle.certificate.specs.declared.shape.Statement.{Statement}
 use Rattle.certificate.specs.declared.shape.Statement.TheVariants.{Jump}
-use Rattle.certificate.specs.Choice.{chosen, IsJump, Reaches}
+use Rattle.certificate.specs.Choice.{chosen, IsAnyJump, IsJump, IsNear, IsShape, Fits, Reaches}
 use Rattle.certificate.specs.Forcing.{after, Misses, IsForcing}
-use Rattle.cert_check.specs.Private.Following.{Follows}
+use Rattle.cert_check.specs.Private.Following.{FailsAt, Follows, IsLayout}
+use Rattle.cert_check.proofs.Bytes.{reached, reaches}
 
 -- one member more
 after_more : (order : List ℕ) (i k : ℕ) → i < length order → after (take (i + 1) order) k ≡ (after (take i order) k || eqb (get_or order i 0) k)
@@ -40,13 +41,40 @@ flags_more long order i lt within flags k =
       | inr ne ↦ get_or-set_other long j k true false ne ∙ flags k ∙ sym (more ∙ ap (λ b. after (take i order) k || b) (ne_eqb j k (λ e. ne (sym e))) ∙ or-false (after (take i order) k))
     ]
 
-pub more : (shape : List Statement) (order : List ℕ) (long : List Bool) (i t : ℕ) → i < length order → Follows shape (take i order) long → IsJump shape (get_or order i 0) t → chosen long (get_or order i 0) ≡ false → ¬ Reaches (chosen long) shape (get_or order i 0) t → Follows shape (take (i + 1) order) (set long (get_or order i 0) true)
-more shape order long i t lt was jump short misses =
+-- a jump of a shape goes to one of its statements, or to the end
+target_within : (shape : List Statement) (k t : ℕ) → IsShape shape → IsJump shape k t → t ≤ length shape
+target_within shape k t is_shape jump =
+    let here : get_or shape k (Jump t) ≡ Jump t = get_or_from_slice_get shape k (Jump t) (Jump t) jump in
+    rw here at (is_shape.each k (Jump t) (slice_get_within shape k (Jump t) jump))
+
+pub more : (shape : List Statement) (order : List ℕ) (long : List Bool) (sizes : List ℕ) (i t : ℕ) → i < length order → Follows shape (take i order) long → IsLayout shape long sizes → IsJump shape (get_or order i 0) t → chosen long (get_or order i 0) ≡ false → ¬ IsNear (sum (take (get_or order i 0) sizes)) (sum (take t sizes)) → Follows shape (take (i + 1) order) (set long (get_or order i 0) true)
+more shape order long sizes i t lt was layout jump short far =
     let same : chosen long ≡ after (take i order) = fun_ext was.flags in
     let len = was.len in
     let within = slice_get_within shape (get_or order i 0) (Jump t) jump in
+    let misses : ¬ Reaches (chosen long) shape (get_or order i 0) t = λ near. far (reached shape long sizes layout (get_or order i 0) t within (target_within shape (get_or order i 0) t layout.is_shape jump) near) in
     record {
       forcing = forcing_more shape order i lt was.forcing (record { target = t; jump = jump; short = sym (was.flags (get_or order i 0)) ∙ short; misses = subst (λ c. ¬ Reaches c shape (get_or order i 0) t) same misses });
       len = length-set long (get_or order i 0) true ∙ was.len;
       flags = flags_more long order i lt (omega arith) was.flags;
+    }
+
+-- a member that reaches its target is not forced
+pub not_forced : (shape : List Statement) (order : List ℕ) (long : List Bool) (sizes : List ℕ) (i t : ℕ) → i < length order → Follows shape (take i order) long → IsLayout shape long sizes → IsJump shape (get_or order i 0) t → chosen long (get_or order i 0) ≡ false → IsNear (sum (take (get_or order i 0) sizes)) (sum (take t sizes)) → FailsAt (λ before k. IsAnyJump shape k × (after before k ≡ false) × Fits (after before) shape k) shape order (i + 2)
+not_forced shape order long sizes i t lt was layout jump short near =
+    let k = get_or order i 0 in
+    let within = slice_get_within shape k (Jump t) jump in
+    let target = target_within shape k t layout.is_shape jump in
+    record {
+      index = i;
+      within = lt;
+      number = refl;
+      forcing = was.forcing;
+      wrong = (
+        (t, jump),
+        sym (was.flags k) ∙ short,
+        λ u named. (
+            let same : u ≡ t = cc in
+            subst (λ c. Reaches c shape k u) (fun_ext was.flags) (rw same (reaches shape long sizes layout k t within target near))),
+      );
     }

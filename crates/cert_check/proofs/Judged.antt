@@ -4,7 +4,7 @@ use Rattle.std.proofs.lemmas.Bool.{cases_lt}
 use Rattle.std.proofs.lemmas.Option.{slice_get_within}
 use Rattle.certificate.specs.declared.shape.Statement.{Statement}
 use Rattle.certificate.specs.declared.shape.Statement.TheVariants.{Jump, Short}
-use Rattle.certificate.specs.declared.cert.Verdict.TheVariants.{Best}
+use Rattle.certificate.specs.declared.cert.Verdict.TheVariants.{Best, TooLarge}
 use Rattle.certificate.specs.Choice.{Choice, IsNear, IsSettled, ShortsReach, place, total}
 use Rattle.cert_check.specs.Types.{CheckFault}
 use Rattle.cert_check.specs.declared.fault.CheckFault.TheVariants.{BadSizes, BadCertificate, NotForced, NotAJump, Repeated, StillShort, WrongTotal, NotOutOfRange, NoMemory}
@@ -49,3 +49,16 @@ best_judged c shape n (Err (Repeated line)) none checked = absurd checked
 best_judged c shape n (Err (StillShort k)) none checked = absurd checked
 best_judged c shape n (Err (NotOutOfRange k)) none checked = absurd checked
 best_judged c shape n (Err NoMemory) none checked = absurd checked
+
+-- and so it is where the program is too large
+pub large_judged : (c : Choice) (shape : List Statement) (n : ℕ) (r : Result (Unit {0}) CheckFault) → IsTotalChecked (total c shape) (TooLarge n) r → IsJudged c shape (TooLarge n) r
+large_judged c shape n (Ok _) checked = let (same, above) = checked in (same, omega arith)
+large_judged c shape n (Err WrongTotal) checked = checked
+large_judged c shape n (Err (BadSizes line)) checked = absurd checked
+large_judged c shape n (Err (BadCertificate line)) checked = absurd checked
+large_judged c shape n (Err (NotForced line)) checked = absurd checked
+large_judged c shape n (Err (NotAJump line)) checked = absurd checked
+large_judged c shape n (Err (Repeated line)) checked = absurd checked
+large_judged c shape n (Err (StillShort k)) checked = absurd checked
+large_judged c shape n (Err (NotOutOfRange k)) checked = absurd checked
+large_judged c shape n (Err NoMemory) checked = absurd checked

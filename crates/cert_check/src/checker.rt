@@ -12,6 +12,7 @@ ghost use Rattle.cert_check.specs.Checks.{Checks, IsChecked};
 use crate::fault::CheckFault;
 use crate::forced::follow;
 use crate::laws::one_answer;
+use crate::layout::sizes_of;
 use crate::verdict::judge;
 use certificate::laws::accepted;
 use certificate::{TextFault, Verdict, read_cert, read_sizes};
@@ -33,7 +34,8 @@ fn judged(alloc: Global, sizes: &[u8], cert: &[u8]) -> Result<Verdict, CheckFaul
     };
     let statements = shape.statements();
     let long = follow(alloc, statements, &cert.order)?;
-    judge(statements, &long, cert.verdict)?;
+    let sizes = sizes_of(alloc, statements, &long)?;
+    judge(statements, &long, &sizes, cert.verdict)?;
     Ok(cert.verdict)
 }
 

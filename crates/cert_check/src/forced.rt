@@ -1,24 +1,24 @@
 //! The members of a forcing order, one after the other.
 
-ghost use Rattle.std.specs.Prelude.{◌≡◌, ◌<◌, ◌≤◌, length, MatchBool};
-ghost use Rattle.certificate.specs.Choice.{IsShape, Reaches, chosen, size_at};
-ghost use Rattle.cert_check.specs.Private.Following.{IsFollowed, IsLayout};
+ghost use Rattle.std.specs.Prelude.{◌≡◌, ◌<◌, ◌≤◌, All, MatchBool, length, slice_index, sum, take};
+ghost use Rattle.certificate.specs.Choice.{IsNear, IsShape};
+ghost use Rattle.cert_check.specs.Private.Following.{IsFollowed, IsSize};
 
 use crate::fault::CheckFault;
-use crate::layout::reaches;
+use crate::layout::{LONG, reaches, sizes_of};
 use certificate::Statement;
 use std::alloc::Global;
 
-/// Whether a jump has to be long where these are: it would not reach its target if it were short.
-fn is_forced(statements: &[Statement], long: &[bool], k: usize, target: usize) -> bool
-    requires layout { IsLayout statements.now long.now }
-    requires jump { k < length statements.now }
-    requires short { size_at (chosen long.now) statements.now k ≡ 2 }
-    requires target { target ≤ length statements.now }
-    ensures { MatchBool result (¬ Reaches (chosen long.now) statements.now k target)
-        (Reaches (chosen long.now) statements.now k target) }
+/// Whether a jump has to be long where statements take so much: it would not reach its target if it were short.
+fn is_forced(sizes: &[u32], k: usize, target: usize) -> bool
+    requires bytes { All IsSize sizes.now }
+    requires jump { k < length sizes.now }
+    requires short { slice_index sizes.now k ≡ 2 }
+    requires target { target ≤ length sizes.now }
+    ensures { MatchBool result (¬ IsNear (sum (take k sizes.now)) (sum (take target sizes.now)))
+        (IsNear (sum (take k sizes.now)) (sum (take target sizes.now))) }
 {
-    !reaches(statements, long, k, target)
+    !reaches(sizes, k, target)
 }
 
 /// A flag for each statement, set for the members of the order, or the first of its lines that is wrong.
@@ -31,6 +31,7 @@ pub(crate) fn follow(
     ensures { IsFollowed statements.now order.now result }
 {
     let mut long = vec![in alloc; false; statements.len()]?;
+    let mut sizes = sizes_of(alloc, statements, &long)?;
     for i in 0..order.len() {
         let line = i + 2;
         let k = order[i] as usize;
@@ -40,10 +41,11 @@ pub(crate) fn follow(
         if long[k] {
             return Err(CheckFault::Repeated(line));
         }
-        if !is_forced(statements, &long, k, *target as usize) {
+        if !is_forced(&sizes, k, *target as usize) {
             return Err(CheckFault::NotForced(line));
         }
         long[k] = true;
+        sizes[k] = LONG;
     }
     Ok(long)
 }

@@ -1,7 +1,7 @@
 //! The verdict after the whole order.
 
-ghost use Rattle.std.specs.Prelude.{MatchBool};
-ghost use Rattle.certificate.specs.Choice.{chosen, total};
+ghost use Rattle.std.specs.Prelude.{◌<◌, ◌^◌, MatchBool, sum};
+ghost use Rattle.certificate.specs.Choice.{chosen};
 ghost use Rattle.certificate.specs.Accepts.{IsOutOfRange};
 ghost use Rattle.cert_check.specs.Private.Following.{IsJudged, IsLayout, IsTotalChecked};
 
@@ -10,23 +10,23 @@ use crate::layout::{first_miss, misses, total};
 use certificate::{MAX_TOTAL, Statement, Verdict};
 
 /// Whether a statement is a jump that is always short and does not reach its target.
-fn is_out_of_range(statements: &[Statement], long: &[bool], k: usize) -> bool
-    requires { IsLayout statements.now long.now }
+fn is_out_of_range(statements: &[Statement], long: &[bool], sizes: &[u32], k: usize) -> bool
+    requires { IsLayout statements.now long.now sizes.now }
     ensures { MatchBool result (IsOutOfRange (chosen long.now) statements.now k)
         (¬ IsOutOfRange (chosen long.now) statements.now k) }
 {
     match statements.get(k) {
-        Some(Statement::Short(_)) => misses(statements, long, k),
+        Some(Statement::Short(_)) => misses(statements, long, sizes, k),
         _ => false,
     }
 }
 
 /// Whether the program takes as many bytes as a verdict says, and they are few or too many, as it says.
-fn check_total(statements: &[Statement], long: &[bool], verdict: Verdict) -> Result<(), CheckFault>
-    requires { IsLayout statements.now long.now }
-    ensures { IsTotalChecked (total (chosen long.now) statements.now) verdict result }
+fn check_total(sizes: &[u32], verdict: Verdict) -> Result<(), CheckFault>
+    requires { sum sizes.now < 2 ^ 32 }
+    ensures { IsTotalChecked (sum sizes.now) verdict result }
 {
-    let bytes = total(statements, long);
+    let bytes = total(sizes);
     let fits = bytes <= MAX_TOTAL;
     match verdict {
         Verdict::Best(n) if bytes == n && fits => Ok(()),
@@ -40,18 +40,19 @@ fn check_total(statements: &[Statement], long: &[bool], verdict: Verdict) -> Res
 pub(crate) fn judge(
     statements: &[Statement],
     long: &[bool],
+    sizes: &[u32],
     verdict: Verdict,
 ) -> Result<(), CheckFault>
-    requires { IsLayout statements.now long.now }
+    requires { IsLayout statements.now long.now sizes.now }
     ensures { IsJudged (chosen long.now) statements.now verdict result }
 {
     match verdict {
-        Verdict::Best(_) => match first_miss(statements, long) {
+        Verdict::Best(_) => match first_miss(statements, long, sizes) {
             Some(k) => Err(CheckFault::StillShort(k)),
-            None => check_total(statements, long, verdict),
+            None => check_total(sizes, verdict),
         },
-        Verdict::Range(k) if is_out_of_range(statements, long, k as usize) => Ok(()),
+        Verdict::Range(k) if is_out_of_range(statements, long, sizes, k as usize) => Ok(()),
         Verdict::Range(k) => Err(CheckFault::NotOutOfRange(k)),
-        Verdict::TooLarge(_) => check_total(statements, long, verdict),
+        Verdict::TooLarge(_) => check_total(sizes, verdict),
     }
 }

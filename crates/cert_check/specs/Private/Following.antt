@@ -1,9 +1,10 @@
-use Rattle.std.specs.Prelude.{◌≡◌, ℕ, ◌+◌, ◌<◌, true, false, List, length, slice_index, take, Result, Ok, Err, Option, Some, None, Vec, Bool}
+use Rattle.std.specs.Prelude.{◌≡◌, ℕ, ◌+◌, ◌<◌, ◌≤◌, All, true, false, List, length, slice_index, take, Result, Ok, Err, Option, Some, None, Vec, Bool}
 use Rattle.std.specs.Global.{Global}
+use Rattle.std.specs.List.{slice_index_or}
 use Rattle.certificate.specs.declared.shape.Statement.{Statement}
 use Rattle.certificate.specs.declared.cert.Verdict.{Verdict}
 use Rattle.certificate.specs.declared.cert.Verdict.TheVariants.{Best, Range, TooLarge}
-use Rattle.certificate.specs.Choice.{Choice, chosen, IsShape, IsAnyJump, Fits, total}
+use Rattle.certificate.specs.Choice.{Choice, chosen, IsShape, IsAnyJump, Fits, size_at, total}
 use Rattle.certificate.specs.Forcing.{after, IsForcing}
 use Rattle.certificate.specs.Accepts.{IsOutOfRange, Shows}
 use Rattle.cert_check.specs.Types.{CheckFault}
@@ -12,10 +13,17 @@ use Rattle.cert_check.specs.Faults.{IsStillShort, HasTotal}
 
 -- What is found on the way along an order.
 
--- a flag for each statement of a shape
-pub record IsLayout (shape : List Statement) (long : List Bool) : Type 0 where
+-- what a statement may take
+abbrev pub IsSize : ℕ → Type 0
+IsSize bytes = (1 ≤ bytes) × (bytes ≤ 65535)
+
+-- a flag for each statement of a shape, and how many bytes each takes by them
+pub record IsLayout (shape : List Statement) (long : List Bool) (sizes : List ℕ) : Type 0 where
   pub is_shape : IsShape shape
   pub len : length long ≡ length shape
+  pub count : length sizes ≡ length shape
+  pub each : (k : ℕ) → slice_index_or sizes k 0 ≡ size_at (chosen long) shape k
+  pub bytes : All IsSize sizes
 
 -- flags that say what an order does
 pub record Follows (shape : List Statement) (order : List ℕ) (long : List Bool) : Type 0 where

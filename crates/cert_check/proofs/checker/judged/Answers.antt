@@ -22,13 +22,13 @@ returns-in_err-judge c =
     let cert = c.in-Ok-read_cert.cert in
     let fault = c.in_err-judge.field-0.0 in
     let followed = rw (c.statements-statements.ensures.value, c.deref.ensures.value) at c.in_ok-long.ensures in
-    let over_shape = subst (λ s. IsJudged (chosen c.deref-2.result.now) s cert.verdict (Err fault)) c.statements-statements.ensures.value c.in_err-judge.ensures in
-    let judged = subst (λ long. IsJudged (chosen long) shape cert.verdict (Err fault)) c.deref-2.ensures.value over_shape in
+    let over_shape = subst (λ s. IsJudged (chosen c.deref-3.result.now) s cert.verdict (Err fault)) c.statements-statements.ensures.value c.in_err-judge.ensures in
+    let judged = subst (λ long. IsJudged (chosen long) shape cert.verdict (Err fault)) c.deref-3.ensures.value over_shape in
     rw (from.1, from.2) (judge_fault c.args.sizes.now c.args.cert.now shape cert.order.items c.in_ok-long.long.items cert.verdict fault c.in-Ok.ensures.read c.in-Ok-read_cert.ensures.read followed judged)
 
 pub returns : goal.returns
 returns c =
     let cert = c.in-Ok-read_cert.cert in
     let followed = rw (c.statements-statements.ensures.value, c.deref.ensures.value) at c.in_ok-long.ensures in
-    let judged = rw (c.statements-statements.ensures.value, c.deref-2.ensures.value) at c.in_ok-judge.ensures in
+    let judged = rw (c.statements-statements.ensures.value, c.deref-3.ensures.value) at c.in_ok-judge.ensures in
     passed c.args.sizes.now c.args.cert.now c.in-Ok.shape cert.order.items c.in_ok-long.long.items cert.verdict tt c.in-Ok.ensures.read c.in-Ok-read_cert.ensures.read followed judged
