@@ -8,17 +8,15 @@ pub(crate) struct RelaxableJump {
 }
 
 impl RelaxableJump {
-    ghost use Rattle.std.specs.Prelude.{◌↔◌, IsTrue};
+    ghost use Rattle.std.specs.Prelude.{◌≡◌, ◌≢◌, true};
     ghost use Rattle.relax.specs.Private.Worklist.{PassesOver};
 
-    /// Whether its displacement spans statement `k`, so that the size of `k` counts.
+    /// Whether its displacement spans statement `k`, which is not its own, so that the size of `k` counts: either its
+    /// statement is before `k` and its target behind, or the other way round.
     pub(crate) fn passes_over(self, k: u32) -> bool
-        ensures { IsTrue result ↔ PassesOver self.statement self.target k }
+        ensures over { PassesOver self.statement self.target k → result ≡ true }
+        ensures only { self.statement ≢ k → result ≡ true → PassesOver self.statement self.target k }
     {
-        if self.statement < k {
-            k < self.target
-        } else {
-            self.target <= k && k < self.statement
-        }
+        (self.statement < k) != (self.target <= k)
     }
 }

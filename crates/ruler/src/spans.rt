@@ -103,6 +103,7 @@ fn widen_back(targets: &[u16], spans: &mut [u8], k: u16, low: usize, high: usize
 }
 
 /// Widens the spans of what goes over statement `k`, which grew by a byte, except where that is out of reach anyway.
+#[inline(never)]
 pub(crate) fn widen(targets: &[u16], spans: &mut [u8], k: usize)
     requires at { k < length targets.now }
     requires few { length targets.now ≤ MAX_STATEMENTS }
