@@ -50,7 +50,7 @@ fn whole(items: Vec<Item<Atom>>, rest: &[u8]) -> Option<Vec<Item<Atom>>>
 fn items_of(alloc: Global, bytes: &[u8]) -> Result<Option<Vec<Item<Atom>>>, AllocError>
     ensures { IfOk result (λ found. option_map (λ items. items.items) found ≡ items_of bytes.now) }
 {
-    let mut items = Vec::new(alloc);
+    let mut items = Vec::with_capacity(alloc, bytes.len().div_ceil(2))?;
     let mut rest = bytes;
     for _ in 0..MOST_ITEMS {
         let Some((first, after)) = item(rest) else {

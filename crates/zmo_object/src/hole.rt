@@ -9,6 +9,7 @@ ghost use Rattle.zmo_object.specs.Texts.{hole_text};
 ghost use Rattle.zmo_object.specs.Reading.{fits_width, fitting, hole_at, is_blank, is_place, value_at, value_of};
 
 use crate::code::{width, width_code};
+use crate::room::room;
 use asm_expr::has_places;
 use std::alloc::{AllocError, Global};
 use zmo_fields::{FieldFault, counted, expr_of, put_byte, put_expr, put_word, word};
@@ -144,6 +145,9 @@ fn hole<'a>(
     ))
 }
 
+/// The fewest bytes of a hole: an offset, a width, and a number behind its length.
+const LEAST_HOLE: usize = 7;
+
 /// So many holes of the content.
 pub(crate) fn holes<'a>(
     alloc: Global,
@@ -154,7 +158,7 @@ pub(crate) fn holes<'a>(
 ) -> Result<(Vec<Hole>, &'a [u8]), FieldFault>
     ensures { Gives (λ x. (x.0.items, x.1.now)) result (many (hole_at refs content.now) (λ _ h. h.offset + size_of h.width) 0 count bytes.now) }
 {
-    let mut holes = Vec::new(alloc);
+    let mut holes = Vec::with_capacity(alloc, room(count, LEAST_HOLE, bytes))?;
     let mut rest = bytes;
     let mut from = 0;
     for _ in 0..count {

@@ -11,11 +11,19 @@ ghost use Rattle.zmo_object.specs.Private.{Labelled, Named, counts_of, lists_of}
 
 use crate::header::Counts;
 use crate::names::Names;
+use crate::room::room;
 use asm_parse::is_name;
 use name_key::NameKey;
 use std::alloc::{AllocError, Global};
 use zmo_fields::{FieldFault, counted, number, put_counted, put_word};
 use zmo_module::Label;
+
+/// The fewest bytes of a label: a statement's number, and a name of one byte behind its length.
+const LEAST_LABEL: usize = 4;
+/// The bytes of a public.
+const LEAST_PUBLIC: usize = 2;
+/// The fewest bytes of an external: a name of one byte behind its length.
+const LEAST_EXTERNAL: usize = 2;
 
 /// The labels, publics and externals of a module.
 #[derive(Drop)]
@@ -112,7 +120,7 @@ fn labels<'a>(
     ensures read { Gives (λ x. (map label_of x.0.items, x.1.now)) result (many (label_at statements) with_label names.old count bytes.now) }
     ensures names { IfOk result (λ x. names.new ≡ names.old ++ map (λ l. l.name) (map label_of x.0.items)) }
 {
-    let mut labels = Vec::new(alloc);
+    let mut labels = Vec::with_capacity(alloc, room(count, LEAST_LABEL, bytes))?;
     let mut rest = bytes;
     for _ in 0..count {
         let (next, after) = label(alloc, statements, names, rest)?;
@@ -131,7 +139,7 @@ fn publics<'a>(
 ) -> Result<(Vec<u16>, &'a [u8]), FieldFault>
     ensures { Gives (λ x. (x.0.items, x.1.now)) result (many (public_at labels) (λ _ p. p + 1) 0 count bytes.now) }
 {
-    let mut publics = Vec::new(alloc);
+    let mut publics = Vec::with_capacity(alloc, room(count, LEAST_PUBLIC, bytes))?;
     let mut rest = bytes;
     let mut least = 0;
     for _ in 0..count {
@@ -152,7 +160,7 @@ fn externals<'a>(
 ) -> Result<(Vec<Vec<u8>>, &'a [u8]), FieldFault>
     ensures { Gives (λ x. (map (λ name. name.items) x.0.items, x.1.now)) result (many name_at with_name names.old count bytes.now) }
 {
-    let mut externals = Vec::new(alloc);
+    let mut externals = Vec::with_capacity(alloc, room(count, LEAST_EXTERNAL, bytes))?;
     let mut rest = bytes;
     for _ in 0..count {
         let (next, after) = name(names, rest)?;

@@ -11,6 +11,7 @@ mod label;
 pub mod laws;
 mod names;
 mod reading;
+mod room;
 mod statement;
 mod writing;
 

@@ -13,10 +13,14 @@ ghost use Rattle.zmo_object.specs.Private.{answered};
 use crate::fault::{ObjectFault, fault_in};
 use crate::header::read_header;
 use crate::label::read_lists;
+use crate::room::room;
 use crate::statement::statement;
 use std::alloc::Global;
 use zmo_fields::FieldFault;
 use zmo_module::{Module, Statement};
+
+/// The fewest bytes of a statement: a jump, or a space.
+const LEAST_STATEMENT: usize = 4;
 
 /// So many statements.
 fn statements<'a>(
@@ -28,7 +32,7 @@ fn statements<'a>(
 ) -> Result<(Vec<Statement>, &'a [u8]), FieldFault>
     ensures { Gives (λ x. (map statement_of x.0.items, x.1.now)) result (each (statement_at grow refs) count bytes.now) }
 {
-    let mut statements = Vec::new(alloc);
+    let mut statements = Vec::with_capacity(alloc, room(count, LEAST_STATEMENT, bytes))?;
     let mut rest = bytes;
     for _ in 0..count {
         let (next, after) = statement(alloc, grow, refs, rest)?;

@@ -8,7 +8,7 @@ use Rattle.zmo_object.proofs.hole.holes.Goals as goal
 
 pub returns-in_err-next : goal.returns-in_err-next
 returns-in_err-next c =
-    let p = err_from_is_err_and c.from_residual.result c.from_residual.ensures.1 in
+    let p = err_from_is_err_and c.from_residual-in_err-next.result c.from_residual-in_err-next.ensures.1 in
     rw (p.1, p.2) (ends (hole_at c.args.refs c.args.content.now) (λ _ h. h.offset + size_of h.width)
     c.loop.holes.items c.loop.from c.args.count c.loop.counter c.loop.rest.now
     (many (hole_at c.args.refs c.args.content.now) (λ _ h. h.offset + size_of h.width) 0 c.args.count c.args.bytes.now) c.in_err-next.field-0.0 c.loop-test.true c.in_err-next.ensures c.loop.invariant)

@@ -9,7 +9,7 @@ use Rattle.zmo_object.proofs.label.labels.Goals as goal
 
 pub returns-in_err-next-clause-read : goal.returns-in_err-next-clause-read
 returns-in_err-next-clause-read c =
-    let p = err_from_is_err_and c.from_residual.result c.from_residual.ensures.1 in
+    let p = err_from_is_err_and c.from_residual-in_err-next.result c.from_residual-in_err-next.ensures.1 in
     rw (p.1, p.2) (ends (label_at c.args.statements) with_label (map label_of c.loop.labels.items) c.loop.names c.args.count c.loop.counter c.loop.rest.now
     (many (label_at c.args.statements) with_label c.args.names.now c.args.count c.args.bytes.now) c.in_err-next.field-0.0 c.loop-test.true c.in_err-next.ensures c.loop.invariant.read)
 

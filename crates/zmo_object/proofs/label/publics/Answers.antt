@@ -7,7 +7,7 @@ use Rattle.zmo_object.proofs.label.publics.Goals as goal
 
 pub returns-in_err-next : goal.returns-in_err-next
 returns-in_err-next c =
-    let p = err_from_is_err_and c.from_residual.result c.from_residual.ensures.1 in
+    let p = err_from_is_err_and c.from_residual-in_err-next.result c.from_residual-in_err-next.ensures.1 in
     let whole = many (public_at c.args.labels) (λ _ p. p + 1) 0 c.args.count c.args.bytes.now in
     rw (p.1, p.2) (as_fault c.in_err-next.field-0.0 whole (fails (public_at c.args.labels) (λ _ p. p + 1) c.loop.publics.items c.loop.least c.args.count c.loop.counter c.loop.rest.now whole c.in_err-next.field-0.0 c.loop-test.true c.in_err-next.ensures c.loop.invariant))
 

@@ -9,7 +9,7 @@ use Rattle.zmo_object.proofs.reading.statements.Goals as goal
 
 pub returns-in_err-next : goal.returns-in_err-next
 returns-in_err-next c =
-    let p = err_from_is_err_and c.from_residual.result c.from_residual.ensures.1 in
+    let p = err_from_is_err_and c.from_residual-in_err-next.result c.from_residual-in_err-next.ensures.1 in
     rw (p.1, p.2) (ends (λ (none : ℕ). statement_at c.args.grow c.args.refs) (λ none _. none)
     (map statement_of c.loop.statements.items) 0 c.args.count c.loop.counter c.loop.rest.now (each (statement_at c.args.grow c.args.refs) c.args.count c.args.bytes.now)
     c.in_err-next.field-0.0 c.loop-test.true c.in_err-next.ensures c.loop.invariant)
