@@ -44,7 +44,7 @@ Remains (Halted number why) lines end = (lines ≡ []) × (end ≡ Stopped numbe
 abbrev pub seen : Line → Numbered
 seen l = record { number = l.number; text = l.text.now }
 
--- An expander: the line that it gave last, and what is still to come.
+-- An expander: the line that its last call gave, where it gave one, and what is still to come.
 pub record Standing : Type 0 where
   pub given : Numbered
   pub ahead : Ahead

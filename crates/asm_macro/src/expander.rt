@@ -182,7 +182,7 @@ impl<'a> Expander<'a> {
         }
     }
 
-    /// The line that was given last.
+    /// The line that the last call gave, where it gave one.
     pub fn line(&self) -> Line<'_>
         ensures { seen result ≡ self.now.given }
     {

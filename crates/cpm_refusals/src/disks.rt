@@ -32,7 +32,8 @@ pub(crate) fn mounted(alloc: Global, kind: DiskKind) -> Result<Disk<MemoryImage>
     };
     let device = match Disk::mount(alloc, image) {
         Ok(disk) => return Ok(disk),
-        Err((_, device)) => device,
+        Err((DiskFault::NoMemory, device)) => device,
+        Err((fault, _)) => return Err(fault),
     };
     if !is_blank(&device) {
         return Err(DiskFault::Fault);
@@ -47,7 +48,8 @@ pub(crate) fn mounted(alloc: Global, kind: DiskKind) -> Result<Disk<MemoryImage>
 fn count_of(alloc: Global, disk: &Disk<MemoryImage>) -> Result<usize, DiskFault> {
     match disk.list(alloc) {
         Ok(files) => Ok(files.len()),
-        Err(_) => Ok(disk.list(alloc)?.len()),
+        Err(DiskFault::NoMemory) => Ok(disk.list(alloc)?.len()),
+        Err(fault) => Err(fault),
     }
 }
 

@@ -47,7 +47,7 @@ fn run_again<W: Write>(
     }
     match Disk::mount(alloc, image) {
         Ok(disk) => show_end(out, &ended(alloc, program, disk, end.console)),
-        Err(_) => Ok(write!(out, "NoMemory")?),
+        Err((fault, _)) => Ok(write!(out, "{fault:?}")?),
     }
 }
 
@@ -58,8 +58,9 @@ pub(crate) fn answer_run<W: Write>(
     name: &str,
 ) -> Result<(), anyhow::Error> {
     let program = if name == "hi" { HI } else { FILE };
-    let Ok(disk) = mounted(alloc, DiskKind::EightInch) else {
-        return Ok(write!(out, "NoMemory")?);
+    let disk = match mounted(alloc, DiskKind::EightInch) {
+        Ok(disk) => disk,
+        Err(fault) => return Ok(write!(out, "{fault:?}")?),
     };
     let console = MemoryConsole::new(alloc, Vec::new(alloc));
     let end = ended(alloc, program, disk, console);

@@ -18,27 +18,34 @@ fn define(names: &mut Names, name: Vec<u8>, meaning: Meaning) -> Result<(), Allo
     }
 }
 
-/// The labels X, Y and W, of which the last is behind a jump, the external AWAY, and K, which is 5. `$` is the place of Y.
-pub(crate) fn table(alloc: Global) -> Result<Names, AllocError> {
-    let mut names = Names::new(alloc);
+/// Defines a name that is not there yet.
+fn give(alloc: Global, names: &mut Names, name: &[u8], meaning: Meaning) -> Result<(), AllocError>
+    requires { IsCounted meaning }
+{
+    define(names, Vec::from_slice(alloc, name)?, meaning)
+}
+
+fn pass_statements(names: &mut Names) -> Result<(), AllocError> {
     names.pass_fixed(3)?;
     names.pass_fixed(2)?;
     names.pass_jump()?;
-    names.pass_fixed(1)?;
+    names.pass_fixed(1)
+}
+
+fn give_names(alloc: Global, names: &mut Names) -> Result<(), AllocError> {
+    give(alloc, names, b"X", Meaning::Label(0))?;
+    give(alloc, names, b"Y", Meaning::Label(1))?;
+    give(alloc, names, b"W", Meaning::Label(3))?;
+    give(alloc, names, b"AWAY", Meaning::External(5))?;
+    give(alloc, names, b"K", Meaning::Constant(5))
+}
+
+/// The labels X, Y and W, of which the last is behind a jump, the external AWAY, and K, which is 5. `$` is the place of Y.
+pub(crate) fn table(alloc: Global) -> Result<Names, AllocError> {
+    let mut names = Names::new(alloc);
+    pass_statements(&mut names)?;
     names.set_here(1);
-    define(&mut names, Vec::from_slice(alloc, b"X")?, Meaning::Label(0))?;
-    define(&mut names, Vec::from_slice(alloc, b"Y")?, Meaning::Label(1))?;
-    define(&mut names, Vec::from_slice(alloc, b"W")?, Meaning::Label(3))?;
-    define(
-        &mut names,
-        Vec::from_slice(alloc, b"AWAY")?,
-        Meaning::External(5),
-    )?;
-    define(
-        &mut names,
-        Vec::from_slice(alloc, b"K")?,
-        Meaning::Constant(5),
-    )?;
+    give_names(alloc, &mut names)?;
     Ok(names)
 }
 
@@ -56,22 +63,25 @@ fn define_surely(alloc: Global, names: &mut Names, name: &[u8]) -> Result<bool, 
     Ok(true)
 }
 
-/// Passes a statement of a byte; again, where memory is refused.
-fn pass_surely(names: &mut Names) -> Result<(), AllocError> {
-    match names.pass_fixed(1) {
+/// Passes a statement; again, where memory is refused.
+fn pass_surely(names: &mut Names, size: u16) -> Result<(), AllocError> {
+    match names.pass_fixed(size) {
         Ok(()) => Ok(()),
-        Err(_) => names.pass_fixed(1),
+        Err(_) => names.pass_fixed(size),
     }
 }
 
-/// Defines each name of a text and passes a statement for each; None where a refused call changed the table.
+/// Defines each name of a text and passes a statement for each, a byte longer than the one before it, so that one which a refused call
+/// left would move the others; None where a refused call changed the table.
 fn names_of(alloc: Global, text: &[u8]) -> Result<Option<Names>, AllocError> {
     let mut names = Names::new(alloc);
+    let mut size: u16 = 0;
     for name in text.split(|byte| *byte == b' ') {
         if !define_surely(alloc, &mut names, name)? {
             return Ok(None);
         }
-        pass_surely(&mut names)?;
+        size = size.saturating_add(1);
+        pass_surely(&mut names, size)?;
     }
     Ok(Some(names))
 }
