@@ -15,8 +15,8 @@ pub const TEXT_LIMIT: usize = 16_777_216;
 /// How often a reader is asked at most.
 pub const READ_LIMIT: usize = 16_777_217;
 
-/// How many bytes are asked for at once.
-const CHUNK: usize = 8192;
+/// How many bytes are asked for at once: few, since they are zeroed for each text and most objects are small.
+const CHUNK: usize = 2048;
 
 /// Reads a text to its end, of at most [`TEXT_LIMIT`] bytes, by at most [`READ_LIMIT`] reads.
 ///
