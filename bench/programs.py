@@ -45,6 +45,22 @@ def chain(dialect, distance):
     return lines_of(lines)
 
 
+# -- a program without macros
+
+def plain():
+    """20,000 statements of twelve forms in turn, a label every ten lines, no macro: in the language of z80dev alone."""
+    forms = (
+        "LD A,5", "LD HL,TAB+2", "ADD A,(IX+3)", "JP NZ,{label}", "CALL {label}", "INC HL",
+        "DB 1,2,'AB'", "LD (HL),A", "DW {label}", "BIT 3,(HL)", "PUSH BC", "LD DE,100H*2+1",
+    )
+    lines = ["TAB EQU 4000H"]
+    for k in range(STATEMENTS):
+        own = f"L{k}:" if k % 10 == 0 else ""
+        near = min(k // 10 + 7 * k % 5, STATEMENTS // 10 - 1)
+        lines.append(f"{own}\t{forms[k % 12].format(label=f'L{10 * near}')}")
+    return lines_of(lines)
+
+
 # -- modules of one statement
 
 def single(dialect, number, count):

@@ -10,7 +10,7 @@ ghost use Rattle.asm_texts.specs.Prepared.{said};
 ghost use Rattle.asm_texts.specs.Spans.{text_of};
 
 use crate::call::Call;
-use crate::reading::{put_shown, role_of};
+use crate::reading::role_shown;
 use crate::span::Span;
 use crate::varying::all_stand;
 use asm_block::{Links, Role, links_of};
@@ -40,8 +40,7 @@ fn roles_of(
     let mut buffer = Vec::new(alloc);
     let mut at = span.at;
     while at < span.end && at < lines.len() {
-        put_shown(alloc, call, lines[at], &mut buffer)?;
-        found.push(role_of(alloc, &buffer)?)?;
+        found.push(role_shown(alloc, call, lines[at], &mut buffer)?)?;
         at += 1;
     }
     Ok(found)

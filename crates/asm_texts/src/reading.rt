@@ -62,11 +62,15 @@ pub(crate) fn heard(alloc: Global, line: &[u8]) -> Result<Option<Vec<Token<'_>>>
 fn is_pair(a: u8, b: u8) -> bool
     ensures { result ≡ is_pair a b }
 {
-    (a == b'i' && b == b'f')
-        || (a == b'l' && b == b's')
-        || (a == b'c' && b == b'r')
-        || (a == b'p' && b == b't')
-        || (a == b'd' && b == b'm')
+    // By the second letter, since most bytes are none of these.
+    match b {
+        b'f' => a == b'i',
+        b's' => a == b'l',
+        b'r' => a == b'c',
+        b't' => a == b'p',
+        b'm' => a == b'd',
+        _ => false,
+    }
 }
 
 /// Whether two bytes of a line stand so, in either case: few lines without a word of blocks have such, and to look for them
@@ -142,5 +146,23 @@ pub fn put_shown(
             out.clear();
             out.extend_from_slice(line)
         }
+    }
+}
+
+/// What a line is to blocks, as it stands in a call or in none. What the buffer holds has no meaning.
+pub(crate) fn role_shown(
+    alloc: Global,
+    call: Option<&Call>,
+    line: &[u8],
+    buffer: &mut Vec<u8>,
+) -> Result<Role, AllocError>
+    ensures { IfOk result (λ role. role ≡ role_of_head (form_of (shown (option_map (λ c. said c.now) call.entry) line.now)).head) }
+{
+    match call {
+        Some(_) => {
+            put_shown(alloc, call, line, buffer)?;
+            role_of(alloc, buffer)
+        }
+        None => role_of(alloc, line),
     }
 }

@@ -10,6 +10,8 @@ use Rattle.std.proofs.Math.Bool.{or-true, or-false}
 use Rattle.std.proofs.Math.Path.{fun_ext}
 use Rattle.std.specs.List.{slice_get}
 use Rattle.std.specs.Prelude.{slice_index, slice_set as set, replicate, Bool}
+use Rattle.ruler.specs.declared.reach.TheConstants.{LONGEST}
+use Rattle.ruler.specs.declared.spans.TheConstants.{NEAR}
 use Rattle.ruler.specs.declared.shape.Statement.{Statement}
 use Rattle.ruler.specs.declared.shape.Statement.TheVariants.{Fixed, Jump, Short}
 use Rattle.ruler.specs.Choice.{Choice, chosen, size_at, bytes_before, total, IsStatement, IsShape, IsJump, IsNear, Reaches}
@@ -20,9 +22,9 @@ use Rattle.ruler.proofs.Sizes.{bytes-apart, chosen-replicate}
 use Rattle.ruler.proofs.Moves.{moved}
 
 -- a jump reaches its target just where its span is no longer than 129
-pub near : (from to span : ℕ) → IsSpan from to span → (span ≤ 129) ↔ IsNear (256 + from) (256 + to)
+pub near : (from to span : ℕ) → IsSpan from to span → (span ≤ LONGEST) ↔ IsNear (256 + from) (256 + to)
 near from to span is =
-    elim (cases_lt to from) as (λ _. (span ≤ 129) ↔ IsNear (256 + from) (256 + to)) [
+    elim (cases_lt to from) as (λ _. (span ≤ LONGEST) ↔ IsNear (256 + from) (256 + to)) [
       | inl behind ↦ (let most = (is.behind behind).0 in let exact = (is.behind behind).1 in
           (λ le. (let e = exact le in (omega arith, omega arith)), λ n. (let a = n.0 in let b = n.1 in omega arith)))
       | inr ahead ↦ (let most = (is.ahead ahead).0 in let exact = (is.ahead ahead).1 in
@@ -100,7 +102,7 @@ module _ (c d : Choice) (shape : List Statement) (is_shape : IsShape shape) (k u
           | inl beyond ↦ rw ((at j).1 after, (at t).1 beyond, wide.stays_behind j after beyond) (both _ _ _ span)
           | inr over ↦ rw ((at j).1 after, (at t).0 over)
               (let apart = bytes-apart c shape is_shape t j (omega arith) (omega arith) in
-              elim (cases_lt (k + 128) j) as (λ _. IsSpan (bytes_before c shape j + 1) (bytes_before c shape t) (slice_index is j)) [
+              elim (cases_lt (k + NEAR) j) as (λ _. IsSpan (bytes_before c shape j + 1) (bytes_before c shape t) (slice_index is j)) [
                 | inl far ↦ rw (wide.far_behind j far) (far-behind _ _ _ (omega arith) span)
                 | inr near ↦ more-behind _ _ (slice_index was j) _ (omega arith) span (wide.back j after near lt over)
               ])
@@ -108,7 +110,7 @@ module _ (c d : Choice) (shape : List Statement) (is_shape : IsShape shape) (k u
         | inr upto ↦ elim (cases_lt k t) as (λ _. IsSpan (bytes_before d shape j) (bytes_before d shape t) (slice_index is j)) [
           | inl over ↦ rw ((at j).0 upto, (at t).1 over)
               (let apart = bytes-apart c shape is_shape j t (omega arith) within in
-              elim (cases_lt (j + 128) k) as (λ _. IsSpan (bytes_before c shape j) (bytes_before c shape t + 1) (slice_index is j)) [
+              elim (cases_lt (j + NEAR) k) as (λ _. IsSpan (bytes_before c shape j) (bytes_before c shape t + 1) (slice_index is j)) [
                 | inl far ↦ rw (wide.far_before j far) (far-ahead _ _ _ (omega arith) span)
                 | inr near ↦ more-ahead _ _ (slice_index was j) _ (omega arith) span (wide.ahead j upto near over)
               ])
@@ -153,7 +155,7 @@ holds-first shape long targets places spans bytes is none len_long len_targets l
 
 module _ (shape : List Statement) (long : List Bool) (targets spans : List ℕ) (bytes : ℕ) (holds : HoldsSpans shape long targets spans bytes) (k : ℕ) where
   -- whether a jump reaches its target
-  pub reaches-by : (s : Statement) → slice_get shape k ≡ Some s → (slice_index spans k ≤ 129) ↔ Reaches (chosen long) shape k (target_of k s)
+  pub reaches-by : (s : Statement) → slice_get shape k ≡ Some s → (slice_index spans k ≤ LONGEST) ↔ Reaches (chosen long) shape k (target_of k s)
   reaches-by s e =
       let span = holds.far k (slice_get_within shape k s e) in
       let to = holds.goes k s e in
@@ -161,10 +163,10 @@ module _ (shape : List Statement) (long : List Bool) (targets spans : List ℕ) 
       near _ _ _ here
 
   -- the same, where a span is read and compared
-  pub reaches-read : (read : ℕ) → slice_index spans k ≡ read → (s : Statement) → slice_get shape k ≡ Some s → (leb read 129 ≡ true) ↔ Reaches (chosen long) shape k (target_of k s)
+  pub reaches-read : (read : ℕ) → slice_index spans k ≡ read → (s : Statement) → slice_get shape k ≡ Some s → (leb read LONGEST ≡ true) ↔ Reaches (chosen long) shape k (target_of k s)
   reaches-read read at s e =
       let by = reaches-by s e in
-      (λ yes_it. by.0 (let le = leb-true read 129 yes_it in omega arith), λ reaches. le-leb read 129 (let le = by.1 reaches in omega arith))
+      (λ yes_it. by.0 (let le = leb-true read LONGEST yes_it in omega arith), λ reaches. le-leb read LONGEST (let le = by.1 reaches in omega arith))
 
   -- what is kept after jump k has grown
   pub holds-grown : (u : ℕ) → IsJump shape k u → chosen long k ≡ false → (is : List ℕ) → Widened targets spans is k → HoldsSpans shape (set long k true) targets is (bytes + 1)

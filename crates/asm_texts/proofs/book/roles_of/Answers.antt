@@ -14,7 +14,7 @@ loop-at-preserved c =
     let names = option_map (λ c. said c.now) c.args.call in
     let seen = map (λ line. line.now) c.args.lines.now in
     let line = get_or-map (λ line. line.now) c.args.lines.now c.loop-at.at (record { ref_ptr = (0, 0); now = [] }) in
-    let text = c.deref.ensures.value ∙ c.in_ok-put_shown.ensures ∙ ap (shown names) (sym line) in
-    c.loop-at.invariant ∙ roles_step seen names (record c.args.span { at = c.loop-at.at }) c.loop-at.found.items c.push.new.self.items c.in_ok-role_of.field-0
+    let text = ap (shown names) (sym line) in
+    c.loop-at.invariant ∙ roles_step seen names (record c.args.span { at = c.loop-at.at }) c.loop-at.found.items c.push.new.self.items c.in_ok-role_shown.field-0
     c.loop-at-test.true (omega (arith, c.if-at-lines.true, length-map c.args.lines.now (λ line. line.now)))
-    (c.in_ok-role_of.ensures ∙ ap (λ t. role_of_head (form_of t).head) text) c.in_ok-push.ensures.items
+    (c.in_ok-role_shown.ensures ∙ ap (λ t. role_of_head (form_of t).head) text) c.in_ok-push.ensures.items
