@@ -18,7 +18,7 @@ fn define(names: &mut Names, name: Vec<u8>, meaning: Meaning) -> Result<(), Allo
     }
 }
 
-/// Defines a name that is not there yet.
+/// Defines a name by its bytes.
 fn give(alloc: Global, names: &mut Names, name: &[u8], meaning: Meaning) -> Result<(), AllocError>
     requires { IsCounted meaning }
 {
