@@ -1,5 +1,6 @@
 pub mod Operators
 pub mod Expression
+pub mod Few
 pub mod Source
 pub mod Words
 pub mod Names

@@ -2,6 +2,7 @@
 #![tactic(auto)]
 
 mod fault;
+mod few;
 mod item;
 pub mod laws;
 mod name;
@@ -12,6 +13,7 @@ mod tree;
 
 pub use asm_words::is_reserved;
 pub use fault::ExprFault;
+pub use few::Few;
 pub use item::{Item, Term};
 pub use name::is_name;
 pub use operator::{Binary, Unary};

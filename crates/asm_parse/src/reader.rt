@@ -13,6 +13,7 @@ ghost use Rattle.asm_parse.specs.Private.Readers.{room_in};
 ghost use Rattle.asm_parse.specs.Private.Stacks.{IsReduced, closed_item, level_of, open_in, part_symbol, pendings, written};
 
 use crate::fault::ExprFault;
+use crate::few::Few;
 use crate::item::{Item, Term};
 use crate::operator::{Binary, Unary};
 use crate::sign::{Prefix, Sign, sign_of};
@@ -286,7 +287,7 @@ impl Reader {
         if self.deepest > MOST_OPEN {
             return Err(ExprFault::TooDeep);
         }
-        Ok(Tree::known(self.items))
+        Ok(Tree::known(Few::Many(self.items)))
     }
 }
 
@@ -297,9 +298,7 @@ fn term_alone(alloc: Global, token: &Token<'_>) -> Result<Tree, ExprFault>
     let Part::Term(term) = part_of(alloc, token)? else {
         return Err(ExprFault::Syntax);
     };
-    let mut items = Vec::with_capacity(alloc, 1)?;
-    items.push(Item::Leaf(term))?;
-    Ok(Tree::known(items))
+    Ok(Tree::known(Few::One([Item::Leaf(term)])))
 }
 
 /// The expression that the tokens spell.

@@ -2,8 +2,10 @@
 
 ghost use Rattle.std.specs.Prelude.{◌≡◌, [], ◌∷◌, IfOk, map};
 ghost use Rattle.asm_parse.specs.declared.item.Item.{Item};
+ghost use Rattle.asm_parse.specs.Few.{all};
 ghost use Rattle.asm_parse.specs.Source.{IsSource, Name, source_item};
 
+use crate::few::Few;
 use crate::item::{Item, Term};
 use std::alloc::{AllocError, Global};
 use std::marker::Model;
@@ -11,26 +13,27 @@ use std::marker::Model;
 /// An expression as a source has it: a tree, kept as its items in postfix order.
 #[derive(Debug, Drop)]
 pub struct Tree {
-    items: Vec<Item<Term>>,
+    items: Few<Item<Term>>,
 }
 
 impl Model for Tree {
     ghost use Rattle.std.specs.Prelude.{List, map};
     ghost use Rattle.asm_parse.specs.declared.item.Item.{Item};
+    ghost use Rattle.asm_parse.specs.Few.{all};
     ghost use Rattle.asm_parse.specs.Source.{Operand, source_item, IsSource};
 
     ghost Value = { List (Item Operand) };
 
-    ghost view = { λ t. map source_item t.items.items };
+    ghost view = { λ t. map source_item (all t.items) };
 
-    ghost invariant = { λ t. IsSource (map source_item t.items.items) };
+    ghost invariant = { λ t. IsSource (map source_item (all t.items)) };
 }
 
 impl Tree {
     /// The tree of the items of an expression.
-    pub(crate) fn known(items: Vec<Item<Term>>) -> Tree
-        requires { IsSource (map source_item items.items) }
-        ensures { result ≡ map source_item items.items }
+    pub(crate) fn known(items: Few<Item<Term>>) -> Tree
+        requires { IsSource (map source_item (all items)) }
+        ensures { result ≡ map source_item (all items) }
     {
         Tree { items }
     }
@@ -43,10 +46,8 @@ impl Tree {
     pub fn name(alloc: Global, name: &[u8]) -> Result<Tree, AllocError>
         ensures { IfOk result (λ tree. tree ≡ Item.Leaf (Name name.now) ∷ []) }
     {
-        let mut items = Vec::with_capacity(alloc, 1)?;
         let name = Vec::from_slice(alloc, name)?;
-        items.push(Item::Leaf(Term::Name(name)))?;
-        Ok(Tree::known(items))
+        Ok(Tree::known(Few::One([Item::Leaf(Term::Name(name))])))
     }
 
     /// The items in postfix order.
@@ -54,6 +55,6 @@ impl Tree {
         ensures items { map source_item result.now ≡ self.now }
         ensures source { IsSource self.now }
     {
-        &self.items
+        self.items.as_slice()
     }
 }

@@ -1,0 +1,7 @@
+-- A list that mostly holds one thing.
+use Rattle.std.specs.Prelude.{List}
+use Rattle.asm_parse.specs.declared.few.Few.{Few}
+
+abbrev pub all : {T : Type 0} → Few T → List T
+all (Few.One alone) = alone
+all (Few.Many things) = things.items
