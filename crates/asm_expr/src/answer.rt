@@ -1,10 +1,9 @@
 //! What names make of an expression: the items of an object.
 
-ghost use Rattle.std.specs.Prelude.{◌≡◌, ◌⊎◌, ◌∷◌, [], List, Err, None, IfErr, IfOk, map};
+ghost use Rattle.std.specs.Prelude.{◌≡◌, ◌⊎◌, List, Err, None, IfErr, IfOk, map};
 ghost use Rattle.std.specs.List.{AllPass};
 ghost use Rattle.std.specs.Option.{option_map};
 ghost use Rattle.asm_parse.specs.declared.fault.ExprFault.{ExprFault};
-ghost use Rattle.asm_parse.specs.declared.item.Item.{Item};
 ghost use Rattle.asm_expr.specs.Postfix.{source};
 ghost use Rattle.asm_expr.specs.Settling.{IsWorthOf, is_known, item_known, items_known, settled};
 ghost use Rattle.asm_expr.specs.Private.Folding.{unknown_at_end};
@@ -67,16 +66,6 @@ fn unknown_of(items: &[Item<Part>]) -> Unknown
     }
 }
 
-/// The expression of one item.
-fn leaf(alloc: Global, atom: Atom) -> Result<Expr, ExprFault>
-    ensures items { IfOk result (λ expr. expr ≡ Item.Leaf atom ∷ []) }
-    ensures memory { IfErr result (λ why. why ≡ ExprFault.NoMemory) }
-{
-    let mut items = Vec::with_capacity(alloc, 1)?;
-    items.push(Item::Leaf(atom))?;
-    Ok(Expr::known(items))
-}
-
 /// What the names make of an expression of any number of terms.
 fn settle_items(alloc: Global, parsed: &Tree, names: &Names) -> Result<Settled, ExprFault>
     requires { AllPass (is_known names.now) parsed.now }
@@ -110,7 +99,7 @@ pub fn settle(alloc: Global, parsed: &Tree, names: &Names) -> Result<Settled, Ex
     // Called for what it says of the table.
     names.counted();
     match atom_alone(parsed, names) {
-        Some(atom) => Ok(Settled::Known(leaf(alloc, atom)?)),
+        Some(atom) => Ok(Settled::Known(Expr::leaf(atom))),
         None => settle_items(alloc, parsed, names),
     }
 }

@@ -1,9 +1,10 @@
 //! Expressions whose names are replaced, as lists of postfix items, and their values.
 
-ghost use Rattle.std.specs.Prelude.{◌≡◌, ◌<◌, ◌≤◌, ◌+◌, ℕ, List, Some, length, MatchOption, All, IsTrue, ◌↔◌, slice_index, []};
+ghost use Rattle.std.specs.Prelude.{◌≡◌, ◌<◌, ◌≤◌, ◌+◌, ◌∷◌, ℕ, List, Some, length, MatchOption, All, IsTrue, ◌↔◌, slice_index, []};
 ghost use Rattle.std.specs.List.{list_all, list_any};
 ghost use Rattle.std.specs.Option.{option_map};
 ghost use Rattle.asm_expr.specs.declared.atom.Atom.{Atom};
+ghost use Rattle.asm_parse.specs.declared.item.Item.{Item};
 ghost use Rattle.asm_parse.specs.Expression.{Expression};
 ghost use Rattle.asm_expr.specs.Postfix.{put, run, tree};
 ghost use Rattle.asm_expr.specs.Items.{IsConstant, IsExpr, is_division, is_divisor, is_guarded, is_ref, is_within, refs, refs_in, value};
@@ -11,7 +12,7 @@ ghost use Rattle.asm_expr.specs.Private.Steps.{Stacked, arity, is_expr};
 
 use crate::arithmetic::{apply_binary, apply_unary};
 use crate::atom::Atom;
-use asm_parse::Item;
+use asm_parse::{Few, Item};
 use std::marker::Model;
 
 /// The most items that an expression may have.
@@ -21,7 +22,7 @@ pub const MOST_ITEMS: usize = 64;
 /// division stands only directly behind a number that is not 0.
 #[derive(Debug, Drop)]
 pub struct Expr {
-    items: Vec<Item<Atom>>,
+    items: Few<Item<Atom>>,
 }
 
 impl Model for Expr {
@@ -31,11 +32,12 @@ impl Model for Expr {
 
     ghost Value = { List (Item Atom) };
 
+    ghost use Rattle.asm_parse.specs.Few.{all};
     ghost use Rattle.asm_expr.specs.Items.{IsExpr};
 
-    ghost view = { λ e. e.items.items };
+    ghost view = { λ e. all e.items };
 
-    ghost invariant = { λ e. IsExpr e.items.items };
+    ghost invariant = { λ e. IsExpr (all e.items) };
 }
 
 /// How many values the items leave, or None where an operator lacks an operand.
@@ -111,7 +113,18 @@ impl Expr {
         requires { IsExpr items.items }
         ensures { result ≡ items.items }
     {
-        Expr { items }
+        Expr {
+            items: Few::Many(items),
+        }
+    }
+
+    /// The expression of one leaf.
+    pub fn leaf(atom: Atom) -> Expr
+        ensures { result ≡ Item.Leaf atom ∷ [] }
+    {
+        Expr {
+            items: Few::One([Item::Leaf(atom)]),
+        }
     }
 
     /// The expression of these items, or None where they make none.
@@ -119,7 +132,9 @@ impl Expr {
         ensures { MatchOption result (IsExpr items.items → ⊥) (λ expr. (expr ≡ items.items) × IsExpr items.items) }
     {
         if is_expr(&items) {
-            Some(Expr { items })
+            Some(Expr {
+                items: Few::Many(items),
+            })
         } else {
             None
         }
@@ -131,7 +146,7 @@ pub fn items(expr: &Expr) -> &[Item<Atom>]
     ensures items { result.now ≡ expr.now }
     ensures expr { IsExpr expr.now }
 {
-    &expr.items
+    expr.items.as_slice()
 }
 
 /// Takes one item more: the first `len` numbers of the stack are in use, and afterwards as many as are answered.
@@ -170,7 +185,7 @@ pub fn value(expr: &Expr, places: &[u16]) -> u16
 {
     let mut stack = [0; MOST_ITEMS];
     let mut len = 0;
-    for item in &expr.items {
+    for item in items(expr) {
         len = take_item(&mut stack, len, *item, places);
     }
     stack[0]
@@ -195,7 +210,7 @@ fn are_within(items: &[Item<Atom>], count: usize) -> bool
 pub fn has_places(expr: &Expr, count: usize) -> bool
     ensures { IsTrue result ↔ All (λ r. r < count) (refs expr.now) }
 {
-    are_within(&expr.items, count)
+    are_within(items(expr), count)
 }
 
 fn is_ref(item: &Item<Atom>) -> bool
@@ -214,7 +229,7 @@ fn has_ref(items: &[Item<Atom>]) -> bool
 pub fn constant(expr: &Expr) -> Option<u16>
     ensures { IsConstant expr.now result }
 {
-    if has_ref(&expr.items) {
+    if has_ref(items(expr)) {
         None
     } else {
         Some(value(expr, &[]))

@@ -1,6 +1,6 @@
 //! Statements in order, and the distances between them.
 
-ghost use Rattle.std.specs.Prelude.{◌≡◌, ◌++◌, ◌∷◌, [], List, OnOk, OnErr, MatchOption, ◌<◌, ◌≤◌, length, take};
+ghost use Rattle.std.specs.Prelude.{◌≡◌, ◌++◌, ◌∷◌, [], List, IfOk, OnOk, OnErr, MatchOption, ◌<◌, ◌≤◌, length, take};
 ghost use Rattle.asm_expr.specs.declared.statement.Statement.{Statement};
 ghost use Rattle.asm_expr.specs.Distances.{distance, some_distance};
 ghost use Rattle.asm_expr.specs.Private.Sums.{IsBefore, gap};
@@ -71,6 +71,20 @@ impl Layout {
                 unknown: 0,
             },
         }
+    }
+
+    /// No statements, with room for so many.
+    pub(crate) fn with_capacity(alloc: Global, count: usize) -> Result<Layout, AllocError>
+        ensures { IfOk result (λ layout. layout ≡ []) }
+    {
+        Ok(Layout {
+            passed: Vec::with_capacity(alloc, count)?,
+            end: Before {
+                bytes: 0,
+                relaxable: 0,
+                unknown: 0,
+            },
+        })
     }
 
     /// Passes a statement.

@@ -1,6 +1,6 @@
 //! What the names of a module stand for, and where its statements lie.
 
-ghost use Rattle.std.specs.Prelude.{◌≡◌, None, OnOk, OnErr, option_copied};
+ghost use Rattle.std.specs.Prelude.{◌≡◌, IfOk, None, OnOk, OnErr, option_copied};
 ghost use Rattle.asm_expr.specs.declared.statement.Statement.{Statement};
 ghost use Rattle.asm_expr.specs.Distances.{distance, some_distance};
 ghost use Rattle.asm_expr.specs.Names.{AreCounted, IsCounted, empty, found, with_meaning, with_statement};
@@ -50,6 +50,22 @@ impl Names {
             here: 0,
             statements: Layout::new(alloc),
         }
+    }
+
+    /// No names, which are to be looked up by this key, and no statements, with room for so many of both.
+    pub fn with_capacity(
+        alloc: Global,
+        key: NameKey,
+        names: usize,
+        statements: usize,
+    ) -> Result<Names, AllocError>
+        ensures { IfOk result (λ table. table ≡ empty) }
+    {
+        Ok(Names {
+            meanings: IndexMap::with_capacity_and_hasher(alloc, names, key)?,
+            here: 0,
+            statements: Layout::with_capacity(alloc, statements)?,
+        })
     }
 
     /// Adds a name in upper case, which is not there yet. An EQU name's expression stands for as many terms and operators as it

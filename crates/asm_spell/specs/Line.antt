@@ -3,6 +3,7 @@ use Rattle.std.specs.Prelude.{ℕ, List, Option, map, Vec}
 use Rattle.std.specs.Option.{option_map}
 use Rattle.std.specs.Global.{Global}
 use Rattle.asm_parse.specs.declared.item.Item.{Item}
+use Rattle.asm_parse.specs.Few.{all}
 use Rattle.asm_parse.specs.Source.{Operand}
 use Rattle.z80_instr.specs.declared.Instr.{Instr}
 use Rattle.z80_instr.specs.declared.ShortCond.{ShortCond}
@@ -51,7 +52,7 @@ abbrev pub names_of : List (Vec ℕ Global) → List (List ℕ)
 names_of names = map (λ name. name.items) names
 
 abbrev pub body_of : body.Body → Body
-body_of (body.TheVariants.Code instr numbers) = Code instr numbers.items
+body_of (body.TheVariants.Code instr numbers) = Code instr (all numbers)
 body_of (body.TheVariants.Jump condition target) = Jump condition target.items
 body_of (body.TheVariants.Short branch target) = Short branch target.items
 body_of (body.TheVariants.Bytes values) = Bytes (map value_of values.items)

@@ -42,7 +42,9 @@ fn first_len(tokens: &[Token<'_>]) -> usize
 }
 
 /// The first operand, and the tokens behind its comma, if it has one.
-fn first_operand<'t, 'a>(tokens: &'t [Token<'a>]) -> (&'t [Token<'a>], Option<&'t [Token<'a>]>)
+pub(crate) fn first_operand<'t, 'a>(
+    tokens: &'t [Token<'a>],
+) -> (&'t [Token<'a>], Option<&'t [Token<'a>]>)
     ensures pieces { pieces 0 (lexemes tokens.entry.now) ≡ lexemes result.0.now ∷ left result.1 }
     ensures fewer { IfSome result.1 (λ rest. length rest.now < length tokens.entry.now) }
 {
@@ -53,6 +55,23 @@ fn first_operand<'t, 'a>(tokens: &'t [Token<'a>]) -> (&'t [Token<'a>], Option<&'
     }
 }
 
+/// What is read of each operand that is left, from left to right.
+pub(crate) fn each_left<T: Operand + Drop>(
+    alloc: Global,
+    tokens: Option<&[Token<'_>]>,
+) -> Result<Vec<T>, StmtFault>
+    ensures { Gives (λ all. map T.seen all.items) result (each T.reads (left tokens)) }
+{
+    let mut all = Vec::new(alloc);
+    let mut left = tokens;
+    while let Some(rest) = left {
+        let (operand, behind) = first_operand(rest);
+        all.push(T::read(alloc, operand)?)?;
+        left = behind;
+    }
+    Ok(all)
+}
+
 /// What is read of each operand, from left to right.
 pub(crate) fn each<T: Operand + Drop>(
     alloc: Global,
@@ -60,18 +79,10 @@ pub(crate) fn each<T: Operand + Drop>(
 ) -> Result<Vec<T>, StmtFault>
     ensures { Gives (λ all. map T.seen all.items) result (each T.reads (operands (lexemes tokens.entry.now))) }
 {
-    let mut all = Vec::new(alloc);
-    let mut left = if tokens.is_empty() {
-        None
-    } else {
-        Some(tokens)
-    };
-    while let Some(rest) = left {
-        let (operand, behind) = first_operand(rest);
-        all.push(T::read(alloc, operand)?)?;
-        left = behind;
+    if tokens.is_empty() {
+        return Ok(Vec::new(alloc));
     }
-    Ok(all)
+    each_left(alloc, Some(tokens))
 }
 
 /// Whether the one parenthesis that is open is closed by the last token, and not before.

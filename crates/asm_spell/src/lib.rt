@@ -12,6 +12,7 @@ mod jump;
 pub mod laws;
 mod line;
 mod operand;
+mod operands;
 mod spelling;
 
 pub use asm_parse::is_name;

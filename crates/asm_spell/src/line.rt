@@ -1,6 +1,6 @@
 //! The forms of a line.
 
-use asm_parse::Tree;
+use asm_parse::{Few, Tree};
 use z80_form::Field;
 use z80_instr::{Branch, Instr, ShortCond};
 
@@ -18,7 +18,7 @@ pub enum Body {
     /// An instruction with zeros in place of its numbers, and the expressions of these.
     Code {
         instr: Instr,
-        numbers: Vec<(Field, Tree)>,
+        numbers: Few<(Field, Tree)>,
     },
     /// `JP`, to one name, without a condition or on one that `JR` can take too.
     Jump {

@@ -5,8 +5,8 @@ use Rattle.asm_expr.proofs.OneTerm.{alone_settled}
 use Rattle.asm_expr.proofs.Worths.{worth_of_settled}
 use Rattle.asm_expr.proofs.answer.settle.Goals as goal
 
-pub returns-in_ok-leaf-in-Some-clause-worth : goal.returns-in_ok-leaf-in-Some-clause-worth
-returns-in_ok-leaf-in-Some-clause-worth c =
+pub returns-in-Some-clause-worth : goal.returns-in-Some-clause-worth
+returns-in-Some-clause-worth c =
     let t = c.args.names.now in
     let is = alone_settled t c.args.parsed.now c.in-Some.atom (sym c.in-Some.ensures.alone) in
-    worth_of_settled t c.counted.ensures (source c.args.parsed.now) (Settled.Known c.in_ok-leaf-in-Some.field-0) (is ∙ ap (λ items. Ok (Settled.Known items)) (sym c.in_ok-leaf-in-Some.ensures.items))
+    worth_of_settled t c.counted.ensures (source c.args.parsed.now) (Settled.Known c.leaf.result) (is ∙ ap (λ items. Ok (Settled.Known items)) (sym c.leaf.ensures))

@@ -1,14 +1,12 @@
 use Rattle.std.proofs.Common.{◌≡◌, map}
-use Rattle.asm_scan.specs.Tokens.{lexemes}
 use Rattle.asm_spell.specs.Faults.{each}
-use Rattle.asm_spell.specs.Operands.{operands}
 use Rattle.asm_spell.specs.Private.Cutting.{left, behind}
 use Rattle.asm_spell.proofs.Pieces.{room}
-use Rattle.asm_spell.proofs.cut.each.Given as goal
+use Rattle.asm_spell.proofs.cut.each_left.Given as goal
 
 -- What is read, and what is read of the operands that are left, is what is read of all.
 abbrev pub invariant-loop-left : goal.invariant-loop-left
-invariant-loop-left g l = each g.T.Operand.reads (operands (lexemes l.tokens)) ≡ behind (map g.T.Operand.seen l.all.items) (each g.T.Operand.reads (left l.left))
+invariant-loop-left g l = each g.T.Operand.reads (left l.tokens) ≡ behind (map g.T.Operand.seen l.all.items) (each g.T.Operand.reads (left l.left))
 
 abbrev pub decreases-loop-left : goal.decreases-loop-left
 decreases-loop-left g l = room l.left
