@@ -45,19 +45,34 @@ def chain(dialect, distance):
     return lines_of(lines)
 
 
-# -- a program without macros
+# -- programs without macros, and with some
+
+FORMS = (
+    "LD A,5", "LD HL,TAB+2", "ADD A,(IX+3)", "JP NZ,{label}", "CALL {label}", "INC HL",
+    "DB 1,2,'AB'", "LD (HL),A", "DW {label}", "BIT 3,(HL)", "PUSH BC", "LD DE,100H*2+1",
+)
+
+
+def statement(k, count):
+    """Statement k of so many of twelve forms in turn, a label every ten lines."""
+    own = f"L{k}:" if k % 10 == 0 else ""
+    near = min(k // 10 + 7 * k % 5, count // 10 - 1)
+    return f"{own}\t{FORMS[k % 12].format(label=f'L{10 * near}')}"
+
 
 def plain():
-    """20,000 statements of twelve forms in turn, a label every ten lines, no macro: in the language of z80dev alone."""
-    forms = (
-        "LD A,5", "LD HL,TAB+2", "ADD A,(IX+3)", "JP NZ,{label}", "CALL {label}", "INC HL",
-        "DB 1,2,'AB'", "LD (HL),A", "DW {label}", "BIT 3,(HL)", "PUSH BC", "LD DE,100H*2+1",
-    )
-    lines = ["TAB EQU 4000H"]
-    for k in range(STATEMENTS):
-        own = f"L{k}:" if k % 10 == 0 else ""
-        near = min(k // 10 + 7 * k % 5, STATEMENTS // 10 - 1)
-        lines.append(f"{own}\t{forms[k % 12].format(label=f'L{10 * near}')}")
+    """20,000 statements, no macro: in the language of z80dev alone."""
+    return lines_of(["TAB EQU 4000H"] + [statement(k, STATEMENTS) for k in range(STATEMENTS)])
+
+
+def macros():
+    """20,000 statements, 200 of them by a hundred calls of a macro: in the language of z80dev alone."""
+    count = STATEMENTS - 200
+    lines = ["TAB EQU 4000H", "PUT MACRO WHAT", "\tLD A,WHAT", "\tLD (TAB),A", "\tENDM"]
+    for k in range(count):
+        lines.append(statement(k, count))
+        if k % (count // 100) == 57:
+            lines.append(f"\tPUT {k % 250}")
     return lines_of(lines)
 
 

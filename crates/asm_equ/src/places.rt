@@ -3,7 +3,7 @@
 ghost use Rattle.std.specs.Prelude.{◌≡◌, ◌<◌, ◌+◌, IfOk, None, OnOk, length, map};
 ghost use Rattle.std.specs.List.{IsDistinct};
 ghost use Rattle.std.specs.Str.{bytes_eq};
-ghost use Rattle.asm_expr.specs.Names.{empty, found};
+ghost use Rattle.asm_expr.specs.Names.{empty, found, with_statement};
 ghost use Rattle.asm_equ.specs.Layout.{layout_of};
 ghost use Rattle.asm_equ.specs.Private.Placed.{Defines, HasPlaces};
 
@@ -13,17 +13,29 @@ use asm_names::{Kind, NameTable};
 use name_key::NameKey;
 use std::alloc::{AllocError, Global};
 
-/// No names, which are to be looked up by a key, and the statements.
-fn passed(alloc: Global, key: NameKey, statements: &[Statement]) -> Result<Names, AllocError>
+/// Passes a statement.
+fn pass(names: &mut Names, statement: Statement) -> Result<(), AllocError>
+    ensures { OnOk result (names.new ≡ with_statement statement names.old) }
+{
+    match statement {
+        Statement::Sized(size) => names.pass_fixed(size),
+        Statement::Relaxable => names.pass_jump(),
+        Statement::Unsized => names.pass_unsized(),
+    }
+}
+
+/// No names, which are to be looked up by a key, with room for so many, and the statements.
+fn passed(
+    alloc: Global,
+    key: NameKey,
+    count: usize,
+    statements: &[Statement],
+) -> Result<Names, AllocError>
     ensures { IfOk result (λ names. names ≡ record empty { statements = statements.now }) }
 {
-    let mut names = Names::keyed(alloc, key);
+    let mut names = Names::with_capacity(alloc, key, count, statements.len())?;
     for statement in statements {
-        match statement {
-            Statement::Sized(size) => names.pass_fixed(*size)?,
-            Statement::Relaxable => names.pass_jump()?,
-            Statement::Unsized => names.pass_unsized()?,
-        }
+        pass(&mut names, *statement)?;
     }
     Ok(names)
 }
@@ -76,7 +88,7 @@ pub(crate) fn places_of(
     ensures { IfOk result (HasPlaces table.now (layout_of layout.now)) }
 {
     let mut places = Places {
-        names: passed(alloc, table.key(), &layout.statements)?,
+        names: passed(alloc, table.key(), table.len(), &layout.statements)?,
         external: layout.statements.len() as u16 + 1,
     };
     let mut at = 0;

@@ -66,7 +66,7 @@ impl Settling {
 fn no_faults(alloc: Global, count: usize) -> Result<Vec<Option<EquFault>>, AllocError>
     ensures { IfOk result (λ faults. faults.items ≡ replicate count None) }
 {
-    let mut faults = Vec::new(alloc);
+    let mut faults = Vec::with_capacity(alloc, count)?;
     for _ in 0..count {
         faults.push(None)?;
     }

@@ -55,7 +55,7 @@ pub fn labels_of(
 ) -> Result<Vec<Label>, AllocError>
     ensures { IfOk result (λ all. map label_of all.items ≡ labels (layout_of layout.now) table.now) }
 {
-    let mut labels = Vec::new(alloc);
+    let mut labels = Vec::with_capacity(alloc, table.len())?;
     for at in 0..table.len() {
         if let Some((name, kind)) = table.get(at) {
             let one = label_in(alloc, layout, name, kind)?;

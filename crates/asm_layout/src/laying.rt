@@ -85,8 +85,8 @@ pub fn lay(
     requires data { All HasFew (lines_of lines.now) }
     ensures { IfOk result (λ layout. layout_of layout ≡ laid grow names.now (lines_of lines.now)) }
 {
-    let mut next = Vec::new(alloc);
-    let mut statements = Vec::new(alloc);
+    let mut next = Vec::with_capacity(alloc, lines.len())?;
+    let mut statements = Vec::with_capacity(alloc, lines.len())?;
     for line in lines {
         next.push(statements.len() as u16)?;
         let one = line_sized(alloc, &line.line, names, grow)?;

@@ -57,7 +57,7 @@ fn operands_defined(body: &Body, names: &Names) -> bool
     ensures { result ≡ operands_defined names.now (body_of body.now) }
 {
     match body {
-        Body::Code { instr: _, numbers } => numbers_defined(numbers, names),
+        Body::Code { instr: _, numbers } => numbers_defined(numbers.as_slice(), names),
         Body::Jump {
             condition: _,
             target,

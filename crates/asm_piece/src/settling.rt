@@ -28,7 +28,7 @@ pub fn settle(alloc: Global, body: &Body, names: &Names) -> Result<Made, StmtFau
     ensures { Gives made_of result (made names.now (body_of body.now)) }
 {
     match body {
-        Body::Code { instr, numbers } => code(alloc, *instr, numbers, names),
+        Body::Code { instr, numbers } => code(alloc, *instr, numbers.as_slice(), names),
         Body::Jump { condition, target } => jump(alloc, *condition, target, names),
         Body::Short { branch, target } => short(*branch, target, names),
         Body::Bytes(values) => bytes(alloc, values, names),

@@ -81,7 +81,7 @@ fn show_body<W: Write>(out: &mut W, body: &Body) -> Result<(), anyhow::Error> {
     match body {
         Body::Code { instr, numbers } => {
             write!(out, "code {instr}")?;
-            for (field, tree) in numbers {
+            for (field, tree) in numbers.as_slice() {
                 write!(out, "; {field:?}")?;
                 show_tree(out, tree)?;
             }

@@ -92,7 +92,7 @@ pub(crate) fn is_undefined(table: &NameTable, body: &Body) -> bool
     ensures { result ≡ list_any (is_missing table.now) (used (body_of body.now)) }
 {
     match body {
-        Body::Code { instr: _, numbers } => numbers_miss(table, numbers),
+        Body::Code { instr: _, numbers } => numbers_miss(table, numbers.as_slice()),
         Body::Jump {
             condition: _,
             target,

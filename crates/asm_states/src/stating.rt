@@ -24,11 +24,25 @@ pub struct Stated {
 }
 
 impl Stated {
-    ghost use Rattle.std.specs.Prelude.{◌≡◌, ℕ, List, None};
+    ghost use Rattle.std.specs.Prelude.{◌≡◌, ℕ, [], List, None};
     ghost use Rattle.asm_expr.specs.Names.{found};
     ghost use Rattle.asm_names.specs.Lines.{taken_of};
     ghost use Rattle.asm_names.specs.Names.{kind_of};
     ghost use Rattle.asm_states.specs.Private.Steps.{Takes};
+
+    /// Nothing, and room for so many statements where memory for it is left: else the lists grow as they are filled.
+    fn nothing(alloc: Global, count: usize) -> Stated
+        ensures statements { result.statements.items ≡ [] }
+        ensures lines { result.lines.items ≡ [] }
+    {
+        let mut stated = Stated {
+            statements: Vec::new(alloc),
+            lines: Vec::new(alloc),
+        };
+        let _ = stated.statements.reserve(count);
+        let _ = stated.lines.reserve(count);
+        stated
+    }
 
     /// Puts what a line comes to behind the others.
     fn take(
@@ -68,10 +82,7 @@ pub fn state_lines(
     ensures { IsStated grow table.now names (layout_of layout.now) (lines_of lines.now) result }
 {
     let mut names = names;
-    let mut stated = Stated {
-        statements: Vec::new(alloc),
-        lines: Vec::new(alloc),
-    };
+    let mut stated = Stated::nothing(alloc, layout.statements.len());
     for (at, line) in lines.iter().enumerate() {
         names.set_here(layout.next_at(at));
         if let Err(why) = stated.take(alloc, line, table, &names, grow) {

@@ -20,7 +20,7 @@ pub(crate) fn answer_tokens<W: Write>(
 /// Writes what a word with its operands is, and how many there are of what it has.
 fn show_body<W: Write>(out: &mut W, body: &Body) -> Result<(), anyhow::Error> {
     match body {
-        Body::Code { instr, numbers } => write!(out, "{instr} of {}", numbers.len())?,
+        Body::Code { instr, numbers } => write!(out, "{instr} of {}", numbers.as_slice().len())?,
         Body::Jump { .. } => write!(out, "a jump")?,
         Body::Short { .. } => write!(out, "a short jump")?,
         Body::Bytes(values) => write!(out, "bytes of {}", values.len())?,

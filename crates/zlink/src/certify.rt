@@ -43,8 +43,9 @@ fn tell_verdict(verdict: relax::Verdict) -> certificate::Verdict
 fn tell_shape(alloc: Global, shape: &relax::Shape) -> Result<certificate::Shape, AllocError>
     ensures { IfOk result (λ s. s ≡ map told shape.now) }
 {
-    let mut statements = Vec::new(alloc);
-    for statement in shape.statements() {
+    let told = shape.statements();
+    let mut statements = Vec::with_capacity(alloc, told.len())?;
+    for statement in told {
         statements.push(tell(*statement))?;
     }
     Ok(certificate::Shape::new(statements))

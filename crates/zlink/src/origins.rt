@@ -56,7 +56,7 @@ pub(crate) fn origins_of(
 ) -> Result<Vec<Origin>, AllocError>
     ensures { IfOk result (λ v. map origin_of v.items ≡ origins_by (λ k. slice_index places.now k) (lines_in sources.now)) }
 {
-    let mut origins = Vec::new(alloc);
+    let mut origins = Vec::with_capacity(alloc, places.len())?;
     for (number, lines) in sources.iter().enumerate() {
         put_origins(&mut origins, number, &lines.each, places)?;
     }

@@ -31,6 +31,7 @@ fn put_symbols(
     requires { All (λ l. links.now.base + l.statement < length places.now) own.now.labels.items }
     ensures { OnOk result (map symbol_of symbols.new.items ≡ map symbol_of symbols.old.items ++ symbols_in (λ k. slice_index places.now k) links.now.base (module_of own.now)) }
 {
+    symbols.reserve(own.labels.len())?;
     for label in &own.labels {
         symbols.push(Symbol {
             name: label.name.to_vec(alloc)?,

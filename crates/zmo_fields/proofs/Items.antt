@@ -8,7 +8,7 @@ use Rattle.asm_expr.specs.declared.atom.Atom.{Atom}
 use Rattle.asm_expr.specs.Items.{IsExpr}
 use Rattle.asm_expr.specs.Private.Steps.{is_expr}
 use Rattle.asm_expr.proofs.Judgements.{taken, refused}
-use Rattle.zmo_fields.specs.Postfix.{item_at, items_within, whole}
+use Rattle.zmo_fields.specs.Postfix.{expr_of, item_at, items_within, whole}
 
 abbrev pub with_front : List (Item Atom) → Option (List (Item Atom)) → Option (List (Item Atom))
 with_front front found = option_map (λ more. front ++ more) found
@@ -49,3 +49,9 @@ judged_expr items None h =
       | inl good ↦ absurd (h (taken items good))
       | inr bad ↦ rw bad refl
     ]
+
+-- One leaf, and no bytes behind it.
+pub leaf_alone : (bytes : List ℕ) (atom : Atom) → item_at bytes ≡ Some (Item.Leaf atom, []) → expr_of bytes ≡ Some (Item.Leaf atom ∷ [])
+unfolding items_within
+leaf_alone [] atom e = absurd cc
+leaf_alone (b ∷ bytes) atom e = rw e refl

@@ -1,7 +1,8 @@
 //! Expressions from the bytes of their items in postfix order.
 
-ghost use Rattle.std.specs.Prelude.{◌≡◌, IfOk};
+ghost use Rattle.std.specs.Prelude.{◌≡◌, ◌∷◌, [], IfOk, IfSome, Some};
 ghost use Rattle.std.specs.Option.{option_map};
+ghost use Rattle.asm_parse.specs.declared.item.Item.{Item};
 ghost use Rattle.zmo_fields.specs.Postfix.{expr_of, item_at, items_of, leaf_at, whole};
 
 use crate::code::operator_of;
@@ -62,10 +63,23 @@ fn items_of(alloc: Global, bytes: &[u8]) -> Result<Option<Vec<Item<Atom>>>, Allo
     Ok(whole(items, rest))
 }
 
+/// The leaf that bytes spell, where they spell one alone: most expressions of an object are that.
+fn leaf_alone(bytes: &[u8]) -> Option<Atom>
+    ensures { IfSome result (λ atom. expr_of bytes.now ≡ Some (Item.Leaf atom ∷ [])) }
+{
+    match item(bytes) {
+        Some((Item::Leaf(atom), [])) => Some(atom),
+        _ => None,
+    }
+}
+
 /// The expression whose items in postfix order bytes spell, or None where they spell none.
 pub fn expr_of(alloc: Global, bytes: &[u8]) -> Result<Option<Expr>, AllocError>
     ensures { IfOk result (λ found. found ≡ expr_of bytes.now) }
 {
+    if let Some(atom) = leaf_alone(bytes) {
+        return Ok(Some(Expr::leaf(atom)));
+    }
     match items_of(alloc, bytes)? {
         Some(items) => Ok(Expr::of(items)),
         None => Ok(None),

@@ -1,5 +1,6 @@
 use Rattle.std.proofs.Common.{map, sym, ap, ◌∙◌}
 use Rattle.std.specs.List.{list_any}
+use Rattle.asm_parse.specs.Few.{all}
 use Rattle.asm_spell.specs.Line.{value_of}
 use Rattle.asm_states.specs.Faults.{names_in, value_names}
 use Rattle.asm_states.specs.Private.Missing.{is_missing, tree_misses, value_misses}
@@ -9,8 +10,8 @@ use Rattle.asm_states.proofs.missing.is_undefined.Goals as goal
 pub returns-in-Code : goal.returns-in-Code
 returns-in-Code c =
     let names = c.args.table.now in
-    rw c.in-Code.is (c.numbers_miss.ensures ∙ ap (list_any (λ n. tree_misses names n.1)) c.deref.ensures.value
-    ∙ sym (any_flat_map (is_missing names) (λ n. names_in n.1) c.in-Code.numbers.items))
+    rw c.in-Code.is (c.numbers_miss.ensures ∙ ap (list_any (λ n. tree_misses names n.1)) c.as_slice.ensures
+    ∙ sym (any_flat_map (is_missing names) (λ n. names_in n.1) (all c.in-Code.numbers)))
 
 pub returns-in-Bytes : goal.returns-in-Bytes
 returns-in-Bytes c =
