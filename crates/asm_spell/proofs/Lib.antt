@@ -1,5 +1,6 @@
 mod Pieces
 mod Lists
+mod Read
 mod Entries
 mod Written
 mod Unworded

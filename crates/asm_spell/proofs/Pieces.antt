@@ -32,6 +32,10 @@ cut depth (t ∷ ts) =
       | false ↦ ap (with_first (lexeme t)) (cut (open_behind depth t.kind) ts)
     ]
 
+-- There is a first operand, if it be empty.
+pub some_piece : (ts : List Token) → (p : List Lexeme) × (ps : List (List Lexeme)) × (pieces 0 (lexemes ts) ≡ p ∷ ps)
+some_piece ts = (_, _, cut 0 ts)
+
 -- The first operand, and what is behind it.
 parted : (ts front back : List Token) (n : ℕ) → n ≡ first_len 0 (lexemes ts) → front ≡ take n ts → back ≡ drop n ts → pieces 0 (lexemes ts) ≡ lexemes front ∷ behind_comma (lexemes back)
 parted ts front back n e f b = cut 0 ts ∙ rw (← e, ← f, ← b) refl

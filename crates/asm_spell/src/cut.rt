@@ -60,7 +60,7 @@ pub(crate) fn each_left<T: Operand + Drop>(
     alloc: Global,
     tokens: Option<&[Token<'_>]>,
 ) -> Result<Vec<T>, StmtFault>
-    ensures { Gives (λ all. map T.seen all.items) result (each T.reads (left tokens)) }
+    ensures { Gives (λ all. map T.seen all.items) result (each T.reads (left tokens.entry)) }
 {
     let mut all = Vec::new(alloc);
     let mut left = tokens;

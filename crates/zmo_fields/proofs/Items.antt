@@ -1,5 +1,5 @@
 -- Items read one after the other.
-use Rattle.std.proofs.Common.{◌≡◌, ℕ, suc, cond, List, [], ◌∷◌, ◌++◌, Option, Some, None, refl, sym, ap, append_assoc, inl, inr}
+use Rattle.std.proofs.Common.{◌≡◌, ◌<◌, ℕ, suc, cond, length, arith, List, [], ◌∷◌, ◌++◌, Option, Some, None, refl, sym, ap, append_assoc, inl, inr}
 use Rattle.std.specs.Option.{option_map, MatchOption}
 use Rattle.std.proofs.lemmas.List.{append-nil}
 use Rattle.std.proofs.lemmas.Bool.{cases_Bool}
@@ -51,7 +51,8 @@ judged_expr items None h =
     ]
 
 -- One leaf, and no bytes behind it.
-pub leaf_alone : (bytes : List ℕ) (atom : Atom) → item_at bytes ≡ Some (Item.Leaf atom, []) → expr_of bytes ≡ Some (Item.Leaf atom ∷ [])
+pub leaf_alone : (bytes : List ℕ) (atom : Atom) (rest : List ℕ) → item_at bytes ≡ Some (Item.Leaf atom, rest) → length rest < 1 → expr_of bytes ≡ Some (Item.Leaf atom ∷ [])
 unfolding items_within
-leaf_alone [] atom e = absurd cc
-leaf_alone (b ∷ bytes) atom e = rw e refl
+leaf_alone [] atom rest e none = absurd cc
+leaf_alone (b ∷ bytes) atom [] e none = rw e refl
+leaf_alone (b ∷ bytes) atom (r ∷ rest) e none = absurd (omega (arith, none))
