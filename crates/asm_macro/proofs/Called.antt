@@ -8,6 +8,7 @@ use Rattle.asm_macro.specs.declared.fault.MacroFault.{MacroFault}
 use Rattle.asm_texts.specs.Lines.{Numbered}
 use Rattle.asm_macro.specs.State as state
 use Rattle.asm_texts.specs.Calls.{Macro, Opened, arguments_in, body_lines, label_lines, opened, table_of}
+use Rattle.asm_sections.specs.Onward as onward
 use Rattle.asm_macro.specs.Parts as parts
 use Rattle.asm_macro.specs.Ahead.{Around}
 use Rattle.asm_texts.specs.Spans.{lines_from}
@@ -28,7 +29,7 @@ pub called_on : (depth : ℕ) (around : List Around) (e : state.State) (l : Numb
       depth = depth + 1;
       state = record e { counter = e.counter + length o.locals };
       text = body_lines l.number (table_of m (arguments_in l.text tokens f.rest) e.counter o.locals) o.lines;
-      around = record { depth = depth; next = parts.Rest rest } ∷ around;
+      around = record { depth = depth; next = onward.Rest rest } ∷ around;
     })
 called_on depth around e l f tokens rest name found m o is h op = let deep : nat_le 16 depth ≡ false = lt-leb 16 depth h in rw (is, deep, op) refl
 

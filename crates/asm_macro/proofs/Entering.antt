@@ -4,10 +4,10 @@ use Rattle.asm_scan.specs.Tokens.{Lexeme}
 use Rattle.asm_replace.specs.Replaced.{Table, replaced}
 use Rattle.asm_macro.specs.declared.expansion.Expansion.{Expansion}
 use Rattle.asm_texts.specs.declared.span.Span.{Span}
-use Rattle.asm_macro.specs.declared.frame.Following.{Following}
+use Rattle.asm_sections.specs.declared.following.Following.{Following}
 use Rattle.asm_texts.specs.Lines.{heard}
 use Rattle.asm_texts.specs.Calls.{body_lines, replaced_by, replaced_line}
-use Rattle.asm_macro.specs.Parts as parts
+use Rattle.asm_sections.specs.Onward as onward
 use Rattle.asm_macro.specs.Private.Entering.{Entered}
 use Rattle.asm_macro.specs.Private.Frames.{around_seen, innermost, turns_in}
 use Rattle.asm_texts.specs.Spans.{lines_from, text_of}
@@ -38,7 +38,7 @@ pub entered : Replaces → (x : Expansion) (tables : List Table) (around : List 
 entered law x tables around t u number counter body sound same is out =
     let depth : length (t ∷ tables_in x) + x.turns ≡ (length (tables_in x) + x.turns) + 1 = omega arith in
     let lines = lines_are law t u same number body.at (body_texts (texts_in x) body) in
-    let next = parts.Rest (text_of (texts_in x) (innermost (tables_in x)) x.text) in
+    let next = onward.Rest (text_of (texts_in x) (innermost (tables_in x)) x.text) in
     ap (λ ts. record { depth = length ts + x.turns; state = record (state_of x) { counter = counter }; text = text_of (texts_in x) (innermost ts) (record body { number = Some number }); around = around_seen (texts_in x) ts around }) is
     ∙ ap (λ fs. record { depth = length (t ∷ tables_in x) + x.turns; state = record (state_of x) { counter = counter }; text = text_of (texts_in x) (Some t) (record body { number = Some number }); around = around_seen (texts_in x) (t ∷ tables_in x) fs }) out
     ∙ ap (λ d. record { depth = d; state = record (state_of x) { counter = counter }; text = text_of (texts_in x) (Some t) (record body { number = Some number }); around = record { depth = length (tables_in x) + turns_in (reverse x.around.items); next = next } ∷ (rest_of x).around }) depth

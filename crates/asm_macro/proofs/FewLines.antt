@@ -10,12 +10,14 @@ use Rattle.asm_line.specs.declared.forms.BlockWord.{BlockWord}
 use Rattle.asm_line.specs.Forms.{Form, Head}
 use Rattle.asm_line.specs.Forms as line
 use Rattle.asm_texts.specs.Lines.{Numbered, form_of}
-use Rattle.asm_texts.specs.Blocks.{Body, Branches, Section, is_alone, body_of, branches_of}
+use Rattle.asm_sections.specs.Blocks.{Body, Branches, Section, body_of, branches_of}
+use Rattle.asm_texts.specs.Roles.{is_alone}
 use Rattle.asm_texts.specs.Calls.{Macro, Opened, label_lines, opened}
 use Rattle.asm_macro.specs.declared.fault.MacroFault.{MacroFault}
 use Rattle.asm_macro.specs.State.{State, counted, is_known, macro_named, table}
 use Rattle.asm_macro.specs.Judged.{first, is_counted, most_lines, parameters, redefined, stray, unclosed, unread}
-use Rattle.asm_macro.specs.Parts.{Next, Rest, BehindFirst, BehindSecond, Turns, Part, Stop, Last, Go, Within, called, closing, conditional, definition, headed, judged, learned, most_open, part, passed, read, renumbered, repeated, resumed, second_of, turns, unless_deep, worded}
+use Rattle.asm_sections.specs.Onward.{Next, Rest, BehindFirst, BehindSecond, Turns, renumbered}
+use Rattle.asm_macro.specs.Parts.{Part, Stop, Last, Go, Within, called, closing, conditional, definition, headed, judged, learned, most_open, part, passed, read, repeated, resumed, second_of, turns, unless_deep, worded}
 use Rattle.asm_macro.specs.Values.{worth}
 use Rattle.asm_macro.specs.Expands.{End, Whole, Ended, Stopped, Expands, nothing, line, Comes, stop, last, go, within, Follows, whole, ended, stopped, IsExpansion, long, short}
 

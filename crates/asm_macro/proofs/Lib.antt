@@ -2,6 +2,7 @@ mod Unique
 mod FewLines
 mod Stacks
 mod Turned
+mod Onwards
 mod Taken
 mod Heads
 mod Begun

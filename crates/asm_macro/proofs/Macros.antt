@@ -4,10 +4,11 @@ use Rattle.std.specs.Global.{Global}
 use Rattle.std.proofs.lemmas.List.{map-append}
 use Rattle.asm_replace.specs.Views as replaced
 use Rattle.asm_texts.specs.declared.call.Macro.{Macro}
-use Rattle.asm_texts.specs.declared.span.Block.{Block}
+use Rattle.asm_sections.specs.declared.stretch.Block.{Block}
 use Rattle.asm_texts.specs.Lines.{Numbered}
-use Rattle.asm_texts.specs.Blocks.{body_of}
-use Rattle.asm_texts.specs.Spans.{body_seen, line_of, text_of}
+use Rattle.asm_sections.specs.Blocks.{body_of}
+use Rattle.asm_sections.specs.Sections.{body_seen, line_of}
+use Rattle.asm_texts.specs.Spans.{text_of}
 use Rattle.asm_texts.specs.Prepared.{macro_seen, macros_seen}
 use Rattle.asm_texts.specs.Prepared.{said}
 use Rattle.asm_macro.specs.declared.expansion.Expansion.{Expansion}

@@ -50,3 +50,11 @@ depth_is x = length-map (reverse x.calls.items) (λ call. said call) ∙ length-
 pub given_ok : {T E P : Type 0} (r : Result T E) → P → OnOk r P
 given_ok (Ok x) p = p
 given_ok (Err e) p = tt
+
+pub so_ok : {T E P Q : Type 0} (r : Result T E) → (P → Q) → OnOk r P → OnOk r Q
+so_ok (Ok x) f p = f p
+so_ok (Err e) f p = tt
+
+pub all_ok : {T E P Q R S : Type 0} (r : Result T E) → (P → Q → R → S) → OnOk r P → OnOk r Q → OnOk r R → OnOk r S
+all_ok (Ok x) f p q s = f p q s
+all_ok (Err e) f p q s = tt

@@ -4,10 +4,10 @@ use Rattle.std.proofs.lemmas.Bool.{lt-leb}
 use Rattle.asm_macro.specs.declared.fault.MacroFault.{MacroFault}
 use Rattle.asm_texts.specs.Lines.{Numbered}
 use Rattle.asm_macro.specs.State.{State}
-use Rattle.asm_texts.specs.Blocks.{Body, Branches}
+use Rattle.asm_sections.specs.Blocks.{Body, Branches}
 use Rattle.asm_macro.specs.Parts.{chosen, conditional, repeated, turns}
 use Rattle.asm_macro.specs.Ahead.{Around, Rest}
-use Rattle.asm_macro.specs.Private.Allows.{stopped}
+use Rattle.asm_macro.specs.Private.Stopped.{stopped}
 use Rattle.asm_macro.specs.Private.Moves.{Fails, Moved, Resumes, moved}
 
 stopped_fails : (n : ℕ) (why : MacroFault) (new : Rest) → Resumes (Err (stopped n why)) new (Fails [] n why)

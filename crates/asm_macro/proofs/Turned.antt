@@ -1,84 +1,95 @@
 -- What moves leave.
-use Rattle.std.proofs.Common.{◌≡◌, ◌<◌, ◌+◌, ◌-◌, ◌∙◌, sym, ap, refl, ℕ, zero, suc, true, false, nat_le, List, [], ◌∷◌, ◌++◌, Option, Some, reverse, take, drop, length, arith, Err}
+use Rattle.std.proofs.Common.{◌≡◌, ◌<◌, ◌≤◌, ◌+◌, ◌-◌, ◌∙◌, sym, ap, refl, subst, ℕ, false, nat_le, List, [], ◌∷◌, ◌++◌, Option, reverse, length, arith}
 use Rattle.std.proofs.lemmas.Bool.{lt-leb}
 use Rattle.asm_replace.specs.Replaced.{Table}
-use Rattle.asm_macro.specs.declared.expansion.Expansion.{Expansion}
-use Rattle.asm_texts.specs.declared.span.Block.{Block}
 use Rattle.asm_texts.specs.declared.span.Span.{Span}
-use Rattle.asm_macro.specs.declared.frame.Following.{Following}
-use Rattle.asm_texts.specs.Lines.{Numbered, form_of}
-use Rattle.asm_macro.specs.declared.fault.MacroFault.{MacroFault}
+use Rattle.asm_texts.specs.Lines.{Numbered}
+use Rattle.asm_texts.specs.Spans.{text_of}
+use Rattle.asm_sections.specs.declared.following.Following.{Following}
+use Rattle.asm_sections.specs.declared.following.Onward.{Onward}
+use Rattle.asm_sections.specs.declared.stretch.Block.{Block}
+use Rattle.asm_sections.specs.Blocks.{Body, Section}
+use Rattle.asm_sections.specs.Onward.{Next, Rest, BehindFirst, BehindSecond, Turns}
+use Rattle.asm_sections.specs.Sections.{section_of}
+use Rattle.asm_sections.specs.Views.{behind_other, next_of, onward_seen}
+use Rattle.asm_macro.specs.declared.expansion.Expansion.{Expansion}
 use Rattle.asm_macro.specs.State.{State, counted}
-use Rattle.asm_texts.specs.Blocks.{Body, Branches, Section}
-use Rattle.asm_texts.specs.Blocks.{is_alone}
-use Rattle.asm_macro.specs.Parts.{Part, Stop, Turns, Go, renumbered, turns, closing, passed, resumed, behind_first}
-use Rattle.asm_macro.specs.Ahead.{Around, Rest}
-use Rattle.asm_macro.specs.Private.Frames.{around_seen, behind_other, below, innermost, next_of, outside, turns_in}
-use Rattle.asm_texts.specs.Spans.{body_seen, lines_from, text_of}
-use Rattle.asm_macro.specs.Private.Allows.{Allows}
-use Rattle.asm_macro.specs.declared.moves.Stop as moves
-use Rattle.asm_macro.specs.Private.Moves.{IsSound, Moved, On, Resumes, in_text, moved, next_move, rest_of, state_of, tables_in, texts_in}
-use Rattle.asm_macro.proofs.Stacks.{pushed}
+use Rattle.asm_macro.specs.Parts.{Within, resumed}
+use Rattle.asm_macro.specs.Private.Frames.{around_seen, below, innermost, outside, turns_in}
+use Rattle.asm_macro.specs.Private.Going.{Fits, FitsNext, into, turn_in}
+use Rattle.asm_macro.specs.Private.Moves.{IsSound, Moved, On, Sound, in_text, moved, next_move, rest_of, state_of, tables_in, texts_in}
+use Rattle.asm_macro.proofs.Stacks.{depth_is, pushed}
 
-renumbered-from : (n : ℕ) (number : Option ℕ) (at : ℕ) (names : Option Table) (texts : List (List ℕ)) → renumbered n (lines_from number at names texts) ≡ lines_from (Some n) at names texts
-renumbered-from n number at names [] = refl
-renumbered-from n number at names (t ∷ ts) = ap (λ ls. lines_from (Some n) at names (t ∷ []) ++ ls) (renumbered-from n number (at + 1) names ts)
+-- A text within begins; a turn of a REPT is counted.
 
-pub renumbered-text : (n : ℕ) (texts : List (List ℕ)) (names : Option Table) (s : Span) → renumbered n (text_of texts names s) ≡ text_of texts names (record s { number = Some n })
-renumbered-text n texts names s = renumbered-from n s.number s.at names (take (s.end - s.at) (drop s.at texts))
+pub into_turn : (depth : ℕ) (e : State) (text : List Numbered) (left number : ℕ) (body : Body) → e.count < 60000
+    → into depth e text (Turns left number body) ≡ Within [] (counted e) (depth + 1) text (Turns left number body)
+into_turn depth e text left number body h = let more : nat_le 60000 e.count ≡ false = lt-leb 60000 e.count h in rw more refl
 
-not_many : (n : ℕ) → n < 60000 → nat_le 60000 n ≡ false
-not_many n h = lt-leb 60000 n h
+into_other : (depth : ℕ) (e : State) (text : List Numbered) (others : List Section) (after : List Numbered) → into depth e text (behind_other others after) ≡ Within [] e depth text (behind_other others after)
+into_other depth e text [] after = refl
+into_other depth e text (t ∷ more) after = refl
 
-turns_more : (depth : ℕ) (around : List Around) (left number : ℕ) (body : Body) (e : State) → 0 < left → e.count < 60000
-    → moved depth around (turns depth left number body e)
-    ≡ On [] (record { depth = depth + 1; state = counted e; text = renumbered number body.section.lines; around = record { depth = depth; next = Turns (left - 1) number body } ∷ around })
-turns_more depth around zero number body e h k = absurd (omega (arith, h))
-turns_more depth around (suc n) number body e h k =
-    let less : n ≡ suc n - 1 = omega arith in
-    rw (not_many e.count k) (ap (λ j. On [] (record { depth = depth + 1; state = counted e; text = renumbered number body.section.lines; around = record { depth = depth; next = Turns j number body } ∷ around })) less)
+pub into_second : (depth : ℕ) (e : State) (text : List Numbered) (others : List Section) (after : List Numbered) → into depth e text (behind_other others after) ≡ Within [] e (depth + 0) text (behind_other others after)
+into_second depth e text others after = let same : depth ≡ depth + 0 = omega arith in into_other depth e text others after ∙ ap (λ d. Within [] e d text (behind_other others after)) same
 
--- a turn of a REPT is begun
-pub turned : (x : Expansion) (after : List Following) (left number : ℕ) (body : Block) → IsSound x → 0 < left → x.count < 60000 → after ≡ x.around.items ++ Following.Turns (left - 1) number body ∷ []
-    → moved (rest_of x).depth (rest_of x).around (turns (rest_of x).depth left number (body_seen (texts_in x) (innermost (tables_in x)) body) (state_of x))
-    ≡ On [] (record {
-      depth = length (tables_in x) + (x.turns + 1);
-      state = counted (state_of x);
-      text = text_of (texts_in x) (innermost (tables_in x)) (record body.stretch.lines { number = Some number });
-      around = around_seen (texts_in x) (tables_in x) (reverse after);
+turn_more : (f : Following) (around : List Following) → turns_in (f ∷ around) ≡ turns_in around + turn_in f
+turn_more (Following.Turns left number body) around = refl
+turn_more (Following.Rest s) around = let e : turns_in around ≡ turns_in around + 0 = omega arith in e
+turn_more (Following.BehindFirst c) around = let e : turns_in around ≡ turns_in around + 0 = omega arith in e
+turn_more (Following.BehindSecond c) around = let e : turns_in around ≡ turns_in around + 0 = omega arith in e
+
+-- what is gone into is in no call of its own
+inner : (many : ℕ) (texts : List (List ℕ)) (names : Option Table) (f : Following) (tables : List Table) → FitsNext many (next_of texts names f) → outside f tables ≡ tables
+inner many texts names (Following.Turns left number body) tables fits = refl
+inner many texts names (Following.Rest s) tables fits = absurd fits
+inner many texts names (Following.BehindFirst c) tables fits = refl
+inner many texts names (Following.BehindSecond c) tables fits = refl
+
+pub fits_turn : (many : ℕ) (texts : List (List ℕ)) (names : Option Table) (f : Following) → FitsNext many (next_of texts names f) → many ≤ 16 → many + turn_in f ≤ 16
+fits_turn many texts names (Following.Turns left number body) fits most = omega (arith, fits)
+fits_turn many texts names (Following.Rest s) fits most = absurd fits
+fits_turn many texts names (Following.BehindFirst c) fits most = omega (arith, most)
+fits_turn many texts names (Following.BehindSecond c) fits most = omega (arith, most)
+
+pub fits_into : (many : ℕ) (texts : List (List ℕ)) (names : Option Table) (o : Onward) (s : Span) (f : Following) → o ≡ Onward.Into s f → Fits many (onward_seen texts names o) → FitsNext many (next_of texts names f)
+fits_into many texts names o s f is fits = subst (λ p. Fits many (onward_seen texts names p)) is fits
+
+-- an expansion with a turn counted
+abbrev pub WithTurn : Expansion → Following → Expansion → Type 0
+WithTurn x f y = y ≡ record x { count = x.count + turn_in f; turns = x.turns + turn_in f }
+
+pub gone_into : (x y : Expansion) (after : List Following) (f : Following) (text : Span) (many : ℕ) → IsSound x → FitsNext many (next_of (texts_in x) (innermost (tables_in x)) f) → WithTurn x f y → after ≡ y.around.items ++ f ∷ []
+    → moved (rest_of x).depth (rest_of x).around (Within [] (state_of y) ((rest_of x).depth + turn_in f) (text_of (texts_in x) (innermost (tables_in x)) text) (next_of (texts_in x) (innermost (tables_in x)) f))
+    ≡ On [] (record { depth = length (tables_in y) + y.turns; state = state_of y; text = text_of (texts_in y) (innermost (tables_in y)) text; around = around_seen (texts_in y) (tables_in y) (reverse after) })
+gone_into x y after f text many sound fits kept is =
+    let T = texts_in x in
+    let N = tables_in x in
+    let out = inner many T (innermost N) f N fits in
+    let depth : (length N + x.turns) + turn_in f ≡ length N + (x.turns + turn_in f) = omega arith in
+    let seen = ap (around_seen T N) (ap reverse (is ∙ ap (λ z. z.around.items ++ f ∷ []) kept) ∙ pushed x.around.items f)
+    ∙ ap (λ ts. record { depth = length ts + turns_in (reverse x.around.items); next = next_of T (innermost ts) f } ∷ around_seen T ts (reverse x.around.items)) out
+    ∙ ap (λ t. record { depth = length N + t; next = next_of T (innermost N) f } ∷ (rest_of x).around) (sym sound.turns) in
+    ap (λ d. On [] (record { depth = d; state = state_of y; text = text_of T (innermost N) text; around = record { depth = length N + x.turns; next = next_of T (innermost N) f } ∷ (rest_of x).around })) depth
+    ∙ ap (λ a. On [] (record { depth = length N + (x.turns + turn_in f); state = state_of y; text = text_of T (innermost N) text; around = a })) (sym seen)
+    ∙ ap (λ z. On [] (record { depth = length (tables_in z) + z.turns; state = state_of y; text = text_of (texts_in z) (innermost (tables_in z)) text; around = around_seen (texts_in z) (tables_in z) (reverse after) })) (sym kept)
+
+pub sound_into : (x y : Expansion) (after : List Following) (f : Following) (texts : List (List ℕ)) (names : Option Table) → IsSound x
+    → FitsNext (length x.calls.items + x.turns) (next_of texts names f) → WithTurn x f y → y.count ≤ 60000 → after ≡ y.around.items ++ f ∷ []
+    → Sound (texts_in y) (tables_in y) (reverse after) (length y.lines.items) (length y.calls.items) y.turns y.count y.book (reverse y.books.items) y.source y.macros.entries y.calls.items
+sound_into x y after f texts names sound fits kept few is =
+    let around = ap reverse (is ∙ ap (λ z. z.around.items ++ f ∷ []) kept) ∙ pushed x.around.items f in
+    subst (λ z. Sound (texts_in z) (tables_in z) (reverse after) (length z.lines.items) (length z.calls.items) z.turns z.count z.book (reverse z.books.items) z.source z.macros.entries z.calls.items) (sym kept) (record {
+      short = sound.short;
+      turns = ap (λ n. n + turn_in f) sound.turns ∙ sym (turn_more f (reverse x.around.items)) ∙ ap turns_in (sym around);
+      shallow = omega (arith, fits_turn (length x.calls.items + x.turns) texts names f fits sound.shallow);
+      few = omega (arith, few, ap (λ z. z.count) kept);
+      book = sound.book;
+      books = sound.books;
+      source = sound.source;
+      macros = sound.macros;
+      open_calls = sound.open_calls;
     })
-turned x after left number body sound h k is =
-    let depth = length (tables_in x) + x.turns in
-    let seen = body_seen (texts_in x) (innermost (tables_in x)) body in
-    let more : depth + 1 ≡ length (tables_in x) + (x.turns + 1) = omega arith in
-    let text = renumbered-text number (texts_in x) (innermost (tables_in x)) body.stretch.lines in
-    let out = ap (around_seen (texts_in x) (tables_in x)) (ap reverse is ∙ pushed x.around.items (Following.Turns (left - 1) number body)) in
-    let inner = ap (λ t. record { depth = length (tables_in x) + t; next = Turns (left - 1) number seen } ∷ (rest_of x).around) sound.turns in
-    turns_more depth (rest_of x).around left number seen (state_of x) h k
-    ∙ ap (λ d. On [] (record { depth = d; state = counted (state_of x); text = renumbered number seen.section.lines; around = record { depth = depth; next = Turns (left - 1) number seen } ∷ (rest_of x).around })) more
-    ∙ ap (λ t. On [] (record { depth = length (tables_in x) + (x.turns + 1); state = counted (state_of x); text = t; around = record { depth = depth; next = Turns (left - 1) number seen } ∷ (rest_of x).around })) text
-    ∙ ap (λ a. On [] (record { depth = length (tables_in x) + (x.turns + 1); state = counted (state_of x); text = text_of (texts_in x) (innermost (tables_in x)) (record body.stretch.lines { number = Some number }); around = a })) (inner ∙ sym out)
-
-pub closing_true : (l : Numbered) → is_alone (form_of l.text) ≡ true → (p : Part) → closing l p ≡ p
-closing_true l e p = rw e refl
-
-pub closing_false : (l : Numbered) → is_alone (form_of l.text) ≡ false → (p : Part) → closing l p ≡ Stop [] l.number MacroFault.Stray
-closing_false l e p = rw e refl
-
--- what follows the second branch of an IF is let by as the branches behind the first are
-pub behind_passed : (depth : ℕ) (others : List Section) (after : List Numbered) (e : State) → resumed depth (behind_other others after) e ≡ passed others (Go [] e after)
-behind_passed depth [] after e = refl
-behind_passed depth (t ∷ []) after e = refl
-behind_passed depth (t ∷ u ∷ more) after e = refl
-
-pub first_both : (depth : ℕ) (around : List Around) (b : Branches) (e : State) → ((p : Part) → closing b.first.end p ≡ p) → ((p : Part) → passed b.others p ≡ p)
-    → moved depth around (behind_first b e) ≡ On [] (record { depth = depth; state = e; text = b.after; around = around })
-first_both depth around b e f g = ap (moved depth around) (f (passed b.others (Go [] e b.after)) ∙ g (Go [] e b.after))
-
--- a test that fails
-pub refused : (depth : ℕ) (around : List Around) (new : Rest) (f : Part → Part) (p : Part) (why : moves.Stop) → Allows (Err why) f → Resumes (Err why) new (moved depth around (f p))
-refused depth around new f p moves.Stop.NoMemory a = tt
-refused depth around new f p (moves.Stop.At n why) a = ap (moved depth around) (a p)
 
 -- what follows a text that is over
 pub popped : (x : Expansion) (left : List Following) (f : Following) → (rest_of x).text ≡ [] → x.around.items ≡ left ++ f ∷ []

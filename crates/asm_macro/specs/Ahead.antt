@@ -5,7 +5,7 @@ use Rattle.asm_macro.specs.declared.fault.MacroFault.{MacroFault}
 use Rattle.asm_texts.specs.Lines.{Numbered}
 use Rattle.asm_macro.specs.State.{State}
 use Rattle.asm_macro.specs.Judged.{most_lines}
-use Rattle.asm_macro.specs.Parts.{Next}
+use Rattle.asm_sections.specs.Onward.{Next}
 use Rattle.asm_macro.specs.Expands.{End, Ended, Stopped, Expands, Follows, IsDone, IsExpansion}
 
 -- what follows a text in the one around it, at a depth

@@ -13,7 +13,7 @@ use Rattle.asm_macro.specs.declared.fault.MacroFault.{MacroFault}
 use Rattle.asm_macro.specs.Faults.{fault_of_scan}
 use Rattle.asm_texts.specs.Lines.{Numbered, form_of}
 use Rattle.asm_macro.specs.State.{State, macro_named}
-use Rattle.asm_texts.specs.Blocks.{body_of, branches_of}
+use Rattle.asm_sections.specs.Blocks.{body_of, branches_of}
 
 -- LOCAL and the words that divide or close a block are not counted.
 abbrev pub is_counted : Head → Bool

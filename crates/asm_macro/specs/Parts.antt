@@ -13,17 +13,11 @@ use Rattle.asm_texts.specs.Lines.{Numbered, form_of}
 use Rattle.asm_texts.specs.Calls.{Macro}
 use Rattle.asm_macro.specs.State.{State, macro_named, with_macro, is_known, with_constant, counted, table}
 use Rattle.asm_macro.specs.Values.{worth}
-use Rattle.asm_texts.specs.Blocks.{is_alone, Section, Body, Branches, body_of, branches_of}
+use Rattle.asm_texts.specs.Roles.{is_alone}
+use Rattle.asm_sections.specs.Blocks.{Section, Body, Branches, body_of, branches_of}
+use Rattle.asm_sections.specs.Onward.{Next, Rest, BehindFirst, BehindSecond, Turns, renumbered}
 use Rattle.asm_texts.specs.Calls.{Opened, opened, body_lines, arguments_in, table_of, label_lines}
 use Rattle.asm_macro.specs.Judged.{most_lines, parameters, line_fault}
-
--- What follows a text within another: the rest of that; what stands behind the first branch of an IF, or behind the branch of
--- its ELSE; or so many turns more of a REPT, by the number that its lines bear and its body.
-pub data Next : Type 0 where
-  Rest : List Numbered → Next
-  BehindFirst : Branches → Next
-  BehindSecond : Section → List Section → List Numbered → Next
-  Turns : ℕ → ℕ → Body → Next
 
 pub data Part : Type 0 where
   -- these lines are given, and then comes a fault, at a line's number
@@ -70,10 +64,6 @@ most_open = 16
 
 abbrev pub unless_deep : ℕ → Numbered → Part → Part
 unless_deep depth l part = if nat_le most_open depth then fails l MacroFault.TooDeep else part
-
--- lines that bear the number of their outermost call or REPT
-abbrev pub renumbered : ℕ → List Numbered → List Numbered
-renumbered n lines = map (λ (l : Numbered). record l { number = n }) lines
 
 -- a body some times over, each turn of which counts as a line
 abbrev pub turns : ℕ → ℕ → ℕ → Body → State → Part

@@ -1,6 +1,7 @@
+pub mod Stopped
 pub mod Stages
 pub mod Frames
-pub mod Allows
+pub mod Going
 pub mod Heads
 pub mod Entering
 pub mod Constants

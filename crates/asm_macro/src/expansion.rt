@@ -2,25 +2,22 @@
 
 ghost use Rattle.std.specs.Prelude.{◌≡◌, ◌≢◌, ◌<◌, ◌≤◌, ◌+◌, ◌∷◌, ℕ, IfOk, OnOk, List, [], Some, length, reverse, slice_index_or};
 ghost use Rattle.asm_replace.specs.Replaced.{Table};
-ghost use Rattle.asm_texts.specs.Books.{IsBook};
+ghost use Rattle.asm_sections.specs.Books.{IsBook};
 ghost use Rattle.std.specs.Option.{option_map};
 ghost use Rattle.asm_macro.specs.Ahead.{Around, seen};
 ghost use Rattle.asm_macro.specs.Kept.{AreOf};
-ghost use Rattle.asm_macro.specs.Parts.{behind_first, part, resumed, turns};
-ghost use Rattle.asm_macro.specs.declared.frame.Following.{Following};
-ghost use Rattle.asm_texts.specs.Spans.{body_seen, branches_seen};
-ghost use Rattle.asm_macro.specs.Private.Frames.{AreBooks, below, innermost, next_of};
+ghost use Rattle.asm_macro.specs.Parts.{part};
+ghost use Rattle.asm_macro.specs.Private.Frames.{AreBooks, below, innermost};
 ghost use Rattle.asm_macro.specs.declared.moves.Given.{Given};
 ghost use Rattle.asm_macro.specs.Private.Moves.{Gives, Goes, IsSound, Lessens, Resumes, Takes, most_moves, moved, next_move, rest_of, state_of, tables_in, texts_in};
 
-use crate::closing::{closes, passes};
 use crate::constants::Constants;
 use crate::expander::Line;
 use crate::fault::MacroFault;
-use crate::frame::Following;
 use crate::moves::{Given, Stop, Taken};
 use asm_scan::Token;
-use asm_texts::{Block, Book, Call, Choice, Macro, Span, put_shown};
+use asm_sections::{Book, Following};
+use asm_texts::{Call, Macro, Span, put_shown};
 use indexmap::IndexMap;
 use name_key::NameKey;
 use std::alloc::{AllocError, Global};
@@ -68,62 +65,6 @@ fn outer_book(alloc: Global, books: &mut Vec<Book>) -> Book
 }
 
 impl<'a> Expansion<'a> {
-    /// Goes on behind the first branch of an IF.
-    fn behind_first(&mut self, choice: Choice) -> Result<(), Stop>
-        requires sound { IsSound self.old }
-        ensures sound { OnOk result (IsSound self.new) }
-        ensures kept { (self.new.count ≡ self.old.count) × (length self.new.around.items ≡ length self.old.around.items) }
-        ensures resumed { Resumes result (rest_of self.new)
-            (moved (rest_of self.old).depth (rest_of self.old).around (behind_first (branches_seen (texts_in self.old) (innermost (tables_in self.old)) choice) (state_of self.old))) }
-    {
-        closes(self.alloc, &self.lines, self.calls.last(), choice.first.end)?;
-        passes(self.alloc, &self.lines, self.calls.last(), &choice.others)?;
-        self.text = choice.after;
-        Ok(())
-    }
-
-    /// Goes on behind the second branch of an IF.
-    fn behind_second(&mut self, choice: Choice) -> Result<(), Stop>
-        requires sound { IsSound self.old }
-        ensures sound { OnOk result (IsSound self.new) }
-        ensures kept { (self.new.count ≡ self.old.count) × (length self.new.around.items ≡ length self.old.around.items) }
-        ensures resumed { Resumes result (rest_of self.new)
-            (moved (rest_of self.old).depth (rest_of self.old).around (resumed (rest_of self.old).depth (next_of (texts_in self.old) (innermost (tables_in self.old)) (Following.BehindSecond choice)) (state_of self.old))) }
-    {
-        passes(self.alloc, &self.lines, self.calls.last(), &choice.others)?;
-        self.text = choice.after;
-        Ok(())
-    }
-
-    /// Goes on with the next turn of a REPT, or behind it.
-    pub(crate) fn turn(&mut self, left: u16, number: u32, body: Block) -> Result<(), Stop>
-        requires sound { IsSound self.old }
-        requires shallow { length self.old.calls.items + self.old.turns < 16 }
-        ensures sound { OnOk result (IsSound self.new) }
-        ensures count { OnOk result (self.old.count ≤ self.new.count) }
-        ensures less { OnOk result (most_moves self.new ≤ most_moves self.old) }
-        ensures around { OnOk result (length self.new.around.items ≤ length self.old.around.items + 1) }
-        ensures resumed { Resumes result (rest_of self.new)
-            (moved (rest_of self.old).depth (rest_of self.old).around (turns (rest_of self.old).depth left number (body_seen (texts_in self.old) (innermost (tables_in self.old)) body) (state_of self.old))) }
-    {
-        if left == 0 {
-            closes(self.alloc, &self.lines, self.calls.last(), body.stretch.end)?;
-            self.text = body.after;
-            return Ok(());
-        }
-        if self.count >= MOST_LINES {
-            return Err(Stop::At(number, MacroFault::TooManyLines));
-        }
-        self.around.push(Following::Turns(left - 1, number, body))?;
-        self.count += 1;
-        self.turns += 1;
-        self.text = Span {
-            number: Some(number),
-            ..body.stretch.lines
-        };
-        Ok(())
-    }
-
     /// Goes on behind a text that is over, in the one around it.
     #[inline(never)]
     fn resume(&mut self) -> Result<(), Stop>
@@ -145,11 +86,11 @@ impl<'a> Expansion<'a> {
                 self.text = text;
                 Ok(())
             }
-            Following::BehindFirst(choice) => self.behind_first(choice),
-            Following::BehindSecond(choice) => self.behind_second(choice),
+            Following::BehindFirst(choice) => self.go_behind(Following::BehindFirst(choice)),
+            Following::BehindSecond(choice) => self.go_behind(Following::BehindSecond(choice)),
             Following::Turns(left, number, body) => {
                 self.turns -= 1;
-                self.turn(left, number, body)
+                self.go_behind(Following::Turns(left, number, body))
             }
         }
     }

@@ -2,12 +2,11 @@
 #![tactic(auto)]
 
 mod blocks;
-mod closing;
 mod constants;
 mod expander;
 mod expansion;
 mod fault;
-mod frame;
+mod going;
 pub mod laws;
 mod moves;
 mod source;

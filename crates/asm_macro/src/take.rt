@@ -8,7 +8,7 @@ ghost use Rattle.asm_words.specs.Words.{upper};
 ghost use Rattle.asm_line.specs.Views.{form_seen, head_seen};
 ghost use Rattle.asm_replace.specs.Views.{texts};
 ghost use Rattle.asm_replace.specs.Replaced.{Table};
-ghost use Rattle.asm_texts.specs.Books.{IsCall};
+ghost use Rattle.asm_texts.specs.Kept.{IsCall};
 ghost use Rattle.asm_texts.specs.Prepared.{SaySame, body_texts, macros_seen, said};
 ghost use Rattle.std.specs.Map.{lookup};
 ghost use Rattle.std.specs.Str.{bytes_eq};
@@ -16,25 +16,24 @@ ghost use Rattle.asm_macro.specs.Private.Entering.{Entered};
 ghost use Rattle.asm_macro.specs.State.{macro_named, table};
 ghost use Rattle.asm_macro.specs.Values.{worth};
 ghost use Rattle.asm_macro.specs.Ahead.{seen};
-ghost use Rattle.asm_texts.specs.Blocks.{body_of, branches_of};
+ghost use Rattle.asm_sections.specs.Blocks.{body_of, branches_of};
 ghost use Rattle.asm_macro.specs.Judged.{is_counted, parameters};
 ghost use Rattle.asm_macro.specs.Parts.{chosen, conditional, definition, part, repeated, second_of, worded};
-ghost use Rattle.asm_macro.specs.Private.Allows.{stopped};
-ghost use Rattle.asm_texts.specs.Spans.{branches_seen};
+ghost use Rattle.asm_macro.specs.Private.Stopped.{stopped};
+ghost use Rattle.asm_sections.specs.Sections.{branches_seen};
 ghost use Rattle.asm_macro.specs.Private.Frames.{innermost};
 ghost use Rattle.asm_macro.specs.Private.Heads.{by_head, defined, kept};
 ghost use Rattle.asm_macro.specs.Kept.{AreOf};
 ghost use Rattle.asm_macro.specs.Private.Moves.{IsSound, Resumes, Takes, moved, rest_of, state_of, tables_in, texts_in};
 
-use crate::closing::closes;
 use crate::expander::Line;
 use crate::expansion::{Expansion, MOST_LINES};
 use crate::fault::MacroFault;
-use crate::frame::Following;
 use crate::moves::{Stop, Taken, begun, refused};
 use asm_line::{BlockWord, Form, Head, form_of, names};
 use asm_scan::{ScanFault, Token, tokens};
-use asm_texts::{Book, Call, Choice, Macro, Span, label_before, macro_of, prepare};
+use asm_sections::{Book, Following, stray};
+use asm_texts::{Call, Macro, Span, label_before, macro_of, prepare};
 use asm_words::is_reserved;
 use indexmap::IndexMap;
 use name_key::NameKey;
@@ -101,46 +100,6 @@ fn is_plain(macros: &IndexMap<Vec<u8>, Macro, NameKey>, word: &[u8]) -> bool
 }
 
 impl<'a> Expansion<'a> {
-    /// Goes on with the second branch of an IF, if there is one.
-    fn second(&mut self, choice: Choice) -> Result<(), Stop>
-        requires sound { IsSound self.old }
-        ensures sound { OnOk result (IsSound self.new) }
-        ensures count { OnOk result (self.new.count ≡ self.old.count) }
-        ensures around { OnOk result (length self.new.around.items ≤ length self.old.around.items + 1) }
-        ensures chosen { Resumes result (rest_of self.new) (moved (rest_of self.old).depth (rest_of self.old).around
-            (second_of (rest_of self.old).depth (state_of self.old) (branches_seen (texts_in self.old) (innermost (tables_in self.old)) choice).others (branches_seen (texts_in self.old) (innermost (tables_in self.old)) choice).after)) }
-    {
-        let text = match choice.others.as_slice() {
-            [] => {
-                self.text = choice.after;
-                return Ok(());
-            }
-            [second, ..] => second.lines,
-        };
-        self.around.push(Following::BehindSecond(choice))?;
-        self.text = text;
-        Ok(())
-    }
-
-    /// Goes on with a branch of an IF, by its value.
-    fn choose(&mut self, value: u16, choice: Choice) -> Result<(), Stop>
-        requires sound { IsSound self.old }
-        ensures sound { OnOk result (IsSound self.new) }
-        ensures count { OnOk result (self.new.count ≡ self.old.count) }
-        ensures around { OnOk result (length self.new.around.items ≤ length self.old.around.items + 1) }
-        ensures chosen { Resumes result (rest_of self.new) (moved (rest_of self.old).depth (rest_of self.old).around
-            (chosen value (rest_of self.old).depth (state_of self.old) (branches_seen (texts_in self.old) (innermost (tables_in self.old)) choice))) }
-    {
-        if value == 0 {
-            closes(self.alloc, &self.lines, self.calls.last(), choice.first.end)?;
-            return self.second(choice);
-        }
-        let text = choice.first.lines;
-        self.around.push(Following::BehindFirst(choice))?;
-        self.text = text;
-        Ok(())
-    }
-
     /// `IF e`.
     #[inline(never)]
     fn condition(&mut self, line: Line<'_>, tokens: &[Token<'_>]) -> Result<(), Stop>
@@ -156,7 +115,7 @@ impl<'a> Expansion<'a> {
             return Err(Stop::At(line.number, MacroFault::Unclosed));
         };
         match self.constants.value_of(self.alloc, tokens) {
-            Ok(value) => self.choose(value, choice),
+            Ok(value) => self.go_in(value, choice),
             Err(why) => Err(stopped(line.number, why)),
         }
     }
@@ -180,7 +139,7 @@ impl<'a> Expansion<'a> {
                 if self.calls.len() + self.turns >= MOST_OPEN {
                     return Err(Stop::At(line.number, MacroFault::TooDeep));
                 }
-                self.turn(value, line.number, body)
+                self.go_behind(Following::Turns(value, line.number, body))
             }
             Err(why) => Err(stopped(line.number, why)),
         }
@@ -273,7 +232,11 @@ impl<'a> Expansion<'a> {
         let Some(body) = found else {
             return Err(Stop::At(line.number, MacroFault::Unclosed));
         };
-        closes(self.alloc, &self.lines, self.calls.last(), body.stretch.end)?;
+        let end = body.stretch.end;
+        let strays = stray(self.alloc, &self.lines, self.calls.last(), end)?;
+        if let Some(number) = strays {
+            return Err(Stop::At(number, MacroFault::Stray));
+        }
         let called = Macro::new(self.alloc, &self.lines, parameters, body.stretch.lines)?;
         self.macros.insert(key, called)?;
         self.text = body.after;

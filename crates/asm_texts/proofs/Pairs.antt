@@ -15,7 +15,7 @@ use Rattle.asm_line.specs.Forms.{Form, block_named, form, head_of_block, headed,
 use Rattle.asm_line.specs.Tokens.{is_colon, is_name, is_word}
 use Rattle.asm_replace.proofs.Fronts.{whole_line}
 use Rattle.asm_replace.specs.Pieces.{gap}
-use Rattle.asm_texts.specs.Blocks.{role_of_head}
+use Rattle.asm_texts.specs.Roles.{role_of_head}
 use Rattle.asm_texts.specs.Lines.{form_by, form_of, tokens_in}
 use Rattle.asm_texts.specs.Private.Pairs.{has_pair, is_pair, paired}
 

@@ -16,14 +16,16 @@ use Rattle.asm_line.specs.Tokens.{is_colon, is_name, is_word}
 use Rattle.asm_block.specs.declared.matching.Role.{Role}
 use Rattle.asm_replace.specs.Fronts.{AreLeft, Begins, IsLeft, goes_on}
 use Rattle.asm_replace.specs.Replaced.{Table, arguments_of, local_name, local_names, replaced}
-use Rattle.asm_texts.specs.Blocks.{role_of_head}
+use Rattle.asm_texts.specs.Roles.{role_of_head}
 use Rattle.asm_texts.specs.declared.call.Call.{Call}
+use Rattle.asm_texts.specs.declared.span.Span.{Span}
 use Rattle.asm_texts.specs.declared.varying.Varying.{Varying}
-use Rattle.asm_texts.specs.Books.{IsCall, Stands, role_in}
+use Rattle.asm_texts.specs.Kept.{HasOnly, IsCall, IsVarying}
+use Rattle.asm_texts.specs.Stands.{Stands, role_in}
 use Rattle.asm_texts.specs.Prepared.{SaySame, said}
 use Rattle.asm_texts.specs.Calls.{replaced_by}
 use Rattle.asm_texts.specs.Lines.{form_by, form_of, heard, tokens_in}
-use Rattle.asm_texts.specs.Private.Varying.{HasOnly, IsVarying, asked, asked_labelled, asked_of, is_held, may_vary, with_next}
+use Rattle.asm_texts.specs.Private.Varying.{asked, asked_labelled, asked_of, is_held, may_vary, with_next}
 
 -- What the laws on replaced lines say.
 abbrev pub Leaves : Type 0
@@ -197,9 +199,10 @@ named texts t places now from at told e = λ k after before within.
     ])
 
 -- Tables that say the same of each name.
-pub by_names : {E : Type 0} (texts : List (List ℕ)) (t u : Table) → SaySame t u → (r : Result Varying E) → IfOk r (IsVarying texts t) → IfOk r (IsVarying texts u)
-by_names texts t u same (Ok v) varying = λ w only. varying w (λ name none. only name (sym (same name) ∙ none))
-by_names texts t u same (Err e) varying = tt
+pub by_names : {E : Type 0} (texts : List (List ℕ)) (t u : Table) (s : Span) → SaySame t u → (r : Result Varying E) → IfOk r (IsVarying texts t) → IfOk r (λ v. (v.at ≡ s.at) × (v.end ≡ s.end))
+    → IfOk r (λ v. (v.at ≡ s.at) × (v.end ≡ s.end) × IsVarying texts u v)
+by_names texts t u s same (Ok v) varying range = (range.0, range.1, λ w only. varying w (λ name none. only name (sym (same name) ∙ none)))
+by_names texts t u s same (Err e) varying range = tt
 
 -- What arguments there are, and from which number LOCAL names count, changes no name of a call.
 

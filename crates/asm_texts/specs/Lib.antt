@@ -1,7 +1,8 @@
 pub mod Lines
-pub mod Blocks
+pub mod Roles
 pub mod Calls
 pub mod Spans
-pub mod Books
+pub mod Stands
 pub mod Prepared
+pub mod Kept
 pub mod Private

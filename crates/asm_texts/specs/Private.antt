@@ -1,4 +1,3 @@
 pub mod Openings
 pub mod Varying
-pub mod Chosen
 pub mod Pairs

@@ -6,7 +6,7 @@ ghost use Rattle.std.specs.Map.{lookup};
 ghost use Rattle.std.specs.Str.{bytes_eq};
 ghost use Rattle.asm_texts.specs.Prepared.{macro_seen, macros_seen};
 ghost use Rattle.asm_replace.specs.Views.{texts};
-ghost use Rattle.asm_texts.specs.Private.Varying.{IsKept, VariesIn};
+ghost use Rattle.asm_texts.specs.Kept.{IsKept, VariesIn};
 
 use crate::open::{Opened, names_of, open};
 use crate::span::Span;
@@ -53,7 +53,7 @@ fn varying_in(
 
 impl Macro {
     ghost use Rattle.std.specs.Prelude.{◌≡◌, IfOk, map};
-    ghost use Rattle.asm_texts.specs.Private.Varying.{IsKept};
+    ghost use Rattle.asm_texts.specs.Kept.{IsKept};
 
     /// Looks through a body, whose lines are not looked through again by each call.
     pub fn new(

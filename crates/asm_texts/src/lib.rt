@@ -1,9 +1,7 @@
-//! The texts within a Z80 assembler source: spans of its lines as a call shows them, the blocks that they begin with, and the
-//! body of a call.
+//! The texts within a Z80 assembler source: spans of its lines as a call shows them, what the lines are to blocks, and the body of
+//! a call.
 #![tactic(auto)]
 
-mod blocks;
-mod book;
 mod call;
 mod open;
 mod prepared;
@@ -11,9 +9,8 @@ mod reading;
 mod span;
 mod varying;
 
-pub use blocks::{body_of, branches_of};
-pub use book::Book;
 pub use call::{Call, Macro, macro_of};
 pub use prepared::{Prepared, label_before, prepare};
-pub use reading::{is_alone, line_at, put_shown};
-pub use span::{Block, Choice, Place, Span, Stretch};
+pub use reading::{is_alone, line_at, put_shown, role_shown};
+pub use span::Span;
+pub use varying::all_stand;

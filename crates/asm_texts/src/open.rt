@@ -10,7 +10,8 @@ ghost use Rattle.asm_replace.specs.Replaced.{arguments_of, local_names};
 ghost use Rattle.asm_replace.specs.Views.{table, texts};
 ghost use Rattle.asm_replace.specs.Views.{texts as texts_seen};
 ghost use Rattle.asm_texts.specs.Calls.{arguments_in, label_text, opened};
-ghost use Rattle.asm_texts.specs.Private.Openings.{IsLocal, is_local, opened_seen};
+ghost use Rattle.asm_texts.specs.Kept.{opened_seen};
+ghost use Rattle.asm_texts.specs.Private.Openings.{IsLocal, is_local};
 ghost use Rattle.asm_texts.specs.Prepared.{SaySame, body_texts};
 
 use crate::reading::heard;

@@ -4,9 +4,8 @@ ghost use Rattle.std.specs.Prelude.{◌≡◌, IfOk, IfSome, List, ℕ};
 ghost use Rattle.asm_scan.specs.Tokens.{lexemes};
 ghost use Rattle.asm_line.specs.Views.{form_seen};
 ghost use Rattle.asm_texts.specs.Calls.{label_lines};
-ghost use Rattle.asm_texts.specs.Books.{IsCall};
 ghost use Rattle.asm_texts.specs.Prepared.{Prepares, labels};
-ghost use Rattle.asm_texts.specs.Private.Varying.{IsKept};
+ghost use Rattle.asm_texts.specs.Kept.{IsCall, IsKept};
 
 use crate::call::{Call, Macro};
 use crate::open::{arguments_of, label_of, names_of};

@@ -6,8 +6,8 @@ ghost use Rattle.asm_replace.specs.Views.{table};
 ghost use Rattle.std.specs.Option.{option_map};
 ghost use Rattle.asm_scan.specs.Tokens.{lexemes};
 ghost use Rattle.asm_texts.specs.Lines.{form_of, heard};
-ghost use Rattle.asm_texts.specs.Blocks.{role_of_head};
-ghost use Rattle.asm_texts.specs.Blocks.{is_alone};
+ghost use Rattle.asm_texts.specs.Roles.{role_of_head};
+ghost use Rattle.asm_texts.specs.Roles.{is_alone};
 ghost use Rattle.asm_texts.specs.Prepared.{said};
 ghost use Rattle.asm_texts.specs.Private.Pairs.{has_pair, is_pair};
 ghost use Rattle.asm_texts.specs.Spans.{shown};
@@ -150,7 +150,7 @@ pub fn put_shown(
 }
 
 /// What a line is to blocks, as it stands in a call or in none. What the buffer holds has no meaning.
-pub(crate) fn role_shown(
+pub fn role_shown(
     alloc: Global,
     call: Option<&Call>,
     line: &[u8],

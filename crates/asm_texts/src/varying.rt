@@ -5,10 +5,11 @@ ghost use Rattle.std.specs.List.{list_any};
 ghost use Rattle.asm_scan.specs.Tokens.{lexeme, lexemes};
 ghost use Rattle.asm_replace.specs.Fronts.{goes_on};
 ghost use Rattle.asm_replace.specs.Views.{table};
-ghost use Rattle.asm_texts.specs.Books.{IsCall, Stand, Stands};
+ghost use Rattle.asm_texts.specs.Kept.{IsCall, IsVarying};
 ghost use Rattle.asm_texts.specs.Lines.{heard};
 ghost use Rattle.asm_texts.specs.Prepared.{said};
-ghost use Rattle.asm_texts.specs.Private.Varying.{IsVarying, asked, asked_labelled, asked_of, is_held, may_vary, with_next};
+ghost use Rattle.asm_texts.specs.Stands.{Stand, Stands};
+ghost use Rattle.asm_texts.specs.Private.Varying.{asked, asked_labelled, asked_of, is_held, may_vary, with_next};
 
 use crate::call::Call;
 use crate::reading::{heard, put_shown, role_of, role_of_head};
@@ -126,7 +127,8 @@ pub(crate) fn varying_of(
     names: &Replacements,
     body: Span,
 ) -> Result<Varying, AllocError>
-    ensures { IfOk result (λ found. IsVarying (map (λ line. line.now) lines.now) (table names.now.entries) found) }
+    ensures varying { IfOk result (λ found. IsVarying (map (λ line. line.now) lines.now) (table names.now.entries) found) }
+    ensures range { IfOk result (λ found. (found.at ≡ body.at) × (found.end ≡ body.end)) }
 {
     asm_replace::laws::unreplaced();
     asm_replace::laws::front_stays();
@@ -167,7 +169,7 @@ fn stands(
 
 /// Whether all lines of a text of a call are to blocks what they are as they stand. Those alone are read that may be something
 /// else.
-pub(crate) fn all_stand(
+pub fn all_stand(
     alloc: Global,
     lines: &[&[u8]],
     call: &Call,

@@ -2,7 +2,7 @@
 use Rattle.std.specs.Prelude.{◌≡◌, ◌+◌, ◌∷◌, ℕ, List}
 use Rattle.asm_replace.specs.Replaced.{Table}
 use Rattle.asm_texts.specs.Calls.{body_lines}
-use Rattle.asm_macro.specs.Parts as parts
+use Rattle.asm_sections.specs.Onward as onward
 use Rattle.asm_macro.specs.Ahead.{Rest}
 
 -- the body is the innermost text, and what was that follows it
@@ -12,5 +12,5 @@ Entered old number names texts counter new =
       depth = old.depth + 1;
       state = record old.state { counter = counter };
       text = body_lines number names texts;
-      around = record { depth = old.depth; next = parts.Rest old.text } ∷ old.around;
+      around = record { depth = old.depth; next = onward.Rest old.text } ∷ old.around;
     }

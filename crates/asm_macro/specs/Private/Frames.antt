@@ -1,25 +1,11 @@
 -- What follows the texts that an expansion keeps, each in the one around it.
-use Rattle.std.specs.Prelude.{ℕ, ◌+◌, List, [], ◌∷◌, Option, Some, None, map, length}
+use Rattle.std.specs.Prelude.{ℕ, ◌+◌, List, [], ◌∷◌, Option, Some, None, length}
 use Rattle.asm_replace.specs.Replaced.{Table}
-use Rattle.asm_texts.specs.Lines.{Numbered}
-use Rattle.asm_texts.specs.Blocks.{Section}
-use Rattle.asm_texts.specs.Spans.{body_seen, branches_seen, section_of, text_of}
-use Rattle.asm_texts.specs.declared.book.Book.{Book}
-use Rattle.asm_texts.specs.Books.{IsBook}
-use Rattle.asm_macro.specs.declared.frame.Following.{Following}
-use Rattle.asm_macro.specs.Parts as parts
+use Rattle.asm_sections.specs.declared.book.Book.{Book}
+use Rattle.asm_sections.specs.declared.following.Following.{Following}
+use Rattle.asm_sections.specs.Books.{IsBook}
+use Rattle.asm_sections.specs.Views.{next_of}
 use Rattle.asm_macro.specs.Ahead.{Around}
-
--- what follows the second branch of an IF
-abbrev pub behind_other : List Section → List Numbered → parts.Next
-behind_other [] after = parts.Rest after
-behind_other (t ∷ more) after = parts.BehindSecond t more after
-
-abbrev pub next_of : List (List ℕ) → Option Table → Following → parts.Next
-next_of texts names (Following.Rest s) = parts.Rest (text_of texts names s)
-next_of texts names (Following.BehindFirst c) = parts.BehindFirst (branches_seen texts names c)
-next_of texts names (Following.BehindSecond c) = behind_other (map (section_of texts names) c.others.items) (text_of texts names c.after)
-next_of texts names (Following.Turns left number body) = parts.Turns left number (body_seen texts names body)
 
 -- How many repetitions are open, by what follows the texts within one another, the innermost first.
 abbrev pub turns_in : List Following → ℕ

@@ -11,7 +11,7 @@ use Rattle.asm_macro.specs.declared.fault.MacroFault.{MacroFault}
 use Rattle.asm_texts.specs.Lines.{Numbered}
 use Rattle.asm_macro.specs.State.{State, macro_named, table, with_macro}
 use Rattle.asm_macro.specs.Values.{worth}
-use Rattle.asm_texts.specs.Blocks.{Body, body_of, branches_of}
+use Rattle.asm_sections.specs.Blocks.{Body, body_of, branches_of}
 use Rattle.asm_macro.specs.Judged.{is_stray, parameters}
 use Rattle.asm_macro.specs.Parts.{Part, Go, closing, fails, texts, definition, repeated, conditional, equated, worded}
 

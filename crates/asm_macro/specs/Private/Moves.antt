@@ -2,9 +2,9 @@
 use Rattle.std.specs.Prelude.{◌≡◌, Option, Some, None, ◌+◌, ◌*◌, ◌-◌, ◌≤◌, ◌<◌, ℕ, List, [], ◌∷◌, Result, Ok, Err, Vec, All, length, map, reverse}
 use Rattle.std.specs.Global.{Global}
 use Rattle.asm_replace.specs.Replaced.{Table}
-use Rattle.asm_texts.specs.declared.book.Book.{Book}
+use Rattle.asm_sections.specs.declared.book.Book.{Book}
 use Rattle.asm_macro.specs.declared.expansion.Expansion.{Expansion}
-use Rattle.asm_macro.specs.declared.frame.Following.{Following}
+use Rattle.asm_sections.specs.declared.following.Following.{Following}
 use Rattle.asm_macro.specs.declared.moves.Given.{Given}
 use Rattle.asm_macro.specs.declared.moves.Taken.{Taken}
 use Rattle.asm_macro.specs.declared.moves.Stop.{Stop}
@@ -19,8 +19,8 @@ use Rattle.asm_texts.specs.Spans.{text_of}
 use Rattle.asm_texts.specs.declared.call.Macro.{Macro}
 use Rattle.asm_texts.specs.declared.call.Call.{Call}
 use Rattle.asm_texts.specs.Prepared.{macros_seen, said}
-use Rattle.asm_texts.specs.Private.Varying.{IsKept}
-use Rattle.asm_texts.specs.Books.{IsBook, IsCall}
+use Rattle.asm_texts.specs.Kept.{IsKept, IsCall}
+use Rattle.asm_sections.specs.Books.{IsBook}
 use Rattle.asm_macro.specs.Private.Frames.{AreBooks, around_seen, innermost, turns_in}
 
 -- the lines of the source

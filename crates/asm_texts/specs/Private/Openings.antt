@@ -4,12 +4,7 @@ use Rattle.asm_line.specs.declared.forms.BlockWord.{BlockWord}
 use Rattle.asm_line.specs.Forms as line
 use Rattle.asm_replace.specs.Views as replaced
 use Rattle.asm_texts.specs.declared.open.Local.{Local}
-use Rattle.asm_texts.specs.declared.open.Opened as open_by
-use Rattle.asm_texts.specs.Calls.{Opened, opened, with_locals}
-use Rattle.asm_texts.specs.Prepared.{body_texts}
-
-abbrev pub opened_seen : List (List ℕ) → open_by.Opened → Opened
-opened_seen all o = record { locals = replaced.texts o.locals.items; lines = body_texts all o.rest }
+use Rattle.asm_texts.specs.Calls.{opened, with_locals}
 
 -- what the first line of a body does
 abbrev pub IsLocal : List ℕ → Local → Type 0

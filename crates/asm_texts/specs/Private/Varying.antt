@@ -1,8 +1,7 @@
 -- Which lines of a body may be other things to blocks in a call than they are as they stand.
-use Rattle.std.specs.Prelude.{◌≡◌, ◌⊎◌, ◌≤◌, ◌<◌, ◌+◌, ◌++◌, ◌&&◌, ℕ, Bool, true, false, List, [], ◌∷◌, Option, Some, None, if◌then◌else◌, is_some, length, take}
-use Rattle.std.specs.List.{Contains, list_any}
+use Rattle.std.specs.Prelude.{◌+◌, ◌&&◌, ℕ, Bool, true, false, List, ◌∷◌, Option, Some, None, if◌then◌else◌, is_some, take}
+use Rattle.std.specs.List.{list_any}
 use Rattle.std.specs.Map.{lookup}
-use Rattle.std.specs.Option.{option_map}
 use Rattle.std.specs.Str.{bytes_eq}
 use Rattle.asm_words.specs.Words.{upper}
 use Rattle.asm_scan.specs.Tokens.{Lexeme}
@@ -10,16 +9,8 @@ use Rattle.asm_line.specs.Tokens.{is_colon, is_name}
 use Rattle.asm_line.specs.Forms.{form}
 use Rattle.asm_block.specs.declared.matching.Role.{Role}
 use Rattle.asm_replace.specs.Fronts.{goes_on}
-use Rattle.asm_replace.specs.Replaced.{Table, arguments_of, local_names}
-use Rattle.asm_replace.specs.Views as replaced
-use Rattle.asm_texts.specs.declared.call.Macro.{Macro}
-use Rattle.asm_texts.specs.declared.open.Opened.{Opened}
-use Rattle.asm_texts.specs.declared.varying.Varying.{Varying}
-use Rattle.asm_texts.specs.Blocks.{role_of_head}
-use Rattle.asm_texts.specs.Books.{Stands}
-use Rattle.asm_texts.specs.Calls.{opened}
-use Rattle.asm_texts.specs.Prepared.{body_texts}
-use Rattle.asm_texts.specs.Private.Openings.{opened_seen}
+use Rattle.asm_replace.specs.Replaced.{Table}
+use Rattle.asm_texts.specs.Roles.{role_of_head}
 
 -- a token is a name of the table
 abbrev pub is_held : Table → Lexeme → Bool
@@ -48,22 +39,3 @@ asked_of _ tokens = tokens
 abbrev pub may_vary : Table → Option (List Lexeme) → Bool
 may_vary table (Some tokens) = list_any (is_held table) (asked_of (role_of_head (form tokens).head) tokens)
 may_vary table None = false
-
--- A table has names of another alone.
-abbrev pub HasOnly : Table → Table → Type 0
-HasOnly t u = (name : List ℕ) → lookup (bytes_eq name) u ≡ None → lookup (bytes_eq name) t ≡ None
-
--- The lines of a range but those at these places are to blocks what they are as they stand, whatever these names are replaced by.
-abbrev pub IsVarying : List (List ℕ) → Table → Varying → Type 0
-IsVarying texts names v =
-    (t : Table) → HasOnly t names → (k : ℕ) → v.at ≤ k → k < v.end → k < length texts → Contains v.places.items k ⊎ Stands texts (Some t) k
-
--- so for the names of an opened body
-abbrev pub VariesIn : List (List ℕ) → List (List ℕ) → Option Opened → Varying → Type 0
-VariesIn texts parameters None v = Unit {0}
-VariesIn texts parameters (Some o) v = IsVarying texts (arguments_of parameters [] ++ local_names 0 (replaced.texts o.locals.items)) v
-
--- What is kept of a macro is so.
-abbrev pub IsKept : List (List ℕ) → Macro → Type 0
-IsKept texts m =
-    (option_map (opened_seen texts) m.opened ≡ opened (body_texts texts m.body)) × VariesIn texts (replaced.texts m.parameters.items) m.opened m.varying.value

@@ -1,8 +1,7 @@
 use Rattle.std.proofs.Common.{◌≡◌, ◌∙◌, sym, ap, subst, refl, length, reverse, arith, [], None}
 use Rattle.std.proofs.lemmas.List.{length-map}
 use Rattle.std.proofs.lemmas.List.Elements.{All-nil, All-same}
-use Rattle.asm_texts.specs.Books.{IsCall}
-use Rattle.asm_texts.specs.Private.Varying.{IsKept}
+use Rattle.asm_texts.specs.Kept.{IsCall, IsKept}
 use Rattle.asm_macro.specs.declared.expansion.Expansion.{Expansion}
 use Rattle.asm_macro.specs.Texts.{numbered}
 use Rattle.asm_macro.specs.State.{start}

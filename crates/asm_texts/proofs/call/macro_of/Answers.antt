@@ -1,7 +1,7 @@
 use Rattle.std.proofs.Common.{◌∙◌, ap, sym}
 use Rattle.std.specs.Option.{option_map}
 use Rattle.asm_texts.specs.Prepared.{macro_seen}
-use Rattle.asm_texts.specs.Private.Varying.{IsKept}
+use Rattle.asm_texts.specs.Kept.{IsKept}
 use Rattle.asm_texts.proofs.Macros.{copied, lookup-macros, of_entry}
 use Rattle.asm_texts.proofs.call.macro_of.Goals as goal
 

@@ -7,8 +7,7 @@ use Rattle.asm_replace.specs.Views as replaced
 use Rattle.asm_scan.specs.Tokens.{lexemes}
 use Rattle.asm_texts.specs.Calls.{arguments_in}
 use Rattle.asm_texts.specs.Prepared.{SaySame}
-use Rattle.asm_texts.specs.Private.Openings.{opened_seen}
-use Rattle.asm_texts.specs.Private.Varying.{VariesIn}
+use Rattle.asm_texts.specs.Kept.{opened_seen, VariesIn}
 use Rattle.asm_texts.proofs.Unvaried.{call_of}
 use Rattle.asm_texts.proofs.prepared.prepare.Goals as goal
 
@@ -35,4 +34,4 @@ returns-clause-call c = λ texts kept.
     let same = ap (λ ps. arguments_of (replaced.texts ps) some ++ local_names counter (replaced.texts c.deref-3.result.now)) c.deref.ensures.value
     ∙ ap (λ ls. arguments_of parameters some ++ local_names counter (replaced.texts ls)) c.deref-3.ensures.value in
     let varies = subst (λ o. VariesIn texts parameters o c.args.called.now.varying.value) c.in-Some.is kept.1 in
-    call_of texts (record { names = c.in_ok-names.names; varying = c.in_ok-varying.varying }) c.args.called.now.varying.value counter parameters some locals (subst (SaySame (table c.in_ok-names.names.entries)) same c.in_ok-names.ensures) varies c.in_ok-varying.ensures.cases
+    call_of texts (record { names = c.in_ok-names.names; varying = c.in_ok-varying.varying }) c.args.called.now.varying.value counter parameters some locals (subst (SaySame (table c.in_ok-names.names.entries)) same c.in_ok-names.ensures) varies.2 c.in_ok-varying.ensures.cases

@@ -2,7 +2,7 @@ use Rattle.std.proofs.Common.{◌≤◌, ◌<◌, inl, inr, ap, sym, subst, arit
 use Rattle.std.specs.List.{Contains}
 use Rattle.std.proofs.lemmas.List.{length-map, take_all}
 use Rattle.std.proofs.lemmas.List.Elements.{All-contains, All-more, All-same}
-use Rattle.asm_texts.specs.Books.{Stands}
+use Rattle.asm_texts.specs.Stands.{Stands}
 use Rattle.asm_texts.specs.Prepared.{said}
 use Rattle.asm_texts.proofs.varying.all_stand.Goals as goal
 

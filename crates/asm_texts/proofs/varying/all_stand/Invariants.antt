@@ -1,5 +1,5 @@
 use Rattle.std.proofs.Common.{◌≤◌, ◌<◌, ◌-◌, length, map, Some, All, take}
-use Rattle.asm_texts.specs.Books.{Stands}
+use Rattle.asm_texts.specs.Stands.{Stands}
 use Rattle.asm_texts.specs.Prepared.{said}
 use Rattle.asm_texts.proofs.varying.all_stand.Given as goal
 

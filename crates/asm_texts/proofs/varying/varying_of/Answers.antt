@@ -20,8 +20,8 @@ loop-at-preserved c = λ t only.
           unnamed texts t c.loop-at.places.items c.if-branch.places.items c.args.body.at c.loop-at.at told (ap (λ v. v.items) w.places-is) (stays c.unreplaced.ensures c.front_stays.ensures t (table c.args.names.now.entries) only (get_or texts c.loop-at.at []) same)
     ]
 
-pub returns : goal.returns
-returns c = λ t only k after before within.
+pub returns-clause-varying : goal.returns-clause-varying
+returns-clause-varying c = λ t only k after before within.
     elim c.loop-at-test.branch [
       | then-loop-at-test+else-at-lines w ↦ c.loop-at.invariant t only k after (omega (arith, within, w.if-at-lines.false, length-map c.args.lines.now (λ line. line.now))) within
       | else-loop-at-test w ↦ c.loop-at.invariant t only k after (omega (arith, before, w.loop-at-test.false)) within

@@ -2,8 +2,8 @@ use Rattle.std.proofs.Common.{◌≤◌, ◌<◌, ◌-◌, ◌⊎◌, ℕ, lengt
 use Rattle.std.specs.List.{Contains}
 use Rattle.asm_replace.specs.Replaced.{Table}
 use Rattle.asm_replace.specs.Views.{table}
-use Rattle.asm_texts.specs.Books.{Stands}
-use Rattle.asm_texts.specs.Private.Varying.{HasOnly}
+use Rattle.asm_texts.specs.Stands.{Stands}
+use Rattle.asm_texts.specs.Kept.{HasOnly}
 use Rattle.asm_texts.proofs.varying.varying_of.Given as goal
 
 -- The lines that were asked are so.

@@ -1,10 +1,11 @@
 use Rattle.std.proofs.Common.{◌≡◌, ◌∙◌, ◌-◌, IfOk, None, ap, subst, length, map}
 use Rattle.std.specs.List.{slice_get}
 use Rattle.std.specs.Option.{option_map}
-use Rattle.asm_texts.specs.Blocks.{body_of}
-use Rattle.asm_texts.specs.Books.{IsBook}
+use Rattle.asm_sections.specs.Blocks.{body_of}
+use Rattle.asm_sections.specs.Books.{IsBook}
 use Rattle.asm_texts.specs.Prepared.{said}
-use Rattle.asm_texts.specs.Spans.{body_seen, text_of}
+use Rattle.asm_sections.specs.Sections.{body_seen}
+use Rattle.asm_texts.specs.Spans.{text_of}
 use Rattle.asm_macro.specs.Private.Frames.{innermost}
 use Rattle.asm_macro.specs.Private.Moves.{tables_in}
 use Rattle.asm_macro.proofs.Stacks.{given_ok, last_table}

@@ -1,12 +1,12 @@
 use Rattle.std.proofs.Common.{◌≡◌, ◌∙◌, ap, sym, subst, Some, Err}
 use Rattle.std.specs.Option.{option_map}
 use Rattle.asm_scan.specs.Tokens.{lexemes}
-use Rattle.asm_texts.specs.Blocks.{branches_of}
-use Rattle.asm_texts.specs.Spans.{branches_seen}
+use Rattle.asm_sections.specs.Blocks.{branches_of}
+use Rattle.asm_sections.specs.Sections.{branches_seen}
 use Rattle.asm_macro.specs.State as state
 use Rattle.asm_macro.specs.Values.{worth}
 use Rattle.asm_macro.specs.Ahead.{seen}
-use Rattle.asm_macro.specs.Private.Allows.{stopped}
+use Rattle.asm_macro.specs.Private.Stopped.{stopped}
 use Rattle.asm_macro.specs.Private.Frames.{innermost}
 use Rattle.asm_macro.specs.Private.Moves.{Resumes, moved, rest_of, state_of, tables_in, texts_in}
 use Rattle.asm_macro.specs.Parts.{conditional}
@@ -23,9 +23,9 @@ returns-in-Ok-clause-taken c =
     let found = subst (λ z. branches_of (rest_of z).text ≡ Some (branches_seen (texts_in z) (innermost (tables_in z)) c.in-Some.choice)) (sym kept)
     (sym c.in_ok-found.ensures.branches ∙ ap (option_map (branches_seen (texts_in x) (innermost (tables_in x)))) c.in-Some.is) in
     let value = value_is w c.in-Ok.value c.in-Ok.ensures in
-    subst (λ z. Resumes c.choose.result (rest_of c.choose.new.self) (moved (rest_of z).depth (rest_of z).around (conditional (rest_of z).depth (state_of z) l (branches_of (rest_of z).text) (worth (state.table (state_of z)) (lexemes c.args.tokens.now))))) kept
-    (subst (λ p. Resumes c.choose.result (rest_of c.choose.new.self) (moved (rest_of y).depth (rest_of y).around p))
-    (sym (conditional_ok (rest_of y).depth (state_of y) l (branches_of (rest_of y).text) w (branches_seen (texts_in y) (innermost (tables_in y)) c.in-Some.choice) c.in-Ok.value found value)) c.choose.ensures.chosen)
+    subst (λ z. Resumes c.go_in.result (rest_of c.go_in.new.self) (moved (rest_of z).depth (rest_of z).around (conditional (rest_of z).depth (state_of z) l (branches_of (rest_of z).text) (worth (state.table (state_of z)) (lexemes c.args.tokens.now))))) kept
+    (subst (λ p. Resumes c.go_in.result (rest_of c.go_in.new.self) (moved (rest_of y).depth (rest_of y).around p))
+    (sym (conditional_ok (rest_of y).depth (state_of y) l (branches_of (rest_of y).text) w (branches_seen (texts_in y) (innermost (tables_in y)) c.in-Some.choice) c.in-Ok.value found value)) c.go_in.ensures.chosen)
 
 pub returns-in-Err-clause-taken : goal.returns-in-Err-clause-taken
 returns-in-Err-clause-taken c =

@@ -1,30 +1,30 @@
-use Rattle.std.proofs.Common.{◌≡◌, ◌∙◌, ◌-◌, ap, sym, subst, map, length, None, Some, Err, [], ◌∷◌, ◌++◌}
+use Rattle.std.proofs.Common.{◌≡◌, ◌∙◌, ◌-◌, ap, sym, subst, map, length, None, Some, [], ◌∷◌, ◌++◌}
 use Rattle.std.specs.List.{slice_get}
 use Rattle.std.specs.Option.{option_map}
-use Rattle.std.proofs.lemmas.Result.{err_from_is_err_and}
 use Rattle.std.proofs.lemmas.List.Elements.{All-push, All-same}
 use Rattle.indexmap.proofs.CallerLemmas.{insert_entry-new}
 use Rattle.asm_replace.specs.Views.{texts}
-use Rattle.asm_texts.specs.Blocks.{body_of}
-use Rattle.asm_texts.specs.Spans.{body_seen, line_of}
+use Rattle.asm_sections.specs.Blocks.{body_of}
+use Rattle.asm_sections.specs.Onward.{stray}
+use Rattle.asm_sections.specs.Sections.{body_seen, line_of}
 use Rattle.asm_texts.specs.Prepared.{said}
-use Rattle.asm_texts.specs.Private.Varying.{IsKept}
+use Rattle.asm_texts.specs.Kept.{IsKept}
+use Rattle.asm_macro.specs.declared.fault.MacroFault.{MacroFault}
 use Rattle.asm_macro.specs.State.{macro_named, with_macro}
 use Rattle.asm_macro.specs.Ahead.{seen}
-use Rattle.asm_macro.specs.Parts.{Part, Go, closing}
+use Rattle.asm_macro.specs.Parts.{Go}
 use Rattle.asm_macro.specs.Parts as parts
-use Rattle.asm_macro.specs.Private.Allows.{Allows}
 use Rattle.asm_macro.specs.Private.Frames.{innermost}
 use Rattle.asm_macro.specs.Private.Heads.{kept}
-use Rattle.asm_macro.specs.Private.Moves.{Resumes, moved, rest_of, state_of, tables_in, texts_in}
+use Rattle.asm_macro.specs.Private.Moves.{Fails, moved, rest_of, state_of, tables_in, texts_in}
 use Rattle.asm_macro.proofs.Stacks.{last_table}
-use Rattle.asm_macro.proofs.Turned.{refused}
+use Rattle.asm_macro.proofs.Onwards.{closing_none, closing_some}
 use Rattle.asm_texts.proofs.Macros.{absent}
 use Rattle.asm_macro.proofs.Macros.{kept_is}
 use Rattle.asm_macro.proofs.expansion.Expansion.keep.Goals as goal
 
-pub returns-in_err-closes-clause-taken : goal.returns-in_err-closes-clause-taken
-returns-in_err-closes-clause-taken c =
+pub returns-in-Some-number-clause-taken : goal.returns-in-Some-number-clause-taken
+returns-in-Some-number-clause-taken c =
     let x = c.args.self.now in
     let y = c.body.new.self in
     let same = c.in_ok-found.ensures.kept in
@@ -32,17 +32,15 @@ returns-in_err-closes-clause-taken c =
     (sym c.in_ok-found.ensures.body ∙ ap (option_map (body_seen (texts_in x) (innermost (tables_in x)))) c.in-Some.is) in
     let lines = ap (map (λ line. line.now)) c.deref.ensures.value in
     let names = last_table (λ n. said n) y.calls.items c.last.result (c.last.ensures.value ∙ ap (λ xs. slice_get xs (length xs - 1)) c.deref-2.ensures.value) in
-    let why = c.in_err-closes.field-0.0 in
-    let end = subst (λ ts. Allows (Err why) (closing (line_of ts (innermost (tables_in y)) c.in-Some.body.stretch.end))) lines
-    (subst (λ n. Allows (Err why) (closing (line_of (map (λ line. line.now) c.deref.result.now) n c.in-Some.body.stretch.end))) names c.in_err-closes.ensures) in
+    let strays = c.in_ok-strays.ensures ∙ ap (λ n. stray (line_of (map (λ line. line.now) c.deref.result.now) n c.in-Some.body.stretch.end)) names
+    ∙ ap (λ ts. stray (line_of ts (innermost (tables_in y)) c.in-Some.body.stretch.end)) lines in
     let b = body_seen (texts_in y) (innermost (tables_in y)) c.in-Some.body in
     let some = texts c.args.parameters.items in
-    let p = err_from_is_err_and c.from_residual-in_err-closes.result c.from_residual-in_err-closes.ensures.1 in
-    rw (p.1, p.2)
-    (subst (λ z. Resumes (Err why) (rest_of y) (moved (rest_of z).depth (rest_of z).around (kept (state_of z) (seen c.args.line) c.args.key.items some (body_of (rest_of z).text)))) same
-    (subst (λ o. Resumes (Err why) (rest_of y) (moved (rest_of y).depth (rest_of y).around (kept (state_of y) (seen c.args.line) c.args.key.items some o))) (sym found)
-    (refused (rest_of y).depth (rest_of y).around (rest_of y) (closing b.section.end)
-    (Go [] (with_macro c.args.key.items (record { parameters = some; body = parts.texts b.section.lines }) (state_of y)) b.after) why end)))
+    let number = c.in-Some-number.number in
+    subst (λ z. moved (rest_of z).depth (rest_of z).around (kept (state_of z) (seen c.args.line) c.args.key.items some (body_of (rest_of z).text)) ≡ Fails [] number MacroFault.Stray) same
+    (ap (λ o. moved (rest_of y).depth (rest_of y).around (kept (state_of y) (seen c.args.line) c.args.key.items some o)) found
+    ∙ ap (moved (rest_of y).depth (rest_of y).around) (closing_some b.section.end c.in_ok-strays.strays number strays c.in-Some-number.is
+    (Go [] (with_macro c.args.key.items (record { parameters = some; body = parts.texts b.section.lines }) (state_of y)) b.after)))
 
 pub returns-clause-taken : goal.returns-clause-taken
 returns-clause-taken c =
@@ -53,8 +51,9 @@ returns-clause-taken c =
     (sym c.in_ok-found.ensures.body ∙ ap (option_map (body_seen (texts_in x) (innermost (tables_in x)))) c.in-Some.is) in
     let lines = ap (map (λ line. line.now)) c.deref.ensures.value in
     let names = last_table (λ n. said n) y.calls.items c.last.result (c.last.ensures.value ∙ ap (λ xs. slice_get xs (length xs - 1)) c.deref-2.ensures.value) in
-    let end = subst (λ ts. (p : Part) → closing (line_of ts (innermost (tables_in y)) c.in-Some.body.stretch.end) p ≡ p) lines
-    (subst (λ n. (p : Part) → closing (line_of (map (λ line. line.now) c.deref.result.now) n c.in-Some.body.stretch.end) p ≡ p) names c.in_ok-closes.ensures) in
+    let strays = c.in_ok-strays.ensures ∙ ap (λ n. stray (line_of (map (λ line. line.now) c.deref.result.now) n c.in-Some.body.stretch.end)) names
+    ∙ ap (λ ts. stray (line_of ts (innermost (tables_in y)) c.in-Some.body.stretch.end)) lines in
+    let end = closing_none (line_of (texts_in y) (innermost (tables_in y)) c.in-Some.body.stretch.end) c.in_ok-strays.strays strays c.in-None.is in
     let called = c.in_ok-called.called in
     let outside = subst (λ z. length z.calls.items ≡ 0) (sym same) c.requires.outside in
     let new = subst (λ z. macro_named (state_of z) c.args.key.items ≡ None) (sym same) c.requires.new in

@@ -1,12 +1,12 @@
 use Rattle.std.proofs.Common.{◌≡◌, ◌∙◌, ap, sym, subst, Some, Err, arith}
 use Rattle.std.specs.Option.{option_map}
 use Rattle.asm_scan.specs.Tokens.{lexemes}
-use Rattle.asm_texts.specs.Blocks.{body_of}
-use Rattle.asm_texts.specs.Spans.{body_seen}
+use Rattle.asm_sections.specs.Blocks.{body_of}
+use Rattle.asm_sections.specs.Sections.{body_seen}
 use Rattle.asm_macro.specs.State as state
 use Rattle.asm_macro.specs.Values.{worth}
 use Rattle.asm_macro.specs.Ahead.{seen}
-use Rattle.asm_macro.specs.Private.Allows.{stopped}
+use Rattle.asm_macro.specs.Private.Stopped.{stopped}
 use Rattle.asm_macro.specs.Private.Frames.{innermost}
 use Rattle.asm_macro.specs.Private.Moves.{Resumes, moved, rest_of, state_of, tables_in, texts_in}
 use Rattle.asm_macro.specs.Parts.{repeated}
@@ -24,10 +24,10 @@ returns-else-len-self-ge-MOST_OPEN-clause-taken c =
     let found = subst (λ z. body_of (rest_of z).text ≡ Some (body_seen (texts_in z) (innermost (tables_in z)) c.in-Some.body)) (sym kept)
     (sym c.in_ok-found.ensures.body ∙ ap (option_map (body_seen (texts_in x) (innermost (tables_in x)))) c.in-Some.is) in
     let value = value_is w c.in-Ok.value c.in-Ok.ensures in
-    subst (λ z. Resumes c.turn.result (rest_of c.turn.new.self) (moved (rest_of z).depth (rest_of z).around (repeated (rest_of z).depth (state_of z) l (body_of (rest_of z).text) (worth (state.table (state_of z)) (lexemes c.args.tokens.now))))) kept
-    (subst (λ p. Resumes c.turn.result (rest_of c.turn.new.self) (moved (rest_of y).depth (rest_of y).around p))
+    subst (λ z. Resumes c.go_behind.result (rest_of c.go_behind.new.self) (moved (rest_of z).depth (rest_of z).around (repeated (rest_of z).depth (state_of z) l (body_of (rest_of z).text) (worth (state.table (state_of z)) (lexemes c.args.tokens.now))))) kept
+    (subst (λ p. Resumes c.go_behind.result (rest_of c.go_behind.new.self) (moved (rest_of y).depth (rest_of y).around p))
     (sym (repeated_ok (rest_of y).depth (state_of y) l (body_of (rest_of y).text) w (body_seen (texts_in y) (innermost (tables_in y)) c.in-Some.body) c.in-Ok.value found value
-    (omega (arith, c.if-len-self-ge-MOST_OPEN.false, c.len.ensures, depth_is y)))) c.turn.ensures.resumed)
+    (omega (arith, c.if-len-self-ge-MOST_OPEN.false, c.len.ensures, depth_is y)))) c.go_behind.ensures.resumed)
 
 pub returns-in-Err-clause-taken : goal.returns-in-Err-clause-taken
 returns-in-Err-clause-taken c =

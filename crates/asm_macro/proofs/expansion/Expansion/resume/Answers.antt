@@ -1,13 +1,14 @@
 use Rattle.std.proofs.Common.{◌≡◌, ◌∙◌, ◌+◌, ◌-◌, ◌++◌, ◌∷◌, [], ap, sym, subst, length, reverse, length-take, arith, map, take}
 use Rattle.std.specs.Vec.{vec_len}
-use Rattle.asm_macro.specs.declared.frame.Following.{Following}
+use Rattle.asm_sections.specs.declared.following.Following.{Following}
 use Rattle.asm_macro.specs.Parts.{turns}
 use Rattle.asm_macro.specs.Private.Frames.{AreBooks, around_seen, innermost, turns_in}
-use Rattle.asm_texts.specs.Spans.{body_seen}
+use Rattle.asm_sections.specs.Sections.{body_seen}
 use Rattle.asm_macro.specs.Private.Moves.{Resumes, moved, rest_of, state_of, tables_in, texts_in}
 use Rattle.asm_texts.specs.Prepared.{said}
 use Rattle.std.proofs.lemmas.List.Elements.{All-same, All-take}
-use Rattle.asm_texts.specs.Books.{IsBook, IsCall}
+use Rattle.asm_sections.specs.Books.{IsBook}
+use Rattle.asm_texts.specs.Kept.{IsCall}
 use Rattle.asm_macro.proofs.Stacks.{popped_tables, pushed}
 use Rattle.asm_macro.proofs.Turned.{popped, rest_popped, turns_popped}
 use Rattle.asm_macro.proofs.expansion.Expansion.resume.Goals as goal
@@ -20,8 +21,8 @@ returns-in-Turns-clause-resumed c =
     let is = c.in-Some.ensures.items ∙ ap (λ f. left ++ f ∷ []) c.in-Turns.is in
     let one = popped x left (Following.Turns c.in-Turns.left c.in-Turns.number c.in-Turns.body) c.requires.over is in
     let same = turns_popped x left c.in-Turns.left c.in-Turns.number c.in-Turns.body c.requires.sound is in
-    subst (Resumes c.turn.result (rest_of c.turn.new.self))
-    (sym (one ∙ ap (λ t. moved (length (tables_in x) + t) (around_seen (texts_in x) (tables_in x) (reverse left)) (turns (length (tables_in x) + t) c.in-Turns.left c.in-Turns.number body (state_of x))) same)) c.turn.ensures.resumed
+    subst (Resumes c.go_behind.result (rest_of c.go_behind.new.self))
+    (sym (one ∙ ap (λ t. moved (length (tables_in x) + t) (around_seen (texts_in x) (tables_in x) (reverse left)) (turns (length (tables_in x) + t) c.in-Turns.left c.in-Turns.number body (state_of x))) same)) c.go_behind.ensures.resumed
 
 pub returns-in-Rest-clause-sound : goal.returns-in-Rest-clause-sound
 returns-in-Rest-clause-sound c =

@@ -6,9 +6,9 @@ use Rattle.asm_words.specs.Words.{upper}
 use Rattle.asm_line.specs.Views.{form_seen}
 use Rattle.asm_macro.specs.declared.fault.MacroFault.{MacroFault}
 use Rattle.asm_macro.specs.State.{macro_named}
-use Rattle.asm_texts.specs.Books.{IsCall}
+use Rattle.asm_texts.specs.Kept.{IsCall}
 use Rattle.asm_texts.specs.Calls.{arguments_in, body_lines, label_lines, table_of}
-use Rattle.asm_macro.specs.Parts as parts
+use Rattle.asm_sections.specs.Onward as onward
 use Rattle.asm_macro.specs.Ahead.{seen}
 use Rattle.asm_texts.specs.Prepared.{Prepares}
 use Rattle.asm_texts.specs.Prepared.{body_texts}
@@ -54,8 +54,8 @@ returns-clause-taken c =
     let new = rest_of c.enter.new.self in
     let entered = c.in_ok-enter-in-Some-prepared.ensures.entered names p.2 in
     let whole = entered
-    ∙ ap (λ n. record { depth = (rest_of x).depth + 1; state = record (state_of x) { counter = n }; text = body_lines l.number names (body_texts (texts_in x) c.in-Some-prepared.ready.body); around = record { depth = (rest_of x).depth; next = parts.Rest (rest_of x).text } ∷ (rest_of x).around }) p.3
-    ∙ ap (λ ts. record { depth = (rest_of x).depth + 1; state = record (state_of x) { counter = x.counter + length p.0.locals }; text = body_lines l.number names ts; around = record { depth = (rest_of x).depth; next = parts.Rest (rest_of x).text } ∷ (rest_of x).around }) p.4 in
+    ∙ ap (λ n. record { depth = (rest_of x).depth + 1; state = record (state_of x) { counter = n }; text = body_lines l.number names (body_texts (texts_in x) c.in-Some-prepared.ready.body); around = record { depth = (rest_of x).depth; next = onward.Rest (rest_of x).text } ∷ (rest_of x).around }) p.3
+    ∙ ap (λ ts. record { depth = (rest_of x).depth + 1; state = record (state_of x) { counter = x.counter + length p.0.locals }; text = body_lines l.number names ts; around = record { depth = (rest_of x).depth; next = onward.Rest (rest_of x).text } ∷ (rest_of x).around }) p.4 in
     subst (Takes l (Ok c.begun.result) new) (ap (λ g. On g new) label ∙ ap (On (label_lines f.label l tokens)) whole ∙ sym on) (c.begun.ensures l new)
 
 pub enter-requires-clause-call : goal.enter-requires-clause-call

@@ -1,0 +1,64 @@
+-- What blocks are gone on with, as parts of an expansion.
+use Rattle.std.specs.Prelude.{◌≡◌, ◌<◌, ◌+◌, ℕ, List, [], Result, Ok, Err, if◌then◌else◌, nat_le}
+use Rattle.asm_sections.specs.declared.following.Following.{Following}
+use Rattle.asm_sections.specs.Onward as onward
+use Rattle.asm_texts.specs.Lines.{Numbered}
+use Rattle.asm_macro.specs.declared.fault.MacroFault.{MacroFault}
+use Rattle.asm_macro.specs.declared.moves.Stop as moves
+use Rattle.asm_macro.specs.State.{State, counted}
+use Rattle.asm_macro.specs.Judged.{most_lines}
+use Rattle.asm_macro.specs.Parts.{Part, Stop, Go, Within}
+
+-- a text within, at a depth and from a state; a turn of a REPT counts as a line
+abbrev pub into : ℕ → State → List Numbered → onward.Next → Part
+into depth e text (onward.Turns left number body) =
+    if nat_le most_lines e.count then Stop [] number MacroFault.TooManyLines else Within [] (counted e) (depth + 1) text (onward.Turns left number body)
+into depth e text (onward.Rest more) = Within [] e depth text (onward.Rest more)
+into depth e text (onward.BehindFirst b) = Within [] e depth text (onward.BehindFirst b)
+into depth e text (onward.BehindSecond t more after) = Within [] e depth text (onward.BehindSecond t more after)
+
+abbrev pub part_of : ℕ → State → onward.Onward → Part
+part_of depth e (onward.Stray number) = Stop [] number MacroFault.Stray
+part_of depth e (onward.On text) = Go [] e text
+part_of depth e (onward.Into text next) = into depth e text next
+
+-- How many turns of a REPT open, and how many texts.
+abbrev pub turn_in : Following → ℕ
+turn_in (Following.Turns left number body) = 1
+turn_in (Following.Rest s) = 0
+turn_in (Following.BehindFirst c) = 0
+turn_in (Following.BehindSecond c) = 0
+
+abbrev pub turn_next : onward.Next → ℕ
+turn_next (onward.Turns left number body) = 1
+turn_next (onward.Rest more) = 0
+turn_next (onward.BehindFirst b) = 0
+turn_next (onward.BehindSecond t more after) = 0
+
+abbrev pub turns_opened : onward.Onward → ℕ
+turns_opened (onward.Stray number) = 0
+turns_opened (onward.On text) = 0
+turns_opened (onward.Into text next) = turn_next next
+
+abbrev pub texts_opened : onward.Onward → ℕ
+texts_opened (onward.Stray number) = 0
+texts_opened (onward.On text) = 0
+texts_opened (onward.Into text next) = 1
+
+-- What may be gone on with where so many calls and repetitions are open: no call, and a turn of a REPT where one more may open.
+abbrev pub FitsNext : ℕ → onward.Next → Type 0
+FitsNext many (onward.Turns left number body) = many < 16
+FitsNext many (onward.Rest more) = ⊥
+FitsNext many (onward.BehindFirst b) = Unit {0}
+FitsNext many (onward.BehindSecond t more after) = Unit {0}
+
+abbrev pub Fits : ℕ → onward.Onward → Type 0
+Fits many (onward.Stray number) = Unit {0}
+Fits many (onward.On text) = Unit {0}
+Fits many (onward.Into text next) = FitsNext many next
+
+-- What a text within comes to, once its turn is counted: it begins, from a state and at a depth, or there is a fault in its place.
+abbrev pub Enters : Result (Unit {0}) moves.Stop → State → ℕ → List Numbered → onward.Next → Part → Type 0
+Enters (Ok done) e depth text next part = part ≡ Within [] e depth text next
+Enters (Err moves.Stop.NoMemory) e depth text next part = Unit {0}
+Enters (Err (moves.Stop.At number why)) e depth text next part = part ≡ Stop [] number why

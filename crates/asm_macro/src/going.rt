@@ -1,0 +1,95 @@
+//! What the innermost text is gone on with.
+
+ghost use Rattle.std.specs.Prelude.{◌≡◌, ◌≤◌, ◌+◌, OnOk, List, Option, length, ℕ};
+ghost use Rattle.asm_replace.specs.Replaced.{Table};
+ghost use Rattle.asm_texts.specs.Lines.{Numbered};
+ghost use Rattle.asm_sections.specs.Sections.{branches_seen};
+ghost use Rattle.asm_sections.specs.Views.{next_of, onward_seen};
+ghost use Rattle.asm_macro.specs.Parts.{chosen, resumed};
+ghost use Rattle.asm_macro.specs.Private.Frames.{innermost};
+ghost use Rattle.asm_macro.specs.Private.Going.{Enters, Fits, into, part_of, texts_opened, turn_in, turns_opened};
+ghost use Rattle.asm_macro.specs.Private.Moves.{IsSound, Resumes, most_moves, moved, rest_of, state_of, tables_in, texts_in};
+
+use crate::expansion::{Expansion, MOST_LINES};
+use crate::fault::MacroFault;
+use crate::moves::Stop;
+use asm_sections::{Choice, Following, Onward, behind, branch};
+
+impl<'a> Expansion<'a> {
+    /// Counts a turn of a REPT, if it is one that opens.
+    fn count_turn(&mut self, following: &Following) -> Result<(), Stop>
+        requires sound { IsSound self.old }
+        requires shallow { length self.old.calls.items + self.old.turns + turn_in following.now ≤ 16 }
+        ensures counted { OnOk result (self.new ≡ record self.old { count = self.old.count + turn_in following.now; turns = self.old.turns + turn_in following.now }) }
+        ensures few { OnOk result (self.new.count ≤ 60000) }
+        ensures enters { (texts : List (List ℕ)) (names : Option Table) (depth : ℕ) (text : List Numbered) → Enters result (state_of self.new) (depth + turn_in following.now) text (next_of texts names following.now)
+            (into depth (state_of self.old) text (next_of texts names following.now)) }
+    {
+        match following {
+            Following::Turns(_, number, _) => {
+                if self.count >= MOST_LINES {
+                    return Err(Stop::At(*number, MacroFault::TooManyLines));
+                }
+                self.count += 1;
+                self.turns += 1;
+                Ok(())
+            }
+            Following::Rest(_) => Ok(()),
+            Following::BehindFirst(_) => Ok(()),
+            Following::BehindSecond(_) => Ok(()),
+        }
+    }
+
+    /// Goes on with what a block opens, or with what stands behind it.
+    fn go_with(&mut self, onward: Onward) -> Result<(), Stop>
+        requires sound { IsSound self.old }
+        requires fits { Fits (length self.old.calls.items + self.old.turns) (onward_seen (texts_in self.old) (innermost (tables_in self.old)) onward) }
+        ensures sound { OnOk result (IsSound self.new) }
+        ensures count { OnOk result (self.new.count ≡ self.old.count + turns_opened (onward_seen (texts_in self.old) (innermost (tables_in self.old)) onward)) }
+        ensures around { OnOk result (length self.new.around.items ≡ length self.old.around.items + texts_opened (onward_seen (texts_in self.old) (innermost (tables_in self.old)) onward)) }
+        ensures gone { Resumes result (rest_of self.new) (moved (rest_of self.old).depth (rest_of self.old).around
+            (part_of (rest_of self.old).depth (state_of self.old) (onward_seen (texts_in self.old) (innermost (tables_in self.old)) onward))) }
+    {
+        match onward {
+            Onward::Stray(number) => Err(Stop::At(number, MacroFault::Stray)),
+            Onward::On(text) => {
+                self.text = text;
+                Ok(())
+            }
+            Onward::Into(text, following) => {
+                self.count_turn(&following)?;
+                self.around.push(following)?;
+                self.text = text;
+                Ok(())
+            }
+        }
+    }
+
+    /// Goes on with a branch of an IF, by what its expression is worth.
+    pub(crate) fn go_in(&mut self, value: u16, choice: Choice) -> Result<(), Stop>
+        requires sound { IsSound self.old }
+        ensures sound { OnOk result (IsSound self.new) }
+        ensures count { OnOk result (self.new.count ≡ self.old.count) }
+        ensures around { OnOk result (length self.new.around.items ≤ length self.old.around.items + 1) }
+        ensures chosen { Resumes result (rest_of self.new) (moved (rest_of self.old).depth (rest_of self.old).around
+            (chosen value (rest_of self.old).depth (state_of self.old) (branches_seen (texts_in self.old) (innermost (tables_in self.old)) choice))) }
+    {
+        let onward = branch(self.alloc, &self.lines, self.calls.last(), value, choice)?;
+        self.go_with(onward)
+    }
+
+    /// Goes on behind a text in a block that is over, or with the turns of a REPT.
+    pub(crate) fn go_behind(&mut self, following: Following) -> Result<(), Stop>
+        requires sound { IsSound self.old }
+        requires shallow { length self.old.calls.items + self.old.turns + turn_in following ≤ 16 }
+        ensures sound { OnOk result (IsSound self.new) }
+        ensures count { OnOk result (self.old.count ≤ self.new.count) }
+        ensures less { OnOk result (most_moves self.new ≤ most_moves self.old) }
+        ensures around { OnOk result (length self.new.around.items ≤ length self.old.around.items + 1) }
+        ensures resumed { Resumes result (rest_of self.new) (moved (rest_of self.old).depth (rest_of self.old).around
+            (resumed (rest_of self.old).depth (next_of (texts_in self.old) (innermost (tables_in self.old)) following) (state_of self.old))) }
+    {
+        let onward = behind(self.alloc, &self.lines, self.calls.last(), following)?;
+        self.go_with(onward)
+    }
+}

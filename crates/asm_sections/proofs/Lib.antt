@@ -1,0 +1,4 @@
+pub mod Texts
+mod Branches
+mod Books
+mod Strays

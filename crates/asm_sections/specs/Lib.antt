@@ -1,0 +1,6 @@
+pub mod Blocks
+pub mod Books
+pub mod Sections
+pub mod Onward
+pub mod Views
+pub mod Private
