@@ -1,5 +1,5 @@
 -- The statements that lines come to.
-use Rattle.std.specs.Prelude.{ℕ, Bool, true, false, List, Option, Some, None, Result, Ok, Err}
+use Rattle.std.specs.Prelude.{Bool, true, false, Option, Some, None, Result, Ok}
 use Rattle.z80_instr.specs.declared.Branch.{Branch}
 use Rattle.asm_expr.specs.Names.{Table}
 use Rattle.asm_spell.specs.declared.fault.StmtFault.{StmtFault}
