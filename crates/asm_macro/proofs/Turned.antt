@@ -1,6 +1,5 @@
 -- What moves leave.
-use Rattle.std.proofs.Common.{◌≡◌, ◌<◌, ◌≤◌, ◌+◌, ◌-◌, ◌∙◌, sym, ap, refl, subst, ℕ, false, nat_le, List, [], ◌∷◌, ◌++◌, Option, reverse, length, arith}
-use Rattle.std.proofs.lemmas.Bool.{lt-leb}
+use Rattle.std.proofs.Common.{◌≡◌, ◌<◌, ◌≤◌, ◌+◌, ◌-◌, ◌∙◌, sym, ap, refl, subst, Err, ℕ, List, [], ◌∷◌, ◌++◌, Option, reverse, length, arith}
 use Rattle.asm_replace.specs.Replaced.{Table}
 use Rattle.asm_texts.specs.declared.span.Span.{Span}
 use Rattle.asm_texts.specs.Lines.{Numbered}
@@ -8,30 +7,24 @@ use Rattle.asm_texts.specs.Spans.{text_of}
 use Rattle.asm_sections.specs.declared.following.Following.{Following}
 use Rattle.asm_sections.specs.declared.following.Onward.{Onward}
 use Rattle.asm_sections.specs.declared.stretch.Block.{Block}
-use Rattle.asm_sections.specs.Blocks.{Body, Section}
-use Rattle.asm_sections.specs.Onward.{Next, Rest, BehindFirst, BehindSecond, Turns}
-use Rattle.asm_sections.specs.Sections.{section_of}
-use Rattle.asm_sections.specs.Views.{behind_other, next_of, onward_seen}
+use Rattle.asm_sections.specs.Onward.{Next}
+use Rattle.asm_sections.specs.Views.{next_of, onward_seen}
 use Rattle.asm_macro.specs.declared.expansion.Expansion.{Expansion}
-use Rattle.asm_macro.specs.State.{State, counted}
-use Rattle.asm_macro.specs.Parts.{Within, resumed}
+use Rattle.asm_macro.specs.declared.moves.Stop.{Stop}
+use Rattle.asm_macro.specs.State.{State}
+use Rattle.asm_macro.specs.Parts.{Part, Within, resumed}
+use Rattle.asm_macro.specs.Ahead as ahead
+use Rattle.asm_macro.specs.Ahead.{Around}
 use Rattle.asm_macro.specs.Private.Frames.{around_seen, below, innermost, outside, turns_in}
-use Rattle.asm_macro.specs.Private.Going.{Fits, FitsNext, into, turn_in}
-use Rattle.asm_macro.specs.Private.Moves.{IsSound, Moved, On, Sound, in_text, moved, next_move, rest_of, state_of, tables_in, texts_in}
-use Rattle.asm_macro.proofs.Stacks.{depth_is, pushed}
+use Rattle.asm_macro.specs.Private.Going.{Enters, Fits, FitsNext, turn_in}
+use Rattle.asm_macro.specs.Private.Moves.{IsSound, Moved, On, Resumes, Sound, in_text, moved, next_move, rest_of, state_of, tables_in, texts_in}
+use Rattle.asm_macro.proofs.Stacks.{pushed}
 
 -- A text within begins; a turn of a REPT is counted.
 
-pub into_turn : (depth : ℕ) (e : State) (text : List Numbered) (left number : ℕ) (body : Body) → e.count < 60000
-    → into depth e text (Turns left number body) ≡ Within [] (counted e) (depth + 1) text (Turns left number body)
-into_turn depth e text left number body h = let more : nat_le 60000 e.count ≡ false = lt-leb 60000 e.count h in rw more refl
-
-into_other : (depth : ℕ) (e : State) (text : List Numbered) (others : List Section) (after : List Numbered) → into depth e text (behind_other others after) ≡ Within [] e depth text (behind_other others after)
-into_other depth e text [] after = refl
-into_other depth e text (t ∷ more) after = refl
-
-pub into_second : (depth : ℕ) (e : State) (text : List Numbered) (others : List Section) (after : List Numbered) → into depth e text (behind_other others after) ≡ Within [] e (depth + 0) text (behind_other others after)
-into_second depth e text others after = let same : depth ≡ depth + 0 = omega arith in into_other depth e text others after ∙ ap (λ d. Within [] e d text (behind_other others after)) same
+pub stopped_into : (new : ahead.Rest) (depth : ℕ) (around : List Around) (why : Stop) (e : State) (d : ℕ) (text : List Numbered) (next : Next) (part : Part) → Enters (Err why) e d text next part → Resumes (Err why) new (moved depth around part)
+stopped_into new depth around Stop.NoMemory e d text next part h = tt
+stopped_into new depth around (Stop.At n why) e d text next part h = ap (moved depth around) h
 
 turn_more : (f : Following) (around : List Following) → turns_in (f ∷ around) ≡ turns_in around + turn_in f
 turn_more (Following.Turns left number body) around = refl

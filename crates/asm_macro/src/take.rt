@@ -234,8 +234,9 @@ impl<'a> Expansion<'a> {
         };
         let end = body.stretch.end;
         let strays = stray(self.alloc, &self.lines, self.calls.last(), end)?;
-        if let Some(number) = strays {
-            return Err(Stop::At(number, MacroFault::Stray));
+        match strays {
+            Some(number) => return Err(Stop::At(number, MacroFault::Stray)),
+            None => {}
         }
         let called = Macro::new(self.alloc, &self.lines, parameters, body.stretch.lines)?;
         self.macros.insert(key, called)?;

@@ -23,8 +23,8 @@ use Rattle.asm_texts.proofs.Macros.{absent}
 use Rattle.asm_macro.proofs.Macros.{kept_is}
 use Rattle.asm_macro.proofs.expansion.Expansion.keep.Goals as goal
 
-pub returns-in-Some-number-clause-taken : goal.returns-in-Some-number-clause-taken
-returns-in-Some-number-clause-taken c =
+pub returns-in-Some-strays-clause-taken : goal.returns-in-Some-strays-clause-taken
+returns-in-Some-strays-clause-taken c =
     let x = c.args.self.now in
     let y = c.body.new.self in
     let same = c.in_ok-found.ensures.kept in
@@ -36,10 +36,10 @@ returns-in-Some-number-clause-taken c =
     ∙ ap (λ ts. stray (line_of ts (innermost (tables_in y)) c.in-Some.body.stretch.end)) lines in
     let b = body_seen (texts_in y) (innermost (tables_in y)) c.in-Some.body in
     let some = texts c.args.parameters.items in
-    let number = c.in-Some-number.number in
+    let number = c.in-Some-strays.number in
     subst (λ z. moved (rest_of z).depth (rest_of z).around (kept (state_of z) (seen c.args.line) c.args.key.items some (body_of (rest_of z).text)) ≡ Fails [] number MacroFault.Stray) same
     (ap (λ o. moved (rest_of y).depth (rest_of y).around (kept (state_of y) (seen c.args.line) c.args.key.items some o)) found
-    ∙ ap (moved (rest_of y).depth (rest_of y).around) (closing_some b.section.end c.in_ok-strays.strays number strays c.in-Some-number.is
+    ∙ ap (moved (rest_of y).depth (rest_of y).around) (closing_some b.section.end c.in_ok-strays.strays number strays c.in-Some-strays.is
     (Go [] (with_macro c.args.key.items (record { parameters = some; body = parts.texts b.section.lines }) (state_of y)) b.after)))
 
 pub returns-clause-taken : goal.returns-clause-taken

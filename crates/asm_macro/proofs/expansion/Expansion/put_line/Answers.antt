@@ -4,7 +4,7 @@ use Rattle.std.specs.Option.{unwrap_or}
 use Rattle.std.specs.List.{slice_get}
 use Rattle.asm_texts.specs.Prepared.{said}
 use Rattle.asm_macro.proofs.Stacks.{last_table}
-use Rattle.asm_texts.proofs.Texts.{front_line}
+use Rattle.asm_sections.proofs.Texts.{front_line}
 use Rattle.asm_macro.specs.Private.Moves.{rest_of, tables_in, texts_in}
 use Rattle.asm_macro.specs.Private.Frames.{innermost}
 use Rattle.asm_texts.specs.Spans.{shown}

@@ -21,8 +21,8 @@ returns-in-Turns-clause-resumed c =
     let is = c.in-Some.ensures.items ∙ ap (λ f. left ++ f ∷ []) c.in-Turns.is in
     let one = popped x left (Following.Turns c.in-Turns.left c.in-Turns.number c.in-Turns.body) c.requires.over is in
     let same = turns_popped x left c.in-Turns.left c.in-Turns.number c.in-Turns.body c.requires.sound is in
-    subst (Resumes c.go_behind.result (rest_of c.go_behind.new.self))
-    (sym (one ∙ ap (λ t. moved (length (tables_in x) + t) (around_seen (texts_in x) (tables_in x) (reverse left)) (turns (length (tables_in x) + t) c.in-Turns.left c.in-Turns.number body (state_of x))) same)) c.go_behind.ensures.resumed
+    subst (Resumes c.go_behind-in-Turns.result (rest_of c.go_behind-in-Turns.new.self))
+    (sym (one ∙ ap (λ t. moved (length (tables_in x) + t) (around_seen (texts_in x) (tables_in x) (reverse left)) (turns (length (tables_in x) + t) c.in-Turns.left c.in-Turns.number body (state_of x))) same)) c.go_behind-in-Turns.ensures.resumed
 
 pub returns-in-Rest-clause-sound : goal.returns-in-Rest-clause-sound
 returns-in-Rest-clause-sound c =

@@ -8,10 +8,10 @@ use Rattle.asm_macro.specs.Private.Going.{Fits, part_of, texts_opened, turns_ope
 use Rattle.asm_macro.specs.Private.Moves.{Resumes, moved, rest_of, state_of, tables_in, texts_in}
 use Rattle.asm_macro.proofs.Onwards.{behind_opens, fits_behind, one_text, resumed_is}
 use Rattle.asm_macro.proofs.Stacks.{all_ok, last_table, so_ok}
-use Rattle.asm_macro.proofs.going.Expansion.go_behind.Goals as goal
+use Rattle.asm_macro.proofs.expansion.Expansion.go_behind.Goals as goal
 
-pub go_with-requires-fits : goal.go_with-requires-fits
-go_with-requires-fits c =
+pub go_with-requires-clause-fits : goal.go_with-requires-clause-fits
+go_with-requires-clause-fits c =
     let x = c.args.self.now in
     let onward = c.in_ok-onward.onward in
     let lines = ap (map (λ line. line.now)) c.deref.ensures.value in
