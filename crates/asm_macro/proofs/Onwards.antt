@@ -13,7 +13,7 @@ use Rattle.asm_sections.specs.Views.{behind_other, next_of}
 use Rattle.asm_macro.specs.declared.fault.MacroFault.{MacroFault}
 use Rattle.asm_macro.specs.State.{State}
 use Rattle.asm_macro.specs.Parts.{Part, Stop, Go, chosen, closing, fails, passed, resumed, second_of}
-use Rattle.asm_macro.specs.Private.Going.{Fits, FitsNext, part_of, texts_opened, turn_in, turn_next, turns_opened}
+use Rattle.asm_macro.specs.Private.Going.{Fits, part_of, texts_opened, turn_in, turns_opened}
 
 -- a part, unless the line of a number may not stand
 abbrev barred : Option ℕ → Part → Part

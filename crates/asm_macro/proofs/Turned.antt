@@ -1,5 +1,5 @@
 -- What moves leave.
-use Rattle.std.proofs.Common.{◌≡◌, ◌<◌, ◌≤◌, ◌+◌, ◌-◌, ◌∙◌, sym, ap, refl, subst, Err, ℕ, List, [], ◌∷◌, ◌++◌, Option, reverse, length, arith}
+use Rattle.std.proofs.Common.{◌≡◌, ◌≤◌, ◌+◌, ◌-◌, ◌∙◌, sym, ap, refl, subst, Err, ℕ, List, [], ◌∷◌, ◌++◌, Option, reverse, length, arith}
 use Rattle.asm_replace.specs.Replaced.{Table}
 use Rattle.asm_texts.specs.declared.span.Span.{Span}
 use Rattle.asm_texts.specs.Lines.{Numbered}

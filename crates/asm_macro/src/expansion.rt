@@ -3,13 +3,11 @@
 ghost use Rattle.std.specs.Prelude.{◌≡◌, ◌≢◌, ◌<◌, ◌≤◌, ◌+◌, ◌∷◌, ℕ, IfOk, OnOk, List, [], Some, length, reverse, slice_index_or};
 ghost use Rattle.asm_replace.specs.Replaced.{Table};
 ghost use Rattle.asm_sections.specs.Books.{IsBook};
-ghost use Rattle.std.specs.Option.{option_map};
-ghost use Rattle.asm_macro.specs.Ahead.{Around, seen};
 ghost use Rattle.asm_macro.specs.Kept.{AreOf};
 ghost use Rattle.asm_macro.specs.Parts.{part};
 ghost use Rattle.asm_macro.specs.Private.Frames.{AreBooks, below, innermost};
 ghost use Rattle.asm_macro.specs.declared.moves.Given.{Given};
-ghost use Rattle.asm_macro.specs.Private.Moves.{Gives, Goes, IsSound, Lessens, Resumes, Takes, most_moves, moved, next_move, rest_of, state_of, tables_in, texts_in};
+ghost use Rattle.asm_macro.specs.Private.Moves.{Gives, Goes, IsSound, Lessens, Resumes, Takes, most_moves, moved, next_move, rest_of, state_of, texts_in};
 
 use crate::constants::Constants;
 use crate::expander::Line;

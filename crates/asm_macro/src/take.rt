@@ -1,6 +1,6 @@
 //! Lines that are taken up.
 
-ghost use Rattle.std.specs.Prelude.{◌≡◌, ◌≢◌, ◌<◌, ◌≤◌, ◌+◌, ◌||◌, nat_lt, IfOk, OnOk, Ok, [], List, ℕ, None, Some, codes, false, length, true};
+ghost use Rattle.std.specs.Prelude.{◌≡◌, ◌<◌, ◌≤◌, ◌+◌, ◌||◌, nat_lt, IfOk, OnOk, Ok, List, ℕ, None, Some, codes, false, length, true};
 ghost use Rattle.std.specs.Option.{option_map};
 ghost use Rattle.asm_scan.specs.Tokens.{lexemes};
 ghost use Rattle.asm_scan.specs.Scanned.{scanned};
@@ -18,13 +18,12 @@ ghost use Rattle.asm_macro.specs.Values.{worth};
 ghost use Rattle.asm_macro.specs.Ahead.{seen};
 ghost use Rattle.asm_sections.specs.Blocks.{body_of, branches_of};
 ghost use Rattle.asm_macro.specs.Judged.{is_counted, parameters};
-ghost use Rattle.asm_macro.specs.Parts.{chosen, conditional, definition, part, repeated, second_of, worded};
+ghost use Rattle.asm_macro.specs.Parts.{conditional, part, repeated, worded};
 ghost use Rattle.asm_macro.specs.Private.Stopped.{stopped};
-ghost use Rattle.asm_sections.specs.Sections.{branches_seen};
 ghost use Rattle.asm_macro.specs.Private.Frames.{innermost};
 ghost use Rattle.asm_macro.specs.Private.Heads.{by_head, defined, kept};
 ghost use Rattle.asm_macro.specs.Kept.{AreOf};
-ghost use Rattle.asm_macro.specs.Private.Moves.{IsSound, Resumes, Takes, moved, rest_of, state_of, tables_in, texts_in};
+ghost use Rattle.asm_macro.specs.Private.Moves.{IsSound, Resumes, Takes, moved, rest_of, state_of, texts_in};
 
 use crate::expander::Line;
 use crate::expansion::{Expansion, MOST_LINES};

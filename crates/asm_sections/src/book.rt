@@ -1,6 +1,6 @@
 //! Where the blocks of a text end, once that is looked for.
 
-ghost use Rattle.std.specs.Prelude.{◌≡◌, ◌≤◌, ◌-◌, ◌<◌, ◌^◌, ℕ, IfOk, List, OnOk, Option, Some, length, map, true};
+ghost use Rattle.std.specs.Prelude.{◌≡◌, ◌≤◌, ◌-◌, ◌<◌, ℕ, IfOk, List, OnOk, Option, Some, length, map, true};
 ghost use Rattle.std.specs.Option.{option_map};
 ghost use Rattle.asm_block.specs.Blocks.{between};
 ghost use Rattle.asm_replace.specs.Replaced.{Table};

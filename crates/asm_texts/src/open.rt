@@ -1,11 +1,10 @@
 //! The body of a macro, opened for a call.
 
-ghost use Rattle.std.specs.Prelude.{◌≡◌, ◌<◌, ◌≤◌, ◌+◌, ◌-◌, ◌^◌, ◌++◌, ◌∷◌, [], IfOk, OnOk, List, ℕ, Some, length, map, slice_index_or, take};
+ghost use Rattle.std.specs.Prelude.{◌≡◌, ◌<◌, ◌+◌, ◌-◌, ◌^◌, ◌++◌, ◌∷◌, [], IfOk, OnOk, Some, length, map, slice_index_or};
 ghost use Rattle.std.specs.Option.{option_map};
 ghost use Rattle.asm_scan.specs.Tokens.{lexemes};
-ghost use Rattle.asm_line.specs.Views.{form_seen, head_seen};
+ghost use Rattle.asm_line.specs.Views.{head_seen};
 ghost use Rattle.asm_line.specs.Forms.{form};
-ghost use Rattle.asm_replace.specs.Pieces.{behind_all};
 ghost use Rattle.asm_replace.specs.Replaced.{arguments_of, local_names};
 ghost use Rattle.asm_replace.specs.Views.{table, texts};
 ghost use Rattle.asm_replace.specs.Views.{texts as texts_seen};

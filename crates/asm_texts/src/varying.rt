@@ -1,6 +1,6 @@
 //! Lines of a body that may be other things to blocks in a call than they are as they stand.
 
-ghost use Rattle.std.specs.Prelude.{◌≡◌, ◌≤◌, ◌<◌, [], IfOk, Some, length, map, slice_index_or, take, true};
+ghost use Rattle.std.specs.Prelude.{◌≡◌, ◌≤◌, ◌<◌, IfOk, Some, length, map, true};
 ghost use Rattle.std.specs.List.{list_any};
 ghost use Rattle.asm_scan.specs.Tokens.{lexeme, lexemes};
 ghost use Rattle.asm_replace.specs.Fronts.{goes_on};

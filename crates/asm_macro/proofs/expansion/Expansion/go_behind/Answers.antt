@@ -1,4 +1,4 @@
-use Rattle.std.proofs.Common.{◌≡◌, ◌∙◌, ◌+◌, ◌-◌, ◌*◌, ◌≤◌, ap, sym, subst, arith, map, length}
+use Rattle.std.proofs.Common.{◌≡◌, ◌∙◌, ◌+◌, ◌-◌, ap, sym, subst, arith, map, length}
 use Rattle.std.specs.List.{slice_get}
 use Rattle.asm_texts.specs.Prepared.{said}
 use Rattle.asm_sections.specs.Onward.{behind}

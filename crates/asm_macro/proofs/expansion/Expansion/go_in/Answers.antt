@@ -1,11 +1,11 @@
-use Rattle.std.proofs.Common.{◌≡◌, ◌∙◌, ◌+◌, ◌-◌, ◌≤◌, ap, sym, subst, arith, map, length}
+use Rattle.std.proofs.Common.{◌≡◌, ◌∙◌, ◌+◌, ◌-◌, ap, sym, subst, arith, map, length}
 use Rattle.std.specs.List.{slice_get}
 use Rattle.asm_texts.specs.Prepared.{said}
 use Rattle.asm_sections.specs.Onward.{branch}
 use Rattle.asm_sections.specs.Sections.{branches_seen}
 use Rattle.asm_sections.specs.Views.{onward_seen}
 use Rattle.asm_macro.specs.Private.Frames.{innermost}
-use Rattle.asm_macro.specs.Private.Going.{Fits, part_of, texts_opened, turns_opened}
+use Rattle.asm_macro.specs.Private.Going.{Fits, part_of, turns_opened}
 use Rattle.asm_macro.specs.Private.Moves.{Resumes, moved, rest_of, state_of, tables_in, texts_in}
 use Rattle.asm_macro.proofs.Onwards.{branch_opens, chosen_is, fits_branch, one_text}
 use Rattle.asm_macro.proofs.Stacks.{last_table, so_ok}
