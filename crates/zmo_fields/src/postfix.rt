@@ -51,6 +51,7 @@ fn whole(items: Vec<Item<Atom>>, rest: &[u8]) -> Option<Vec<Item<Atom>>>
 fn items_of(alloc: Global, bytes: &[u8]) -> Result<Option<Vec<Item<Atom>>>, AllocError>
     ensures { IfOk result (λ found. option_map (λ items. items.items) found ≡ items_of bytes.now) }
 {
+    // Where operators stand between leaves, an item takes two bytes: three and one in turn.
     let mut items = Vec::with_capacity(alloc, bytes.len().div_ceil(2))?;
     let mut rest = bytes;
     for _ in 0..MOST_ITEMS {

@@ -17,8 +17,7 @@ use Rattle.zmo_fields.proofs.Taken.{Chain, Reads, joins, many_again, many_takes,
 use Rattle.zmo_object.specs.declared.fault.ObjectFault.{ObjectFault}
 use Rattle.zmo_object.specs.Codes.{grow_of, magic}
 use Rattle.zmo_object.specs.Texts.{counts_text, entry_text, flags, label_text, statement_text, text_of}
-use Rattle.zmo_object.specs.Private.{answered}
-use Rattle.zmo_object.specs.Reading.{Answers, Counts, Header, Lists, all_of, ended, header_at, lists_at, module_at, read_behind, read_of, statement_at, statements_at}
+use Rattle.zmo_object.specs.Reading.{Answers, Counts, Header, Lists, all_of, answered, ended, header_at, lists_at, module_at, read_behind, read_of, statement_at, statements_at}
 use Rattle.zmo_object.proofs.Headed.{HeaderGood, header_again, header_spelled, header_takes}
 use Rattle.zmo_object.proofs.Listed.{ListsGood, lists_again, lists_take, lists_text}
 use Rattle.zmo_object.proofs.Stated.{statement_again, statement_takes}

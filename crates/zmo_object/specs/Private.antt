@@ -1,11 +1,9 @@
--- What private contracts alone cite.
+-- What private contracts alone cite: no reviewer need believe it.
 use Rattle.std.specs.Prelude.{◌≡◌, ◌≤◌, ℕ, List, [], ◌∷◌, ◌++◌, Result, Ok, Err, All, length, map}
 use Rattle.zmo_module.specs.Modules as object
-use Rattle.zmo_module.specs.Modules.{Label, Module, Statement, label_of, module_of}
+use Rattle.zmo_module.specs.Modules.{Label, Module, Statement, label_of}
 use Rattle.zmo_fields.specs.declared.fault.FieldFault.{FieldFault}
 use Rattle.zmo_fields.specs.Fields.{Fails, Field}
-use Rattle.zmo_module.specs.declared.module.Module as whole
-use Rattle.zmo_object.specs.declared.fault.ObjectFault.{ObjectFault}
 use Rattle.zmo_object.specs.declared.header.Counts as count
 use Rattle.zmo_object.specs.declared.header.Header as head
 use Rattle.zmo_object.specs.declared.label.Lists as list
@@ -46,7 +44,3 @@ header_of h = record { name = h.name.now; begins = h.begins; counts = counts_of 
 
 abbrev pub lists_of : list.Lists → Lists
 lists_of l = record { labels = map label_of l.labels.items; publics = l.publics.items; externals = map (λ name. name.items) l.externals.items }
-
-abbrev pub answered : Result whole.Module ObjectFault → Result Module ObjectFault
-answered (Ok m) = Ok (module_of m)
-answered (Err f) = Err f

@@ -15,7 +15,8 @@ use Rattle.zmo_module.specs.declared.module.TheConstants.{MOST_NAMES, MOST_STATE
 use Rattle.zmo_module.specs.declared.statement.TheConstants.{MOST_BYTES}
 use Rattle.zmo_module.specs.Holes.{ends_in_byte, size_of}
 use Rattle.zmo_module.specs.Modules as object
-use Rattle.zmo_module.specs.Modules.{Label, Module, Statement}
+use Rattle.zmo_module.specs.Modules.{Label, Module, Statement, module_of}
+use Rattle.zmo_module.specs.declared.module.Module as whole
 use Rattle.zmo_fields.specs.declared.fault.FieldFault.{FieldFault}
 use Rattle.zmo_fields.specs.declared.fault.FieldFault.TheVariants as field
 use Rattle.zmo_fields.specs.Fields.{Field, byte_at, bytes_at, coded, counted_at, each, given, judged, kept, many, number_at, word_at}
@@ -237,6 +238,11 @@ read_behind (Some grow) bytes = all_of (length bytes) (module_at grow (drop 4 by
 
 abbrev pub read_of : List ℕ → Result Module ObjectFault
 read_of bytes = read_behind (grow_of (take 4 bytes)) bytes
+
+-- a call's answer, with the module as definitions have it
+abbrev pub answered : Result whole.Module ObjectFault → Result Module ObjectFault
+answered (Ok m) = Ok (module_of m)
+answered (Err f) = Err f
 
 -- What a call answered is what is read, but where memory ran out.
 abbrev pub Answers : Result Module ObjectFault → Result Module ObjectFault → Type 0

@@ -6,9 +6,8 @@ ghost use Rattle.zmo_module.specs.Modules.{module_of, statement_of};
 ghost use Rattle.zmo_module.specs.Rules.{IsModule};
 ghost use Rattle.zmo_fields.specs.Fields.{Gives, each};
 ghost use Rattle.zmo_object.specs.Codes.{grow_of};
-ghost use Rattle.zmo_object.specs.Reading.{Answers, module_at, read_of, statement_at};
+ghost use Rattle.zmo_object.specs.Reading.{Answers, answered, module_at, read_of, statement_at};
 ghost use Rattle.zmo_object.specs.Texts.{text_of};
-ghost use Rattle.zmo_object.specs.Private.{answered};
 
 use crate::fault::{ObjectFault, fault_in};
 use crate::header::read_header;

@@ -1,7 +1,6 @@
 use Rattle.std.proofs.Common.{◌<◌, ap, subst, ◌∙◌, arith}
 use Rattle.std.proofs.lemmas.List.Elements.{All-from_get_or}
-use Rattle.zmo_object.specs.Reading.{Answers, read_of}
-use Rattle.zmo_object.specs.Private.{answered}
+use Rattle.zmo_object.specs.Reading.{Answers, answered, read_of}
 use Rattle.zmo_object.proofs.Whole.{found, read_again}
 use Rattle.zmo_object.proofs.reading.read.Goals as goal
 
