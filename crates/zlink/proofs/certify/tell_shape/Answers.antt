@@ -5,5 +5,5 @@ use Rattle.zlink.proofs.certify.tell_shape.Goals as goal
 
 pub new-requires : goal.new-requires
 new-requires c =
-    let all : take c.loop-statement.statement-index c.args.shape.now ≡ c.args.shape.now = take_all _ _ (omega (arith, ap length c.statements-statement-items.ensures.value)) in
-    rw (c.loop-statement.invariant, all) (shape-there c.args.shape.now (rw (← c.statements-statement-items.ensures.value) c.statements-statement-items.ensures.shape))
+    let all : take c.loop-statement.statement-index c.args.shape.now ≡ c.args.shape.now = take_all _ _ (omega (arith, ap length c.statements-told.ensures.value)) in
+    rw (c.loop-statement.invariant, all) (shape-there c.args.shape.now (rw (← c.statements-told.ensures.value) c.statements-told.ensures.shape))
