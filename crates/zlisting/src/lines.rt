@@ -1,31 +1,15 @@
 //! The lines of sources, with their bytes.
 
-ghost use Rattle.std.specs.Prelude.{◌≡◌, ◌++◌, ◌+◌, ◌≤◌, ◌==◌, IfOk, OnOk, filter, length, map, not};
-ghost use Rattle.std.specs.List.{prefix_len};
-ghost use Rattle.asm_macro.specs.Texts.{source_part};
+ghost use Rattle.std.specs.Prelude.{◌≡◌, ◌++◌, ◌+◌, ◌≤◌, IfOk};
 ghost use Rattle.zlisting.specs.Private.Runs.{Ascends, HasLines, source_with};
 ghost use Rattle.zlisting.specs.Listing as spec;
 
 use crate::cells::{Cell, cells_by_line, split_line};
 use crate::rows::put_line;
+use asm_macro::source_part;
 use bstr::ByteSlice;
 use std::alloc::{AllocError, Global};
 use zlink::{Built, Source};
-
-/// How many bytes stand before the first byte 1AH.
-fn end_of(text: &[u8]) -> usize
-    ensures value { result ≡ prefix_len (λ byte. not (byte == 0x1A)) text.now }
-    ensures within { result ≤ length text.now }
-{
-    text.iter().take_while(|byte| **byte != 0x1A).count()
-}
-
-/// The text up to its first byte 1AH, CP/M's end of a text file.
-fn before_end(text: &[u8]) -> &[u8]
-    ensures { result.now ≡ source_part text.now }
-{
-    &text[..end_of(text)]
-}
 
 /// Adds the lines of a source up to the last that is listed, and answers the bytes of the sources behind it.
 fn put_source<'a>(
@@ -42,7 +26,7 @@ fn put_source<'a>(
 {
     let mut rest = cells;
     let mut number = 0;
-    for line in before_end(text).lines() {
+    for line in source_part(text).lines() {
         if number == last {
             return Ok(rest);
         }
