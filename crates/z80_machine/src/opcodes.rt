@@ -28,7 +28,7 @@ use z80_turns::{
 };
 
 /// What the table has at an opcode: a turn, which is made, or a prefix, where nothing has changed yet.
-#[derive(Clone, Copy, Debug, PartialEq, Eq)]
+#[derive(Clone, Copy)]
 pub(crate) enum Row {
     Turned(Step),
     /// CB.

@@ -60,7 +60,7 @@ fn try_bits<const IN_RUN: bool>(cpu: &mut Cpu, memory: &mut Memory, second: u8) 
     if second < 0x80 {
         try_bits_lower::<IN_RUN>(cpu, memory, second)
     } else {
-        try_bits_upper::<IN_RUN>(cpu, memory, second)
+        try_bits_upper(cpu, memory, second)
     }
 }
 
@@ -73,7 +73,7 @@ fn try_bits_lower<const IN_RUN: bool>(
     ensures { IsTurnOrNone (read_second bits_entry second (machine cpu.old memory.old)) result
         (machine cpu.old memory.old) (machine cpu.new memory.new) }
 {
-    if let Some(step) = try_shifts(cpu, memory, second) {
+    if let Some(step) = try_shifts::<IN_RUN>(cpu, memory, second) {
         return Some(step);
     }
     if let Some(step) = try_bits_low(cpu, memory, second) {
@@ -82,15 +82,12 @@ fn try_bits_lower<const IN_RUN: bool>(
     if let Some(step) = try_bits_high(cpu, memory, second) {
         return Some(step);
     }
-    try_rotations_left(cpu, memory, second)
+    try_rotations_left::<IN_RUN>(cpu, memory, second)
 }
 
-/// Behind CB, from 80H on.
-fn try_bits_upper<const IN_RUN: bool>(
-    cpu: &mut Cpu,
-    memory: &mut Memory,
-    second: u8,
-) -> Option<Step>
+/// Behind CB, from 80H on. It is called: RES and SET in the loop of a run would leave the others there too few registers.
+#[inline(never)]
+fn try_bits_upper(cpu: &mut Cpu, memory: &mut Memory, second: u8) -> Option<Step>
     ensures { IsTurnOrNone (read_second bits_entry second (machine cpu.old memory.old)) result
         (machine cpu.old memory.old) (machine cpu.new memory.new) }
 {
@@ -107,8 +104,11 @@ fn try_bits_upper<const IN_RUN: bool>(
 }
 
 /// RLC, RRC, RL and RR.
-#[inline(always)]
-fn try_rotations_left(cpu: &mut Cpu, memory: &mut Memory, second: u8) -> Option<Step>
+fn try_rotations_left<const IN_RUN: bool>(
+    cpu: &mut Cpu,
+    memory: &mut Memory,
+    second: u8,
+) -> Option<Step>
     ensures { IsTurnOrNone (read_second bits_entry second (machine cpu.old memory.old)) result
         (machine cpu.old memory.old) (machine cpu.new memory.new) }
 {
@@ -121,8 +121,7 @@ fn try_rotations_left(cpu: &mut Cpu, memory: &mut Memory, second: u8) -> Option<
 }
 
 /// SLA, SRA and SRL.
-#[inline(always)]
-fn try_shifts(cpu: &mut Cpu, memory: &mut Memory, second: u8) -> Option<Step>
+fn try_shifts<const IN_RUN: bool>(cpu: &mut Cpu, memory: &mut Memory, second: u8) -> Option<Step>
     ensures { IsTurnOrNone (read_second bits_entry second (machine cpu.old memory.old)) result
         (machine cpu.old memory.old) (machine cpu.new memory.new) }
 {
@@ -236,7 +235,7 @@ pub(crate) fn turn_extended<const IN_RUN: bool>(cpu: &mut Cpu, memory: &mut Memo
         (machine cpu.old memory.old) (machine cpu.new memory.new) }
 {
     let second = next_byte(cpu, memory);
-    if let Some(step) = try_blocks(cpu, memory, second) {
+    if let Some(step) = try_blocks::<IN_RUN>(cpu, memory, second) {
         return step;
     }
     if let Some(step) = try_pairs(cpu, memory, second) {
@@ -249,8 +248,7 @@ pub(crate) fn turn_extended<const IN_RUN: bool>(cpu: &mut Cpu, memory: &mut Memo
 }
 
 /// Block transfer, search, input and output.
-#[inline(always)]
-fn try_blocks(cpu: &mut Cpu, memory: &mut Memory, second: u8) -> Option<Step>
+fn try_blocks<const IN_RUN: bool>(cpu: &mut Cpu, memory: &mut Memory, second: u8) -> Option<Step>
     ensures { IsTurnOrNone (read_second extended_entry second (machine cpu.old memory.old)) result
         (machine cpu.old memory.old) (machine cpu.new memory.new) }
 {
