@@ -27,6 +27,7 @@ use z80_turns::{
     turn_store_pair, turn_subtract_pair_with_carry,
 };
 
+/// Behind CB, for a single turn, which calls it.
 #[inline(never)]
 pub(crate) fn call_bits(cpu: &mut Cpu, memory: &mut Memory) -> Step
     requires { read (bytes_at_pc (machine cpu.old memory.old)) ≡
@@ -217,6 +218,7 @@ fn try_sets_high(cpu: &mut Cpu, memory: &mut Memory, second: u8) -> Option<Step>
     )
 }
 
+/// Behind ED, for a single turn, which calls it.
 #[inline(never)]
 pub(crate) fn call_extended(cpu: &mut Cpu, memory: &mut Memory) -> Step
     requires { read (bytes_at_pc (machine cpu.old memory.old)) ≡
@@ -322,6 +324,7 @@ fn try_rest(cpu: &mut Cpu, memory: &mut Memory, second: u8) -> Option<Step>
     )
 }
 
+/// Behind DD and FD, for a single turn, which calls it.
 #[inline(never)]
 pub(crate) fn call_index<const IS_IY: bool>(
     cpu: &mut Cpu,
