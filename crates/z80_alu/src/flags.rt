@@ -24,6 +24,7 @@ impl Flags {
     ghost use Rattle.z80_alu.specs.Flags.{byte_of, flags_of};
 
     /// The flags that a byte stands for.
+    #[inline(always)]
     pub fn from_byte(byte: u8) -> Flags
         ensures { result ≡ flags_of byte }
     {
@@ -40,6 +41,7 @@ impl Flags {
     }
 
     /// F: S Z 5 H 3 P/V N C from bit 7 down.
+    #[inline(always)]
     pub fn to_byte(self) -> u8
         ensures { result ≡ byte_of self }
     {

@@ -38,6 +38,7 @@ impl Flags {
     }
 
     /// RLD: A and the byte, with their low three digits turned to the left.
+    #[inline(always)]
     pub fn rotate_digits_left(&mut self, a: u8, value: u8) -> (u8, u8)
         ensures accumulator { result.0 ≡ rld_accumulator a value }
         ensures byte { result.1 ≡ rld_byte a value }
@@ -49,6 +50,7 @@ impl Flags {
     }
 
     /// RRD: the other way round.
+    #[inline(always)]
     pub fn rotate_digits_right(&mut self, a: u8, value: u8) -> (u8, u8)
         ensures accumulator { result.0 ≡ rrd_accumulator a value }
         ensures byte { result.1 ≡ rrd_byte a value }
@@ -86,6 +88,7 @@ pub fn reset_bit(bit: Octal, value: u8) -> u8
     value & !(1 << bit.number())
 }
 
+#[inline(always)]
 fn rotated(rotation: Rotation, value: u8, carry: bool) -> u8
     ensures { result ≡ rotations.rotated rotation value carry }
 {
@@ -101,6 +104,7 @@ fn rotated(rotation: Rotation, value: u8, carry: bool) -> u8
 }
 
 /// The bit that goes out: C afterwards.
+#[inline(always)]
 fn bit_out(rotation: Rotation, value: u8) -> bool
     ensures { result ≡ rotations.bit_out rotation value }
 {

@@ -24,6 +24,7 @@ impl Flags {
     }
 
     /// ADC HL: a + b and C.
+    #[inline(always)]
     pub fn adc_word(&mut self, a: u16, b: u16) -> u16
         ensures value { result ≡ word_sum_of a b self.old.carry }
         ensures flags { self.new ≡ adc_word_flags a b self.old.carry self.old }
@@ -36,6 +37,7 @@ impl Flags {
     }
 
     /// SBC HL: a - b - C.
+    #[inline(always)]
     pub fn sbc_word(&mut self, a: u16, b: u16) -> u16
         ensures value { result ≡ word_difference_of a b self.old.carry }
         ensures flags { self.new ≡ sbc_word_flags a b self.old.carry self.old }

@@ -11,6 +11,7 @@ use z80_instr::{Addend, AluOperation, IndexRegister, Operand, RegisterPair, Word
 
 impl Cpu {
     /// LD A,I and LD A,R, of the register's value.
+    #[inline(always)]
     pub fn load_from_control(&mut self, value: u8)
         ensures { self.new ≡ loaded_from_control value self.old }
     {
@@ -64,6 +65,7 @@ impl Cpu {
     }
 
     /// NEG.
+    #[inline(always)]
     pub fn negate(&mut self)
         ensures { self.new ≡ negated_a self.old }
     {
@@ -81,6 +83,7 @@ impl Cpu {
     }
 
     /// ADC HL,ss.
+    #[inline(always)]
     pub fn adc_hl(&mut self, pair: RegisterPair)
         ensures { self.new ≡ added_to_hl_with_carry pair self.old }
     {
@@ -90,6 +93,7 @@ impl Cpu {
     }
 
     /// SBC HL,ss.
+    #[inline(always)]
     pub fn sbc_hl(&mut self, pair: RegisterPair)
         ensures { self.new ≡ subtracted_from_hl pair self.old }
     {
@@ -99,6 +103,7 @@ impl Cpu {
     }
 
     /// ADD IX,pp and ADD IY,rr.
+    #[inline(always)]
     pub fn add_index(&mut self, index: IndexRegister, addend: Addend)
         ensures { self.new ≡ added_to_index index addend self.old }
     {

@@ -11,6 +11,7 @@ use z80_instr::{BlockOperation, BlockStep};
 /// What a port gives: none is there.
 pub const PORT_VALUE: u8 = 0xFF;
 
+#[inline(always)]
 fn stepped(step: BlockStep, address: u16) -> u16
     ensures { result ≡ stepped step address }
 {
@@ -20,6 +21,7 @@ fn stepped(step: BlockStep, address: u16) -> u16
     }
 }
 
+#[inline(always)]
 fn repeats(step: BlockStep) -> bool
     ensures { result ≡ repeats step }
 {
@@ -30,6 +32,7 @@ fn repeats(step: BlockStep) -> bool
 }
 
 impl Cpu {
+    #[inline(always)]
     pub fn block(&mut self, memory: &mut Memory, operation: BlockOperation, step: BlockStep)
         ensures { machine self.new memory.new ≡ block operation step (machine self.old memory.old) }
     {
@@ -45,6 +48,7 @@ impl Cpu {
     }
 
     /// LDI, LDD, LDIR and LDDR.
+    #[inline(always)]
     fn block_load(&mut self, memory: &mut Memory, step: BlockStep)
         ensures { machine self.new memory.new ≡ block BlockOperation.Load step (machine self.old memory.old) }
     {
@@ -61,6 +65,7 @@ impl Cpu {
     }
 
     /// CPI, CPD, CPIR and CPDR.
+    #[inline(always)]
     fn block_compare(&mut self, memory: &Memory, step: BlockStep)
         ensures { self.new ≡ compared step (byte_at (hl self.old.main) memory.now) self.old }
     {
@@ -79,6 +84,7 @@ impl Cpu {
     }
 
     /// INI to OTDR but for the byte itself.
+    #[inline(always)]
     fn count_down(&mut self, step: BlockStep)
         ensures { self.new ≡ counted_down step self.old }
     {
@@ -91,6 +97,7 @@ impl Cpu {
     }
 
     /// PC back to the instruction where a repeating form goes on.
+    #[inline(always)]
     fn repeat_if(&mut self, more: bool, step: BlockStep)
         ensures { self.new ≡ again_if more step self.old }
     {

@@ -3,18 +3,18 @@
 use z80_alu::Flags;
 use z80_instr::{InterruptMode, Register};
 
-/// One of the two sets of registers.
+/// One of the two sets of registers. The low one of a pair comes first, as in a word of the host's memory.
 #[derive(Clone, Copy, Debug, Default, PartialEq, Eq)]
 pub struct Registers {
     pub a: u8,
     /// F.
     pub flags: Flags,
-    pub b: u8,
     pub c: u8,
-    pub d: u8,
+    pub b: u8,
     pub e: u8,
-    pub h: u8,
+    pub d: u8,
     pub l: u8,
+    pub h: u8,
 }
 
 impl Registers {
@@ -51,6 +51,7 @@ impl Registers {
         }
     }
 
+    #[inline(always)]
     pub fn af(&self) -> u16
         ensures { result ≡ af self.now }
     {
@@ -78,6 +79,7 @@ impl Registers {
         u16::from_be_bytes([self.h, self.l])
     }
 
+    #[inline(always)]
     pub fn set_af(&mut self, word: u16)
         ensures { self.new ≡ with_af word self.old }
     {
@@ -90,27 +92,27 @@ impl Registers {
     pub fn set_bc(&mut self, word: u16)
         ensures { self.new ≡ with_bc word self.old }
     {
-        let [high, low] = word.to_be_bytes();
-        self.b = high;
+        let [low, high] = word.to_le_bytes();
         self.c = low;
+        self.b = high;
     }
 
     #[inline(always)]
     pub fn set_de(&mut self, word: u16)
         ensures { self.new ≡ with_de word self.old }
     {
-        let [high, low] = word.to_be_bytes();
-        self.d = high;
+        let [low, high] = word.to_le_bytes();
         self.e = low;
+        self.d = high;
     }
 
     #[inline(always)]
     pub fn set_hl(&mut self, word: u16)
         ensures { self.new ≡ with_hl word self.old }
     {
-        let [high, low] = word.to_be_bytes();
-        self.h = high;
+        let [low, high] = word.to_le_bytes();
         self.l = low;
+        self.h = high;
     }
 }
 

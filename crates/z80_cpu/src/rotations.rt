@@ -28,6 +28,7 @@ impl Cpu {
     }
 
     /// RLD.
+    #[inline(always)]
     pub fn rotate_digits_left(&mut self, memory: &mut Memory)
         ensures { machine self.new memory.new ≡ effect Instr.Rld (machine self.old memory.old) }
     {
@@ -41,6 +42,7 @@ impl Cpu {
     }
 
     /// RRD.
+    #[inline(always)]
     pub fn rotate_digits_right(&mut self, memory: &mut Memory)
         ensures { machine self.new memory.new ≡ effect Instr.Rrd (machine self.old memory.old) }
     {

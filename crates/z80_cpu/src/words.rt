@@ -50,6 +50,7 @@ impl Cpu {
         }
     }
 
+    #[inline(always)]
     pub fn word(&self, register: WordRegister) -> u16
         ensures { result ≡ word_value register self.now }
     {
@@ -59,6 +60,7 @@ impl Cpu {
         }
     }
 
+    #[inline(always)]
     pub fn set_word(&mut self, register: WordRegister, word: u16)
         ensures { self.new ≡ with_word register word self.old }
     {
@@ -78,6 +80,7 @@ impl Cpu {
         }
     }
 
+    #[inline(always)]
     pub fn set_hl_or_index(&mut self, register: HlOrIndex, word: u16)
         ensures { self.new ≡ with_hl_or_index register word self.old }
     {
@@ -87,6 +90,7 @@ impl Cpu {
         }
     }
 
+    #[inline(always)]
     pub fn addend(&self, index: IndexRegister, addend: Addend) -> u16
         ensures { result ≡ addend_value index addend self.now }
     {

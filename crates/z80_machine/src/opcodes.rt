@@ -1,16 +1,18 @@
 //! The opcode table: the turn of each instruction without a prefix, at its opcode.
 //!
-//! Thirty-two opcodes are a function, and the host's compiler makes one jump of four of them, to code that knows its registers.
+//! Thirty-two opcodes are a function, and the host's compiler makes one jump of four of them, to code that knows its registers. A
+//! prefix is a row of that jump too, from which it goes straight on to the table of what stands behind it.
 ghost use Rattle.std.specs.Prelude.{◌≡◌};
 ghost use Rattle.z80_cpu.specs.State.{machine, byte_at};
-ghost use Rattle.z80_machine.specs.Private.Opcodes.{read_from, IsTurnBy, IsTurnOrNone};
+ghost use Rattle.z80_machine.specs.Private.Opcodes.{read_from, IsTurnBy, IsTurnOrNone, IsRow};
 
-use crate::pages::try_pages;
+use crate::pages::{call_bits, call_extended, call_index, turn_bits, turn_extended, turn_index};
 use crate::rows::{operand_rows, single_rows, stored_rows};
 use crate::turn::turn_decoded;
 use z80_cpu::{Cpu, Memory};
 use z80_instr::{
-    AluOperation, Cond, Octal, Pointer, Register, RegisterPair, ShortCond, StackOperand,
+    AluOperation, Cond, IndexRegister, Octal, Pointer, Register, RegisterPair, ShortCond,
+    StackOperand,
 };
 use z80_turns::outcome::Step;
 use z80_turns::{
@@ -25,6 +27,20 @@ use z80_turns::{
     turn_rra, turn_rrca, turn_set_carry, turn_store, turn_store_a, turn_store_a_at, turn_store_hl,
 };
 
+/// What the table has at an opcode: a turn, which is made, or a prefix, where nothing has changed yet.
+#[derive(Clone, Copy)]
+pub(crate) enum Row {
+    Turned(Step),
+    /// CB.
+    Bits,
+    /// ED.
+    Extended,
+    /// DD.
+    Ix,
+    /// FD.
+    Iy,
+}
+
 /// The turn of the instruction at PC, whose first byte is the opcode.
 ///
 /// The table is compiled twice, once for the loop of a run and once for single turns: what is called from one place alone stands
@@ -36,9 +52,34 @@ pub(crate) fn turn_of<const IN_RUN: bool>(cpu: &mut Cpu, memory: &mut Memory, op
         (machine cpu.old memory.old) (machine cpu.new memory.new) }
 {
     if opcode < 0x80 {
-        turn_lower::<IN_RUN>(cpu, memory, opcode)
-    } else {
-        turn_upper::<IN_RUN>(cpu, memory, opcode)
+        return turn_lower::<IN_RUN>(cpu, memory, opcode);
+    }
+    if IN_RUN {
+        return turn_upper_in_run(cpu, memory, opcode);
+    }
+    match turn_upper::<false>(cpu, memory, opcode) {
+        Row::Turned(step) => step,
+        Row::Bits => call_bits(cpu, memory),
+        Row::Extended => call_extended(cpu, memory),
+        Row::Ix => call_index::<false>(cpu, memory, IndexRegister::Ix),
+        Row::Iy => call_index::<true>(cpu, memory, IndexRegister::Iy),
+    }
+}
+
+/// From 80H on, with the pages behind the prefixes in the same place: in that of a single turn they would be too much, and are
+/// called.
+#[inline(always)]
+fn turn_upper_in_run(cpu: &mut Cpu, memory: &mut Memory, opcode: u8) -> Step
+    requires { opcode ≡ byte_at cpu.old.pc memory.old }
+    ensures { IsTurnBy (read_from opcode (machine cpu.old memory.old)) result
+        (machine cpu.old memory.old) (machine cpu.new memory.new) }
+{
+    match turn_upper::<true>(cpu, memory, opcode) {
+        Row::Turned(step) => step,
+        Row::Bits => turn_bits::<true>(cpu, memory),
+        Row::Extended => turn_extended::<true>(cpu, memory),
+        Row::Ix => turn_index::<true, false>(cpu, memory, IndexRegister::Ix),
+        Row::Iy => turn_index::<true, true>(cpu, memory, IndexRegister::Iy),
     }
 }
 
@@ -174,27 +215,30 @@ fn try_loads_high(cpu: &mut Cpu, memory: &mut Memory, opcode: u8) -> Option<Step
 }
 
 /// Opcodes from 80H on.
-fn turn_upper<const IN_RUN: bool>(cpu: &mut Cpu, memory: &mut Memory, opcode: u8) -> Step
+fn turn_upper<const IN_RUN: bool>(cpu: &mut Cpu, memory: &mut Memory, opcode: u8) -> Row
     requires { opcode ≡ byte_at cpu.old.pc memory.old }
-    ensures { IsTurnBy (read_from opcode (machine cpu.old memory.old)) result
-        (machine cpu.old memory.old) (machine cpu.new memory.new) }
+    ensures { IsRow opcode result (machine cpu.old memory.old) (machine cpu.new memory.new) }
 {
+    match opcode {
+        0xCB => return Row::Bits,
+        0xED => return Row::Extended,
+        0xDD => return Row::Ix,
+        0xFD => return Row::Iy,
+        _ => {}
+    }
     if let Some(step) = try_third::<IN_RUN>(cpu, memory, opcode) {
-        return step;
+        return Row::Turned(step);
     }
     if let Some(step) = try_fourth::<IN_RUN>(cpu, memory, opcode) {
-        return step;
-    }
-    if let Some(step) = try_pages(cpu, memory, opcode) {
-        return step;
+        return Row::Turned(step);
     }
     if let Some(step) = try_sums::<IN_RUN>(cpu, memory, opcode) {
-        return step;
+        return Row::Turned(step);
     }
     if let Some(step) = try_logic::<IN_RUN>(cpu, memory, opcode) {
-        return step;
+        return Row::Turned(step);
     }
-    turn_decoded(cpu, memory)
+    Row::Turned(turn_decoded(cpu, memory))
 }
 
 /// ADD, ADC, SUB and SBC with A.

@@ -5,7 +5,7 @@ ghost use Rattle.z80_cpu.specs.State.{machine, byte_at, up_by};
 ghost use Rattle.z80_table.specs.Reading.{read, bits_entry, extended_entry};
 ghost use Rattle.z80_machine.specs.Types.{IndexRegister};
 ghost use Rattle.z80_machine.specs.Turn.{bytes_at_pc};
-ghost use Rattle.z80_machine.specs.Private.Opcodes.{read_from, read_second, read_index_second, IsTurnBy, IsTurnOrNone};
+ghost use Rattle.z80_machine.specs.Private.Opcodes.{read_second, read_index_second, IsTurnBy, IsTurnOrNone};
 
 use crate::rows::{operand_rows, pair_rows, single_rows};
 use crate::turn::turn_decoded;
@@ -22,36 +22,31 @@ use z80_turns::{
     turn_load_byte_indexed, turn_load_index, turn_load_index_from, turn_load_indexed,
     turn_load_pair_from, turn_load_sp, turn_negate, turn_operate_indexed, turn_pop_index,
     turn_push_index, turn_reset, turn_reset_at_hl, turn_reset_indexed, turn_rotate,
-    turn_rotate_at_hl, turn_rotate_indexed, turn_set, turn_set_at_hl, turn_set_indexed,
-    turn_store_index, turn_store_indexed, turn_store_pair, turn_subtract_pair_with_carry,
+    turn_rotate_at_hl, turn_rotate_digits_left, turn_rotate_digits_right, turn_rotate_indexed,
+    turn_set, turn_set_at_hl, turn_set_indexed, turn_store_index, turn_store_indexed,
+    turn_store_pair, turn_subtract_pair_with_carry,
 };
 
-/// The turn of an instruction behind a prefix. A page is called: all of them would be too much in the place of a single turn.
-#[inline(always)]
-pub(crate) fn try_pages(cpu: &mut Cpu, memory: &mut Memory, opcode: u8) -> Option<Step>
-    requires { opcode ≡ byte_at cpu.old.pc memory.old }
-    ensures { IsTurnOrNone (read_from opcode (machine cpu.old memory.old)) result
+/// Behind CB, for a single turn, which calls it.
+#[inline(never)]
+pub(crate) fn call_bits(cpu: &mut Cpu, memory: &mut Memory) -> Step
+    requires { read (bytes_at_pc (machine cpu.old memory.old)) ≡
+        read_second bits_entry (byte_at (up_by 1 cpu.old.pc) memory.old) (machine cpu.old memory.old) }
+    ensures { IsTurnBy (read_second bits_entry (byte_at (up_by 1 cpu.old.pc) memory.old) (machine cpu.old memory.old)) result
         (machine cpu.old memory.old) (machine cpu.new memory.new) }
 {
-    match opcode {
-        0xCB => Some(turn_bits(cpu, memory)),
-        0xED => Some(turn_extended(cpu, memory)),
-        0xDD => Some(turn_index(cpu, memory, IndexRegister::Ix)),
-        0xFD => Some(turn_index(cpu, memory, IndexRegister::Iy)),
-        _ => None,
-    }
+    turn_bits::<false>(cpu, memory)
 }
 
 /// Behind CB.
-#[inline(never)]
-fn turn_bits(cpu: &mut Cpu, memory: &mut Memory) -> Step
+pub(crate) fn turn_bits<const IN_RUN: bool>(cpu: &mut Cpu, memory: &mut Memory) -> Step
     requires { read (bytes_at_pc (machine cpu.old memory.old)) ≡
         read_second bits_entry (byte_at (up_by 1 cpu.old.pc) memory.old) (machine cpu.old memory.old) }
     ensures { IsTurnBy (read_second bits_entry (byte_at (up_by 1 cpu.old.pc) memory.old) (machine cpu.old memory.old)) result
         (machine cpu.old memory.old) (machine cpu.new memory.new) }
 {
     let second = next_byte(cpu, memory);
-    if let Some(step) = try_bits(cpu, memory, second) {
+    if let Some(step) = try_bits::<IN_RUN>(cpu, memory, second) {
         return step;
     }
     turn_decoded(cpu, memory)
@@ -59,23 +54,27 @@ fn turn_bits(cpu: &mut Cpu, memory: &mut Memory) -> Step
 
 /// By the upper bit of the opcode behind CB.
 #[inline(always)]
-fn try_bits(cpu: &mut Cpu, memory: &mut Memory, second: u8) -> Option<Step>
+fn try_bits<const IN_RUN: bool>(cpu: &mut Cpu, memory: &mut Memory, second: u8) -> Option<Step>
     ensures { IsTurnOrNone (read_second bits_entry second (machine cpu.old memory.old)) result
         (machine cpu.old memory.old) (machine cpu.new memory.new) }
 {
     if second < 0x80 {
-        try_bits_lower(cpu, memory, second)
+        try_bits_lower::<IN_RUN>(cpu, memory, second)
     } else {
         try_bits_upper(cpu, memory, second)
     }
 }
 
 /// Behind CB, below 80H.
-fn try_bits_lower(cpu: &mut Cpu, memory: &mut Memory, second: u8) -> Option<Step>
+fn try_bits_lower<const IN_RUN: bool>(
+    cpu: &mut Cpu,
+    memory: &mut Memory,
+    second: u8,
+) -> Option<Step>
     ensures { IsTurnOrNone (read_second bits_entry second (machine cpu.old memory.old)) result
         (machine cpu.old memory.old) (machine cpu.new memory.new) }
 {
-    if let Some(step) = try_shifts(cpu, memory, second) {
+    if let Some(step) = try_shifts::<IN_RUN>(cpu, memory, second) {
         return Some(step);
     }
     if let Some(step) = try_bits_low(cpu, memory, second) {
@@ -84,10 +83,11 @@ fn try_bits_lower(cpu: &mut Cpu, memory: &mut Memory, second: u8) -> Option<Step
     if let Some(step) = try_bits_high(cpu, memory, second) {
         return Some(step);
     }
-    try_rotations_left(cpu, memory, second)
+    try_rotations_left::<IN_RUN>(cpu, memory, second)
 }
 
-/// Behind CB, from 80H on.
+/// Behind CB, from 80H on. It is called: RES and SET in the loop of a run would leave the others there too few registers.
+#[inline(never)]
 fn try_bits_upper(cpu: &mut Cpu, memory: &mut Memory, second: u8) -> Option<Step>
     ensures { IsTurnOrNone (read_second bits_entry second (machine cpu.old memory.old)) result
         (machine cpu.old memory.old) (machine cpu.new memory.new) }
@@ -105,7 +105,11 @@ fn try_bits_upper(cpu: &mut Cpu, memory: &mut Memory, second: u8) -> Option<Step
 }
 
 /// RLC, RRC, RL and RR.
-fn try_rotations_left(cpu: &mut Cpu, memory: &mut Memory, second: u8) -> Option<Step>
+fn try_rotations_left<const IN_RUN: bool>(
+    cpu: &mut Cpu,
+    memory: &mut Memory,
+    second: u8,
+) -> Option<Step>
     ensures { IsTurnOrNone (read_second bits_entry second (machine cpu.old memory.old)) result
         (machine cpu.old memory.old) (machine cpu.new memory.new) }
 {
@@ -118,8 +122,7 @@ fn try_rotations_left(cpu: &mut Cpu, memory: &mut Memory, second: u8) -> Option<
 }
 
 /// SLA, SRA and SRL.
-#[inline(always)]
-fn try_shifts(cpu: &mut Cpu, memory: &mut Memory, second: u8) -> Option<Step>
+fn try_shifts<const IN_RUN: bool>(cpu: &mut Cpu, memory: &mut Memory, second: u8) -> Option<Step>
     ensures { IsTurnOrNone (read_second bits_entry second (machine cpu.old memory.old)) result
         (machine cpu.old memory.old) (machine cpu.new memory.new) }
 {
@@ -202,6 +205,7 @@ fn try_sets_low(cpu: &mut Cpu, memory: &mut Memory, second: u8) -> Option<Step>
 
 /// SET of bits 4 to 7.
 #[inline(always)]
+#[inline(always)]
 fn try_sets_high(cpu: &mut Cpu, memory: &mut Memory, second: u8) -> Option<Step>
     ensures { IsTurnOrNone (read_second bits_entry second (machine cpu.old memory.old)) result
         (machine cpu.old memory.old) (machine cpu.new memory.new) }
@@ -214,16 +218,26 @@ fn try_sets_high(cpu: &mut Cpu, memory: &mut Memory, second: u8) -> Option<Step>
     )
 }
 
-/// Behind ED.
+/// Behind ED, for a single turn, which calls it.
 #[inline(never)]
-fn turn_extended(cpu: &mut Cpu, memory: &mut Memory) -> Step
+pub(crate) fn call_extended(cpu: &mut Cpu, memory: &mut Memory) -> Step
+    requires { read (bytes_at_pc (machine cpu.old memory.old)) ≡
+        read_second extended_entry (byte_at (up_by 1 cpu.old.pc) memory.old) (machine cpu.old memory.old) }
+    ensures { IsTurnBy (read_second extended_entry (byte_at (up_by 1 cpu.old.pc) memory.old) (machine cpu.old memory.old)) result
+        (machine cpu.old memory.old) (machine cpu.new memory.new) }
+{
+    turn_extended::<false>(cpu, memory)
+}
+
+/// Behind ED.
+pub(crate) fn turn_extended<const IN_RUN: bool>(cpu: &mut Cpu, memory: &mut Memory) -> Step
     requires { read (bytes_at_pc (machine cpu.old memory.old)) ≡
         read_second extended_entry (byte_at (up_by 1 cpu.old.pc) memory.old) (machine cpu.old memory.old) }
     ensures { IsTurnBy (read_second extended_entry (byte_at (up_by 1 cpu.old.pc) memory.old) (machine cpu.old memory.old)) result
         (machine cpu.old memory.old) (machine cpu.new memory.new) }
 {
     let second = next_byte(cpu, memory);
-    if let Some(step) = try_blocks(cpu, memory, second) {
+    if let Some(step) = try_blocks::<IN_RUN>(cpu, memory, second) {
         return step;
     }
     if let Some(step) = try_pairs(cpu, memory, second) {
@@ -236,8 +250,7 @@ fn turn_extended(cpu: &mut Cpu, memory: &mut Memory) -> Step
 }
 
 /// Block transfer, search, input and output.
-#[inline(always)]
-fn try_blocks(cpu: &mut Cpu, memory: &mut Memory, second: u8) -> Option<Step>
+fn try_blocks<const IN_RUN: bool>(cpu: &mut Cpu, memory: &mut Memory, second: u8) -> Option<Step>
     ensures { IsTurnOrNone (read_second extended_entry second (machine cpu.old memory.old)) result
         (machine cpu.old memory.old) (machine cpu.new memory.new) }
 {
@@ -292,8 +305,8 @@ fn try_rest(cpu: &mut Cpu, memory: &mut Memory, second: u8) -> Option<Step>
         0x4F => turn_behind_prefix(Instr::LoadRFromA);
         0x57 => turn_behind_prefix(Instr::LoadAFromI);
         0x5F => turn_behind_prefix(Instr::LoadAFromR);
-        0x67 => turn_behind_prefix(Instr::Rrd);
-        0x6F => turn_behind_prefix(Instr::Rld);
+        0x67 => turn_rotate_digits_right();
+        0x6F => turn_rotate_digits_left();
         0x40 => turn_behind_prefix(Instr::InC(Register::B));
         0x41 => turn_behind_prefix(Instr::OutC(Register::B));
         0x48 => turn_behind_prefix(Instr::InC(Register::C));
@@ -311,9 +324,27 @@ fn try_rest(cpu: &mut Cpu, memory: &mut Memory, second: u8) -> Option<Step>
     )
 }
 
-/// Behind DD and FD.
+/// Behind DD and FD, for a single turn, which calls it.
 #[inline(never)]
-fn turn_index(cpu: &mut Cpu, memory: &mut Memory, index: IndexRegister) -> Step
+pub(crate) fn call_index<const IS_IY: bool>(
+    cpu: &mut Cpu,
+    memory: &mut Memory,
+    index: IndexRegister,
+) -> Step
+    requires { read (bytes_at_pc (machine cpu.old memory.old)) ≡
+        read_index_second index (byte_at (up_by 1 cpu.old.pc) memory.old) (machine cpu.old memory.old) }
+    ensures { IsTurnBy (read_index_second index (byte_at (up_by 1 cpu.old.pc) memory.old) (machine cpu.old memory.old)) result
+        (machine cpu.old memory.old) (machine cpu.new memory.new) }
+{
+    turn_index::<false, IS_IY>(cpu, memory, index)
+}
+
+/// Behind DD and FD. It is compiled for IX and for IY, so that each copy knows its register.
+pub(crate) fn turn_index<const IN_RUN: bool, const IS_IY: bool>(
+    cpu: &mut Cpu,
+    memory: &mut Memory,
+    index: IndexRegister,
+) -> Step
     requires { read (bytes_at_pc (machine cpu.old memory.old)) ≡
         read_index_second index (byte_at (up_by 1 cpu.old.pc) memory.old) (machine cpu.old memory.old) }
     ensures { IsTurnBy (read_index_second index (byte_at (up_by 1 cpu.old.pc) memory.old) (machine cpu.old memory.old)) result
@@ -323,17 +354,17 @@ fn turn_index(cpu: &mut Cpu, memory: &mut Memory, index: IndexRegister) -> Step
     if let Some(step) = try_index_words(cpu, memory, index, second) {
         return step;
     }
-    if let Some(step) = try_index_bytes(cpu, memory, index, second) {
+    if let Some(step) = try_index_bytes::<IN_RUN, IS_IY>(cpu, memory, index, second) {
         return step;
     }
-    if let Some(step) = try_index_bits(cpu, memory, index, second) {
+    if let Some(step) = try_index_bits::<IN_RUN, IS_IY>(cpu, memory, index, second) {
         return step;
     }
     turn_decoded(cpu, memory)
 }
 
 /// Loads, operations and counts of a byte at IX or IY and a displacement.
-fn try_index_bytes(
+fn try_index_bytes<const IN_RUN: bool, const IS_IY: bool>(
     cpu: &mut Cpu,
     memory: &mut Memory,
     index: IndexRegister,
@@ -402,7 +433,7 @@ fn try_index_words(
 
 /// After CB, a displacement and an opcode.
 #[inline(always)]
-fn try_index_bits(
+fn try_index_bits<const IN_RUN: bool, const IS_IY: bool>(
     cpu: &mut Cpu,
     memory: &mut Memory,
     index: IndexRegister,
@@ -412,13 +443,17 @@ fn try_index_bits(
         (machine cpu.old memory.old) (machine cpu.new memory.new) }
 {
     match second {
-        0xCB => try_bits_at_index(cpu, memory, index),
+        0xCB => try_bits_at_index::<IN_RUN, IS_IY>(cpu, memory, index),
         _ => None,
     }
 }
 
 /// The rotate, shift and bit groups at IX or IY and a displacement.
-fn try_bits_at_index(cpu: &mut Cpu, memory: &mut Memory, index: IndexRegister) -> Option<Step>
+fn try_bits_at_index<const IN_RUN: bool, const IS_IY: bool>(
+    cpu: &mut Cpu,
+    memory: &mut Memory,
+    index: IndexRegister,
+) -> Option<Step>
     ensures { IsTurnOrNone (read_index_second index 0xCB (machine cpu.old memory.old)) result
         (machine cpu.old memory.old) (machine cpu.new memory.new) }
 {

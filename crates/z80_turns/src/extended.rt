@@ -64,6 +64,28 @@ pub fn turn_negate(cpu: &mut Cpu, memory: &mut Memory) -> Step
     Step::Done
 }
 
+/// RLD.
+#[inline(always)]
+pub fn turn_rotate_digits_left(cpu: &mut Cpu, memory: &mut Memory) -> Step
+    ensures { IsTurnOf (Instr.Rld) 2 result
+        (machine cpu.old memory.old) (machine cpu.new memory.new) }
+{
+    pass(cpu, 2);
+    cpu.rotate_digits_left(memory);
+    Step::Done
+}
+
+/// RRD.
+#[inline(always)]
+pub fn turn_rotate_digits_right(cpu: &mut Cpu, memory: &mut Memory) -> Step
+    ensures { IsTurnOf (Instr.Rrd) 2 result
+        (machine cpu.old memory.old) (machine cpu.new memory.new) }
+{
+    pass(cpu, 2);
+    cpu.rotate_digits_right(memory);
+    Step::Done
+}
+
 #[inline(always)]
 pub fn turn_block(
     cpu: &mut Cpu,
@@ -79,6 +101,7 @@ pub fn turn_block(
     Step::Done
 }
 
+/// Any instruction behind a prefix, by its group: of those that are rare.
 pub fn turn_behind_prefix(cpu: &mut Cpu, memory: &mut Memory, instr: Instr) -> Step
     ensures done { result ≡ Step.Done }
     ensures carried { machine cpu.new memory.new ≡ carried_out instr 2 (machine cpu.old memory.old) }

@@ -31,7 +31,8 @@ pub use control::{
 pub use counts::{turn_decrement, turn_decrement_at_hl, turn_increment, turn_increment_at_hl};
 pub use extended::{
     turn_add_pair_with_carry, turn_behind_prefix, turn_block, turn_load_pair_from, turn_negate,
-    turn_store_pair, turn_subtract_pair_with_carry,
+    turn_rotate_digits_left, turn_rotate_digits_right, turn_store_pair,
+    turn_subtract_pair_with_carry,
 };
 pub use indexed::{
     turn_add_index, turn_decrement_index, turn_decrement_indexed, turn_exchange_index,

@@ -6,6 +6,7 @@ use Rattle.std.specs.List.{AllByRecursion}
 use Rattle.z80_table.specs.Reading.{Entry, read, read_page, read_index}
 use Rattle.z80_table.specs.declared.DecodeFault.{DecodeFault}
 use Rattle.z80_machine.specs.Types.{IndexRegister, Instr, Step}
+use Rattle.z80_machine.specs.declared.opcodes.Row.{Row}
 use Rattle.z80_cpu.specs.State.{Machine, byte_at, up_by}
 use Rattle.z80_turns.specs.Turning.{IsTurnOf}
 
@@ -35,3 +36,11 @@ IsTurnBy (Err _) step old new = (step ≡ Step.Undocumented) × (new ≡ old)
 abbrev pub IsTurnOrNone : Result (Instr × ℕ) DecodeFault → Option Step → Machine → Machine → Type 0
 IsTurnOrNone read (Some step) old new = IsTurnBy read step old new
 IsTurnOrNone read None old new = new ≡ old
+
+-- a turn by it, or a prefix stands there and nothing has changed
+abbrev pub IsRow : ℕ → Row → Machine → Machine → Type 0
+IsRow opcode (Row.Turned step) old new = IsTurnBy (read_from opcode old) step old new
+IsRow opcode Row.Bits old new = (opcode ≡ 0xCB) × (new ≡ old)
+IsRow opcode Row.Extended old new = (opcode ≡ 0xED) × (new ≡ old)
+IsRow opcode Row.Ix old new = (opcode ≡ 0xDD) × (new ≡ old)
+IsRow opcode Row.Iy old new = (opcode ≡ 0xFD) × (new ≡ old)
