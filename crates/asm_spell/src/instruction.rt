@@ -6,16 +6,18 @@ ghost use Rattle.std.specs.Option.{option_and_then, option_map};
 ghost use Rattle.asm_scan.specs.Tokens.{lexemes};
 ghost use Rattle.z80_form.specs.Numbers.{field_of};
 ghost use Rattle.asm_parse.specs.Few.{all};
-ghost use Rattle.asm_spell.specs.Faults.{Gives};
+ghost use Rattle.asm_spell.specs.Faults.{Gives, each};
 ghost use Rattle.asm_spell.specs.Line.{body_of};
+ghost use Rattle.asm_spell.specs.Operands.{pieces, written};
 ghost use Rattle.asm_spell.specs.Spelling.{instruction, instruction_by, jump_to, name_in, number, target_by};
-ghost use Rattle.asm_spell.specs.Private.Cutting.{holds};
+ghost use Rattle.asm_spell.specs.Private.Choices.{jumps};
+ghost use Rattle.asm_spell.specs.Private.Cutting.{holds, with_others};
 
+use crate::cut::{Operand, each_left, first_operand};
 use crate::fault::StmtFault;
-use crate::jump::jump_of;
+use crate::jump::{Jump, jump_of};
 use crate::line::Body;
 use crate::operand::Written;
-use crate::operands::{Operands, read_operands};
 use asm_parse::{Few, Item, Term, Tree};
 use asm_scan::Token;
 use std::alloc::{AllocError, Global};
@@ -43,12 +45,12 @@ fn target_by(operand: &Written) -> Option<&[u8]>
 }
 
 /// The jump to one name that an instruction is with its last operand.
-fn jump(alloc: Global, instr: Instr, last: &Written) -> Result<Option<Body>, AllocError>
-    ensures { IfOk result (λ found. option_map body_of found ≡ option_and_then (jump_to instr) (target_by (holds last.now))) }
+fn jump(instr: Instr, last: &Written) -> Option<(Jump, &[u8])>
+    ensures { option_map (λ to. jumps to.0 to.1.now) result ≡ option_and_then (jump_to instr) (target_by (holds last.now)) }
 {
-    match (jump_of(instr), target_by(last)) {
-        (Some(jump), Some(name)) => Ok(Some(jump.to(Vec::from_slice(alloc, name)?))),
-        _ => Ok(None),
+    match jump_of(instr) {
+        Some(jump) => target_by(last).map(|name| (jump, name)),
+        None => None,
     }
 }
 
@@ -97,10 +99,13 @@ fn with_one(alloc: Global, mnemonic: Mnemonic, only: Written) -> Result<Body, St
     let Some(instr) = z80_form::instruction(mnemonic, &[only.form]) else {
         return Err(StmtFault::BadOperands);
     };
-    if let Some(body) = jump(alloc, instr, &only)? {
-        return Ok(body);
+    if let Some((jump, name)) = jump(instr, &only) {
+        return Ok(jump.to(Vec::from_slice(alloc, name)?));
     }
-    let numbers = numbers(alloc, number(instr, only), None)?;
+    let numbers = match number(instr, only) {
+        Some(found) => Few::One([found]),
+        None => Few::Many(Vec::new(alloc)),
+    };
     Ok(Body::Code { instr, numbers })
 }
 
@@ -116,11 +121,32 @@ fn with_two(
     let Some(instr) = z80_form::instruction(mnemonic, &[left.form, right.form]) else {
         return Err(StmtFault::BadOperands);
     };
-    if let Some(body) = jump(alloc, instr, &right)? {
-        return Ok(body);
+    if let Some((jump, name)) = jump(instr, &right) {
+        return Ok(jump.to(Vec::from_slice(alloc, name)?));
     }
     let numbers = numbers(alloc, number(instr, left), number(instr, right))?;
     Ok(Body::Code { instr, numbers })
+}
+
+/// What a mnemonic spells with an operand, and with those that tokens are behind its comma.
+fn with_more(
+    alloc: Global,
+    mnemonic: Mnemonic,
+    left: Written,
+    tokens: &[Token<'_>],
+) -> Result<Body, StmtFault>
+    ensures { Gives body_of result (with_others mnemonic (holds left) (each written (pieces 0 (lexemes tokens.entry.now)))) }
+{
+    let (operand, behind) = first_operand(tokens);
+    let right = Written::read(alloc, operand)?;
+    if behind.is_none() {
+        return with_two(alloc, mnemonic, left, right);
+    }
+    // A fault of theirs comes before that of their number.
+    let _others: Vec<Written> = each_left(alloc, behind)?;
+    // Called for what it says: no instruction has three operands.
+    z80_form::laws::spelled();
+    Err(StmtFault::BadOperands)
 }
 
 /// What a mnemonic and the tokens behind it spell.
@@ -131,13 +157,13 @@ pub(crate) fn instruction(
 ) -> Result<Body, StmtFault>
     ensures { Gives body_of result (instruction mnemonic (lexemes tokens.entry.now)) }
 {
-    match read_operands(alloc, tokens)? {
-        Operands::None => bare(alloc, mnemonic),
-        Operands::One(only) => with_one(alloc, mnemonic, only),
-        Operands::Two(left, right) => with_two(alloc, mnemonic, left, right),
-        Operands::More => {
-            z80_form::laws::spelled();
-            Err(StmtFault::BadOperands)
-        }
+    if tokens.is_empty() {
+        return bare(alloc, mnemonic);
+    }
+    let (operand, behind) = first_operand(tokens);
+    let first = Written::read(alloc, operand)?;
+    match behind {
+        Some(rest) => with_more(alloc, mnemonic, first, rest),
+        None => with_one(alloc, mnemonic, first),
     }
 }

@@ -12,7 +12,6 @@ mod jump;
 pub mod laws;
 mod line;
 mod operand;
-mod operands;
 mod spelling;
 
 pub use asm_parse::is_name;

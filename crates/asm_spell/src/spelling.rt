@@ -1,6 +1,6 @@
 //! From tokens to a line.
 
-ghost use Rattle.std.specs.Prelude.{◌≡◌, IfErr, Some};
+ghost use Rattle.std.specs.Prelude.{◌≡◌, IfErr, IfOk, None, Some};
 ghost use Rattle.std.specs.Option.{option_map};
 ghost use Rattle.asm_scan.specs.Tokens.{lexemes};
 ghost use Rattle.std.specs.List.{list_any};
@@ -17,7 +17,7 @@ use crate::operand::expression;
 use asm_line::{Form, Head, form_of};
 use asm_scan::Token;
 use asm_words::is_reserved;
-use std::alloc::Global;
+use std::alloc::{AllocError, Global};
 use z80_form::mnemonic_of;
 
 /// What a word and the tokens behind it spell.
@@ -55,30 +55,49 @@ fn passes_reserved(body: &Body) -> bool
     }
 }
 
-/// Whether the label of a line or a name in its statement is reserved.
-fn has_reserved(label: &Option<Vec<u8>>, body: &Option<Body>) -> bool
-    ensures { result ≡ has_reserved (option_map (λ name. name.items) label.now) (option_map body_of body.now) }
+/// Whether a line has a label that is reserved.
+fn is_reserved_label(label: &Option<Vec<u8>>) -> bool
+    ensures { result ≡ has_reserved (option_map (λ name. name.items) label.now) None }
 {
-    match (label, body) {
-        (Some(label), Some(body)) => is_reserved(label) || passes_reserved(body),
-        (Some(label), None) => is_reserved(label),
-        (None, Some(body)) => passes_reserved(body),
-        (None, None) => false,
+    match label {
+        Some(name) => is_reserved(name),
+        None => false,
     }
 }
 
-/// A label and a statement, each if the line has one.
-fn labelled(alloc: Global, name: Option<&[u8]>, body: Option<Body>) -> Result<Line, StmtFault>
-    ensures { Gives line_of result (labelled (option_map (λ name. upper name.now) name.entry) (option_map body_of body)) }
+/// A label in upper case, if there is one.
+fn label_of(alloc: Global, name: Option<&[u8]>) -> Result<Option<Vec<u8>>, AllocError>
+    ensures { IfOk result (λ label. option_map (λ name. name.items) label ≡ option_map (λ name. upper name.now) name.entry) }
 {
-    let label = match name {
-        Some(name) => Some(name.to_ascii_uppercase(alloc)?),
-        None => None,
-    };
-    if has_reserved(&label, &body) {
+    match name {
+        Some(name) => Ok(Some(name.to_ascii_uppercase(alloc)?)),
+        None => Ok(None),
+    }
+}
+
+/// A label alone, if the line has one.
+fn unstated(alloc: Global, name: Option<&[u8]>) -> Result<Line, StmtFault>
+    ensures { Gives line_of result (labelled (option_map (λ name. upper name.now) name.entry) None) }
+{
+    let label = label_of(alloc, name)?;
+    if is_reserved_label(&label) {
         return Err(StmtFault::ReservedName);
     }
-    Ok(Line::Statement { label, body })
+    Ok(Line::Statement { label, body: None })
+}
+
+/// A label, if the line has one, and a statement.
+fn labelled(alloc: Global, name: Option<&[u8]>, body: Body) -> Result<Line, StmtFault>
+    ensures { Gives line_of result (labelled (option_map (λ name. upper name.now) name.entry) (Some (body_of body))) }
+{
+    let label = label_of(alloc, name)?;
+    if is_reserved_label(&label) || passes_reserved(&body) {
+        return Err(StmtFault::ReservedName);
+    }
+    Ok(Line::Statement {
+        label,
+        body: Some(body),
+    })
 }
 
 /// The definition of a name.
@@ -100,9 +119,9 @@ fn read(alloc: Global, tokens: &[Token<'_>]) -> Result<Line, StmtFault>
     let Form { label, head, rest } = form_of(tokens);
     match head {
         Head::Equ(name) => defined(alloc, name, rest),
-        Head::Word(word) => labelled(alloc, label, Some(operation(alloc, word, rest)?)),
+        Head::Word(word) => labelled(alloc, label, operation(alloc, word, rest)?),
         Head::Nothing => match rest {
-            [] => labelled(alloc, label, None),
+            [] => unstated(alloc, label),
             [_, ..] => Err(StmtFault::UnknownWord),
         },
         Head::Macro(_) | Head::Block(_) => Err(StmtFault::UnknownWord),
