@@ -1,3 +1,4 @@
+mod Ends
 mod Unique
 mod FewLines
 mod Stacks

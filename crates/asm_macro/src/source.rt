@@ -23,7 +23,10 @@ fn end_of(text: &[u8]) -> usize
     ensures value { result ≡ prefix_len (λ byte. not (byte == 0x1A)) text.now }
     ensures within { result ≤ length text.now }
 {
-    text.iter().take_while(|byte| **byte != 0x1A).count()
+    match text.find_byte(0x1A) {
+        Some(at) => at,
+        None => text.len(),
+    }
 }
 
 /// The text up to its first byte 1AH, CP/M's end of a text file.
