@@ -1,12 +1,12 @@
 //! Lines, as far as they spell something.
 
-ghost use Rattle.std.specs.Prelude.{◌≡◌, ◌++◌, ◌∷◌, [], IfOk, List, OnOk};
+ghost use Rattle.std.specs.Prelude.{◌≡◌, ◌++◌, ◌∷◌, [], List, OnOk};
 ghost use Rattle.asm_macro.specs.Ahead.{seen};
 ghost use Rattle.asm_macro.specs.Kept.{AreOf};
 ghost use Rattle.asm_scan.specs.Tokens.{lexemes};
 ghost use Rattle.asm_spell.specs.Spelling.{spelled};
 ghost use Rattle.asm_texts.specs.Lines.{Numbered};
-ghost use Rattle.asm_source.specs.Private.Steps.{IsReading, Reads, line_seen};
+ghost use Rattle.asm_source.specs.Private.Steps.{IsReading, Reads, ReadsLine, is_memory};
 ghost use Rattle.asm_source.specs.Read as lines;
 
 use crate::fault::LineFault;
@@ -16,33 +16,37 @@ use asm_scan::{ScanFault, Token, tokens};
 use asm_spell::{Line, StmtFault, statement};
 use std::alloc::{AllocError, Global};
 
+/// Whether memory ran out.
+fn is_memory(why: LineFault) -> bool
+    ensures { result ≡ is_memory why }
+{
+    matches!(
+        why,
+        LineFault::Stmt(StmtFault::NoMemory) | LineFault::Scan(ScanFault::NoMemory)
+    )
+}
+
 /// What the tokens of a line spell, or why they spell nothing.
-fn read_tokens(alloc: Global, tokens: &[Token<'_>]) -> Result<Result<Line, LineFault>, AllocError>
-    ensures { IfOk result (λ read. line_seen read ≡ lines.spelled_by (spelled (lexemes tokens.entry.now))) }
+fn read_tokens(alloc: Global, tokens: &[Token<'_>]) -> Result<Line, LineFault>
+    ensures { ReadsLine result (lines.spelled_by (spelled (lexemes tokens.entry.now))) }
 {
     match statement(alloc, tokens) {
-        Ok(line) => Ok(Ok(line)),
-        Err(StmtFault::NoMemory) => Err(AllocError),
-        Err(why) => Ok(Err(LineFault::Stmt(why))),
+        Ok(line) => Ok(line),
+        Err(why) => Err(LineFault::Stmt(why)),
     }
 }
 
 /// What a line spells, or why it spells nothing, by its tokens where they are kept.
-fn read_line(
-    alloc: Global,
-    text: &[u8],
-    kept: Option<Vec<Token<'_>>>,
-) -> Result<Result<Line, LineFault>, AllocError>
+fn read_line(alloc: Global, text: &[u8], kept: Option<Vec<Token<'_>>>) -> Result<Line, LineFault>
     requires { AreOf text.now kept }
-    ensures { IfOk result (λ read. line_seen read ≡ lines.read_line text.now) }
+    ensures { ReadsLine result (lines.read_line text.now) }
 {
     if let Some(found) = kept {
         return read_tokens(alloc, &found);
     }
     match tokens(alloc, text) {
         Ok(found) => read_tokens(alloc, &found),
-        Err(ScanFault::NoMemory) => Err(AllocError),
-        Err(why) => Ok(Err(LineFault::Scan(why))),
+        Err(why) => Err(LineFault::Scan(why)),
     }
 }
 
@@ -70,9 +74,14 @@ impl Reading {
             return Ok(());
         }
         let number = line.number;
-        match read_line(alloc, line.text, kept)? {
+        match read_line(alloc, line.text, kept) {
             Ok(line) => self.lines.push(SourceLine { number, line })?,
-            Err(why) => self.unread = Some((number, why)),
+            Err(why) => {
+                if is_memory(why) {
+                    return Err(AllocError);
+                }
+                self.unread = Some((number, why));
+            }
         }
         Ok(())
     }

@@ -1,5 +1,7 @@
 -- What the code's own steps answer.
-use Rattle.std.specs.Prelude.{◌≡◌, ℕ, List, Result, Ok, Err}
+use Rattle.std.specs.Prelude.{◌≡◌, ℕ, Bool, true, false, List, Result, Ok, Err}
+use Rattle.asm_scan.specs.declared.fault.ScanFault.{ScanFault}
+use Rattle.asm_spell.specs.declared.fault.StmtFault.{StmtFault}
 use Rattle.asm_spell.specs.Line.{line_of}
 use Rattle.asm_spell.specs.Line as line
 use Rattle.asm_spell.specs.declared.line.Line as code
@@ -11,10 +13,15 @@ use Rattle.asm_source.specs.declared.fault.LineFault.{LineFault}
 use Rattle.asm_source.specs.declared.reading.Reading.{Reading}
 use Rattle.asm_source.specs.Read.{taken, unread}
 
--- what a line spells, without where it lies in memory
-abbrev pub line_seen : Result code.Line LineFault → Result line.Line LineFault
-line_seen (Ok l) = Ok (line_of l)
-line_seen (Err why) = Err why
+abbrev pub is_memory : LineFault → Bool
+is_memory (LineFault.Stmt StmtFault.NoMemory) = true
+is_memory (LineFault.Scan ScanFault.NoMemory) = true
+is_memory why = false
+
+-- What a line spells, without where it lies in memory, is this, unless memory ran out.
+abbrev pub ReadsLine : Result code.Line LineFault → Result line.Line LineFault → Type 0
+ReadsLine (Ok l) read = read ≡ Ok (line_of l)
+ReadsLine (Err why) read = is_memory why ≡ false → read ≡ Err why
 
 -- Lines are read as far as they spell something.
 pub record Reads (lines : List Numbered) (r : Reading) : Type 0 where

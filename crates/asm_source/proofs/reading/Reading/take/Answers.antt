@@ -1,6 +1,5 @@
-use Rattle.std.proofs.Common.{refl, sym, ap, ◌∙◌}
+use Rattle.std.proofs.Common.{refl, sym, ◌∙◌}
 use Rattle.asm_macro.specs.Ahead.{seen}
-use Rattle.asm_source.specs.Private.Steps.{line_seen}
 use Rattle.asm_source.proofs.Taking.{stays, stopped, took}
 use Rattle.asm_source.proofs.reading.Reading.take.Goals as goal
 
@@ -9,8 +8,8 @@ returns-then-is_some c = λ before was. stays before (seen c.args.line) c.args.s
 
 pub returns-in_ok-push-in-Ok : goal.returns-in_ok-push-in-Ok
 returns-in_ok-push-in-Ok c = λ before was.
-    took before (seen c.args.line) c.args.self.now _ _ (sym c.is_some.ensures ∙ c.if-is_some.false) refl c.in_ok-push-in-Ok.ensures.items refl (ap line_seen (sym c.in-Ok.is) ∙ c.in_ok-line.ensures) was
+    took before (seen c.args.line) c.args.self.now _ _ (sym c.is_some.ensures ∙ c.if-is_some.false) refl c.in_ok-push-in-Ok.ensures.items refl (sym c.in-Ok.ensures) was
 
-pub returns-in-Err : goal.returns-in-Err
-returns-in-Err c = λ before was.
-    stopped before (seen c.args.line) c.args.self.now _ c.in-Err.why (sym c.is_some.ensures ∙ c.if-is_some.false) refl refl (ap line_seen (sym c.in-Err.is) ∙ c.in_ok-line.ensures) was
+pub returns-else-is_memory : goal.returns-else-is_memory
+returns-else-is_memory c = λ before was.
+    stopped before (seen c.args.line) c.args.self.now _ c.in-Err.why (sym c.is_some.ensures ∙ c.if-is_some.false) refl refl (sym (c.in-Err.ensures (sym c.if-is_memory.ensures))) was
