@@ -1,13 +1,6 @@
-//! Tests of the expander and of the crates below it by their public calls: what a line says first, whole names replaced and
-//! the arguments of a call, which line closes which, and whole expansions. Each of these calls may answer that memory is out, so a body that always
-//! does meets its contract: with ample memory, these tests refuse it.
+//! Tests of the expander by its public calls: whole expansions, and their lines one by one. Each of these calls may answer that
+//! memory is out, so a body that always does meets its contract: with ample memory, these tests refuse it.
 #![tactic(auto)]
 
-#[cfg(test)]
-mod blocks;
-#[cfg(test)]
-mod calls;
-#[cfg(test)]
-mod lines;
 #[cfg(test)]
 mod whole;
