@@ -179,7 +179,9 @@ pub(crate) fn read_lists(
 ) -> Result<(Lists, &[u8]), FieldFault>
     ensures { Gives (λ x. (lists_of x.0, x.1.now)) result (lists_at (counts_of counts) bytes.now) }
 {
-    let mut names = Names::new(alloc, NameKey::of(bytes));
+    let most = room(counts.labels, LEAST_LABEL, bytes)
+        + room(counts.externals, LEAST_EXTERNAL, bytes);
+    let mut names = Names::with_capacity(alloc, most, NameKey::of(bytes))?;
     let (labels, rest) = labels(alloc, counts.statements, counts.labels, &mut names, bytes)?;
     let (publics, rest) = publics(alloc, usize::from(counts.labels), counts.publics, rest)?;
     let (externals, rest) = externals(alloc, counts.externals, &mut names, rest)?;

@@ -24,13 +24,17 @@ impl<'a> Model for Names<'a> {
 }
 
 impl<'a> Names<'a> {
-    /// No names, which are to be looked up by a key.
-    pub(crate) fn new(alloc: Global, key: NameKey) -> Names<'a>
-        ensures { result ≡ [] }
+    /// No names, which are to be looked up by a key, with room for so many.
+    pub(crate) fn with_capacity(
+        alloc: Global,
+        count: usize,
+        key: NameKey,
+    ) -> Result<Names<'a>, AllocError>
+        ensures { IfOk result (λ names. names ≡ []) }
     {
-        Names {
-            set: IndexSet::with_hasher(alloc, key),
-        }
+        Ok(Names {
+            set: IndexSet::with_capacity_and_hasher(alloc, count, key)?,
+        })
     }
 
     /// Adds a name, and answers whether it was not there.
