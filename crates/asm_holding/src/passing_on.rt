@@ -4,7 +4,7 @@ ghost use Rattle.std.specs.Prelude.{◌≡◌, ◌≤◌, ◌++◌, ◌||◌, []
 ghost use Rattle.std.specs.List.{cons_option, list_any};
 ghost use Rattle.std.specs.Option.{option_map};
 ghost use Rattle.std.specs.Str.{bytes_eq};
-ghost use Rattle.asm_spell.specs.Line.{line_of, names_of};
+ghost use Rattle.asm_spell.specs.Line.{line_of, listed_of};
 ghost use Rattle.asm_equ.specs.Layout.{layout_of};
 ghost use Rattle.asm_equ.specs.Meanings.{external_in, externals};
 ghost use Rattle.asm_names.specs.Lines.{lines_of};
@@ -15,7 +15,7 @@ ghost use Rattle.asm_holding.specs.Holding.{begins, entry, entry_name, is_origin
 use crate::listed::Listed;
 use asm_equ::Layout;
 use asm_names::{Kind, NameTable, SourceLine};
-use asm_spell::{Body, Line};
+use asm_spell::{Body, Line, ListedName};
 use std::alloc::{AllocError, Global};
 use zmo_module::Label;
 
@@ -109,8 +109,8 @@ pub fn begins(lines: &[SourceLine]) -> bool
 }
 
 /// Adds the names that a PUBLIC lists.
-fn list_names<'a>(names: &'a [Vec<u8>], listed: &mut Listed<'a>) -> Result<(), AllocError>
-    ensures { OnOk result ((name : List ℕ) → list_any (bytes_eq name) listed.new ≡ (list_any (bytes_eq name) listed.old || list_any (bytes_eq name) (names_of names.now))) }
+fn list_names<'a>(names: &'a [ListedName], listed: &mut Listed<'a>) -> Result<(), AllocError>
+    ensures { OnOk result ((name : List ℕ) → list_any (bytes_eq name) listed.new ≡ (list_any (bytes_eq name) listed.old || list_any (bytes_eq name) (listed_of names.now))) }
 {
     for name in names {
         listed.add(name)?;

@@ -85,7 +85,9 @@ fn mix(mixer: &mut KeyMixer, line: &Line) {
                 mixer.mix(name);
             }
             if let Some(Body::External(names)) = body {
-                mixer.mix_all(names);
+                for name in names {
+                    mixer.mix(name);
+                }
             }
         }
     }

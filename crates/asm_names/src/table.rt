@@ -2,14 +2,14 @@
 
 ghost use Rattle.std.specs.Prelude.{◌≡◌, List, [], ◌∷◌, ◌++◌, ℕ, Option, None, OnOk, length, map, option_copied, slice_get, Vec};
 ghost use Rattle.std.specs.Option.{option_map};
-ghost use Rattle.asm_spell.specs.Line.{body_of, line_of, names_of};
+ghost use Rattle.asm_spell.specs.Line.{body_of, line_of, listed_of};
 ghost use Rattle.asm_names.specs.declared.kind.Kind.{Kind};
 ghost use Rattle.asm_names.specs.Names.{Names, declared, defines, kind_of, labelled};
 ghost use Rattle.asm_names.specs.Private.Steps.{TakesUp, externals};
 
 use crate::fault::NameFault;
 use crate::kind::Kind;
-use asm_spell::{Body, Line};
+use asm_spell::{Body, Line, ListedName};
 use indexmap::IndexMap;
 use name_key::NameKey;
 use std::alloc::{AllocError, Global};
@@ -93,8 +93,8 @@ impl NameTable {
     }
 
     /// Adds the names of an EXTRN.
-    fn declare(&mut self, names: &[Vec<u8>]) -> Result<(), NameFault>
-        ensures { TakesUp self.old (externals (names_of names.now)) result self.new }
+    fn declare(&mut self, names: &[ListedName]) -> Result<(), NameFault>
+        ensures { TakesUp self.old (externals (listed_of names.now)) result self.new }
     {
         for name in names {
             self.add(name, Kind::External)?;

@@ -2,6 +2,7 @@
 use Rattle.std.specs.Prelude.{ℕ, List, Option, map, Vec}
 use Rattle.std.specs.Option.{option_map}
 use Rattle.std.specs.Global.{Global}
+use Rattle.smallvec.specs.SmallVec.{SmallVec}
 use Rattle.asm_parse.specs.declared.item.Item.{Item}
 use Rattle.asm_parse.specs.Few.{all}
 use Rattle.asm_parse.specs.Source.{Operand}
@@ -51,6 +52,9 @@ value_of (value.TheVariants.Byte e) = Byte e
 abbrev pub names_of : List (Vec ℕ Global) → List (List ℕ)
 names_of names = map (λ name. name.items) names
 
+abbrev pub listed_of : List (SmallVec ℕ) → List (List ℕ)
+listed_of names = map (λ name. name.items) names
+
 abbrev pub body_of : body.Body → Body
 body_of (body.TheVariants.Code instr numbers) = Code instr (all numbers)
 body_of (body.TheVariants.Jump condition target) = Jump condition target.items
@@ -58,8 +62,8 @@ body_of (body.TheVariants.Short branch target) = Short branch target.items
 body_of (body.TheVariants.Bytes values) = Bytes (map value_of values.items)
 body_of (body.TheVariants.Words fields) = Words fields.items
 body_of (body.TheVariants.Space size fill) = Space size fill
-body_of (body.TheVariants.Public names) = Public (names_of names.items)
-body_of (body.TheVariants.External names) = External (names_of names.items)
+body_of (body.TheVariants.Public names) = Public (listed_of names.items)
+body_of (body.TheVariants.External names) = External (listed_of names.items)
 body_of (body.TheVariants.Origin e) = Origin e
 body_of (body.TheVariants.End entry) = End (option_map (λ name. name.items) entry)
 body_of body.TheVariants.Z80 = Z80

@@ -7,14 +7,14 @@ ghost use Rattle.std.specs.Map.{lookup};
 ghost use Rattle.std.specs.Str.{str_eq_ignore_ascii_case};
 ghost use Rattle.asm_scan.specs.Tokens.{lexemes};
 ghost use Rattle.asm_spell.specs.Faults.{Gives};
-ghost use Rattle.asm_spell.specs.Line.{body_of, names_of, value_of};
+ghost use Rattle.asm_spell.specs.Line.{body_of, listed_of, names_of, value_of};
 ghost use Rattle.asm_spell.specs.Directives.{content, directive, end, entry, is_empty_text, nameless, names_in, of_bytes, of_nothing, of_origin, of_space, of_words, text_alone, text_by};
 ghost use Rattle.asm_spell.specs.Private.Choices as choices;
 ghost use Rattle.asm_spell.specs.Private.Choices.{directs};
 
 use crate::cut::{Operand, each};
 use crate::fault::StmtFault;
-use crate::line::{Body, Value};
+use crate::line::{Body, ListedName, Value};
 use crate::operand::{expression, is_one_name};
 use asm_parse::Tree;
 use asm_scan::{Kind, Token};
@@ -308,6 +308,17 @@ fn names(alloc: Global, tokens: &[Token<'_>]) -> Result<Vec<Vec<u8>>, StmtFault>
     }
 }
 
+/// The names of a list that is kept.
+fn listed(alloc: Global, names: &[Vec<u8>]) -> Result<Vec<ListedName>, AllocError>
+    ensures { IfOk result (λ all. listed_of all.items ≡ names_of names.now) }
+{
+    let mut all = Vec::with_capacity(alloc, names.len())?;
+    for name in names {
+        all.push(ListedName::from_slice(alloc, name)?)?;
+    }
+    Ok(all)
+}
+
 /// `END` with names.
 fn entry(mut names: Vec<Vec<u8>>) -> Result<Body, StmtFault>
     ensures { Gives body_of result (entry (names_of names.items)) }
@@ -340,8 +351,8 @@ pub(crate) fn spell_directive(
         Directive::Bytes => bytes(alloc, tokens),
         Directive::Words => words(alloc, tokens),
         Directive::Space => space(alloc, tokens),
-        Directive::Public => Ok(Body::Public(names(alloc, tokens)?)),
-        Directive::External => Ok(Body::External(names(alloc, tokens)?)),
+        Directive::Public => Ok(Body::Public(listed(alloc, &names(alloc, tokens)?)?)),
+        Directive::External => Ok(Body::External(listed(alloc, &names(alloc, tokens)?)?)),
         Directive::Origin => origin(alloc, tokens),
         Directive::End => end(alloc, tokens),
         Directive::Z80 => nothing(alloc, tokens),

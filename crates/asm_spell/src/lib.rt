@@ -16,6 +16,6 @@ mod spelling;
 
 pub use asm_parse::is_name;
 pub use fault::StmtFault;
-pub use line::{Body, Line, Value};
+pub use line::{Body, Line, ListedName, Value};
 pub use spelling::statement;
 pub use z80_instr::Branch;

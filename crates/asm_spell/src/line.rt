@@ -1,8 +1,12 @@
 //! The forms of a line.
 
 use asm_parse::{Few, Tree};
+use smallvec::SmallVec;
 use z80_form::Field;
 use z80_instr::{Branch, Instr, ShortCond};
+
+/// A name of a list. A line may list more than a hundred short ones, which lie in place, so that none takes memory of its own.
+pub type ListedName = SmallVec<u8, 16>;
 
 /// A value of `DB`.
 #[derive(Debug, Drop)]
@@ -40,9 +44,9 @@ pub enum Body {
         fill: Option<Tree>,
     },
     /// `PUBLIC`
-    Public(Vec<Vec<u8>>),
+    Public(Vec<ListedName>),
     /// `EXTRN`
-    External(Vec<Vec<u8>>),
+    External(Vec<ListedName>),
     /// `ORG`
     Origin(Tree),
     /// `END`, with the name of the entry if it has one.

@@ -6,13 +6,13 @@ ghost use Rattle.asm_scan.specs.Tokens.{lexemes};
 ghost use Rattle.std.specs.List.{list_any};
 ghost use Rattle.asm_words.specs.Words.{upper, is_reserved};
 ghost use Rattle.asm_spell.specs.Faults.{Gives, IsOfTokens};
-ghost use Rattle.asm_spell.specs.Line.{body_of, line_of, names_of};
+ghost use Rattle.asm_spell.specs.Line.{body_of, line_of, listed_of};
 ghost use Rattle.asm_spell.specs.Spelling.{body_names, defined, has_reserved, labelled, operation, spelled};
 
 use crate::directive::{directive_named, spell_directive};
 use crate::fault::StmtFault;
 use crate::instruction::instruction;
-use crate::line::{Body, Line};
+use crate::line::{Body, Line, ListedName};
 use crate::operand::expression;
 use asm_line::{Form, Head, form_of};
 use asm_scan::Token;
@@ -33,8 +33,8 @@ fn operation(alloc: Global, name: &[u8], tokens: &[Token<'_>]) -> Result<Body, S
     }
 }
 
-fn any_reserved(names: &[Vec<u8>]) -> bool
-    ensures { result ≡ list_any is_reserved (names_of names.now) }
+fn any_reserved(names: &[ListedName]) -> bool
+    ensures { result ≡ list_any is_reserved (listed_of names.now) }
 {
     for name in names {
         if is_reserved(name) {
