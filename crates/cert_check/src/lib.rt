@@ -2,7 +2,8 @@
 //! which statement each jump goes to.
 //!
 //! [`check`] reads both texts and answers what they show: the fewest bytes of the program, or that no choice fits, because
-//! of a jump or of the size. It trusts nobody: whoever made the texts, a yes holds of every choice of short and long jumps. It shares no code with the program that makes certificates.
+//! of a jump or of the size. It trusts nobody: whoever made the texts, a yes holds of every choice of short and long jumps.
+//! It shares no code with the program that makes certificates.
 #![tactic(auto)]
 
 mod checker;
