@@ -11,7 +11,7 @@ use Rattle.asm_sections.specs.Onward as onward
 use Rattle.asm_macro.specs.Private.Entering.{Entered}
 use Rattle.asm_macro.specs.Private.Frames.{around_seen, innermost, turns_in}
 use Rattle.asm_texts.specs.Spans.{lines_from, text_of}
-use Rattle.asm_macro.specs.Private.Moves.{IsSound, rest_of, state_of, tables_in, texts_in}
+use Rattle.asm_macro.specs.Private.Moves.{IsSound, rest_of, state_of, tables_in}
 use Rattle.asm_texts.specs.Prepared.{SaySame, body_texts}
 
 abbrev pub Replaces : Type 0
@@ -29,18 +29,18 @@ lines_are law t u same number at (x ∷ xs) =
 
 pub entered : Replaces → (x : Expansion) (tables : List Table) (around : List Following) (t u : Table) (number counter : ℕ) (body : Span) → IsSound x → SaySame t u
     → tables ≡ t ∷ tables_in x → around ≡ Following.Rest x.text ∷ reverse x.around.items
-    → Entered (rest_of x) number u (body_texts (texts_in x) body) counter (record {
+    → Entered (rest_of x) number u (body_texts x.lines body) counter (record {
       depth = length tables + x.turns;
       state = record (state_of x) { counter = counter };
-      text = text_of (texts_in x) (innermost tables) (record body { number = Some number });
-      around = around_seen (texts_in x) tables around;
+      text = text_of x.lines (innermost tables) (record body { number = Some number });
+      around = around_seen x.lines tables around;
     })
 entered law x tables around t u number counter body sound same is out =
     let depth : length (t ∷ tables_in x) + x.turns ≡ (length (tables_in x) + x.turns) + 1 = omega arith in
-    let lines = lines_are law t u same number body.at (body_texts (texts_in x) body) in
-    let next = onward.Rest (text_of (texts_in x) (innermost (tables_in x)) x.text) in
-    ap (λ ts. record { depth = length ts + x.turns; state = record (state_of x) { counter = counter }; text = text_of (texts_in x) (innermost ts) (record body { number = Some number }); around = around_seen (texts_in x) ts around }) is
-    ∙ ap (λ fs. record { depth = length (t ∷ tables_in x) + x.turns; state = record (state_of x) { counter = counter }; text = text_of (texts_in x) (Some t) (record body { number = Some number }); around = around_seen (texts_in x) (t ∷ tables_in x) fs }) out
-    ∙ ap (λ d. record { depth = d; state = record (state_of x) { counter = counter }; text = text_of (texts_in x) (Some t) (record body { number = Some number }); around = record { depth = length (tables_in x) + turns_in (reverse x.around.items); next = next } ∷ (rest_of x).around }) depth
+    let lines = lines_are law t u same number body.at (body_texts x.lines body) in
+    let next = onward.Rest (text_of x.lines (innermost (tables_in x)) x.text) in
+    ap (λ ts. record { depth = length ts + x.turns; state = record (state_of x) { counter = counter }; text = text_of x.lines (innermost ts) (record body { number = Some number }); around = around_seen x.lines ts around }) is
+    ∙ ap (λ fs. record { depth = length (t ∷ tables_in x) + x.turns; state = record (state_of x) { counter = counter }; text = text_of x.lines (Some t) (record body { number = Some number }); around = around_seen x.lines (t ∷ tables_in x) fs }) out
+    ∙ ap (λ d. record { depth = d; state = record (state_of x) { counter = counter }; text = text_of x.lines (Some t) (record body { number = Some number }); around = record { depth = length (tables_in x) + turns_in (reverse x.around.items); next = next } ∷ (rest_of x).around }) depth
     ∙ ap (λ ls. record { depth = (rest_of x).depth + 1; state = record (state_of x) { counter = counter }; text = ls; around = record { depth = length (tables_in x) + turns_in (reverse x.around.items); next = next } ∷ (rest_of x).around }) lines
-    ∙ ap (λ n. record { depth = (rest_of x).depth + 1; state = record (state_of x) { counter = counter }; text = body_lines number u (body_texts (texts_in x) body); around = record { depth = length (tables_in x) + n; next = next } ∷ (rest_of x).around }) (sym sound.turns)
+    ∙ ap (λ n. record { depth = (rest_of x).depth + 1; state = record (state_of x) { counter = counter }; text = body_lines number u (body_texts x.lines body); around = record { depth = length (tables_in x) + n; next = next } ∷ (rest_of x).around }) (sym sound.turns)

@@ -17,7 +17,7 @@ use Rattle.asm_macro.specs.Ahead as ahead
 use Rattle.asm_macro.specs.Ahead.{Around}
 use Rattle.asm_macro.specs.Private.Frames.{around_seen, below, innermost, outside, turns_in}
 use Rattle.asm_macro.specs.Private.Going.{Enters, Fits, FitsNext, turn_in}
-use Rattle.asm_macro.specs.Private.Moves.{IsSound, Moved, On, Resumes, Sound, in_text, moved, next_move, rest_of, state_of, tables_in, texts_in}
+use Rattle.asm_macro.specs.Private.Moves.{IsSound, Moved, On, Resumes, Sound, in_text, moved, next_move, rest_of, state_of, tables_in}
 use Rattle.asm_macro.proofs.Stacks.{pushed}
 
 -- A text within begins; a turn of a REPT is counted.
@@ -52,11 +52,11 @@ fits_into many texts names o s f is fits = subst (λ p. Fits many (onward_seen t
 abbrev pub WithTurn : Expansion → Following → Expansion → Type 0
 WithTurn x f y = y ≡ record x { count = x.count + turn_in f; turns = x.turns + turn_in f }
 
-pub gone_into : (x y : Expansion) (after : List Following) (f : Following) (text : Span) (many : ℕ) → IsSound x → FitsNext many (next_of (texts_in x) (innermost (tables_in x)) f) → WithTurn x f y → after ≡ y.around.items ++ f ∷ []
-    → moved (rest_of x).depth (rest_of x).around (Within [] (state_of y) ((rest_of x).depth + turn_in f) (text_of (texts_in x) (innermost (tables_in x)) text) (next_of (texts_in x) (innermost (tables_in x)) f))
-    ≡ On [] (record { depth = length (tables_in y) + y.turns; state = state_of y; text = text_of (texts_in y) (innermost (tables_in y)) text; around = around_seen (texts_in y) (tables_in y) (reverse after) })
+pub gone_into : (x y : Expansion) (after : List Following) (f : Following) (text : Span) (many : ℕ) → IsSound x → FitsNext many (next_of x.lines (innermost (tables_in x)) f) → WithTurn x f y → after ≡ y.around.items ++ f ∷ []
+    → moved (rest_of x).depth (rest_of x).around (Within [] (state_of y) ((rest_of x).depth + turn_in f) (text_of x.lines (innermost (tables_in x)) text) (next_of x.lines (innermost (tables_in x)) f))
+    ≡ On [] (record { depth = length (tables_in y) + y.turns; state = state_of y; text = text_of y.lines (innermost (tables_in y)) text; around = around_seen y.lines (tables_in y) (reverse after) })
 gone_into x y after f text many sound fits kept is =
-    let T = texts_in x in
+    let T = x.lines in
     let N = tables_in x in
     let out = inner many T (innermost N) f N fits in
     let depth : (length N + x.turns) + turn_in f ≡ length N + (x.turns + turn_in f) = omega arith in
@@ -65,14 +65,14 @@ gone_into x y after f text many sound fits kept is =
     ∙ ap (λ t. record { depth = length N + t; next = next_of T (innermost N) f } ∷ (rest_of x).around) (sym sound.turns) in
     ap (λ d. On [] (record { depth = d; state = state_of y; text = text_of T (innermost N) text; around = record { depth = length N + x.turns; next = next_of T (innermost N) f } ∷ (rest_of x).around })) depth
     ∙ ap (λ a. On [] (record { depth = length N + (x.turns + turn_in f); state = state_of y; text = text_of T (innermost N) text; around = a })) (sym seen)
-    ∙ ap (λ z. On [] (record { depth = length (tables_in z) + z.turns; state = state_of y; text = text_of (texts_in z) (innermost (tables_in z)) text; around = around_seen (texts_in z) (tables_in z) (reverse after) })) (sym kept)
+    ∙ ap (λ z. On [] (record { depth = length (tables_in z) + z.turns; state = state_of y; text = text_of z.lines (innermost (tables_in z)) text; around = around_seen z.lines (tables_in z) (reverse after) })) (sym kept)
 
 pub sound_into : (x y : Expansion) (after : List Following) (f : Following) (texts : List (List ℕ)) (names : Option Table) → IsSound x
     → FitsNext (length x.calls.items + x.turns) (next_of texts names f) → WithTurn x f y → y.count ≤ 60000 → after ≡ y.around.items ++ f ∷ []
-    → Sound (texts_in y) (tables_in y) (reverse after) (length y.lines.items) (length y.calls.items) y.turns y.count y.book (reverse y.books.items) y.source y.macros.entries y.calls.items
+    → Sound y.lines (tables_in y) (reverse after) (length y.calls.items) y.turns y.count y.book (reverse y.books.items) y.source y.macros.entries y.calls.items
 sound_into x y after f texts names sound fits kept few is =
     let around = ap reverse (is ∙ ap (λ z. z.around.items ++ f ∷ []) kept) ∙ pushed x.around.items f in
-    subst (λ z. Sound (texts_in z) (tables_in z) (reverse after) (length z.lines.items) (length z.calls.items) z.turns z.count z.book (reverse z.books.items) z.source z.macros.entries z.calls.items) (sym kept) (record {
+    subst (λ z. Sound z.lines (tables_in z) (reverse after) (length z.calls.items) z.turns z.count z.book (reverse z.books.items) z.source z.macros.entries z.calls.items) (sym kept) (record {
       short = sound.short;
       turns = ap (λ n. n + turn_in f) sound.turns ∙ sym (turn_more f (reverse x.around.items)) ∙ ap turns_in (sym around);
       shallow = omega (arith, fits_turn (length x.calls.items + x.turns) texts names f fits sound.shallow);
@@ -86,11 +86,11 @@ sound_into x y after f texts names sound fits kept few is =
 
 -- what follows a text that is over
 pub popped : (x : Expansion) (left : List Following) (f : Following) → (rest_of x).text ≡ [] → x.around.items ≡ left ++ f ∷ []
-    → next_move (rest_of x) ≡ moved (length (outside f (tables_in x)) + turns_in (reverse left)) (around_seen (texts_in x) (outside f (tables_in x)) (reverse left))
-    (resumed (length (outside f (tables_in x)) + turns_in (reverse left)) (next_of (texts_in x) (innermost (outside f (tables_in x))) f) (state_of x))
+    → next_move (rest_of x) ≡ moved (length (outside f (tables_in x)) + turns_in (reverse left)) (around_seen x.lines (outside f (tables_in x)) (reverse left))
+    (resumed (length (outside f (tables_in x)) + turns_in (reverse left)) (next_of x.lines (innermost (outside f (tables_in x))) f) (state_of x))
 popped x left f over is =
     ap (λ t. in_text (rest_of x).depth (state_of x) t (rest_of x).around) over
-    ∙ ap (λ fs. in_text (rest_of x).depth (state_of x) [] (around_seen (texts_in x) (tables_in x) fs)) (ap reverse is ∙ pushed left f)
+    ∙ ap (λ fs. in_text (rest_of x).depth (state_of x) [] (around_seen x.lines (tables_in x) fs)) (ap reverse is ∙ pushed left f)
 
 pub turns_popped : (x : Expansion) (left : List Following) (n number : ℕ) (body : Block) → IsSound x → x.around.items ≡ left ++ Following.Turns n number body ∷ [] → turns_in (reverse left) ≡ x.turns - 1
 turns_popped x left n number body sound is = omega (arith, sound.turns, ap turns_in (ap reverse is ∙ pushed left (Following.Turns n number body)))
@@ -101,7 +101,7 @@ outside_below s (t ∷ ts) = refl
 
 -- a call is over
 pub rest_popped : (x : Expansion) (left : List Following) (s : Span) (tables : List Table) → (rest_of x).text ≡ [] → x.around.items ≡ left ++ Following.Rest s ∷ [] → x.turns ≡ turns_in (reverse left) → tables ≡ below (tables_in x)
-    → next_move (rest_of x) ≡ On [] (record { depth = length tables + x.turns; state = state_of x; text = text_of (texts_in x) (innermost tables) s; around = around_seen (texts_in x) tables (reverse left) })
+    → next_move (rest_of x) ≡ On [] (record { depth = length tables + x.turns; state = state_of x; text = text_of x.lines (innermost tables) s; around = around_seen x.lines tables (reverse left) })
 rest_popped x left s tables over is turns same =
-    let to : List Table → ℕ → Moved = λ ts n. On [] (record { depth = length ts + n; state = state_of x; text = text_of (texts_in x) (innermost ts) s; around = around_seen (texts_in x) ts (reverse left) }) in
+    let to : List Table → ℕ → Moved = λ ts n. On [] (record { depth = length ts + n; state = state_of x; text = text_of x.lines (innermost ts) s; around = around_seen x.lines ts (reverse left) }) in
     popped x left (Following.Rest s) over is ∙ ap (λ ts. to ts (turns_in (reverse left))) (outside_below s (tables_in x) ∙ sym same) ∙ ap (to tables) (sym turns)

@@ -5,7 +5,7 @@ ghost use Rattle.std.specs.Option.{option_map};
 ghost use Rattle.asm_sections.specs.Blocks.{body_of, branches_of};
 ghost use Rattle.asm_sections.specs.Sections.{body_seen, branches_seen};
 ghost use Rattle.asm_macro.specs.Private.Frames.{innermost};
-ghost use Rattle.asm_macro.specs.Private.Moves.{IsSound, rest_of, tables_in, texts_in};
+ghost use Rattle.asm_macro.specs.Private.Moves.{IsSound, rest_of, tables_in};
 
 use crate::expansion::Expansion;
 use asm_sections::{Block, Choice, body_of, branches_of};
@@ -17,7 +17,7 @@ impl<'a> Expansion<'a> {
         requires sound { IsSound self.old }
         ensures sound { OnOk result (IsSound self.new) }
         ensures kept { OnOk result (self.new ≡ record self.old { book = self.new.book; source = self.new.source }) }
-        ensures body { IfOk result (λ found. option_map (body_seen (texts_in self.old) (innermost (tables_in self.old))) found ≡ body_of (rest_of self.old).text) }
+        ensures body { IfOk result (λ found. option_map (body_seen self.old.lines (innermost (tables_in self.old))) found ≡ body_of (rest_of self.old).text) }
     {
         body_of(
             self.alloc,
@@ -34,7 +34,7 @@ impl<'a> Expansion<'a> {
         requires sound { IsSound self.old }
         ensures sound { OnOk result (IsSound self.new) }
         ensures kept { OnOk result (self.new ≡ record self.old { book = self.new.book; source = self.new.source }) }
-        ensures branches { IfOk result (λ found. option_map (branches_seen (texts_in self.old) (innermost (tables_in self.old))) found ≡ branches_of (rest_of self.old).text) }
+        ensures branches { IfOk result (λ found. option_map (branches_seen self.old.lines (innermost (tables_in self.old))) found ≡ branches_of (rest_of self.old).text) }
     {
         branches_of(
             self.alloc,

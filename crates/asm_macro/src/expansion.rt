@@ -7,7 +7,7 @@ ghost use Rattle.asm_macro.specs.Kept.{AreOf};
 ghost use Rattle.asm_macro.specs.Parts.{part};
 ghost use Rattle.asm_macro.specs.Private.Frames.{AreBooks, below, innermost};
 ghost use Rattle.asm_macro.specs.declared.moves.Given.{Given};
-ghost use Rattle.asm_macro.specs.Private.Moves.{Gives, Goes, IsSound, Lessens, Resumes, Takes, most_moves, moved, next_move, rest_of, state_of, texts_in};
+ghost use Rattle.asm_macro.specs.Private.Moves.{Gives, Goes, IsSound, Lessens, Resumes, Takes, most_moves, moved, next_move, rest_of, state_of};
 
 use crate::constants::Constants;
 use crate::expander::Line;
@@ -15,7 +15,7 @@ use crate::fault::MacroFault;
 use crate::moves::{Given, Stop, Taken};
 use asm_scan::Token;
 use asm_sections::{Book, Following};
-use asm_texts::{Call, Macro, Span, put_shown};
+use asm_texts::{Call, Lines, Macro, Span, put_shown};
 use indexmap::IndexMap;
 use name_key::NameKey;
 use std::alloc::{AllocError, Global};
@@ -28,7 +28,7 @@ pub(crate) const MOST_LINES: u32 = 60_000;
 pub(crate) struct Expansion<'a> {
     pub alloc: Global,
     /// The lines of the source.
-    pub lines: Vec<&'a [u8]>,
+    pub lines: Lines<'a>,
     pub macros: IndexMap<Vec<u8>, Macro, NameKey>,
     pub constants: Constants,
     /// How many LOCAL names there were.
@@ -97,16 +97,16 @@ impl<'a> Expansion<'a> {
     fn put_line(&mut self, buffer: &mut Vec<u8>) -> Result<u32, AllocError>
         requires sound { IsSound self.old }
         requires at { self.old.text.at < self.old.text.end }
-        requires within { self.old.text.at < length self.old.lines.items }
+        requires within { self.old.text.at < length self.old.lines }
         ensures sound { OnOk result (IsSound self.new) }
         ensures count { self.new.count ≡ self.old.count }
         ensures around { self.new.around ≡ self.old.around }
         ensures line { IfOk result (λ number. rest_of self.old ≡ record (rest_of self.new) { text = record { number = number; text = buffer.new.items } ∷ (rest_of self.new).text }) }
         ensures calls { self.new.calls ≡ self.old.calls }
-        ensures plain { OnOk result (length self.old.calls.items ≡ 0 → slice_index_or (texts_in self.old) self.old.text.at [] ≡ buffer.new.items) }
+        ensures plain { OnOk result (length self.old.calls.items ≡ 0 → slice_index_or self.old.lines self.old.text.at [] ≡ buffer.new.items) }
     {
         let at = self.text.at;
-        put_shown(self.alloc, self.calls.last(), self.lines[at], buffer)?;
+        put_shown(self.alloc, self.calls.last(), self.lines.line(at), buffer)?;
         self.text.at = at + 1;
         match self.text.number {
             Some(number) => Ok(number),
@@ -148,14 +148,14 @@ impl<'a> Expansion<'a> {
     ) -> Result<Option<Given>, Stop>
         requires sound { IsSound self.old }
         requires at { self.old.text.at < self.old.text.end }
-        requires within { self.old.text.at < length self.old.lines.items }
+        requires within { self.old.text.at < length self.old.lines }
         ensures sound { OnOk result (IsSound self.new) }
         ensures less { IfOk result (λ given. Lessens self.old given self.new) }
         ensures gives { Gives buffer.new.items result (rest_of self.new) (next_move (rest_of self.old)) }
         ensures kept { AreOf buffer.new.items kept.new }
     {
         *kept = None;
-        let source = self.lines[self.text.at];
+        let source = self.lines.line(self.text.at);
         let number = self.put_line(buffer)?;
         match self.take_written(number, source, buffer, kept)? {
             Taken::Nothing => Ok(None),

@@ -8,7 +8,7 @@ ghost use Rattle.asm_sections.specs.Views.{next_of, onward_seen};
 ghost use Rattle.asm_macro.specs.Parts.{chosen, resumed};
 ghost use Rattle.asm_macro.specs.Private.Frames.{innermost};
 ghost use Rattle.asm_macro.specs.Private.Going.{Enters, Fits, into, part_of, texts_opened, turn_in, turns_opened};
-ghost use Rattle.asm_macro.specs.Private.Moves.{IsSound, Resumes, most_moves, moved, rest_of, state_of, tables_in, texts_in};
+ghost use Rattle.asm_macro.specs.Private.Moves.{IsSound, Resumes, most_moves, moved, rest_of, state_of, tables_in};
 
 use crate::expansion::{Expansion, MOST_LINES};
 use crate::fault::MacroFault;
@@ -43,12 +43,12 @@ impl<'a> Expansion<'a> {
     /// Goes on with what a block opens, or with what stands behind it.
     fn go_with(&mut self, onward: Onward) -> Result<(), Stop>
         requires sound { IsSound self.old }
-        requires fits { Fits (length self.old.calls.items + self.old.turns) (onward_seen (texts_in self.old) (innermost (tables_in self.old)) onward) }
+        requires fits { Fits (length self.old.calls.items + self.old.turns) (onward_seen self.old.lines (innermost (tables_in self.old)) onward) }
         ensures sound { OnOk result (IsSound self.new) }
-        ensures count { OnOk result (self.new.count ≡ self.old.count + turns_opened (onward_seen (texts_in self.old) (innermost (tables_in self.old)) onward)) }
-        ensures around { OnOk result (length self.new.around.items ≡ length self.old.around.items + texts_opened (onward_seen (texts_in self.old) (innermost (tables_in self.old)) onward)) }
+        ensures count { OnOk result (self.new.count ≡ self.old.count + turns_opened (onward_seen self.old.lines (innermost (tables_in self.old)) onward)) }
+        ensures around { OnOk result (length self.new.around.items ≡ length self.old.around.items + texts_opened (onward_seen self.old.lines (innermost (tables_in self.old)) onward)) }
         ensures gone { Resumes result (rest_of self.new) (moved (rest_of self.old).depth (rest_of self.old).around
-            (part_of (rest_of self.old).depth (state_of self.old) (onward_seen (texts_in self.old) (innermost (tables_in self.old)) onward))) }
+            (part_of (rest_of self.old).depth (state_of self.old) (onward_seen self.old.lines (innermost (tables_in self.old)) onward))) }
     {
         match onward {
             Onward::Stray(number) => Err(Stop::At(number, MacroFault::Stray)),
@@ -72,7 +72,7 @@ impl<'a> Expansion<'a> {
         ensures count { OnOk result (self.new.count ≡ self.old.count) }
         ensures around { OnOk result (length self.new.around.items ≤ length self.old.around.items + 1) }
         ensures chosen { Resumes result (rest_of self.new) (moved (rest_of self.old).depth (rest_of self.old).around
-            (chosen value (rest_of self.old).depth (state_of self.old) (branches_seen (texts_in self.old) (innermost (tables_in self.old)) choice))) }
+            (chosen value (rest_of self.old).depth (state_of self.old) (branches_seen self.old.lines (innermost (tables_in self.old)) choice))) }
     {
         let onward = branch(self.alloc, &self.lines, self.calls.last(), value, choice)?;
         self.go_with(onward)
@@ -87,7 +87,7 @@ impl<'a> Expansion<'a> {
         ensures less { OnOk result (most_moves self.new ≤ most_moves self.old) }
         ensures around { OnOk result (length self.new.around.items ≤ length self.old.around.items + 1) }
         ensures resumed { Resumes result (rest_of self.new) (moved (rest_of self.old).depth (rest_of self.old).around
-            (resumed (rest_of self.old).depth (next_of (texts_in self.old) (innermost (tables_in self.old)) following) (state_of self.old))) }
+            (resumed (rest_of self.old).depth (next_of self.old.lines (innermost (tables_in self.old)) following) (state_of self.old))) }
     {
         let onward = behind(self.alloc, &self.lines, self.calls.last(), following)?;
         self.go_with(onward)

@@ -1,19 +1,19 @@
 //! The lines of a source text.
 
-ghost use Rattle.std.specs.Prelude.{◌≡◌, ◌≤◌, ◌==◌, IfOk, length, map, not};
+ghost use Rattle.std.specs.Prelude.{◌≡◌, ◌≤◌, ◌==◌, length, not};
 ghost use Rattle.std.specs.List.{prefix_len};
-ghost use Rattle.asm_macro.specs.Texts.{source_lines, source_part};
+ghost use Rattle.asm_macro.specs.Texts.{source_part};
 ghost use Rattle.asm_macro.specs.Private.Stages.{Begins};
 
 use crate::constants::Constants;
 use crate::expansion::Expansion;
 use crate::fault::MacroFault;
 use asm_sections::Book;
-use asm_texts::Span;
+use asm_texts::{Lines, Span};
 use bstr::ByteSlice;
 use indexmap::IndexMap;
 use name_key::NameKey;
-use std::alloc::{AllocError, Global};
+use std::alloc::Global;
 
 /// The most bytes of a source text.
 const LONGEST_TEXT: usize = 16_777_216;
@@ -37,18 +37,6 @@ pub fn source_part(text: &[u8]) -> &[u8]
     &text[..end_of(text)]
 }
 
-/// The lines of a text.
-fn lines_of(alloc: Global, text: &[u8]) -> Result<Vec<&[u8]>, AllocError>
-    ensures lines { IfOk result (λ found. map (λ line. line.now) found.items ≡ source_lines text.now) }
-    ensures few { IfOk result (λ found. length found.items ≤ length text.now) }
-{
-    let mut found = Vec::new(alloc);
-    for line in source_part(text).lines() {
-        found.push(line)?;
-    }
-    Ok(found)
-}
-
 /// The expansion of a text, before its first line.
 pub(crate) fn begin(alloc: Global, text: &[u8]) -> Result<Expansion<'_>, MacroFault>
     ensures { Begins text.now result }
@@ -56,7 +44,7 @@ pub(crate) fn begin(alloc: Global, text: &[u8]) -> Result<Expansion<'_>, MacroFa
     if text.len() > LONGEST_TEXT {
         return Err(MacroFault::TooManyLines);
     }
-    let lines = lines_of(alloc, text)?;
+    let lines = Lines::of(alloc, source_part(text))?;
     let end = lines.len();
     let key = NameKey::of(text);
     Ok(Expansion {

@@ -23,7 +23,7 @@ ghost use Rattle.asm_macro.specs.Private.Stopped.{stopped};
 ghost use Rattle.asm_macro.specs.Private.Frames.{innermost};
 ghost use Rattle.asm_macro.specs.Private.Heads.{by_head, defined, kept};
 ghost use Rattle.asm_macro.specs.Kept.{AreOf};
-ghost use Rattle.asm_macro.specs.Private.Moves.{IsSound, Resumes, Takes, moved, rest_of, state_of, texts_in};
+ghost use Rattle.asm_macro.specs.Private.Moves.{IsSound, Resumes, Takes, moved, rest_of, state_of};
 
 use crate::expander::Line;
 use crate::expansion::{Expansion, MOST_LINES};
@@ -153,12 +153,12 @@ impl<'a> Expansion<'a> {
         counter: u64,
     ) -> Result<(), AllocError>
         requires sound { IsSound self.old }
-        requires call { IsCall (texts_in self.old) call }
+        requires call { IsCall self.old.lines call }
         requires shallow { length self.old.calls.items + self.old.turns < 16 }
         ensures sound { OnOk result (IsSound self.new) }
         ensures count { OnOk result (self.new.count ≡ self.old.count) }
         ensures around { OnOk result (length self.new.around.items ≤ length self.old.around.items + 1) }
-        ensures entered { OnOk result ((names_said : Table) → SaySame (said call) names_said → Entered (rest_of self.old) (seen line.entry).number names_said (body_texts (texts_in self.old) body) counter (rest_of self.new)) }
+        ensures entered { OnOk result ((names_said : Table) → SaySame (said call) names_said → Entered (rest_of self.old) (seen line.entry).number names_said (body_texts self.old.lines body) counter (rest_of self.new)) }
     {
         asm_replace::laws::by_names();
         self.around.push(Following::Rest(self.text))?;

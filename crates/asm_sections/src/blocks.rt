@@ -1,6 +1,6 @@
 //! The blocks with which texts begin.
 
-ghost use Rattle.std.specs.Prelude.{◌≡◌, ◌<◌, ◌≤◌, ◌+◌, IfOk, IfSome, None, length, map};
+ghost use Rattle.std.specs.Prelude.{◌≡◌, ◌<◌, ◌≤◌, ◌+◌, IfOk, IfSome, None, length};
 ghost use Rattle.std.specs.Option.{option_map};
 ghost use Rattle.asm_sections.specs.Blocks.{body_of, branches_of};
 ghost use Rattle.asm_sections.specs.Books.{IsBook};
@@ -13,7 +13,7 @@ ghost use Rattle.asm_sections.specs.Sections.{behind_of, body_seen, branches_see
 
 use crate::book::Book;
 use crate::stretch::{Block, Choice, Place, Stretch};
-use asm_texts::{Call, Span};
+use asm_texts::{Call, Lines, Span};
 use std::alloc::{AllocError, Global};
 
 /// The first lines of a text, up to one of them.
@@ -46,19 +46,19 @@ fn behind(span: Span, len: usize) -> Span
 /// Looks through the lines of a text, unless that is done; whether they stand in the book of the source as well as in the call.
 fn open(
     alloc: Global,
-    lines: &[&[u8]],
+    lines: &Lines<'_>,
     call: Option<&Call>,
     span: Span,
     source: &mut Book,
     book: &mut Book,
 ) -> Result<bool, AllocError>
     requires few { length lines.now ≤ 16777216 }
-    requires call { IfSome call (λ c. IsCall (map (λ line. line.now) lines.now) c.now) }
-    requires source { IsBook (map (λ line. line.now) lines.now) None source.old }
-    requires book { IsBook (map (λ line. line.now) lines.now) (option_map (λ c. said c.now) call) book.old }
-    ensures source { IsBook (map (λ line. line.now) lines.now) None source.new }
-    ensures book { IsBook (map (λ line. line.now) lines.now) (option_map (λ c. said c.now) call.entry) book.new }
-    ensures has { IfOk result (λ plain. Has (roles (text_of (map (λ line. line.now) lines.now) (option_map (λ c. said c.now) call.entry) span)) span (opened plain source.new book.new)) }
+    requires call { IfSome call (λ c. IsCall lines.now c.now) }
+    requires source { IsBook lines.now None source.old }
+    requires book { IsBook lines.now (option_map (λ c. said c.now) call) book.old }
+    ensures source { IsBook lines.now None source.new }
+    ensures book { IsBook lines.now (option_map (λ c. said c.now) call.entry) book.new }
+    ensures has { IfOk result (λ plain. Has (roles (text_of lines.now (option_map (λ c. said c.now) call.entry) span)) span (opened plain source.new book.new)) }
 {
     let Some(call) = call else {
         source.open(alloc, lines, None, span)?;
@@ -83,20 +83,20 @@ fn opened<'a>(plain: bool, source: &'a Book, book: &'a Book) -> &'a Book
 /// text, or of none: one of the source's as they stand, and one of the call's.
 pub fn body_of(
     alloc: Global,
-    lines: &[&[u8]],
+    lines: &Lines<'_>,
     call: Option<&Call>,
     span: Span,
     source: &mut Book,
     book: &mut Book,
 ) -> Result<Option<Block>, AllocError>
     requires few { length lines.now ≤ 16777216 }
-    requires call { IfSome call (λ c. IsCall (map (λ line. line.now) lines.now) c.now) }
-    requires source { IsBook (map (λ line. line.now) lines.now) None source.old }
-    requires book { IsBook (map (λ line. line.now) lines.now) (option_map (λ c. said c.now) call) book.old }
-    ensures source { IsBook (map (λ line. line.now) lines.now) None source.new }
-    ensures book { IsBook (map (λ line. line.now) lines.now) (option_map (λ c. said c.now) call.entry) book.new }
-    ensures body { IfOk result (λ found. option_map (body_seen (map (λ line. line.now) lines.now) (option_map (λ c. said c.now) call.entry)) found
-        ≡ body_of (text_of (map (λ line. line.now) lines.now) (option_map (λ c. said c.now) call.entry) span)) }
+    requires call { IfSome call (λ c. IsCall lines.now c.now) }
+    requires source { IsBook lines.now None source.old }
+    requires book { IsBook lines.now (option_map (λ c. said c.now) call) book.old }
+    ensures source { IsBook lines.now None source.new }
+    ensures book { IsBook lines.now (option_map (λ c. said c.now) call.entry) book.new }
+    ensures body { IfOk result (λ found. option_map (body_seen lines.now (option_map (λ c. said c.now) call.entry)) found
+        ≡ body_of (text_of lines.now (option_map (λ c. said c.now) call.entry) span)) }
 {
     let plain = open(alloc, lines, call, span, source, book)?;
     let book = opened(plain, source, book);
@@ -115,20 +115,20 @@ pub fn body_of(
 /// text, or of none: one of the source's as they stand, and one of the call's.
 pub fn branches_of(
     alloc: Global,
-    lines: &[&[u8]],
+    lines: &Lines<'_>,
     call: Option<&Call>,
     span: Span,
     source: &mut Book,
     book: &mut Book,
 ) -> Result<Option<Choice>, AllocError>
     requires few { length lines.now ≤ 16777216 }
-    requires call { IfSome call (λ c. IsCall (map (λ line. line.now) lines.now) c.now) }
-    requires source { IsBook (map (λ line. line.now) lines.now) None source.old }
-    requires book { IsBook (map (λ line. line.now) lines.now) (option_map (λ c. said c.now) call) book.old }
-    ensures source { IsBook (map (λ line. line.now) lines.now) None source.new }
-    ensures book { IsBook (map (λ line. line.now) lines.now) (option_map (λ c. said c.now) call.entry) book.new }
-    ensures branches { IfOk result (λ found. option_map (branches_seen (map (λ line. line.now) lines.now) (option_map (λ c. said c.now) call.entry)) found
-        ≡ branches_of (text_of (map (λ line. line.now) lines.now) (option_map (λ c. said c.now) call.entry) span)) }
+    requires call { IfSome call (λ c. IsCall lines.now c.now) }
+    requires source { IsBook lines.now None source.old }
+    requires book { IsBook lines.now (option_map (λ c. said c.now) call) book.old }
+    ensures source { IsBook lines.now None source.new }
+    ensures book { IsBook lines.now (option_map (λ c. said c.now) call.entry) book.new }
+    ensures branches { IfOk result (λ found. option_map (branches_seen lines.now (option_map (λ c. said c.now) call.entry)) found
+        ≡ branches_of (text_of lines.now (option_map (λ c. said c.now) call.entry) span)) }
 {
     let plain = open(alloc, lines, call, span, source, book)?;
     let book = opened(plain, source, book);

@@ -1,6 +1,6 @@
 //! Where the blocks of a text end, once that is looked for.
 
-ghost use Rattle.std.specs.Prelude.{◌≡◌, ◌≤◌, ◌-◌, ◌<◌, ℕ, IfOk, List, OnOk, Option, Some, length, map, true};
+ghost use Rattle.std.specs.Prelude.{◌≡◌, ◌≤◌, ◌-◌, ◌<◌, ℕ, IfOk, List, OnOk, Option, Some, length, true};
 ghost use Rattle.std.specs.Option.{option_map};
 ghost use Rattle.asm_block.specs.Blocks.{between};
 ghost use Rattle.asm_replace.specs.Replaced.{Table};
@@ -12,7 +12,7 @@ ghost use Rattle.asm_texts.specs.Stands.{Stand};
 ghost use Rattle.asm_sections.specs.Books.{IsBook};
 
 use asm_block::{Links, Role, links_of};
-use asm_texts::{Call, Span, all_stand, role_shown};
+use asm_texts::{Call, Lines, Span, all_stand, role_shown};
 use std::alloc::{AllocError, Global};
 
 /// Where the blocks end in some lines of a source, as a call shows them.
@@ -29,17 +29,17 @@ pub struct Book {
 /// What each line of a text is to blocks.
 fn roles_of(
     alloc: Global,
-    lines: &[&[u8]],
+    lines: &Lines<'_>,
     call: Option<&Call>,
     span: Span,
 ) -> Result<Vec<Role>, AllocError>
-    ensures { IfOk result (λ found. found.items ≡ roles (text_of (map (λ line. line.now) lines.now) (option_map (λ c. said c.now) call.entry) span)) }
+    ensures { IfOk result (λ found. found.items ≡ roles (text_of lines.now (option_map (λ c. said c.now) call.entry) span)) }
 {
     let mut found = Vec::new(alloc);
     let mut buffer = Vec::new(alloc);
     let mut at = span.at;
     while at < span.end && at < lines.len() {
-        found.push(role_shown(alloc, call, lines[at], &mut buffer)?)?;
+        found.push(role_shown(alloc, call, lines.line(at), &mut buffer)?)?;
         at += 1;
     }
     Ok(found)
@@ -70,14 +70,14 @@ impl Book {
     pub(crate) fn is_plain(
         &mut self,
         alloc: Global,
-        lines: &[&[u8]],
+        lines: &Lines<'_>,
         call: &Call,
         span: Span,
     ) -> Result<bool, AllocError>
-        requires call { IsCall (map (λ line. line.now) lines.now) call.now }
-        requires book { IsBook (map (λ line. line.now) lines.now) (Some (said call.now)) self.old }
-        ensures book { IsBook (map (λ line. line.now) lines.now) (Some (said call.now)) self.new }
-        ensures plain { IfOk result (λ plain. plain ≡ true → Stand (map (λ line. line.now) lines.now) (Some (said call.now)) span.at span.end) }
+        requires call { IsCall lines.now call.now }
+        requires book { IsBook lines.now (Some (said call.now)) self.old }
+        ensures book { IsBook lines.now (Some (said call.now)) self.new }
+        ensures plain { IfOk result (λ plain. plain ≡ true → Stand lines.now (Some (said call.now)) span.at span.end) }
     {
         if self.has(span) {
             return Ok(false);
@@ -97,15 +97,15 @@ impl Book {
     pub(crate) fn open(
         &mut self,
         alloc: Global,
-        lines: &[&[u8]],
+        lines: &Lines<'_>,
         call: Option<&Call>,
         span: Span,
     ) -> Result<(), AllocError>
         requires few { length lines.now ≤ 16777216 }
-        requires book { IsBook (map (λ line. line.now) lines.now) (option_map (λ c. said c.now) call) self.old }
-        ensures book { IsBook (map (λ line. line.now) lines.now) (option_map (λ c. said c.now) call.entry) self.new }
+        requires book { IsBook lines.now (option_map (λ c. said c.now) call) self.old }
+        ensures book { IsBook lines.now (option_map (λ c. said c.now) call.entry) self.new }
         ensures has { OnOk result (between (span.at - self.new.at) (span.end - self.new.at) self.new.links
-            ≡ roles (text_of (map (λ line. line.now) lines.now) (option_map (λ c. said c.now) call.entry) span)) }
+            ≡ roles (text_of lines.now (option_map (λ c. said c.now) call.entry) span)) }
     {
         if self.has(span) {
             return Ok(());

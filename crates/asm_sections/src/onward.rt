@@ -12,20 +12,20 @@ ghost use Rattle.asm_sections.specs.Views.{next_of, onward_seen};
 
 use crate::following::{Following, Onward};
 use crate::stretch::{Choice, Place, Stretch};
-use asm_texts::{Call, Span, is_alone, line_at, put_shown};
+use asm_texts::{Call, Lines, Span, is_alone, put_shown};
 use std::alloc::{AllocError, Global};
 
 /// The number of a line that closes or divides a block, unless it stands alone.
 pub fn stray(
     alloc: Global,
-    lines: &[&[u8]],
+    lines: &Lines<'_>,
     call: Option<&Call>,
     end: Place,
 ) -> Result<Option<u32>, AllocError>
-    ensures { IfOk result (λ number. number ≡ stray (line_of (map (λ line. line.now) lines.now) (option_map (λ c. said c.now) call.entry) end)) }
+    ensures { IfOk result (λ number. number ≡ stray (line_of lines.now (option_map (λ c. said c.now) call.entry) end)) }
 {
     let mut text = Vec::new(alloc);
-    put_shown(alloc, call, line_at(lines, end.at), &mut text)?;
+    put_shown(alloc, call, lines.line(end.at), &mut text)?;
     if is_alone(alloc, &text)? {
         Ok(None)
     } else {
@@ -36,11 +36,11 @@ pub fn stray(
 /// The number of the first line that may not stand behind the first branch of an IF, where there is one branch more at most.
 fn stray_in(
     alloc: Global,
-    lines: &[&[u8]],
+    lines: &Lines<'_>,
     call: Option<&Call>,
     others: &[Stretch],
 ) -> Result<Option<u32>, AllocError>
-    ensures { IfOk result (λ number. number ≡ stray_in (map (section_of (map (λ line. line.now) lines.now) (option_map (λ c. said c.now) call.entry)) others.now)) }
+    ensures { IfOk result (λ number. number ≡ stray_in (map (section_of lines.now (option_map (λ c. said c.now) call.entry)) others.now)) }
 {
     match others {
         [] => Ok(None),
@@ -73,13 +73,13 @@ fn second(choice: Choice) -> Onward
 /// What an IF is gone on with, by what its expression is worth.
 pub fn branch(
     alloc: Global,
-    lines: &[&[u8]],
+    lines: &Lines<'_>,
     call: Option<&Call>,
     value: u16,
     choice: Choice,
 ) -> Result<Onward, AllocError>
-    ensures { IfOk result (λ onward. onward_seen (map (λ line. line.now) lines.now) (option_map (λ c. said c.now) call.entry) onward
-        ≡ branch value (branches_seen (map (λ line. line.now) lines.now) (option_map (λ c. said c.now) call.entry) choice)) }
+    ensures { IfOk result (λ onward. onward_seen lines.now (option_map (λ c. said c.now) call.entry) onward
+        ≡ branch value (branches_seen lines.now (option_map (λ c. said c.now) call.entry) choice)) }
 {
     if value == 0 {
         return match stray(alloc, lines, call, choice.first.end)? {
@@ -94,12 +94,12 @@ pub fn branch(
 /// What a text that is over is gone on with, by what follows it; and a REPT that is met, by its turns.
 pub fn behind(
     alloc: Global,
-    lines: &[&[u8]],
+    lines: &Lines<'_>,
     call: Option<&Call>,
     following: Following,
 ) -> Result<Onward, AllocError>
-    ensures { IfOk result (λ onward. onward_seen (map (λ line. line.now) lines.now) (option_map (λ c. said c.now) call.entry) onward
-        ≡ behind (next_of (map (λ line. line.now) lines.now) (option_map (λ c. said c.now) call.entry) following)) }
+    ensures { IfOk result (λ onward. onward_seen lines.now (option_map (λ c. said c.now) call.entry) onward
+        ≡ behind (next_of lines.now (option_map (λ c. said c.now) call.entry) following)) }
 {
     match following {
         Following::Rest(text) => Ok(Onward::On(text)),

@@ -1,3 +1,4 @@
+mod Ends
 pub mod Macros
 mod Openings
 mod Unvaried

@@ -1,6 +1,6 @@
 //! Macros and their calls.
 
-ghost use Rattle.std.specs.Prelude.{◌≡◌, IfOk, IfSome, All, List, map, ℕ};
+ghost use Rattle.std.specs.Prelude.{◌≡◌, IfOk, IfSome, All, List, ℕ};
 ghost use Rattle.std.specs.Option.{option_map};
 ghost use Rattle.std.specs.Map.{lookup};
 ghost use Rattle.std.specs.Str.{bytes_eq};
@@ -8,6 +8,7 @@ ghost use Rattle.asm_texts.specs.Prepared.{macro_seen, macros_seen};
 ghost use Rattle.asm_replace.specs.Views.{texts};
 ghost use Rattle.asm_texts.specs.Kept.{IsKept, VariesIn};
 
+use crate::lines::Lines;
 use crate::open::{Opened, names_of, open};
 use crate::span::Span;
 use crate::varying::{Varying, varying_of};
@@ -37,11 +38,11 @@ pub struct Call {
 /// Which lines of an opened body may be other things to blocks in a call.
 fn varying_in(
     alloc: Global,
-    lines: &[&[u8]],
+    lines: &Lines<'_>,
     parameters: &[Vec<u8>],
     opened: Option<&Opened>,
 ) -> Result<Varying, AllocError>
-    ensures { IfOk result (λ found. VariesIn (map (λ line. line.now) lines.now) (texts parameters.now) (option_map (λ o. o.now) opened.entry) found) }
+    ensures { IfOk result (λ found. VariesIn lines.now (texts parameters.now) (option_map (λ o. o.now) opened.entry) found) }
 {
     let Some(opened) = opened else {
         return Ok(Varying::none(alloc));
@@ -52,17 +53,17 @@ fn varying_in(
 }
 
 impl Macro {
-    ghost use Rattle.std.specs.Prelude.{◌≡◌, IfOk, map};
+    ghost use Rattle.std.specs.Prelude.{◌≡◌, IfOk};
     ghost use Rattle.asm_texts.specs.Kept.{IsKept};
 
     /// Looks through a body, whose lines are not looked through again by each call.
     pub fn new(
         alloc: Global,
-        lines: &[&[u8]],
+        lines: &Lines<'_>,
         parameters: Vec<Vec<u8>>,
         body: Span,
     ) -> Result<Macro, AllocError>
-        ensures kept { IfOk result (λ m. IsKept (map (λ line. line.now) lines.now) m) }
+        ensures kept { IfOk result (λ m. IsKept lines.now m) }
         ensures parts { IfOk result (λ m. (m.parameters ≡ parameters) × (m.body ≡ body)) }
     {
         let opened = open(alloc, lines, body)?;

@@ -3,6 +3,7 @@
 #![tactic(auto)]
 
 mod call;
+mod lines;
 mod open;
 mod prepared;
 mod reading;
@@ -10,7 +11,8 @@ mod span;
 mod varying;
 
 pub use call::{Call, Macro, macro_of};
+pub use lines::Lines;
 pub use prepared::{Prepared, label_before, prepare};
-pub use reading::{is_alone, line_at, put_shown, role_shown};
+pub use reading::{is_alone, put_shown, role_shown};
 pub use span::Span;
 pub use varying::all_stand;

@@ -1,6 +1,6 @@
 //! The body of a macro, opened for a call.
 
-ghost use Rattle.std.specs.Prelude.{◌≡◌, ◌<◌, ◌+◌, ◌-◌, ◌^◌, ◌++◌, ◌∷◌, [], IfOk, OnOk, Some, length, map, slice_index_or};
+ghost use Rattle.std.specs.Prelude.{◌≡◌, ◌<◌, ◌+◌, ◌-◌, ◌^◌, ◌++◌, ◌∷◌, [], IfOk, OnOk, Some, length, slice_index_or};
 ghost use Rattle.std.specs.Option.{option_map};
 ghost use Rattle.asm_scan.specs.Tokens.{lexemes};
 ghost use Rattle.asm_line.specs.Views.{head_seen};
@@ -13,6 +13,7 @@ ghost use Rattle.asm_texts.specs.Kept.{opened_seen};
 ghost use Rattle.asm_texts.specs.Private.Openings.{IsLocal, is_local};
 ghost use Rattle.asm_texts.specs.Prepared.{SaySame, body_texts};
 
+use crate::lines::Lines;
 use crate::reading::heard;
 use crate::span::Span;
 use asm_line::{BlockWord, Head, form_of, names};
@@ -67,13 +68,17 @@ fn local_line(alloc: Global, line: &[u8]) -> Result<Local, AllocError>
 }
 
 /// Opens a body: the names of its LOCAL lines, and the lines behind them; None where one of these has another form.
-pub(crate) fn open(alloc: Global, lines: &[&[u8]], body: Span) -> Result<Option<Opened>, AllocError>
-    ensures { IfOk result (λ found. option_map (opened_seen (map (λ line. line.now) lines.now)) found ≡ opened (body_texts (map (λ line. line.now) lines.now) body)) }
+pub(crate) fn open(
+    alloc: Global,
+    lines: &Lines<'_>,
+    body: Span,
+) -> Result<Option<Opened>, AllocError>
+    ensures { IfOk result (λ found. option_map (opened_seen lines.now) found ≡ opened (body_texts lines.now body)) }
 {
     let mut locals = Vec::new(alloc);
     let mut at = body.at;
     while at < body.end && at < lines.len() {
-        match local_line(alloc, lines[at])? {
+        match local_line(alloc, lines.line(at))? {
             Local::Names(mut found) => locals.append(&mut found)?,
             Local::Bad => return Ok(None),
             Local::Other => {

@@ -1,6 +1,6 @@
 //! Lines that are looked at but not taken up.
 
-ghost use Rattle.std.specs.Prelude.{◌≡◌, IfOk, OnOk, Some, [], map, slice_index_or};
+ghost use Rattle.std.specs.Prelude.{◌≡◌, IfOk, OnOk, Some};
 ghost use Rattle.asm_line.specs.Views.{head_seen};
 ghost use Rattle.asm_replace.specs.Views.{table};
 ghost use Rattle.std.specs.Option.{option_map};
@@ -18,13 +18,6 @@ use asm_line::{BlockWord, Head, form_of};
 use asm_replace::{Replacements, replace};
 use asm_scan::{ScanFault, Token, tokens};
 use std::alloc::{AllocError, Global};
-
-/// A line of a text, by its place; an empty one where there is none.
-pub fn line_at<'a>(lines: &[&'a [u8]], at: usize) -> &'a [u8]
-    ensures { result.now ≡ slice_index_or (map (λ line. line.now) lines.now) at [] }
-{
-    if at < lines.len() { lines[at] } else { &[] }
-}
 
 /// What a line's head is to blocks.
 pub(crate) fn role_of_head(head: Head<'_>) -> Role

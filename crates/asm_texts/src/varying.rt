@@ -1,6 +1,6 @@
 //! Lines of a body that may be other things to blocks in a call than they are as they stand.
 
-ghost use Rattle.std.specs.Prelude.{◌≡◌, ◌≤◌, ◌<◌, IfOk, Some, length, map, true};
+ghost use Rattle.std.specs.Prelude.{◌≡◌, ◌≤◌, ◌<◌, IfOk, Some, length, true};
 ghost use Rattle.std.specs.List.{list_any};
 ghost use Rattle.asm_scan.specs.Tokens.{lexeme, lexemes};
 ghost use Rattle.asm_replace.specs.Fronts.{goes_on};
@@ -12,6 +12,7 @@ ghost use Rattle.asm_texts.specs.Stands.{Stand, Stands};
 ghost use Rattle.asm_texts.specs.Private.Varying.{asked, asked_labelled, asked_of, is_held, may_vary, with_next};
 
 use crate::call::Call;
+use crate::lines::Lines;
 use crate::reading::{heard, put_shown, role_of, role_of_head};
 use crate::span::Span;
 use asm_block::Role;
@@ -123,11 +124,11 @@ fn may_vary(alloc: Global, names: &Replacements, line: &[u8]) -> Result<bool, Al
 /// Which lines of a body may be other things to blocks in a call, where these names are replaced.
 pub(crate) fn varying_of(
     alloc: Global,
-    lines: &[&[u8]],
+    lines: &Lines<'_>,
     names: &Replacements,
     body: Span,
 ) -> Result<Varying, AllocError>
-    ensures varying { IfOk result (λ found. IsVarying (map (λ line. line.now) lines.now) (table names.now.entries) found) }
+    ensures varying { IfOk result (λ found. IsVarying lines.now (table names.now.entries) found) }
     ensures range { IfOk result (λ found. (found.at ≡ body.at) × (found.end ≡ body.end)) }
 {
     asm_replace::laws::unreplaced();
@@ -135,7 +136,7 @@ pub(crate) fn varying_of(
     let mut places = Vec::new(alloc);
     let mut at = body.at;
     while at < body.end && at < lines.len() {
-        if may_vary(alloc, names, lines[at])? {
+        if may_vary(alloc, names, lines.line(at))? {
             places.push(at)?;
         }
         at += 1;
@@ -150,20 +151,20 @@ pub(crate) fn varying_of(
 /// Whether a line, if it is one of a text, is to blocks what it is as it stands.
 fn stands(
     alloc: Global,
-    lines: &[&[u8]],
+    lines: &Lines<'_>,
     call: &Call,
     span: Span,
     at: usize,
 ) -> Result<bool, AllocError>
-    ensures { IfOk result (λ stands. stands ≡ true → span.at ≤ at → at < span.end → at < length lines.now → Stands (map (λ line. line.now) lines.now) (Some (said call.now)) at) }
+    ensures { IfOk result (λ stands. stands ≡ true → span.at ≤ at → at < span.end → at < length lines.now → Stands lines.now (Some (said call.now)) at) }
 {
     if at < span.at || at >= span.end || at >= lines.len() {
         return Ok(true);
     }
     let mut buffer = Vec::new(alloc);
-    put_shown(alloc, Some(call), lines[at], &mut buffer)?;
+    put_shown(alloc, Some(call), lines.line(at), &mut buffer)?;
     let shown = role_of(alloc, &buffer)?;
-    let plain = role_of(alloc, lines[at])?;
+    let plain = role_of(alloc, lines.line(at))?;
     Ok(shown == plain)
 }
 
@@ -171,12 +172,12 @@ fn stands(
 /// else.
 pub fn all_stand(
     alloc: Global,
-    lines: &[&[u8]],
+    lines: &Lines<'_>,
     call: &Call,
     span: Span,
 ) -> Result<bool, AllocError>
-    requires { IsCall (map (λ line. line.now) lines.now) call.now }
-    ensures { IfOk result (λ stand. stand ≡ true → Stand (map (λ line. line.now) lines.now) (Some (said call.now)) span.at span.end) }
+    requires { IsCall lines.now call.now }
+    ensures { IfOk result (λ stand. stand ≡ true → Stand lines.now (Some (said call.now)) span.at span.end) }
 {
     let varying: &Varying = &call.varying;
     if span.at < varying.at || varying.end < span.end {

@@ -23,17 +23,13 @@ use Rattle.asm_texts.specs.Kept.{IsKept, IsCall}
 use Rattle.asm_sections.specs.Books.{IsBook}
 use Rattle.asm_macro.specs.Private.Frames.{AreBooks, around_seen, innermost, turns_in}
 
--- the lines of the source
-abbrev pub texts_in : Expansion → List (List ℕ)
-texts_in x = map (λ line. line.now) x.lines.items
-
 -- the names of the open calls, the innermost first
 abbrev pub tables_in : Expansion → List Table
 tables_in x = map (λ call. said call) (reverse x.calls.items)
 
 abbrev pub state_of : Expansion → state.State
 state_of x = record {
-  macros = macros_seen (texts_in x) x.macros.entries;
+  macros = macros_seen x.lines x.macros.entries;
   constants = x.constants;
   counter = x.counter;
   count = x.count;
@@ -44,15 +40,15 @@ abbrev pub rest_of : Expansion → Rest
 rest_of x = record {
   depth = length (tables_in x) + x.turns;
   state = state_of x;
-  text = text_of (texts_in x) (innermost (tables_in x)) x.text;
-  around = around_seen (texts_in x) (tables_in x) (reverse x.around.items);
+  text = text_of x.lines (innermost (tables_in x)) x.text;
+  around = around_seen x.lines (tables_in x) (reverse x.around.items);
 }
 
 -- The source has no more lines than bytes; the open repetitions are counted; calls and repetitions nest to 16; no more lines
 -- are taken up than may be; the books of the innermost text, of those around and of the source are so; and so is what is kept of
 -- macros and of the open calls.
-pub record Sound (texts : List (List ℕ)) (tables : List Table) (around : List Following) (lines calls repeated taken : ℕ) (own : Book) (others : List Book) (bottom : Book) (kept : List (Vec ℕ Global × Macro)) (called : List Call) : Type 0 where
-  pub short : lines ≤ 16777216
+pub record Sound (texts : List (List ℕ)) (tables : List Table) (around : List Following) (calls repeated taken : ℕ) (own : Book) (others : List Book) (bottom : Book) (kept : List (Vec ℕ Global × Macro)) (called : List Call) : Type 0 where
+  pub short : length texts ≤ 16777216
   pub turns : repeated ≡ turns_in around
   pub shallow : calls + repeated ≤ 16
   pub few : taken ≤ 60000
@@ -63,7 +59,7 @@ pub record Sound (texts : List (List ℕ)) (tables : List Table) (around : List 
   pub open_calls : All (IsCall texts) called
 
 abbrev pub IsSound : Expansion → Type 0
-IsSound x = Sound (texts_in x) (tables_in x) (reverse x.around.items) (length x.lines.items) (length x.calls.items) x.turns x.count x.book (reverse x.books.items) x.source x.macros.entries x.calls.items
+IsSound x = Sound x.lines (tables_in x) (reverse x.around.items) (length x.calls.items) x.turns x.count x.book (reverse x.books.items) x.source x.macros.entries x.calls.items
 
 -- Lines are given, and then the rest is to come; a line is given as the last; lines are given, and then comes a fault; or all is
 -- expanded.

@@ -17,31 +17,31 @@ use Rattle.asm_sections.proofs.blocks.branches_of.Goals as goal
 pub front-first-requires : goal.front-first-requires
 front-first-requires c =
     let names = option_map (λ c. said c.now) c.args.call in
-    let seen = map (λ line. line.now) c.args.lines.now in
+    let seen = c.args.lines.now in
     let links = c.opened-book.result.now.links in
     let text = ap (λ f. between f c.saturating_sub-to.result links) c.saturating_sub-from.ensures ∙ ap (λ t. between (c.args.span.at - c.opened-book.result.now.at) t links) c.saturating_sub-to.ensures ∙ subst (Has (roles (text_of seen names c.args.span)) c.args.span) (sym c.opened-book.ensures) c.in_ok-plain.ensures.has in
     let lengths = lengths_seen c.in-Some.found in
     let fits = subst (λ rs. lengths.0 + sum (map (λ n. n + 1) lengths.1) < length rs) text
     (subst (λ o. IfSome o (λ b. b.first + sum (map (λ n. n + 1) b.others.items) < length (between c.saturating_sub-from.result c.saturating_sub-to.result links))) c.in-Some.is c.in_ok-found.ensures.within) in
     let lines = length-map (text_of seen names c.args.span) (λ l. role_of_head (form_of l.text).head) in
-    room seen names c.args.span c.in-Some.found.first (omega (arith, fits, lines)) (omega (arith, c.requires.few, length-map c.args.lines.now (λ line. line.now)))
+    room seen names c.args.span c.in-Some.found.first (omega (arith, fits, lines)) c.requires.few
 
 pub behind-rest-requires : goal.behind-rest-requires
 behind-rest-requires c =
     let names = option_map (λ c. said c.now) c.args.call in
-    let seen = map (λ line. line.now) c.args.lines.now in
+    let seen = c.args.lines.now in
     let links = c.opened-book.result.now.links in
     let text = ap (λ f. between f c.saturating_sub-to.result links) c.saturating_sub-from.ensures ∙ ap (λ t. between (c.args.span.at - c.opened-book.result.now.at) t links) c.saturating_sub-to.ensures ∙ subst (Has (roles (text_of seen names c.args.span)) c.args.span) (sym c.opened-book.ensures) c.in_ok-plain.ensures.has in
     let lengths = lengths_seen c.in-Some.found in
     let fits = subst (λ rs. lengths.0 + sum (map (λ n. n + 1) lengths.1) < length rs) text
     (subst (λ o. IfSome o (λ b. b.first + sum (map (λ n. n + 1) b.others.items) < length (between c.saturating_sub-from.result c.saturating_sub-to.result links))) c.in-Some.is c.in_ok-found.ensures.within) in
     let lines = length-map (text_of seen names c.args.span) (λ l. role_of_head (form_of l.text).head) in
-    room seen names c.args.span c.in-Some.found.first (omega (arith, fits, lines)) (omega (arith, c.requires.few, length-map c.args.lines.now (λ line. line.now)))
+    room seen names c.args.span c.in-Some.found.first (omega (arith, fits, lines)) c.requires.few
 
 pub loop-at-init : goal.loop-at-init
 loop-at-init c =
     let names = option_map (λ c. said c.now) c.args.call in
-    let seen = map (λ line. line.now) c.args.lines.now in
+    let seen = c.args.lines.now in
     let links = c.opened-book.result.now.links in
     let text = ap (λ f. between f c.saturating_sub-to.result links) c.saturating_sub-from.ensures ∙ ap (λ t. between (c.args.span.at - c.opened-book.result.now.at) t links) c.saturating_sub-to.ensures ∙ subst (Has (roles (text_of seen names c.args.span)) c.args.span) (sym c.opened-book.ensures) c.in_ok-plain.ensures.has in
     let lengths = lengths_seen c.in-Some.found in
@@ -53,31 +53,31 @@ loop-at-init c =
 pub front-requires : goal.front-requires
 front-requires c =
     let names = option_map (λ c. said c.now) c.args.call in
-    let seen = map (λ line. line.now) c.args.lines.now in
+    let seen = c.args.lines.now in
     let i = c.loop-at.invariant in
     let lens = c.in-Some.found.others.items in
     let n = c.index-len.result.now in
     let at : c.loop-at.at < length lens = omega (arith, c.loop-at-test.true, c.len.ensures) in
     let left = drop_more lens c.loop-at.at n at ∙ ap (λ n. n ∷ drop (c.loop-at.at + 1) lens) (sym c.index-len.ensures) in
     let less = left_fits (drop c.loop-at.at lens) n (drop (c.loop-at.at + 1) lens) (length (text_of seen names c.loop-at.rest)) left i.1.fits in
-    room seen names c.loop-at.rest n (omega (arith, less)) (omega (arith, c.requires.few, length-map c.args.lines.now (λ line. line.now)))
+    room seen names c.loop-at.rest n (omega (arith, less)) c.requires.few
 
 pub behind-rest-requires-in-loop-at : goal.behind-rest-requires-in-loop-at
 behind-rest-requires-in-loop-at c =
     let names = option_map (λ c. said c.now) c.args.call in
-    let seen = map (λ line. line.now) c.args.lines.now in
+    let seen = c.args.lines.now in
     let i = c.loop-at.invariant in
     let lens = c.in-Some.found.others.items in
     let n = c.index-len.result.now in
     let at : c.loop-at.at < length lens = omega (arith, c.loop-at-test.true, c.len.ensures) in
     let left = drop_more lens c.loop-at.at n at ∙ ap (λ n. n ∷ drop (c.loop-at.at + 1) lens) (sym c.index-len.ensures) in
     let less = left_fits (drop c.loop-at.at lens) n (drop (c.loop-at.at + 1) lens) (length (text_of seen names c.loop-at.rest)) left i.1.fits in
-    room seen names c.loop-at.rest n (omega (arith, less)) (omega (arith, c.requires.few, length-map c.args.lines.now (λ line. line.now)))
+    room seen names c.loop-at.rest n (omega (arith, less)) c.requires.few
 
 pub loop-at-preserved : goal.loop-at-preserved
 loop-at-preserved c =
     let names = option_map (λ c. said c.now) c.args.call in
-    let seen = map (λ line. line.now) c.args.lines.now in
+    let seen = c.args.lines.now in
     let i = c.loop-at.invariant in
     let lens = c.in-Some.found.others.items in
     let n = c.index-len.result.now in
@@ -92,7 +92,7 @@ loop-at-preserved c =
 pub returns-clause-branches : goal.returns-clause-branches
 returns-clause-branches c =
     let names = option_map (λ c. said c.now) c.args.call in
-    let seen = map (λ line. line.now) c.args.lines.now in
+    let seen = c.args.lines.now in
     let links = c.opened-book.result.now.links in
     let text = ap (λ f. between f c.saturating_sub-to.result links) c.saturating_sub-from.ensures ∙ ap (λ t. between (c.args.span.at - c.opened-book.result.now.at) t links) c.saturating_sub-to.ensures ∙ subst (Has (roles (text_of seen names c.args.span)) c.args.span) (sym c.opened-book.ensures) c.in_ok-plain.ensures.has in
     let lens = c.in-Some.found.others.items in

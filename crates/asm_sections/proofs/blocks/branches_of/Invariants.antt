@@ -9,7 +9,7 @@ use Rattle.asm_sections.proofs.blocks.branches_of.Given as goal
 -- The branches that are found, and those that are left, are all.
 abbrev pub invariant-loop-at : goal.invariant-loop-at
 invariant-loop-at l =
-    let seen = map (λ line. line.now) l.lines in
+    let seen = l.lines in
     let names = option_map (λ c. said c.now) l.call in
     (l.at ≤ length l.found.others.items)
     × Reached seen names l.fn.span (lengths_seen l.found) l.rest (drop l.at l.found.others.items) (section_of seen names l.first) (map (section_of seen names) l.others.items)

@@ -1,4 +1,4 @@
-use Rattle.std.proofs.Common.{◌∙◌, ap, sym, map, Some}
+use Rattle.std.proofs.Common.{◌∙◌, ap, sym, Some}
 use Rattle.std.specs.Option.{option_map}
 use Rattle.asm_texts.specs.Roles.{roles}
 use Rattle.asm_texts.specs.Prepared.{said}
@@ -8,6 +8,6 @@ use Rattle.asm_sections.proofs.blocks.open.Goals as goal
 
 pub returns-then-branch-clause-has : goal.returns-then-branch-clause-has
 returns-then-branch-clause-has c =
-    let texts = map (λ line. line.now) c.args.lines.now in
+    let texts = c.args.lines.now in
     c.in_ok-open-2.ensures.has ∙ as_it_stands texts (Some (said c.in-Some.call.now)) c.args.span (c.in_ok-is_plain.ensures.plain c.if-branch.true)
     ∙ ap (λ o. roles (text_of texts (option_map (λ c. said c.now) o) c.args.span)) (sym c.in-Some.is)

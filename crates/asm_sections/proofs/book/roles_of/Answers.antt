@@ -1,7 +1,5 @@
-use Rattle.std.proofs.Common.{ap, ◌∙◌, sym, arith, map, []}
-use Rattle.std.proofs.Math.ListN.{get_or-map}
+use Rattle.std.proofs.Common.{ap, ◌∙◌, arith}
 use Rattle.std.specs.Option.{option_map}
-use Rattle.std.proofs.lemmas.List.{length-map}
 use Rattle.asm_texts.specs.Prepared.{said}
 use Rattle.asm_texts.specs.Lines.{form_of}
 use Rattle.asm_texts.specs.Roles.{role_of_head}
@@ -12,9 +10,8 @@ use Rattle.asm_sections.proofs.book.roles_of.Goals as goal
 pub loop-at-preserved : goal.loop-at-preserved
 loop-at-preserved c =
     let names = option_map (λ c. said c.now) c.args.call in
-    let seen = map (λ line. line.now) c.args.lines.now in
-    let line = get_or-map (λ line. line.now) c.args.lines.now c.loop-at.at (record { ref_ptr = (0, 0); now = [] }) in
-    let text = ap (shown names) (sym line) in
+    let seen = c.args.lines.now in
+    let text = ap (shown names) c.line.ensures in
     c.loop-at.invariant ∙ roles_step seen names (record c.args.span { at = c.loop-at.at }) c.loop-at.found.items c.push.new.self.items c.in_ok-role_shown.field-0
-    c.loop-at-test.true (omega (arith, c.if-at-lines.true, length-map c.args.lines.now (λ line. line.now)))
+    c.loop-at-test.true (omega (arith, c.if-at-len.true, c.len.ensures))
     (c.in_ok-role_shown.ensures ∙ ap (λ t. role_of_head (form_of t).head) text) c.in_ok-push.ensures.items

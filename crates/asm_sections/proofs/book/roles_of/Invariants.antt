@@ -1,4 +1,4 @@
-use Rattle.std.proofs.Common.{◌≡◌, ◌++◌, ◌-◌, map, length}
+use Rattle.std.proofs.Common.{◌≡◌, ◌++◌, ◌-◌, length}
 use Rattle.std.specs.Option.{option_map}
 use Rattle.asm_texts.specs.Prepared.{said}
 use Rattle.asm_texts.specs.Roles.{roles}
@@ -8,7 +8,7 @@ use Rattle.asm_sections.proofs.book.roles_of.Given as goal
 -- The roles that are found stand before those of the lines that are left.
 abbrev pub invariant-loop-at : goal.invariant-loop-at
 invariant-loop-at l =
-    let seen = map (λ line. line.now) l.lines in
+    let seen = l.lines in
     let names = option_map (λ c. said c.now) l.call in
     roles (text_of seen names l.span) ≡ l.found.items ++ roles (text_of seen names (record l.span { at = l.at }))
 

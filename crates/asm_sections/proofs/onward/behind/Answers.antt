@@ -10,7 +10,7 @@ use Rattle.asm_sections.proofs.onward.behind.Goals as goal
 
 pub returns-in_ok-number-in-BehindSecond : goal.returns-in_ok-number-in-BehindSecond
 returns-in_ok-number-in-BehindSecond c =
-    let texts = map (λ line. line.now) c.args.lines.now in
+    let texts = c.args.lines.now in
     let names = option_map (λ c. said c.now) c.args.call in
     let choice = c.in-BehindSecond.choice in
     let after = text_of texts names choice.after in
@@ -20,7 +20,7 @@ returns-in_ok-number-in-BehindSecond c =
 
 pub returns-else-left-eq0 : goal.returns-else-left-eq0
 returns-else-left-eq0 c =
-    let texts = map (λ line. line.now) c.args.lines.now in
+    let texts = c.args.lines.now in
     let names = option_map (λ c. said c.now) c.args.call in
     let body = body_seen texts names c.in-Turns.body in
     let left = c.in-Turns.left in

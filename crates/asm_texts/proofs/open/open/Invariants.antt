@@ -1,4 +1,4 @@
-use Rattle.std.proofs.Common.{◌≡◌, ◌-◌, map, length, Some}
+use Rattle.std.proofs.Common.{◌≡◌, ◌-◌, length, Some}
 use Rattle.asm_replace.specs.Views.{texts}
 use Rattle.asm_texts.specs.Calls.{opened, with_locals}
 use Rattle.asm_texts.specs.Prepared.{body_texts}
@@ -7,8 +7,7 @@ use Rattle.asm_texts.proofs.open.open.Given as goal
 -- The names that are found stand before those of the lines that are left.
 abbrev pub invariant-loop-at : goal.invariant-loop-at
 invariant-loop-at l =
-    let seen = map (λ line. line.now) l.lines in
-    opened (body_texts seen l.body) ≡ with_locals (Some (texts l.locals.items)) (opened (body_texts seen (record l.body { at = l.at })))
+    opened (body_texts l.lines l.body) ≡ with_locals (Some (texts l.locals.items)) (opened (body_texts l.lines (record l.body { at = l.at })))
 
 abbrev pub decreases-loop-at : goal.decreases-loop-at
 decreases-loop-at l = length l.lines - l.at

@@ -1,6 +1,6 @@
-use Rattle.std.proofs.Common.{◌≤◌, ◌<◌, inl, inr, ap, sym, subst, arith, ℕ, length, map, Some, All, take}
+use Rattle.std.proofs.Common.{◌≤◌, ◌<◌, inl, inr, ap, sym, subst, arith, ℕ, length, Some, All, take}
 use Rattle.std.specs.List.{Contains}
-use Rattle.std.proofs.lemmas.List.{length-map, take_all}
+use Rattle.std.proofs.lemmas.List.{take_all}
 use Rattle.std.proofs.lemmas.List.Elements.{All-contains, All-more, All-same}
 use Rattle.asm_texts.specs.Stands.{Stands}
 use Rattle.asm_texts.specs.Prepared.{said}
@@ -8,24 +8,22 @@ use Rattle.asm_texts.proofs.varying.all_stand.Goals as goal
 
 pub loop-next-preserved : goal.loop-next-preserved
 loop-next-preserved c =
-    let P : ℕ → Type 0 = λ k. c.args.span.at ≤ k → k < c.args.span.end → k < length c.args.lines.now → Stands (map (λ line. line.now) c.args.lines.now) (Some (said c.args.call.now)) k in
+    let P : ℕ → Type 0 = λ k. c.args.span.at ≤ k → k < c.args.span.end → k < length c.args.lines.now → Stands c.args.lines.now (Some (said c.args.call.now)) k in
     let places = c.deref-varying.result.now.places.items in
     let at = c.loop-next.next in
     All-more P places at c.index.result.now (omega (arith, c.loop-next-test.true, c.len.ensures)) c.loop-next.invariant (subst P c.index.ensures (c.in_ok-stands.ensures c.if-not-branch.false))
 
 pub returns : goal.returns
 returns c = λ yes k after before within.
-    let texts = map (λ line. line.now) c.args.lines.now in
-    let P : ℕ → Type 0 = λ k. c.args.span.at ≤ k → k < c.args.span.end → k < length c.args.lines.now → Stands texts (Some (said c.args.call.now)) k in
+    let P : ℕ → Type 0 = λ k. c.args.span.at ≤ k → k < c.args.span.end → k < length c.args.lines.now → Stands c.args.lines.now (Some (said c.args.call.now)) k in
     let varying = c.args.call.now.varying.value in
     let same = c.deref-varying.ensures in
     let places = c.deref-varying.result.now.places.items in
     let from : varying.at ≤ k = omega (arith, after, c.if-span-varying.false, ap (λ v. v.at) same) in
     let to : k < varying.end = omega (arith, before, c.if-varying-span.false, ap (λ v. v.end) same) in
-    let here : k < length c.args.lines.now = omega (arith, within, length-map c.args.lines.now (λ line. line.now)) in
     let over : length places ≤ c.loop-next.next = omega (arith, c.loop-next-test.false, c.len.ensures) in
     let read : All P places = All-same P places (take c.loop-next.next places) (sym (take_all c.loop-next.next places over)) c.loop-next.invariant in
     elim (c.requires k from to within) [
-      | inl there ↦ All-contains P places k read (subst (λ v. Contains v.places.items k) (sym same) there) after before here
+      | inl there ↦ All-contains P places k read (subst (λ v. Contains v.places.items k) (sym same) there) after before within
       | inr stands ↦ stands
     ]

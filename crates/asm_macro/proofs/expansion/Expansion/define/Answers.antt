@@ -8,7 +8,7 @@ use Rattle.asm_line.specs.Views.{form_seen}
 use Rattle.asm_texts.specs.Prepared.{macro_seen, macros_seen}
 use Rattle.asm_macro.specs.State.{macro_named}
 use Rattle.asm_macro.specs.Ahead.{seen}
-use Rattle.asm_macro.specs.Private.Moves.{Resumes, moved, rest_of, state_of, texts_in}
+use Rattle.asm_macro.specs.Private.Moves.{Resumes, moved, rest_of, state_of}
 use Rattle.asm_macro.proofs.Heads.{defined_is, none_new, some_mapped}
 use Rattle.asm_macro.proofs.Stacks.{depth_is}
 use Rattle.asm_macro.proofs.expansion.Expansion.define.Goals as goal
@@ -24,7 +24,7 @@ returns-clause-taken c =
     let stands = ap (λ b. (b || nat_lt 0 (rest_of x).depth) || is_reserved (upper c.args.name.now)) (some_mapped (λ name. name.now) c.args.form.label ∙ sym c.is_some.ensures)
     ∙ ap (λ n. (c.is_some.result || nat_lt 0 n) || is_reserved (upper c.args.name.now)) (sym depth)
     ∙ ap (λ b. (c.is_some.result || nat_lt 0 (c.len.result + x.turns)) || b) (sym reserved) ∙ sym c.if-may_not_stand.ensures in
-    let none = none_new (λ m. macro_seen (texts_in x) m.now) c.macro_of.result (macro_named (state_of x) (upper c.args.name.now))
-    (c.macro_of.ensures.found (texts_in x) ∙ ap (λ k. lookup (bytes_eq k) (macros_seen (texts_in x) x.macros.entries)) (c.deref-2.ensures.value ∙ key)) (sym c.is_some-2.ensures ∙ c.if-is_some.false) in
+    let none = none_new (λ m. macro_seen x.lines m.now) c.macro_of.result (macro_named (state_of x) (upper c.args.name.now))
+    (c.macro_of.ensures.found x.lines ∙ ap (λ k. lookup (bytes_eq k) (macros_seen x.lines x.macros.entries)) (c.deref-2.ensures.value ∙ key)) (sym c.is_some-2.ensures ∙ c.if-is_some.false) in
     subst (λ p. Resumes c.keep.result (rest_of c.keep.new.self) (moved (rest_of x).depth (rest_of x).around p))
     (sym (defined_is (rest_of x).depth (state_of x) (seen c.args.line) f c.args.name.now c.in_ok-key.key.items (rest_of x).text (texts c.in-Some.parameters.items) key found stands none)) c.keep.ensures.taken

@@ -5,7 +5,7 @@ use Rattle.std.proofs.lemmas.List.Elements.{All-push, All-same}
 use Rattle.asm_sections.specs.Books.{IsBook}
 use Rattle.asm_texts.specs.Kept.{IsCall}
 use Rattle.asm_macro.specs.Private.Frames.{AreBooks, innermost, turns_in}
-use Rattle.asm_macro.specs.Private.Moves.{tables_in, texts_in}
+use Rattle.asm_macro.specs.Private.Moves.{tables_in}
 use Rattle.asm_macro.proofs.Stacks.{pushed}
 use Rattle.asm_macro.proofs.Entering.{entered}
 use Rattle.asm_macro.proofs.expansion.Expansion.enter.Goals as goal
@@ -29,10 +29,10 @@ returns-clause-sound c =
       turns = sound.turns ∙ sym (ap turns_in around);
       shallow = omega (arith, c.requires.shallow, ap length c.in_ok-push-2.ensures.items, length-append x.calls.items (c.args.call ∷ []));
       few = sound.few;
-      book = subst (λ b. IsBook (texts_in x) (innermost (map (λ call. said call) (reverse c.push-2.new.self.items))) b) (sym c.replace-book.ensures.after) (c.new.ensures (texts_in x) (innermost (map (λ call. said call) (reverse c.push-2.new.self.items))));
+      book = subst (λ b. IsBook x.lines (innermost (map (λ call. said call) (reverse c.push-2.new.self.items))) b) (sym c.replace-book.ensures.after) (c.new.ensures x.lines (innermost (map (λ call. said call) (reverse c.push-2.new.self.items))));
       source = sound.source;
       macros = sound.macros;
-      open_calls = All-same (IsCall (texts_in x)) c.push-2.new.self.items (x.calls.items ++ c.args.call ∷ []) c.in_ok-push-2.ensures.items (All-push (IsCall (texts_in x)) x.calls.items c.args.call sound.open_calls c.requires.call);
-      books = subst (λ ts. AreBooks (texts_in x) ts (reverse c.push-3.new.self.items)) (sym tables)
-          (subst (λ bs. AreBooks (texts_in x) (said c.args.call ∷ tables_in x) bs) (sym books) (subst (IsBook (texts_in x) (innermost (tables_in x))) (sym c.replace-book.ensures.value) sound.book, sound.books));
+      open_calls = All-same (IsCall x.lines) c.push-2.new.self.items (x.calls.items ++ c.args.call ∷ []) c.in_ok-push-2.ensures.items (All-push (IsCall x.lines) x.calls.items c.args.call sound.open_calls c.requires.call);
+      books = subst (λ ts. AreBooks x.lines ts (reverse c.push-3.new.self.items)) (sym tables)
+          (subst (λ bs. AreBooks x.lines (said c.args.call ∷ tables_in x) bs) (sym books) (subst (IsBook x.lines (innermost (tables_in x))) (sym c.replace-book.ensures.value) sound.book, sound.books));
     }

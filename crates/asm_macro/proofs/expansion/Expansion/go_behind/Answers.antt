@@ -1,11 +1,11 @@
-use Rattle.std.proofs.Common.{◌≡◌, ◌∙◌, ◌+◌, ◌-◌, ap, sym, subst, arith, map, length}
+use Rattle.std.proofs.Common.{◌≡◌, ◌∙◌, ◌+◌, ◌-◌, ap, sym, subst, arith, length}
 use Rattle.std.specs.List.{slice_get}
 use Rattle.asm_texts.specs.Prepared.{said}
 use Rattle.asm_sections.specs.Onward.{behind}
 use Rattle.asm_sections.specs.Views.{next_of, onward_seen}
 use Rattle.asm_macro.specs.Private.Frames.{innermost}
 use Rattle.asm_macro.specs.Private.Going.{Fits, part_of, texts_opened, turns_opened}
-use Rattle.asm_macro.specs.Private.Moves.{Resumes, moved, rest_of, state_of, tables_in, texts_in}
+use Rattle.asm_macro.specs.Private.Moves.{Resumes, moved, rest_of, state_of, tables_in}
 use Rattle.asm_macro.proofs.Onwards.{behind_opens, fits_behind, one_text, resumed_is}
 use Rattle.asm_macro.proofs.Stacks.{all_ok, last_table, so_ok}
 use Rattle.asm_macro.proofs.expansion.Expansion.go_behind.Goals as goal
@@ -14,12 +14,10 @@ pub go_with-requires-clause-fits : goal.go_with-requires-clause-fits
 go_with-requires-clause-fits c =
     let x = c.args.self.now in
     let onward = c.in_ok-onward.onward in
-    let lines = ap (map (λ line. line.now)) c.deref.ensures.value in
-    let names = last_table (λ n. said n) x.calls.items c.last.result (c.last.ensures.value ∙ ap (λ xs. slice_get xs (length xs - 1)) c.deref-2.ensures.value) in
-    let seen = subst (λ ts. onward_seen ts (innermost (tables_in x)) onward ≡ behind (next_of ts (innermost (tables_in x)) c.args.following)) lines
-    (subst (λ n. onward_seen (map (λ line. line.now) c.deref.result.now) n onward ≡ behind (next_of (map (λ line. line.now) c.deref.result.now) n c.args.following)) names c.in_ok-onward.ensures) in
+    let names = last_table (λ n. said n) x.calls.items c.last.result (c.last.ensures.value ∙ ap (λ xs. slice_get xs (length xs - 1)) c.deref.ensures.value) in
+    let seen = subst (λ n. onward_seen x.lines n onward ≡ behind (next_of x.lines n c.args.following)) names c.in_ok-onward.ensures in
     let many = length x.calls.items + x.turns in
-    subst (Fits many) (sym seen) (fits_behind many (texts_in x) (innermost (tables_in x)) c.args.following c.requires.shallow)
+    subst (Fits many) (sym seen) (fits_behind many x.lines (innermost (tables_in x)) c.args.following c.requires.shallow)
 
 pub returns-clause-count : goal.returns-clause-count
 returns-clause-count c = so_ok c.go_with.result (λ is. omega (arith, is)) c.go_with.ensures.count
@@ -27,28 +25,24 @@ returns-clause-count c = so_ok c.go_with.result (λ is. omega (arith, is)) c.go_
 pub returns-clause-around : goal.returns-clause-around
 returns-clause-around c =
     let x = c.args.self.now in
-    let one = one_text (onward_seen (texts_in x) (innermost (tables_in x)) c.in_ok-onward.onward) in
+    let one = one_text (onward_seen x.lines (innermost (tables_in x)) c.in_ok-onward.onward) in
     so_ok c.go_with.result (λ is. omega (arith, is, one)) c.go_with.ensures.around
 
 pub returns-clause-less : goal.returns-clause-less
 returns-clause-less c =
     let x = c.args.self.now in
     let onward = c.in_ok-onward.onward in
-    let lines = ap (map (λ line. line.now)) c.deref.ensures.value in
-    let names = last_table (λ n. said n) x.calls.items c.last.result (c.last.ensures.value ∙ ap (λ xs. slice_get xs (length xs - 1)) c.deref-2.ensures.value) in
-    let seen = subst (λ ts. onward_seen ts (innermost (tables_in x)) onward ≡ behind (next_of ts (innermost (tables_in x)) c.args.following)) lines
-    (subst (λ n. onward_seen (map (λ line. line.now) c.deref.result.now) n onward ≡ behind (next_of (map (λ line. line.now) c.deref.result.now) n c.args.following)) names c.in_ok-onward.ensures) in
-    let same = ap texts_opened seen ∙ behind_opens (next_of (texts_in x) (innermost (tables_in x)) c.args.following) ∙ sym (ap turns_opened seen) in
-    let one = one_text (onward_seen (texts_in x) (innermost (tables_in x)) onward) in
+    let names = last_table (λ n. said n) x.calls.items c.last.result (c.last.ensures.value ∙ ap (λ xs. slice_get xs (length xs - 1)) c.deref.ensures.value) in
+    let seen = subst (λ n. onward_seen x.lines n onward ≡ behind (next_of x.lines n c.args.following)) names c.in_ok-onward.ensures in
+    let same = ap texts_opened seen ∙ behind_opens (next_of x.lines (innermost (tables_in x)) c.args.following) ∙ sym (ap turns_opened seen) in
+    let one = one_text (onward_seen x.lines (innermost (tables_in x)) onward) in
     all_ok c.go_with.result (λ sound count around. omega (arith, sound.few, count, around, same, one)) c.go_with.ensures.sound c.go_with.ensures.count c.go_with.ensures.around
 
 pub returns-clause-resumed : goal.returns-clause-resumed
 returns-clause-resumed c =
     let x = c.args.self.now in
     let onward = c.in_ok-onward.onward in
-    let lines = ap (map (λ line. line.now)) c.deref.ensures.value in
-    let names = last_table (λ n. said n) x.calls.items c.last.result (c.last.ensures.value ∙ ap (λ xs. slice_get xs (length xs - 1)) c.deref-2.ensures.value) in
-    let seen = subst (λ ts. onward_seen ts (innermost (tables_in x)) onward ≡ behind (next_of ts (innermost (tables_in x)) c.args.following)) lines
-    (subst (λ n. onward_seen (map (λ line. line.now) c.deref.result.now) n onward ≡ behind (next_of (map (λ line. line.now) c.deref.result.now) n c.args.following)) names c.in_ok-onward.ensures) in
-    let is = ap (part_of (rest_of x).depth (state_of x)) seen ∙ sym (resumed_is (rest_of x).depth (next_of (texts_in x) (innermost (tables_in x)) c.args.following) (state_of x)) in
+    let names = last_table (λ n. said n) x.calls.items c.last.result (c.last.ensures.value ∙ ap (λ xs. slice_get xs (length xs - 1)) c.deref.ensures.value) in
+    let seen = subst (λ n. onward_seen x.lines n onward ≡ behind (next_of x.lines n c.args.following)) names c.in_ok-onward.ensures in
+    let is = ap (part_of (rest_of x).depth (state_of x)) seen ∙ sym (resumed_is (rest_of x).depth (next_of x.lines (innermost (tables_in x)) c.args.following) (state_of x)) in
     subst (λ p. Resumes c.go_with.result (rest_of c.go_with.new.self) (moved (rest_of x).depth (rest_of x).around p)) is c.go_with.ensures.gone

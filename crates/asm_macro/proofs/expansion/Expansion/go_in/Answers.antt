@@ -1,4 +1,4 @@
-use Rattle.std.proofs.Common.{◌≡◌, ◌∙◌, ◌+◌, ◌-◌, ap, sym, subst, arith, map, length}
+use Rattle.std.proofs.Common.{◌≡◌, ◌∙◌, ◌+◌, ◌-◌, ap, sym, subst, arith, length}
 use Rattle.std.specs.List.{slice_get}
 use Rattle.asm_texts.specs.Prepared.{said}
 use Rattle.asm_sections.specs.Onward.{branch}
@@ -6,7 +6,7 @@ use Rattle.asm_sections.specs.Sections.{branches_seen}
 use Rattle.asm_sections.specs.Views.{onward_seen}
 use Rattle.asm_macro.specs.Private.Frames.{innermost}
 use Rattle.asm_macro.specs.Private.Going.{Fits, part_of, turns_opened}
-use Rattle.asm_macro.specs.Private.Moves.{Resumes, moved, rest_of, state_of, tables_in, texts_in}
+use Rattle.asm_macro.specs.Private.Moves.{Resumes, moved, rest_of, state_of, tables_in}
 use Rattle.asm_macro.proofs.Onwards.{branch_opens, chosen_is, fits_branch, one_text}
 use Rattle.asm_macro.proofs.Stacks.{last_table, so_ok}
 use Rattle.asm_macro.proofs.expansion.Expansion.go_in.Goals as goal
@@ -15,37 +15,31 @@ pub go_with-requires-clause-fits : goal.go_with-requires-clause-fits
 go_with-requires-clause-fits c =
     let x = c.args.self.now in
     let onward = c.in_ok-onward.onward in
-    let lines = ap (map (λ line. line.now)) c.deref.ensures.value in
-    let names = last_table (λ n. said n) x.calls.items c.last.result (c.last.ensures.value ∙ ap (λ xs. slice_get xs (length xs - 1)) c.deref-2.ensures.value) in
-    let seen = subst (λ ts. onward_seen ts (innermost (tables_in x)) onward ≡ branch c.args.value (branches_seen ts (innermost (tables_in x)) c.args.choice)) lines
-    (subst (λ n. onward_seen (map (λ line. line.now) c.deref.result.now) n onward ≡ branch c.args.value (branches_seen (map (λ line. line.now) c.deref.result.now) n c.args.choice)) names c.in_ok-onward.ensures) in
+    let names = last_table (λ n. said n) x.calls.items c.last.result (c.last.ensures.value ∙ ap (λ xs. slice_get xs (length xs - 1)) c.deref.ensures.value) in
+    let seen = subst (λ n. onward_seen x.lines n onward ≡ branch c.args.value (branches_seen x.lines n c.args.choice)) names c.in_ok-onward.ensures in
     let many = length x.calls.items + x.turns in
-    subst (Fits many) (sym seen) (fits_branch many c.args.value (branches_seen (texts_in x) (innermost (tables_in x)) c.args.choice))
+    subst (Fits many) (sym seen) (fits_branch many c.args.value (branches_seen x.lines (innermost (tables_in x)) c.args.choice))
 
 pub returns-clause-count : goal.returns-clause-count
 returns-clause-count c =
     let x = c.args.self.now in
     let onward = c.in_ok-onward.onward in
-    let lines = ap (map (λ line. line.now)) c.deref.ensures.value in
-    let names = last_table (λ n. said n) x.calls.items c.last.result (c.last.ensures.value ∙ ap (λ xs. slice_get xs (length xs - 1)) c.deref-2.ensures.value) in
-    let seen = subst (λ ts. onward_seen ts (innermost (tables_in x)) onward ≡ branch c.args.value (branches_seen ts (innermost (tables_in x)) c.args.choice)) lines
-    (subst (λ n. onward_seen (map (λ line. line.now) c.deref.result.now) n onward ≡ branch c.args.value (branches_seen (map (λ line. line.now) c.deref.result.now) n c.args.choice)) names c.in_ok-onward.ensures) in
-    let none = ap turns_opened seen ∙ branch_opens c.args.value (branches_seen (texts_in x) (innermost (tables_in x)) c.args.choice) in
+    let names = last_table (λ n. said n) x.calls.items c.last.result (c.last.ensures.value ∙ ap (λ xs. slice_get xs (length xs - 1)) c.deref.ensures.value) in
+    let seen = subst (λ n. onward_seen x.lines n onward ≡ branch c.args.value (branches_seen x.lines n c.args.choice)) names c.in_ok-onward.ensures in
+    let none = ap turns_opened seen ∙ branch_opens c.args.value (branches_seen x.lines (innermost (tables_in x)) c.args.choice) in
     so_ok c.go_with.result (λ is. omega (arith, is, none)) c.go_with.ensures.count
 
 pub returns-clause-around : goal.returns-clause-around
 returns-clause-around c =
     let x = c.args.self.now in
-    let one = one_text (onward_seen (texts_in x) (innermost (tables_in x)) c.in_ok-onward.onward) in
+    let one = one_text (onward_seen x.lines (innermost (tables_in x)) c.in_ok-onward.onward) in
     so_ok c.go_with.result (λ is. omega (arith, is, one)) c.go_with.ensures.around
 
 pub returns-clause-chosen : goal.returns-clause-chosen
 returns-clause-chosen c =
     let x = c.args.self.now in
     let onward = c.in_ok-onward.onward in
-    let lines = ap (map (λ line. line.now)) c.deref.ensures.value in
-    let names = last_table (λ n. said n) x.calls.items c.last.result (c.last.ensures.value ∙ ap (λ xs. slice_get xs (length xs - 1)) c.deref-2.ensures.value) in
-    let seen = subst (λ ts. onward_seen ts (innermost (tables_in x)) onward ≡ branch c.args.value (branches_seen ts (innermost (tables_in x)) c.args.choice)) lines
-    (subst (λ n. onward_seen (map (λ line. line.now) c.deref.result.now) n onward ≡ branch c.args.value (branches_seen (map (λ line. line.now) c.deref.result.now) n c.args.choice)) names c.in_ok-onward.ensures) in
-    let is = ap (part_of (rest_of x).depth (state_of x)) seen ∙ sym (chosen_is c.args.value (rest_of x).depth (state_of x) (branches_seen (texts_in x) (innermost (tables_in x)) c.args.choice)) in
+    let names = last_table (λ n. said n) x.calls.items c.last.result (c.last.ensures.value ∙ ap (λ xs. slice_get xs (length xs - 1)) c.deref.ensures.value) in
+    let seen = subst (λ n. onward_seen x.lines n onward ≡ branch c.args.value (branches_seen x.lines n c.args.choice)) names c.in_ok-onward.ensures in
+    let is = ap (part_of (rest_of x).depth (state_of x)) seen ∙ sym (chosen_is c.args.value (rest_of x).depth (state_of x) (branches_seen x.lines (innermost (tables_in x)) c.args.choice)) in
     subst (λ p. Resumes c.go_with.result (rest_of c.go_with.new.self) (moved (rest_of x).depth (rest_of x).around p)) is c.go_with.ensures.gone

@@ -4,7 +4,7 @@ use Rattle.asm_texts.specs.Spans.{text_of}
 use Rattle.asm_sections.specs.Views.{onward_seen}
 use Rattle.asm_macro.specs.Private.Frames.{innermost}
 use Rattle.asm_macro.specs.Private.Going.{part_of}
-use Rattle.asm_macro.specs.Private.Moves.{Resumes, moved, rest_of, state_of, tables_in, texts_in}
+use Rattle.asm_macro.specs.Private.Moves.{Resumes, moved, rest_of, state_of, tables_in}
 use Rattle.asm_macro.proofs.Turned.{fits_into, gone_into, sound_into, stopped_into}
 use Rattle.asm_macro.proofs.expansion.Expansion.go_with.Goals as goal
 
@@ -12,7 +12,7 @@ pub returns-in_err-count_turn-in-Into-clause-gone : goal.returns-in_err-count_tu
 returns-in_err-count_turn-in-Into-clause-gone c =
     let x = c.args.self.now in
     let y = c.count_turn.new.self in
-    let texts = texts_in x in
+    let texts = x.lines in
     let names = innermost (tables_in x) in
     let depth = (rest_of x).depth in
     let why = c.in_err-count_turn-in-Into.field-0.0 in
@@ -23,7 +23,7 @@ returns-in_err-count_turn-in-Into-clause-gone c =
 pub returns-in_ok-push-in-Into-clause-sound : goal.returns-in_ok-push-in-Into-clause-sound
 returns-in_ok-push-in-Into-clause-sound c =
     let x = c.args.self.now in
-    let texts = texts_in x in
+    let texts = x.lines in
     let names = innermost (tables_in x) in
     let counted = c.in_ok-count_turn-in-Into.ensures in
     let fits = fits_into (length x.calls.items + x.turns) texts names c.args.onward c.in-Into.text c.in-Into.following c.in-Into.is c.requires.fits in
@@ -32,7 +32,7 @@ returns-in_ok-push-in-Into-clause-sound c =
 pub returns-in_ok-push-in-Into-clause-gone : goal.returns-in_ok-push-in-Into-clause-gone
 returns-in_ok-push-in-Into-clause-gone c =
     let x = c.args.self.now in
-    let texts = texts_in x in
+    let texts = x.lines in
     let names = innermost (tables_in x) in
     let depth = (rest_of x).depth in
     let counted = c.in_ok-count_turn-in-Into.ensures in

@@ -1,4 +1,4 @@
-use Rattle.std.proofs.Common.{◌≡◌, ◌∙◌, ◌-◌, ap, sym, subst, map, length, None, Some, [], ◌∷◌, ◌++◌}
+use Rattle.std.proofs.Common.{◌≡◌, ◌∙◌, ◌-◌, ap, sym, subst, length, None, Some, [], ◌∷◌, ◌++◌}
 use Rattle.std.specs.List.{slice_get}
 use Rattle.std.specs.Option.{option_map}
 use Rattle.std.proofs.lemmas.List.Elements.{All-push, All-same}
@@ -16,7 +16,7 @@ use Rattle.asm_macro.specs.Parts.{Go}
 use Rattle.asm_macro.specs.Parts as parts
 use Rattle.asm_macro.specs.Private.Frames.{innermost}
 use Rattle.asm_macro.specs.Private.Heads.{kept}
-use Rattle.asm_macro.specs.Private.Moves.{Fails, moved, rest_of, state_of, tables_in, texts_in}
+use Rattle.asm_macro.specs.Private.Moves.{Fails, moved, rest_of, state_of, tables_in}
 use Rattle.asm_macro.proofs.Stacks.{last_table}
 use Rattle.asm_macro.proofs.Onwards.{closing_none, closing_some}
 use Rattle.asm_texts.proofs.Macros.{absent}
@@ -28,13 +28,11 @@ returns-in-Some-strays-clause-taken c =
     let x = c.args.self.now in
     let y = c.body.new.self in
     let same = c.in_ok-found.ensures.kept in
-    let found = subst (λ z. body_of (rest_of z).text ≡ Some (body_seen (texts_in z) (innermost (tables_in z)) c.in-Some.body)) (sym same)
-    (sym c.in_ok-found.ensures.body ∙ ap (option_map (body_seen (texts_in x) (innermost (tables_in x)))) c.in-Some.is) in
-    let lines = ap (map (λ line. line.now)) c.deref.ensures.value in
-    let names = last_table (λ n. said n) y.calls.items c.last.result (c.last.ensures.value ∙ ap (λ xs. slice_get xs (length xs - 1)) c.deref-2.ensures.value) in
-    let strays = c.in_ok-strays.ensures ∙ ap (λ n. stray (line_of (map (λ line. line.now) c.deref.result.now) n c.in-Some.body.stretch.end)) names
-    ∙ ap (λ ts. stray (line_of ts (innermost (tables_in y)) c.in-Some.body.stretch.end)) lines in
-    let b = body_seen (texts_in y) (innermost (tables_in y)) c.in-Some.body in
+    let found = subst (λ z. body_of (rest_of z).text ≡ Some (body_seen z.lines (innermost (tables_in z)) c.in-Some.body)) (sym same)
+    (sym c.in_ok-found.ensures.body ∙ ap (option_map (body_seen x.lines (innermost (tables_in x)))) c.in-Some.is) in
+    let names = last_table (λ n. said n) y.calls.items c.last.result (c.last.ensures.value ∙ ap (λ xs. slice_get xs (length xs - 1)) c.deref.ensures.value) in
+    let strays = c.in_ok-strays.ensures ∙ ap (λ n. stray (line_of y.lines n c.in-Some.body.stretch.end)) names in
+    let b = body_seen y.lines (innermost (tables_in y)) c.in-Some.body in
     let some = texts c.args.parameters.items in
     let number = c.in-Some-strays.number in
     subst (λ z. moved (rest_of z).depth (rest_of z).around (kept (state_of z) (seen c.args.line) c.args.key.items some (body_of (rest_of z).text)) ≡ Fails [] number MacroFault.Stray) same
@@ -47,19 +45,17 @@ returns-clause-taken c =
     let x = c.args.self.now in
     let y = c.body.new.self in
     let same = c.in_ok-found.ensures.kept in
-    let found = subst (λ z. body_of (rest_of z).text ≡ Some (body_seen (texts_in z) (innermost (tables_in z)) c.in-Some.body)) (sym same)
-    (sym c.in_ok-found.ensures.body ∙ ap (option_map (body_seen (texts_in x) (innermost (tables_in x)))) c.in-Some.is) in
-    let lines = ap (map (λ line. line.now)) c.deref.ensures.value in
-    let names = last_table (λ n. said n) y.calls.items c.last.result (c.last.ensures.value ∙ ap (λ xs. slice_get xs (length xs - 1)) c.deref-2.ensures.value) in
-    let strays = c.in_ok-strays.ensures ∙ ap (λ n. stray (line_of (map (λ line. line.now) c.deref.result.now) n c.in-Some.body.stretch.end)) names
-    ∙ ap (λ ts. stray (line_of ts (innermost (tables_in y)) c.in-Some.body.stretch.end)) lines in
-    let end = closing_none (line_of (texts_in y) (innermost (tables_in y)) c.in-Some.body.stretch.end) c.in_ok-strays.strays strays c.in-None.is in
+    let found = subst (λ z. body_of (rest_of z).text ≡ Some (body_seen z.lines (innermost (tables_in z)) c.in-Some.body)) (sym same)
+    (sym c.in_ok-found.ensures.body ∙ ap (option_map (body_seen x.lines (innermost (tables_in x)))) c.in-Some.is) in
+    let names = last_table (λ n. said n) y.calls.items c.last.result (c.last.ensures.value ∙ ap (λ xs. slice_get xs (length xs - 1)) c.deref.ensures.value) in
+    let strays = c.in_ok-strays.ensures ∙ ap (λ n. stray (line_of y.lines n c.in-Some.body.stretch.end)) names in
+    let end = closing_none (line_of y.lines (innermost (tables_in y)) c.in-Some.body.stretch.end) c.in_ok-strays.strays strays c.in-None.is in
     let called = c.in_ok-called.called in
     let outside = subst (λ z. length z.calls.items ≡ 0) (sym same) c.requires.outside in
     let new = subst (λ z. macro_named (state_of z) c.args.key.items ≡ None) (sym same) c.requires.new in
     ap (λ z. moved (rest_of z).depth (rest_of z).around (kept (state_of z) (seen c.args.line) c.args.key.items (texts c.args.parameters.items) (body_of (rest_of z).text))) (sym same)
     ∙ kept_is y (seen c.args.line) c.insert.new.self.entries c.args.key c.args.parameters c.in-Some.body called outside found end c.in_ok-called.ensures.parts.0 c.in_ok-called.ensures.parts.1
-    (c.in_ok-insert.ensures.entries ∙ insert_entry-new _ y.macros c.args.key called (absent (texts_in y) y.macros.entries c.args.key.items new))
+    (c.in_ok-insert.ensures.entries ∙ insert_entry-new _ y.macros c.args.key called (absent y.lines y.macros.entries c.args.key.items new))
 
 pub returns-clause-sound : goal.returns-clause-sound
 returns-clause-sound c =
@@ -67,8 +63,7 @@ returns-clause-sound c =
     let sound = c.in_ok-found.ensures.sound in
     let called = c.in_ok-called.called in
     let new = subst (λ z. macro_named (state_of z) c.args.key.items ≡ None) (sym c.in_ok-found.ensures.kept) c.requires.new in
-    let entries = c.in_ok-insert.ensures.entries ∙ insert_entry-new _ y.macros c.args.key called (absent (texts_in y) y.macros.entries c.args.key.items new) in
-    let kept = subst (λ ls. IsKept (map (λ line. line.now) ls) called) c.deref-3.ensures.value c.in_ok-called.ensures.kept in
+    let entries = c.in_ok-insert.ensures.entries ∙ insert_entry-new _ y.macros c.args.key called (absent y.lines y.macros.entries c.args.key.items new) in
     record {
       short = sound.short;
       turns = sound.turns;
@@ -77,6 +72,6 @@ returns-clause-sound c =
       book = sound.book;
       books = sound.books;
       source = sound.source;
-      macros = All-same (λ e. IsKept (texts_in y) e.1) c.insert.new.self.entries (y.macros.entries ++ (c.args.key, called) ∷ []) entries (All-push (λ e. IsKept (texts_in y) e.1) y.macros.entries (c.args.key, called) sound.macros kept);
+      macros = All-same (λ e. IsKept y.lines e.1) c.insert.new.self.entries (y.macros.entries ++ (c.args.key, called) ∷ []) entries (All-push (λ e. IsKept y.lines e.1) y.macros.entries (c.args.key, called) sound.macros c.in_ok-called.ensures.kept);
       open_calls = sound.open_calls;
     }

@@ -4,7 +4,7 @@ use Rattle.asm_sections.specs.declared.following.Following.{Following}
 use Rattle.asm_macro.specs.Parts.{turns}
 use Rattle.asm_macro.specs.Private.Frames.{AreBooks, around_seen, innermost, turns_in}
 use Rattle.asm_sections.specs.Sections.{body_seen}
-use Rattle.asm_macro.specs.Private.Moves.{Resumes, moved, rest_of, state_of, tables_in, texts_in}
+use Rattle.asm_macro.specs.Private.Moves.{Resumes, moved, rest_of, state_of, tables_in}
 use Rattle.asm_texts.specs.Prepared.{said}
 use Rattle.std.proofs.lemmas.List.Elements.{All-same, All-take}
 use Rattle.asm_sections.specs.Books.{IsBook}
@@ -17,12 +17,12 @@ pub returns-in-Turns-clause-resumed : goal.returns-in-Turns-clause-resumed
 returns-in-Turns-clause-resumed c =
     let x = c.args.self.now in
     let left = c.pop.new.self.items in
-    let body = body_seen (texts_in x) (innermost (tables_in x)) c.in-Turns.body in
+    let body = body_seen x.lines (innermost (tables_in x)) c.in-Turns.body in
     let is = c.in-Some.ensures.items ∙ ap (λ f. left ++ f ∷ []) c.in-Turns.is in
     let one = popped x left (Following.Turns c.in-Turns.left c.in-Turns.number c.in-Turns.body) c.requires.over is in
     let same = turns_popped x left c.in-Turns.left c.in-Turns.number c.in-Turns.body c.requires.sound is in
     subst (Resumes c.go_behind-in-Turns.result (rest_of c.go_behind-in-Turns.new.self))
-    (sym (one ∙ ap (λ t. moved (length (tables_in x) + t) (around_seen (texts_in x) (tables_in x) (reverse left)) (turns (length (tables_in x) + t) c.in-Turns.left c.in-Turns.number body (state_of x))) same)) c.go_behind-in-Turns.ensures.resumed
+    (sym (one ∙ ap (λ t. moved (length (tables_in x) + t) (around_seen x.lines (tables_in x) (reverse left)) (turns (length (tables_in x) + t) c.in-Turns.left c.in-Turns.number body (state_of x))) same)) c.go_behind-in-Turns.ensures.resumed
 
 pub returns-in-Rest-clause-sound : goal.returns-in-Rest-clause-sound
 returns-in-Rest-clause-sound c =
@@ -33,7 +33,7 @@ returns-in-Rest-clause-sound c =
     let len : vec_len x.calls - 1 ≡ length x.calls.items - 1 = omega (arith, x.calls.ok) in
     let rest = c.pop-in-Rest.ensures.rest ∙ ap (λ n. take n x.calls.items) len in
     let tables = popped_tables (λ call. said call) x.calls.items c.pop-in-Rest.new.self.items rest in
-    let books = c.outer_book.ensures (texts_in x) (tables_in x) sound.books in
+    let books = c.outer_book.ensures x.lines (tables_in x) sound.books in
     record {
       short = sound.short;
       turns = sound.turns ∙ ap turns_in around;
@@ -41,9 +41,9 @@ returns-in-Rest-clause-sound c =
       few = sound.few;
       source = sound.source;
       macros = sound.macros;
-      open_calls = All-same (IsCall (texts_in x)) c.pop-in-Rest.new.self.items (take (length x.calls.items - 1) x.calls.items) rest (All-take (IsCall (texts_in x)) (length x.calls.items - 1) x.calls.items sound.open_calls);
-      book = subst (λ ts. IsBook (texts_in x) (innermost ts) c.outer_book.result) (sym tables) books.0;
-      books = subst (λ ts. AreBooks (texts_in x) ts (reverse c.outer_book.new.books.items)) (sym tables) books.1;
+      open_calls = All-same (IsCall x.lines) c.pop-in-Rest.new.self.items (take (length x.calls.items - 1) x.calls.items) rest (All-take (IsCall x.lines) (length x.calls.items - 1) x.calls.items sound.open_calls);
+      book = subst (λ ts. IsBook x.lines (innermost ts) c.outer_book.result) (sym tables) books.0;
+      books = subst (λ ts. AreBooks x.lines ts (reverse c.outer_book.new.books.items)) (sym tables) books.1;
     }
 
 pub returns-in-Rest-clause-resumed : goal.returns-in-Rest-clause-resumed
