@@ -60,6 +60,7 @@ fn put_text(names: &Replacements, place: Place, out: &mut Vec<u8>) -> Result<(),
 }
 
 /// Writes a token behind what was written, or what its name is replaced by.
+#[tactic(auto, unfolding(crate::specs::Views::table))]
 fn put_swapped(names: &Replacements, token: &Token<'_>, out: &mut Vec<u8>) -> Result<(), AllocError>
     ensures { OnOk result (out.new.items ≡ out.old.items ++ swapped (table names.now) (lexeme token.now)) }
 {
