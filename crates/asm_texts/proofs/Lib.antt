@@ -2,3 +2,4 @@ pub mod Macros
 mod Openings
 mod Unvaried
 mod Pairs
+mod Unpaired

@@ -4,6 +4,7 @@
 
 mod call;
 mod open;
+mod plain;
 mod prepared;
 mod reading;
 mod span;

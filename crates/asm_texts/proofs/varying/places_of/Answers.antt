@@ -1,12 +1,12 @@
 use Rattle.std.proofs.Common.{◌≡◌, ◌∙◌, ap, sym, arith, false, map, [], get_or}
 use Rattle.std.proofs.Math.ListN.{get_or-map}
 use Rattle.std.proofs.lemmas.List.{length-map}
-use Rattle.asm_replace.specs.Views.{table}
+use Rattle.asm_replace.specs.Views.{in_call}
 use Rattle.asm_texts.specs.Lines.{heard}
 use Rattle.asm_texts.specs.Private.Varying.{may_vary}
 use Rattle.asm_texts.proofs.Unvaried.{named, stays, unnamed}
-use Rattle.asm_texts.proofs.varying.varying_of.Goals as goal
-use Rattle.asm_texts.proofs.varying.varying_of.Goals.{then-branch+in_ok-push, else-branch, then-loop-at-test+else-at-lines, else-loop-at-test}
+use Rattle.asm_texts.proofs.varying.places_of.Goals as goal
+use Rattle.asm_texts.proofs.varying.places_of.Goals.{then-branch+in_ok-push, else-branch, then-loop-at-test+else-at-lines, else-loop-at-test}
 
 pub loop-at-preserved : goal.loop-at-preserved
 loop-at-preserved c = λ t only.
@@ -16,12 +16,12 @@ loop-at-preserved c = λ t only.
       | then-branch+in_ok-push w ↦ named texts t c.loop-at.places.items c.if-branch.places.items c.args.body.at c.loop-at.at told (ap (λ v. v.items) w.places-is ∙ w.in_ok-push.ensures.items)
       | else-branch w ↦
           let line = get_or-map (λ line. line.now) c.args.lines.now c.loop-at.at (record { ref_ptr = (0, 0); now = [] }) in
-          let same : may_vary (table c.args.names.now.entries) (heard (get_or texts c.loop-at.at [])) ≡ false = ap (λ l. may_vary (table c.args.names.now.entries) (heard l)) line ∙ sym c.in_ok-may_vary.ensures ∙ w.if-branch.false in
-          unnamed texts t c.loop-at.places.items c.if-branch.places.items c.args.body.at c.loop-at.at told (ap (λ v. v.items) w.places-is) (stays c.unreplaced.ensures c.front_stays.ensures t (table c.args.names.now.entries) only (get_or texts c.loop-at.at []) same)
+          let same : may_vary (in_call c.args.names.now [] 0) (heard (get_or texts c.loop-at.at [])) ≡ false = ap (λ l. may_vary (in_call c.args.names.now [] 0) (heard l)) line ∙ sym c.in_ok-may_vary.ensures ∙ w.if-branch.false in
+          unnamed texts t c.loop-at.places.items c.if-branch.places.items c.args.body.at c.loop-at.at told (ap (λ v. v.items) w.places-is) (stays c.unreplaced.ensures c.front_stays.ensures t (in_call c.args.names.now [] 0) only (get_or texts c.loop-at.at []) same)
     ]
 
-pub returns-clause-varying : goal.returns-clause-varying
-returns-clause-varying c = λ t only k after before within.
+pub returns : goal.returns
+returns c = λ t only k after before within.
     elim c.loop-at-test.branch [
       | then-loop-at-test+else-at-lines w ↦ c.loop-at.invariant t only k after (omega (arith, within, w.if-at-lines.false, length-map c.args.lines.now (λ line. line.now))) within
       | else-loop-at-test w ↦ c.loop-at.invariant t only k after (omega (arith, before, w.loop-at-test.false)) within
