@@ -1,5 +1,5 @@
 -- A line with whole names replaced.
-use Rattle.std.specs.Prelude.{ℕ, ◌+◌, List, [], ◌∷◌, ◌++◌, if◌then◌else◌, length, drop, codes, decimal}
+use Rattle.std.specs.Prelude.{◌≡◌, ℕ, ◌+◌, List, [], ◌∷◌, ◌++◌, if◌then◌else◌, length, drop, codes, decimal}
 use Rattle.std.specs.Option.{unwrap_or}
 use Rattle.std.specs.Map.{lookup}
 use Rattle.std.specs.Str.{bytes_eq}
@@ -11,6 +11,10 @@ use Rattle.asm_replace.specs.Pieces.{gap, behind}
 -- names in upper case, each with what is put in its place: of equal names the first counts
 abbrev pub Table : Type 0
 Table = List (List ℕ × List ℕ)
+
+-- Tables that say the same of each name.
+abbrev pub SaySame : Table → Table → Type 0
+SaySame t u = (name : List ℕ) → lookup (bytes_eq name) t ≡ lookup (bytes_eq name) u
 
 -- a token as it stands, or what its name is replaced by
 abbrev pub swapped : Table → Lexeme → List ℕ

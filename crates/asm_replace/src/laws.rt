@@ -9,7 +9,7 @@ ghost use Rattle.asm_scan.specs.Scanned.{scanned};
 ghost use Rattle.asm_scan.specs.Tokens.{Lexeme};
 ghost use Rattle.asm_line.specs.Tokens.{is_name};
 ghost use Rattle.asm_replace.specs.Fronts.{AreLeft, Begins};
-ghost use Rattle.asm_replace.specs.Replaced.{Table, replaced};
+ghost use Rattle.asm_replace.specs.Replaced.{SaySame, Table, replaced};
 
 /// A line none of whose names stands in the table is left as it is.
 pub fn unreplaced()
@@ -25,6 +25,6 @@ pub fn front_stays()
 
 /// Tables that say the same of each name replace alike.
 pub fn by_names()
-    ensures { (t u : Table) → ((name : List ℕ) → lookup (bytes_eq name) t ≡ lookup (bytes_eq name) u) → (line : List ℕ) (tokens : List Lexeme) →
+    ensures { (t u : Table) → SaySame t u → (line : List ℕ) (tokens : List Lexeme) →
         replaced t line tokens ≡ replaced u line tokens }
 {}

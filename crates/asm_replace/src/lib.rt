@@ -4,8 +4,9 @@
 mod called;
 pub mod laws;
 mod local;
+mod names;
 mod whole_names;
 
 pub use called::arguments;
-pub use local::local_name;
+pub use names::Names;
 pub use whole_names::{Replacements, after, replace};

@@ -1,22 +1,28 @@
 //! Whole names replaced.
 
-ghost use Rattle.std.specs.Prelude.{◌≡◌, ◌++◌, OnOk, option_copied};
-ghost use Rattle.std.specs.Map.{lookup};
-ghost use Rattle.std.specs.Str.{bytes_eq};
+ghost use Rattle.std.specs.Prelude.{◌≡◌, ◌++◌, OnOk};
 ghost use Rattle.asm_scan.specs.Tokens.{lexeme, lexemes};
 ghost use Rattle.asm_words.specs.Words.{upper};
 ghost use Rattle.asm_replace.specs.Pieces.{behind};
 ghost use Rattle.asm_replace.specs.Replaced.{replaced, swapped};
-ghost use Rattle.asm_replace.specs.Views.{table};
+ghost use Rattle.asm_replace.specs.Views.{table, text_of, texts};
 
+use crate::local::put_local_name;
+use crate::names::{NameKind, Names, Place};
 use asm_line::is_name;
 use asm_scan::{Token, blank_len};
-use indexmap::IndexMap;
-use name_key::NameKey;
 use std::alloc::AllocError;
+use std::rc::Rc;
 
-/// What stands in the place of each name, which is in upper case.
-pub type Replacements = IndexMap<Vec<u8>, Vec<u8>, NameKey>;
+/// What the names of a macro are replaced by in a call of it.
+#[derive(Debug, Drop)]
+pub struct Replacements {
+    pub names: Rc<Names>,
+    /// What the parameters are replaced by, in their order: a missing one is empty, one too many counts for nothing.
+    pub arguments: Vec<Vec<u8>>,
+    /// The number of the first LOCAL name.
+    pub counter: u64,
+}
 
 /// What stands behind the first token of a line.
 pub fn after<'a>(line: &'a [u8], token: &Token<'_>) -> &'a [u8]
@@ -36,19 +42,27 @@ fn put_upper(name: &[u8], out: &mut Vec<u8>) -> Result<(), AllocError>
     Ok(())
 }
 
-/// What a name in upper case is replaced by.
-fn replacement<'a>(names: &'a Replacements, name: &[u8]) -> Option<&'a [u8]>
-    ensures { option_copied result ≡ lookup (bytes_eq name.now) (table names.now.entries) }
+/// Writes what is put in the place of a name behind what was written. A LOCAL name whose number is no u64 is none that memory
+/// has room for.
+fn put_text(names: &Replacements, place: Place, out: &mut Vec<u8>) -> Result<(), AllocError>
+    ensures { OnOk result (out.new.items ≡ out.old.items ++ text_of (texts names.now.arguments.items) names.now.counter place) }
 {
-    match names.get(name) {
-        Some(text) => Some(text.as_slice()),
-        None => None,
+    match place.kind {
+        NameKind::Parameter => match names.arguments.get(place.at) {
+            Some(argument) => out.extend_from_slice(argument),
+            None => Ok(()),
+        },
+        NameKind::Local => match names.counter.checked_add(place.at as u64) {
+            Some(number) => put_local_name(number, out),
+            None => Err(AllocError),
+        },
     }
 }
 
 /// Writes a token behind what was written, or what its name is replaced by.
+#[tactic(auto, unfolding(crate::specs::Views::table))]
 fn put_swapped(names: &Replacements, token: &Token<'_>, out: &mut Vec<u8>) -> Result<(), AllocError>
-    ensures { OnOk result (out.new.items ≡ out.old.items ++ swapped (table names.now.entries) (lexeme token.now)) }
+    ensures { OnOk result (out.new.items ≡ out.old.items ++ swapped (table names.now) (lexeme token.now)) }
 {
     if !is_name(token) {
         return out.extend_from_slice(token.text);
@@ -56,9 +70,12 @@ fn put_swapped(names: &Replacements, token: &Token<'_>, out: &mut Vec<u8>) -> Re
     // The name stands in upper case where its text is to stand, so that no memory is taken for it alone.
     let start = out.len();
     put_upper(token.text, out)?;
-    let text = replacement(names, out.get(start..).unwrap_or(&[])).unwrap_or(token.text);
+    let place = names.names.place_of(out.get(start..).unwrap_or(&[]));
     out.truncate(start);
-    out.extend_from_slice(text)
+    match place {
+        Some(place) => put_text(names, place, out),
+        None => out.extend_from_slice(token.text),
+    }
 }
 
 /// Writes a line behind what was written, with each whole name of the table replaced. `tokens` are the line's.
@@ -68,7 +85,7 @@ pub fn replace(
     tokens: &[Token<'_>],
     out: &mut Vec<u8>,
 ) -> Result<(), AllocError>
-    ensures { OnOk result (out.new.items ≡ out.old.items ++ replaced (table names.now.entries) line.now (lexemes tokens.entry.now)) }
+    ensures { OnOk result (out.new.items ≡ out.old.items ++ replaced (table names.now) line.now (lexemes tokens.entry.now)) }
 {
     let mut rest = line;
     for token in tokens {

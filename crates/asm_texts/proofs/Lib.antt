@@ -3,3 +3,4 @@ pub mod Macros
 mod Openings
 mod Unvaried
 mod Pairs
+mod Unpaired

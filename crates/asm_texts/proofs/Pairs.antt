@@ -32,11 +32,11 @@ in_front b (x ∷ xs) ys p =
       | inr not_here ↦ or_right (is_pair b x) (paired x (xs ++ ys)) (in_front x xs ys (sym (ap (λ h. h || paired x xs) not_here) ∙ p))
     ]
 
-behind : (b : ℕ) (xs ys : List ℕ) → paired 0 ys ≡ true → paired b (xs ++ ys) ≡ true
+pub behind : (b : ℕ) (xs ys : List ℕ) → paired 0 ys ≡ true → paired b (xs ++ ys) ≡ true
 behind b [] ys p = any_before b ys p
 behind b (x ∷ xs) ys p = or_right (is_pair b x) (paired x (xs ++ ys)) (behind x xs ys p)
 
-lower_append : (xs ys : List ℕ) → str_to_ascii_lowercase (xs ++ ys) ≡ str_to_ascii_lowercase xs ++ str_to_ascii_lowercase ys
+pub lower_append : (xs ys : List ℕ) → str_to_ascii_lowercase (xs ++ ys) ≡ str_to_ascii_lowercase xs ++ str_to_ascii_lowercase ys
 lower_append [] ys = refl
 lower_append (x ∷ xs) ys = ap (λ l. to_ascii_lowercase x ∷ l) (lower_append xs ys)
 
@@ -46,7 +46,7 @@ pair_front xs ys p = ap (paired 0) (lower_append xs ys) ∙ in_front 0 (str_to_a
 pair_behind : (xs ys : List ℕ) → has_pair ys ≡ true → has_pair (xs ++ ys) ≡ true
 pair_behind xs ys p = ap (paired 0) (lower_append xs ys) ∙ behind 0 (str_to_ascii_lowercase xs) (str_to_ascii_lowercase ys) p
 
-without : (b : Bool) → (b ≡ true → ⊥) → b ≡ false
+pub without : (b : Bool) → (b ≡ true → ⊥) → b ≡ false
 without true never = absurd (never refl)
 without false never = refl
 

@@ -1,5 +1,6 @@
 -- Lines that are to blocks what they are as they stand, whatever their names are replaced by.
-use Rattle.std.proofs.Common.{◌≡◌, ◌⊎◌, inl, inr, ◌<◌, ◌≤◌, ◌+◌, ◌∙◌, ◌||◌, ◌&&◌, sym, ap, refl, subst, ℕ, suc, Bool, true, false, is_some, if◌then◌else◌, List, [], ◌∷◌, ◌++◌, Option, Some, None, Result, Ok, Err, IfOk, All, cond, codes, arith, take, length}
+use Rattle.std.proofs.Common.{◌≡◌, ◌⊎◌, inl, inr, ◌<◌, ◌≤◌, ◌+◌, ◌∙◌, ◌||◌, ◌&&◌, sym, ap, refl, subst, ℕ, suc, Bool, true, false, is_some, if◌then◌else◌, List, [], ◌∷◌, ◌++◌, Option, Some, None, Result, Ok, Err, IfOk, Vec, All, cond, codes, arith, take, length}
+use Rattle.std.specs.Global.{Global}
 use Rattle.std.specs.List.{Contains, list_any}
 use Rattle.std.specs.Map.{lookup}
 use Rattle.std.specs.Str.{bytes_eq}
@@ -15,16 +16,22 @@ use Rattle.asm_line.specs.Forms.{Form, form, headed, labelled, worded}
 use Rattle.asm_line.specs.Tokens.{is_colon, is_name, is_word}
 use Rattle.asm_block.specs.declared.matching.Role.{Role}
 use Rattle.asm_replace.specs.Fronts.{AreLeft, Begins, IsLeft, goes_on}
-use Rattle.asm_replace.specs.Replaced.{Table, arguments_of, local_name, local_names, replaced}
+use Rattle.asm_replace.specs.declared.names.Names.{Names}
+use Rattle.asm_replace.specs.declared.names.Place.{Place}
+use Rattle.asm_replace.specs.declared.whole_names.Replacements.{Replacements}
+use Rattle.asm_replace.specs.Replaced.{Table, replaced}
+use Rattle.asm_replace.specs.Views.{in_call, seen, table, text_of}
+use Rattle.asm_replace.specs.Views.{texts as texts_of}
 use Rattle.asm_texts.specs.Roles.{role_of_head}
 use Rattle.asm_texts.specs.declared.call.Call.{Call}
-use Rattle.asm_texts.specs.declared.span.Span.{Span}
+use Rattle.asm_texts.specs.declared.open.Opened.{Opened}
 use Rattle.asm_texts.specs.declared.varying.Varying.{Varying}
-use Rattle.asm_texts.specs.Kept.{HasOnly, IsCall, IsVarying}
+use Rattle.asm_texts.specs.Kept.{HasOnly, IsCall, IsVarying, Suffice, VariesIn}
 use Rattle.asm_texts.specs.Stands.{Stands, role_in}
-use Rattle.asm_texts.specs.Prepared.{SaySame, said}
+use Rattle.asm_texts.specs.Prepared.{said}
 use Rattle.asm_texts.specs.Calls.{replaced_by}
 use Rattle.asm_texts.specs.Lines.{form_by, form_of, heard, tokens_in}
+use Rattle.asm_texts.specs.Plain.{ArePlain}
 use Rattle.asm_texts.specs.Private.Varying.{asked, asked_labelled, asked_of, is_held, may_vary, with_next}
 
 -- What the laws on replaced lines say.
@@ -120,12 +127,6 @@ four_left t table only a b c d more e =
     let three = none_first p c (take (with_next g 1) (d ∷ more)) (sym (ap (λ n. list_any p (take n (c ∷ d ∷ more))) (one_more g 1)) ∙ two.1) in
     (not_held t table only a one.0, (not_held t table only b two.0, (not_held t table only c three.0, last_left t table only d more g refl three.1)))
 
-unless_this : (b : Bool) (x y : List ℕ) (o p : Option (List ℕ)) → cond b (Some x) o ≡ None → (o ≡ None → p ≡ None) → cond b (Some y) p ≡ None
-unless_this true x y o p none next = absurd (some_none x none) where
-  some_none : (x : List ℕ) → ◌≡◌ {A = Option (List ℕ)} (Some x) None → ⊥
-  some_none x e = cc
-unless_this false x y o p none next = next none
-
 -- What a line is to blocks.
 
 module _ (leaves : Leaves) (keeps : Keeps) (t table : Table) (only : HasOnly t table) (line : List ℕ) where
@@ -198,31 +199,39 @@ named texts t places now from at told e = λ k after before within.
       | inr other ↦ let less : k < at = omega (arith, before, other) in with_place texts t places at k (told k after less within)
     ])
 
--- Tables that say the same of each name.
-pub by_names : {E : Type 0} (texts : List (List ℕ)) (t u : Table) (s : Span) → SaySame t u → (r : Result Varying E) → IfOk r (IsVarying texts t) → IfOk r (λ v. (v.at ≡ s.at) × (v.end ≡ s.end))
-    → IfOk r (λ v. (v.at ≡ s.at) × (v.end ≡ s.end) × IsVarying texts u v)
-by_names texts t u s same (Ok v) varying range = (range.0, range.1, λ w only. varying w (λ name none. only name (sym (same name) ∙ none)))
-by_names texts t u s same (Err e) varying range = tt
+-- what is found of the lines of an opened body
+pub in_opened : {E : Type 0} (texts : List (List ℕ)) (names : Names) (o : Opened) (r : Result Varying E) → IfOk r (IsVarying texts (in_call names [] 0)) → IfOk r (λ v. (v.at ≡ o.rest.at) × (v.end ≡ o.rest.end))
+    → IfOk r (VariesIn texts names (Some o))
+in_opened texts names o (Ok v) varying range = (range.0, range.1, varying)
+in_opened texts names o (Err e) varying range = tt
 
--- What arguments there are, and from which number LOCAL names count, changes no name of a call.
+-- Names say the same of what is replaced, whatever their arguments and LOCAL names are.
 
-no_local : (name : List ℕ) (c d : ℕ) (locals : List (List ℕ)) → lookup (bytes_eq name) (local_names c locals) ≡ None → lookup (bytes_eq name) (local_names d locals) ≡ None
-no_local name c d [] none = refl
-no_local name c d (l ∷ ls) none = unless_this (bytes_eq name l) (local_name c) (local_name d) (lookup (bytes_eq name) (local_names (c + 1) ls)) (lookup (bytes_eq name) (local_names (d + 1) ls)) none (no_local name (c + 1) (d + 1) ls)
+has_only : (f g : Place → List ℕ) (entries : List (Vec ℕ Global × Place)) → HasOnly (seen f entries) (seen g entries)
+has_only f g [] name none = refl
+has_only f g (e ∷ es) name none = by_first (bytes_eq name e.0.items) (f e.1) (g e.1) (lookup (bytes_eq name) (seen f es)) (lookup (bytes_eq name) (seen g es)) none (has_only f g es name) where
+  some_none : (x : List ℕ) → ◌≡◌ {A = Option (List ℕ)} (Some x) None → ⊥
+  some_none x e = cc
 
-no_name : (name : List ℕ) (c d : ℕ) (parameters some other locals : List (List ℕ)) → lookup (bytes_eq name) (arguments_of parameters some ++ local_names c locals) ≡ None
-    → lookup (bytes_eq name) (arguments_of parameters other ++ local_names d locals) ≡ None
-no_name name c d [] some other locals none = no_local name c d locals none
-no_name name c d (p ∷ ps) [] [] locals none = unless_this (bytes_eq name p) [] [] _ _ none (no_name name c d ps [] [] locals)
-no_name name c d (p ∷ ps) [] (b ∷ bs) locals none = unless_this (bytes_eq name p) [] b _ _ none (no_name name c d ps [] bs locals)
-no_name name c d (p ∷ ps) (a ∷ more) [] locals none = unless_this (bytes_eq name p) a [] _ _ none (no_name name c d ps more [] locals)
-no_name name c d (p ∷ ps) (a ∷ more) (b ∷ bs) locals none = unless_this (bytes_eq name p) a b _ _ none (no_name name c d ps more bs locals)
+  by_first : (b : Bool) (x y : List ℕ) (o p : Option (List ℕ)) → cond b (Some y) p ≡ None → (p ≡ None → o ≡ None) → cond b (Some x) o ≡ None
+  by_first true x y o p none next = absurd (some_none y none)
+  by_first false x y o p none next = next none
 
--- a call of a macro
-pub call_of : (texts : List (List ℕ)) (c : Call) (v : Varying) (counter : ℕ) (parameters some locals : List (List ℕ)) → SaySame (said c) (arguments_of parameters some ++ local_names counter locals)
-    → IsVarying texts (arguments_of parameters [] ++ local_names 0 locals) v → c.varying.value ≡ v → IsCall texts c
-call_of texts c v counter parameters some locals same varying is =
-    λ k after before within.
-    let from : v.at ≤ k = omega (arith, after, ap (λ v. v.at) is) in
-    let to : k < v.end = omega (arith, before, ap (λ v. v.end) is) in
-    subst (λ w. Contains w.places.items k ⊎ Stands texts (Some (said c)) k) (sym is) (varying (said c) (λ name none. same name ∙ no_name name 0 counter parameters [] some locals none) k from to within)
+said_of : (r : Replacements) → table r ≡ in_call r.names.value (texts_of r.arguments.items) r.counter
+unfolding table
+said_of r = refl
+
+-- what a call puts in the place of its names
+pub said_in : (c : Call) (names : Names) → c.names.names.value ≡ names → said c ≡ in_call names (texts_of c.names.arguments.items) c.names.counter
+said_in c names is = said_of c.names ∙ ap (λ n. in_call n (texts_of c.names.arguments.items) c.names.counter) is
+
+-- a call of a macro, whose texts are plain where it says so
+pub call_of : (texts : List (List ℕ)) (c : Call) (names : Names) (v : Varying) (some : List (List ℕ)) (counter : ℕ) → said c ≡ in_call names some counter → (c.plain ≡ true → ArePlain (in_call names some counter))
+    → IsVarying texts (in_call names [] 0) v → c.varying.value ≡ v → IsCall texts c
+call_of texts c names v some counter same plain varying is =
+    let told = varying (in_call names some counter) (has_only (text_of some counter) (text_of [] 0) names.places.entries) in
+    let asks : Varying → Bool → List ℕ = λ w b. if b then w.paired.items else w.places.items in
+    subst (λ w. Suffice texts w.at w.end (asks w c.plain) (said c)) (sym is) (subst (λ t. Suffice texts v.at v.end (asks v c.plain) t) (sym same) (elim (cases_Bool c.plain) [
+      | inl is_plain ↦ subst (λ b. Suffice texts v.at v.end (asks v b) (in_call names some counter)) (sym is_plain) (told.1 (plain is_plain))
+      | inr other ↦ subst (λ b. Suffice texts v.at v.end (asks v b) (in_call names some counter)) (sym other) told.0
+    ]))

@@ -4,5 +4,6 @@ pub mod Calls
 pub mod Spans
 pub mod Stands
 pub mod Prepared
+pub mod Plain
 pub mod Kept
 pub mod Private

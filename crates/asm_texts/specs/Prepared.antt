@@ -1,9 +1,8 @@
 -- A call of a macro, made ready.
 use Rattle.std.specs.Prelude.{◌≡◌, ◌+◌, ◌-◌, ◌∷◌, ◌++◌, [], ℕ, List, Option, Some, None, Vec, length, map, take, drop}
 use Rattle.std.specs.Global.{Global}
-use Rattle.std.specs.Map.{lookup}
-use Rattle.std.specs.Str.{bytes_eq}
 use Rattle.asm_scan.specs.Tokens.{Lexeme}
+pub use Rattle.asm_replace.specs.Replaced.{SaySame}
 use Rattle.asm_replace.specs.Replaced.{Table, arguments_of, local_names}
 use Rattle.asm_replace.specs.Views as replaced
 use Rattle.asm_texts.specs.declared.span.Span.{Span}
@@ -20,11 +19,7 @@ body_texts all s = take (s.end - s.at) (drop s.at all)
 
 -- what the names of a call are replaced by
 abbrev pub said : Call → Table
-said c = replaced.table c.names.entries
-
--- Tables that say the same of each name.
-abbrev pub SaySame : Table → Table → Type 0
-SaySame t u = (name : List ℕ) → lookup (bytes_eq name) t ≡ lookup (bytes_eq name) u
+said c = replaced.table c.names
 
 abbrev pub macro_seen : List (List ℕ) → kept.Macro → Macro
 macro_seen texts m = record { parameters = replaced.texts m.parameters.items; body = map (λ l. l.text) (text_of texts None m.body) }

@@ -6,13 +6,13 @@ ghost use Rattle.std.specs.Map.{lookup};
 ghost use Rattle.std.specs.Str.{bytes_eq};
 ghost use Rattle.asm_texts.specs.Prepared.{macro_seen, macros_seen};
 ghost use Rattle.asm_replace.specs.Views.{texts};
-ghost use Rattle.asm_texts.specs.Kept.{IsKept, VariesIn};
+ghost use Rattle.asm_texts.specs.Kept.{AreNames, IsKept, VariesIn};
 
 use crate::lines::Lines;
-use crate::open::{Opened, names_of, open};
+use crate::open::{Opened, open};
 use crate::span::Span;
 use crate::varying::{Varying, varying_of};
-use asm_replace::Replacements;
+use asm_replace::{Names, Replacements};
 use indexmap::IndexMap;
 use name_key::NameKey;
 use std::alloc::{AllocError, Global};
@@ -25,6 +25,8 @@ pub struct Macro {
     pub body: Span,
     /// None where a LOCAL line has another form.
     pub(crate) opened: Option<Opened>,
+    /// The parameters and the LOCAL names of the opened body.
+    pub(crate) names: Rc<Names>,
     pub(crate) varying: Rc<Varying>,
 }
 
@@ -33,23 +35,37 @@ pub struct Macro {
 pub struct Call {
     pub(crate) names: Replacements,
     pub(crate) varying: Rc<Varying>,
+    /// Whether all texts that are put in are plain.
+    pub(crate) plain: bool,
+}
+
+/// The names of an opened body: parameters before LOCAL names.
+fn names_in(
+    alloc: Global,
+    parameters: &[Vec<u8>],
+    opened: Option<&Opened>,
+) -> Result<Names, AllocError>
+    ensures { IfOk result (AreNames (texts parameters.now) (option_map (λ o. o.now) opened.entry)) }
+{
+    match opened {
+        Some(opened) => Names::new(alloc, parameters, &opened.locals),
+        None => Names::new(alloc, parameters, &[]),
+    }
 }
 
 /// Which lines of an opened body may be other things to blocks in a call.
 fn varying_in(
     alloc: Global,
     lines: &Lines<'_>,
-    parameters: &[Vec<u8>],
+    names: &Names,
     opened: Option<&Opened>,
 ) -> Result<Varying, AllocError>
-    ensures { IfOk result (λ found. VariesIn lines.now (texts parameters.now) (option_map (λ o. o.now) opened.entry) found) }
+    ensures { IfOk result (VariesIn lines.now names.now (option_map (λ o. o.now) opened.entry)) }
 {
     let Some(opened) = opened else {
         return Ok(Varying::none(alloc));
     };
-    // What the names are replaced by counts for nothing here.
-    let names = names_of(alloc, parameters, &[], &opened.locals, 0)?;
-    varying_of(alloc, lines, &names, opened.rest)
+    varying_of(alloc, lines, names, opened.rest)
 }
 
 impl Macro {
@@ -67,13 +83,14 @@ impl Macro {
         ensures parts { IfOk result (λ m. (m.parameters ≡ parameters) × (m.body ≡ body)) }
     {
         let opened = open(alloc, lines, body)?;
-        let varying = varying_in(alloc, lines, &parameters, opened.as_ref())?;
-        let varying = Rc::new(alloc, varying)?;
+        let names = names_in(alloc, &parameters, opened.as_ref())?;
+        let varying = varying_in(alloc, lines, &names, opened.as_ref())?;
         Ok(Macro {
             parameters,
             body,
             opened,
-            varying,
+            names: Rc::new(alloc, names)?,
+            varying: Rc::new(alloc, varying)?,
         })
     }
 }

@@ -5,6 +5,7 @@
 mod call;
 mod lines;
 mod open;
+mod plain;
 mod prepared;
 mod reading;
 mod span;

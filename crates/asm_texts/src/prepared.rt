@@ -8,9 +8,11 @@ ghost use Rattle.asm_texts.specs.Prepared.{Prepares, labels};
 ghost use Rattle.asm_texts.specs.Kept.{IsCall, IsKept};
 
 use crate::call::{Call, Macro};
-use crate::open::{arguments_of, label_of, names_of};
+use crate::open::{arguments_of, label_of};
+use crate::plain::are_plain;
 use crate::span::Span;
 use asm_line::Form;
+use asm_replace::Replacements;
 use asm_scan::Token;
 use std::alloc::{AllocError, Global};
 use std::rc::Rc;
@@ -43,16 +45,19 @@ pub fn prepare(
     let Some(next) = counter.checked_add(opened.locals.len() as u64) else {
         return Err(AllocError);
     };
-    let names = names_of(
-        alloc,
-        &called.parameters,
-        &arguments,
-        &opened.locals,
+    let plain = are_plain(called.parameters.len(), &arguments);
+    let names = Replacements {
+        names: Rc::clone(&called.names)?,
+        arguments,
         counter,
-    )?;
+    };
     let varying = Rc::clone(&called.varying)?;
     Ok(Some(Prepared {
-        call: Call { names, varying },
+        call: Call {
+            names,
+            varying,
+            plain,
+        },
         body: opened.rest,
         counter: next,
     }))

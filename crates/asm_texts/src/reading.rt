@@ -68,7 +68,7 @@ fn is_pair(a: u8, b: u8) -> bool
 
 /// Whether two bytes of a line stand so, in either case: few lines without a word of blocks have such, and to look for them
 /// costs much less than to cut the line.
-fn has_pair(line: &[u8]) -> bool
+pub(crate) fn has_pair(line: &[u8]) -> bool
     ensures { result ≡ has_pair line.now }
 {
     let mut before = 0;
@@ -115,7 +115,7 @@ fn put_replaced(
     line: &[u8],
     out: &mut Vec<u8>,
 ) -> Result<(), AllocError>
-    ensures { OnOk result (out.new.items ≡ shown (Some (table names.now.entries)) line.now) }
+    ensures { OnOk result (out.new.items ≡ shown (Some (table names.now)) line.now) }
 {
     out.clear();
     match heard(alloc, line)? {

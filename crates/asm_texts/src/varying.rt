@@ -1,23 +1,25 @@
 //! Lines of a body that may be other things to blocks in a call than they are as they stand.
 
-ghost use Rattle.std.specs.Prelude.{◌≡◌, ◌≤◌, ◌<◌, IfOk, Some, length, true};
-ghost use Rattle.std.specs.List.{list_any};
+ghost use Rattle.std.specs.Prelude.{◌≡◌, ◌≤◌, ◌<◌, [], IfOk, Some, length, slice_index_or, true};
+ghost use Rattle.std.specs.List.{filter, list_any};
 ghost use Rattle.asm_scan.specs.Tokens.{lexeme, lexemes};
 ghost use Rattle.asm_replace.specs.Fronts.{goes_on};
-ghost use Rattle.asm_replace.specs.Views.{table};
-ghost use Rattle.asm_texts.specs.Kept.{IsCall, IsVarying};
+ghost use Rattle.asm_replace.specs.Replaced.{Table};
+ghost use Rattle.asm_replace.specs.Views.{in_call};
+ghost use Rattle.asm_texts.specs.Kept.{HasOnly, IsCall, IsVarying, Suffice};
 ghost use Rattle.asm_texts.specs.Lines.{heard};
 ghost use Rattle.asm_texts.specs.Prepared.{said};
 ghost use Rattle.asm_texts.specs.Stands.{Stand, Stands};
+ghost use Rattle.asm_texts.specs.Private.Pairs.{has_pair};
 ghost use Rattle.asm_texts.specs.Private.Varying.{asked, asked_labelled, asked_of, is_held, may_vary, with_next};
 
 use crate::call::Call;
 use crate::lines::Lines;
-use crate::reading::{heard, put_shown, role_of, role_of_head};
+use crate::reading::{has_pair, heard, put_shown, role_of, role_of_head};
 use crate::span::Span;
 use asm_block::Role;
 use asm_line::{form_of, is_name};
-use asm_replace::Replacements;
+use asm_replace::Names;
 use asm_scan::{Kind, Mark, Token};
 use std::alloc::{AllocError, Global};
 
@@ -27,6 +29,8 @@ pub(crate) struct Varying {
     pub at: usize,
     pub end: usize,
     pub places: Vec<usize>,
+    /// Those of these places that may be where all texts put in are plain.
+    pub paired: Vec<usize>,
 }
 
 impl Varying {
@@ -36,24 +40,25 @@ impl Varying {
             at: 0,
             end: 0,
             places: Vec::new(alloc),
+            paired: Vec::new(alloc),
         }
     }
 }
 
 /// Whether a token is a name that is replaced.
-fn is_held(alloc: Global, names: &Replacements, token: &Token<'_>) -> Result<bool, AllocError>
-    ensures { IfOk result (λ held. held ≡ is_held (table names.now.entries) (lexeme token.now)) }
+fn is_held(alloc: Global, names: &Names, token: &Token<'_>) -> Result<bool, AllocError>
+    ensures { IfOk result (λ held. held ≡ is_held (in_call names.now [] 0) (lexeme token.now)) }
 {
     if !is_name(token) {
         return Ok(false);
     }
     let key = token.text.to_ascii_uppercase(alloc)?;
-    Ok(names.get(key.as_slice()).is_some())
+    Ok(names.has(&key))
 }
 
 /// Whether some of these tokens is one.
-fn any_held(alloc: Global, names: &Replacements, tokens: &[Token<'_>]) -> Result<bool, AllocError>
-    ensures { IfOk result (λ held. held ≡ list_any (is_held (table names.now.entries)) (lexemes tokens.now)) }
+fn any_held(alloc: Global, names: &Names, tokens: &[Token<'_>]) -> Result<bool, AllocError>
+    ensures { IfOk result (λ held. held ≡ list_any (is_held (in_call names.now [] 0)) (lexemes tokens.now)) }
 {
     for token in tokens {
         if is_held(alloc, names, token)? {
@@ -109,8 +114,8 @@ fn asked_of<'a, 'b>(role: Role, tokens: &'b [Token<'a>]) -> &'b [Token<'a>]
 }
 
 /// Whether what a line is to blocks may hang on what these names are replaced by.
-fn may_vary(alloc: Global, names: &Replacements, line: &[u8]) -> Result<bool, AllocError>
-    ensures { IfOk result (λ varies. varies ≡ may_vary (table names.now.entries) (heard line.now)) }
+fn may_vary(alloc: Global, names: &Names, line: &[u8]) -> Result<bool, AllocError>
+    ensures { IfOk result (λ varies. varies ≡ may_vary (in_call names.now [] 0) (heard line.now)) }
 {
     match heard(alloc, line)? {
         Some(found) => {
@@ -121,15 +126,14 @@ fn may_vary(alloc: Global, names: &Replacements, line: &[u8]) -> Result<bool, Al
     }
 }
 
-/// Which lines of a body may be other things to blocks in a call, where these names are replaced.
-pub(crate) fn varying_of(
+/// The places of lines of a body that may be other things to blocks in a call, whatever these names are replaced by.
+fn places_of(
     alloc: Global,
     lines: &Lines<'_>,
-    names: &Replacements,
+    names: &Names,
     body: Span,
-) -> Result<Varying, AllocError>
-    ensures varying { IfOk result (λ found. IsVarying lines.now (table names.now.entries) found) }
-    ensures range { IfOk result (λ found. (found.at ≡ body.at) × (found.end ≡ body.end)) }
+) -> Result<Vec<usize>, AllocError>
+    ensures { IfOk result (λ places. (t : Table) → HasOnly t (in_call names.now [] 0) → Suffice lines.now body.at body.end places.items t) }
 {
     asm_replace::laws::unreplaced();
     asm_replace::laws::front_stays();
@@ -141,11 +145,56 @@ pub(crate) fn varying_of(
         }
         at += 1;
     }
+    Ok(places)
+}
+
+/// Those of some places whose line has two letters side by side as a word of blocks has.
+fn paired_of(alloc: Global, lines: &Lines<'_>, places: &[usize]) -> Result<Vec<usize>, AllocError>
+    ensures { IfOk result (λ paired. paired.items ≡ filter (λ k. has_pair (slice_index_or lines.now k [])) places.now) }
+{
+    let mut paired = Vec::new(alloc);
+    for place in places {
+        if has_pair(lines.line(*place)) {
+            paired.push(*place)?;
+        }
+    }
+    Ok(paired)
+}
+
+/// Which lines of a body may be other things to blocks in a call, where these names are replaced.
+pub(crate) fn varying_of(
+    alloc: Global,
+    lines: &Lines<'_>,
+    names: &Names,
+    body: Span,
+) -> Result<Varying, AllocError>
+    ensures varying { IfOk result (IsVarying lines.now (in_call names.now [] 0)) }
+    ensures range { IfOk result (λ found. (found.at ≡ body.at) × (found.end ≡ body.end)) }
+{
+    let places = places_of(alloc, lines, names, body)?;
+    let paired = paired_of(alloc, lines, &places)?;
     Ok(Varying {
         at: body.at,
         end: body.end,
         places,
+        paired,
     })
+}
+
+impl Call {
+    ghost use Rattle.std.specs.Prelude.{◌≡◌};
+    ghost use Rattle.asm_texts.specs.Kept.{asked_places};
+
+    /// The places of the lines that are asked.
+    fn asked_places(&self) -> &[usize]
+        ensures { result.now ≡ asked_places self.now }
+    {
+        if self.plain {
+            &self.varying.paired
+        } else {
+            &self.varying.places
+        }
+    }
 }
 
 /// Whether a line, if it is one of a text, is to blocks what it is as it stands.
@@ -183,9 +232,10 @@ pub fn all_stand(
     if span.at < varying.at || varying.end < span.end {
         return Ok(false);
     }
+    let places = call.asked_places();
     let mut next = 0;
-    while next < varying.places.len() {
-        if !stands(alloc, lines, call, span, varying.places[next])? {
+    while next < places.len() {
+        if !stands(alloc, lines, call, span, places[next])? {
             return Ok(false);
         }
         next += 1;

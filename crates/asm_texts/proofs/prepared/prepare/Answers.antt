@@ -1,26 +1,31 @@
-use Rattle.std.proofs.Common.{◌∙◌, ◌++◌, ap, sym, subst, arith, refl}
+use Rattle.std.proofs.Common.{◌∙◌, ◌++◌, ◌≡◌, ◌+◌, ◌<◌, ◌^◌, ap, sym, subst, arith, refl, length}
+use Rattle.std.specs.Map.{lookup}
 use Rattle.std.specs.Option.{option_map}
+use Rattle.std.specs.Str.{bytes_eq}
 use Rattle.std.proofs.lemmas.List.{length-map}
-use Rattle.asm_replace.specs.Replaced.{arguments_of, local_names}
-use Rattle.asm_replace.specs.Views.{table}
+use Rattle.asm_replace.specs.Replaced.{SaySame, arguments_of, local_names}
+use Rattle.asm_replace.specs.Views.{in_call}
 use Rattle.asm_replace.specs.Views as replaced
-use Rattle.asm_scan.specs.Tokens.{lexemes}
-use Rattle.asm_texts.specs.Calls.{arguments_in}
-use Rattle.asm_texts.specs.Prepared.{SaySame}
-use Rattle.asm_texts.specs.Kept.{opened_seen, VariesIn}
-use Rattle.asm_texts.proofs.Unvaried.{call_of}
+use Rattle.asm_texts.specs.declared.call.Call.{Call}
+use Rattle.asm_texts.specs.Prepared.{said}
+use Rattle.asm_texts.specs.Kept.{AreNames, opened_seen, VariesIn}
+use Rattle.asm_texts.specs.Plain.{are_plain}
+use Rattle.asm_texts.proofs.Unpaired.{plain_alike, plain_call}
+use Rattle.asm_texts.proofs.Unvaried.{call_of, said_in}
 use Rattle.asm_texts.proofs.prepared.prepare.Goals as goal
 
 pub returns-clause-prepares : goal.returns-clause-prepares
 returns-clause-prepares c = λ texts kept.
-    let counter = c.args.counter in
-    let same = ap (λ ps. arguments_of (replaced.texts ps) (replaced.texts c.deref-2.result.now) ++ local_names counter (replaced.texts c.deref-3.result.now)) c.deref.ensures.value
-    ∙ ap (λ qs. arguments_of (replaced.texts c.args.called.now.parameters.items) (replaced.texts qs) ++ local_names counter (replaced.texts c.deref-3.result.now)) c.deref-2.ensures.value
-    ∙ ap (λ qs. arguments_of (replaced.texts c.args.called.now.parameters.items) qs ++ local_names counter (replaced.texts c.deref-3.result.now)) c.in_ok-arguments.ensures
-    ∙ ap (λ ls. arguments_of (replaced.texts c.args.called.now.parameters.items) (arguments_in c.args.line.now (lexemes c.args.tokens.now) (lexemes c.args.rest.now)) ++ local_names counter (replaced.texts ls)) c.deref-3.ensures.value in (
+    let parameters = replaced.texts c.args.called.now.parameters.items in
+    let locals = replaced.texts c.in-Some.opened.locals.items in
+    let some = replaced.texts c.in_ok-arguments.arguments.items in
+    let names = c.args.called.now.names.value in
+    let call : Call = record { names = record { names = c.in_ok-clone.field-0; arguments = c.in_ok-arguments.arguments; counter = c.args.counter }; varying = c.in_ok-varying.varying; plain = c.are_plain-plain.result } in
+    let named = subst (λ o. AreNames parameters o names) c.in-Some.is kept.1 in
+    let same : SaySame (said call) (arguments_of parameters some ++ local_names c.args.counter locals) = λ name. ap (lookup (bytes_eq name)) (said_in call names c.in_ok-clone.ensures.cases) ∙ named some c.args.counter name in (
       opened_seen texts c.in-Some.opened,
       sym kept.0 ∙ ap (option_map (opened_seen texts)) c.in-Some.is,
-      subst (SaySame (table c.in_ok-names.names.entries)) same c.in_ok-names.ensures,
+      subst (λ qs. SaySame (said call) (arguments_of parameters qs ++ local_names c.args.counter locals)) c.in_ok-arguments.ensures same,
       omega (arith, c.in-Some-checked_add.ensures, c.len.ensures, c.in-Some.opened.locals.ok, length-map c.in-Some.opened.locals.items (λ text. text.items)),
       refl,
     )
@@ -29,9 +34,14 @@ pub returns-clause-call : goal.returns-clause-call
 returns-clause-call c = λ texts kept.
     let counter = c.args.counter in
     let parameters = replaced.texts c.args.called.now.parameters.items in
-    let some = replaced.texts c.deref-2.result.now in
     let locals = replaced.texts c.in-Some.opened.locals.items in
-    let same = ap (λ ps. arguments_of (replaced.texts ps) some ++ local_names counter (replaced.texts c.deref-3.result.now)) c.deref.ensures.value
-    ∙ ap (λ ls. arguments_of parameters some ++ local_names counter (replaced.texts ls)) c.deref-3.ensures.value in
-    let varies = subst (λ o. VariesIn texts parameters o c.args.called.now.varying.value) c.in-Some.is kept.1 in
-    call_of texts (record { names = c.in_ok-names.names; varying = c.in_ok-varying.varying }) c.args.called.now.varying.value counter parameters some locals (subst (SaySame (table c.in_ok-names.names.entries)) same c.in_ok-names.ensures) varies.2 c.in_ok-varying.ensures.cases
+    let some = replaced.texts c.in_ok-arguments.arguments.items in
+    let names = c.args.called.now.names.value in
+    let call : Call = record { names = record { names = c.in_ok-clone.field-0; arguments = c.in_ok-arguments.arguments; counter = counter }; varying = c.in_ok-varying.varying; plain = c.are_plain-plain.result } in
+    let named = subst (λ o. AreNames parameters o names) c.in-Some.is kept.1 in
+    let varies = subst (λ o. VariesIn texts names o c.args.called.now.varying.value) c.in-Some.is kept.2 in
+    let count : c.len-2.result ≡ length parameters = omega (arith, c.len-2.ensures, c.args.called.now.parameters.ok, length-map c.args.called.now.parameters.items (λ text. text.items)) in
+    let fits : counter + length locals < 2 ^ 64 = omega (arith, c.in-Some-checked_add.ensures, c.len.ensures, c.in-Some.opened.locals.ok, length-map c.in-Some.opened.locals.items (λ text. text.items)) in
+    let are : c.are_plain-plain.result ≡ are_plain (length parameters) some = c.are_plain-plain.ensures ∙ ap (λ n. are_plain n (replaced.texts c.deref.result.now)) count ∙ ap (λ ts. are_plain (length parameters) (replaced.texts ts)) c.deref.ensures.value in
+    call_of texts call names c.args.called.now.varying.value some counter (said_in call names c.in_ok-clone.ensures.cases)
+    (λ plain. plain_alike (in_call names some counter) (arguments_of parameters some ++ local_names counter locals) (named some counter) (plain_call parameters some counter locals fits (sym are ∙ plain))) varies.2 c.in_ok-varying.ensures.cases

@@ -6,7 +6,7 @@ use Rattle.asm_texts.proofs.varying.all_stand.Given as goal
 -- Those that were read are what they are as they stand.
 abbrev pub invariant-loop-next : goal.invariant-loop-next
 invariant-loop-next l =
-    All (λ k. l.span.at ≤ k → k < l.span.end → k < length l.lines → Stands l.lines (Some (said l.call)) k) (take l.next l.varying.places.items)
+    All (λ k. l.span.at ≤ k → k < l.span.end → k < length l.lines → Stands l.lines (Some (said l.call)) k) (take l.next l.places)
 
 abbrev pub decreases-loop-next : goal.decreases-loop-next
-decreases-loop-next l = length l.varying.places.items - l.next
+decreases-loop-next l = length l.places - l.next
