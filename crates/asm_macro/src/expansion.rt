@@ -84,12 +84,11 @@ impl<'a> Expansion<'a> {
                 self.text = text;
                 Ok(())
             }
-            Following::BehindFirst(choice) => self.go_behind(Following::BehindFirst(choice)),
-            Following::BehindSecond(choice) => self.go_behind(Following::BehindSecond(choice)),
-            Following::Turns(left, number, body) => {
+            Following::Turns(..) => {
                 self.turns -= 1;
-                self.go_behind(Following::Turns(left, number, body))
+                self.go_behind(next)
             }
+            Following::BehindFirst(_) | Following::BehindSecond(_) => self.go_behind(next),
         }
     }
 
@@ -211,9 +210,8 @@ impl<'a> Expansion<'a> {
         ensures kept { AreOf buffer.new.items kept.new }
     {
         loop {
-            match self.step(buffer, kept)? {
-                Some(given) => return Ok(given),
-                None => {}
+            if let Some(given) = self.step(buffer, kept)? {
+                return Ok(given);
             }
         }
     }

@@ -233,9 +233,8 @@ impl<'a> Expansion<'a> {
         };
         let end = body.stretch.end;
         let strays = stray(self.alloc, &self.lines, self.calls.last(), end)?;
-        match strays {
-            Some(number) => return Err(Stop::At(number, MacroFault::Stray)),
-            None => {}
+        if let Some(number) = strays {
+            return Err(Stop::At(number, MacroFault::Stray));
         }
         let called = Macro::new(self.alloc, &self.lines, parameters, body.stretch.lines)?;
         self.macros.insert(key, called)?;

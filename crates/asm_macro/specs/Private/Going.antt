@@ -7,7 +7,7 @@ use Rattle.asm_macro.specs.declared.fault.MacroFault.{MacroFault}
 use Rattle.asm_macro.specs.declared.moves.Stop as moves
 use Rattle.asm_macro.specs.State.{State, counted}
 use Rattle.asm_macro.specs.Judged.{most_lines}
-use Rattle.asm_macro.specs.Parts.{Part, Stop, Go, Within}
+use Rattle.asm_macro.specs.Parts.{Part, Stop, Go, Within, most_open}
 
 -- a text within, at a depth and from a state; a turn of a REPT counts as a line
 abbrev pub into : ℕ → State → List Numbered → onward.Next → Part
@@ -47,7 +47,7 @@ texts_opened (onward.Into text next) = 1
 
 -- What may be gone on with where so many calls and repetitions are open: no call, and a turn of a REPT where one more may open.
 abbrev pub FitsNext : ℕ → onward.Next → Type 0
-FitsNext many (onward.Turns left number body) = many < 16
+FitsNext many (onward.Turns left number body) = many < most_open
 FitsNext many (onward.Rest more) = ⊥
 FitsNext many (onward.BehindFirst b) = Unit {0}
 FitsNext many (onward.BehindSecond t more after) = Unit {0}

@@ -15,6 +15,6 @@ returns-in-Some-clause-goes c = goes_some (rest_of c.args.self.now) (rest_of c.l
 
 pub loop-given-preserved : goal.loop-given-preserved
 loop-given-preserved c =
-    let gives = subst (λ o. Gives c.step.new.buffer.items (Ok o) (rest_of c.step.new.self) (next_move (rest_of c.loop-given.self))) c.in-None.is c.in_ok-given.ensures.gives in
-    let less = subst (λ o. Lessens c.loop-given.self o c.step.new.self) c.in-None.is c.in_ok-given.ensures.less in
+    let gives = subst (λ o. Gives c.step.new.buffer.items (Ok o) (rest_of c.step.new.self) (next_move (rest_of c.loop-given.self))) c.in_default.is c.in_ok-given.ensures.gives in
+    let less = subst (λ o. Lessens c.loop-given.self o c.step.new.self) c.in_default.is c.in_ok-given.ensures.less in
     (c.in_ok-given.ensures.sound, omega (arith, less.1, c.loop-given.invariant.1), leads_on (rest_of c.args.self.now) (rest_of c.loop-given.self) (rest_of c.step.new.self) c.step.new.buffer.items c.loop-given.invariant.2 gives, c.in_ok-given.ensures.kept)

@@ -49,7 +49,7 @@ returns-clause-taken c =
     (sym c.in_ok-found.ensures.body ∙ ap (option_map (body_seen x.lines (innermost (tables_in x)))) c.in-Some.is) in
     let names = last_table (λ n. said n) y.calls.items c.last.result (c.last.ensures.value ∙ ap (λ xs. slice_get xs (length xs - 1)) c.deref.ensures.value) in
     let strays = c.in_ok-strays.ensures ∙ ap (λ n. stray (line_of y.lines n c.in-Some.body.stretch.end)) names in
-    let end = closing_none (line_of y.lines (innermost (tables_in y)) c.in-Some.body.stretch.end) c.in_ok-strays.strays strays c.in-None.is in
+    let end = closing_none (line_of y.lines (innermost (tables_in y)) c.in-Some.body.stretch.end) c.in_ok-strays.strays strays c.in_default-strays.is in
     let called = c.in_ok-called.called in
     let outside = subst (λ z. length z.calls.items ≡ 0) (sym same) c.requires.outside in
     let new = subst (λ z. macro_named (state_of z) c.args.key.items ≡ None) (sym same) c.requires.new in

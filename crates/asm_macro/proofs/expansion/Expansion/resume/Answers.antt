@@ -1,9 +1,9 @@
-use Rattle.std.proofs.Common.{◌≡◌, ◌∙◌, ◌+◌, ◌-◌, ◌++◌, ◌∷◌, [], ap, sym, subst, length, reverse, length-take, arith, map, take}
+use Rattle.std.proofs.Common.{◌≡◌, ◌∙◌, ◌+◌, ◌-◌, ◌++◌, ◌∷◌, [], ℕ, ap, sym, subst, length, reverse, length-take, arith, map, take}
 use Rattle.std.specs.Vec.{vec_len}
 use Rattle.asm_sections.specs.declared.following.Following.{Following}
-use Rattle.asm_macro.specs.Parts.{turns}
+use Rattle.asm_macro.specs.Parts.{resumed}
 use Rattle.asm_macro.specs.Private.Frames.{AreBooks, around_seen, innermost, turns_in}
-use Rattle.asm_sections.specs.Sections.{body_seen}
+use Rattle.asm_sections.specs.Views.{next_of}
 use Rattle.asm_macro.specs.Private.Moves.{Resumes, moved, rest_of, state_of, tables_in}
 use Rattle.asm_texts.specs.Prepared.{said}
 use Rattle.std.proofs.lemmas.List.Elements.{All-same, All-take}
@@ -17,12 +17,12 @@ pub returns-in-Turns-clause-resumed : goal.returns-in-Turns-clause-resumed
 returns-in-Turns-clause-resumed c =
     let x = c.args.self.now in
     let left = c.pop.new.self.items in
-    let body = body_seen x.lines (innermost (tables_in x)) c.in-Turns.body in
+    let turns : Following = Following.Turns c.in-Turns.field-0 c.in-Turns.field-1 c.in-Turns.field-2 in
     let is = c.in-Some.ensures.items ∙ ap (λ f. left ++ f ∷ []) c.in-Turns.is in
-    let one = popped x left (Following.Turns c.in-Turns.left c.in-Turns.number c.in-Turns.body) c.requires.over is in
-    let same = turns_popped x left c.in-Turns.left c.in-Turns.number c.in-Turns.body c.requires.sound is in
-    subst (Resumes c.go_behind-in-Turns.result (rest_of c.go_behind-in-Turns.new.self))
-    (sym (one ∙ ap (λ t. moved (length (tables_in x) + t) (around_seen x.lines (tables_in x) (reverse left)) (turns (length (tables_in x) + t) c.in-Turns.left c.in-Turns.number body (state_of x))) same)) c.go_behind-in-Turns.ensures.resumed
+    let to = λ (n : ℕ) (f : Following). moved (length (tables_in x) + n) (around_seen x.lines (tables_in x) (reverse left)) (resumed (length (tables_in x) + n) (next_of x.lines (innermost (tables_in x)) f) (state_of x)) in
+    let same = turns_popped x left c.in-Turns.field-0 c.in-Turns.field-1 c.in-Turns.field-2 c.requires.sound is in
+    subst (Resumes c.go_behind.result (rest_of c.go_behind.new.self))
+    (sym (popped x left turns c.requires.over is ∙ ap (λ n. to n turns) same ∙ ap (to (x.turns - 1)) (sym c.in-Turns.is))) c.go_behind.ensures.resumed
 
 pub returns-in-Rest-clause-sound : goal.returns-in-Rest-clause-sound
 returns-in-Rest-clause-sound c =
