@@ -1,10 +1,10 @@
 //! Whole names replaced, the arguments of a call, and the names that LOCAL makes.
 
-use asm_replace::{Replacements, arguments, local_name, replace};
+use asm_replace::{Names, Replacements, arguments, replace};
 use asm_scan::tokens;
-use name_key::NameKey;
 use std::alloc::Global;
 use std::process::Abort;
+use std::rc::Rc;
 use std::test::Fail;
 
 fn assert_replaced(
@@ -14,10 +14,17 @@ fn assert_replaced(
     line: &[u8],
     want: &[u8],
 ) -> Result<(), Fail> {
-    let mut names = Replacements::with_hasher(alloc, NameKey::of(&[]));
+    let mut parameters = Vec::new(alloc);
+    let mut arguments = Vec::new(alloc);
     for (name, text) in table {
-        names.insert(name.to_vec(alloc)?, text.to_vec(alloc)?)?;
+        parameters.push(name.to_vec(alloc)?)?;
+        arguments.push(text.to_vec(alloc)?)?;
     }
+    let names = Replacements {
+        names: Rc::new(alloc, Names::new(alloc, &parameters, &[])?)?,
+        arguments,
+        counter: 0,
+    };
     let found = tokens(alloc, line)?;
     let mut out = Vec::new(alloc);
     replace(&names, line, &found, &mut out)?;
@@ -106,19 +113,66 @@ fn arguments_of_calls(rt: HostRuntime) -> Result<(), Fail> {
     Ok(())
 }
 
+/// Texts of one byte each.
+fn letters(alloc: Global, bytes: &[u8]) -> Result<Vec<Vec<u8>>, Fail> {
+    let mut texts = Vec::new(alloc);
+    for byte in bytes {
+        let mut text = Vec::new(alloc);
+        text.push(*byte)?;
+        texts.push(text)?;
+    }
+    Ok(texts)
+}
+
+fn in_call(
+    alloc: Global,
+    parameters: &[u8],
+    arguments: &[u8],
+    locals: &[u8],
+    counter: u64,
+) -> Result<Replacements, Fail> {
+    let parameters = letters(alloc, parameters)?;
+    let locals = letters(alloc, locals)?;
+    Ok(Replacements {
+        names: Rc::new(alloc, Names::new(alloc, &parameters, &locals)?)?,
+        arguments: letters(alloc, arguments)?,
+        counter,
+    })
+}
+
 #[test]
-fn local_names(rt: HostRuntime) -> Result<(), Fail> {
+fn names_of_calls(rt: HostRuntime) -> Result<(), Fail> {
     let alloc = rt.alloc();
-    let rows: [(u64, &[u8]); 6] = [
-        (0, b"??00000"),
-        (7, b"??00007"),
-        (12_345, b"??12345"),
-        (99_999, b"??99999"),
-        (100_000, b"??100000"),
-        (18_446_744_073_709_551_615, b"??18446744073709551615"),
+    // Parameters, arguments and LOCAL names, a byte each, the number of the first LOCAL name, a line, and what it becomes.
+    let rows: [(&[u8], &[u8], &[u8], u64, &[u8], &[u8]); 12] = [
+        (b"XY", b"12", b"", 0, b"X,Y,Z", b"1,2,Z"),
+        // a missing argument is empty, and one too many counts for nothing
+        (b"XY", b"1", b"", 0, b"X,Y", b"1,"),
+        (b"X", b"12", b"", 0, b"X", b"1"),
+        // of equal names the first counts, a parameter before a LOCAL name, and each LOCAL name takes a number
+        (b"XX", b"12", b"", 0, b"X", b"1"),
+        (b"A", b"1", b"AB", 3, b"A,B", b"1,??00004"),
+        (b"", b"", b"ABAC", 7, b"A,B,C", b"??00007,??00008,??00010"),
+        (b"", b"", b"A", 0, b"a", b"??00000"),
+        (b"", b"", b"A", 7, b"A", b"??00007"),
+        (b"", b"", b"A", 12_345, b"A", b"??12345"),
+        (b"", b"", b"A", 99_999, b"A", b"??99999"),
+        (b"", b"", b"A", 100_000, b"A", b"??100000"),
+        (
+            b"",
+            b"",
+            b"A",
+            18_446_744_073_709_551_615,
+            b"A",
+            b"??18446744073709551615",
+        ),
     ];
-    for (number, want) in rows {
-        assert_eq!(rt; local_name(alloc, number)?.as_slice(), want);
+    for (parameters, arguments, locals, counter, line, want) in rows {
+        let names = in_call(alloc, parameters, arguments, locals, counter)?;
+        let found = tokens(alloc, line)?;
+        let mut out = Vec::new(alloc);
+        replace(&names, line, &found, &mut out)?;
+        assert_eq!(rt; out.as_slice(), want, "of {line:?}");
     }
     Ok(())
 }

@@ -192,6 +192,26 @@ fn conditions_of_calls(rt: HostRuntime) -> Result<(), Fail> {
 }
 
 #[test]
+fn words_of_blocks_by_missing_arguments(rt: HostRuntime) -> Result<(), Fail> {
+    let alloc = rt.alloc();
+    let rows: [(&[u8], &str); 3] = [
+        (b"K MACRO W\nIF 0\n A\nW ENDIF\n B\nENDM\n K\n", "7  B|"),
+        (
+            b"K MACRO W\nIF 0\n A\nW ENDIF\n B\nENDM\n K 0\n",
+            "fault 7 Unclosed",
+        ),
+        (
+            b"K MACRO W\nIF 0\n DB W\nW 1\nENDIF\n C\nENDM\n K 1\n K HL\n",
+            "8  C|9  C|",
+        ),
+    ];
+    for (text, want) in rows {
+        assert_expands(&rt, alloc, text, want)?;
+    }
+    Ok(())
+}
+
+#[test]
 fn words_of_blocks_by_arguments(rt: HostRuntime) -> Result<(), Fail> {
     let alloc = rt.alloc();
     let rows: [(&[u8], &str); 12] = [
