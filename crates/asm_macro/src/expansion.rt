@@ -92,20 +92,22 @@ impl<'a> Expansion<'a> {
         }
     }
 
-    /// Writes the first line of the innermost text in the place of what was written, and answers its number.
-    fn put_line(&mut self, buffer: &mut Vec<u8>) -> Result<u32, AllocError>
+    /// Writes the first line of the innermost text, which is this one of the source, in the place of what was written, and answers
+    /// its number.
+    fn put_line(&mut self, source: &[u8], buffer: &mut Vec<u8>) -> Result<u32, AllocError>
         requires sound { IsSound self.old }
         requires at { self.old.text.at < self.old.text.end }
         requires within { self.old.text.at < length self.old.lines }
+        requires source { source.now ≡ slice_index_or self.old.lines self.old.text.at [] }
         ensures sound { OnOk result (IsSound self.new) }
         ensures count { self.new.count ≡ self.old.count }
         ensures around { self.new.around ≡ self.old.around }
         ensures line { IfOk result (λ number. rest_of self.old ≡ record (rest_of self.new) { text = record { number = number; text = buffer.new.items } ∷ (rest_of self.new).text }) }
         ensures calls { self.new.calls ≡ self.old.calls }
-        ensures plain { OnOk result (length self.old.calls.items ≡ 0 → slice_index_or self.old.lines self.old.text.at [] ≡ buffer.new.items) }
+        ensures plain { OnOk result (length self.old.calls.items ≡ 0 → source.now ≡ buffer.new.items) }
     {
         let at = self.text.at;
-        put_shown(self.alloc, self.calls.last(), self.lines.line(at), buffer)?;
+        put_shown(self.alloc, self.calls.last(), source, buffer)?;
         self.text.at = at + 1;
         match self.text.number {
             Some(number) => Ok(number),
@@ -155,7 +157,7 @@ impl<'a> Expansion<'a> {
     {
         *kept = None;
         let source = self.lines.line(self.text.at);
-        let number = self.put_line(buffer)?;
+        let number = self.put_line(source, buffer)?;
         match self.take_written(number, source, buffer, kept)? {
             Taken::Nothing => Ok(None),
             Taken::Line => Ok(Some(Given::Line(number))),

@@ -18,7 +18,7 @@ ghost use Rattle.asm_macro.specs.Values.{worth};
 ghost use Rattle.asm_macro.specs.Ahead.{seen};
 ghost use Rattle.asm_sections.specs.Blocks.{body_of, branches_of};
 ghost use Rattle.asm_macro.specs.Judged.{is_counted, parameters};
-ghost use Rattle.asm_macro.specs.Parts.{conditional, part, repeated, worded};
+ghost use Rattle.asm_macro.specs.Parts.{conditional, most_open, part, repeated, worded};
 ghost use Rattle.asm_macro.specs.Private.Stopped.{stopped};
 ghost use Rattle.asm_macro.specs.Private.Frames.{innermost};
 ghost use Rattle.asm_macro.specs.Private.Heads.{by_head, defined, kept};
@@ -154,7 +154,7 @@ impl<'a> Expansion<'a> {
     ) -> Result<(), AllocError>
         requires sound { IsSound self.old }
         requires call { IsCall self.old.lines call }
-        requires shallow { length self.old.calls.items + self.old.turns < 16 }
+        requires shallow { length self.old.calls.items + self.old.turns < most_open }
         ensures sound { OnOk result (IsSound self.new) }
         ensures count { OnOk result (self.new.count ≡ self.old.count) }
         ensures around { OnOk result (length self.new.around.items ≤ length self.old.around.items + 1) }

@@ -11,6 +11,7 @@ use Rattle.asm_macro.specs.declared.moves.Stop.{Stop}
 use Rattle.asm_macro.specs.declared.fault.MacroFault.{MacroFault}
 use Rattle.asm_texts.specs.Lines.{Numbered}
 use Rattle.asm_macro.specs.State as state
+use Rattle.asm_macro.specs.Judged.{most_lines}
 use Rattle.asm_macro.specs.Parts as parts
 use Rattle.asm_macro.specs.Expands.{Ended, Stopped, IsDone}
 use Rattle.asm_macro.specs.Expands as expands
@@ -50,8 +51,8 @@ rest_of x = record {
 pub record Sound (texts : List (List ℕ)) (tables : List Table) (around : List Following) (calls repeated taken : ℕ) (own : Book) (others : List Book) (bottom : Book) (kept : List (Vec ℕ Global × Macro)) (called : List Call) : Type 0 where
   pub short : length texts ≤ 16777216
   pub turns : repeated ≡ turns_in around
-  pub shallow : calls + repeated ≤ 16
-  pub few : taken ≤ 60000
+  pub shallow : calls + repeated ≤ parts.most_open
+  pub few : taken ≤ most_lines
   pub book : IsBook texts (innermost tables) own
   pub books : AreBooks texts tables others
   pub source : IsBook texts None bottom
@@ -113,7 +114,7 @@ Gives text (Ok (Some Given.Over)) new move = move ≡ Done
 
 -- how many moves may still come, at most
 abbrev pub most_moves : Expansion → ℕ
-most_moves x = 2 * (60000 - x.count) + length x.around.items
+most_moves x = 2 * (most_lines - x.count) + length x.around.items
 
 -- Fewer moves may still come, and a line that is given is counted.
 abbrev pub Lessens : Expansion → Option Given → Expansion → Type 0
