@@ -68,7 +68,7 @@ const SOME: [Statement; 2] = [Statement::Sized(3), Statement::Relaxable];
 fn rows(rt: HostRuntime) -> Result<(), Fail> {
     let alloc = rt.alloc();
     let undefined = Some((1, EquFault::Undefined));
-    let rows: [(&[&[u8]], &[u16], &[u8], (Said, Option<(u32, EquFault)>)); 12] = [
+    let rows: &[(&[&[u8]], &[u16], &[u8], (Said, Option<(u32, EquFault)>))] = &[
         // a name that is used before its line
         (
             &[b"K EQU N+1", b"N EQU 5"],
@@ -144,7 +144,7 @@ fn rows(rt: HostRuntime) -> Result<(), Fail> {
     ];
     for (texts, next, name, want) in rows {
         let layout = layout_of(alloc, next, &SOME)?;
-        assert_meaning(&rt, alloc, texts, &layout, name, want)?;
+        assert_meaning(&rt, alloc, texts, &layout, name, *want)?;
     }
     Ok(())
 }
