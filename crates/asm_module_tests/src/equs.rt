@@ -9,11 +9,11 @@ use std::process::Abort;
 use std::test::Fail;
 
 /// Asserts the order of lines, and which are on a circle.
-fn assert_order(rt: &impl Abort, turns: &[Turn], want: &[(u32, bool)]) {
+fn assert_order(rt: &impl Abort, texts: &[&[u8]], turns: &[Turn], want: &[(u32, bool)]) {
     assert_eq!(rt; turns.len(), want.len());
     for (turn, (definition, on_circle)) in turns.iter().zip(want) {
-        assert_eq!(rt; turn.definition, *definition);
-        assert_eq!(rt; turn.on_circle, *on_circle);
+        assert_eq!(rt; turn.definition, *definition, "of {texts:?}");
+        assert_eq!(rt; turn.on_circle, *on_circle, "of {texts:?}");
     }
 }
 
@@ -28,7 +28,7 @@ fn assert_turns(
         Ok(names) => {
             assert!(rt; lines.len() < 100);
             let turns = turns_of(alloc, &lines, &names)?;
-            assert_order(rt, &turns, want);
+            assert_order(rt, texts, &turns, want);
         }
         Err((line, why)) => assert!(rt; false, "line {line}: {why:?} of {texts:?}"),
     }

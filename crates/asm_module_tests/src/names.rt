@@ -31,9 +31,14 @@ pub(crate) fn read_all(
 }
 
 /// Asserts what names are, and that there are no others.
-fn assert_kinds(rt: &impl Abort, names: &NameTable, want: &[(&[u8], Option<Kind>)]) {
+fn assert_kinds(
+    rt: &impl Abort,
+    texts: &[&[u8]],
+    names: &NameTable,
+    want: &[(&[u8], Option<Kind>)],
+) {
     for (name, kind) in want {
-        assert_eq!(rt; names.kind(name), *kind, "{name:?}");
+        assert_eq!(rt; names.kind(name), *kind, "of {texts:?}");
     }
     assert_eq!(rt; names.len(), want.iter().filter(|w| w.1.is_some()).count());
 }
@@ -46,7 +51,7 @@ fn kinds(
 ) -> Result<(), Fail> {
     let lines = read_all(rt, alloc, texts)?;
     match names_of(alloc, &lines) {
-        Ok(names) => assert_kinds(rt, &names, want),
+        Ok(names) => assert_kinds(rt, texts, &names, want),
         Err((line, why)) => assert!(rt; false, "line {line}: {why:?} of {texts:?}"),
     }
     Ok(())
