@@ -3,9 +3,19 @@
 use crate::names::read_all;
 use asm_equ::turns_of;
 use asm_names::names_of;
+use asm_order::Turn;
 use std::alloc::Global;
 use std::process::Abort;
 use std::test::Fail;
+
+/// Asserts the order of lines, and which are on a circle.
+fn assert_order(rt: &impl Abort, texts: &[&[u8]], turns: &[Turn], want: &[(u32, bool)]) {
+    assert_eq!(rt; turns.len(), want.len());
+    for (turn, (definition, on_circle)) in turns.iter().zip(want) {
+        assert_eq!(rt; turn.definition, *definition, "of {texts:?}");
+        assert_eq!(rt; turn.on_circle, *on_circle, "of {texts:?}");
+    }
+}
 
 fn assert_turns(
     rt: &impl Abort,
@@ -18,11 +28,7 @@ fn assert_turns(
         Ok(names) => {
             assert!(rt; lines.len() < 100);
             let turns = turns_of(alloc, &lines, &names)?;
-            assert_eq!(rt; turns.len(), want.len());
-            for (turn, (definition, on_circle)) in turns.iter().zip(want) {
-                assert_eq!(rt; turn.definition, *definition, "of {texts:?}");
-                assert_eq!(rt; turn.on_circle, *on_circle, "of {texts:?}");
-            }
+            assert_order(rt, texts, &turns, want);
         }
         Err((line, why)) => assert!(rt; false, "line {line}: {why:?} of {texts:?}"),
     }
@@ -32,7 +38,7 @@ fn assert_turns(
 #[test]
 fn rows(rt: HostRuntime) -> Result<(), Fail> {
     let alloc = rt.alloc();
-    let rows: [(&[&[u8]], &[(u32, bool)]); 5] = [
+    let rows: &[(&[&[u8]], &[(u32, bool)])] = &[
         // a name that is used before its line
         (
             &[b"K EQU N+1", b"N EQU 5", b"DB K"],

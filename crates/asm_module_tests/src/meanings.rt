@@ -1,7 +1,7 @@
 //! What names stand for.
 
 use crate::names::read_all;
-use asm_equ::{EquFault, Layout, settle_names, turns_of};
+use asm_equ::{EquFault, Layout, SettledNames, settle_names, turns_of};
 use asm_expr::{ExprFault, Meaning, Statement};
 use asm_names::names_of;
 use std::alloc::Global;
@@ -39,26 +39,53 @@ fn layout_of(alloc: Global, next: &[u16], statements: &[Statement]) -> Result<La
     })
 }
 
+/// What the names of texts stand for.
+fn settled(
+    rt: &impl Abort,
+    alloc: Global,
+    texts: &[&[u8]],
+    layout: &Layout,
+) -> Result<SettledNames, Fail> {
+    let lines = read_all(rt, alloc, texts)?;
+    assert!(rt; lines.len() < 100);
+    assert!(rt; layout.statements.len() < 100);
+    let Ok(names) = names_of(alloc, &lines) else {
+        return Err(Fail::from("names are faulty"));
+    };
+    let turns = turns_of(alloc, &lines, &names)?;
+    Ok(settle_names(alloc, &lines, &names, &turns, layout)?)
+}
+
+/// What a name stands for, in short.
+fn said_of(settled: &SettledNames, name: &[u8]) -> Said {
+    brief(settled.names.meaning(name))
+}
+
+fn assert_said(rt: &impl Abort, texts: &[&[u8]], said: Said, want: Said) {
+    assert_eq!(rt; said, want, "of {texts:?}");
+}
+
+fn assert_fault(
+    rt: &impl Abort,
+    texts: &[&[u8]],
+    fault: &Option<(u32, EquFault)>,
+    want: &Option<(u32, EquFault)>,
+) {
+    assert_eq!(rt; fault, want, "of {texts:?}");
+}
+
+/// Asserts what a name of texts stands for, and the first fault of their EQU lines.
 fn assert_meaning(
     rt: &impl Abort,
     alloc: Global,
     texts: &[&[u8]],
     layout: &Layout,
     name: &[u8],
-    want: (Said, Option<(u32, EquFault)>),
+    want: &(Said, Option<(u32, EquFault)>),
 ) -> Result<(), Fail> {
-    let lines = read_all(rt, alloc, texts)?;
-    match names_of(alloc, &lines) {
-        Ok(names) => {
-            assert!(rt; lines.len() < 100);
-            assert!(rt; layout.statements.len() < 100);
-            let turns = turns_of(alloc, &lines, &names)?;
-            let settled = settle_names(alloc, &lines, &names, &turns, layout)?;
-            assert_eq!(rt; brief(settled.names.meaning(name)), want.0, "of {texts:?}");
-            assert_eq!(rt; settled.fault, want.1, "of {texts:?}");
-        }
-        Err((line, why)) => assert!(rt; false, "line {line}: {why:?} of {texts:?}"),
-    }
+    let settled = settled(rt, alloc, texts, layout)?;
+    assert_said(rt, texts, said_of(&settled, name), want.0);
+    assert_fault(rt, texts, &settled.fault, &want.1);
     Ok(())
 }
 
@@ -68,7 +95,7 @@ const SOME: [Statement; 2] = [Statement::Sized(3), Statement::Relaxable];
 fn rows(rt: HostRuntime) -> Result<(), Fail> {
     let alloc = rt.alloc();
     let undefined = Some((1, EquFault::Undefined));
-    let rows: [(&[&[u8]], &[u16], &[u8], (Said, Option<(u32, EquFault)>)); 12] = [
+    let rows: &[(&[&[u8]], &[u16], &[u8], (Said, Option<(u32, EquFault)>))] = &[
         // a name that is used before its line
         (
             &[b"K EQU N+1", b"N EQU 5"],

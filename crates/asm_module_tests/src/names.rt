@@ -1,6 +1,6 @@
 //! The names of a source.
 
-use asm_names::{Kind, NameFault, SourceLine, names_of};
+use asm_names::{Kind, NameFault, NameTable, SourceLine, names_of};
 use asm_scan::tokens;
 use asm_spell::statement;
 use std::alloc::Global;
@@ -30,6 +30,19 @@ pub(crate) fn read_all(
     Ok(lines)
 }
 
+/// Asserts what names are, and that there are no others.
+fn assert_kinds(
+    rt: &impl Abort,
+    texts: &[&[u8]],
+    names: &NameTable,
+    want: &[(&[u8], Option<Kind>)],
+) {
+    for (name, kind) in want {
+        assert_eq!(rt; names.kind(name), *kind, "of {texts:?}");
+    }
+    assert_eq!(rt; names.len(), want.iter().filter(|w| w.1.is_some()).count());
+}
+
 fn kinds(
     rt: &impl Abort,
     alloc: Global,
@@ -38,12 +51,7 @@ fn kinds(
 ) -> Result<(), Fail> {
     let lines = read_all(rt, alloc, texts)?;
     match names_of(alloc, &lines) {
-        Ok(names) => {
-            for (name, kind) in want {
-                assert_eq!(rt; names.kind(name), *kind, "of {texts:?}");
-            }
-            assert_eq!(rt; names.len(), want.iter().filter(|w| w.1.is_some()).count());
-        }
+        Ok(names) => assert_kinds(rt, texts, &names, want),
         Err((line, why)) => assert!(rt; false, "line {line}: {why:?} of {texts:?}"),
     }
     Ok(())
@@ -52,7 +60,7 @@ fn kinds(
 #[test]
 fn what_names_are(rt: HostRuntime) -> Result<(), Fail> {
     let alloc = rt.alloc();
-    let rows: [(&[&[u8]], &[(&[u8], Option<Kind>)]); 5] = [
+    let rows: &[(&[&[u8]], &[(&[u8], Option<Kind>)])] = &[
         (&[], &[(b"X", None)]),
         (
             &[b"JP X", b"NOP", b"x: RET"],
@@ -77,11 +85,28 @@ fn what_names_are(rt: HostRuntime) -> Result<(), Fail> {
     Ok(())
 }
 
+fn fault(alloc: Global, lines: &[SourceLine]) -> Option<(u32, NameFault)> {
+    names_of(alloc, lines).err()
+}
+
+/// Asserts the first line that defines a name again.
+fn assert_duplicate(
+    rt: &impl Abort,
+    alloc: Global,
+    texts: &[&[u8]],
+    want: u32,
+) -> Result<(), Fail> {
+    let lines = read_all(rt, alloc, texts)?;
+    let want = Some((want, NameFault::Duplicate));
+    assert_eq!(rt; fault(alloc, &lines), want, "of {texts:?}");
+    Ok(())
+}
+
 #[test]
 fn names_defined_again(rt: HostRuntime) -> Result<(), Fail> {
     let alloc = rt.alloc();
     // The lines, and the first that is faulty.
-    let rows: [(&[&[u8]], u32); 7] = [
+    let rows: &[(&[&[u8]], u32)] = &[
         (&[b"X: NOP", b"NOP", b"x:"], 3),
         (&[b"X: NOP", b"X EQU 5"], 2),
         (&[b"K EQU 1", b"K EQU 1"], 2),
@@ -92,11 +117,7 @@ fn names_defined_again(rt: HostRuntime) -> Result<(), Fail> {
         (&[b"X:", b"Y: EXTRN X", b"Y:"], 2),
     ];
     for (texts, want) in rows {
-        let lines = read_all(&rt, alloc, texts)?;
-        match names_of(alloc, &lines) {
-            Ok(_) => assert!(rt; false, "no fault of {texts:?}"),
-            Err(fault) => assert_eq!(rt; fault, (want, NameFault::Duplicate), "of {texts:?}"),
-        }
+        assert_duplicate(&rt, alloc, texts, *want)?;
     }
     Ok(())
 }
@@ -115,24 +136,26 @@ fn repeated(
     Ok(lines)
 }
 
+/// A label of five digits.
+fn label(alloc: Global, number: u32) -> Result<Vec<u8>, Fail> {
+    let mut text = vec![in alloc; b'L'; 1]?;
+    let mut rest = number;
+    for _ in 0..5 {
+        text.push(b'0'.saturating_add((rest % 10) as u8))?;
+        rest /= 10;
+    }
+    text.push(b':')?;
+    Ok(text)
+}
+
 /// A label of its own for each of so many lines.
 fn labelled(rt: &impl Abort, alloc: Global, count: u32) -> Result<Vec<SourceLine>, Fail> {
     let mut lines = Vec::new(alloc);
     for number in 0..count {
-        let mut text = vec![in alloc; b'L'; 1]?;
-        let mut rest = number;
-        for _ in 0..5 {
-            text.push(b'0'.saturating_add((rest % 10) as u8))?;
-            rest /= 10;
-        }
-        text.push(b':')?;
+        let text = label(alloc, number)?;
         lines.push(read(rt, alloc, number.saturating_add(1), &text)?)?;
     }
     Ok(lines)
-}
-
-fn fault(alloc: Global, lines: &[SourceLine]) -> Option<(u32, NameFault)> {
-    names_of(alloc, lines).err()
 }
 
 #[test]

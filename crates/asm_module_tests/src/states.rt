@@ -105,7 +105,7 @@ fn assert_states(rt: &impl Abort, alloc: Global, row: Row<'_>) -> Result<(), Fai
 #[test]
 fn statements(rt: HostRuntime) -> Result<(), Fail> {
     let alloc = rt.alloc();
-    let rows: [(&[&[u8]], &[u16], &[Size], bool, &[(u32, Want)]); 9] = [
+    let rows: &[(&[&[u8]], &[u16], &[Size], bool, &[(u32, Want)])] = &[
         (
             &[b"JP X", b"X: RET"],
             &[0, 1],
@@ -184,7 +184,7 @@ fn statements(rt: HostRuntime) -> Result<(), Fail> {
             texts,
             next,
             sizes,
-            grow,
+            grow: *grow,
             want,
         };
         assert_states(&rt, alloc, row)?;
@@ -196,7 +196,7 @@ fn statements(rt: HostRuntime) -> Result<(), Fail> {
 fn faults(rt: HostRuntime) -> Result<(), Fail> {
     let alloc = rt.alloc();
     // The lines, and the first that is faulty with its fault. None of the faults hangs on where statements stand.
-    let rows: [(&[&[u8]], u32, StateFault); 10] = [
+    let rows: &[(&[&[u8]], u32, StateFault)] = &[
         (&[b"N EQU 5", b"PUBLIC N"], 2, StateFault::PublicNotLabel),
         (&[b"PUBLIC Q"], 1, StateFault::Undefined),
         (&[b"END Q"], 1, StateFault::Undefined),
@@ -225,7 +225,7 @@ fn faults(rt: HostRuntime) -> Result<(), Fail> {
     for (texts, line, why) in rows {
         match stated(&rt, alloc, texts, &[], &[], false)? {
             Ok(_) => assert!(rt; false, "no fault of {texts:?}"),
-            Err(fault) => assert_eq!(rt; fault, (line, why), "of {texts:?}"),
+            Err(fault) => assert_eq!(rt; fault, (*line, *why), "of {texts:?}"),
         }
     }
     Ok(())

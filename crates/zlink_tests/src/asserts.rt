@@ -1,45 +1,43 @@
-//! What each row asserts.
+//! What each row asserts. Memory that runs out is a fault like others, which no row wants.
 
-use crate::modules::{link_sources, sources_of};
-use cert_check::check;
+ghost use Rattle.std.specs.Prelude.{All, map};
+ghost use Rattle.zmo_module.specs.Modules.{module_of};
+ghost use Rattle.zmo_module.specs.Rules.{IsModule};
+
+use crate::modules::{modules_of, sources_of};
+use cert_check::{CheckFault, check};
 use certificate::Verdict;
 use std::alloc::Global;
 use std::process::Abort;
 use std::test::Fail;
-use zlink::{BuildFault, Built, LinkFault, Misfit, Source, build, build_with};
+use zlink::{
+    BuildFault, Built, LinkFault, Linked, Misfit, Module, Source, build, build_with, link,
+};
 
 /// So many zeros, and then these bytes.
 pub(crate) type Piece<'a> = (usize, &'a [u8]);
 
-/// What is built of sources. Memory that ran out fails the test.
+/// What is built of sources.
 pub(crate) fn build_sources(
     alloc: Global,
     sources: &[Source<'_>],
     grow: bool,
-) -> Result<Result<Built, BuildFault>, Fail> {
-    let answer = if grow {
+) -> Result<Built, BuildFault> {
+    if grow {
         build_with(alloc, sources, true)
     } else {
         build(alloc, sources)
-    };
-    match answer {
-        Err(BuildFault::Link(LinkFault::NoMemory)) => Err(Fail::from("out of memory")),
-        answer => Ok(answer),
     }
 }
 
 /// What is built of the sources that stand in a text with bars between them.
-pub(crate) fn built_of(
-    alloc: Global,
-    texts: &str,
-    grow: bool,
-) -> Result<Result<Built, BuildFault>, Fail> {
+pub(crate) fn built_of(alloc: Global, texts: &str, grow: bool) -> Result<Built, BuildFault> {
     let sources = sources_of(alloc, texts)?;
     build_sources(alloc, &sources, grow)
 }
 
 /// What is built of one text, which is named MAIN.
-pub(crate) fn built_of_text(alloc: Global, text: &[u8]) -> Result<Result<Built, BuildFault>, Fail> {
+pub(crate) fn built_of_text(alloc: Global, text: &[u8]) -> Result<Built, BuildFault> {
     let source = Source {
         name: b"MAIN",
         text,
@@ -47,12 +45,16 @@ pub(crate) fn built_of_text(alloc: Global, text: &[u8]) -> Result<Result<Built, 
     build_sources(alloc, &[source], false)
 }
 
-/// Asserts that the checker, which knows the two texts alone, proves this verdict.
-fn assert_certified(rt: &impl Abort, alloc: Global, sizes: &[u8], cert: &[u8], want: Verdict) {
-    match check(alloc, sizes, cert) {
-        Ok(verdict) => assert_eq!(rt; verdict, want),
-        Err(fault) => panic!(rt; "{fault:?}"),
-    }
+/// Asserts what the checker, which knows the two texts alone, says of them.
+pub(crate) fn assert_checked(
+    rt: &impl Abort,
+    alloc: Global,
+    sizes: &[u8],
+    cert: &[u8],
+    want: Result<Verdict, CheckFault>,
+) {
+    let answer = check(alloc, sizes, cert);
+    assert!(rt; answer == want, "{answer:?} where {want:?} was wanted");
 }
 
 /// Asserts that a file has these bytes, and that its certificate is a good one.
@@ -65,32 +67,56 @@ pub(crate) fn assert_com(
     assert_eq!(rt; built.com.len(), want.len());
     assert!(rt; built.com.as_slice() == want, "{:?}", built.com);
     let total = u32::try_from(want.len())?;
-    let best = Verdict::Best(total);
-    assert_certified(rt, alloc, &built.sizes, &built.cert, best);
+    let best = Ok(Verdict::Best(total));
+    assert_checked(rt, alloc, &built.sizes, &built.cert, best);
     Ok(())
 }
 
-/// Asserts that the modules of sources, written and read again or not, are linked to what is built of the sources.
-fn assert_linked(
+/// In what a program that is linked differs from one that is built; empty where they are alike.
+fn difference(linked: &Linked, built: &Built) -> &'static str {
+    if linked.com != built.com {
+        return "file";
+    }
+    if linked.sizes != built.sizes {
+        return "sizes";
+    }
+    if linked.cert != built.cert {
+        return "certificate";
+    }
+    if linked.symbols != built.symbols {
+        return "symbols";
+    }
+    if linked.grown != built.grown {
+        return "grown jumps";
+    }
+    ""
+}
+
+/// Asserts that modules are linked to what is built of their sources.
+fn assert_linked(rt: &impl Abort, alloc: Global, texts: &str, modules: &[Module], built: &Built)
+    requires { All IsModule (map module_of modules.now) }
+{
+    match link(alloc, modules) {
+        Ok(linked) => assert_eq!(rt; difference(&linked, built), "", "of {texts}"),
+        Err(fault) => panic!(rt; "{fault:?} of {texts}"),
+    }
+}
+
+/// Asserts what is built of sources: the bytes of the file, its certificate, and that the modules of the sources, written and read
+/// again or not, are linked to the same.
+fn assert_built(
     rt: &impl Abort,
     alloc: Global,
     texts: &str,
     grow: bool,
     built: &Built,
+    want: &[u8],
 ) -> Result<(), Fail> {
-    let sources = sources_of(alloc, texts)?;
-    for is_read in [false, true] {
-        match link_sources(alloc, &sources, grow, is_read)? {
-            Ok(linked) => {
-                assert!(rt; linked.com == built.com, "the file of {texts}");
-                assert!(rt; linked.sizes == built.sizes, "the sizes of {texts}");
-                assert!(rt; linked.cert == built.cert, "the certificate of {texts}");
-                assert!(rt; linked.symbols == built.symbols, "the symbols of {texts}");
-                assert!(rt; linked.grown == built.grown, "the grown jumps of {texts}");
-            }
-            Err(fault) => panic!(rt; "{fault:?} of {texts}"),
-        }
-    }
+    assert_com(rt, alloc, built, want)?;
+    let modules = modules_of(alloc, texts, grow, false)?;
+    assert_linked(rt, alloc, texts, &modules, built);
+    let modules = modules_of(alloc, texts, grow, true)?;
+    assert_linked(rt, alloc, texts, &modules, built);
     Ok(())
 }
 
@@ -102,13 +128,20 @@ pub(crate) fn assert_bytes(
     grow: bool,
     want: &[u8],
 ) -> Result<(), Fail> {
-    match built_of(alloc, texts, grow)? {
-        Ok(built) => {
-            assert_com(rt, alloc, &built, want)?;
-            assert_linked(rt, alloc, texts, grow, &built)
-        }
+    match built_of(alloc, texts, grow) {
+        Ok(built) => assert_built(rt, alloc, texts, grow, &built, want),
         Err(fault) => panic!(rt; "{fault:?} of {texts}"),
     }
+}
+
+/// The bytes of pieces.
+fn bytes_of(alloc: Global, pieces: &[Piece]) -> Result<Vec<u8>, Fail> {
+    let mut bytes = Vec::new(alloc);
+    for (zeros, piece) in pieces {
+        bytes.extend_from_slice(&vec![in alloc; 0; *zeros]?)?;
+        bytes.extend_from_slice(piece)?;
+    }
+    Ok(bytes)
 }
 
 /// Asserts that sources make a file of these pieces.
@@ -119,21 +152,31 @@ pub(crate) fn assert_file(
     grow: bool,
     pieces: &[Piece],
 ) -> Result<(), Fail> {
-    let mut want = Vec::new(alloc);
-    for (zeros, bytes) in pieces {
-        want.extend_from_slice(&vec![in alloc; 0; *zeros]?)?;
-        want.extend_from_slice(bytes)?;
-    }
+    let want = bytes_of(alloc, pieces)?;
     assert_bytes(rt, alloc, texts, grow, &want)
 }
 
 /// The sizes text and the certificate of sources.
 pub(crate) fn texts_of(alloc: Global, texts: &str, grow: bool) -> Result<(Vec<u8>, Vec<u8>), Fail> {
-    match built_of(alloc, texts, grow)? {
+    match built_of(alloc, texts, grow) {
         Ok(built) => Ok((built.sizes, built.cert)),
         Err(BuildFault::Link(LinkFault::NoFit { sizes, cert, .. })) => Ok((sizes, cert)),
         Err(_) => Err(Fail::from("a fault where two texts were wanted")),
     }
+}
+
+/// Asserts that a text has this first line, these lines, and this last one.
+fn assert_lines(
+    rt: &impl Abort,
+    alloc: Global,
+    text: &[u8],
+    want: (&str, &str, &str),
+    texts: &str,
+) -> Result<(), Fail> {
+    let (first, lines, last) = want;
+    let whole = format!(in alloc; "{first}{lines}{last}")?;
+    assert!(rt; text == whole.as_bytes(), "{first}of {texts}");
+    Ok(())
 }
 
 /// Asserts the lines of the sizes of sources and of their certificate, but for the first of each and `END`.
@@ -146,17 +189,10 @@ pub(crate) fn assert_texts(
     cert: &str,
 ) -> Result<(), Fail> {
     let answer = texts_of(alloc, texts, grow)?;
-    let want = format!(in alloc; "Z80SIZES 1\n{sizes}END\n")?;
-    assert!(rt;
-        answer.0.as_slice() == want.as_bytes(),
-        "the sizes of {texts}"
-    );
-    let want = format!(in alloc; "Z80CERT 1\n{cert}")?;
-    assert!(rt;
-        answer.1.as_slice() == want.as_bytes(),
-        "the certificate of {texts}"
-    );
-    Ok(())
+    let want = ("Z80SIZES 1\n", sizes, "END\n");
+    assert_lines(rt, alloc, &answer.0, want, texts)?;
+    let want = ("Z80CERT 1\n", cert, "");
+    assert_lines(rt, alloc, &answer.1, want, texts)
 }
 
 /// Asserts why no file is built.
@@ -174,20 +210,48 @@ pub(crate) fn assert_refused(
     }
 }
 
+/// Why modules are linked to no file.
+fn link_fault(alloc: Global, modules: &[Module]) -> Option<LinkFault>
+    requires { All IsModule (map module_of modules.now) }
+{
+    link(alloc, modules).err()
+}
+
+/// Why sources are linked to no file.
+fn build_fault(alloc: Global, texts: &str) -> Option<LinkFault> {
+    match built_of(alloc, texts, false) {
+        Err(BuildFault::Link(fault)) => Some(fault),
+        _ => None,
+    }
+}
+
+/// Asserts a fault of linking.
+fn assert_fault(rt: &impl Abort, texts: &str, fault: Option<LinkFault>, want: &LinkFault) {
+    match fault {
+        Some(fault) => assert!(rt; fault == *want, "{fault:?} of {texts}"),
+        None => panic!(rt; "{want:?} was wanted of {texts}"),
+    }
+}
+
 /// Asserts why sources are linked to no file, and that their modules, written and read again, are refused alike.
 pub(crate) fn assert_unlinked(
     rt: &impl Abort,
     alloc: Global,
     texts: &str,
-    want: LinkFault,
+    want: &LinkFault,
 ) -> Result<(), Fail> {
-    let sources = sources_of(alloc, texts)?;
-    match link_sources(alloc, &sources, false, true)? {
-        Ok(_) => return Err(Fail::from("a file where a fault was wanted")),
-        Err(fault) => assert!(rt; fault == want, "{fault:?} of {texts}"),
+    let modules = modules_of(alloc, texts, false, true)?;
+    assert_fault(rt, texts, link_fault(alloc, &modules), want);
+    assert_fault(rt, texts, build_fault(alloc, texts), want);
+    Ok(())
+}
+
+/// What the checker says where no choice fits.
+fn verdict_of(why: Misfit) -> Verdict {
+    match why {
+        Misfit::Range(statement) => Verdict::Range(statement),
+        Misfit::TooLarge(total) => Verdict::TooLarge(total),
     }
-    let answer = build_sources(alloc, &sources, false)?;
-    assert_refused(rt, answer, &BuildFault::Link(want))
 }
 
 /// Asserts that no choice of short and long jumps fits, and that the certificate of it is a good one.
@@ -198,14 +262,10 @@ pub(crate) fn assert_no_fit(
     grow: bool,
     want: Misfit,
 ) -> Result<(), Fail> {
-    let verdict = match want {
-        Misfit::Range(statement) => Verdict::Range(statement),
-        Misfit::TooLarge(total) => Verdict::TooLarge(total),
-    };
-    match built_of(alloc, texts, grow)? {
+    match built_of(alloc, texts, grow) {
         Err(BuildFault::Link(LinkFault::NoFit { why, sizes, cert })) => {
             assert_eq!(rt; why, want, "of {texts}");
-            assert_certified(rt, alloc, &sizes, &cert, verdict);
+            assert_checked(rt, alloc, &sizes, &cert, Ok(verdict_of(want)));
             Ok(())
         }
         _ => Err(Fail::from("another answer where no choice fits")),

@@ -31,16 +31,30 @@ fn told_symbols(alloc: Global, built: &Built) -> Result<String, Fail> {
 }
 
 /// What is built of sources.
-fn good(rt: &impl Abort, alloc: Global, texts: &str, grow: bool) -> Result<Built, Fail> {
-    match built_of(alloc, texts, grow)? {
-        Ok(built) => Ok(built),
+fn good(rt: &impl Abort, alloc: Global, texts: &str, grow: bool) -> Built {
+    match built_of(alloc, texts, grow) {
+        Ok(built) => built,
         Err(fault) => panic!(rt; "{fault:?} of {texts}"),
     }
 }
 
+/// Asserts what is told of the statements of sources.
+fn assert_statements(rt: &impl Abort, alloc: Global, texts: &str, want: &str) -> Result<(), Fail> {
+    let told = told_statements(alloc, &good(rt, alloc, texts, false))?;
+    assert_eq!(rt; told.as_str(), want, "of {texts}");
+    Ok(())
+}
+
+/// Asserts what is told of the labels of sources.
+fn assert_symbols(rt: &impl Abort, alloc: Global, texts: &str, want: &str) -> Result<(), Fail> {
+    let told = told_symbols(alloc, &good(rt, alloc, texts, false))?;
+    assert_eq!(rt; told.as_str(), want, "of {texts}");
+    Ok(())
+}
+
 #[test]
 fn statements(rt: HostRuntime) -> Result<(), Fail> {
-    let rows = [
+    let rows: &[(&str, &str)] = &[
         ("", ""),
         ("JP X\nNOP\nX: RET", "0100 0.1 0102 0.2 0103 0.3 "),
         (
@@ -69,16 +83,14 @@ fn statements(rt: HostRuntime) -> Result<(), Fail> {
         ),
     ];
     for (texts, want) in rows {
-        let built = good(&rt, rt.alloc(), texts, false)?;
-        let told = told_statements(rt.alloc(), &built)?;
-        assert_eq!(rt; told.as_str(), want, "of {texts}");
+        assert_statements(&rt, rt.alloc(), texts, want)?;
     }
     Ok(())
 }
 
 #[test]
 fn symbols(rt: HostRuntime) -> Result<(), Fail> {
-    let rows = [
+    let rows: &[(&str, &str)] = &[
         ("NOP", ""),
         ("JP X\nNOP\nX: RET", "0103 A X "),
         (
@@ -99,16 +111,21 @@ fn symbols(rt: HostRuntime) -> Result<(), Fail> {
         ("JP X\nDS 128\nX:|X:", "0183 A X 0183 B X "),
     ];
     for (texts, want) in rows {
-        let built = good(&rt, rt.alloc(), texts, false)?;
-        let told = told_symbols(rt.alloc(), &built)?;
-        assert_eq!(rt; told.as_str(), want, "of {texts}");
+        assert_symbols(&rt, rt.alloc(), texts, want)?;
     }
     Ok(())
 }
 
+/// Asserts the last lines of sources.
+fn assert_last(rt: &impl Abort, alloc: Global, texts: &str, want: &[u32]) {
+    let built = good(rt, alloc, texts, false);
+    let last = built.last.as_slice();
+    assert!(rt; last == want, "{last:?} of {texts}");
+}
+
 #[test]
 fn last_lines(rt: HostRuntime) -> Result<(), Fail> {
-    let rows: [(&str, &[u32]); 6] = [
+    let rows: &[(&str, &[u32])] = &[
         ("", &[0]),
         ("NOP\nRET\n\n", &[3]),
         ("NOP\n\nRET", &[3]),
@@ -118,19 +135,21 @@ fn last_lines(rt: HostRuntime) -> Result<(), Fail> {
         ("|\n|NOP", &[0, 1, 1]),
     ];
     for (texts, want) in rows {
-        let built = good(&rt, rt.alloc(), texts, false)?;
-        assert!(rt;
-            built.last.as_slice() == want,
-            "{:?} of {texts}",
-            built.last
-        );
+        assert_last(&rt, rt.alloc(), texts, want);
     }
     Ok(())
 }
 
+/// Asserts the numbers of the jumps that have grown.
+fn assert_grown(rt: &impl Abort, alloc: Global, texts: &str, grow: bool, want: &[u32]) {
+    let built = good(rt, alloc, texts, grow);
+    let grown = built.grown.as_slice();
+    assert!(rt; grown == want, "{grown:?} of {texts}");
+}
+
 #[test]
 fn grown_jumps(rt: HostRuntime) -> Result<(), Fail> {
-    let rows: [(&str, bool, &[u32]); 6] = [
+    let rows: &[(&str, bool, &[u32])] = &[
         ("JR X\nDS 128\nX:", true, &[0]),
         ("JR X\nDS 125\nJP Y\nX: DS 128\nY: RET", true, &[0]),
         // one that is short has not grown, and no JP grows
@@ -145,12 +164,7 @@ fn grown_jumps(rt: HostRuntime) -> Result<(), Fail> {
         ),
     ];
     for (texts, grow, want) in rows {
-        let built = good(&rt, rt.alloc(), texts, grow)?;
-        assert!(rt;
-            built.grown.as_slice() == want,
-            "{:?} of {texts}",
-            built.grown
-        );
+        assert_grown(&rt, rt.alloc(), texts, *grow, want);
     }
     Ok(())
 }
@@ -165,12 +179,10 @@ fn long_name(rt: HostRuntime) -> Result<(), Fail> {
     };
     match build(rt.alloc(), &[source]) {
         Ok(built) => {
-            for symbol in &built.symbols {
-                assert!(rt; symbol.module.as_slice() == &name[..255]);
-            }
             assert_eq!(rt; built.symbols.len(), 1);
+            assert!(rt; built.symbols[0].module.as_slice() == &name[..255]);
+            Ok(())
         }
         Err(fault) => panic!(rt; "{fault:?}"),
     }
-    Ok(())
 }

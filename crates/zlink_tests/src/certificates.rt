@@ -1,16 +1,18 @@
 //! The two texts that go with a file, or with its refusal.
 
-use crate::asserts::{assert_texts, texts_of};
+use crate::asserts::{assert_checked, assert_texts, texts_of};
+use cert_check::CheckFault;
 use cert_check::CheckFault::{
     BadCertificate, NotAJump, NotForced, NotOutOfRange, Repeated, StillShort, WrongTotal,
 };
-use cert_check::check;
 use certificate::Verdict;
+use std::alloc::Global;
+use std::process::Abort;
 use std::test::Fail;
 
 #[test]
 fn of_a_file(rt: HostRuntime) -> Result<(), Fail> {
-    let rows = [
+    let rows: &[(&str, &str, &str)] = &[
         ("", "", "BEST 0\n"),
         ("JP X\nDS 127\nX: RET", "J 2\nF 127\nF 1\n", "BEST 130\n"),
         (
@@ -54,7 +56,7 @@ fn of_a_file(rt: HostRuntime) -> Result<(), Fail> {
 
 #[test]
 fn of_a_refusal(rt: HostRuntime) -> Result<(), Fail> {
-    let rows = [
+    let rows: &[(&str, &str, &str)] = &[
         (
             "JR X\nDS 125\nJP Y\nX: DS 128\nY: RET",
             "S 3\nF 125\nJ 4\nF 128\nF 1\n",
@@ -71,7 +73,7 @@ fn of_a_refusal(rt: HostRuntime) -> Result<(), Fail> {
 
 #[test]
 fn where_jumps_may_grow(rt: HostRuntime) -> Result<(), Fail> {
-    let rows = [
+    let rows: &[(&str, &str, &str)] = &[
         ("JR X\nDS 128\nX:", "J 2\nF 128\n", "L 0\nBEST 131\n"),
         (
             "JR X\nDS 125\nJP Y\nX: DS 128\nY: RET",
@@ -87,6 +89,20 @@ fn where_jumps_may_grow(rt: HostRuntime) -> Result<(), Fail> {
     Ok(())
 }
 
+/// Asserts what the checker says of the sizes of a text with these lines as their certificate.
+fn assert_other(
+    rt: &impl Abort,
+    alloc: Global,
+    text: &str,
+    cert: &str,
+    want: Result<Verdict, CheckFault>,
+) -> Result<(), Fail> {
+    let (sizes, _) = texts_of(alloc, text, false)?;
+    let cert = format!(in alloc; "Z80CERT 1\n{cert}")?;
+    assert_checked(rt, alloc, &sizes, cert.as_bytes(), want);
+    Ok(())
+}
+
 /// The checker judges other certificates of the sizes that are built.
 #[test]
 fn other_certificates(rt: HostRuntime) -> Result<(), Fail> {
@@ -94,7 +110,7 @@ fn other_certificates(rt: HostRuntime) -> Result<(), Fail> {
     let apart = "JP X\nDS 128\nX: JP Y\nDS 128\nY:";
     let crossing = "Y: JP X\nDS 124\nJP Y\nNOP\nX:";
     let forcing = "JP X\nDS 125\nJP Y\nX: DS 128\nY: RET";
-    let rows = [
+    let rows: &[(&str, &str, Result<Verdict, CheckFault>)] = &[
         (apart, "L 0\nL 2\nBEST 262\n", Ok(Verdict::Best(262))),
         (apart, "L 2\nL 0\nBEST 262\n", Ok(Verdict::Best(262))),
         (apart, "L 0\nBEST 261\n", Err(StillShort(2))),
@@ -107,10 +123,7 @@ fn other_certificates(rt: HostRuntime) -> Result<(), Fail> {
         (forcing, "L 02\nBEST 0\n", Err(BadCertificate(2))),
     ];
     for (text, cert, want) in rows {
-        let sizes = texts_of(alloc, text, false)?.0;
-        let cert = format!(in alloc; "Z80CERT 1\n{cert}")?;
-        let answer = check(alloc, &sizes, cert.as_bytes());
-        assert!(rt; answer == want, "{answer:?} of {cert}");
+        assert_other(&rt, alloc, text, cert, *want)?;
     }
     Ok(())
 }

@@ -27,13 +27,13 @@ fn assert_fault(
     why: Why,
 ) -> Result<(), Fail> {
     let fault = AsmFault { line, why };
-    let answer = built_of(alloc, texts, false)?;
+    let answer = built_of(alloc, texts, false);
     assert_refused(rt, answer, &BuildFault::Asm { source, fault })
 }
 
 #[test]
 fn of_a_source(rt: HostRuntime) -> Result<(), Fail> {
-    let rows = [
+    let rows: &[(&str, u32, Why)] = &[
         ("FOO", 1, Stmt(UnknownWord)),
         ("SLL A", 1, Stmt(UnknownWord)),
         ("NOP 1", 1, Stmt(BadOperands)),
@@ -72,14 +72,14 @@ fn of_a_source(rt: HostRuntime) -> Result<(), Fail> {
         ),
     ];
     for (text, line, why) in rows {
-        assert_fault(&rt, rt.alloc(), text, 0, line, why)?;
+        assert_fault(&rt, rt.alloc(), text, 0, *line, *why)?;
     }
     Ok(())
 }
 
 #[test]
 fn the_first_of_several(rt: HostRuntime) -> Result<(), Fail> {
-    let rows = [
+    let rows: &[(&str, usize, u32, Why)] = &[
         // On one line: its bytes, its word, its operands, its label.
         ("A: FOO !", 0, 1, Macro(Scan(BadByte))),
         ("A: FOO", 0, 1, Stmt(UnknownWord)),
@@ -101,14 +101,14 @@ fn the_first_of_several(rt: HostRuntime) -> Result<(), Fail> {
         ("JR X\nDS 128\nX:|FOO", 1, 1, Stmt(UnknownWord)),
     ];
     for (texts, source, line, why) in rows {
-        assert_fault(&rt, rt.alloc(), texts, source, line, why)?;
+        assert_fault(&rt, rt.alloc(), texts, *source, *line, *why)?;
     }
     Ok(())
 }
 
 #[test]
 fn of_linking(rt: HostRuntime) -> Result<(), Fail> {
-    let rows = [
+    let rows: &[(&str, LinkFault)] = &[
         ("NOP|ORG 0100H\nRET", BeginsNotFirst(1)),
         ("|ORG 0100H", BeginsNotFirst(1)),
         ("ORG 0100H|NOP|ORG 0100H|ORG 0100H", BeginsNotFirst(2)),
@@ -142,7 +142,7 @@ fn of_linking(rt: HostRuntime) -> Result<(), Fail> {
 
 #[test]
 fn the_first_of_linking(rt: HostRuntime) -> Result<(), Fail> {
-    let rows = [
+    let rows: &[(&str, LinkFault)] = &[
         ("PUBLIC X\nX: NOP|PUBLIC X\nX:|ORG 0100H", BeginsNotFirst(2)),
         (
             "EXTRN Q\nPUBLIC X\nX: JP Q|PUBLIC X\nX:",
@@ -158,29 +158,41 @@ fn the_first_of_linking(rt: HostRuntime) -> Result<(), Fail> {
     Ok(())
 }
 
+/// So many macros, each of which calls the next, the last one with a `NOP`; and a call of the first.
+fn chain(alloc: Global, depth: u32) -> Result<String, Fail> {
+    let mut text = String::new(alloc);
+    for k in 1..depth {
+        let lines = format!(in alloc; "M{} MACRO\nM{}\nENDM\n", k, k + 1)?;
+        text.push_str(&lines)?;
+    }
+    let lines = format!(in alloc; "M{depth} MACRO\nNOP\nENDM\nM1\n")?;
+    text.push_str(&lines)?;
+    Ok(text)
+}
+
 /// Sixteen macros may call one another, each the next, and no more.
 #[test]
 fn nested_macros(rt: HostRuntime) -> Result<(), Fail> {
-    for depth in [16_u32, 17] {
-        let mut text = String::new(rt.alloc());
-        for k in 1..depth {
-            let lines = format!(in rt.alloc(); "M{} MACRO\nM{}\nENDM\n", k, k + 1)?;
-            text.push_str(&lines)?;
-        }
-        let lines = format!(in rt.alloc(); "M{depth} MACRO\nNOP\nENDM\nM1\n")?;
-        text.push_str(&lines)?;
-        if depth == 16 {
-            assert_bytes(&rt, rt.alloc(), &text, false, &[0x00])?;
-        } else {
-            assert_fault(&rt, rt.alloc(), &text, 0, 52, Macro(TooDeep))?;
-        }
-    }
+    let text = chain(rt.alloc(), 16)?;
+    assert_bytes(&rt, rt.alloc(), &text, false, &[0x00])?;
+    let text = chain(rt.alloc(), 17)?;
+    assert_fault(&rt, rt.alloc(), &text, 0, 52, Macro(TooDeep))
+}
+
+/// Asserts the sentence of a fault.
+fn assert_sentence(
+    rt: &impl Abort,
+    alloc: Global,
+    fault: &BuildFault,
+    sentence: &str,
+) -> Result<(), Fail> {
+    assert_eq!(rt; format!(in alloc; "{fault}")?.as_str(), sentence);
     Ok(())
 }
 
 #[test]
 fn sentences(rt: HostRuntime) -> Result<(), Fail> {
-    let rows = [
+    let rows: &[(Why, &str)] = &[
         (
             Macro(Scan(BadByte)),
             "source 1, line 3: a byte that may not stand here",
@@ -195,19 +207,13 @@ fn sentences(rt: HostRuntime) -> Result<(), Fail> {
     for (why, sentence) in rows {
         let fault = BuildFault::Asm {
             source: 1,
-            fault: AsmFault { line: 3, why },
+            fault: AsmFault { line: 3, why: *why },
         };
-        assert_eq!(rt; format!(in rt.alloc(); "{fault}")?.as_str(), sentence);
+        assert_sentence(&rt, rt.alloc(), &fault, sentence)?;
     }
     let fault = BuildFault::Link(DefinedTwice(2, 0));
-    assert_eq!(rt;
-        format!(in rt.alloc(); "{fault}")?.as_str(),
-        "label 0 of module 2 is public in a module before it too"
-    );
+    let sentence = "label 0 of module 2 is public in a module before it too";
+    assert_sentence(&rt, rt.alloc(), &fault, sentence)?;
     let fault = BuildFault::Link(LinkFault::NoMemory);
-    assert_eq!(rt;
-        format!(in rt.alloc(); "{fault}")?.as_str(),
-        "out of memory"
-    );
-    Ok(())
+    assert_sentence(&rt, rt.alloc(), &fault, "out of memory")
 }

@@ -2,11 +2,11 @@
 
 use crate::asserts::{Piece, assert_bytes, assert_file, assert_no_fit};
 use std::test::Fail;
-use zlink::Misfit::{Range, TooLarge};
+use zlink::Misfit::{self, Range, TooLarge};
 
 #[test]
 fn statements(rt: HostRuntime) -> Result<(), Fail> {
-    let rows: [(&str, &[u8]); 13] = [
+    let rows: &[(&str, &[u8])] = &[
         ("", &[]),
         ("NOP", &[0x00]),
         ("DB 1,2,3", &[1, 2, 3]),
@@ -60,7 +60,7 @@ fn statements(rt: HostRuntime) -> Result<(), Fail> {
 
 #[test]
 fn expressions_and_macros(rt: HostRuntime) -> Result<(), Fail> {
-    let rows: [(&str, &[u8]); 13] = [
+    let rows: &[(&str, &[u8])] = &[
         (
             "DW 2+3*4,NOT 0,7 MOD 4 SHL 1",
             &[0x0E, 0x00, 0xFF, 0xFF, 0x06, 0x00],
@@ -97,7 +97,7 @@ fn expressions_and_macros(rt: HostRuntime) -> Result<(), Fail> {
 
 #[test]
 fn several_sources(rt: HostRuntime) -> Result<(), Fail> {
-    let rows: [(&str, &[u8]); 12] = [
+    let rows: &[(&str, &[u8])] = &[
         ("|", &[]),
         ("NOP|RET|DB 7", &[0x00, 0xC9, 0x07]),
         ("EXTRN F\nJP F|PUBLIC F\nF: RET", &[0x18, 0x00, 0xC9]),
@@ -139,7 +139,7 @@ fn several_sources(rt: HostRuntime) -> Result<(), Fail> {
 
 #[test]
 fn jumps(rt: HostRuntime) -> Result<(), Fail> {
-    let rows: [(&str, &[Piece]); 11] = [
+    let rows: &[(&str, &[Piece])] = &[
         // Ahead by 127, the furthest, and one byte further.
         (
             "JP X\nDS 127\nX: RET",
@@ -201,7 +201,7 @@ fn jumps(rt: HostRuntime) -> Result<(), Fail> {
 
 #[test]
 fn where_jumps_may_grow(rt: HostRuntime) -> Result<(), Fail> {
-    let rows: [(&str, bool, &[Piece]); 7] = [
+    let rows: &[(&str, bool, &[Piece])] = &[
         (
             "JR X\nDS 128\nX:",
             true,
@@ -241,14 +241,14 @@ fn where_jumps_may_grow(rt: HostRuntime) -> Result<(), Fail> {
         ),
     ];
     for (texts, grow, pieces) in rows {
-        assert_file(&rt, rt.alloc(), texts, grow, pieces)?;
+        assert_file(&rt, rt.alloc(), texts, *grow, pieces)?;
     }
     Ok(())
 }
 
 #[test]
 fn no_fit(rt: HostRuntime) -> Result<(), Fail> {
-    let rows = [
+    let rows: &[(&str, bool, Misfit)] = &[
         ("JR X\nDS 125\nJP Y\nX: DS 128\nY: RET", false, Range(0)),
         ("JR X\nDS 128\nX:", false, Range(0)),
         ("X: DS 127\nJR X", false, Range(1)),
@@ -268,7 +268,7 @@ fn no_fit(rt: HostRuntime) -> Result<(), Fail> {
         ("DS 65535\nJR X\nDS 128\nX:", false, Range(1)),
     ];
     for (texts, grow, why) in rows {
-        assert_no_fit(&rt, rt.alloc(), texts, grow, why)?;
+        assert_no_fit(&rt, rt.alloc(), texts, *grow, *why)?;
     }
     Ok(())
 }

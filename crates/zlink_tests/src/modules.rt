@@ -1,4 +1,4 @@
-//! Sources as modules, and what is linked of them.
+//! Sources, and their modules.
 
 ghost use Rattle.std.specs.Prelude.{All, IfOk, map};
 ghost use Rattle.zmo_module.specs.Modules.{module_of};
@@ -7,14 +7,14 @@ ghost use Rattle.zmo_module.specs.Rules.{IsModule};
 use asm_module::assemble_with;
 use std::alloc::Global;
 use std::test::Fail;
-use zlink::{LinkFault, Linked, Module, Source, link};
+use zlink::{BuildFault, Module, Source};
 use zmo_object::{read, write};
 
 /// The names of sources.
 const NAMES: &[u8] = b"ABCDEFGH";
 
 /// The sources that stand in a text with bars between them, eight at most, named A, B and so on.
-pub(crate) fn sources_of(alloc: Global, texts: &str) -> Result<Vec<Source<'_>>, Fail> {
+pub(crate) fn sources_of(alloc: Global, texts: &str) -> Result<Vec<Source<'_>>, BuildFault> {
     let mut sources = Vec::new(alloc);
     for (text, name) in texts.split('|').zip(NAMES.chunks(1)) {
         sources.push(Source {
@@ -42,30 +42,20 @@ fn module_of_source(
     }
 }
 
-/// The modules of sources, each read of its object where `is_read` says so.
-fn modules_of(
+/// The modules of the sources that stand in a text with bars between them, each read of its object where `is_read` says so.
+pub(crate) fn modules_of(
     alloc: Global,
-    sources: &[Source<'_>],
+    texts: &str,
     grow: bool,
     is_read: bool,
 ) -> Result<Vec<Module>, Fail>
     ensures { IfOk result (λ modules. All IsModule (map module_of modules.items)) }
 {
+    let sources = sources_of(alloc, texts)?;
     let mut modules = Vec::new(alloc);
-    for source in sources {
+    for source in &sources {
         let module = module_of_source(alloc, *source, grow, is_read)?;
         modules.push(module)?;
     }
     Ok(modules)
-}
-
-/// What is linked of the modules of sources.
-pub(crate) fn link_sources(
-    alloc: Global,
-    sources: &[Source<'_>],
-    grow: bool,
-    is_read: bool,
-) -> Result<Result<Linked, LinkFault>, Fail> {
-    let modules = modules_of(alloc, sources, grow, is_read)?;
-    Ok(link(alloc, &modules))
 }

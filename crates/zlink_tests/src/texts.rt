@@ -12,7 +12,7 @@ use zlink::{AsmFault, BuildFault};
 
 /// Asserts that a text makes a file of these bytes.
 fn assert_bytes(rt: &impl Abort, alloc: Global, text: &[u8], want: &[u8]) -> Result<(), Fail> {
-    match built_of_text(alloc, text)? {
+    match built_of_text(alloc, text) {
         Ok(built) => assert_com(rt, alloc, &built, want),
         Err(fault) => panic!(rt; "{fault:?}"),
     }
@@ -27,13 +27,13 @@ fn assert_fault(
     why: Why,
 ) -> Result<(), Fail> {
     let fault = AsmFault { line, why };
-    let answer = built_of_text(alloc, text)?;
+    let answer = built_of_text(alloc, text);
     assert_refused(rt, answer, &BuildFault::Asm { source: 0, fault })
 }
 
 #[test]
 fn ends(rt: HostRuntime) -> Result<(), Fail> {
-    let rows: [(&[u8], &[u8]); 12] = [
+    let rows: &[(&[u8], &[u8])] = &[
         // The last line needs no end.
         (b"NOP\nRET", &[0x00, 0xC9]),
         (b"NOP\nRET\n", &[0x00, 0xC9]),
@@ -59,7 +59,7 @@ fn ends(rt: HostRuntime) -> Result<(), Fail> {
 
 #[test]
 fn other_ends(rt: HostRuntime) -> Result<(), Fail> {
-    let rows: [(&[u8], u32, Why); 6] = [
+    let rows: &[(&[u8], u32, Why)] = &[
         (b"NOP\r", 1, Macro(Scan(BadByte))),
         (b"NOP\rRET\n", 1, Macro(Scan(BadByte))),
         (b"NOP\nRET\r\r\n", 2, Macro(Scan(BadByte))),
@@ -68,7 +68,7 @@ fn other_ends(rt: HostRuntime) -> Result<(), Fail> {
         (b"\r\n\nFOO\r\n", 3, Stmt(UnknownWord)),
     ];
     for (text, line, why) in rows {
-        assert_fault(&rt, rt.alloc(), text, line, why)?;
+        assert_fault(&rt, rt.alloc(), text, *line, *why)?;
     }
     Ok(())
 }
