@@ -6,7 +6,7 @@ ghost use Rattle.std.specs.List.{list_all, list_any};
 ghost use Rattle.asm_replace.specs.Views.{texts};
 ghost use Rattle.asm_texts.specs.Plain.{are_plain, is_of_pair, is_plain};
 
-/// Whether a letter, in either case, is one of two that stand side by side in a word of blocks.
+/// Whether a letter, in either case, is one of the pairs IF, LS, CR, PT and DM, of which each word of blocks has one.
 fn is_of_pair(byte: u8) -> bool
     ensures { result ≡ is_of_pair (to_ascii_lowercase byte) }
 {

@@ -51,7 +51,7 @@ pub(crate) fn heard(alloc: Global, line: &[u8]) -> Result<Option<Vec<Token<'_>>>
     }
 }
 
-/// Whether two small letters stand side by side in IF, ELSE, ENDIF, MACRO, REPT or ENDM.
+/// Whether two small letters are one of the pairs of which each word of blocks has one: IF and ENDIF, ELSE, MACRO, REPT, ENDM.
 fn is_pair(a: u8, b: u8) -> bool
     ensures { result ≡ is_pair a b }
 {

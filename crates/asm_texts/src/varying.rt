@@ -29,7 +29,7 @@ pub(crate) struct Varying {
     pub at: usize,
     pub end: usize,
     pub places: Vec<usize>,
-    /// Those of these places that may be where all texts put in are plain.
+    /// Of these places those of lines that may be other things even where all texts that are put in are plain.
     pub paired: Vec<usize>,
 }
 
