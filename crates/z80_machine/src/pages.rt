@@ -205,6 +205,7 @@ fn try_sets_low(cpu: &mut Cpu, memory: &mut Memory, second: u8) -> Option<Step>
 
 /// SET of bits 4 to 7.
 #[inline(always)]
+#[inline(always)]
 fn try_sets_high(cpu: &mut Cpu, memory: &mut Memory, second: u8) -> Option<Step>
     ensures { IsTurnOrNone (read_second bits_entry second (machine cpu.old memory.old)) result
         (machine cpu.old memory.old) (machine cpu.new memory.new) }
