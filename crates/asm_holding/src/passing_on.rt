@@ -15,7 +15,7 @@ ghost use Rattle.asm_holding.specs.Holding.{begins, entry, entry_name, is_origin
 use crate::listed::Listed;
 use asm_equ::Layout;
 use asm_names::{Kind, NameTable, SourceLine};
-use asm_spell::{Body, Line, ListedName};
+use asm_spell::{Body, KeptName, Line};
 use std::alloc::{AllocError, Global};
 use zmo_module::Label;
 
@@ -109,7 +109,7 @@ pub fn begins(lines: &[SourceLine]) -> bool
 }
 
 /// Adds the names that a PUBLIC lists.
-fn list_names<'a>(names: &'a [ListedName], listed: &mut Listed<'a>) -> Result<(), AllocError>
+fn list_names<'a>(names: &'a [KeptName], listed: &mut Listed<'a>) -> Result<(), AllocError>
     ensures { OnOk result ((name : List ℕ) → list_any (bytes_eq name) listed.new ≡ (list_any (bytes_eq name) listed.old || list_any (bytes_eq name) (listed_of names.now))) }
 {
     for name in names {

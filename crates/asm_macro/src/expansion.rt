@@ -11,7 +11,6 @@ ghost use Rattle.asm_macro.specs.Private.Moves.{Gives, Goes, IsSound, Lessens, R
 
 use crate::constants::Constants;
 use crate::expander::Line;
-use crate::fault::MacroFault;
 use crate::moves::{Given, Stop, Taken};
 use asm_scan::Token;
 use asm_sections::{Book, Following};

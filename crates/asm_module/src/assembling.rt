@@ -49,14 +49,9 @@ pub fn assemble_with(
         Err((line, why)) => return Err(of_macro(line, why)),
     };
     let table = first_pass(alloc, &source)?;
-    let (module, each) = assemble_lines(alloc, name, &source.lines, &table, grow)?;
-    Ok((
-        module,
-        Lines {
-            each,
-            last: source.last,
-        },
-    ))
+    let last = source.last;
+    let (module, each) = assemble_lines(alloc, name, source.lines, &table, grow)?;
+    Ok((module, Lines { each, last }))
 }
 
 /// The module that a source text is, and from which lines its statements come. Each written `JR` is always short.

@@ -1,6 +1,6 @@
 //! The lines of a source to a module.
 
-ghost use Rattle.std.specs.Prelude.{◌≡◌, ◌<◌, ◌^◌, ℕ, All, Bool, List, None, IfOk, length, map, take};
+ghost use Rattle.std.specs.Prelude.{◌≡◌, ◌<◌, ◌^◌, [], ℕ, All, Bool, List, None, IfOk, length, take};
 ghost use Rattle.asm_expr.specs.Names.{found};
 ghost use Rattle.asm_equ.specs.Layout.{layout_of};
 ghost use Rattle.asm_layout.specs.Laid.{HasFew};
@@ -9,7 +9,7 @@ ghost use Rattle.asm_names.specs.Lines.{lines_of};
 ghost use Rattle.asm_names.specs.Names.{kind_of, names};
 ghost use Rattle.asm_rules.specs.Fitting.{IsReadLine};
 ghost use Rattle.asm_spell.specs.Names.{line_names};
-ghost use Rattle.zmo_module.specs.Modules.{module_of, statement_of};
+ghost use Rattle.zmo_module.specs.Modules.{module_of};
 ghost use Rattle.zmo_module.specs.Rules.{IsModule, IsObjectName};
 ghost use Rattle.asm_module.specs.Assembled.{StatesLines};
 ghost use Rattle.asm_module.specs.Private.Steps.{AnswersLines, States, held};
@@ -21,21 +21,21 @@ use asm_expr::Names;
 use asm_holding::{begins, entry_of, externals_of, labels_of, publics_of};
 use asm_names::{NameTable, SourceLine};
 use asm_rules::fit_words;
-use asm_states::{Stated, Statement, state_lines};
+use asm_states::{Stated, state_lines};
 use std::alloc::{AllocError, Global};
 use zmo_module::Module;
 
 /// The statements of lines, or the first line other than an EQU that is faulty.
 fn state(
     alloc: Global,
-    lines: &[SourceLine],
+    lines: Vec<SourceLine>,
     table: &NameTable,
     names: Names,
     layout: &Layout,
     grow: bool,
 ) -> Result<Stated, AsmFault>
     requires { (name : List ℕ) → found names name ≡ None → kind_of table.now name ≡ None }
-    ensures { States grow table.now names (layout_of layout.now) (lines_of lines.now) result }
+    ensures { States grow table.now names (layout_of layout.now) (lines_of lines.items) result }
 {
     match state_lines(alloc, lines, table, names, layout, grow) {
         Ok(stated) => Ok(stated),
@@ -52,19 +52,18 @@ fn short_name(alloc: Global, name: &[u8]) -> Result<Vec<u8>, AllocError>
     Ok(short)
 }
 
-/// A module of statements, with what else the lines of its source say.
+/// The module of lines, without its statements.
 fn hold(
     alloc: Global,
     name: &[u8],
     lines: &[SourceLine],
     table: &NameTable,
     layout: &Layout,
-    statements: Vec<Statement>,
     grow: bool,
 ) -> Result<Module, AllocError>
     requires names { table.now ≡ names (lines_of lines.now) }
     requires sound { first_fault (lines_of lines.now) ≡ None }
-    ensures { IfOk result (λ m. module_of m ≡ held name.now grow (lines_of lines.now) (layout_of layout.now) (map statement_of statements.items)) }
+    ensures { IfOk result (λ m. module_of m ≡ held name.now grow (lines_of lines.now) (layout_of layout.now) []) }
 {
     asm_names::laws::few();
     asm_holding::laws::kept();
@@ -75,7 +74,7 @@ fn hold(
         begins: begins(lines),
         entry: entry_of(&labels, lines),
         grow,
-        statements,
+        statements: Vec::new(alloc),
         labels,
         publics,
         externals: externals_of(alloc, table)?,
@@ -86,19 +85,19 @@ fn hold(
 pub(crate) fn assemble_lines(
     alloc: Global,
     name: &[u8],
-    lines: &[SourceLine],
+    lines: Vec<SourceLine>,
     table: &NameTable,
     grow: bool,
 ) -> Result<(Module, Vec<u32>), AsmFault>
-    requires sound { first_fault (lines_of lines.now) ≡ None }
-    requires names { table.now ≡ names (lines_of lines.now) }
-    requires few { length lines.now < 2 ^ 32 }
-    requires data { All HasFew (lines_of lines.now) }
-    requires spelled { All (λ l. IsReadLine l.line) (lines_of lines.now) }
-    requires named { All (λ l. All IsObjectName (line_names l.line)) (lines_of lines.now) }
-    ensures answer { AnswersLines name.now grow (lines_of lines.now) result }
+    requires sound { first_fault (lines_of lines.items) ≡ None }
+    requires names { table.now ≡ names (lines_of lines.items) }
+    requires few { length lines.items < 2 ^ 32 }
+    requires data { All HasFew (lines_of lines.items) }
+    requires spelled { All (λ l. IsReadLine l.line) (lines_of lines.items) }
+    requires named { All (λ l. All IsObjectName (line_names l.line)) (lines_of lines.items) }
+    ensures answer { AnswersLines name.now grow (lines_of lines.items) result }
     ensures kept { IfOk result (λ r. IsModule (module_of r.0)) }
-    ensures placed { IfOk result (λ r. StatesLines grow (lines_of lines.now) (module_of r.0).statements) }
+    ensures placed { IfOk result (λ r. StatesLines grow (lines_of lines.items) (module_of r.0).statements) }
 {
     asm_equ::laws::told();
     asm_equ::laws::valued();
@@ -117,14 +116,15 @@ pub(crate) fn assemble_lines(
     asm_holding::laws::named();
     asm_holding::laws::kept();
     asm_holding::laws::within();
-    let turns = turns_of(alloc, lines, table)?;
-    let (settled, layout) = place(alloc, lines, table, &turns, grow)?;
+    let turns = turns_of(alloc, &lines, table)?;
+    let (settled, layout) = place(alloc, &lines, table, &turns, grow)?;
     if let Some((line, why)) = settled.fault {
         return Err(of_equ(line, why));
     }
     settled.names.counted();
+    let mut module = hold(alloc, name, &lines, table, &layout, grow)?;
     let stated = state(alloc, lines, table, settled.names, &layout, grow)?;
     fit_words(&stated.statements);
-    let module = hold(alloc, name, lines, table, &layout, stated.statements, grow)?;
+    module.statements = stated.statements;
     Ok((module, stated.lines))
 }

@@ -65,7 +65,7 @@ fn stated(
     let turns = turns_of(alloc, &lines, &table)?;
     let settled = settle_names(alloc, &lines, &table, &turns, &layout)?;
     laws::all_found();
-    Ok(state_lines(alloc, &lines, &table, settled.names, &layout, grow))
+    Ok(state_lines(alloc, lines, &table, settled.names, &layout, grow))
 }
 
 /// Lines with a layout, and the statements that they come to, each with its line.

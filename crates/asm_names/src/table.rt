@@ -9,7 +9,7 @@ ghost use Rattle.asm_names.specs.Private.Steps.{TakesUp, externals};
 
 use crate::fault::NameFault;
 use crate::kind::Kind;
-use asm_spell::{Body, Line, ListedName};
+use asm_spell::{Body, KeptName, Line};
 use indexmap::IndexMap;
 use name_key::NameKey;
 use std::alloc::{AllocError, Global};
@@ -93,7 +93,7 @@ impl NameTable {
     }
 
     /// Adds the names of an EXTRN.
-    fn declare(&mut self, names: &[ListedName]) -> Result<(), NameFault>
+    fn declare(&mut self, names: &[KeptName]) -> Result<(), NameFault>
         ensures { TakesUp self.old (externals (listed_of names.now)) result self.new }
     {
         for name in names {

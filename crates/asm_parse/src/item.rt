@@ -1,6 +1,10 @@
 //! The items of expressions in postfix order.
 
 use crate::operator::{Binary, Unary};
+use smallvec::SmallVec;
+
+/// A name that is kept: up to sixteen bytes lie in place, and take no memory of their own.
+pub type KeptName = SmallVec<u8, 16>;
 
 /// An item of an expression in postfix order: a leaf, or an operator, which stands behind its operands.
 #[derive(Clone, Copy, Debug, PartialEq, Eq)]
@@ -15,7 +19,7 @@ pub enum Item<L> {
 pub enum Term {
     Number(u16),
     /// A name in upper case.
-    Name(Vec<u8>),
+    Name(KeptName),
     /// `$`: the place of the statement.
     Here,
 }

@@ -14,7 +14,7 @@ mod tree;
 pub use asm_words::is_reserved;
 pub use fault::ExprFault;
 pub use few::Few;
-pub use item::{Item, Term};
+pub use item::{Item, KeptName, Term};
 pub use name::is_name;
 pub use operator::{Binary, Unary};
 pub use reader::{MOST_OPEN, parse};

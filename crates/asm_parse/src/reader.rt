@@ -14,7 +14,7 @@ ghost use Rattle.asm_parse.specs.Private.Stacks.{IsReduced, closed_item, level_o
 
 use crate::fault::ExprFault;
 use crate::few::Few;
-use crate::item::{Item, Term};
+use crate::item::{Item, KeptName, Term};
 use crate::operator::{Binary, Unary};
 use crate::sign::{Prefix, Sign, sign_of};
 use crate::tree::Tree;
@@ -66,6 +66,7 @@ fn part_of(alloc: Global, token: &Token<'_>) -> Result<Part, ExprFault>
             if is_reserved(&name) {
                 return Ok(Part::Foreign);
             }
+            let name = KeptName::from_slice(alloc, &name)?;
             Ok(Part::Term(Term::Name(name)))
         }
         Kind::Mark(mark) => Ok(match mark {

@@ -6,7 +6,7 @@ ghost use Rattle.asm_parse.specs.Few.{all};
 ghost use Rattle.asm_parse.specs.Source.{IsSource, Name, source_item};
 
 use crate::few::Few;
-use crate::item::{Item, Term};
+use crate::item::{Item, KeptName, Term};
 use std::alloc::{AllocError, Global};
 use std::marker::Model;
 
@@ -46,7 +46,7 @@ impl Tree {
     pub fn name(alloc: Global, name: &[u8]) -> Result<Tree, AllocError>
         ensures { IfOk result (λ tree. tree ≡ Item.Leaf (Name name.now) ∷ []) }
     {
-        let name = Vec::from_slice(alloc, name)?;
+        let name = KeptName::from_slice(alloc, name)?;
         Ok(Tree::known(Few::One([Item::Leaf(Term::Name(name))])))
     }
 

@@ -14,9 +14,9 @@ ghost use Rattle.asm_spell.specs.Private.Choices.{directs};
 
 use crate::cut::{Operand, each};
 use crate::fault::StmtFault;
-use crate::line::{Body, ListedName, Value};
+use crate::line::{Body, Value};
 use crate::operand::{expression, is_one_name};
-use asm_parse::Tree;
+use asm_parse::{KeptName, Tree};
 use asm_scan::{Kind, Token};
 use std::alloc::{AllocError, Global};
 
@@ -309,12 +309,12 @@ fn names(alloc: Global, tokens: &[Token<'_>]) -> Result<Vec<Vec<u8>>, StmtFault>
 }
 
 /// The names of a list that is kept.
-fn listed(alloc: Global, names: &[Vec<u8>]) -> Result<Vec<ListedName>, AllocError>
+fn listed(alloc: Global, names: &[Vec<u8>]) -> Result<Vec<KeptName>, AllocError>
     ensures { IfOk result (λ all. listed_of all.items ≡ names_of names.now) }
 {
     let mut all = Vec::with_capacity(alloc, names.len())?;
     for name in names {
-        all.push(ListedName::from_slice(alloc, name)?)?;
+        all.push(KeptName::from_slice(alloc, name)?)?;
     }
     Ok(all)
 }

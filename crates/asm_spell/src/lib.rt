@@ -14,8 +14,8 @@ mod line;
 mod operand;
 mod spelling;
 
-pub use asm_parse::is_name;
+pub use asm_parse::{KeptName, is_name};
 pub use fault::StmtFault;
-pub use line::{Body, Line, ListedName, Value};
+pub use line::{Body, Line, Value};
 pub use spelling::statement;
 pub use z80_instr::Branch;

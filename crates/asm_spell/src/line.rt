@@ -1,12 +1,8 @@
 //! The forms of a line.
 
-use asm_parse::{Few, Tree};
-use smallvec::SmallVec;
+use asm_parse::{Few, KeptName, Tree};
 use z80_form::Field;
 use z80_instr::{Branch, Instr, ShortCond};
-
-/// A name of a list. A line may list more than a hundred short ones, which lie in place, so that none takes memory of its own.
-pub type ListedName = SmallVec<u8, 16>;
 
 /// A value of `DB`.
 #[derive(Debug, Drop)]
@@ -44,9 +40,9 @@ pub enum Body {
         fill: Option<Tree>,
     },
     /// `PUBLIC`
-    Public(Vec<ListedName>),
+    Public(Vec<KeptName>),
     /// `EXTRN`
-    External(Vec<ListedName>),
+    External(Vec<KeptName>),
     /// `ORG`
     Origin(Tree),
     /// `END`, with the name of the entry if it has one.

@@ -12,9 +12,10 @@ ghost use Rattle.asm_spell.specs.Spelling.{body_names, defined, has_reserved, la
 use crate::directive::{directive_named, spell_directive};
 use crate::fault::StmtFault;
 use crate::instruction::instruction;
-use crate::line::{Body, Line, ListedName};
+use crate::line::{Body, Line};
 use crate::operand::expression;
 use asm_line::{Form, Head, form_of};
+use asm_parse::KeptName;
 use asm_scan::Token;
 use asm_words::is_reserved;
 use std::alloc::{AllocError, Global};
@@ -33,7 +34,7 @@ fn operation(alloc: Global, name: &[u8], tokens: &[Token<'_>]) -> Result<Body, S
     }
 }
 
-fn any_reserved(names: &[ListedName]) -> bool
+fn any_reserved(names: &[KeptName]) -> bool
     ensures { result ≡ list_any is_reserved (listed_of names.now) }
 {
     for name in names {

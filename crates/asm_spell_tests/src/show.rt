@@ -1,7 +1,7 @@
 //! Lines as text.
 
-use asm_parse::{Item, Term, Tree};
-use asm_spell::{Body, Line, ListedName, Value};
+use asm_parse::{Item, KeptName, Term, Tree};
+use asm_spell::{Body, Line, Value};
 use std::io::Write;
 
 fn show_item<W: Write>(out: &mut W, item: &Item<Term>) -> Result<(), anyhow::Error> {
@@ -26,7 +26,7 @@ fn show_tree<W: Write>(out: &mut W, tree: &Tree) -> Result<(), anyhow::Error> {
     Ok(())
 }
 
-fn show_names<W: Write>(out: &mut W, names: &[ListedName]) -> Result<(), anyhow::Error> {
+fn show_names<W: Write>(out: &mut W, names: &[KeptName]) -> Result<(), anyhow::Error> {
     for name in names {
         write!(out, " ")?;
         out.write_all(name)?;

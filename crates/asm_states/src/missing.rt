@@ -1,17 +1,15 @@
 //! Names that are nowhere defined, and names that are no labels.
 
-ghost use Rattle.std.specs.Prelude.{◌≡◌, List, option_copied};
+ghost use Rattle.std.specs.Prelude.{◌≡◌, option_copied};
 ghost use Rattle.std.specs.List.{list_any};
-ghost use Rattle.std.specs.Option.{option_map};
 ghost use Rattle.asm_parse.specs.Source.{source_item};
-ghost use Rattle.asm_names.specs.Names.{kind_of};
 ghost use Rattle.asm_spell.specs.Line.{body_of, value_of};
-ghost use Rattle.asm_states.specs.Faults.{is_label, passed_on, used};
+ghost use Rattle.asm_states.specs.Faults.{passed_on, used};
 ghost use Rattle.asm_states.specs.Private.Missing.{fill_misses, is_missing, is_no_label, item_misses, tree_misses, value_misses};
 
 use asm_expr::{Item, Term, Tree};
 use asm_names::{Kind, NameTable};
-use asm_spell::{Body, ListedName, Value};
+use asm_spell::{Body, KeptName, Value};
 use z80_form::Field;
 
 /// Whether a name is nowhere defined.
@@ -22,7 +20,7 @@ fn is_missing(table: &NameTable, name: &[u8]) -> bool
 }
 
 /// Whether one of some names is nowhere defined.
-fn names_miss(table: &NameTable, names: &[ListedName]) -> bool
+fn names_miss(table: &NameTable, names: &[KeptName]) -> bool
     ensures { result ≡ list_any (λ name. is_missing table.now name.items) names.now }
 {
     names.iter().any(|name| is_missing(table, name))
@@ -117,7 +115,7 @@ fn is_no_label(table: &NameTable, name: &[u8]) -> bool
     !matches!(table.kind(name), Some(Kind::Label(_)))
 }
 
-fn one_is_no_label(table: &NameTable, names: &[ListedName]) -> bool
+fn one_is_no_label(table: &NameTable, names: &[KeptName]) -> bool
     ensures { result ≡ list_any (λ name. is_no_label table.now name.items) names.now }
 {
     names.iter().any(|name| is_no_label(table, name))

@@ -64,7 +64,8 @@ impl Stated {
     }
 }
 
-/// The statements of lines, by what the names stand for. Where a written `JR` may grow it is a marked jump.
+/// The statements of lines, by what the names stand for. Where a written `JR` may grow it is a marked jump. Each line is given back as
+/// soon as its statement stands.
 ///
 /// # Errors
 ///
@@ -72,22 +73,28 @@ impl Stated {
 /// values from left to right, then a name in PUBLIC or END that is no label.
 pub fn state_lines(
     alloc: Global,
-    lines: &[SourceLine],
+    lines: Vec<SourceLine>,
     table: &NameTable,
     names: Names,
     layout: &Layout,
     grow: bool,
 ) -> Result<Stated, (u32, StateFault)>
     requires { (name : List ℕ) → found names name ≡ None → kind_of table.now name ≡ None }
-    ensures { IsStated grow table.now names (layout_of layout.now) (lines_of lines.now) result }
+    ensures { IsStated grow table.now names (layout_of layout.now) (lines_of lines.items) result }
 {
     let mut names = names;
     let mut stated = Stated::nothing(alloc, layout.statements.len());
-    for (at, line) in lines.iter().enumerate() {
+    let mut at = 0;
+    for line in lines {
         names.set_here(layout.next_at(at));
-        if let Err(why) = stated.take(alloc, line, table, &names, grow) {
-            return Err((line.number, why));
+        let number = line.number;
+        let taken = stated.take(alloc, &line, table, &names, grow);
+        // Here, and not at the end of the turn, where each form of a line would be a way of its own.
+        drop(line);
+        if let Err(why) = taken {
+            return Err((number, why));
         }
+        at += 1;
     }
     Ok(stated)
 }

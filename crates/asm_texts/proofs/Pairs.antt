@@ -17,14 +17,14 @@ use Rattle.asm_replace.proofs.Fronts.{whole_line}
 use Rattle.asm_replace.specs.Pieces.{gap}
 use Rattle.asm_texts.specs.Roles.{role_of_head}
 use Rattle.asm_texts.specs.Lines.{form_by, form_of, tokens_in}
-use Rattle.asm_texts.specs.Private.Pairs.{has_pair, is_pair, paired}
+use Rattle.asm_texts.specs.Pairs.{has_pair, is_pair, paired}
 
 -- what no byte before makes a pair, any does not unmake
 any_before : (b : ℕ) (bytes : List ℕ) → paired 0 bytes ≡ true → paired b bytes ≡ true
 any_before b [] p = p
 any_before b (c ∷ bytes) p = or_right (is_pair b c) (paired c bytes) p
 
-in_front : (b : ℕ) (xs ys : List ℕ) → paired b xs ≡ true → paired b (xs ++ ys) ≡ true
+pub in_front : (b : ℕ) (xs ys : List ℕ) → paired b xs ≡ true → paired b (xs ++ ys) ≡ true
 in_front b [] ys p = absurd (false≢true p)
 in_front b (x ∷ xs) ys p =
     elim (cases_Bool (is_pair b x)) [

@@ -1,53 +1,57 @@
 //! Texts that make no word of blocks where they are put in the place of names.
 
 ghost use Rattle.std.specs.Prelude.{◌≡◌};
-ghost use Rattle.std.specs.Char.{to_ascii_lowercase};
-ghost use Rattle.std.specs.List.{list_all, list_any};
 ghost use Rattle.asm_replace.specs.Views.{texts};
-ghost use Rattle.asm_texts.specs.Plain.{are_plain, is_of_pair, is_plain};
+ghost use Rattle.asm_texts.specs.Pairs.{is_second};
+ghost use Rattle.asm_texts.specs.Plain.{are_plain, begins_letter, begins_second, is_plain};
 
-/// Whether a letter, in either case, is one of the pairs IF, LS, CR, PT and DM, of which each word of blocks has one.
-fn is_of_pair(byte: u8) -> bool
-    ensures { result ≡ is_of_pair (to_ascii_lowercase byte) }
+use crate::reading::has_pair;
+
+/// Whether a small letter is the second of one of the pairs IF, LS, CR, PT and DM, of which each word of blocks has one.
+fn is_second(small: u8) -> bool
+    ensures { result ≡ is_second small }
 {
-    matches!(
-        byte.to_ascii_lowercase(),
-        b'i' | b'f' | b'l' | b's' | b'c' | b'r' | b'p' | b't' | b'd' | b'm'
-    )
+    matches!(small, b'f' | b's' | b'r' | b't' | b'm')
 }
 
-/// Whether a text has such a letter.
-fn has_letter(text: &[u8]) -> bool
-    ensures { result ≡ list_any (λ b. is_of_pair (to_ascii_lowercase b)) text.now }
+/// Whether a text begins with such a letter, in either case.
+fn begins_second(text: &[u8]) -> bool
+    ensures { result ≡ begins_second text.now }
 {
-    text.iter().any(|byte| is_of_pair(*byte))
+    match text {
+        [first, ..] => is_second(first.to_ascii_lowercase()),
+        [] => false,
+    }
 }
 
-/// Whether a text is not empty and has no such letter: put into a line, it brings no two of them side by side.
-fn is_plain(text: &[u8]) -> bool
-    ensures { result ≡ is_plain text.now }
+/// Whether a name begins with a letter.
+fn begins_letter(name: &[u8]) -> bool
+    ensures { result ≡ begins_letter name.now }
 {
-    !text.is_empty() && !has_letter(text)
+    match name {
+        [first, ..] => first.is_ascii_alphabetic(),
+        [] => false,
+    }
 }
 
-/// Whether each of some texts is plain.
-fn all_plain(arguments: &[Vec<u8>]) -> bool
-    ensures { result ≡ list_all is_plain (texts arguments.now) }
+/// Whether a text has no such pair, and makes none where it is put in the place of a name. No letter stands directly before a name
+/// that begins with one; before `_`, `?`, `@` and `.` a number may end.
+fn is_plain(name: &[u8], text: &[u8]) -> bool
+    ensures { result ≡ is_plain name.now text.now }
 {
-    for argument in arguments {
-        if !is_plain(argument) {
+    !has_pair(text) && (begins_letter(name) || !begins_second(text))
+}
+
+/// Whether each parameter's argument is plain. A missing one is empty, and so it is too.
+pub(crate) fn are_plain(parameters: &[Vec<u8>], arguments: &[Vec<u8>]) -> bool
+    ensures { result ≡ are_plain (texts parameters.now) (texts arguments.now) }
+{
+    let mut at = 0;
+    while at < parameters.len() && at < arguments.len() {
+        if !is_plain(&parameters[at], &arguments[at]) {
             return false;
         }
+        at += 1;
     }
     true
-}
-
-/// Whether so many arguments are there, and each is plain.
-pub(crate) fn are_plain(count: usize, arguments: &[Vec<u8>]) -> bool
-    ensures { result ≡ are_plain count (texts arguments.now) }
-{
-    match arguments.get(..count) {
-        Some(taken) => all_plain(taken),
-        None => false,
-    }
 }

@@ -45,7 +45,7 @@ pub fn prepare(
     let Some(next) = counter.checked_add(opened.locals.len() as u64) else {
         return Err(AllocError);
     };
-    let plain = are_plain(called.parameters.len(), &arguments);
+    let plain = are_plain(&called.parameters, &arguments);
     let names = Replacements {
         names: Rc::clone(&called.names)?,
         arguments,

@@ -9,7 +9,7 @@ ghost use Rattle.asm_texts.specs.Lines.{form_of, heard};
 ghost use Rattle.asm_texts.specs.Roles.{role_of_head};
 ghost use Rattle.asm_texts.specs.Roles.{is_alone};
 ghost use Rattle.asm_texts.specs.Prepared.{said};
-ghost use Rattle.asm_texts.specs.Private.Pairs.{has_pair, is_pair};
+ghost use Rattle.asm_texts.specs.Pairs.{has_pair, is_pair};
 ghost use Rattle.asm_texts.specs.Spans.{shown};
 
 use crate::call::Call;

@@ -10,7 +10,7 @@ ghost use Rattle.asm_texts.specs.Kept.{HasOnly, IsCall, IsVarying, Suffice};
 ghost use Rattle.asm_texts.specs.Lines.{heard};
 ghost use Rattle.asm_texts.specs.Prepared.{said};
 ghost use Rattle.asm_texts.specs.Stands.{Stand, Stands};
-ghost use Rattle.asm_texts.specs.Private.Pairs.{has_pair};
+ghost use Rattle.asm_texts.specs.Pairs.{has_pair};
 ghost use Rattle.asm_texts.specs.Private.Varying.{asked, asked_labelled, asked_of, is_held, may_vary, with_next};
 
 use crate::call::Call;

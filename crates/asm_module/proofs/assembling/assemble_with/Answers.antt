@@ -3,7 +3,6 @@ use Rattle.std.proofs.lemmas.List.{length-map}
 use Rattle.std.proofs.lemmas.Option.{slice_get-get_or}
 use Rattle.std.proofs.lemmas.Result.{err_from_is_err_and}
 use Rattle.asm_macro.specs.Texts.{source_lines}
-use Rattle.asm_names.specs.Faults.{first_fault}
 use Rattle.asm_source.specs.Source.{last_listed}
 use Rattle.asm_names.specs.Lines.{lines_of, taken_of}
 use Rattle.zmo_module.specs.Modules.{module_of}
@@ -27,38 +26,37 @@ assemble_lines-requires-clause-few c =
     let s = c.in-Ok.ensures in
     let le = few_lines c.args.name.now c.args.text.now c.args.grow s.0 s.1 (lines_of c.in-Ok.source.lines.items) s.2 c.in_ok-table.ensures.0 (sym s.3 ∙ c.in_ok-table.ensures.1) c.few_lines.ensures c.all_read.ensures in
     let same = length-map c.in-Ok.source.lines.items taken_of in
-    let is = ap length c.deref.ensures.value in
-    omega (arith, le, same, is)
+    omega (arith, le, same)
 
 pub assemble_lines-requires-clause-data : goal.assemble_lines-requires-clause-data
 assemble_lines-requires-clause-data c =
     let s = c.in-Ok.ensures in λ k d lt.
-    few_data c.args.name.now c.args.text.now c.args.grow s.0 s.1 (lines_of c.deref.result.now) (ap lines_of c.deref.ensures.value ∙ s.2) c.each_spelled.ensures c.few.ensures.data k _ (slice_get-get_or (lines_of c.deref.result.now) k d lt)
+    few_data c.args.name.now c.args.text.now c.args.grow s.0 s.1 (lines_of c.in-Ok.source.lines.items) s.2 c.each_spelled.ensures c.few.ensures.data k _ (slice_get-get_or (lines_of c.in-Ok.source.lines.items) k d lt)
 
 pub returns-in_err-module-clause-answer : goal.returns-in_err-module-clause-answer
 returns-in_err-module-clause-answer c =
     let p = err_from_is_err_and c.from_residual-in_err-module.result c.from_residual-in_err-module.ensures.1 in
     let s = c.in-Ok.ensures in
-    rw (p.1, p.2) (other_fault c.args.name.now c.args.text.now c.args.grow s.0 s.1 (lines_of c.deref.result.now) (ap lines_of c.deref.ensures.value ∙ s.2) (ap (λ ls. first_fault (lines_of ls)) c.deref.ensures.value ∙ c.in_ok-table.ensures.0) (sym s.3 ∙ c.in_ok-table.ensures.1) c.in_err-module.field-0.0 c.in_err-module.ensures.answer)
+    rw (p.1, p.2) (other_fault c.args.name.now c.args.text.now c.args.grow s.0 s.1 (lines_of c.in-Ok.source.lines.items) s.2 c.in_ok-table.ensures.0 (sym s.3 ∙ c.in_ok-table.ensures.1) c.in_err-module.field-0.0 c.in_err-module.ensures.answer)
 
 pub returns-clause-answer : goal.returns-clause-answer
 returns-clause-answer c =
     let s = c.in-Ok.ensures in
-    no_fault c.args.name.now c.args.text.now c.args.grow s.0 s.1 (lines_of c.deref.result.now) (ap lines_of c.deref.ensures.value ∙ s.2) (ap (λ ls. first_fault (lines_of ls)) c.deref.ensures.value ∙ c.in_ok-table.ensures.0) (sym s.3 ∙ c.in_ok-table.ensures.1) c.in-Ok.source.last (module_of c.in_ok-module.module) c.in_ok-module.each.items
-    (s.4 ∙ ap (last_listed (length (source_lines c.args.text.now))) (sym (ap lines_of c.deref.ensures.value ∙ s.2))) c.in_ok-module.ensures.answer
+    no_fault c.args.name.now c.args.text.now c.args.grow s.0 s.1 (lines_of c.in-Ok.source.lines.items) s.2 c.in_ok-table.ensures.0 (sym s.3 ∙ c.in_ok-table.ensures.1) c.in-Ok.source.last (module_of c.in_ok-module.module) c.in_ok-module.each.items
+    (s.4 ∙ ap (last_listed (length (source_lines c.args.text.now))) (sym s.2)) c.in_ok-module.ensures.answer
 
 pub assemble_lines-requires-clause-spelled : goal.assemble_lines-requires-clause-spelled
 assemble_lines-requires-clause-spelled c =
     let s = c.in-Ok.ensures in λ k d lt.
-    spelled_line c.args.name.now c.args.text.now c.args.grow s.0 s.1 (lines_of c.deref.result.now) (ap lines_of c.deref.ensures.value ∙ s.2) c.each_spelled.ensures c.few.ensures.data k _ (slice_get-get_or (lines_of c.deref.result.now) k d lt)
+    spelled_line c.args.name.now c.args.text.now c.args.grow s.0 s.1 (lines_of c.in-Ok.source.lines.items) s.2 c.each_spelled.ensures c.few.ensures.data k _ (slice_get-get_or (lines_of c.in-Ok.source.lines.items) k d lt)
 
 pub assemble_lines-requires-clause-named : goal.assemble_lines-requires-clause-named
 assemble_lines-requires-clause-named c =
     let s = c.in-Ok.ensures in λ k d lt.
-    named_line c.args.name.now c.args.text.now c.args.grow s.0 s.1 (lines_of c.deref.result.now) (ap lines_of c.deref.ensures.value ∙ s.2) c.each_spelled.ensures c.names.ensures.defined c.few.ensures.names k _ (slice_get-get_or (lines_of c.deref.result.now) k d lt)
+    named_line c.args.name.now c.args.text.now c.args.grow s.0 s.1 (lines_of c.in-Ok.source.lines.items) s.2 c.each_spelled.ensures c.names.ensures.defined c.few.ensures.names k _ (slice_get-get_or (lines_of c.in-Ok.source.lines.items) k d lt)
 
 pub returns-clause-placed : goal.returns-clause-placed
 returns-clause-placed c =
     let s = c.in-Ok.ensures in
-    let p = subst (λ ls. StatesLines c.args.grow ls (module_of c.in_ok-module.module).statements) (ap lines_of c.deref.ensures.value ∙ s.2) c.in_ok-module.ensures.placed in
+    let p = subst (λ ls. StatesLines c.args.grow ls (module_of c.in_ok-module.module).statements) s.2 c.in_ok-module.ensures.placed in
     (p.0, (s.0, s.1, p.1), p.2)

@@ -1,6 +1,11 @@
+use Rattle.std.proofs.Common.{◌≡◌, ◌+◌, drop, length}
+use Rattle.std.specs.Vec.Iter.{into_iter_items, into_iter_len}
 use Rattle.asm_equ.specs.Layout.{layout_of}
 use Rattle.asm_states.proofs.In_order.{Goes}
 use Rattle.asm_states.proofs.stating.state_lines.Given as goal
 
-abbrev pub invariant-loop-at : goal.invariant-loop-at
-invariant-loop-at l = Goes l.grow l.table l.initial.names (layout_of l.layout) l.lines l.at l.names l.stated
+-- The lines that are left stand behind those that are taken.
+abbrev pub invariant-loop-line : goal.invariant-loop-line
+invariant-loop-line l =
+    (into_iter_items l.line-iterator ≡ drop l.at l.fn.lines.items) × (into_iter_len l.line-iterator + l.at ≡ length l.fn.lines.items)
+    × Goes l.grow l.table l.fn.names (layout_of l.layout) l.fn.lines.items l.at l.names l.stated

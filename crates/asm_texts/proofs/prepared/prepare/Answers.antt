@@ -40,8 +40,7 @@ returns-clause-call c = λ texts kept.
     let call : Call = record { names = record { names = c.in_ok-clone.field-0; arguments = c.in_ok-arguments.arguments; counter = counter }; varying = c.in_ok-varying.varying; plain = c.are_plain-plain.result } in
     let named = subst (λ o. AreNames parameters o names) c.in-Some.is kept.1 in
     let varies = subst (λ o. VariesIn texts names o c.args.called.now.varying.value) c.in-Some.is kept.2 in
-    let count : c.len-2.result ≡ length parameters = omega (arith, c.len-2.ensures, c.args.called.now.parameters.ok, length-map c.args.called.now.parameters.items (λ text. text.items)) in
     let fits : counter + length locals < 2 ^ 64 = omega (arith, c.in-Some-checked_add.ensures, c.len.ensures, c.in-Some.opened.locals.ok, length-map c.in-Some.opened.locals.items (λ text. text.items)) in
-    let are : c.are_plain-plain.result ≡ are_plain (length parameters) some = c.are_plain-plain.ensures ∙ ap (λ n. are_plain n (replaced.texts c.deref.result.now)) count ∙ ap (λ ts. are_plain (length parameters) (replaced.texts ts)) c.deref.ensures.value in
+    let are : c.are_plain-plain.result ≡ are_plain parameters some = c.are_plain-plain.ensures ∙ ap (λ ps. are_plain (replaced.texts ps) (replaced.texts c.deref-2.result.now)) c.deref.ensures.value ∙ ap (λ qs. are_plain parameters (replaced.texts qs)) c.deref-2.ensures.value in
     call_of texts call names c.args.called.now.varying.value some counter (said_in call names c.in_ok-clone.ensures.cases)
     (λ plain. plain_alike (in_call names some counter) (arguments_of parameters some ++ local_names counter locals) (named some counter) (plain_call parameters some counter locals fits (sym are ∙ plain))) varies.2 c.in_ok-varying.ensures.cases

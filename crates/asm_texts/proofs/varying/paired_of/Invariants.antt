@@ -1,6 +1,6 @@
 use Rattle.std.proofs.Common.{◌≡◌, ◌++◌, [], drop, get_or}
 use Rattle.std.specs.List.{filter}
-use Rattle.asm_texts.specs.Private.Pairs.{has_pair}
+use Rattle.asm_texts.specs.Pairs.{has_pair}
 use Rattle.asm_texts.proofs.varying.paired_of.Given as goal
 
 -- Those that are found, and those that are left, are all of them.

@@ -1,6 +1,6 @@
 use Rattle.std.proofs.Common.{◌∙◌, [], ap, get_or}
 use Rattle.std.specs.List.{filter}
-use Rattle.asm_texts.specs.Private.Pairs.{has_pair}
+use Rattle.asm_texts.specs.Pairs.{has_pair}
 use Rattle.asm_texts.proofs.Unpaired.{fewer}
 use Rattle.asm_texts.proofs.varying.varying_of.Goals as goal
 

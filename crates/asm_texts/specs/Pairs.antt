@@ -1,4 +1,4 @@
--- Bytes that stand side by side in words of blocks.
+-- Letters that stand side by side in words of blocks.
 use Rattle.std.specs.Prelude.{ℕ, List, [], ◌∷◌, Bool, false, ◌==◌, ◌&&◌, ◌||◌}
 use Rattle.std.specs.Str.{str_to_ascii_lowercase}
 
@@ -16,3 +16,7 @@ paired before (b ∷ bytes) = is_pair before b || paired b bytes
 -- so do two bytes of a text, in either case
 abbrev pub has_pair : List ℕ → Bool
 has_pair text = paired 0 (str_to_ascii_lowercase text)
+
+-- a small letter that is the second of such two
+abbrev pub is_second : ℕ → Bool
+is_second b = (b == 0x66) || (b == 0x73) || (b == 0x72) || (b == 0x74) || (b == 0x6D)
