@@ -1,4 +1,6 @@
 mod Lacking
+pub mod Begun
+pub mod Gathered
 pub mod Postfix
 pub mod Stack
 pub mod Judgements

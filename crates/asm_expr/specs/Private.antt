@@ -5,3 +5,4 @@ pub mod Folding
 pub mod Entries
 pub mod Answers
 pub mod Heads
+pub mod Sharing

@@ -1,22 +1,21 @@
 //! What names make of an expression: the items of an object.
 
-ghost use Rattle.std.specs.Prelude.{◌≡◌, ◌⊎◌, List, Err, None, IfErr, IfOk, map};
+ghost use Rattle.std.specs.Prelude.{◌≡◌, ◌⊎◌, Err, IfOk};
 ghost use Rattle.std.specs.List.{AllPass};
-ghost use Rattle.std.specs.Option.{option_map};
 ghost use Rattle.asm_parse.specs.declared.fault.ExprFault.{ExprFault};
 ghost use Rattle.asm_expr.specs.Postfix.{source};
-ghost use Rattle.asm_expr.specs.Settling.{IsWorthOf, is_known, item_known, items_known, settled};
+ghost use Rattle.asm_expr.specs.Settling.{IsWorthOf, is_known, settled};
 ghost use Rattle.asm_expr.specs.Private.Folding.{unknown_at_end};
 
 use crate::alone::atom_alone;
-use crate::atom::Atom;
 use crate::expr::Expr;
 use crate::names::Names;
 use crate::part::Part;
 use crate::reduction::reduce;
+use crate::sharing::kept_of;
 use crate::unknown::Unknown;
 use asm_parse::{ExprFault, Item, Tree, Unary};
-use std::alloc::Global;
+use std::alloc::{AllocError, Global};
 
 /// What names make of an expression.
 #[derive(Debug, Drop)]
@@ -27,32 +26,16 @@ pub enum Settled {
     Unknown(Unknown),
 }
 
-/// The item of an object that this is; None where it has no value.
-fn item_known(item: &Item<Part>) -> Option<Item<Atom>>
-    ensures { result ≡ item_known item.now }
-{
-    match item {
-        Item::Leaf(Part::Number(n)) => Some(Item::Leaf(Atom::Number(*n))),
-        Item::Leaf(Part::Ref(r)) => Some(Item::Leaf(Atom::Ref(*r))),
-        Item::Leaf(Part::Unknown(_)) => None,
-        Item::Unary(op) => Some(Item::Unary(*op)),
-        Item::Binary(op) => Some(Item::Binary(*op)),
-    }
-}
-
-/// The items of an object that these are; None where one of them has no value.
-fn items_known(alloc: Global, items: &[Item<Part>]) -> Result<Option<Vec<Item<Atom>>>, ExprFault>
-    ensures items { IfOk result (λ answer. option_map (λ known. known.items) answer ≡ items_known items.now) }
-    ensures memory { IfErr result (λ why. why ≡ ExprFault.NoMemory) }
-{
-    let mut known = Vec::with_capacity(alloc, items.len())?;
-    for item in items {
-        match item_known(item) {
-            Some(item) => known.push(item)?,
-            None => return Ok(None),
+impl Settled {
+    /// The same, its items so kept that other expressions may have them.
+    pub(crate) fn to_share(self, alloc: Global) -> Result<Settled, AllocError>
+        ensures { IfOk result (λ shared. shared ≡ self) }
+    {
+        match self {
+            Settled::Known(expr) => Ok(Settled::Known(expr.to_share(alloc)?)),
+            Settled::Unknown(what) => Ok(Settled::Unknown(what)),
         }
     }
-    Ok(Some(known))
 }
 
 /// What is known of an expression without a value, by its reduced items.
@@ -75,7 +58,7 @@ fn settle_items(alloc: Global, parsed: &Tree, names: &Names) -> Result<Settled, 
     // Called for what it says of the table: the items that are settled are no more than the most items.
     names.counted();
     let reduced = reduce(parsed, names)?;
-    match items_known(alloc, reduced.as_slice())? {
+    match kept_of(alloc, parsed, names, reduced.as_slice())? {
         Some(items) => Ok(Settled::Known(Expr::known(items))),
         None => Ok(Settled::Unknown(unknown_of(reduced.as_slice()))),
     }

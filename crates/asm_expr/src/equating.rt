@@ -32,7 +32,11 @@ pub fn equate(alloc: Global, parsed: &Tree, names: &Names) -> Result<Meaning, Ex
     let settled = settle(alloc, parsed, names)?;
     if !is_constant(parsed, names) {
         let size = size(parsed, names);
-        return Ok(Meaning::Equ(Equated { settled, size }));
+        let shared = settled.to_share(alloc)?;
+        return Ok(Meaning::Equ(Equated {
+            settled: shared,
+            size,
+        }));
     }
     match settled {
         Settled::Known(expr) => match constant(&expr) {

@@ -1,19 +1,23 @@
 //! Expressions whose names are replaced, as lists of postfix items, and their values.
 
-ghost use Rattle.std.specs.Prelude.{◌≡◌, ◌<◌, ◌≤◌, ◌+◌, ◌∷◌, ℕ, List, Some, length, MatchOption, All, IsTrue, ◌↔◌, slice_index, []};
+ghost use Rattle.std.specs.Prelude.{◌≡◌, ◌<◌, ◌≤◌, ◌+◌, ◌∷◌, ℕ, List, Some, length, IfOk, IfSome, MatchOption, All, IsTrue, ◌↔◌, slice_index, []};
 ghost use Rattle.std.specs.List.{list_all, list_any};
 ghost use Rattle.std.specs.Option.{option_map};
 ghost use Rattle.asm_expr.specs.declared.atom.Atom.{Atom};
 ghost use Rattle.asm_parse.specs.declared.item.Item.{Item};
 ghost use Rattle.asm_parse.specs.Expression.{Expression};
 ghost use Rattle.asm_expr.specs.Postfix.{put, run, tree};
+ghost use Rattle.asm_expr.specs.Kept.{kept};
 ghost use Rattle.asm_expr.specs.Items.{IsConstant, IsExpr, is_division, is_divisor, is_guarded, is_ref, is_within, refs, refs_in, value};
 ghost use Rattle.asm_expr.specs.Private.Steps.{Stacked, arity, is_expr};
 
 use crate::arithmetic::{apply_binary, apply_unary};
 use crate::atom::Atom;
-use asm_parse::{Few, Item};
+use crate::kept::{Kept, Room, laid};
+use asm_parse::Item;
+use std::alloc::{AllocError, Global};
 use std::marker::Model;
+use std::rc::Rc;
 
 /// The most items that an expression may have.
 pub const MOST_ITEMS: usize = 64;
@@ -22,7 +26,7 @@ pub const MOST_ITEMS: usize = 64;
 /// division stands only directly behind a number that is not 0.
 #[derive(Debug, Drop)]
 pub struct Expr {
-    items: Few<Item<Atom>>,
+    items: Kept,
 }
 
 impl Model for Expr {
@@ -32,12 +36,12 @@ impl Model for Expr {
 
     ghost Value = { List (Item Atom) };
 
-    ghost use Rattle.asm_parse.specs.Few.{all};
+    ghost use Rattle.asm_expr.specs.Kept.{kept};
     ghost use Rattle.asm_expr.specs.Items.{IsExpr};
 
-    ghost view = { λ e. all e.items };
+    ghost view = { λ e. kept e.items };
 
-    ghost invariant = { λ e. IsExpr (all e.items) };
+    ghost invariant = { λ e. IsExpr (kept e.items) };
 }
 
 /// How many values the items leave, or None where an operator lacks an operand.
@@ -109,13 +113,11 @@ fn is_expr(items: &[Item<Atom>]) -> bool
 
 impl Expr {
     /// The expression of items that make one.
-    pub(crate) fn known(items: Vec<Item<Atom>>) -> Expr
-        requires { IsExpr items.items }
-        ensures { result ≡ items.items }
+    pub(crate) fn known(items: Kept) -> Expr
+        requires { IsExpr (kept items) }
+        ensures { result ≡ kept items }
     {
-        Expr {
-            items: Few::Many(items),
-        }
+        Expr { items }
     }
 
     /// The expression of one leaf.
@@ -123,7 +125,7 @@ impl Expr {
         ensures { result ≡ Item.Leaf atom ∷ [] }
     {
         Expr {
-            items: Few::One([Item::Leaf(atom)]),
+            items: Kept::One([Item::Leaf(atom)]),
         }
     }
 
@@ -133,20 +135,45 @@ impl Expr {
     {
         if is_expr(&items) {
             Some(Expr {
-                items: Few::Many(items),
+                items: Kept::Many(items),
             })
         } else {
             None
         }
     }
+
+    /// The items in postfix order, where they lie side by side. Those of most expressions do.
+    pub fn side_by_side(&self) -> Option<&[Item<Atom>]>
+        ensures { IfSome result (λ items. (items.now ≡ self.now) × IsExpr self.now) }
+    {
+        self.items.side_by_side()
+    }
+
+    /// The same expression, so kept that others may have its items.
+    pub(crate) fn to_share(self, alloc: Global) -> Result<Expr, AllocError>
+        ensures { IfOk result (λ shared. shared ≡ self) }
+    {
+        let Expr { items } = self;
+        Ok(Expr {
+            items: items.to_share(alloc)?,
+        })
+    }
+
+    /// The items in postfix order, where they are so kept that other expressions may have them.
+    pub(crate) fn shared(&self) -> Option<&Rc<Vec<Item<Atom>>>> {
+        match &self.items {
+            Kept::Shared(items) => Some(items),
+            _ => None,
+        }
+    }
 }
 
-/// The items in postfix order.
-pub fn items(expr: &Expr) -> &[Item<Atom>]
+/// The items in postfix order. Where they do not lie side by side, they are written into the room.
+pub fn items<'a>(expr: &'a Expr, room: &'a mut Room) -> &'a [Item<Atom>]
     ensures items { result.now ≡ expr.now }
     ensures expr { IsExpr expr.now }
 {
-    expr.items.as_slice()
+    laid(&expr.items, room)
 }
 
 /// Takes one item more: the first `len` numbers of the stack are in use, and afterwards as many as are answered.
@@ -178,17 +205,38 @@ fn take_item(stack: &mut [u16], len: usize, item: Item<Atom>, places: &[u16]) ->
     }
 }
 
+/// The value of some items where each ref has its place in `places`, modulo 65,536.
+fn value_of(items: &[Item<Atom>], places: &[u16]) -> u16
+    requires expr { IsExpr items.now }
+    requires placed { All (λ r. r < length places.now) (refs items.now) }
+    ensures { result ≡ value (λ r. slice_index places.now r) (tree items.now) }
+{
+    let mut stack = [0; MOST_ITEMS];
+    let mut len = 0;
+    for item in items {
+        len = take_item(&mut stack, len, *item, places);
+    }
+    stack[0]
+}
+
+/// The same of an expression whose items do not lie side by side. Few are such, and the room for its items takes time to make.
+#[inline(never)]
+fn value_gathered(expr: &Expr, places: &[u16]) -> u16
+    requires { All (λ r. r < length places.now) (refs expr.now) }
+    ensures { result ≡ value (λ r. slice_index places.now r) (tree expr.now) }
+{
+    value_of(items(expr, &mut Room::new()), places)
+}
+
 /// The value of an expression where each ref has its place in `places`, modulo 65,536.
 pub fn value(expr: &Expr, places: &[u16]) -> u16
     requires { All (λ r. r < length places.now) (refs expr.now) }
     ensures { result ≡ value (λ r. slice_index places.now r) (tree expr.now) }
 {
-    let mut stack = [0; MOST_ITEMS];
-    let mut len = 0;
-    for item in items(expr) {
-        len = take_item(&mut stack, len, *item, places);
+    match expr.side_by_side() {
+        Some(items) => value_of(items, places),
+        None => value_gathered(expr, places),
     }
-    stack[0]
 }
 
 fn is_within(item: &Item<Atom>, count: usize) -> bool
@@ -206,11 +254,22 @@ fn are_within(items: &[Item<Atom>], count: usize) -> bool
     items.iter().all(|item| is_within(item, count))
 }
 
+/// The same of an expression whose items do not lie side by side.
+#[inline(never)]
+fn is_within_gathered(expr: &Expr, count: usize) -> bool
+    ensures { result ≡ list_all (is_within count) expr.now }
+{
+    are_within(items(expr, &mut Room::new()), count)
+}
+
 /// Whether each ref has a place among so many.
 pub fn has_places(expr: &Expr, count: usize) -> bool
     ensures { IsTrue result ↔ All (λ r. r < count) (refs expr.now) }
 {
-    are_within(items(expr), count)
+    match expr.side_by_side() {
+        Some(items) => are_within(items, count),
+        None => is_within_gathered(expr, count),
+    }
 }
 
 fn is_ref(item: &Item<Atom>) -> bool
@@ -229,7 +288,7 @@ fn has_ref(items: &[Item<Atom>]) -> bool
 pub fn constant(expr: &Expr) -> Option<u16>
     ensures { IsConstant expr.now result }
 {
-    if has_ref(items(expr)) {
+    if has_ref(items(expr, &mut Room::new())) {
         None
     } else {
         Some(value(expr, &[]))

@@ -14,6 +14,7 @@ use crate::answer::{Settled, settle};
 use crate::arithmetic::apply_binary;
 use crate::atom::Atom;
 use crate::expr::{items, values_left};
+use crate::kept::Room;
 use crate::names::Names;
 use crate::weigh::all_constant;
 use asm_parse::{Binary, ExprFault, Item, Term, Tree};
@@ -98,7 +99,7 @@ pub fn offset_from_here(alloc: Global, parsed: &Tree, names: &Names) -> Result<O
         return Ok(Offset::NotConstant);
     }
     match settled {
-        Settled::Known(expr) => Ok(numbered(op, items(&expr))),
+        Settled::Known(expr) => Ok(numbered(op, items(&expr, &mut Room::new()))),
         Settled::Unknown(_) => Ok(Offset::Unknown),
     }
 }

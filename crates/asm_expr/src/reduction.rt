@@ -17,6 +17,7 @@ use crate::answer::Settled;
 use crate::arithmetic::{apply_binary, apply_unary};
 use crate::atom::Atom;
 use crate::expr::{Expr, MOST_ITEMS, items};
+use crate::kept::Room;
 use crate::meaning::Meaning;
 use crate::names::Names;
 use crate::part::Part;
@@ -220,7 +221,8 @@ fn take_expr(out: &mut Parts, expr: &Expr, names: &Names) -> Result<(), ExprFaul
     ensures folds { (before : List (Expression Part)) → out.old ≡ spread before →
         Folds (fold_all names.now (map known_item expr.now) before) result out.new }
 {
-    for item in items(expr) {
+    let mut room = Room::new();
+    for item in items(expr, &mut room) {
         fold(out, known_item(*item), names)?;
     }
     Ok(())

@@ -14,20 +14,39 @@ ghost use Rattle.asm_piece.specs.Private.Views.{same};
 
 use crate::cell::Filling;
 use asm_expr::{
-    Atom, Expr, Item, Names, Offset, Settled, Tree, Unknown, items, number_alone, offset_from_here,
+    Atom, Expr, Item, Names, Offset, Room, Settled, Tree, Unknown, items, number_alone,
+    offset_from_here,
 };
 use asm_spell::StmtFault;
 use std::alloc::Global;
 use z80_form::Field;
 use zmo_module::ends_in_byte;
 
+/// The number that items are.
+fn number_of(items: &[Item<Atom>]) -> Option<u16>
+    ensures { result ≡ number items.now }
+{
+    match items {
+        [Item::Leaf(Atom::Number(n))] => Some(*n),
+        _ => None,
+    }
+}
+
+/// The same of an expression whose items do not lie side by side. Few are such, and the room for its items takes time to make.
+#[inline(never)]
+fn number_gathered(expr: &Expr) -> Option<u16>
+    ensures { result ≡ number expr.now }
+{
+    number_of(items(expr, &mut Room::new()))
+}
+
 /// The number that an expression is; None where it varies.
 pub(crate) fn number(expr: &Expr) -> Option<u16>
     ensures { result ≡ number expr.now }
 {
-    match items(expr) {
-        [Item::Leaf(Atom::Number(n))] => Some(*n),
-        _ => None,
+    match expr.side_by_side() {
+        Some(items) => number_of(items),
+        None => number_gathered(expr),
     }
 }
 

@@ -1,6 +1,6 @@
 //! Pieces and faults as text.
 
-use asm_expr::{Atom, Item, Statement, items};
+use asm_expr::{Atom, Item, Room, Statement, items};
 use asm_piece::{Hole, Made, Piece, StmtFault};
 use std::io::Write;
 
@@ -17,7 +17,7 @@ fn show_item<W: Write>(out: &mut W, item: &Item<Atom>) -> Result<(), anyhow::Err
 /// A hole's offset and width, and the items of its expression in postfix order.
 fn show_hole<W: Write>(out: &mut W, hole: &Hole) -> Result<(), anyhow::Error> {
     write!(out, "; {} {:?}", hole.offset, hole.width)?;
-    for item in items(&hole.value) {
+    for item in items(&hole.value, &mut Room::new()) {
         show_item(out, item)?;
     }
     Ok(())

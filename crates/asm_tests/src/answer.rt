@@ -2,7 +2,7 @@
 
 use crate::tree_of;
 use asm_expr::{
-    Expr, ExprFault, Names, Settled, Tree, Unknown, constant, has_places, is_defined, items,
+    Expr, ExprFault, Names, Room, Settled, Tree, Unknown, constant, has_places, is_defined, items,
     offset_from_here, parse, settle, value,
 };
 use asm_scan::tokens;
@@ -43,7 +43,7 @@ fn made(alloc: Global, text: &[u8], names: &Names) -> Result<Answer, anyhow::Err
 fn show_expr<W: Write>(out: &mut W, expr: &Expr) -> Result<(), anyhow::Error> {
     match constant(expr) {
         Some(number) => write!(out, "{number:04X}H")?,
-        None => write!(out, "{} items", items(expr).len())?,
+        None => write!(out, "{} items", items(expr, &mut Room::new()).len())?,
     }
     Ok(())
 }

@@ -1,6 +1,6 @@
 //! Lists of items that make an expression, and lists that make none.
 
-use asm_expr::{Atom, Binary, Expr, Item, Unary, constant, items};
+use asm_expr::{Atom, Binary, Expr, Item, Room, Unary, constant, items};
 use std::alloc::Global;
 use std::io::Write;
 
@@ -35,7 +35,12 @@ pub(crate) fn report_items<W: Write>(
     text: &[u8],
 ) -> Result<(), anyhow::Error> {
     match Expr::of(items_of(alloc, text)?) {
-        Some(expr) => Ok(write!(out, "{:?}, {:?}", items(&expr), constant(&expr))?),
+        Some(expr) => Ok(write!(
+            out,
+            "{:?}, {:?}",
+            items(&expr, &mut Room::new()),
+            constant(&expr)
+        )?),
         None => Ok(write!(out, "no expression")?),
     }
 }

@@ -98,7 +98,8 @@ fn five(alloc: Global) -> Result<Names, anyhow::Error> {
     )
 }
 
-/// That module with names that EQU gives: a fixed one, a constant, a place, and five copies of the first two.
+/// That module with names that EQU gives: a fixed one, a constant, a place, five copies of the first two, a distance that varies,
+/// and twice that.
 fn five_with_equs(alloc: Global) -> Result<Names, anyhow::Error> {
     with_equs(
         alloc,
@@ -109,15 +110,22 @@ fn five_with_equs(alloc: Global) -> Result<Names, anyhow::Error> {
             (b"PLACE", b"+X"),
             (b"LENS", b"LEN+LEN+LEN+LEN+LEN"),
             (b"FIVES", b"FIVE+FIVE+FIVE+FIVE+FIVE"),
+            (b"REACH", b"V-X"),
+            (b"TWICE", b"REACH+REACH"),
         ],
     )
 }
 
-/// X at a statement of 3 bytes, Y behind it; N a name whose own line is faulty, NM one more than it, V behind X by as much.
+/// X at a statement of 3 bytes, Y behind it; N a name whose own line is faulty, NM one more than it, V behind X by as
+/// much, BOTH the sum of both places.
 fn beside_faulty(alloc: Global) -> Result<Names, anyhow::Error> {
     let mut names = module_of(alloc, &[Passed::Fixed(3)], 0, &[(b"X", 0), (b"Y", 1)])?;
     define(alloc, &mut names, b"N", Meaning::Faulty)?;
-    with_equs(alloc, names, &[(b"NM", b"N+1"), (b"V", b"X+N")])
+    with_equs(
+        alloc,
+        names,
+        &[(b"NM", b"N+1"), (b"V", b"X+N"), (b"BOTH", b"X+Y")],
+    )
 }
 
 /// PA before 3 bytes, PB before a size that is not known, PC before 2 bytes, PD at a relaxable jump, PE1 before a size

@@ -1,7 +1,7 @@
 //! Calls of an expression.
 
 use crate::table::table;
-use asm_expr::{Names, Settled, Tree, constant, is_defined, items, parse, settle};
+use asm_expr::{Names, Room, Settled, Tree, constant, is_defined, items, parse, settle};
 use asm_scan::tokens;
 use std::alloc::Global;
 use std::io::Write;
@@ -47,7 +47,7 @@ fn show_settled<W: Write>(
     match settle(alloc, tree, names) {
         Ok(Settled::Known(expr)) => match constant(&expr) {
             Some(number) => write!(out, "{number}")?,
-            None => write!(out, "{} items", items(&expr).len())?,
+            None => write!(out, "{} items", items(&expr, &mut Room::new()).len())?,
         },
         Ok(Settled::Unknown(_)) => write!(out, "unknown")?,
         Err(fault) => write!(out, "{fault:?}")?,

@@ -1,10 +1,11 @@
 //! Fields at the end of a text.
 
 ghost use Rattle.std.specs.Prelude.{◌≡◌, ◌≤◌, ◌++◌, ◌∷◌, [], OnOk, length};
+ghost use Rattle.asm_expr.specs.declared.expr.TheConstants.{MOST_ITEMS};
 ghost use Rattle.zmo_fields.specs.Texts.{word, counted, item_text, expr_text};
 
 use crate::code::{binary_code, unary_code};
-use asm_expr::{Atom, Expr, Item, items};
+use asm_expr::{Atom, Expr, Item, MOST_ITEMS, Room, items};
 use byteorder::{ByteOrder, LittleEndian};
 use std::alloc::AllocError;
 
@@ -64,25 +65,37 @@ fn item_len(item: &Item<Atom>) -> usize
     }
 }
 
-/// How many bytes the items of an expression take.
-fn expr_len(expr: &Expr) -> usize
-    ensures len { result ≡ length (expr_text expr.now) }
+/// How many bytes items take.
+fn items_len(items: &[Item<Atom>]) -> usize
+    requires { length items.now ≤ MOST_ITEMS }
+    ensures len { result ≡ length (expr_text items.now) }
     ensures few { result ≤ 255 }
 {
     let mut len = 0;
-    for item in items(expr) {
+    for item in items {
         len += item_len(item);
     }
     len
 }
 
 /// Puts the items of an expression behind a text, and before them the number of their bytes in one byte.
-pub fn put_expr(text: &mut Vec<u8>, expr: &Expr) -> Result<(), AllocError>
-    ensures { OnOk result (text.new.items ≡ text.old.items ++ counted (expr_text expr.now)) }
+fn put_items(text: &mut Vec<u8>, items: &[Item<Atom>]) -> Result<(), AllocError>
+    requires { length items.now ≤ MOST_ITEMS }
+    ensures { OnOk result (text.new.items ≡ text.old.items ++ counted (expr_text items.now)) }
 {
-    put_byte(text, expr_len(expr) as u8)?;
-    for item in items(expr) {
+    put_byte(text, items_len(items) as u8)?;
+    for item in items {
         put_item(text, item)?;
     }
     Ok(())
+}
+
+/// Puts an expression behind a text: its items, and before them the number of their bytes in one byte.
+pub fn put_expr(text: &mut Vec<u8>, expr: &Expr) -> Result<(), AllocError>
+    ensures { OnOk result (text.new.items ≡ text.old.items ++ counted (expr_text expr.now)) }
+{
+    match expr.side_by_side() {
+        Some(items) => put_items(text, items),
+        None => put_items(text, items(expr, &mut Room::new())),
+    }
 }

@@ -3,7 +3,7 @@
 ghost use Rattle.std.specs.Prelude.{◌≡◌};
 ghost use Rattle.zmo_module.specs.Holes.{ends_in_byte};
 
-use asm_expr::{Expr, Item, Unary, items};
+use asm_expr::{Atom, Expr, Item, Room, Unary, items};
 
 /// How many bytes a field takes.
 #[derive(Clone, Copy, Debug, PartialEq, Eq)]
@@ -22,12 +22,27 @@ pub struct Hole {
     pub value: Expr,
 }
 
+/// Whether items end in HIGH or LOW.
+fn are_of_byte(items: &[Item<Atom>]) -> bool
+    ensures { result ≡ ends_in_byte items.now }
+{
+    matches!(items.last(), Some(Item::Unary(Unary::High | Unary::Low)))
+}
+
+/// The same of an expression whose items do not lie side by side. Few are such, and the room for its items takes time to make.
+#[inline(never)]
+fn ends_in_byte_gathered(expr: &Expr) -> bool
+    ensures { result ≡ ends_in_byte expr.now }
+{
+    are_of_byte(items(expr, &mut Room::new()))
+}
+
 /// Whether HIGH or LOW is the outermost operator, as it has to be where a byte hangs on places.
 pub fn ends_in_byte(expr: &Expr) -> bool
     ensures { result ≡ ends_in_byte expr.now }
 {
-    matches!(
-        items(expr).last(),
-        Some(Item::Unary(Unary::High | Unary::Low))
-    )
+    match expr.side_by_side() {
+        Some(items) => are_of_byte(items),
+        None => ends_in_byte_gathered(expr),
+    }
 }

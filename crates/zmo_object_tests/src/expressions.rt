@@ -1,7 +1,7 @@
 //! The expressions of holes: each code of an item.
 
 use crate::objects::object_of;
-use asm_expr::{Atom, Binary, Item, Unary, items};
+use asm_expr::{Atom, Binary, Item, Room, Unary, items};
 use std::alloc::Global;
 use std::process::Abort;
 use std::test::Fail;
@@ -15,7 +15,7 @@ fn assert_hole(rt: &impl Abort, module: &Module, want: &[Item<Atom>]) {
             assert_eq!(rt; holes.len(), 1);
             for hole in holes {
                 assert_eq!(rt; (hole.offset, hole.width), (0, Width::Word));
-                assert_eq!(rt; items(&hole.value), want);
+                assert_eq!(rt; items(&hole.value, &mut Room::new()), want);
             }
         }
         _ => panic!(rt; "no bytes"),

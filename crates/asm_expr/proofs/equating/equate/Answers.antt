@@ -1,4 +1,6 @@
-use Rattle.std.proofs.Common.{Ok, arith}
+use Rattle.std.proofs.Common.{Ok, sym, subst, arith}
+use Rattle.asm_expr.specs.Types.{Meaning}
+use Rattle.asm_expr.specs.Names.{IsCounted}
 use Rattle.asm_expr.specs.Postfix.{source}
 use Rattle.asm_expr.proofs.Answers.{is_settled}
 use Rattle.asm_expr.proofs.Guards.{small}
@@ -15,4 +17,5 @@ size-size-requires c =
 
 pub returns-then-not-is_constant-clause-counted : goal.returns-then-not-is_constant-clause-counted
 returns-then-not-is_constant-clause-counted c =
-    counted c.args.names.now c.counted.ensures (source c.args.parsed.now) c.in_ok-settled.settled c.size-size.result c.in_ok-settled.ensures.worth c.size-size.ensures
+    subst (λ s. IsCounted (Meaning.Equ (record { settled = s; size = c.size-size.result }))) (sym c.in_ok-shared.ensures)
+    (counted c.args.names.now c.counted.ensures (source c.args.parsed.now) c.in_ok-settled.settled c.size-size.result c.in_ok-settled.ensures.worth c.size-size.ensures)
