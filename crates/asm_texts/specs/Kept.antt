@@ -30,14 +30,14 @@ HasOnly t u = (name : List ℕ) → lookup (bytes_eq name) u ≡ None → lookup
 abbrev pub Suffice : List (List ℕ) → ℕ → ℕ → List ℕ → Table → Type 0
 Suffice texts from to places t = (k : ℕ) → from ≤ k → k < to → k < length texts → Contains places k ⊎ Stands texts (Some t) k
 
--- the places that are asked where all texts that are put in are plain to no sign, to Sign.Word, to Sign.Second, or to both
+-- the places that are asked where all texts that are put in are known to be plain to Sign.Word, to Sign.Second, to both or to none
 abbrev pub places_where : Bool → Bool → Varying → List ℕ
 places_where false false v = v.places.items
 places_where true false v = v.with_word.items
 places_where false true v = v.with_second.items
 places_where true true v = v.with_both.items
 
--- So it is whatever these names are replaced by: these places suffice.
+-- Whatever these names are replaced by, those places suffice that are asked where the texts are plain to what is said.
 abbrev pub IsVarying : List (List ℕ) → Table → Varying → Type 0
 IsVarying texts names v =
     (t : Table) → HasOnly t names → (word second : Bool) → (word ≡ true → ArePlain Sign.Word t) → (second ≡ true → ArePlain Sign.Second t)

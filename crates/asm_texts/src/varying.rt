@@ -29,10 +29,11 @@ pub(crate) struct Varying {
     pub at: usize,
     pub end: usize,
     pub places: Vec<u32>,
-    /// Of these places those of lines that may be other things even where all texts that are put in are plain to a sign.
+    /// Of these places those of lines that may be other things even where all texts that are put in are plain to `Sign::Word`.
     pub with_word: Vec<u32>,
+    /// The same where they are plain to `Sign::Second`.
     pub with_second: Vec<u32>,
-    /// And those where they are plain to both.
+    /// And where they are plain to both.
     pub with_both: Vec<u32>,
 }
 
