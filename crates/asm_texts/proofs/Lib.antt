@@ -2,5 +2,6 @@ mod Ends
 pub mod Macros
 mod Openings
 mod Unvaried
-mod Pairs
-mod Unpaired
+mod Signless
+mod Put_plain
+mod First_tokens

@@ -25,8 +25,9 @@ use Rattle.asm_replace.specs.Views.{texts as texts_of}
 use Rattle.asm_texts.specs.Roles.{role_of_head}
 use Rattle.asm_texts.specs.declared.call.Call.{Call}
 use Rattle.asm_texts.specs.declared.open.Opened.{Opened}
+use Rattle.asm_texts.specs.declared.signs.Sign.{Sign}
 use Rattle.asm_texts.specs.declared.varying.Varying.{Varying}
-use Rattle.asm_texts.specs.Kept.{HasOnly, IsCall, IsVarying, Suffice, VariesIn}
+use Rattle.asm_texts.specs.Kept.{HasOnly, IsCall, IsVarying, Suffice, VariesIn, places_where}
 use Rattle.asm_texts.specs.Stands.{Stands, role_in}
 use Rattle.asm_texts.specs.Prepared.{said}
 use Rattle.asm_texts.specs.Calls.{replaced_by}
@@ -51,7 +52,7 @@ same_other : (b : Bool) (f g h k : Form) → b ≡ false → g.head ≡ k.head �
 same_other true f g h k never other = absurd (false≢true (sym never))
 same_other false f g h k never other = other
 
-same_worded : (label : Option (List ℕ)) (a : Lexeme) (x y : List Lexeme) → (worded label a x).head ≡ (worded label a y).head
+pub same_worded : (label : Option (List ℕ)) (a : Lexeme) (x y : List Lexeme) → (worded label a x).head ≡ (worded label a y).head
 same_worded label a x y = same_choice (is_name a) _ _ _ _ refl refl
 
 same_headed : (label : Option (List ℕ)) (a b : Lexeme) (x y : List Lexeme) → (headed label (a ∷ b ∷ x)).head ≡ (headed label (a ∷ b ∷ y)).head
@@ -99,7 +100,7 @@ all_left t table only (token ∷ tokens) e =
 
 -- A token that is asked, and one more where it may go on in that.
 
-last_left : (t table : Table) → HasOnly t table → (token : Lexeme) (more : List Lexeme) (g : Bool) → goes_on token.kind ≡ g → list_any (is_held table) (take (with_next g 1) (token ∷ more)) ≡ false → AreLeft t (token ∷ []) more
+pub last_left : (t table : Table) → HasOnly t table → (token : Lexeme) (more : List Lexeme) (g : Bool) → goes_on token.kind ≡ g → list_any (is_held table) (take (with_next g 1) (token ∷ more)) ≡ false → AreLeft t (token ∷ []) more
 last_left t table only token [] true is e = (not_held t table only token (none_first (is_held table) token [] e).0, λ g. tt)
 last_left t table only token (m ∷ more) true is e =
     let one = none_first (is_held table) token (m ∷ take 0 more) e in
@@ -226,12 +227,10 @@ pub said_in : (c : Call) (names : Names) → c.names.names.value ≡ names → s
 said_in c names is = said_of c.names ∙ ap (λ n. in_call n (texts_of c.names.arguments.items) c.names.counter) is
 
 -- a call of a macro, whose texts are plain where it says so
-pub call_of : (texts : List (List ℕ)) (c : Call) (names : Names) (v : Varying) (some : List (List ℕ)) (counter : ℕ) → said c ≡ in_call names some counter → (c.plain ≡ true → ArePlain (in_call names some counter))
+pub call_of : (texts : List (List ℕ)) (c : Call) (names : Names) (v : Varying) (some : List (List ℕ)) (counter : ℕ) → said c ≡ in_call names some counter
+    → (c.plain.word ≡ true → ArePlain Sign.Word (in_call names some counter)) → (c.plain.second ≡ true → ArePlain Sign.Second (in_call names some counter))
     → IsVarying texts (in_call names [] 0) v → c.varying.value ≡ v → IsCall texts c
-call_of texts c names v some counter same plain varying is =
-    let told = varying (in_call names some counter) (has_only (text_of some counter) (text_of [] 0) names.places.entries) in
-    let asks : Varying → Bool → List ℕ = λ w b. if b then w.paired.items else w.places.items in
-    subst (λ w. Suffice texts w.at w.end (asks w c.plain) (said c)) (sym is) (subst (λ t. Suffice texts v.at v.end (asks v c.plain) t) (sym same) (elim (cases_Bool c.plain) [
-      | inl is_plain ↦ subst (λ b. Suffice texts v.at v.end (asks v b) (in_call names some counter)) (sym is_plain) (told.1 (plain is_plain))
-      | inr other ↦ subst (λ b. Suffice texts v.at v.end (asks v b) (in_call names some counter)) (sym other) told.0
-    ]))
+call_of texts c names v some counter same word second varying is =
+    let asks : Varying → List ℕ = places_where c.plain.word c.plain.second in
+    let told = varying (in_call names some counter) (has_only (text_of some counter) (text_of [] 0) names.places.entries) c.plain.word c.plain.second word second in
+    subst (λ w. Suffice texts w.at w.end (asks w) (said c)) (sym is) (subst (Suffice texts v.at v.end (asks v)) (sym same) told)

@@ -1,5 +1,5 @@
 -- What is found out of macros once, and what of that is known of their calls.
-use Rattle.std.specs.Prelude.{◌≡◌, ◌⊎◌, ◌≤◌, ◌<◌, ◌++◌, ℕ, List, [], Option, Some, None, if◌then◌else◌, length}
+use Rattle.std.specs.Prelude.{◌≡◌, ◌⊎◌, ◌≤◌, ◌<◌, ◌++◌, ℕ, Bool, true, false, List, [], Option, Some, None, length}
 use Rattle.std.specs.List.{Contains}
 use Rattle.std.specs.Map.{lookup}
 use Rattle.std.specs.Option.{option_map}
@@ -11,6 +11,7 @@ use Rattle.asm_replace.specs.Views as replaced
 use Rattle.asm_texts.specs.declared.call.Call.{Call}
 use Rattle.asm_texts.specs.declared.call.Macro.{Macro}
 use Rattle.asm_texts.specs.declared.open.Opened as open_by
+use Rattle.asm_texts.specs.declared.signs.Sign.{Sign}
 use Rattle.asm_texts.specs.declared.varying.Varying.{Varying}
 use Rattle.asm_texts.specs.Calls.{Opened, opened}
 use Rattle.asm_texts.specs.Prepared.{body_texts, said}
@@ -29,10 +30,18 @@ HasOnly t u = (name : List ℕ) → lookup (bytes_eq name) u ≡ None → lookup
 abbrev pub Suffice : List (List ℕ) → ℕ → ℕ → List ℕ → Table → Type 0
 Suffice texts from to places t = (k : ℕ) → from ≤ k → k < to → k < length texts → Contains places k ⊎ Stands texts (Some t) k
 
--- So it is whatever these names are replaced by; fewer places suffice where all texts put in are plain.
+-- the places that are asked where all texts that are put in are known to be plain to Sign.Word, to Sign.Second, to both or to none
+abbrev pub places_where : Bool → Bool → Varying → List ℕ
+places_where false false v = v.places.items
+places_where true false v = v.with_word.items
+places_where false true v = v.with_second.items
+places_where true true v = v.with_both.items
+
+-- Whatever these names are replaced by, those places suffice that are asked where the texts are plain to what is said.
 abbrev pub IsVarying : List (List ℕ) → Table → Varying → Type 0
 IsVarying texts names v =
-    (t : Table) → HasOnly t names → Suffice texts v.at v.end v.places.items t × (ArePlain t → Suffice texts v.at v.end v.paired.items t)
+    (t : Table) → HasOnly t names → (word second : Bool) → (word ≡ true → ArePlain Sign.Word t) → (second ≡ true → ArePlain Sign.Second t)
+    → Suffice texts v.at v.end (places_where word second v) t
 
 -- So for the names of an opened body; the range is all of its lines.
 abbrev pub VariesIn : List (List ℕ) → Names → Option open_by.Opened → Varying → Type 0
@@ -53,7 +62,7 @@ IsKept texts m =
 
 -- the places of the lines that are asked in a call
 abbrev pub asked_places : Call → List ℕ
-asked_places c = if c.plain then c.varying.value.paired.items else c.varying.value.places.items
+asked_places c = places_where c.plain.word c.plain.second c.varying.value
 
 -- Of some lines, those alone that are asked may be other things to blocks in the call than they are as they stand.
 abbrev pub IsCall : List (List ℕ) → Call → Type 0

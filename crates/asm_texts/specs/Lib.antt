@@ -4,7 +4,7 @@ pub mod Calls
 pub mod Spans
 pub mod Stands
 pub mod Prepared
-pub mod Pairs
+pub mod Signs
 pub mod Plain
 pub mod Kept
 pub mod Private

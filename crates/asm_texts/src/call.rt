@@ -10,6 +10,7 @@ ghost use Rattle.asm_texts.specs.Kept.{AreNames, IsKept, VariesIn};
 
 use crate::lines::Lines;
 use crate::open::{Opened, open};
+use crate::plain::Plain;
 use crate::span::Span;
 use crate::varying::{Varying, varying_of};
 use asm_replace::{Names, Replacements};
@@ -35,8 +36,7 @@ pub struct Macro {
 pub struct Call {
     pub(crate) names: Replacements,
     pub(crate) varying: Rc<Varying>,
-    /// Whether all texts that are put in are plain.
-    pub(crate) plain: bool,
+    pub(crate) plain: Plain,
 }
 
 /// The names of an opened body: parameters before LOCAL names.

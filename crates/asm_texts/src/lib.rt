@@ -8,6 +8,7 @@ mod open;
 mod plain;
 mod prepared;
 mod reading;
+mod signs;
 mod span;
 mod varying;
 

@@ -1,25 +1,24 @@
-//! Texts that make no word of blocks where they are put in the place of names.
+//! Texts that bring no sign of blocks where they are put in the place of names.
 
 ghost use Rattle.std.specs.Prelude.{◌≡◌};
 ghost use Rattle.asm_replace.specs.Views.{texts};
-ghost use Rattle.asm_texts.specs.Pairs.{is_second};
-ghost use Rattle.asm_texts.specs.Plain.{are_plain, begins_letter, begins_second, is_plain};
+ghost use Rattle.asm_texts.specs.Plain.{are_plain, begins_end, begins_letter, is_plain};
 
-use crate::reading::has_pair;
+use crate::signs::{Sign, ends_sign, has_sign};
 
-/// Whether a small letter is the second of one of the pairs IF, LS, CR, PT and DM, of which each word of blocks has one.
-fn is_second(small: u8) -> bool
-    ensures { result ≡ is_second small }
-{
-    matches!(small, b'f' | b's' | b'r' | b't' | b'm')
+/// Whether all texts that are put in are plain to each sign.
+#[derive(Clone, Copy, Debug)]
+pub(crate) struct Plain {
+    pub word: bool,
+    pub second: bool,
 }
 
-/// Whether a text begins with such a letter, in either case.
-fn begins_second(text: &[u8]) -> bool
-    ensures { result ≡ begins_second text.now }
+/// Whether a text begins with a letter that ends a sign, in either case.
+fn begins_end(sign: Sign, text: &[u8]) -> bool
+    ensures { result ≡ begins_end sign text.now }
 {
     match text {
-        [first, ..] => is_second(first.to_ascii_lowercase()),
+        [first, ..] => ends_sign(sign, first.to_ascii_lowercase()),
         [] => false,
     }
 }
@@ -34,24 +33,35 @@ fn begins_letter(name: &[u8]) -> bool
     }
 }
 
-/// Whether a text has no such pair, and makes none where it is put in the place of a name. No letter stands directly before a name
+/// Whether a text has no such sign, and makes none where it is put in the place of a name. No letter stands directly before a name
 /// that begins with one; before `_`, `?`, `@` and `.` a number may end.
-fn is_plain(name: &[u8], text: &[u8]) -> bool
-    ensures { result ≡ is_plain name.now text.now }
+fn is_plain(sign: Sign, name: &[u8], text: &[u8]) -> bool
+    ensures { result ≡ is_plain sign name.now text.now }
 {
-    !has_pair(text) && (begins_letter(name) || !begins_second(text))
+    !has_sign(sign, text) && (begins_letter(name) || !begins_end(sign, text))
 }
 
 /// Whether each parameter's argument is plain. A missing one is empty, and so it is too.
-pub(crate) fn are_plain(parameters: &[Vec<u8>], arguments: &[Vec<u8>]) -> bool
-    ensures { result ≡ are_plain (texts parameters.now) (texts arguments.now) }
+fn are_plain(sign: Sign, parameters: &[Vec<u8>], arguments: &[Vec<u8>]) -> bool
+    ensures { result ≡ are_plain sign (texts parameters.now) (texts arguments.now) }
 {
     let mut at = 0;
     while at < parameters.len() && at < arguments.len() {
-        if !is_plain(&parameters[at], &arguments[at]) {
+        if !is_plain(sign, &parameters[at], &arguments[at]) {
             return false;
         }
         at += 1;
     }
     true
+}
+
+/// To which signs each parameter's argument is plain.
+pub(crate) fn plain_to(parameters: &[Vec<u8>], arguments: &[Vec<u8>]) -> Plain
+    ensures word { result.word ≡ are_plain Sign.Word (texts parameters.now) (texts arguments.now) }
+    ensures second { result.second ≡ are_plain Sign.Second (texts parameters.now) (texts arguments.now) }
+{
+    Plain {
+        word: are_plain(Sign::Word, parameters, arguments),
+        second: are_plain(Sign::Second, parameters, arguments),
+    }
 }

@@ -9,7 +9,7 @@ ghost use Rattle.asm_texts.specs.Kept.{IsCall, IsKept};
 
 use crate::call::{Call, Macro};
 use crate::open::{arguments_of, label_of};
-use crate::plain::are_plain;
+use crate::plain::plain_to;
 use crate::span::Span;
 use asm_line::Form;
 use asm_replace::Replacements;
@@ -45,7 +45,7 @@ pub fn prepare(
     let Some(next) = counter.checked_add(opened.locals.len() as u64) else {
         return Err(AllocError);
     };
-    let plain = are_plain(&called.parameters, &arguments);
+    let plain = plain_to(&called.parameters, &arguments);
     let names = Replacements {
         names: Rc::clone(&called.names)?,
         arguments,

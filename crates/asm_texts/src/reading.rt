@@ -9,10 +9,10 @@ ghost use Rattle.asm_texts.specs.Lines.{form_of, heard};
 ghost use Rattle.asm_texts.specs.Roles.{role_of_head};
 ghost use Rattle.asm_texts.specs.Roles.{is_alone};
 ghost use Rattle.asm_texts.specs.Prepared.{said};
-ghost use Rattle.asm_texts.specs.Pairs.{has_pair, is_pair};
 ghost use Rattle.asm_texts.specs.Spans.{shown};
 
 use crate::call::Call;
+use crate::signs::{Sign, has_sign};
 use asm_block::Role;
 use asm_line::{BlockWord, Head, form_of};
 use asm_replace::{Replacements, replace};
@@ -51,42 +51,11 @@ pub(crate) fn heard(alloc: Global, line: &[u8]) -> Result<Option<Vec<Token<'_>>>
     }
 }
 
-/// Whether two small letters are one of the pairs of which each word of blocks has one: IF and ENDIF, ELSE, MACRO, REPT, ENDM.
-fn is_pair(a: u8, b: u8) -> bool
-    ensures { result ≡ is_pair a b }
-{
-    // By the second letter, since most bytes are none of these.
-    match b {
-        b'f' => a == b'i',
-        b's' => a == b'l',
-        b'r' => a == b'c',
-        b't' => a == b'p',
-        b'm' => a == b'd',
-        _ => false,
-    }
-}
-
-/// Whether two bytes of a line stand so, in either case: few lines without a word of blocks have such, and to look for them
-/// costs much less than to cut the line.
-pub(crate) fn has_pair(line: &[u8]) -> bool
-    ensures { result ≡ has_pair line.now }
-{
-    let mut before = 0;
-    for byte in line {
-        let small = byte.to_ascii_lowercase();
-        if is_pair(before, small) {
-            return true;
-        }
-        before = small;
-    }
-    false
-}
-
 /// What a line is to blocks. One that does not scan has no word.
 pub(crate) fn role_of(alloc: Global, line: &[u8]) -> Result<Role, AllocError>
     ensures { IfOk result (λ role. role ≡ role_of_head (form_of line.now).head) }
 {
-    if !has_pair(line) {
+    if !has_sign(Sign::Word, line) {
         return Ok(Role::Other);
     }
     match heard(alloc, line)? {

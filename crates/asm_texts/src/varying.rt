@@ -10,12 +10,12 @@ ghost use Rattle.asm_texts.specs.Kept.{HasOnly, IsCall, IsVarying, Suffice};
 ghost use Rattle.asm_texts.specs.Lines.{heard};
 ghost use Rattle.asm_texts.specs.Prepared.{said};
 ghost use Rattle.asm_texts.specs.Stands.{Stand, Stands};
-ghost use Rattle.asm_texts.specs.Pairs.{has_pair};
-ghost use Rattle.asm_texts.specs.Private.Varying.{asked, asked_labelled, asked_of, is_held, may_vary, with_next};
+ghost use Rattle.asm_texts.specs.Private.Varying.{asked, asked_labelled, asked_of, first_varies, is_held, is_of_blocks, may_vary, may_vary_plain, with_next};
 
 use crate::call::Call;
 use crate::lines::Lines;
-use crate::reading::{has_pair, heard, put_shown, role_of, role_of_head};
+use crate::reading::{heard, put_shown, role_of, role_of_head};
+use crate::signs::{Sign, has_sign};
 use crate::span::Span;
 use asm_block::Role;
 use asm_line::{form_of, is_name};
@@ -28,9 +28,13 @@ use std::alloc::{AllocError, Global};
 pub(crate) struct Varying {
     pub at: usize,
     pub end: usize,
-    pub places: Vec<usize>,
-    /// Of these places those of lines that may be other things even where all texts that are put in are plain.
-    pub paired: Vec<usize>,
+    pub places: Vec<u32>,
+    /// Of these places those of lines that may be other things even where all texts that are put in are plain to `Sign::Word`.
+    pub with_word: Vec<u32>,
+    /// The same where they are plain to `Sign::Second`.
+    pub with_second: Vec<u32>,
+    /// And where they are plain to both.
+    pub with_both: Vec<u32>,
 }
 
 impl Varying {
@@ -40,7 +44,9 @@ impl Varying {
             at: 0,
             end: 0,
             places: Vec::new(alloc),
-            paired: Vec::new(alloc),
+            with_word: Vec::new(alloc),
+            with_second: Vec::new(alloc),
+            with_both: Vec::new(alloc),
         }
     }
 }
@@ -126,13 +132,23 @@ fn may_vary(alloc: Global, names: &Names, line: &[u8]) -> Result<bool, AllocErro
     }
 }
 
+/// The place of a line in four bytes, as places in a text of less than 2^32 bytes fit.
+fn place_of(at: usize) -> Result<u32, AllocError>
+    ensures { IfOk result (λ place. place ≡ at) }
+{
+    let Ok(place) = u32::try_from(at) else {
+        return Err(AllocError);
+    };
+    Ok(place)
+}
+
 /// The places of lines of a body that may be other things to blocks in a call, whatever these names are replaced by.
 fn places_of(
     alloc: Global,
     lines: &Lines<'_>,
     names: &Names,
     body: Span,
-) -> Result<Vec<usize>, AllocError>
+) -> Result<Vec<u32>, AllocError>
     ensures { IfOk result (λ places. (t : Table) → HasOnly t (in_call names.now [] 0) → Suffice lines.now body.at body.end places.items t) }
 {
     asm_replace::laws::unreplaced();
@@ -141,24 +157,68 @@ fn places_of(
     let mut at = body.at;
     while at < body.end && at < lines.len() {
         if may_vary(alloc, names, lines.line(at))? {
-            places.push(at)?;
+            places.push(place_of(at)?)?;
         }
         at += 1;
     }
     Ok(places)
 }
 
-/// Those of some places whose line has two letters side by side as a word of blocks has.
-fn paired_of(alloc: Global, lines: &Lines<'_>, places: &[usize]) -> Result<Vec<usize>, AllocError>
-    ensures { IfOk result (λ paired. paired.items ≡ filter (λ k. has_pair (slice_index_or lines.now k [])) places.now) }
+/// Whether a role is one of blocks.
+fn is_of_blocks(role: Role) -> bool
+    ensures { result ≡ is_of_blocks role }
 {
-    let mut paired = Vec::new(alloc);
+    !matches!(role, Role::Other)
+}
+
+/// Whether a line's first token may be a word of blocks in a call: it is one, or it is replaced, or goes on in what is.
+fn first_varies(alloc: Global, names: &Names, tokens: &[Token<'_>]) -> Result<bool, AllocError>
+    ensures { IfOk result (λ varies. varies ≡ first_varies (in_call names.now [] 0) (lexemes tokens.now)) }
+{
+    let [first, ..] = tokens else {
+        return Ok(false);
+    };
+    if is_of_blocks(role_of_head(form_of(&tokens[..1]).head)) {
+        return Ok(true);
+    }
+    let front = tokens.get(..with_next(first, 1)).unwrap_or(tokens);
+    any_held(alloc, names, front)
+}
+
+/// Whether what a line is to blocks may hang on what these names are replaced by, where all these texts are plain to a sign. Behind
+/// a first token that stays and is no word of blocks, nothing makes a line one of blocks but a colon or MACRO.
+fn may_vary_plain(alloc: Global, names: &Names, sign: Sign, line: &[u8]) -> Result<bool, AllocError>
+    ensures { IfOk result (λ varies. varies ≡ may_vary_plain sign (in_call names.now [] 0) line.now) }
+{
+    if has_sign(sign, line) {
+        return Ok(true);
+    }
+    match sign {
+        Sign::Word => Ok(false),
+        Sign::Second => match heard(alloc, line)? {
+            Some(found) => first_varies(alloc, names, &found),
+            None => Ok(false),
+        },
+    }
+}
+
+/// Of some places those of lines that may be other things to blocks even where all texts that are put in are plain to a sign.
+fn places_with(
+    alloc: Global,
+    lines: &Lines<'_>,
+    names: &Names,
+    sign: Sign,
+    places: &[u32],
+) -> Result<Vec<u32>, AllocError>
+    ensures { IfOk result (λ some. some.items ≡ filter (λ k. may_vary_plain sign (in_call names.now [] 0) (slice_index_or lines.now k [])) places.now) }
+{
+    let mut some = Vec::new(alloc);
     for place in places {
-        if has_pair(lines.line(*place)) {
-            paired.push(*place)?;
+        if may_vary_plain(alloc, names, sign, lines.line(*place as usize))? {
+            some.push(*place)?;
         }
     }
-    Ok(paired)
+    Ok(some)
 }
 
 /// Which lines of a body may be other things to blocks in a call, where these names are replaced.
@@ -171,13 +231,18 @@ pub(crate) fn varying_of(
     ensures varying { IfOk result (IsVarying lines.now (in_call names.now [] 0)) }
     ensures range { IfOk result (λ found. (found.at ≡ body.at) × (found.end ≡ body.end)) }
 {
+    asm_replace::laws::front_stays();
     let places = places_of(alloc, lines, names, body)?;
-    let paired = paired_of(alloc, lines, &places)?;
+    let with_word = places_with(alloc, lines, names, Sign::Word, &places)?;
+    let with_second = places_with(alloc, lines, names, Sign::Second, &places)?;
+    let with_both = places_with(alloc, lines, names, Sign::Second, &with_word)?;
     Ok(Varying {
         at: body.at,
         end: body.end,
         places,
-        paired,
+        with_word,
+        with_second,
+        with_both,
     })
 }
 
@@ -186,13 +251,15 @@ impl Call {
     ghost use Rattle.asm_texts.specs.Kept.{asked_places};
 
     /// The places of the lines that are asked.
-    fn asked_places(&self) -> &[usize]
+    fn asked_places(&self) -> &[u32]
         ensures { result.now ≡ asked_places self.now }
     {
-        if self.plain {
-            &self.varying.paired
-        } else {
-            &self.varying.places
+        let varying: &Varying = &self.varying;
+        match (self.plain.word, self.plain.second) {
+            (false, false) => &varying.places,
+            (true, false) => &varying.with_word,
+            (false, true) => &varying.with_second,
+            (true, true) => &varying.with_both,
         }
     }
 }
@@ -235,7 +302,7 @@ pub fn all_stand(
     let places = call.asked_places();
     let mut next = 0;
     while next < places.len() {
-        if !stands(alloc, lines, call, span, places[next])? {
+        if !stands(alloc, lines, call, span, places[next] as usize)? {
             return Ok(false);
         }
         next += 1;

@@ -1,5 +1,5 @@
 -- Which lines of a body may be other things to blocks in a call than they are as they stand.
-use Rattle.std.specs.Prelude.{◌+◌, ◌&&◌, ℕ, Bool, true, false, List, ◌∷◌, Option, Some, None, if◌then◌else◌, is_some, take}
+use Rattle.std.specs.Prelude.{◌+◌, ◌&&◌, ◌||◌, ℕ, Bool, true, false, List, [], ◌∷◌, Option, Some, None, if◌then◌else◌, is_some, take}
 use Rattle.std.specs.List.{list_any}
 use Rattle.std.specs.Map.{lookup}
 use Rattle.std.specs.Str.{bytes_eq}
@@ -10,7 +10,10 @@ use Rattle.asm_line.specs.Forms.{form}
 use Rattle.asm_block.specs.declared.matching.Role.{Role}
 use Rattle.asm_replace.specs.Fronts.{goes_on}
 use Rattle.asm_replace.specs.Replaced.{Table}
+use Rattle.asm_texts.specs.declared.signs.Sign.{Sign}
+use Rattle.asm_texts.specs.Lines.{heard}
 use Rattle.asm_texts.specs.Roles.{role_of_head}
+use Rattle.asm_texts.specs.Signs.{has_sign}
 
 -- a token is a name of the table
 abbrev pub is_held : Table → Lexeme → Bool
@@ -39,3 +42,22 @@ asked_of _ tokens = tokens
 abbrev pub may_vary : Table → Option (List Lexeme) → Bool
 may_vary table (Some tokens) = list_any (is_held table) (asked_of (role_of_head (form tokens).head) tokens)
 may_vary table None = false
+
+abbrev pub is_of_blocks : Role → Bool
+is_of_blocks Role.Other = false
+is_of_blocks _ = true
+
+-- whether a line's first token may be a word of blocks: it is one, or it is a name of the table, or goes on in such
+abbrev pub first_varies : Table → List Lexeme → Bool
+first_varies table [] = false
+first_varies table (token ∷ tokens) =
+    is_of_blocks (role_of_head (form (token ∷ [])).head) || list_any (is_held table) (take (with_next (goes_on token.kind) 1) (token ∷ tokens))
+
+abbrev pub first_of_line_varies : Table → Option (List Lexeme) → Bool
+first_of_line_varies table (Some tokens) = first_varies table tokens
+first_of_line_varies table None = false
+
+-- and so where all texts that are put in are plain to a sign
+abbrev pub may_vary_plain : Sign → Table → List ℕ → Bool
+may_vary_plain Sign.Word table line = has_sign Sign.Word line
+may_vary_plain Sign.Second table line = has_sign Sign.Second line || first_of_line_varies table (heard line)

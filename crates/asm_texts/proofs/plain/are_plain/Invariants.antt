@@ -5,7 +5,7 @@ use Rattle.asm_texts.proofs.plain.are_plain.Given as goal
 
 -- Those that are left say it of all.
 abbrev pub invariant-loop-at : goal.invariant-loop-at
-invariant-loop-at l = are_plain (texts l.parameters) (texts l.arguments) ≡ are_plain (texts (drop l.at l.parameters)) (texts (drop l.at l.arguments))
+invariant-loop-at l = are_plain l.sign (texts l.parameters) (texts l.arguments) ≡ are_plain l.sign (texts (drop l.at l.parameters)) (texts (drop l.at l.arguments))
 
 abbrev pub decreases-loop-at : goal.decreases-loop-at
 decreases-loop-at l = length l.parameters - l.at

@@ -1,4 +1,4 @@
-use Rattle.std.proofs.Common.{◌∙◌, ◌++◌, ◌≡◌, ◌+◌, ◌<◌, ◌^◌, ap, sym, subst, arith, refl, length}
+use Rattle.std.proofs.Common.{◌∙◌, ◌++◌, ◌≡◌, ◌+◌, ◌<◌, ◌^◌, ap, sym, subst, arith, refl, length, true}
 use Rattle.std.specs.Map.{lookup}
 use Rattle.std.specs.Option.{option_map}
 use Rattle.std.specs.Str.{bytes_eq}
@@ -9,8 +9,9 @@ use Rattle.asm_replace.specs.Views as replaced
 use Rattle.asm_texts.specs.declared.call.Call.{Call}
 use Rattle.asm_texts.specs.Prepared.{said}
 use Rattle.asm_texts.specs.Kept.{AreNames, opened_seen, VariesIn}
-use Rattle.asm_texts.specs.Plain.{are_plain}
-use Rattle.asm_texts.proofs.Unpaired.{plain_alike, plain_call}
+use Rattle.asm_texts.specs.declared.signs.Sign.{Sign}
+use Rattle.asm_texts.specs.Plain.{ArePlain, are_plain}
+use Rattle.asm_texts.proofs.Put_plain.{plain_alike, plain_call}
 use Rattle.asm_texts.proofs.Unvaried.{call_of, said_in}
 use Rattle.asm_texts.proofs.prepared.prepare.Goals as goal
 
@@ -20,7 +21,7 @@ returns-clause-prepares c = λ texts kept.
     let locals = replaced.texts c.in-Some.opened.locals.items in
     let some = replaced.texts c.in_ok-arguments.arguments.items in
     let names = c.args.called.now.names.value in
-    let call : Call = record { names = record { names = c.in_ok-clone.field-0; arguments = c.in_ok-arguments.arguments; counter = c.args.counter }; varying = c.in_ok-varying.varying; plain = c.are_plain-plain.result } in
+    let call : Call = record { names = record { names = c.in_ok-clone.field-0; arguments = c.in_ok-arguments.arguments; counter = c.args.counter }; varying = c.in_ok-varying.varying; plain = c.plain_to-plain.result } in
     let named = subst (λ o. AreNames parameters o names) c.in-Some.is kept.1 in
     let same : SaySame (said call) (arguments_of parameters some ++ local_names c.args.counter locals) = λ name. ap (lookup (bytes_eq name)) (said_in call names c.in_ok-clone.ensures.cases) ∙ named some c.args.counter name in (
       opened_seen texts c.in-Some.opened,
@@ -37,10 +38,12 @@ returns-clause-call c = λ texts kept.
     let locals = replaced.texts c.in-Some.opened.locals.items in
     let some = replaced.texts c.in_ok-arguments.arguments.items in
     let names = c.args.called.now.names.value in
-    let call : Call = record { names = record { names = c.in_ok-clone.field-0; arguments = c.in_ok-arguments.arguments; counter = counter }; varying = c.in_ok-varying.varying; plain = c.are_plain-plain.result } in
+    let call : Call = record { names = record { names = c.in_ok-clone.field-0; arguments = c.in_ok-arguments.arguments; counter = counter }; varying = c.in_ok-varying.varying; plain = c.plain_to-plain.result } in
     let named = subst (λ o. AreNames parameters o names) c.in-Some.is kept.1 in
     let varies = subst (λ o. VariesIn texts names o c.args.called.now.varying.value) c.in-Some.is kept.2 in
     let fits : counter + length locals < 2 ^ 64 = omega (arith, c.in-Some-checked_add.ensures, c.len.ensures, c.in-Some.opened.locals.ok, length-map c.in-Some.opened.locals.items (λ text. text.items)) in
-    let are : c.are_plain-plain.result ≡ are_plain parameters some = c.are_plain-plain.ensures ∙ ap (λ ps. are_plain (replaced.texts ps) (replaced.texts c.deref-2.result.now)) c.deref.ensures.value ∙ ap (λ qs. are_plain parameters (replaced.texts qs)) c.deref-2.ensures.value in
+    let are : (s : Sign) → are_plain s (replaced.texts c.deref.result.now) (replaced.texts c.deref-2.result.now) ≡ are_plain s parameters some = λ s. ap (λ ps. are_plain s (replaced.texts ps) (replaced.texts c.deref-2.result.now)) c.deref.ensures.value ∙ ap (λ qs. are_plain s parameters (replaced.texts qs)) c.deref-2.ensures.value in
+    let plain : (s : Sign) → are_plain s (replaced.texts c.deref.result.now) (replaced.texts c.deref-2.result.now) ≡ true → ArePlain s (in_call names some counter) =
+    λ s yes. plain_alike s (in_call names some counter) (arguments_of parameters some ++ local_names counter locals) (named some counter) (plain_call s parameters some counter locals fits (sym (are s) ∙ yes)) in
     call_of texts call names c.args.called.now.varying.value some counter (said_in call names c.in_ok-clone.ensures.cases)
-    (λ plain. plain_alike (in_call names some counter) (arguments_of parameters some ++ local_names counter locals) (named some counter) (plain_call parameters some counter locals fits (sym are ∙ plain))) varies.2 c.in_ok-varying.ensures.cases
+    (λ yes. plain Sign.Word (sym c.plain_to-plain.ensures.word ∙ yes)) (λ yes. plain Sign.Second (sym c.plain_to-plain.ensures.second ∙ yes)) varies.2 c.in_ok-varying.ensures.cases
