@@ -28,11 +28,11 @@ pub enum Settled {
 
 impl Settled {
     /// The same, its items so kept that other expressions may have them.
-    pub(crate) fn to_share(self, alloc: Global) -> Result<Settled, AllocError>
+    pub(crate) fn into_shared(self, alloc: Global) -> Result<Settled, AllocError>
         ensures { IfOk result (λ shared. shared ≡ self) }
     {
         match self {
-            Settled::Known(expr) => Ok(Settled::Known(expr.to_share(alloc)?)),
+            Settled::Known(expr) => Ok(Settled::Known(expr.into_shared(alloc)?)),
             Settled::Unknown(what) => Ok(Settled::Unknown(what)),
         }
     }

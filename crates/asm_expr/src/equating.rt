@@ -32,7 +32,7 @@ pub fn equate(alloc: Global, parsed: &Tree, names: &Names) -> Result<Meaning, Ex
     let settled = settle(alloc, parsed, names)?;
     if !is_constant(parsed, names) {
         let size = size(parsed, names);
-        let shared = settled.to_share(alloc)?;
+        let shared = settled.into_shared(alloc)?;
         return Ok(Meaning::Equ(Equated {
             settled: shared,
             size,

@@ -150,12 +150,12 @@ impl Expr {
     }
 
     /// The same expression, so kept that others may have its items.
-    pub(crate) fn to_share(self, alloc: Global) -> Result<Expr, AllocError>
+    pub(crate) fn into_shared(self, alloc: Global) -> Result<Expr, AllocError>
         ensures { IfOk result (λ shared. shared ≡ self) }
     {
         let Expr { items } = self;
         Ok(Expr {
-            items: items.to_share(alloc)?,
+            items: items.into_shared(alloc)?,
         })
     }
 
@@ -234,7 +234,7 @@ pub fn value(expr: &Expr, places: &[u16]) -> u16
     ensures { result ≡ value (λ r. slice_index places.now r) (tree expr.now) }
 {
     match expr.side_by_side() {
-        Some(items) => value_of(items, places),
+        Some(list) => value_of(list, places),
         None => value_gathered(expr, places),
     }
 }
@@ -248,15 +248,16 @@ fn is_within(item: &Item<Atom>, count: usize) -> bool
     }
 }
 
+/// Whether all refs are below a count.
 fn are_within(items: &[Item<Atom>], count: usize) -> bool
     ensures { result ≡ list_all (is_within count) items.now }
 {
     items.iter().all(|item| is_within(item, count))
 }
 
-/// The same of an expression whose items do not lie side by side.
+/// Whether all refs of an expression whose items do not lie side by side are.
 #[inline(never)]
-fn is_within_gathered(expr: &Expr, count: usize) -> bool
+fn are_within_gathered(expr: &Expr, count: usize) -> bool
     ensures { result ≡ list_all (is_within count) expr.now }
 {
     are_within(items(expr, &mut Room::new()), count)
@@ -267,8 +268,8 @@ pub fn has_places(expr: &Expr, count: usize) -> bool
     ensures { IsTrue result ↔ All (λ r. r < count) (refs expr.now) }
 {
     match expr.side_by_side() {
-        Some(items) => are_within(items, count),
-        None => is_within_gathered(expr, count),
+        Some(list) => are_within(list, count),
+        None => are_within_gathered(expr, count),
     }
 }
 

@@ -22,10 +22,11 @@ pub(crate) enum Piece {
 #[derive(Debug, Drop)]
 pub(crate) enum Kept {
     One([Item<Atom>; 1]),
+    /// A list that no other expression has.
     Many(Vec<Item<Atom>>),
-    /// Those of an EQU's expression.
+    /// The list of an EQU's expression.
     Shared(Rc<Vec<Item<Atom>>>),
-    /// Some of them those of EQU names' expressions.
+    /// Some of them are those of EQU names' expressions.
     Pieces(Vec<Piece>),
 }
 
@@ -47,6 +48,17 @@ impl Piece {
     }
 }
 
+/// The items of some pieces, in order, as a list of its own.
+fn joined(alloc: Global, pieces: &[Piece]) -> Result<Vec<Item<Atom>>, AllocError>
+    ensures { IfOk result (λ items. items.items ≡ flat_map items_in pieces.now) }
+{
+    let mut items = Vec::with_capacity(alloc, MOST_ITEMS)?;
+    for piece in pieces {
+        items.extend_from_slice(piece.items())?;
+    }
+    Ok(items)
+}
+
 impl Kept {
     /// The items, in order, where they lie side by side.
     pub(crate) fn side_by_side(&self) -> Option<&[Item<Atom>]>
@@ -59,22 +71,9 @@ impl Kept {
             Kept::Pieces(_) => None,
         }
     }
-}
 
-/// The items of some pieces, in order, as a list of its own.
-fn joined(alloc: Global, pieces: &[Piece]) -> Result<Vec<Item<Atom>>, AllocError>
-    ensures { IfOk result (λ items. items.items ≡ flat_map items_in pieces.now) }
-{
-    let mut items = Vec::new(alloc);
-    for piece in pieces {
-        items.extend_from_slice(piece.items())?;
-    }
-    Ok(items)
-}
-
-impl Kept {
     /// The same items, so kept that other expressions may have them.
-    pub(crate) fn to_share(self, alloc: Global) -> Result<Kept, AllocError>
+    pub(crate) fn into_shared(self, alloc: Global) -> Result<Kept, AllocError>
         ensures { IfOk result (λ shared. kept shared ≡ kept self) }
     {
         match self {
@@ -86,7 +85,7 @@ impl Kept {
 }
 
 impl Room {
-    /// Room in which nothing stands.
+    /// Room into which nothing is written yet.
     pub fn new() -> Room {
         Room {
             items: [Item::Leaf(Atom::Number(0)); MOST_ITEMS],

@@ -9,6 +9,7 @@ ghost use Rattle.asm_expr.specs.Postfix.{source, spread, tree};
 ghost use Rattle.asm_parse.specs.Source.{operand, source_item};
 ghost use Rattle.asm_expr.specs.Names.{AreCounted, items_of};
 ghost use Rattle.asm_expr.specs.Arithmetic.{binary};
+ghost use Rattle.asm_expr.specs.Items.{IsExpr};
 ghost use Rattle.asm_expr.specs.Settling.{both, distance_of, is_known, known_item, size_of, standing};
 ghost use Rattle.asm_expr.specs.Private.Steps.{arity};
 ghost use Rattle.asm_expr.specs.Private.Folding.{Folds, IsReduced, difference_of, fold_all, fold_one, folded_binary, folded_unary, item_fault, item_size, items_for, leaf_of, prefixed, single_of, worth_of};
@@ -214,6 +215,32 @@ fn known_item(item: Item<Atom>) -> Item<Part>
 }
 
 /// The items of an expression behind items that are reduced.
+fn take_items(out: &mut Parts, items: &[Item<Atom>], names: &Names) -> Result<(), ExprFault>
+    requires expr { IsExpr items.now }
+    requires room { length out.old + length items.now ≤ MOST_ITEMS }
+    ensures most { IfOk result (λ _. length out.new ≤ length out.old + length items.now) }
+    ensures folds { (before : List (Expression Part)) → out.old ≡ spread before →
+        Folds (fold_all names.now (map known_item items.now) before) result out.new }
+{
+    for item in items {
+        fold(out, known_item(*item), names)?;
+    }
+    Ok(())
+}
+
+/// Those of an expression whose items do not lie side by side.
+#[inline(never)]
+fn take_gathered(out: &mut Parts, expr: &Expr, names: &Names) -> Result<(), ExprFault>
+    requires room { length out.old + length expr.now ≤ MOST_ITEMS }
+    ensures whole { postfix (tree expr.now) ≡ expr.now }
+    ensures most { IfOk result (λ _. length out.new ≤ length out.old + length expr.now) }
+    ensures folds { (before : List (Expression Part)) → out.old ≡ spread before →
+        Folds (fold_all names.now (map known_item expr.now) before) result out.new }
+{
+    take_items(out, items(expr, &mut Room::new()), names)
+}
+
+/// Those of any expression.
 fn take_expr(out: &mut Parts, expr: &Expr, names: &Names) -> Result<(), ExprFault>
     requires room { length out.old + length expr.now ≤ MOST_ITEMS }
     ensures whole { postfix (tree expr.now) ≡ expr.now }
@@ -221,11 +248,10 @@ fn take_expr(out: &mut Parts, expr: &Expr, names: &Names) -> Result<(), ExprFaul
     ensures folds { (before : List (Expression Part)) → out.old ≡ spread before →
         Folds (fold_all names.now (map known_item expr.now) before) result out.new }
 {
-    let mut room = Room::new();
-    for item in items(expr, &mut room) {
-        fold(out, known_item(*item), names)?;
+    match expr.side_by_side() {
+        Some(list) => take_items(out, list, names),
+        None => take_gathered(out, expr, names),
     }
-    Ok(())
 }
 
 /// A leaf behind items that are reduced, which has no fault.

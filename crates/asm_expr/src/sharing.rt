@@ -1,6 +1,6 @@
 //! Items of EQU names' expressions, which the expressions that name them have in common.
 
-ghost use Rattle.std.specs.Prelude.{◌≡◌, ◌<◌, ◌≤◌, ◌++◌, IfErr, IfOk, Some, length, drop, true};
+ghost use Rattle.std.specs.Prelude.{◌≡◌, ◌<◌, IfOk, Some, length, true};
 ghost use Rattle.std.specs.List.{flat_map};
 ghost use Rattle.std.specs.Option.{option_map};
 ghost use Rattle.asm_expr.specs.Kept.{items_in, kept};
@@ -62,7 +62,7 @@ impl<'a> Lists<'a> {
 }
 
 /// The item of an object that this is; None where it has no value.
-pub(crate) fn item_known(item: &Item<Part>) -> Option<Item<Atom>>
+fn item_known(item: &Item<Part>) -> Option<Item<Atom>>
     ensures { result ≡ item_known item.now }
 {
     match item {
@@ -150,10 +150,9 @@ fn pieces_of<'a>(
 }
 
 /// Pieces as they are kept: one alone needs no list.
-fn of_pieces(pieces: Vec<Piece>) -> Kept
+fn of_pieces(mut pieces: Vec<Piece>) -> Kept
     ensures { kept result ≡ flat_map items_in pieces.items }
 {
-    let mut pieces = pieces;
     if pieces.len() != 1 {
         return Kept::Pieces(pieces);
     }
@@ -178,8 +177,14 @@ fn items_known(alloc: Global, items: &[Item<Part>]) -> Result<Option<Vec<Item<At
     Ok(Some(known))
 }
 
-/// What a tree is settled to, as it is kept; None where an item has no value. Where there are more items than in the tree, they
-/// have those of EQU names in them.
+/// Whether the items of EQU names are to be shared: the tree is a name alone, or a piece for each of its items takes less than the
+/// items, of which a piece is as long as two or three.
+fn is_shared(parsed: &Tree, items: &[Item<Part>]) -> bool {
+    let few = parsed.items().len();
+    few == 1 || items.len() / 3 > few
+}
+
+/// What a tree is settled to, as it is kept; None where an item has no value.
 pub(crate) fn kept_of(
     alloc: Global,
     parsed: &Tree,
@@ -188,7 +193,10 @@ pub(crate) fn kept_of(
 ) -> Result<Option<Kept>, AllocError>
     ensures { IfOk result (λ answer. option_map kept answer ≡ items_known items.now) }
 {
-    if items.len() > parsed.items().len() {
+    if let [item] = items {
+        return Ok(item_known(item).map(|alone| Kept::One([alone])));
+    }
+    if is_shared(parsed, items) {
         Ok(pieces_of(alloc, parsed, names, items)?.map(of_pieces))
     } else {
         Ok(items_known(alloc, items)?.map(Kept::Many))

@@ -45,7 +45,7 @@ pub(crate) fn number(expr: &Expr) -> Option<u16>
     ensures { result ≡ number expr.now }
 {
     match expr.side_by_side() {
-        Some(items) => number_of(items),
+        Some(list) => number_of(list),
         None => number_gathered(expr),
     }
 }

@@ -61,6 +61,19 @@ pub(crate) fn report_made<W: Write>(
     }
 }
 
+/// How an expression is kept.
+pub(crate) fn report_kept<W: Write>(
+    alloc: Global,
+    out: &mut W,
+    text: &[u8],
+    names: &Names,
+) -> Result<(), anyhow::Error> {
+    match made(alloc, text, names)? {
+        Answer::Expr(expr) => Ok(write!(out, "{expr:?}")?),
+        _ => Err(anyhow::anyhow!("no expression where one was wanted")),
+    }
+}
+
 /// What an expression is worth where the statements stand at five places.
 pub(crate) fn report_value<W: Write>(
     alloc: Global,

@@ -8,7 +8,7 @@ mod answer;
 mod items;
 mod tables;
 
-use answer::{report_made, report_offset, report_value};
+use answer::{report_kept, report_made, report_offset, report_value};
 use asm_expr::{Names, Tree, is_constant, parse};
 use asm_scan::tokens;
 use items::report_items;
@@ -63,6 +63,7 @@ fn report<W: Write>(
     let names = table(alloc, number)?;
     match line {
         [b'@', text @ ..] => report_value(alloc, out, text, &names),
+        [b'&', text @ ..] => report_kept(alloc, out, text, &names),
         [b'>', text @ ..] => report_offset(alloc, out, text, &names),
         [b'%', text @ ..] => report_constant(alloc, out, text, &names),
         [b'=', text @ ..] => report_equ(alloc, out, text, names),

@@ -99,7 +99,7 @@ fn five(alloc: Global) -> Result<Names, anyhow::Error> {
 }
 
 /// That module with names that EQU gives: a fixed one, a constant, a place, five copies of the first two, a distance that varies,
-/// and twice that.
+/// twice that, and twice that again.
 fn five_with_equs(alloc: Global) -> Result<Names, anyhow::Error> {
     with_equs(
         alloc,
@@ -112,6 +112,7 @@ fn five_with_equs(alloc: Global) -> Result<Names, anyhow::Error> {
             (b"FIVES", b"FIVE+FIVE+FIVE+FIVE+FIVE"),
             (b"REACH", b"V-X"),
             (b"TWICE", b"REACH+REACH"),
+            (b"FOUR", b"TWICE+TWICE"),
         ],
     )
 }

@@ -78,7 +78,7 @@ fn items_len(items: &[Item<Atom>]) -> usize
     len
 }
 
-/// Puts the items of an expression behind a text, and before them the number of their bytes in one byte.
+/// Puts items behind a text, and before them the number of their bytes in one byte.
 fn put_items(text: &mut Vec<u8>, items: &[Item<Atom>]) -> Result<(), AllocError>
     requires { length items.now ≤ MOST_ITEMS }
     ensures { OnOk result (text.new.items ≡ text.old.items ++ counted (expr_text items.now)) }
@@ -90,12 +90,20 @@ fn put_items(text: &mut Vec<u8>, items: &[Item<Atom>]) -> Result<(), AllocError>
     Ok(())
 }
 
+/// Those of an expression whose items do not lie side by side. Few are such, and the room for its items takes time to make.
+#[inline(never)]
+fn put_gathered(text: &mut Vec<u8>, expr: &Expr) -> Result<(), AllocError>
+    ensures { OnOk result (text.new.items ≡ text.old.items ++ counted (expr_text expr.now)) }
+{
+    put_items(text, items(expr, &mut Room::new()))
+}
+
 /// Puts an expression behind a text: its items, and before them the number of their bytes in one byte.
 pub fn put_expr(text: &mut Vec<u8>, expr: &Expr) -> Result<(), AllocError>
     ensures { OnOk result (text.new.items ≡ text.old.items ++ counted (expr_text expr.now)) }
 {
     match expr.side_by_side() {
-        Some(items) => put_items(text, items),
-        None => put_items(text, items(expr, &mut Room::new())),
+        Some(list) => put_items(text, list),
+        None => put_gathered(text, expr),
     }
 }

@@ -23,7 +23,7 @@ pub struct Hole {
 }
 
 /// Whether items end in HIGH or LOW.
-fn are_of_byte(items: &[Item<Atom>]) -> bool
+fn end_in_byte(items: &[Item<Atom>]) -> bool
     ensures { result ≡ ends_in_byte items.now }
 {
     matches!(items.last(), Some(Item::Unary(Unary::High | Unary::Low)))
@@ -34,7 +34,7 @@ fn are_of_byte(items: &[Item<Atom>]) -> bool
 fn ends_in_byte_gathered(expr: &Expr) -> bool
     ensures { result ≡ ends_in_byte expr.now }
 {
-    are_of_byte(items(expr, &mut Room::new()))
+    end_in_byte(items(expr, &mut Room::new()))
 }
 
 /// Whether HIGH or LOW is the outermost operator, as it has to be where a byte hangs on places.
@@ -42,7 +42,7 @@ pub fn ends_in_byte(expr: &Expr) -> bool
     ensures { result ≡ ends_in_byte expr.now }
 {
     match expr.side_by_side() {
-        Some(items) => are_of_byte(items),
+        Some(list) => end_in_byte(list),
         None => ends_in_byte_gathered(expr),
     }
 }
