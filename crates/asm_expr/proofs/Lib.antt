@@ -1,4 +1,5 @@
 mod Lacking
+pub mod Staying
 pub mod Begun
 pub mod Gathered
 pub mod Postfix

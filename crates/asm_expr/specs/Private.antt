@@ -6,3 +6,4 @@ pub mod Entries
 pub mod Answers
 pub mod Heads
 pub mod Sharing
+pub mod Staying
