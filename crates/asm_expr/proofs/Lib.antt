@@ -1,5 +1,4 @@
 mod Lacking
-pub mod Staying
 pub mod Begun
 pub mod Gathered
 pub mod Postfix

@@ -6,4 +6,3 @@ pub mod Entries
 pub mod Answers
 pub mod Heads
 pub mod Sharing
-pub mod Staying

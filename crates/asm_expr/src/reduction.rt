@@ -12,7 +12,6 @@ ghost use Rattle.asm_expr.specs.Arithmetic.{binary};
 ghost use Rattle.asm_expr.specs.Items.{IsExpr};
 ghost use Rattle.asm_expr.specs.Settling.{both, distance_of, is_known, known_item, size_of, standing};
 ghost use Rattle.asm_expr.specs.Private.Steps.{arity};
-ghost use Rattle.asm_expr.specs.Private.Staying.{all_stay, stays};
 ghost use Rattle.asm_expr.specs.Private.Folding.{Folds, IsReduced, difference_of, fold_all, fold_one, folded_binary, folded_unary, item_fault, item_size, items_for, leaf_of, prefixed, single_of, worth_of};
 
 use crate::answer::Settled;
@@ -229,63 +228,6 @@ fn take_items(out: &mut Parts, items: &[Item<Atom>], names: &Names) -> Result<()
     Ok(())
 }
 
-/// Whether an item behind two others, the last ones that are read, stays as it is: it is no operator that has a fault or becomes a
-/// number.
-fn stays(names: &Names, left: &Item<Part>, right: &Item<Part>, item: &Item<Part>) -> bool
-    ensures { result ≡ stays names.now left.now right.now item.now }
-{
-    match item {
-        Item::Leaf(_) => true,
-        Item::Unary(op) => leaf_of(folded_unary(*op, right)).is_none(),
-        Item::Binary(op) => item_fault(*op, right).is_none()
-            && leaf_of(folded_binary(names, *op, left, right)).is_none(),
-    }
-}
-
-/// Whether all of some items stay as they are.
-fn all_stay(items: &[Item<Atom>], names: &Names) -> bool
-    ensures { result ≡ all_stay names.now (Item.Leaf (Part.Number 0)) (Item.Leaf (Part.Number 0)) (map known_item items.now) }
-{
-    let mut left = Item::Leaf(Part::Number(0));
-    let mut right = Item::Leaf(Part::Number(0));
-    for item in items {
-        let item = known_item(*item);
-        if !stays(names, &left, &right, &item) {
-            return false;
-        }
-        left = right;
-        right = item;
-    }
-    true
-}
-
-/// Items behind others as they are.
-fn append(out: &mut Parts, items: &[Item<Atom>])
-    requires { length out.old + length items.now ≤ MOST_ITEMS }
-    ensures { out.new ≡ out.old ++ map known_item items.now }
-{
-    for item in items {
-        out.push(known_item(*item));
-    }
-}
-
-/// The items of an expression behind items that are reduced: mostly they are reduced already, since the names of a source are
-/// settled with the places of its statements.
-fn take_list(out: &mut Parts, items: &[Item<Atom>], names: &Names) -> Result<(), ExprFault>
-    requires expr { IsExpr items.now }
-    requires room { length out.old + length items.now ≤ MOST_ITEMS }
-    ensures most { IfOk result (λ _. length out.new ≤ length out.old + length items.now) }
-    ensures folds { (before : List (Expression Part)) → out.old ≡ spread before →
-        Folds (fold_all names.now (map known_item items.now) before) result out.new }
-{
-    if all_stay(items, names) {
-        append(out, items);
-        Ok(())
-    } else {
-        take_items(out, items, names)
-    }
-}
-
 /// Those of an expression whose items do not lie side by side.
 #[inline(never)]
 fn take_gathered(out: &mut Parts, expr: &Expr, names: &Names) -> Result<(), ExprFault>
@@ -307,7 +249,7 @@ fn take_expr(out: &mut Parts, expr: &Expr, names: &Names) -> Result<(), ExprFaul
         Folds (fold_all names.now (map known_item expr.now) before) result out.new }
 {
     match expr.side_by_side() {
-        Some(list) => take_list(out, list, names),
+        Some(list) => take_items(out, list, names),
         None => take_gathered(out, expr, names),
     }
 }
