@@ -31,7 +31,7 @@ abbrev pub WeighAlike : Table → Table → (ℕ → Type 0) → Type 0
 WeighAlike t u P = (e : Expression Part) → Places P e → worth t e ≡ worth u e
 
 module _ (t u : Table) (P : ℕ → Type 0) (weigh : WeighAlike t u P) where
-  same_reduced : (e : Expression Part) → Places P e → reduced t e ≡ reduced u e
+  pub same_reduced : (e : Expression Part) → Places P e → reduced t e ≡ reduced u e
   same_reduced (Leaf part) p = refl
   same_reduced (Prefix op a) p =
       ap (λ x. leaf_or (Prefix op x) (worth t (Prefix op a))) (same_reduced a p) ∙ ap (leaf_or (Prefix op (reduced u a))) (weigh (Prefix op a) p)
@@ -43,7 +43,7 @@ module _ (t u : Table) (P : ℕ → Type 0) (weigh : WeighAlike t u P) where
   same_division : (op : Binary) (b : Expression Part) → Places P b → division_fault t op b ≡ division_fault u op b
   same_division op b p = ap (λ w. if divides op then divisor_fault w else None) (weigh b p)
 
-  same_divisions : (e : Expression Part) → Places P e → divisions_fault t e ≡ divisions_fault u e
+  pub same_divisions : (e : Expression Part) → Places P e → divisions_fault t e ≡ divisions_fault u e
   same_divisions (Leaf part) p = refl
   same_divisions (Prefix op a) p = same_divisions a p
   same_divisions (Infix op a b) p =

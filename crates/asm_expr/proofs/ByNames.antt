@@ -18,11 +18,11 @@ use Rattle.asm_expr.specs.Equating.{equated}
 use Rattle.asm_expr.proofs.Alike.{AreAlike, equated_alike, same_constant, same_replaced, settled_alike}
 use Rattle.asm_expr.proofs.Origins.{Places}
 
-abbrev Anything : ℕ → Type 0
+abbrev pub Anything : ℕ → Type 0
 Anything r = Unit {0}
 
 -- every place is one
-all_places : (e : Expression Part) → Places Anything e
+pub all_places : (e : Expression Part) → Places Anything e
 all_places (Leaf (Part.Number n)) = tt
 all_places (Leaf (Part.Ref r)) = tt
 all_places (Leaf (Part.Unknown what)) = tt
@@ -43,7 +43,7 @@ module _ (t u : Table) (same : t.statements ≡ u.statements) where
   differ Binary.Subtract a b = apart (single a) (single b)
   differ op a b = refl
 
-  weigh : (e : Expression Part) → Places Anything e → worth t e ≡ worth u e
+  pub weigh : (e : Expression Part) → Places Anything e → worth t e ≡ worth u e
   weigh (Leaf (Part.Number n)) p = refl
   weigh (Leaf (Part.Ref r)) p = refl
   weigh (Leaf (Part.Unknown what)) p = refl

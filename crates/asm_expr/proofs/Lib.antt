@@ -27,4 +27,5 @@ pub mod Alike
 pub mod Anywhere
 pub mod ByNames
 pub mod Worths
+pub mod Again
 pub mod Valued

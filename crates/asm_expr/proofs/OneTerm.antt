@@ -13,7 +13,7 @@ use Rattle.asm_expr.specs.Postfix.{source}
 use Rattle.asm_expr.specs.Settling.{divisions_fault, first, items_known, meant, reduced, settled, settled_as, size_meant, too_large, unknown_of, unless_fault}
 
 -- what is answered of a name that stands for this
-abbrev answered : Table → Option Meaning → Result Settled ExprFault
+abbrev pub answered : Table → Option Meaning → Result Settled ExprFault
 answered t m = unless_fault (first (too_large (0 + size_meant m)) (divisions_fault t (meant m))) (settled_as (items_known (postfix (reduced t (meant m)))) (unknown_of (reduced t (meant m))))
 
 by_meaning : (t : Table) (m : Option Meaning) (a : Atom) → atom_meant m ≡ Some a → answered t m ≡ Ok (Settled.Known (Item.Leaf a ∷ []))

@@ -140,7 +140,7 @@ settling_step : (t : Table) (items : List (Item Operand)) (k size : ℕ) (d : It
     (fold_all t (items_for t (get_or items k d)) now >>= λ after. settling t (drop (k + 1) items) (size + item_size t (get_or items k d)) after)
 settling_step t items k size d now h = at_drop_more (λ is. settling t is size now) items k d h
 
-not_large : (n : ℕ) → n ≤ 64 → too_large n ≡ None
+pub not_large : (n : ℕ) → n ≤ 64 → too_large n ≡ None
 not_large n h = ap (λ b. if b then Some ExprFault.TooLarge else None) (le-ltb 64 n h)
 
 large : (n : ℕ) → 64 < n → too_large n ≡ Some ExprFault.TooLarge

@@ -2,6 +2,7 @@
 pub mod Steps
 pub mod Sums
 pub mod Folding
+pub mod Left
 pub mod Entries
 pub mod Answers
 pub mod Heads

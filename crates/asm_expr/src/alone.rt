@@ -1,6 +1,7 @@
 //! Expressions of one term, which most are.
 
-ghost use Rattle.std.specs.Prelude.{◌≡◌, ◌∷◌, [], ℕ, Ok, Some};
+ghost use Rattle.std.specs.Prelude.{◌≡◌, ◌∷◌, [], ℕ, IfSome, Ok, Some};
+ghost use Rattle.std.specs.Option.{option_map};
 ghost use Rattle.asm_parse.specs.declared.item.Item.{Item};
 ghost use Rattle.asm_parse.specs.Source.{operand};
 ghost use Rattle.asm_expr.specs.declared.atom.Atom.{Atom};
@@ -8,8 +9,10 @@ ghost use Rattle.asm_expr.specs.declared.answer.Settled.{Settled};
 ghost use Rattle.asm_expr.specs.Alone.{atom_alone, atom_of, number_alone};
 ghost use Rattle.asm_expr.specs.Postfix.{source};
 ghost use Rattle.asm_expr.specs.Settling.{settled};
+ghost use Rattle.asm_expr.specs.Private.Left.{IsLeftOperand, operand_alone};
 
 use crate::atom::Atom;
+use crate::expr::Expr;
 use crate::meaning::Meaning;
 use crate::names::Names;
 use asm_parse::{Item, Term, Tree};
@@ -36,6 +39,36 @@ pub(crate) fn atom_alone(parsed: &Tree, names: &Names) -> Option<Atom>
     match parsed.items() {
         [Item::Leaf(term)] => atom_of(term, names),
         _ => None,
+    }
+}
+
+/// The expression for which a term stands, where settling leaves it as it is.
+fn left_of<'a>(term: &Term, names: &'a Names) -> Option<&'a Expr>
+    ensures { IfSome result (λ expr. IsLeftOperand names.now (operand term.now) expr.now) }
+{
+    match term {
+        Term::Name(name) => names.left(name),
+        _ => None,
+    }
+}
+
+/// The term that an expression of one term is.
+fn term_alone(parsed: &Tree) -> Option<&Term>
+    ensures { option_map (λ term. operand term.now) result ≡ operand_alone parsed.now }
+{
+    match parsed.items() {
+        [Item::Leaf(term)] => Some(term),
+        _ => None,
+    }
+}
+
+/// The expression for which an expression of one term stands, where settling leaves it as it is.
+pub(crate) fn left_alone<'a>(parsed: &Tree, names: &'a Names) -> Option<&'a Expr>
+    ensures settled { IfSome result (λ expr. settled names.now (source parsed.now) ≡ Ok (Settled.Known expr.now)) }
+{
+    match term_alone(parsed) {
+        Some(term) => left_of(term, names),
+        None => None,
     }
 }
 

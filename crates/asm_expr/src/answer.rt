@@ -1,13 +1,14 @@
 //! What names make of an expression: the items of an object.
 
-ghost use Rattle.std.specs.Prelude.{◌≡◌, ◌⊎◌, Err, IfOk};
+ghost use Rattle.std.specs.Prelude.{◌≡◌, ◌⊎◌, Ok, Err, IfOk, IfSome};
 ghost use Rattle.std.specs.List.{AllPass};
 ghost use Rattle.asm_parse.specs.declared.fault.ExprFault.{ExprFault};
+ghost use Rattle.asm_expr.specs.declared.answer.Settled.{Settled};
 ghost use Rattle.asm_expr.specs.Postfix.{source};
 ghost use Rattle.asm_expr.specs.Settling.{IsWorthOf, is_known, settled};
 ghost use Rattle.asm_expr.specs.Private.Folding.{unknown_at_end};
 
-use crate::alone::atom_alone;
+use crate::alone::{atom_alone, left_alone};
 use crate::expr::Expr;
 use crate::names::Names;
 use crate::part::Part;
@@ -49,6 +50,16 @@ fn unknown_of(items: &[Item<Part>]) -> Unknown
     }
 }
 
+/// What the names make of an expression of one term that settling leaves as it is, if others may have its items; else None.
+fn settle_again(parsed: &Tree, names: &Names) -> Result<Option<Expr>, AllocError>
+    ensures { IfOk result (λ answer. IfSome answer (λ expr. settled names.now (source parsed.now) ≡ Ok (Settled.Known expr))) }
+{
+    match left_alone(parsed, names) {
+        Some(expr) => expr.again(),
+        None => Ok(None),
+    }
+}
+
 /// What the names make of an expression of any number of terms.
 fn settle_items(alloc: Global, parsed: &Tree, names: &Names) -> Result<Settled, ExprFault>
     requires { AllPass (is_known names.now) parsed.now }
@@ -83,6 +94,9 @@ pub fn settle(alloc: Global, parsed: &Tree, names: &Names) -> Result<Settled, Ex
     names.counted();
     match atom_alone(parsed, names) {
         Some(atom) => Ok(Settled::Known(Expr::leaf(atom))),
-        None => settle_items(alloc, parsed, names),
+        None => match settle_again(parsed, names)? {
+            Some(expr) => Ok(Settled::Known(expr)),
+            None => settle_items(alloc, parsed, names),
+        },
     }
 }

@@ -159,6 +159,18 @@ impl Expr {
         })
     }
 
+    /// The same expression once more, where its items are so kept that others may have them; else None.
+    pub(crate) fn again(&self) -> Result<Option<Expr>, AllocError>
+        ensures { IfOk result (λ answer. IfSome answer (λ expr. expr ≡ self.now)) }
+    {
+        match &self.items {
+            Kept::Shared(items) => Ok(Some(Expr {
+                items: Kept::Shared(Rc::clone(items)?),
+            })),
+            _ => Ok(None),
+        }
+    }
+
     /// The items in postfix order, where they are so kept that other expressions may have them.
     pub(crate) fn shared(&self) -> Option<&Rc<Vec<Item<Atom>>>> {
         match &self.items {

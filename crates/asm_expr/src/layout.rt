@@ -87,6 +87,13 @@ impl Layout {
         })
     }
 
+    /// How many statements there are.
+    pub(crate) fn len(&self) -> usize
+        ensures { result ≡ length self.now }
+    {
+        self.passed.len()
+    }
+
     /// Passes a statement.
     pub(crate) fn pass(&mut self, statement: Statement) -> Result<(), AllocError>
         ensures ok { OnOk result (self.new ≡ self.old ++ statement ∷ []) }

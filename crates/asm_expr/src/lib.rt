@@ -11,6 +11,7 @@ mod here;
 mod kept;
 pub mod laws;
 mod layout;
+mod left;
 mod meaning;
 mod names;
 mod part;

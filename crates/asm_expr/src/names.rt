@@ -1,11 +1,16 @@
 //! What the names of a module stand for, and where its statements lie.
 
-ghost use Rattle.std.specs.Prelude.{◌≡◌, IfOk, None, OnOk, OnErr, option_copied};
+ghost use Rattle.std.specs.Prelude.{◌≡◌, IfOk, IfSome, None, OnOk, OnErr, option_copied};
 ghost use Rattle.asm_expr.specs.declared.statement.Statement.{Statement};
 ghost use Rattle.asm_expr.specs.Distances.{distance, some_distance};
 ghost use Rattle.asm_expr.specs.Names.{AreCounted, IsCounted, empty, found, with_meaning, with_statement};
+ghost use Rattle.asm_expr.specs.Private.Entries.{Knows};
+ghost use Rattle.asm_expr.specs.Private.Left.{IsLeftName};
 
+use crate::answer::Settled;
+use crate::expr::{Expr, MOST_ITEMS};
 use crate::layout::Layout;
+use crate::left::is_left;
 use crate::meaning::Meaning;
 use crate::statement::Statement;
 use crate::worth::Worth;
@@ -14,23 +19,31 @@ use name_key::NameKey;
 use std::alloc::{AllocError, Global};
 use std::marker::Model;
 
+/// What a name stands for.
+#[derive(Debug, Drop)]
+struct Entry {
+    meaning: Meaning,
+    /// How many statements had passed when it was found that settling leaves the name's expression as it is.
+    left_at: Option<usize>,
+}
+
 /// What the names of a module stand for, the place of `$`, and the statements in order. Clauses see the table.
 #[derive(Debug, Drop)]
 pub struct Names {
-    meanings: IndexMap<Vec<u8>, Meaning, NameKey>,
+    entries: IndexMap<Vec<u8>, Entry, NameKey>,
     here: u16,
     statements: Layout,
 }
 
 impl Model for Names {
     ghost use Rattle.asm_expr.specs.Names.{AreCounted, Table};
-    ghost use Rattle.asm_expr.specs.Private.Entries.{table_of};
+    ghost use Rattle.asm_expr.specs.Private.Entries.{AreKnown, table_of};
 
     ghost Value = { Table };
 
-    ghost view = { λ n. table_of n.meanings.entries n.here n.statements };
+    ghost view = { λ n. table_of n.entries.entries n.here n.statements };
 
-    ghost invariant = { λ n. AreCounted (table_of n.meanings.entries n.here n.statements) };
+    ghost invariant = { λ n. AreCounted (table_of n.entries.entries n.here n.statements) × AreKnown n.statements n.entries.entries };
 }
 
 impl Names {
@@ -46,7 +59,7 @@ impl Names {
         ensures { result ≡ empty }
     {
         Names {
-            meanings: IndexMap::with_hasher(alloc, key),
+            entries: IndexMap::with_hasher(alloc, key),
             here: 0,
             statements: Layout::new(alloc),
         }
@@ -62,7 +75,7 @@ impl Names {
         ensures { IfOk result (λ table. table ≡ empty) }
     {
         Ok(Names {
-            meanings: IndexMap::with_capacity_and_hasher(alloc, names, key)?,
+            entries: IndexMap::with_capacity_and_hasher(alloc, names, key)?,
             here: 0,
             statements: Layout::with_capacity(alloc, statements)?,
         })
@@ -76,8 +89,26 @@ impl Names {
         ensures ok { OnOk result (self.new ≡ with_meaning name.items meaning self.old) }
         ensures err { OnErr result (self.new ≡ self.old) }
     {
-        self.meanings.insert(name, meaning)?;
+        let left_at = self.left_at(&meaning);
+        self.entries.insert(name, Entry { meaning, left_at })?;
         Ok(())
+    }
+
+    /// How many statements have passed, if settling leaves the expression of this meaning as it is.
+    fn left_at(&self, meaning: &Meaning) -> Option<usize>
+        ensures { Knows self.now.statements meaning.now result }
+    {
+        let Meaning::Equ(equated) = meaning else {
+            return None;
+        };
+        let Settled::Known(expr) = &equated.settled else {
+            return None;
+        };
+        if is_left(expr, self) {
+            Some(self.statements.len())
+        } else {
+            None
+        }
     }
 
     /// The statement whose place is `$`, by its number.
@@ -129,7 +160,32 @@ impl Names {
     pub fn meaning(&self, name: &[u8]) -> Option<&Meaning>
         ensures { option_copied result ≡ found self.now name.now }
     {
-        self.meanings.get(name)
+        match self.entries.get(name) {
+            Some(entry) => Some(&entry.meaning),
+            None => None,
+        }
+    }
+
+    /// The expression for which an EQU's name stands, where settling that name leaves it as it is. None where that is not so,
+    /// or was not found out.
+    pub(crate) fn left(&self, name: &[u8]) -> Option<&Expr>
+        ensures { IfSome result (λ expr. IsLeftName self.now name.now expr.now) }
+    {
+        let entry = self.entries.get(name)?;
+        let Meaning::Equ(equated) = &entry.meaning else {
+            return None;
+        };
+        let Settled::Known(expr) = &equated.settled else {
+            return None;
+        };
+        let Some(count) = entry.left_at else {
+            return None;
+        };
+        if count == self.statements.len() && usize::from(equated.size) <= MOST_ITEMS {
+            Some(expr)
+        } else {
+            None
+        }
     }
 
     /// How far statement `p` lies behind statement `q`, modulo 65,536: as many bytes as the statements between them

@@ -240,8 +240,8 @@ fn take_gathered(out: &mut Parts, expr: &Expr, names: &Names) -> Result<(), Expr
     take_items(out, items(expr, &mut Room::new()), names)
 }
 
-/// Those of any expression.
-fn take_expr(out: &mut Parts, expr: &Expr, names: &Names) -> Result<(), ExprFault>
+/// The items of any expression behind items that are reduced.
+pub(crate) fn take_expr(out: &mut Parts, expr: &Expr, names: &Names) -> Result<(), ExprFault>
     requires room { length out.old + length expr.now ≤ MOST_ITEMS }
     ensures whole { postfix (tree expr.now) ≡ expr.now }
     ensures most { IfOk result (λ _. length out.new ≤ length out.old + length expr.now) }

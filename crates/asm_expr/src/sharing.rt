@@ -85,7 +85,7 @@ fn is_same(item: &Item<Part>, other: &Item<Atom>) -> bool
 }
 
 /// Whether some items begin with these.
-fn begins(items: &[Item<Part>], list: &[Item<Atom>]) -> bool
+pub(crate) fn begins(items: &[Item<Part>], list: &[Item<Atom>]) -> bool
     ensures { result ≡ true → Begins items.now list.now }
 {
     if items.len() < list.len() {

@@ -1,13 +1,30 @@
 -- The table that the code keeps in a map.
-use Rattle.std.specs.Prelude.{ℕ, List, map}
+use Rattle.std.specs.Prelude.{◌≤◌, ℕ, List, Option, Some, None, All, length, map, take}
 use Rattle.std.specs.declared.vec.Vec.{Vec}
+use Rattle.asm_expr.specs.declared.answer.Settled.{Settled}
 use Rattle.asm_expr.specs.declared.meaning.Meaning.{Meaning}
+use Rattle.asm_expr.specs.declared.names.Entry.{Entry}
 use Rattle.asm_expr.specs.declared.statement.Statement.{Statement}
-use Rattle.asm_expr.specs.Names.{Table}
+use Rattle.asm_expr.specs.Names.{Table, empty}
+use Rattle.asm_expr.specs.Private.Left.{IsLeft}
 
--- the entries of a map whose keys are bytes
-abbrev pub named : {A V : Type 0} → List (Vec ℕ A × V) → List (List ℕ × V)
-named entries = map (λ e. (e.0.items, e.1)) entries
+-- what each name stands for
+abbrev pub meant : {A : Type 0} → List (Vec ℕ A × Entry) → List (List ℕ × Meaning)
+meant entries = map (λ e. (e.0.items, e.1.meaning)) entries
 
-abbrev pub table_of : {A : Type 0} → List (Vec ℕ A × Meaning) → ℕ → List Statement → Table
-table_of entries here statements = record { entries = named entries; here = here; statements = statements }
+abbrev pub table_of : {A : Type 0} → List (Vec ℕ A × Entry) → ℕ → List Statement → Table
+table_of entries here statements = record { entries = meant entries; here = here; statements = statements }
+
+-- settling by some statements leaves an expression as it is
+abbrev pub IsLeftBy : List Statement → Settled → Type 0
+IsLeftBy statements (Settled.Known items) = IsLeft (record empty { statements = statements }) items
+IsLeftBy statements (Settled.Unknown what) = Unit {0}
+
+-- So it was found of a meaning's expression, when so many of the statements had passed.
+abbrev pub Knows : List Statement → Meaning → Option ℕ → Type 0
+Knows statements (Meaning.Equ equated) (Some n) = (n ≤ length statements) × IsLeftBy (take n statements) equated.settled
+Knows statements what (Some n) = Unit {0}
+Knows statements what None = Unit {0}
+
+abbrev pub AreKnown : {A : Type 0} → List Statement → List (Vec ℕ A × Entry) → Type 0
+AreKnown statements entries = All (λ e. Knows statements e.meaning e.left_at) (map (λ e. e.1) entries)

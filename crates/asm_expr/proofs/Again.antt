@@ -1,0 +1,89 @@
+-- Expressions that settling leaves as they are.
+use Rattle.std.proofs.Common.{◌≡◌, ◌+◌, ◌≤◌, ◌++◌, ◌∷◌, [], ℕ, List, Option, Some, None, Result, Ok, length, map, take, drop, refl, sym, ap, subst, ◌∙◌, arith, append-nil}
+use Rattle.std.proofs.lemmas.List.{at_drop_all}
+use Rattle.std.specs.Option.{option_map}
+use Rattle.asm_expr.specs.Types.{Item, Atom, ExprFault, Meaning, Settled, Statement}
+use Rattle.asm_expr.specs.declared.part.Part.{Part}
+use Rattle.asm_parse.specs.Expression.{Expression, postfix}
+use Rattle.asm_parse.specs.Source.{Operand, Name, Number, Here}
+use Rattle.asm_expr.specs.Items.{IsExpr}
+use Rattle.asm_expr.specs.Names.{Table}
+use Rattle.asm_expr.specs.Postfix.{source, spread, tree}
+use Rattle.asm_expr.specs.Settling.{divisions_fault, first, item_known, items_known, known, known_item, reduced, settled, settled_as, too_large, unknown_of, unless_fault}
+use Rattle.asm_expr.specs.Private.Folding.{Folds, fold_all, unless}
+use Rattle.asm_expr.specs.Private.Left.{IsLeft, IsLeftName, IsLeftOperand, IsReducedTree, operand_alone}
+use Rattle.asm_expr.specs.Private.Sharing.{Begins}
+use Rattle.asm_expr.proofs.Alike.{same_divisions, same_reduced}
+use Rattle.asm_expr.proofs.Answers.{items_back}
+use Rattle.asm_expr.proofs.ByNames.{Anything, all_places, weigh}
+use Rattle.asm_expr.proofs.Folds.{fold-whole}
+use Rattle.asm_expr.proofs.Known.{known-postfix}
+use Rattle.asm_expr.proofs.OneTerm.{answered}
+use Rattle.asm_expr.proofs.Postfix.{one_expression, tree-postfix}
+use Rattle.asm_expr.proofs.Steps.{not_large}
+
+-- the items of an expression of an object, as what is settled has them
+pub known_items : (items : List (Item Atom)) → IsExpr items → postfix (known (tree items)) ≡ map known_item items
+known_items items expr =
+    known-postfix (tree items) ∙ ap (λ e. map known_item (postfix e)) (tree-postfix items expr.tree expr.spelled) ∙ ap (map known_item) expr.spelled
+
+-- what an object has of them is themselves
+item_again : (x : Item Atom) → item_known (known_item x) ≡ Some x
+item_again (Item.Leaf (Atom.Number n)) = refl
+item_again (Item.Leaf (Atom.Ref r)) = refl
+item_again (Item.Unary op) = refl
+item_again (Item.Binary op) = refl
+
+pub known_again : (items : List (Item Atom)) → items_known (map known_item items) ≡ Some items
+known_again [] = refl
+known_again (x ∷ xs) = rw (item_again x, known_again xs) refl
+
+-- What was folded without a fault to one expression's items is that expression reduced.
+unless_one : (f : Option ExprFault) (a : Expression Part) (now : List (Expression Part)) → unless f (Ok (a ∷ [])) ≡ Ok now → (f ≡ None) × (now ≡ a ∷ [])
+unless_one None a now e = (refl, cc)
+unless_one (Some why) a now e = cc
+
+pub left_by_fold : (t : Table) (items : List (Item Atom)) (out : List (Item Part)) (now : List (Expression Part)) → IsExpr items
+    → fold_all t (map known_item items) [] ≡ Ok now → out ≡ spread now → length out ≡ length items → Begins out items → IsLeft t items
+left_by_fold t items out now expr folds written len begins =
+    let e = known (tree items) in
+    let all : items_known out ≡ Some items =
+    begins.1 ∙ ap (option_map (λ others. items ++ others)) (at_drop_all items_known out (length items) (omega (arith, len))) ∙ ap Some (append-nil items) in
+    let one = unless_one (divisions_fault t e) (reduced t e) now (sym (fold-whole t e []) ∙ ap (λ xs. fold_all t xs []) (known_items items expr) ∙ folds) in
+    let spelled : postfix (reduced t e) ≡ postfix e = ap spread (sym one.1) ∙ sym written ∙ sym (items_back out items all) ∙ sym (known_items items expr) in
+    record { expr = expr; reduced = record { sound = one.0; same = one_expression (reduced t e) e spelled } }
+
+-- Of a table nothing counts but its statements.
+pub left_same : (t u : Table) (items : List (Item Atom)) → t.statements ≡ u.statements → IsLeft u items → IsLeft t items
+left_same t u items same left =
+    let e = known (tree items) in
+    let sound = same_divisions t u Anything (weigh t u same) e (all_places e) ∙ left.reduced.sound in
+    let fixed = same_reduced t u Anything (weigh t u same) e (all_places e) ∙ left.reduced.same in
+    record { expr = left.expr; reduced = record { sound = sound; same = fixed } }
+
+-- What such a name is settled to, and a term.
+left_settled : (t : Table) (name : List ℕ) (items : List (Item Atom)) → IsLeftName t name items → settled t (source (Item.Leaf (Name name) ∷ [])) ≡ Ok (Settled.Known items)
+left_settled t name items is =
+    let e = known (tree items) in
+    let fault : first (too_large (0 + is.size)) (divisions_fault t e) ≡ None = ap (λ f. first f (divisions_fault t e)) (not_large (0 + is.size) (omega (arith, is.few))) ∙ is.left.reduced.sound in
+    ap (answered t) is.found
+    ∙ ap (λ f. unless_fault f (settled_as (items_known (postfix (reduced t e))) (unknown_of (reduced t e)))) fault
+    ∙ ap (λ r. Ok (settled_as (items_known (postfix r)) (unknown_of r))) is.left.reduced.same
+    ∙ ap (λ xs. Ok (settled_as (items_known xs) (unknown_of e))) (known_items items is.left.expr)
+    ∙ ap (λ o. Ok (settled_as o (unknown_of e))) (known_again items)
+
+operand_settled : (t : Table) (o : Operand) (items : List (Item Atom)) → IsLeftOperand t o items → settled t (source (Item.Leaf o ∷ [])) ≡ Ok (Settled.Known items)
+operand_settled t (Name name) items is = left_settled t name items is
+operand_settled t (Number n) items is = absurd is
+operand_settled t Here items is = absurd is
+
+one_operand : (items : List (Item Operand)) (o : Operand) → operand_alone items ≡ Some o → items ≡ Item.Leaf o ∷ []
+one_operand (Item.Leaf p ∷ []) o is = let same : p ≡ o = cc in ap (λ q. Item.Leaf q ∷ []) same
+one_operand [] o is = cc
+one_operand (Item.Leaf p ∷ x ∷ items) o is = cc
+one_operand (Item.Unary op ∷ items) o is = cc
+one_operand (Item.Binary op ∷ items) o is = cc
+
+pub alone_settled : (t : Table) (parsed : List (Item Operand)) (o : Operand) (items : List (Item Atom)) → operand_alone parsed ≡ Some o → IsLeftOperand t o items
+    → settled t (source parsed) ≡ Ok (Settled.Known items)
+alone_settled t parsed o items is left = ap (λ p. settled t (source p)) (one_operand parsed o is) ∙ operand_settled t o items left
