@@ -1,6 +1,6 @@
 //! How the items of an expression are kept.
 
-ghost use Rattle.std.specs.Prelude.{◌≡◌, ◌≤◌, IfOk, IfSome, length, take};
+ghost use Rattle.std.specs.Prelude.{◌≡◌, ◌≤◌, IfErr, IfOk, IfSome, length, take};
 ghost use Rattle.std.specs.List.{flat_map};
 ghost use Rattle.asm_value.specs.Kept.{items_in, kept};
 ghost use Rattle.asm_value.specs.declared.expr.TheConstants.{MOST_ITEMS};
@@ -60,16 +60,24 @@ fn joined(alloc: Global, pieces: &[Piece]) -> Result<Vec<Item<Atom>>, AllocError
 }
 
 impl Kept {
+    /// The items, in order, where they lie side by side; else the pieces of which they are.
+    fn list_or_pieces(&self) -> Result<&[Item<Atom>], &[Piece]>
+        ensures list { IfOk result (λ items. items.now ≡ kept self.now) }
+        ensures pieces { IfErr result (λ pieces. flat_map items_in pieces.now ≡ kept self.now) }
+    {
+        match self {
+            Kept::One(alone) => Ok(alone),
+            Kept::Many(items) => Ok(items),
+            Kept::Shared(items) => Ok(items),
+            Kept::Pieces(pieces) => Err(pieces),
+        }
+    }
+
     /// The items, in order, where they lie side by side.
     pub(crate) fn side_by_side(&self) -> Option<&[Item<Atom>]>
         ensures { IfSome result (λ items. items.now ≡ kept self.now) }
     {
-        match self {
-            Kept::One(alone) => Some(alone),
-            Kept::Many(items) => Some(items),
-            Kept::Shared(items) => Some(items),
-            Kept::Pieces(_) => None,
-        }
+        self.list_or_pieces().ok()
     }
 
     /// The same items, so kept that other expressions may have them.
@@ -113,11 +121,9 @@ pub(crate) fn laid<'a>(items: &'a Kept, room: &'a mut Room) -> &'a [Item<Atom>]
     requires { length (kept items.now) ≤ MOST_ITEMS }
     ensures { result.now ≡ kept items.now }
 {
-    match items {
-        Kept::One(alone) => alone,
-        Kept::Many(items) => items,
-        Kept::Shared(items) => items,
-        Kept::Pieces(pieces) => {
+    match items.list_or_pieces() {
+        Ok(list) => list,
+        Err(pieces) => {
             let len = gather(pieces, room);
             &room.items[..len]
         }
