@@ -11,7 +11,7 @@ use Rattle.asm_expr.specs.declared.meaning.Meaning.{Meaning}
 use Rattle.asm_expr.specs.Equating.{equated}
 use Rattle.asm_expr.specs.Names.{Table}
 use Rattle.asm_expr.specs.Origins.{AllBring, AreRefs, Brings}
-use Rattle.asm_expr.specs.Postfix.{source}
+use Rattle.asm_expr.specs.Below.{source}
 use Rattle.asm_parse.specs.Expression as parsed
 use Rattle.asm_parse.specs.Source.{Operand}
 use Rattle.asm_names.specs.declared.kind.Kind.{Kind}

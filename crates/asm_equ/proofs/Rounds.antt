@@ -13,7 +13,7 @@ use Rattle.asm_parse.specs.Expression.{postfix}
 use Rattle.asm_expr.specs.declared.meaning.Meaning.{Meaning}
 use Rattle.asm_expr.specs.Names.{Table}
 use Rattle.asm_expr.specs.Equating.{equated}
-use Rattle.asm_expr.specs.Postfix.{only, run, source}
+use Rattle.asm_expr.specs.Below.{only, run, source}
 use Rattle.asm_spell.specs.Line.{Expression}
 use Rattle.asm_names.specs.declared.kind.Kind.{Kind}
 use Rattle.asm_names.specs.Lines.{Taken}
@@ -25,7 +25,7 @@ use Rattle.asm_equ.specs.declared.fault.EquFault.{EquFault}
 use Rattle.asm_names.specs.Faults.{first, if_so}
 use Rattle.asm_parse.specs.declared.fault.ExprFault.{ExprFault}
 use Rattle.asm_expr.proofs.ByNames.{equated_by_names}
-use Rattle.asm_expr.proofs.Postfix.{run-one}
+use Rattle.asm_expr.proofs.Below.{run-one}
 
 -- what is found among names that are mapped
 found_mapped : (f : List ℕ → Kind → Meaning) (p : List ℕ → Bool) (names : Names) → ((d : List ℕ) (e : List ℕ) → p d ≡ true → p e ≡ true → d ≡ e)

@@ -14,14 +14,14 @@ use Rattle.asm_parse.specs.Expression as parsed
 use Rattle.asm_parse.specs.Expression.{postfix}
 use Rattle.asm_parse.specs.Source.{Operand, Number, Name, Here}
 use Rattle.asm_expr.specs.declared.answer.Settled.{Settled}
-use Rattle.asm_expr.specs.declared.atom.Atom.{Atom}
+use Rattle.asm_expr.specs.Below.{Atom}
 use Rattle.asm_expr.specs.declared.meaning.Meaning.{Meaning}
 use Rattle.asm_expr.specs.declared.worth.Worth.{Worth}
 use Rattle.asm_expr.specs.Distances.{is_unsized}
 use Rattle.asm_expr.specs.Equating.{constant_of, equated}
 use Rattle.asm_expr.specs.Names.{Table, found}
 use Rattle.asm_expr.specs.Origins.{is_number_item, is_number_name, is_value, is_valued_item, is_valued_name}
-use Rattle.asm_expr.specs.Postfix.{source}
+use Rattle.asm_expr.specs.Below.{source}
 use Rattle.asm_expr.specs.Settling.{is_constant_item, is_constant_name, replaced, settled, size, worth}
 use Rattle.asm_expr.proofs.Equates.{equated_as}
 use Rattle.asm_spell.specs.Line as line

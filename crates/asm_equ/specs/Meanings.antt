@@ -7,7 +7,7 @@ use Rattle.asm_parse.specs.declared.fault.ExprFault.{ExprFault}
 use Rattle.asm_expr.specs.declared.meaning.Meaning.{Meaning}
 use Rattle.asm_expr.specs.Equating.{equated}
 use Rattle.asm_expr.specs.Names.{Table}
-use Rattle.asm_expr.specs.Postfix.{source}
+use Rattle.asm_expr.specs.Below.{source}
 use Rattle.asm_spell.specs.Line.{Expression, Line, Equ}
 use Rattle.asm_names.specs.declared.kind.Kind.{Kind}
 use Rattle.asm_names.specs.Faults.{first, if_so}

@@ -4,7 +4,7 @@ use Rattle.std.proofs.lemmas.List.{append_assoc, at_drop_more}
 use Rattle.std.specs.Option.{option_map}
 use Rattle.asm_parse.specs.declared.item.Item.{Item}
 use Rattle.asm_parse.specs.Expression.{and_then}
-use Rattle.asm_expr.specs.declared.atom.Atom.{Atom}
+use Rattle.asm_value.specs.declared.atom.Atom.{Atom}
 use Rattle.asm_expr.specs.declared.part.Part.{Part}
 use Rattle.asm_expr.specs.Settling.{item_known, items_known}
 

@@ -3,9 +3,9 @@ use Rattle.std.proofs.Common.{◌≡◌, ℕ, List, true, false, if◌then◌els
 use Rattle.asm_expr.specs.Types.{Unary, Binary, Atom, Statement, Worth, Unknown}
 use Rattle.asm_expr.specs.declared.part.Part.{Part}
 use Rattle.asm_expr.specs.declared.single.Single.{Single}
-use Rattle.asm_expr.specs.Arithmetic.{unary, binary}
+use Rattle.asm_value.specs.Arithmetic.{unary, binary}
 use Rattle.asm_parse.specs.Expression.{Expression, Leaf, Prefix, Infix}
-use Rattle.asm_expr.specs.Items.{value}
+use Rattle.asm_value.specs.Items.{value}
 use Rattle.asm_expr.specs.Distances.{Step, some_distance}
 use Rattle.asm_expr.specs.Names.{Table}
 use Rattle.asm_expr.specs.Settling.{known, single, distance_of, difference, or_else, through, both, worth, leaf_or, reduced}

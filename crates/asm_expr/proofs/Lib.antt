@@ -1,10 +1,6 @@
+pub mod Below
 mod Lacking
 pub mod Begun
-pub mod Gathered
-pub mod Postfix
-pub mod Stack
-pub mod Judgements
-pub mod ValuesLeft
 pub mod Entries
 pub mod Known
 pub mod Sums
@@ -16,7 +12,6 @@ pub mod Guards
 pub mod Spread
 pub mod Steps
 pub mod Sizes
-pub mod Refs
 pub mod Answers
 mod OneTerm
 pub mod Heads

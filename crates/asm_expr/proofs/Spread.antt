@@ -4,9 +4,9 @@ use Rattle.std.proofs.Math.Seq.{take-append_seam}
 use Rattle.asm_expr.specs.Types.{Unary, Binary, Item, ExprFault, Unknown, Worth}
 use Rattle.asm_expr.specs.declared.part.Part.{Part}
 use Rattle.asm_expr.specs.declared.single.Single.{Single}
-use Rattle.asm_expr.specs.Arithmetic.{binary}
+use Rattle.asm_value.specs.Arithmetic.{binary}
 use Rattle.asm_parse.specs.Expression.{Expression, Leaf, Prefix, Infix, postfix}
-use Rattle.asm_expr.specs.Postfix.{spread}
+use Rattle.asm_value.specs.Postfix.{spread}
 use Rattle.asm_expr.specs.Names.{Table}
 use Rattle.asm_expr.specs.Settling.{distance_of, or_else, both, leaf_or}
 use Rattle.asm_expr.specs.Private.Folding.{root, worth_of, single_of, leaf_of, folded_unary, folded_binary, fold_one, prefixed, joined, Folds}

@@ -9,7 +9,7 @@ use Rattle.std.proofs.lemmas.Bool.{eq-eqb, cases_lt, eqb-true, le-ltb, leb-true,
 use Rattle.asm_expr.specs.Types.{Statement, Worth}
 use Rattle.asm_expr.specs.declared.layout.Before.{Before}
 use Rattle.asm_expr.specs.declared.layout.Passed.{Passed}
-use Rattle.asm_expr.specs.Arithmetic.{modulus}
+use Rattle.asm_value.specs.Arithmetic.{modulus}
 use Rattle.asm_expr.specs.Distances.{is_relaxable, is_unsized, bytes_of, between, bytes, backwards, distance}
 use Rattle.asm_expr.specs.Private.Sums.{IsBefore, AreSummed, statements_of, gap}
 

@@ -8,9 +8,9 @@ use Rattle.asm_parse.specs.Source.{Operand}
 use Rattle.asm_expr.specs.declared.answer.Settled.{Settled}
 use Rattle.asm_expr.specs.declared.meaning.Meaning.{Meaning}
 use Rattle.asm_expr.specs.declared.unknown.Unknown.{Unknown}
-use Rattle.asm_expr.specs.Items.{value}
+use Rattle.asm_value.specs.Items.{value}
 use Rattle.asm_expr.specs.Names.{Table}
-use Rattle.asm_expr.specs.Postfix.{tree}
+use Rattle.asm_value.specs.Postfix.{tree}
 use Rattle.asm_expr.specs.Settling.{is_constant_item, settled, size}
 
 -- Where no place and no external stands in it, its value, which is the same at any places; else what it is, and how many terms and

@@ -1,8 +1,5 @@
 pub mod Types
-pub mod Postfix
-pub mod Arithmetic
-pub mod Kept
-pub mod Items
+pub mod Below
 pub mod Distances
 pub mod Names
 pub mod Settling

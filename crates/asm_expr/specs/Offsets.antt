@@ -7,7 +7,7 @@ use Rattle.asm_parse.specs.Expression.{Expression, Leaf, Infix, postfix}
 use Rattle.asm_parse.specs.Source.{Operand, Here}
 use Rattle.asm_expr.specs.declared.worth.Worth.{Worth}
 use Rattle.asm_expr.specs.declared.here.Offset.{Offset}
-use Rattle.asm_expr.specs.Arithmetic.{binary}
+use Rattle.asm_value.specs.Arithmetic.{binary}
 use Rattle.asm_expr.specs.Names.{Table}
 use Rattle.asm_expr.specs.Settling.{replaced, worth, fault, is_constant_item}
 

@@ -4,18 +4,17 @@ ghost use Rattle.std.specs.Prelude.{◌≡◌, ◌∷◌, [], ℕ, IfSome, Ok, S
 ghost use Rattle.std.specs.Option.{option_map};
 ghost use Rattle.asm_parse.specs.declared.item.Item.{Item};
 ghost use Rattle.asm_parse.specs.Source.{operand};
-ghost use Rattle.asm_expr.specs.declared.atom.Atom.{Atom};
+ghost use Rattle.asm_value.specs.declared.atom.Atom.{Atom};
 ghost use Rattle.asm_expr.specs.declared.answer.Settled.{Settled};
 ghost use Rattle.asm_expr.specs.Alone.{atom_alone, atom_of, number_alone};
-ghost use Rattle.asm_expr.specs.Postfix.{source};
+ghost use Rattle.asm_value.specs.Postfix.{source};
 ghost use Rattle.asm_expr.specs.Settling.{settled};
 ghost use Rattle.asm_expr.specs.Private.Left.{IsLeftOperand, operand_alone};
 
-use crate::atom::Atom;
-use crate::expr::Expr;
 use crate::meaning::Meaning;
 use crate::names::Names;
 use asm_parse::{Item, Term, Tree};
+use asm_value::{Atom, Expr};
 
 /// What a term stands for; None where that has no value, or is an expression.
 fn atom_of(term: &Term, names: &Names) -> Option<Atom>

@@ -4,18 +4,18 @@ ghost use Rattle.std.specs.Prelude.{◌≡◌, ◌⊎◌, Ok, Err, IfOk, IfSome}
 ghost use Rattle.std.specs.List.{AllPass};
 ghost use Rattle.asm_parse.specs.declared.fault.ExprFault.{ExprFault};
 ghost use Rattle.asm_expr.specs.declared.answer.Settled.{Settled};
-ghost use Rattle.asm_expr.specs.Postfix.{source};
+ghost use Rattle.asm_value.specs.Postfix.{source};
 ghost use Rattle.asm_expr.specs.Settling.{IsWorthOf, is_known, settled};
 ghost use Rattle.asm_expr.specs.Private.Folding.{unknown_at_end};
 
 use crate::alone::{atom_alone, left_alone};
-use crate::expr::Expr;
 use crate::names::Names;
 use crate::part::Part;
 use crate::reduction::reduce;
 use crate::sharing::kept_of;
 use crate::unknown::Unknown;
 use asm_parse::{ExprFault, Item, Tree, Unary};
+use asm_value::Expr;
 use std::alloc::{AllocError, Global};
 
 /// What names make of an expression.

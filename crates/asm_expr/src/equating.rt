@@ -3,18 +3,18 @@
 ghost use Rattle.std.specs.Prelude.{◌≡◌, ◌⊎◌, Err, IfOk};
 ghost use Rattle.std.specs.List.{AllPass};
 ghost use Rattle.asm_expr.specs.Types.{ExprFault};
-ghost use Rattle.asm_expr.specs.Postfix.{source};
+ghost use Rattle.asm_value.specs.Postfix.{source};
 ghost use Rattle.asm_expr.specs.Names.{IsCounted};
 ghost use Rattle.asm_expr.specs.Settling.{is_known};
 ghost use Rattle.asm_expr.specs.Equating.{equated};
 
 use crate::answer::{Settled, settle};
-use crate::expr::constant;
 use crate::meaning::{Equated, Meaning};
 use crate::names::Names;
 use crate::unknown::Unknown;
 use crate::weigh::{is_constant, size};
 use asm_parse::{ExprFault, Tree};
+use asm_value::constant;
 use std::alloc::Global;
 
 /// What a name stands for whose EQU has this expression.

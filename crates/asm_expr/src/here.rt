@@ -5,19 +5,16 @@ ghost use Rattle.std.specs.List.{AllPass};
 ghost use Rattle.std.specs.Option.{option_eq, option_map};
 ghost use Rattle.asm_parse.specs.declared.item.Item.{Item};
 ghost use Rattle.asm_parse.specs.Source.{Here, source_item};
-ghost use Rattle.asm_expr.specs.Postfix.{run, source};
+ghost use Rattle.asm_value.specs.Postfix.{run, source};
 ghost use Rattle.asm_expr.specs.Settling.{is_known};
 ghost use Rattle.asm_expr.specs.Offsets.{IsOffset};
 ghost use Rattle.asm_expr.specs.Private.Heads.{IsFromHere, IsNotFromHere, numbered, sign_of};
 
 use crate::answer::{Settled, settle};
-use crate::arithmetic::apply_binary;
-use crate::atom::Atom;
-use crate::expr::{items, values_left};
-use crate::kept::Room;
 use crate::names::Names;
 use crate::weigh::all_constant;
 use asm_parse::{Binary, ExprFault, Item, Term, Tree};
+use asm_value::{Atom, Room, apply_binary, items, values_left};
 use std::alloc::Global;
 
 /// What an operand says that begins at `$`.

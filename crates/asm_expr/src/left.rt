@@ -3,11 +3,11 @@
 ghost use Rattle.std.specs.Prelude.{◌≡◌, true};
 ghost use Rattle.asm_expr.specs.Private.Left.{IsLeft};
 
-use crate::expr::Expr;
 use crate::names::Names;
 use crate::parts::Parts;
 use crate::reduction::take_expr;
 use crate::sharing::begins;
+use asm_value::Expr;
 
 /// Whether these names make of an expression what it is.
 pub(crate) fn is_left(expr: &Expr, names: &Names) -> bool

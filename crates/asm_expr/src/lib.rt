@@ -1,14 +1,10 @@
-//! Expressions of Z80 assembler source: what names make of trees, postfix items, and values at places.
+//! Expressions of Z80 assembler source: what names make of trees.
 #![tactic(auto)]
 
 mod alone;
 mod answer;
-mod arithmetic;
-mod atom;
 mod equating;
-mod expr;
 mod here;
-mod kept;
 pub mod laws;
 mod layout;
 mod left;
@@ -27,11 +23,9 @@ mod worth;
 pub use alone::number_alone;
 pub use answer::{Settled, settle};
 pub use asm_parse::{Binary, ExprFault, Item, Term, Tree, Unary, is_reserved, parse};
-pub use atom::Atom;
+pub use asm_value::{Atom, Expr, MOST_ITEMS, Room, constant, has_places, items, value};
 pub use equating::equate;
-pub use expr::{Expr, MOST_ITEMS, constant, has_places, items, value};
 pub use here::{Offset, offset_from_here};
-pub use kept::Room;
 pub use meaning::{Equated, Meaning};
 pub use names::Names;
 pub use statement::Statement;

@@ -8,12 +8,12 @@ ghost use Rattle.asm_expr.specs.Private.Entries.{Knows};
 ghost use Rattle.asm_expr.specs.Private.Left.{IsLeftName};
 
 use crate::answer::Settled;
-use crate::expr::{Expr, MOST_ITEMS};
 use crate::layout::Layout;
 use crate::left::is_left;
 use crate::meaning::Meaning;
 use crate::statement::Statement;
 use crate::worth::Worth;
+use asm_value::{Expr, MOST_ITEMS};
 use indexmap::IndexMap;
 use name_key::NameKey;
 use std::alloc::{AllocError, Global};

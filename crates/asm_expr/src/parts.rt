@@ -3,9 +3,9 @@
 ghost use Rattle.std.specs.Prelude.{◌≡◌, ◌<◌, ◌≤◌, ◌-◌, ◌++◌, ◌∷◌, [], length, take};
 ghost use Rattle.std.proofs.Common.{get_or};
 
-use crate::expr::MOST_ITEMS;
 use crate::part::Part;
 use asm_parse::Item;
+use asm_value::MOST_ITEMS;
 use std::marker::Model;
 
 /// Items that are being settled, no more than an expression may have: they take no memory of the allocator's. Clauses see their
@@ -20,7 +20,7 @@ impl Model for Parts {
     ghost use Rattle.std.specs.Prelude.{◌≡◌, ◌≤◌, List, length, take};
     ghost use Rattle.asm_parse.specs.declared.item.Item.{Item};
     ghost use Rattle.asm_expr.specs.declared.part.Part.{Part};
-    ghost use Rattle.asm_expr.specs.declared.expr.TheConstants.{MOST_ITEMS};
+    ghost use Rattle.asm_value.specs.declared.expr.TheConstants.{MOST_ITEMS};
 
     ghost Value = { List (Item Part) };
 

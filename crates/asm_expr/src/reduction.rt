@@ -5,20 +5,16 @@ ghost use Rattle.std.specs.List.{AllPass};
 ghost use Rattle.asm_expr.specs.declared.part.Part.{Part};
 ghost use Rattle.asm_parse.specs.declared.item.Item.{Item};
 ghost use Rattle.asm_parse.specs.Expression.{Expression, Leaf, postfix};
-ghost use Rattle.asm_expr.specs.Postfix.{source, spread, tree};
+ghost use Rattle.asm_value.specs.Postfix.{source, spread, tree};
 ghost use Rattle.asm_parse.specs.Source.{operand, source_item};
 ghost use Rattle.asm_expr.specs.Names.{AreCounted, items_of};
-ghost use Rattle.asm_expr.specs.Arithmetic.{binary};
-ghost use Rattle.asm_expr.specs.Items.{IsExpr};
+ghost use Rattle.asm_value.specs.Arithmetic.{binary};
+ghost use Rattle.asm_value.specs.Items.{IsExpr};
 ghost use Rattle.asm_expr.specs.Settling.{both, distance_of, is_known, known_item, size_of, standing};
-ghost use Rattle.asm_expr.specs.Private.Steps.{arity};
+ghost use Rattle.asm_value.specs.Private.Steps.{arity};
 ghost use Rattle.asm_expr.specs.Private.Folding.{Folds, IsReduced, difference_of, fold_all, fold_one, folded_binary, folded_unary, item_fault, item_size, items_for, leaf_of, prefixed, single_of, worth_of};
 
 use crate::answer::Settled;
-use crate::arithmetic::{apply_binary, apply_unary};
-use crate::atom::Atom;
-use crate::expr::{Expr, MOST_ITEMS, items};
-use crate::kept::Room;
 use crate::meaning::Meaning;
 use crate::names::Names;
 use crate::part::Part;
@@ -28,6 +24,7 @@ use crate::unknown::Unknown;
 use crate::weigh::item_size;
 use crate::worth::Worth;
 use asm_parse::{Binary, ExprFault, Item, Term, Tree, Unary};
+use asm_value::{Atom, Expr, MOST_ITEMS, Room, apply_binary, apply_unary, items};
 
 fn worth_of(item: &Item<Part>) -> Worth
     ensures { result ≡ worth_of item.now }

@@ -3,17 +3,16 @@
 ghost use Rattle.std.specs.Prelude.{◌≡◌, ◌<◌, IfOk, Some, length, true};
 ghost use Rattle.std.specs.List.{flat_map};
 ghost use Rattle.std.specs.Option.{option_map};
-ghost use Rattle.asm_expr.specs.Kept.{items_in, kept};
+ghost use Rattle.asm_value.specs.Kept.{items_in, kept};
 ghost use Rattle.asm_expr.specs.Settling.{item_known, items_known};
 ghost use Rattle.asm_expr.specs.Private.Sharing.{Begins, IsPiece};
 
 use crate::answer::Settled;
-use crate::atom::Atom;
-use crate::kept::{Kept, Piece};
 use crate::meaning::Meaning;
 use crate::names::Names;
 use crate::part::Part;
 use asm_parse::{Item, Term, Tree};
+use asm_value::{Atom, Kept, Piece};
 use std::alloc::{AllocError, Global};
 use std::rc::Rc;
 

@@ -16,7 +16,7 @@ use Rattle.asm_expr.specs.declared.unknown.Unknown.{Unknown}
 use Rattle.asm_expr.specs.Equating.{constant_of, equated}
 use Rattle.asm_expr.specs.Names.{Table}
 use Rattle.asm_expr.specs.Origins.{AgreeOn, is_number_item}
-use Rattle.asm_expr.specs.Postfix.{source}
+use Rattle.asm_expr.specs.Below.{source}
 use Rattle.asm_expr.specs.Settling.{is_constant_item, settled, size}
 use Rattle.asm_expr.proofs.Equates.{equated_as}
 use Rattle.asm_spell.specs.Line.{Expression}

@@ -13,12 +13,12 @@ use Rattle.asm_parse.specs.Parsed.{parsed}
 use Rattle.asm_parse.specs.Expression.{postfix}
 use Rattle.asm_parse.specs.declared.fault.ExprFault.{ExprFault}
 use Rattle.asm_parse.specs.declared.item.Item.{Item}
-use Rattle.asm_expr.specs.declared.atom.Atom.{Atom}
+use Rattle.asm_expr.specs.Below.{Atom}
 use Rattle.asm_expr.specs.declared.answer.Settled.{Settled}
 use Rattle.asm_expr.specs.declared.meaning.Meaning.{Meaning}
 use Rattle.asm_expr.specs.Names.{Table, found}
 use Rattle.asm_expr.specs.Origins.{is_number_item, is_number_name}
-use Rattle.asm_expr.specs.Postfix.{source}
+use Rattle.asm_expr.specs.Below.{source}
 use Rattle.asm_expr.specs.Settling.{is_constant_item, is_constant_name, is_known, settled}
 use Rattle.asm_expr.proofs.Anywhere.{number_settled}
 use Rattle.asm_macro.specs.declared.fault.MacroFault.{MacroFault}

@@ -6,11 +6,11 @@ use Rattle.asm_parse.specs.Source.{Operand}
 use Rattle.asm_parse.specs.Parsed.{parsed}
 use Rattle.asm_parse.specs.declared.fault.ExprFault.{ExprFault}
 use Rattle.asm_parse.specs.declared.item.Item.{Item}
-use Rattle.asm_expr.specs.declared.atom.Atom.{Atom}
+use Rattle.asm_expr.specs.Below.{Atom}
 use Rattle.asm_expr.specs.declared.answer.Settled.{Settled}
 use Rattle.asm_expr.specs.Names.{Table}
 use Rattle.asm_expr.specs.Origins.{is_number_item}
-use Rattle.asm_expr.specs.Postfix.{source}
+use Rattle.asm_expr.specs.Below.{source}
 use Rattle.asm_expr.specs.Settling.{settled}
 use Rattle.asm_macro.specs.declared.fault.MacroFault.{MacroFault}
 use Rattle.asm_macro.specs.Faults.{fault_of_expr}

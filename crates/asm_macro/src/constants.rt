@@ -2,7 +2,7 @@
 
 ghost use Rattle.std.specs.Prelude.{◌≡◌, ◌⊎◌, ◌∷◌, [], Err, List, Ok, OnOk, ℕ};
 ghost use Rattle.asm_parse.specs.declared.item.Item.{Item};
-ghost use Rattle.asm_expr.specs.declared.atom.Atom.{Atom};
+ghost use Rattle.asm_expr.specs.Below.{Atom};
 ghost use Rattle.asm_expr.specs.declared.answer.Settled.{Settled};
 ghost use Rattle.asm_words.specs.Words.{upper};
 ghost use Rattle.asm_scan.specs.Tokens.{lexemes};

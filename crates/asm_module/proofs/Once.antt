@@ -9,7 +9,7 @@ use Rattle.std.proofs.lemmas.List.FromFn.{get_or-enumerate_from, length-enumerat
 use Rattle.std.proofs.lemmas.Map.Entries.{lookup_from_place}
 use Rattle.std.proofs.lemmas.Option.{slice_get-get_or, slice_get_within}
 use Rattle.asm_expr.specs.Equating.{equated}
-use Rattle.asm_expr.specs.Postfix.{source}
+use Rattle.asm_expr.specs.Below.{source}
 use Rattle.asm_equ.specs.Circles.{TellsCircles, items_at}
 use Rattle.asm_equ.specs.declared.fault.EquFault.{EquFault}
 use Rattle.asm_equ.specs.Layout.{Layout}

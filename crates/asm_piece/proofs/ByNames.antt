@@ -11,7 +11,7 @@ use Rattle.asm_expr.specs.declared.answer.Settled.{Settled}
 use Rattle.asm_expr.specs.Names.{Table, found}
 use Rattle.asm_expr.specs.Offsets.{offset}
 use Rattle.asm_expr.specs.Origins.{AgreeOn}
-use Rattle.asm_expr.specs.Postfix.{source}
+use Rattle.asm_expr.specs.Below.{source}
 use Rattle.asm_expr.specs.Settling.{fault, is_constant_item, settled, unless_fault}
 use Rattle.asm_spell.specs.declared.fault.StmtFault.{StmtFault}
 use Rattle.asm_spell.specs.Faults.{each}

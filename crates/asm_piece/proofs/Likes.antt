@@ -9,17 +9,17 @@ use Rattle.asm_parse.specs.declared.item.Item.{Item}
 use Rattle.asm_parse.specs.Expression.{Expression, Leaf, Prefix, Infix, postfix}
 use Rattle.asm_parse.specs.Source.{Operand, Number, Name, Here}
 use Rattle.asm_expr.specs.declared.answer.Settled.{Settled}
-use Rattle.asm_expr.specs.declared.atom.Atom.{Atom}
+use Rattle.asm_expr.specs.Below.{Atom}
 use Rattle.asm_expr.specs.declared.meaning.Meaning.{Meaning}
 use Rattle.asm_expr.specs.declared.statement.Statement as sized
 use Rattle.asm_expr.specs.declared.statement.Statement.{Statement}
 use Rattle.asm_expr.specs.Names.{Table, found}
 use Rattle.asm_expr.specs.Origins.{AgreeOn, is_number_item, is_number_name}
-use Rattle.asm_expr.specs.Postfix.{source}
+use Rattle.asm_expr.specs.Below.{source}
 use Rattle.asm_expr.specs.Settling.{fault, is_constant_item, is_constant_name, items_known, known, meant, reduced, replaced, settled, unknown_of}
 use Rattle.asm_expr.proofs.Answers.{items_back}
 use Rattle.asm_expr.proofs.Fixed.{same}
-use Rattle.asm_expr.proofs.Judgements.{and_parts}
+use Rattle.asm_expr.proofs.Below.{and_parts}
 use Rattle.asm_expr.proofs.Known.{object_tree}
 use Rattle.asm_spell.specs.declared.fault.StmtFault.{StmtFault}
 use Rattle.asm_spell.specs.Line as line

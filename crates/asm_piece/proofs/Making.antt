@@ -7,10 +7,10 @@ use Rattle.asm_parse.specs.declared.item.Item.{Item}
 use Rattle.asm_parse.specs.Expression.{postfix}
 use Rattle.asm_parse.specs.Source.{Name}
 use Rattle.asm_expr.specs.declared.answer.Settled.{Settled}
-use Rattle.asm_expr.specs.declared.atom.Atom.{Atom}
+use Rattle.asm_expr.specs.Below.{Atom}
 use Rattle.asm_expr.specs.declared.unknown.Unknown.{Unknown}
 use Rattle.asm_expr.specs.Names.{Table}
-use Rattle.asm_expr.specs.Postfix.{source}
+use Rattle.asm_expr.specs.Below.{source}
 use Rattle.asm_expr.specs.Settling.{is_constant_item, settled, settled_as, unless_fault}
 use Rattle.z80_instr.specs.declared.Branch.{Branch}
 use Rattle.z80_instr.specs.declared.Instr.{Instr}

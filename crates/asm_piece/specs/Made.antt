@@ -6,7 +6,7 @@ use Rattle.asm_words.specs.Results.{◌>>=◌}
 use Rattle.asm_parse.specs.declared.item.Item.{Item}
 use Rattle.asm_parse.specs.Expression.{postfix}
 use Rattle.asm_parse.specs.Source.{Name}
-use Rattle.asm_expr.specs.Postfix.{source}
+use Rattle.asm_expr.specs.Below.{source}
 use Rattle.asm_expr.specs.declared.answer.Settled.{Settled}
 use Rattle.asm_expr.specs.declared.meaning.Meaning.{Meaning}
 use Rattle.asm_expr.specs.Names.{Table, found}

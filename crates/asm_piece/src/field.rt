@@ -2,11 +2,11 @@
 
 ghost use Rattle.std.specs.Prelude.{◌≡◌, ◌∷◌, [], IfOk, true};
 ghost use Rattle.std.specs.List.{AllPass};
-ghost use Rattle.asm_expr.specs.Postfix.{source};
+ghost use Rattle.asm_expr.specs.Below.{source};
 ghost use Rattle.asm_expr.specs.Settling.{is_known};
 ghost use Rattle.asm_spell.specs.Faults.{Gives};
 ghost use Rattle.asm_parse.specs.declared.item.Item.{Item};
-ghost use Rattle.asm_expr.specs.declared.atom.Atom.{Atom};
+ghost use Rattle.asm_expr.specs.Below.{Atom};
 ghost use Rattle.asm_expr.specs.declared.answer.Settled.{Settled};
 ghost use Rattle.asm_piece.specs.Fields.{IsAllowed, byte, distance, filled, fixed, is_number_unknown, number, settled_in, word};
 ghost use Rattle.asm_piece.specs.Private.Filled.{filled_by};

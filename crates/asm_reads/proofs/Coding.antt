@@ -2,9 +2,9 @@
 use Rattle.std.proofs.Common.{◌≡◌, inl, inr, ◌<◌, ℕ, Bool, true, ◌&&◌, List, [], ◌∷◌, ◌++◌, Some, Ok, All, length, map, refl, sym, ap, subst, ◌∙◌, append-nil}
 use Rattle.std.specs.List.{flat_map, list_all}
 use Rattle.asm_expr.specs.Distances.{Step}
-use Rattle.asm_expr.specs.Items.{value}
+use Rattle.asm_expr.specs.Below.{value}
 use Rattle.asm_expr.specs.Names.{Table}
-use Rattle.asm_expr.proofs.Judgements.{and_parts}
+use Rattle.asm_expr.proofs.Below.{and_parts}
 use Rattle.z80_instr.specs.declared.Instr.{Instr}
 use Rattle.z80_instr.specs.Codes.{in_range}
 use Rattle.z80_instr.specs.Table.{canonical}

@@ -5,10 +5,10 @@ use Rattle.std.proofs.lemmas.List.Concat.{flat_map-append}
 use Rattle.std.proofs.lemmas.List.Folds.{list_all-append}
 use Rattle.std.proofs.lemmas.List.Sums.{sum_by-append}
 use Rattle.asm_parse.specs.Expression.{Leaf}
-use Rattle.asm_expr.specs.declared.atom.Atom.{Atom}
+use Rattle.asm_expr.specs.Below.{Atom}
 use Rattle.asm_expr.specs.Distances.{Step}
 use Rattle.asm_expr.specs.Names.{Table}
-use Rattle.asm_expr.proofs.Judgements.{and_parts}
+use Rattle.asm_expr.proofs.Below.{and_parts}
 use Rattle.asm_expr.proofs.Sizes.{sum_by-cons}
 use Rattle.z80_form.specs.declared.field.Field.{Field}
 use Rattle.asm_spell.specs.declared.fault.StmtFault.{StmtFault}

@@ -9,16 +9,16 @@ use Rattle.asm_parse.specs.declared.operator.Binary.{Binary}
 use Rattle.asm_parse.specs.Expression.{Expression, Leaf, Prefix, Infix, postfix}
 use Rattle.asm_parse.specs.Source.{Operand, Number, Name, Here}
 use Rattle.asm_expr.specs.declared.answer.Settled.{Settled}
-use Rattle.asm_expr.specs.declared.atom.Atom.{Atom}
+use Rattle.asm_expr.specs.Below.{Atom}
 use Rattle.asm_expr.specs.declared.here.Offset.{Offset}
 use Rattle.asm_expr.specs.declared.unknown.Unknown.{Unknown}
 use Rattle.asm_expr.specs.declared.worth.Worth.{Worth}
-use Rattle.asm_expr.specs.Arithmetic.{binary}
+use Rattle.asm_expr.specs.Below.{binary}
 use Rattle.asm_expr.specs.Distances.{Step}
-use Rattle.asm_expr.specs.Items.{value}
+use Rattle.asm_expr.specs.Below.{value}
 use Rattle.asm_expr.specs.Names.{Table}
 use Rattle.asm_expr.specs.Offsets.{behind, offset}
-use Rattle.asm_expr.specs.Postfix.{source, tree}
+use Rattle.asm_expr.specs.Below.{source, tree}
 use Rattle.asm_expr.specs.Settling.{fault, is_constant_item, replaced, settled, worth}
 use Rattle.z80_form.specs.declared.field.Field.{Field}
 use Rattle.z80_form.specs.Numbers.{allows}

@@ -10,7 +10,7 @@ use Rattle.asm_expr.specs.declared.answer.Settled.{Settled}
 use Rattle.asm_expr.specs.declared.statement.Statement.TheVariants.{Sized}
 use Rattle.asm_expr.specs.Distances.{Step}
 use Rattle.asm_expr.specs.Names.{Table, found}
-use Rattle.asm_expr.specs.Postfix.{source}
+use Rattle.asm_expr.specs.Below.{source}
 use Rattle.asm_expr.specs.Settling.{settled}
 use Rattle.asm_expr.proofs.Sizes.{sum_by-cons}
 use Rattle.z80_instr.specs.declared.Instr.{Instr}

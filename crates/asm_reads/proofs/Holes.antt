@@ -2,8 +2,8 @@
 use Rattle.std.proofs.Common.{◌≡◌, ℕ, ◌+◌, List, [], ◌∷◌, ◌++◌, length, take, drop, refl, sym, ap, ◌∙◌, arith, append_assoc, length-append}
 use Rattle.std.specs.List.{flat_map}
 use Rattle.std.proofs.Math.Seq.{take-append_seam, drop-append-add, drop-append_seam}
-use Rattle.asm_expr.specs.Items.{value}
-use Rattle.asm_expr.specs.Postfix.{tree}
+use Rattle.asm_expr.specs.Below.{value}
+use Rattle.asm_expr.specs.Below.{tree}
 use Rattle.asm_piece.specs.declared.cell.Cell.{Cell}
 use Rattle.asm_piece.specs.declared.cell.Filling.{Filling}
 use Rattle.zmo_module.specs.declared.hole.Hole.{Hole}

@@ -8,14 +8,14 @@ use Rattle.asm_parse.specs.declared.item.Item.{Item}
 use Rattle.asm_parse.specs.Expression.{Expression}
 use Rattle.asm_parse.specs.Source.{Name, Operand}
 use Rattle.asm_expr.specs.declared.answer.Settled.{Settled}
-use Rattle.asm_expr.specs.declared.atom.Atom.{Atom}
+use Rattle.asm_expr.specs.Below.{Atom}
 use Rattle.asm_expr.specs.declared.meaning.Meaning.{Meaning}
 use Rattle.asm_expr.specs.declared.unknown.Unknown.{Unknown}
-use Rattle.asm_expr.specs.Items.{IsExpr, refs}
+use Rattle.asm_expr.specs.Below.{IsExpr, refs}
 use Rattle.asm_expr.specs.Names.{AreCounted, Table, found}
 use Rattle.asm_expr.specs.Offsets.{offset}
 use Rattle.asm_expr.specs.Origins.{AllBring, AreRefs, Brings}
-use Rattle.asm_expr.specs.Postfix.{source}
+use Rattle.asm_expr.specs.Below.{source}
 use Rattle.asm_expr.specs.Settling.{IsWorthOf, fault, settled}
 use Rattle.z80_instr.specs.declared.Branch.{Branch}
 use Rattle.z80_instr.specs.declared.Instr.{Instr}

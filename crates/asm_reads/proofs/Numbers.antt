@@ -2,9 +2,9 @@
 use Rattle.std.proofs.Common.{◌≡◌, ◌⊎◌, inl, inr, ◌<◌, ℕ, suc, ◌-◌, ◌/◌, ◌%◌, true, ◌||◌, List, [], ◌∷◌, ◌++◌, Some, ℤ, All, length, refl, sym, ap, subst, ◌∙◌, arith, length-append}
 use Rattle.std.proofs.lemmas.Bool.{lt-ltb}
 use Rattle.asm_parse.specs.declared.item.Item.{Item}
-use Rattle.asm_expr.specs.declared.atom.Atom.{Atom}
-use Rattle.asm_expr.specs.Items.{value}
-use Rattle.asm_expr.specs.Postfix.{tree}
+use Rattle.asm_expr.specs.Below.{Atom}
+use Rattle.asm_expr.specs.Below.{value}
+use Rattle.asm_expr.specs.Below.{tree}
 use Rattle.z80_instr.specs.Codes.{in_range}
 use Rattle.z80_instr.specs.Table.{canonical, octal_of, word}
 use Rattle.z80_instr.specs.declared.InterruptMode.{InterruptMode}

@@ -4,14 +4,14 @@ use Rattle.asm_parse.specs.declared.item.Item.{Item}
 use Rattle.asm_parse.specs.Expression.{Expression, Leaf, Prefix, Infix, postfix}
 use Rattle.asm_parse.specs.Source.{Operand, Number, Name, Here}
 use Rattle.asm_expr.specs.declared.answer.Settled.{Settled}
-use Rattle.asm_expr.specs.declared.atom.Atom.{Atom}
+use Rattle.asm_expr.specs.Below.{Atom}
 use Rattle.asm_expr.specs.declared.meaning.Meaning.{Meaning}
 use Rattle.asm_expr.specs.declared.unknown.Unknown.{Unknown}
 use Rattle.asm_expr.specs.declared.worth.Worth.{Worth}
 use Rattle.asm_expr.specs.Distances.{Step}
-use Rattle.asm_expr.specs.Items.{value}
+use Rattle.asm_expr.specs.Below.{value}
 use Rattle.asm_expr.specs.Names.{Table, found}
-use Rattle.asm_expr.specs.Postfix.{tree}
+use Rattle.asm_expr.specs.Below.{tree}
 use Rattle.asm_expr.specs.Settling.{fault, items_known, known, meant, reduced, replaced, settled, standing, unknown_of, worth}
 use Rattle.asm_expr.specs.Private.Folding.{root, worth_of}
 use Rattle.asm_expr.proofs.Answers.{items_back}
@@ -19,7 +19,7 @@ use Rattle.asm_expr.proofs.Fixed.{same}
 use Rattle.asm_expr.proofs.Folds.{worth-reduced}
 use Rattle.asm_expr.proofs.Guards.{reduced_number}
 use Rattle.asm_expr.proofs.Known.{object_tree}
-use Rattle.asm_expr.proofs.Postfix.{one_expression, tree-postfix}
+use Rattle.asm_expr.proofs.Below.{one_expression, tree-postfix}
 use Rattle.asm_piece.specs.Fields.{number}
 use Rattle.asm_piece.proofs.Making.{answered_items}
 use Rattle.asm_reads.specs.Statement as statement

@@ -1,7 +1,7 @@
 -- What a linker makes of a statement of a module: holes are filled, jumps are coded.
 use Rattle.std.specs.Prelude.{◌≡◌, ℕ, ◌+◌, Bool, List, [], ◌∷◌, ◌++◌, Option, Some, None, length, take, drop}
-use Rattle.asm_expr.specs.Items.{value}
-use Rattle.asm_expr.specs.Postfix.{tree}
+use Rattle.asm_expr.specs.Below.{value}
+use Rattle.asm_expr.specs.Below.{tree}
 use Rattle.zmo_module.specs.declared.hole.Hole.{Hole}
 use Rattle.asm_piece.specs.Cells.{written}
 use Rattle.asm_stands.specs.Stands.{size_of}

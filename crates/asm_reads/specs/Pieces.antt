@@ -3,9 +3,9 @@ use Rattle.std.specs.Prelude.{◌≡◌, ℕ, ◌+◌, ◌/◌, ◌%◌, Bool, L
 use Rattle.std.specs.Bool.{MatchBool}
 use Rattle.std.specs.List.{flat_map, sum_by}
 use Rattle.asm_parse.specs.Expression.{Expression}
-use Rattle.asm_expr.specs.declared.atom.Atom.{Atom}
+use Rattle.asm_expr.specs.Below.{Atom}
 use Rattle.asm_expr.specs.declared.statement.Statement as sized
-use Rattle.asm_expr.specs.Items.{value}
+use Rattle.asm_expr.specs.Below.{value}
 use Rattle.z80_instr.specs.declared.Instr.{Instr}
 use Rattle.z80_instr.specs.Table.{canonical}
 use Rattle.z80_instr.specs.Codes.{Codes}

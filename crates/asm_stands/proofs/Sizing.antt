@@ -10,7 +10,7 @@ use Rattle.asm_parse.specs.Expression as expression
 use Rattle.asm_parse.specs.Expression.{postfix}
 use Rattle.asm_parse.specs.Source.{Operand, Number, Name, Here}
 use Rattle.asm_expr.specs.declared.answer.Settled.{Settled}
-use Rattle.asm_expr.specs.declared.atom.Atom.{Atom}
+use Rattle.asm_expr.specs.Below.{Atom}
 use Rattle.asm_expr.specs.declared.meaning.Meaning.{Meaning}
 use Rattle.asm_expr.specs.declared.statement.Statement as size
 use Rattle.asm_expr.specs.declared.statement.Statement.{Statement}
@@ -18,10 +18,10 @@ use Rattle.asm_expr.specs.declared.worth.Worth.{Worth}
 use Rattle.asm_expr.specs.Distances.{is_unsized}
 use Rattle.asm_expr.specs.Names.{Table, found}
 use Rattle.asm_expr.specs.Origins.{is_number_item, is_number_name}
-use Rattle.asm_expr.specs.Postfix.{only, run, source}
+use Rattle.asm_expr.specs.Below.{only, run, source}
 use Rattle.asm_expr.specs.Settling.{is_constant_item, is_constant_name, is_known, replaced, settled, worth}
-use Rattle.asm_expr.proofs.Judgements.{and_parts}
-use Rattle.asm_expr.proofs.Postfix.{run-one}
+use Rattle.asm_expr.proofs.Below.{and_parts}
+use Rattle.asm_expr.proofs.Below.{run-one}
 use Rattle.asm_spell.specs.Line as line
 use Rattle.asm_spell.specs.Line.{Body, Expression, Line}
 use Rattle.asm_names.specs.Lines.{Taken}

@@ -25,7 +25,7 @@ use Rattle.asm_expr.specs.declared.meaning.Meaning.{Meaning}
 use Rattle.asm_expr.specs.Names.{Table, found}
 use Rattle.asm_expr.specs.Offsets.{behind, offset}
 use Rattle.asm_expr.specs.Origins.{is_number_item, is_number_name, is_value, is_valued_item, is_valued_name}
-use Rattle.asm_expr.specs.Postfix.{source}
+use Rattle.asm_expr.specs.Below.{source}
 use Rattle.asm_expr.specs.Settling.{fault, is_constant_item, is_constant_name, is_known, replaced, settled, worth}
 use Rattle.asm_expr.proofs.Anywhere.{number, of_infix}
 use Rattle.asm_spell.specs.declared.fault.StmtFault.{StmtFault}

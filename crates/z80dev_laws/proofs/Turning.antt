@@ -21,7 +21,7 @@ use Rattle.z80_instr.specs.declared.Branch.{Branch}
 use Rattle.z80_instr.specs.declared.Branch.TheVariants.{Relative, CountDown}
 use Rattle.asm_reads.specs.Statement.{Statement, Code, Data, Space, Jump, Short}
 use Rattle.asm_parse.specs.Expression.{Expression}
-use Rattle.asm_expr.specs.declared.atom.Atom.{Atom}
+use Rattle.asm_value.specs.declared.atom.Atom.{Atom}
 use Rattle.asm_piece.specs.Made.{widened, long_jump}
 use Rattle.asm_reads.specs.Pieces.{short_jump, LeadsTo, IsPiece, valued}
 use Rattle.z80_form.specs.declared.field.Field.{Field}

@@ -9,7 +9,7 @@ ghost use Rattle.ruler.specs.Choice.{Choice, IsValid, place};
 ghost use Rattle.z80_instr.specs.declared.Branch.{Branch};
 ghost use Rattle.asm_reads.specs.Statement.{Statement, Code, Jump, Short};
 ghost use Rattle.asm_parse.specs.Expression.{Expression};
-ghost use Rattle.asm_expr.specs.declared.atom.Atom.{Atom};
+ghost use Rattle.asm_value.specs.declared.atom.Atom.{Atom};
 ghost use Rattle.asm_reads.specs.Pieces.{valued};
 ghost use Rattle.z80_form.specs.declared.field.Field.{Field};
 ghost use Rattle.z80_form.specs.Numbers.{with_numbers};

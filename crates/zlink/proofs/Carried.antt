@@ -7,7 +7,7 @@ use Rattle.std.proofs.lemmas.List.Concat.{flat_map-cons}
 use Rattle.std.proofs.lemmas.List.Elements.{All-drop, All-head, All-tail, All-take}
 use Rattle.std.proofs.lemmas.Option.{slice_get-map, slice_get_within}
 use Rattle.std.proofs.lemmas.Slice.Zip.{AllZip-right}
-use Rattle.asm_expr.specs.Arithmetic.{modulus}
+use Rattle.asm_expr.specs.Below.{modulus}
 use Rattle.asm_expr.specs.Distances.{Step}
 use Rattle.asm_expr.specs.declared.statement.Statement as sizing
 use Rattle.ruler.specs.Choice as choice

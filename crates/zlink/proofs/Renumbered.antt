@@ -3,10 +3,10 @@ use Rattle.std.proofs.Common.{◌≡◌, ℕ, ◌+◌, ◌%◌, ◌/◌, Bool, L
 use Rattle.std.specs.List.{flat_map, sum_by}
 use Rattle.std.proofs.lemmas.List.Concat.{flat_map-cons}
 use Rattle.asm_parse.specs.Expression.{Expression, Leaf, Prefix, Infix}
-use Rattle.asm_expr.specs.declared.atom.Atom.{Atom}
+use Rattle.asm_expr.specs.Below.{Atom}
 use Rattle.asm_expr.specs.declared.statement.Statement as sizing
-use Rattle.asm_expr.specs.Arithmetic.{unary, binary}
-use Rattle.asm_expr.specs.Items.{value}
+use Rattle.asm_expr.specs.Below.{unary, binary}
+use Rattle.asm_expr.specs.Below.{value}
 use Rattle.asm_expr.proofs.Sizes.{sum_by-cons}
 use Rattle.z80_form.specs.declared.field.Field.{Field}
 use Rattle.z80_form.specs.Numbers.{with_numbers}

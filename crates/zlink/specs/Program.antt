@@ -1,7 +1,7 @@
 -- Statements with other numbers in place of their refs: those of the whole in place of those of one source.
 use Rattle.std.specs.Prelude.{ℕ, map}
 use Rattle.asm_parse.specs.Expression.{Expression, Leaf, Prefix, Infix}
-use Rattle.asm_expr.specs.declared.atom.Atom.{Atom}
+use Rattle.asm_expr.specs.Below.{Atom}
 use Rattle.asm_reads.specs.Statement as statement
 use Rattle.asm_reads.specs.Statement.{Datum, Statement}
 

@@ -1,8 +1,8 @@
 -- Holes that are filled one after the other.
 use Rattle.std.proofs.Common.{◌≡◌, ℕ, zero, suc, ◌+◌, ◌<◌, ◌≤◌, List, [], ◌∷◌, ◌++◌, length, take, drop, get_or, refl, sym, ap, subst, ◌∙◌, arith, length-append, length-drop}
 use Rattle.std.proofs.lemmas.List.{length-take, take_more}
-use Rattle.asm_expr.specs.Items.{value}
-use Rattle.asm_expr.specs.Postfix.{tree}
+use Rattle.asm_value.specs.Items.{value}
+use Rattle.asm_value.specs.Postfix.{tree}
 use Rattle.zmo_module.specs.declared.hole.Hole.{Hole}
 use Rattle.asm_piece.specs.Cells.{written}
 use Rattle.zmo_module.specs.Holes.{LieWithin, size_of}

@@ -5,11 +5,11 @@ use Rattle.std.proofs.lemmas.List.Elements.{recursion_from_All}
 use Rattle.std.proofs.lemmas.Grind.{flat_map-append}
 use Rattle.asm_parse.specs.declared.item.Item.{Item}
 use Rattle.asm_parse.specs.Expression.{Expression, Leaf, Prefix, Infix, postfix}
-use Rattle.asm_expr.specs.declared.atom.Atom.{Atom}
-use Rattle.asm_expr.specs.Arithmetic.{binary, modulus, unary}
-use Rattle.asm_expr.specs.Items.{refs, refs_in, value}
-use Rattle.asm_expr.specs.Postfix.{tree}
-use Rattle.asm_expr.proofs.Judgements.{spelled_tree}
+use Rattle.asm_value.specs.declared.atom.Atom.{Atom}
+use Rattle.asm_value.specs.Arithmetic.{binary, modulus, unary}
+use Rattle.asm_value.specs.Items.{refs, refs_in, value}
+use Rattle.asm_value.specs.Postfix.{tree}
+use Rattle.asm_value.proofs.Judgements.{spelled_tree}
 use Rattle.z80_instr.specs.Codes.{Codes}
 use Rattle.asm_piece.specs.Cells.{written}
 use Rattle.asm_piece.specs.Made.{long_jump}

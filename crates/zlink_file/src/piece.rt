@@ -13,7 +13,7 @@ ghost use Rattle.zmo_module.specs.Holes.{IsHole, LieWithin, size_of};
 ghost use Rattle.zmo_module.specs.Modules.{statement_of};
 ghost use Rattle.zlink_file.specs.Private.Pieces.{Appends, IsReady, IsSizedPiece};
 
-use asm_expr::value;
+use asm_value::value;
 use std::alloc::AllocError;
 use z80_encode::encode;
 use z80_instr::{Branch, Cond, Instr, ShortCond};

@@ -6,7 +6,7 @@ ghost use Rattle.asm_parse.specs.declared.item.Item.{Item};
 ghost use Rattle.zmo_fields.specs.Postfix.{expr_of, item_at, items_of, leaf_at, whole};
 
 use crate::code::operator_of;
-use asm_expr::{Atom, Expr, Item, MOST_ITEMS};
+use asm_value::{Atom, Expr, Item, MOST_ITEMS};
 use byteorder::{ByteOrder, LittleEndian};
 use std::alloc::{AllocError, Global};
 

@@ -1,11 +1,11 @@
 //! Fields at the end of a text.
 
 ghost use Rattle.std.specs.Prelude.{◌≡◌, ◌≤◌, ◌++◌, ◌∷◌, [], OnOk, length};
-ghost use Rattle.asm_expr.specs.declared.expr.TheConstants.{MOST_ITEMS};
+ghost use Rattle.asm_value.specs.declared.expr.TheConstants.{MOST_ITEMS};
 ghost use Rattle.zmo_fields.specs.Texts.{word, counted, item_text, expr_text};
 
 use crate::code::{binary_code, unary_code};
-use asm_expr::{Atom, Expr, Item, MOST_ITEMS, Room, items};
+use asm_value::{Atom, Expr, Item, MOST_ITEMS, Room, items};
 use byteorder::{ByteOrder, LittleEndian};
 use std::alloc::AllocError;
 

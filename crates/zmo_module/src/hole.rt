@@ -3,7 +3,7 @@
 ghost use Rattle.std.specs.Prelude.{◌≡◌};
 ghost use Rattle.zmo_module.specs.Holes.{ends_in_byte};
 
-use asm_expr::{Atom, Expr, Item, Room, Unary, items};
+use asm_value::{Atom, Expr, Item, Room, Unary, items};
 
 /// How many bytes a field takes.
 #[derive(Clone, Copy, Debug, PartialEq, Eq)]

@@ -7,7 +7,7 @@ mod hole;
 mod module;
 mod statement;
 
-pub use asm_expr::Expr;
+pub use asm_value::Expr;
 pub use hole::{Hole, Width, ends_in_byte};
 pub use module::{Label, MOST_NAMES, MOST_STATEMENTS, Module};
 pub use statement::{MOST_BYTES, Statement};

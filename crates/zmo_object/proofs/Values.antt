@@ -8,9 +8,9 @@ use Rattle.std.proofs.lemmas.List.Elements.{All-cons, All-from_get_or, All-get_o
 use Rattle.std.proofs.lemmas.List.Sums.{AllPass-from_list_all, list_all-from_AllPass}
 use Rattle.asm_words.specs.Results.{◌>>=◌}
 use Rattle.asm_parse.specs.declared.item.Item.{Item}
-use Rattle.asm_expr.specs.declared.atom.Atom.{Atom}
-use Rattle.asm_expr.specs.Items.{IsExpr, is_within, refs}
-use Rattle.asm_expr.proofs.Refs.{all_below, below_all}
+use Rattle.asm_value.specs.declared.atom.Atom.{Atom}
+use Rattle.asm_value.specs.Items.{IsExpr, is_within, refs}
+use Rattle.asm_value.proofs.Refs.{all_below, below_all}
 use Rattle.zmo_module.specs.declared.hole.Hole.{Hole}
 use Rattle.zmo_module.specs.declared.hole.Width.{Width}
 use Rattle.zmo_module.specs.Holes.{FitsWidth, IsHole, LieWithin, size_of}

@@ -7,8 +7,8 @@ use Rattle.asm_words.specs.Results.{◌>>=◌}
 use Rattle.asm_words.specs.Words.{is_reserved, upper}
 use Rattle.asm_scan.specs.Classes.{begins_name, continues_name}
 use Rattle.asm_parse.specs.declared.item.Item.{Item}
-use Rattle.asm_expr.specs.declared.atom.Atom.{Atom}
-use Rattle.asm_expr.specs.Items.{is_within}
+use Rattle.asm_value.specs.declared.atom.Atom.{Atom}
+use Rattle.asm_value.specs.Items.{is_within}
 use Rattle.zmo_module.specs.declared.hole.Hole.{Hole}
 use Rattle.zmo_module.specs.declared.hole.Width.{Width}
 use Rattle.zmo_module.specs.declared.module.TheConstants.{MOST_NAMES, MOST_STATEMENTS}

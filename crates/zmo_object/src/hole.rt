@@ -2,7 +2,7 @@
 
 ghost use Rattle.std.specs.Prelude.{◌≡◌, ◌≤◌, ◌+◌, ◌++◌, OnOk, IfOk, All};
 ghost use Rattle.std.specs.List.{flat_map, list_all};
-ghost use Rattle.asm_expr.specs.Items.{is_within};
+ghost use Rattle.asm_value.specs.Items.{is_within};
 ghost use Rattle.zmo_module.specs.Holes.{size_of};
 ghost use Rattle.zmo_fields.specs.Fields.{Gives, many};
 ghost use Rattle.zmo_object.specs.Texts.{hole_text};
@@ -10,7 +10,7 @@ ghost use Rattle.zmo_object.specs.Reading.{fits_width, fitting, hole_at, is_blan
 
 use crate::code::{width, width_code};
 use crate::room::room;
-use asm_expr::has_places;
+use asm_value::has_places;
 use std::alloc::{AllocError, Global};
 use zmo_fields::{FieldFault, counted, expr_of, put_byte, put_expr, put_word, word};
 use zmo_module::{Expr, Hole, Width, ends_in_byte};

@@ -1,7 +1,7 @@
 //! The expressions of holes: each code of an item.
 
 use crate::objects::object_of;
-use asm_expr::{Atom, Binary, Item, Room, Unary, items};
+use asm_value::{Atom, Binary, Item, Room, Unary, items};
 use std::alloc::Global;
 use std::process::Abort;
 use std::test::Fail;

@@ -6,7 +6,7 @@ use Rattle.asm_parse.specs.Source.{Operand, Name}
 use Rattle.asm_expr.specs.declared.meaning.Meaning.{Meaning}
 use Rattle.asm_expr.specs.Equating.{equated}
 use Rattle.asm_expr.specs.Names.{Table}
-use Rattle.asm_expr.specs.Postfix.{source}
+use Rattle.asm_expr.specs.Below.{source}
 use Rattle.asm_spell.specs.Line.{Expression}
 use Rattle.asm_names.specs.Faults.{first, if_so}
 use Rattle.asm_names.specs.Names.{Names, kind_of}

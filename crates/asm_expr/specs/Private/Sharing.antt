@@ -2,10 +2,10 @@
 use Rattle.std.specs.Prelude.{◌≡◌, ◌<◌, ◌≤◌, ◌++◌, List, Option, Some, None, length, drop}
 use Rattle.std.specs.Option.{option_map}
 use Rattle.asm_parse.specs.declared.item.Item.{Item}
-use Rattle.asm_expr.specs.declared.atom.Atom.{Atom}
+use Rattle.asm_value.specs.declared.atom.Atom.{Atom}
 use Rattle.asm_expr.specs.declared.part.Part.{Part}
-use Rattle.asm_expr.specs.declared.kept.Piece.{Piece}
-use Rattle.asm_expr.specs.Kept.{items_in}
+use Rattle.asm_value.specs.declared.kept.Piece.{Piece}
+use Rattle.asm_value.specs.Kept.{items_in}
 use Rattle.asm_expr.specs.Settling.{items_known}
 
 -- These items stand first, and what an object has of all is these and what it has of the others.

@@ -5,7 +5,7 @@ use Rattle.asm_expr.specs.declared.statement.Statement.{Statement}
 use Rattle.asm_expr.specs.declared.worth.Worth.{Worth}
 use Rattle.asm_expr.specs.declared.layout.Before.{Before}
 use Rattle.asm_expr.specs.declared.layout.Passed.{Passed}
-use Rattle.asm_expr.specs.Arithmetic.{modulus}
+use Rattle.asm_value.specs.Arithmetic.{modulus}
 use Rattle.asm_expr.specs.Distances.{is_relaxable, is_unsized, bytes_of}
 
 pub record IsBefore (statements : List Statement) (before : Before) : Type 0 where

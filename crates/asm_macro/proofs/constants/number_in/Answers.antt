@@ -1,8 +1,8 @@
 use Rattle.std.proofs.Common.{◌≡◌, ◌∙◌, ap, sym, [], ◌∷◌, Ok}
 use Rattle.asm_parse.specs.declared.item.Item.{Item}
-use Rattle.asm_expr.specs.declared.atom.Atom.{Atom}
-use Rattle.asm_expr.specs.Items.{value}
-use Rattle.asm_expr.specs.Postfix.{tree}
+use Rattle.asm_expr.specs.Below.{Atom}
+use Rattle.asm_expr.specs.Below.{value}
+use Rattle.asm_expr.specs.Below.{tree}
 use Rattle.asm_macro.proofs.constants.number_in.Goals as goal
 
 pub returns-in-Some : goal.returns-in-Some

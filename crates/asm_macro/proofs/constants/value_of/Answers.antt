@@ -5,7 +5,7 @@ use Rattle.asm_scan.specs.Tokens.{lexemes}
 use Rattle.asm_parse.specs.Parsed.{parsed}
 use Rattle.asm_parse.specs.Source.{IsSource}
 use Rattle.asm_parse.specs.Expression.{postfix}
-use Rattle.asm_expr.specs.Postfix.{source}
+use Rattle.asm_expr.specs.Below.{source}
 use Rattle.asm_expr.specs.Settling.{is_constant_item, is_known}
 use Rattle.asm_expr.proofs.Steps.{source_whole}
 use Rattle.asm_macro.specs.Private.Constants.{table_of}

@@ -1,5 +1,5 @@
 use Rattle.std.proofs.Common.{sym}
-use Rattle.asm_expr.specs.Postfix.{source}
+use Rattle.asm_expr.specs.Below.{source}
 use Rattle.asm_piece.proofs.Unsized.{unsized}
 use Rattle.asm_piece.proofs.size.size_in.Goals as goal
 

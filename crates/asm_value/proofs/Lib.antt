@@ -1,0 +1,6 @@
+pub mod Gathered
+pub mod Postfix
+pub mod Stack
+pub mod Judgements
+pub mod ValuesLeft
+pub mod Refs

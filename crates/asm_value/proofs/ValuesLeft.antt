@@ -1,0 +1,12 @@
+-- How many values items leave.
+use Rattle.std.proofs.Common.{◌≡◌, ◌≤◌, ℕ, List, [], length, drop}
+use Rattle.asm_value.specs.Types.{Item}
+use Rattle.asm_parse.specs.Expression.{Expression}
+use Rattle.asm_value.specs.Postfix.{run}
+
+-- Some items of a list are read, and this many values are left.
+pub record Leaves {L : Type 0} (items : List (Item L)) (read left : ℕ) : Type 0 where
+  pub values : List (Expression L)
+  pub runs : run (drop read items) values ≡ run items []
+  pub count : left ≡ length values
+  pub few : left ≤ read

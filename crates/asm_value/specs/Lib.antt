@@ -1,0 +1,6 @@
+pub mod Types
+pub mod Postfix
+pub mod Arithmetic
+pub mod Kept
+pub mod Items
+pub mod Private
