@@ -59,14 +59,14 @@ fn part_of(alloc: Global, token: &Token<'_>) -> Result<Part, ExprFault>
             None => Ok(Part::Foreign),
         },
         Kind::Name => {
-            let name = token.text.to_ascii_uppercase(alloc)?;
-            if let Some(sign) = sign_of(&name) {
+            let mut name = KeptName::from_slice(alloc, token.text)?;
+            name.as_mut_slice().make_ascii_uppercase();
+            if let Some(sign) = sign_of(name.as_slice()) {
                 return Ok(Part::Sign(sign));
             }
-            if is_reserved(&name) {
+            if is_reserved(name.as_slice()) {
                 return Ok(Part::Foreign);
             }
-            let name = KeptName::from_slice(alloc, &name)?;
             Ok(Part::Term(Term::Name(name)))
         }
         Kind::Mark(mark) => Ok(match mark {
