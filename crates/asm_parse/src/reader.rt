@@ -20,6 +20,7 @@ use crate::sign::{Prefix, Sign, sign_of};
 use crate::tree::Tree;
 use asm_scan::{Kind, Mark, Token};
 use asm_words::is_reserved;
+use smallvec::SmallVec;
 use std::alloc::Global;
 
 /// The most parentheses and prefix operators that may be open at one point.
@@ -84,19 +85,23 @@ fn part_of(alloc: Global, token: &Token<'_>) -> Result<Part, ExprFault>
 }
 
 /// What waits for its last operand.
-#[derive(Clone, Copy, Debug)]
+#[derive(Clone, Copy, Debug, Default)]
 enum Operator {
+    #[default]
     Inside,
     Under(Prefix),
     RightOf(Binary),
 }
 
 /// An operator that waits, and how many parentheses and prefix operators are open with it.
-#[derive(Clone, Copy, Debug)]
+#[derive(Clone, Copy, Debug, Default)]
 struct Pending {
     operator: Operator,
     count: usize,
 }
+
+/// The operators that wait, the innermost last. In most expressions few do at once, and these lie in place.
+type Waiting = SmallVec<Pending, 4>;
 
 /// How loosely an operator binds; a parenthesis takes all.
 fn level_of(operator: Operator) -> u8
@@ -142,11 +147,7 @@ fn write_operator(items: &mut Vec<Item<Term>>, operator: Operator) -> Result<(),
 }
 
 /// Lets the operators that bind at least as tightly as a level take their operands.
-fn reduce(
-    pending: &mut Vec<Pending>,
-    items: &mut Vec<Item<Term>>,
-    level: u8,
-) -> Result<(), ExprFault>
+fn reduce(pending: &mut Waiting, items: &mut Vec<Item<Term>>, level: u8) -> Result<(), ExprFault>
     requires { level ≤ 7 }
     ensures reduced { IfOk result (λ _. (frames : List Frame) (a : Phrase) → pending.old.items ≡ pendings frames →
         map source_item items.old.items ≡ written frames ++ postfix (expression a) →
@@ -182,8 +183,7 @@ fn room_in(pending: &[Pending]) -> u8
 /// What is read so far.
 #[derive(Debug, Drop)]
 struct Reader {
-    /// The operators that wait, the innermost last.
-    pending: Vec<Pending>,
+    pending: Waiting,
     /// The items that are written, in postfix order.
     items: Vec<Item<Term>>,
     /// The most parentheses and prefix operators that were open at one point.
@@ -205,7 +205,7 @@ impl Reader {
     {
         let count = open_in(&self.pending).saturating_add(1);
         self.pending.push(Pending { operator, count })?;
-        self.deepest = self.deepest.max(count);
+        self.deepest = self.deepest.max(open_in(&self.pending));
         Ok(())
     }
 
@@ -317,7 +317,7 @@ pub fn parse(alloc: Global, tokens: &[Token<'_>]) -> Result<Tree, ExprFault>
         return term_alone(alloc, token);
     }
     let mut reader = Reader {
-        pending: Vec::new(alloc),
+        pending: Waiting::new(alloc),
         items: Vec::with_capacity(alloc, tokens.len())?,
         deepest: 0,
         complete: false,
