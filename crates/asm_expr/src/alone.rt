@@ -12,16 +12,16 @@ ghost use Rattle.asm_expr.specs.Settling.{settled};
 use crate::atom::Atom;
 use crate::meaning::Meaning;
 use crate::names::Names;
-use asm_parse::{Item, Term, Tree};
+use asm_parse::{Item, Term, TermView, Tree};
 
 /// What a term stands for; None where that has no value, or is an expression.
 fn atom_of(term: &Term, names: &Names) -> Option<Atom>
     ensures { result ≡ atom_of names.now (operand term.now) }
 {
-    match term {
-        Term::Number(n) => Some(Atom::Number(*n)),
-        Term::Here => Some(Atom::Ref(names.here())),
-        Term::Name(name) => match names.meaning(name) {
+    match term.view() {
+        TermView::Number(n) => Some(Atom::Number(n)),
+        TermView::Here => Some(Atom::Ref(names.here())),
+        TermView::Name(name) => match names.meaning(name) {
             Some(Meaning::Label(r) | Meaning::External(r)) => Some(Atom::Ref(*r)),
             Some(Meaning::Constant(n)) => Some(Atom::Number(*n)),
             _ => None,

@@ -25,7 +25,7 @@ mod worth;
 
 pub use alone::number_alone;
 pub use answer::{Settled, settle};
-pub use asm_parse::{Binary, ExprFault, Item, Term, Tree, Unary, is_reserved, parse};
+pub use asm_parse::{Binary, ExprFault, Item, Term, TermView, Tree, Unary, is_reserved, parse};
 pub use atom::Atom;
 pub use equating::equate;
 pub use expr::{Expr, MOST_ITEMS, constant, has_places, items, value};

@@ -5,16 +5,16 @@ ghost use Rattle.std.specs.Prelude.{◌≡◌, ◌≤◌, ◌⊎◌, ◌∷◌, 
 ghost use Rattle.asm_scan.specs.Tokens.{lexeme, lexemes};
 ghost use Rattle.asm_parse.specs.declared.fault.ExprFault.{ExprFault};
 ghost use Rattle.asm_parse.specs.Expression.{postfix};
-ghost use Rattle.asm_parse.specs.Source.{source_item};
+ghost use Rattle.asm_parse.specs.Source.{operand, source_item};
 ghost use Rattle.asm_parse.specs.Grammar.{IsParsed, Phrase, character, expression, symbol};
 ghost use Rattle.asm_parse.specs.Parsed.{parsed, parsed_symbols};
 ghost use Rattle.asm_parse.specs.Private.Parsing.{Frame, reduce};
 ghost use Rattle.asm_parse.specs.Private.Readers.{room_in};
-ghost use Rattle.asm_parse.specs.Private.Stacks.{IsReduced, closed_item, level_of, open_in, part_symbol, pendings, written};
+ghost use Rattle.asm_parse.specs.Private.Stacks.{IsReduced, closed_item, level_of, named_symbol, open_in, part_symbol, pendings, written};
 
 use crate::fault::ExprFault;
 use crate::few::Few;
-use crate::item::{Item, KeptName, Term};
+use crate::item::{Item, Term, TermView};
 use crate::operator::{Binary, Unary};
 use crate::sign::{Prefix, Sign, sign_of};
 use crate::tree::Tree;
@@ -48,6 +48,24 @@ fn character(text: &[u8]) -> Option<u8>
     }
 }
 
+/// What a term is to an expression: a name in upper case may be a sign, or reserved.
+fn named(term: Term) -> Part
+    ensures { part_symbol result ≡ named_symbol (operand term) }
+{
+    match term.view() {
+        TermView::Name(name) => {
+            if let Some(sign) = sign_of(name) {
+                return Part::Sign(sign);
+            }
+            if is_reserved(name) {
+                return Part::Foreign;
+            }
+        }
+        TermView::Number(_) | TermView::Here => {}
+    }
+    Part::Term(term)
+}
+
 /// What a token is to an expression, its name in upper case.
 fn part_of(alloc: Global, token: &Token<'_>) -> Result<Part, ExprFault>
     ensures part { IfOk result (λ part. part_symbol part ≡ symbol (lexeme token.now)) }
@@ -59,17 +77,7 @@ fn part_of(alloc: Global, token: &Token<'_>) -> Result<Part, ExprFault>
             Some(c) => Ok(Part::Term(Term::Number(u16::from(c)))),
             None => Ok(Part::Foreign),
         },
-        Kind::Name => {
-            let mut name = KeptName::from_slice(alloc, token.text)?;
-            name.as_mut_slice().make_ascii_uppercase();
-            if let Some(sign) = sign_of(name.as_slice()) {
-                return Ok(Part::Sign(sign));
-            }
-            if is_reserved(name.as_slice()) {
-                return Ok(Part::Foreign);
-            }
-            Ok(Part::Term(Term::Name(name)))
-        }
+        Kind::Name => Ok(named(Term::upper(alloc, token.text)?)),
         Kind::Mark(mark) => Ok(match mark {
             Mark::Dollar => Part::Term(Term::Here),
             Mark::Open => Part::Sign(Sign::Open),
