@@ -10,7 +10,7 @@ ghost use Rattle.asm_names.specs.Names as defined;
 ghost use Rattle.asm_equ.specs.Private.Bounds.{AreBelow};
 ghost use Rattle.asm_equ.specs.Circles.{equ_items, line_named, lines_named};
 
-use asm_expr::{Item, Term, Tree};
+use asm_expr::{Item, Term, TermView, Tree};
 use asm_names::{Kind, NameTable, SourceLine};
 use asm_order::{Turn, order};
 use asm_spell::Line;
@@ -20,7 +20,7 @@ use std::alloc::{AllocError, Global};
 fn line_named(names: &NameTable, item: &Item<Term>) -> Option<usize>
     ensures { result ≡ line_named names.now (source_item item.now) }
 {
-    let Item::Leaf(Term::Name(name)) = item else {
+    let Item::Leaf(TermView::Name(name)) = item.view() else {
         return None;
     };
     match names.kind(name) {

@@ -9,7 +9,7 @@ ghost use Rattle.asm_expr.specs.declared.meaning.Meaning.{Meaning};
 ghost use Rattle.asm_equ.specs.Private.Judged.{is_named, judged};
 
 use crate::fault::EquFault;
-use asm_expr::{ExprFault, Item, Meaning, Names, Term, Tree, equate};
+use asm_expr::{ExprFault, Item, Meaning, Names, Term, TermView, Tree, equate};
 use asm_names::NameTable;
 use std::alloc::{AllocError, Global};
 
@@ -17,8 +17,8 @@ use std::alloc::{AllocError, Global};
 fn is_named(names: &NameTable, item: &Item<Term>) -> bool
     ensures { result ≡ is_named names.now (source_item item.now) }
 {
-    match item {
-        Item::Leaf(Term::Name(name)) => names.kind(name).is_some(),
+    match item.view() {
+        Item::Leaf(TermView::Name(name)) => names.kind(name).is_some(),
         _ => true,
     }
 }

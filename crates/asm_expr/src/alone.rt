@@ -13,17 +13,17 @@ ghost use Rattle.asm_expr.specs.Private.Left.{IsLeftOperand, operand_alone};
 
 use crate::meaning::Meaning;
 use crate::names::Names;
-use asm_parse::{Item, Term, Tree};
+use asm_parse::{Item, Term, TermView, Tree};
 use asm_value::{Atom, Expr};
 
 /// What a term stands for; None where that has no value, or is an expression.
 fn atom_of(term: &Term, names: &Names) -> Option<Atom>
     ensures { result ≡ atom_of names.now (operand term.now) }
 {
-    match term {
-        Term::Number(n) => Some(Atom::Number(*n)),
-        Term::Here => Some(Atom::Ref(names.here())),
-        Term::Name(name) => match names.meaning(name) {
+    match term.view() {
+        TermView::Number(n) => Some(Atom::Number(n)),
+        TermView::Here => Some(Atom::Ref(names.here())),
+        TermView::Name(name) => match names.meaning(name) {
             Some(Meaning::Label(r) | Meaning::External(r)) => Some(Atom::Ref(*r)),
             Some(Meaning::Constant(n)) => Some(Atom::Number(*n)),
             _ => None,
@@ -45,8 +45,8 @@ pub(crate) fn atom_alone(parsed: &Tree, names: &Names) -> Option<Atom>
 fn left_of<'a>(term: &Term, names: &'a Names) -> Option<&'a Expr>
     ensures { IfSome result (λ expr. IsLeftOperand names.now (operand term.now) expr.now) }
 {
-    match term {
-        Term::Name(name) => names.left(name),
+    match term.view() {
+        TermView::Name(name) => names.left(name),
         _ => None,
     }
 }

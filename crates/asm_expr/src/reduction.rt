@@ -23,7 +23,7 @@ use crate::single::Single;
 use crate::unknown::Unknown;
 use crate::weigh::item_size;
 use crate::worth::Worth;
-use asm_parse::{Binary, ExprFault, Item, Term, Tree, Unary};
+use asm_parse::{Binary, ExprFault, Item, Term, TermView, Tree, Unary};
 use asm_value::{Atom, Expr, MOST_ITEMS, Room, apply_binary, apply_unary, items};
 
 fn worth_of(item: &Item<Part>) -> Worth
@@ -283,10 +283,10 @@ fn take_term(out: &mut Parts, term: &Term, names: &Names) -> Result<(), ExprFaul
     ensures folds { (before : List (Expression Part)) → out.old ≡ spread before →
         Folds (fold_all names.now (items_for names.now (Item.Leaf (operand term.now))) before) result out.new }
 {
-    match term {
-        Term::Number(n) => put_part(out, Part::Number(*n)),
-        Term::Here => put_part(out, Part::Ref(names.here())),
-        Term::Name(name) => match names.meaning(name) {
+    match term.view() {
+        TermView::Number(n) => put_part(out, Part::Number(n)),
+        TermView::Here => put_part(out, Part::Ref(names.here())),
+        TermView::Name(name) => match names.meaning(name) {
             Some(Meaning::Label(statement)) => put_part(out, Part::Ref(*statement)),
             Some(Meaning::External(external)) => put_part(out, Part::Ref(*external)),
             Some(Meaning::Constant(n)) => put_part(out, Part::Number(*n)),

@@ -11,7 +11,7 @@ use crate::answer::Settled;
 use crate::meaning::Meaning;
 use crate::names::Names;
 use crate::part::Part;
-use asm_parse::{Item, Term, Tree};
+use asm_parse::{Item, Term, TermView, Tree};
 use asm_value::{Atom, Kept, Piece};
 use std::alloc::{AllocError, Global};
 use std::rc::Rc;
@@ -27,7 +27,7 @@ struct Lists<'a> {
 
 /// The items that a name stands for, where they are kept to be shared.
 fn list_of<'a>(item: &Item<Term>, names: &'a Names) -> Option<&'a Rc<Vec<Item<Atom>>>> {
-    let Item::Leaf(Term::Name(name)) = item else {
+    let Item::Leaf(TermView::Name(name)) = item.view() else {
         return None;
     };
     match names.meaning(name) {

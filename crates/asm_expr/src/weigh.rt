@@ -11,13 +11,13 @@ ghost use Rattle.asm_expr.specs.Private.Folding.{item_size};
 
 use crate::meaning::Meaning;
 use crate::names::Names;
-use asm_parse::{Item, Term, Tree};
+use asm_parse::{Item, Term, TermView, Tree};
 
 /// How many terms and operators an item of a source stands for.
 pub(crate) fn item_size(item: &Item<Term>, names: &Names) -> u16
     ensures { result ≡ item_size names.now (source_item item.now) }
 {
-    let Item::Leaf(Term::Name(name)) = item else {
+    let Item::Leaf(TermView::Name(name)) = item.view() else {
         return 1;
     };
     match names.meaning(name) {
@@ -30,9 +30,9 @@ pub(crate) fn item_size(item: &Item<Term>, names: &Names) -> u16
 fn is_constant_item(item: &Item<Term>, names: &Names) -> bool
     ensures { result ≡ is_constant_item names.now (source_item item.now) }
 {
-    match item {
-        Item::Leaf(Term::Here) => false,
-        Item::Leaf(Term::Name(name)) => {
+    match item.view() {
+        Item::Leaf(TermView::Here) => false,
+        Item::Leaf(TermView::Name(name)) => {
             matches!(
                 names.meaning(name),
                 None | Some(Meaning::Constant(_) | Meaning::UnknownConstant | Meaning::Faulty)
@@ -72,8 +72,8 @@ pub fn size(parsed: &Tree, names: &Names) -> u16
 fn is_known(item: &Item<Term>, names: &Names) -> bool
     ensures { result ≡ is_known names.now (source_item item.now) }
 {
-    match item {
-        Item::Leaf(Term::Name(name)) => names.meaning(name).is_some(),
+    match item.view() {
+        Item::Leaf(TermView::Name(name)) => names.meaning(name).is_some(),
         _ => true,
     }
 }

@@ -1,6 +1,7 @@
 -- Expressions as a source has them.
 use Rattle.std.specs.Prelude.{◌≡◌, ℕ, List}
 use Rattle.asm_parse.specs.declared.item.Item.{Item}
+use Rattle.asm_parse.specs.declared.item.TermView.{TermView}
 use Rattle.asm_parse.specs.declared.item.Term.{Term}
 use Rattle.asm_parse.specs.Expression.{Expression, postfix}
 
@@ -12,13 +13,25 @@ pub data Operand : Type 0 where
 
 abbrev pub operand : Term → Operand
 operand (Term.Number n) = Number n
-operand (Term.Name name) = Name name.items
+operand (Term.Short name) = Name name
+operand (Term.Long name) = Name name.value.items
 operand Term.Here = Here
 
 abbrev pub source_item : Item Term → Item Operand
 source_item (Item.Leaf t) = Item.Leaf (operand t)
 source_item (Item.Unary op) = Item.Unary op
 source_item (Item.Binary op) = Item.Binary op
+
+-- the same of what a view gives
+abbrev pub view_operand : TermView → Operand
+view_operand (TermView.Number n) = Number n
+view_operand (TermView.Name name) = Name name.now
+view_operand TermView.Here = Here
+
+abbrev pub view_item : Item TermView → Item Operand
+view_item (Item.Leaf t) = Item.Leaf (view_operand t)
+view_item (Item.Unary op) = Item.Unary op
+view_item (Item.Binary op) = Item.Binary op
 
 -- The items of an expression.
 pub record IsSource (items : List (Item Operand)) : Type 0 where

@@ -8,14 +8,16 @@ pub mod laws;
 mod name;
 mod operator;
 mod reader;
+mod short_name;
 mod sign;
 mod tree;
 
 pub use asm_words::is_reserved;
 pub use fault::ExprFault;
 pub use few::Few;
-pub use item::{Item, KeptName, Term};
+pub use item::{Item, KeptName, Term, TermView};
 pub use name::is_name;
 pub use operator::{Binary, Unary};
 pub use reader::{MOST_OPEN, parse};
+pub use short_name::ShortName;
 pub use tree::Tree;

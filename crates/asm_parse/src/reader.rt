@@ -5,21 +5,22 @@ ghost use Rattle.std.specs.Prelude.{◌≡◌, ◌≤◌, ◌⊎◌, ◌∷◌, 
 ghost use Rattle.asm_scan.specs.Tokens.{lexeme, lexemes};
 ghost use Rattle.asm_parse.specs.declared.fault.ExprFault.{ExprFault};
 ghost use Rattle.asm_parse.specs.Expression.{postfix};
-ghost use Rattle.asm_parse.specs.Source.{source_item};
+ghost use Rattle.asm_parse.specs.Source.{operand, source_item};
 ghost use Rattle.asm_parse.specs.Grammar.{IsParsed, Phrase, character, expression, symbol};
 ghost use Rattle.asm_parse.specs.Parsed.{parsed, parsed_symbols};
 ghost use Rattle.asm_parse.specs.Private.Parsing.{Frame, reduce};
 ghost use Rattle.asm_parse.specs.Private.Readers.{room_in};
-ghost use Rattle.asm_parse.specs.Private.Stacks.{IsReduced, closed_item, level_of, open_in, part_symbol, pendings, written};
+ghost use Rattle.asm_parse.specs.Private.Stacks.{IsReduced, closed_item, level_of, named_symbol, open_in, part_symbol, pendings, written};
 
 use crate::fault::ExprFault;
 use crate::few::Few;
-use crate::item::{Item, KeptName, Term};
+use crate::item::{Item, Term, TermView};
 use crate::operator::{Binary, Unary};
 use crate::sign::{Prefix, Sign, sign_of};
 use crate::tree::Tree;
 use asm_scan::{Kind, Mark, Token};
 use asm_words::is_reserved;
+use smallvec::SmallVec;
 use std::alloc::Global;
 
 /// The most parentheses and prefix operators that may be open at one point.
@@ -47,6 +48,24 @@ fn character(text: &[u8]) -> Option<u8>
     }
 }
 
+/// What a term is to an expression: a name in upper case may be a sign, or reserved.
+fn named(term: Term) -> Part
+    ensures { part_symbol result ≡ named_symbol (operand term) }
+{
+    match term.view() {
+        TermView::Name(name) => {
+            if let Some(sign) = sign_of(name) {
+                return Part::Sign(sign);
+            }
+            if is_reserved(name) {
+                return Part::Foreign;
+            }
+        }
+        TermView::Number(_) | TermView::Here => {}
+    }
+    Part::Term(term)
+}
+
 /// What a token is to an expression, its name in upper case.
 fn part_of(alloc: Global, token: &Token<'_>) -> Result<Part, ExprFault>
     ensures part { IfOk result (λ part. part_symbol part ≡ symbol (lexeme token.now)) }
@@ -58,17 +77,7 @@ fn part_of(alloc: Global, token: &Token<'_>) -> Result<Part, ExprFault>
             Some(c) => Ok(Part::Term(Term::Number(u16::from(c)))),
             None => Ok(Part::Foreign),
         },
-        Kind::Name => {
-            let name = token.text.to_ascii_uppercase(alloc)?;
-            if let Some(sign) = sign_of(&name) {
-                return Ok(Part::Sign(sign));
-            }
-            if is_reserved(&name) {
-                return Ok(Part::Foreign);
-            }
-            let name = KeptName::from_slice(alloc, &name)?;
-            Ok(Part::Term(Term::Name(name)))
-        }
+        Kind::Name => Ok(named(Term::upper(alloc, token.text)?)),
         Kind::Mark(mark) => Ok(match mark {
             Mark::Dollar => Part::Term(Term::Here),
             Mark::Open => Part::Sign(Sign::Open),
@@ -84,19 +93,23 @@ fn part_of(alloc: Global, token: &Token<'_>) -> Result<Part, ExprFault>
 }
 
 /// What waits for its last operand.
-#[derive(Clone, Copy, Debug)]
+#[derive(Clone, Copy, Debug, Default)]
 enum Operator {
+    #[default]
     Inside,
     Under(Prefix),
     RightOf(Binary),
 }
 
 /// An operator that waits, and how many parentheses and prefix operators are open with it.
-#[derive(Clone, Copy, Debug)]
+#[derive(Clone, Copy, Debug, Default)]
 struct Pending {
     operator: Operator,
     count: usize,
 }
+
+/// The operators that wait, the innermost last. In most expressions few do at once, and these lie in place.
+type Waiting = SmallVec<Pending, 4>;
 
 /// How loosely an operator binds; a parenthesis takes all.
 fn level_of(operator: Operator) -> u8
@@ -142,11 +155,7 @@ fn write_operator(items: &mut Vec<Item<Term>>, operator: Operator) -> Result<(),
 }
 
 /// Lets the operators that bind at least as tightly as a level take their operands.
-fn reduce(
-    pending: &mut Vec<Pending>,
-    items: &mut Vec<Item<Term>>,
-    level: u8,
-) -> Result<(), ExprFault>
+fn reduce(pending: &mut Waiting, items: &mut Vec<Item<Term>>, level: u8) -> Result<(), ExprFault>
     requires { level ≤ 7 }
     ensures reduced { IfOk result (λ _. (frames : List Frame) (a : Phrase) → pending.old.items ≡ pendings frames →
         map source_item items.old.items ≡ written frames ++ postfix (expression a) →
@@ -182,8 +191,7 @@ fn room_in(pending: &[Pending]) -> u8
 /// What is read so far.
 #[derive(Debug, Drop)]
 struct Reader {
-    /// The operators that wait, the innermost last.
-    pending: Vec<Pending>,
+    pending: Waiting,
     /// The items that are written, in postfix order.
     items: Vec<Item<Term>>,
     /// The most parentheses and prefix operators that were open at one point.
@@ -205,7 +213,7 @@ impl Reader {
     {
         let count = open_in(&self.pending).saturating_add(1);
         self.pending.push(Pending { operator, count })?;
-        self.deepest = self.deepest.max(count);
+        self.deepest = self.deepest.max(open_in(&self.pending));
         Ok(())
     }
 
@@ -317,7 +325,7 @@ pub fn parse(alloc: Global, tokens: &[Token<'_>]) -> Result<Tree, ExprFault>
         return term_alone(alloc, token);
     }
     let mut reader = Reader {
-        pending: Vec::new(alloc),
+        pending: Waiting::new(alloc),
         items: Vec::with_capacity(alloc, tokens.len())?,
         deepest: 0,
         complete: false,

@@ -6,7 +6,7 @@ ghost use Rattle.asm_parse.specs.Few.{all};
 ghost use Rattle.asm_parse.specs.Source.{IsSource, Name, source_item};
 
 use crate::few::Few;
-use crate::item::{Item, KeptName, Term};
+use crate::item::{Item, Term};
 use std::alloc::{AllocError, Global};
 use std::marker::Model;
 
@@ -46,8 +46,8 @@ impl Tree {
     pub fn name(alloc: Global, name: &[u8]) -> Result<Tree, AllocError>
         ensures { IfOk result (λ tree. tree ≡ Item.Leaf (Name name.now) ∷ []) }
     {
-        let name = KeptName::from_slice(alloc, name)?;
-        Ok(Tree::known(Few::One([Item::Leaf(Term::Name(name))])))
+        let term = Term::name(alloc, name)?;
+        Ok(Tree::known(Few::One([Item::Leaf(term)])))
     }
 
     /// The items in postfix order.

@@ -18,7 +18,7 @@ use crate::fault::StmtFault;
 use crate::jump::{Jump, jump_of};
 use crate::line::Body;
 use crate::operand::Written;
-use asm_parse::{Few, Item, Term, Tree};
+use asm_parse::{Few, Item, TermView, Tree};
 use asm_scan::Token;
 use std::alloc::{AllocError, Global};
 use z80_form::{Field, Mnemonic, field_of};
@@ -29,7 +29,10 @@ fn name_in(tree: &Tree) -> Option<&[u8]>
     ensures { option_map (λ name. name.now) result ≡ name_in (Some tree.now) }
 {
     match tree.items() {
-        [Item::Leaf(Term::Name(name))] => Some(name.as_slice()),
+        [Item::Leaf(term)] => match term.view() {
+            TermView::Name(name) => Some(name),
+            TermView::Number(_) | TermView::Here => None,
+        },
         _ => None,
     }
 }

@@ -1,17 +1,17 @@
 //! Lines as text.
 
-use asm_parse::{Item, KeptName, Term, Tree};
+use asm_parse::{Item, KeptName, Term, TermView, Tree};
 use asm_spell::{Body, Line, Value};
 use std::io::Write;
 
 fn show_item<W: Write>(out: &mut W, item: &Item<Term>) -> Result<(), anyhow::Error> {
-    match item {
-        Item::Leaf(Term::Number(n)) => write!(out, " {n}")?,
-        Item::Leaf(Term::Name(name)) => {
+    match item.view() {
+        Item::Leaf(TermView::Number(n)) => write!(out, " {n}")?,
+        Item::Leaf(TermView::Name(name)) => {
             write!(out, " ")?;
             out.write_all(name)?;
         }
-        Item::Leaf(Term::Here) => write!(out, " $")?,
+        Item::Leaf(TermView::Here) => write!(out, " $")?,
         Item::Unary(operator) => write!(out, " {operator:?}")?,
         Item::Binary(operator) => write!(out, " {operator:?}")?,
     }

@@ -7,7 +7,7 @@ ghost use Rattle.asm_spell.specs.Line.{body_of, value_of};
 ghost use Rattle.asm_states.specs.Faults.{passed_on, used};
 ghost use Rattle.asm_states.specs.Private.Missing.{fill_misses, is_missing, is_no_label, item_misses, tree_misses, value_misses};
 
-use asm_expr::{Item, Term, Tree};
+use asm_expr::{Item, Term, TermView, Tree};
 use asm_names::{Kind, NameTable};
 use asm_spell::{Body, KeptName, Value};
 use z80_form::Field;
@@ -30,8 +30,8 @@ fn names_miss(table: &NameTable, names: &[KeptName]) -> bool
 fn item_misses(table: &NameTable, item: &Item<Term>) -> bool
     ensures { result ≡ item_misses table.now (source_item item.now) }
 {
-    match item {
-        Item::Leaf(Term::Name(name)) => is_missing(table, name),
+    match item.view() {
+        Item::Leaf(TermView::Name(name)) => is_missing(table, name),
         _ => false,
     }
 }

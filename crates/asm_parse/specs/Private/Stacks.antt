@@ -7,14 +7,20 @@ use Rattle.asm_parse.specs.declared.reader.Part.{Part}
 use Rattle.asm_parse.specs.declared.reader.Operator.{Operator}
 use Rattle.asm_parse.specs.declared.reader.Pending.{Pending}
 use Rattle.asm_parse.specs.Expression.{postfix}
-use Rattle.asm_parse.specs.Source.{Operand, operand}
-use Rattle.asm_parse.specs.Grammar.{Symbol, Term, Marked, Foreign, Phrase, prefix_level, infix_level, depth, expression}
+use Rattle.asm_parse.specs.Source.{Operand, Name, operand}
+use Rattle.asm_parse.specs.Words.{sign_of}
+use Rattle.asm_parse.specs.Grammar.{Symbol, Term, Marked, Foreign, Phrase, prefix_level, infix_level, depth, expression, symbol_of_name}
 use Rattle.asm_parse.specs.Private.Parsing.{Frame, Inside, Under, RightOf, State}
 
 abbrev pub part_symbol : Part → Symbol
 part_symbol (Part.Term t) = Term (operand t)
 part_symbol (Part.Sign s) = Marked s
 part_symbol Part.Foreign = Foreign
+
+-- a term whose name may be a sign, or reserved
+abbrev pub named_symbol : Operand → Symbol
+named_symbol (Name name) = symbol_of_name (sign_of name) name
+named_symbol other = Term other
 
 abbrev pub level_of : Operator → ℕ
 level_of Operator.Inside = 8

@@ -1,6 +1,6 @@
 use Rattle.std.proofs.Common.{◌≡◌, ◌≤◌, ◌+◌, ℕ, List, Result, Ok, Err, IfOk, Some, sym, ap, subst, arith, ◌∙◌}
 use Rattle.asm_expr.specs.Types.{ExprFault}
-use Rattle.asm_parse.specs.Source.{Operand, operand, Name}
+use Rattle.asm_parse.specs.Source.{Operand, view_operand, operand, Name}
 use Rattle.asm_expr.specs.declared.meaning.Meaning.{Meaning}
 use Rattle.asm_expr.specs.declared.meaning.Equated.{Equated}
 use Rattle.asm_parse.specs.Expression.{postfix}
@@ -22,26 +22,26 @@ at_most (Err why) new old m n few most = tt
 pub take_settled-requires : goal.take_settled-requires
 take_settled-requires c =
     let t = c.args.names.now in
-    let known : found t c.in-Name.name.items ≡ Some (Meaning.Equ c.in-Some-Equ.equated) =
-    ap (found t) (sym c.deref.ensures) ∙ sym c.in-Some-Equ.ensures ∙ ap Some c.in-Some-Equ.field-0-is in
-    let few = enough t c.in-Name.name.items (operand c.args.term.now) c.in-Some-Equ.equated c.requires.counted (ap operand c.in-Name.is) known in
+    let known : found t c.in-Name.name.now ≡ Some (Meaning.Equ c.in-Some-Equ.equated) =
+    sym c.in-Some-Equ.ensures ∙ ap Some c.in-Some-Equ.field-0-is in
+    let few = enough t c.in-Name.name.now (operand c.args.term.now) c.in-Some-Equ.equated c.requires.counted (sym c.view.ensures ∙ ap view_operand c.in-Name.is) known in
     omega (arith, few, c.requires.room)
 
 pub returns-in-Some-Equ-clause-most : goal.returns-in-Some-Equ-clause-most
 returns-in-Some-Equ-clause-most c =
     let t = c.args.names.now in
-    let known : found t c.in-Name.name.items ≡ Some (Meaning.Equ c.in-Some-Equ.equated) =
-    ap (found t) (sym c.deref.ensures) ∙ sym c.in-Some-Equ.ensures ∙ ap Some c.in-Some-Equ.field-0-is in
-    let few = enough t c.in-Name.name.items (operand c.args.term.now) c.in-Some-Equ.equated c.requires.counted (ap operand c.in-Name.is) known in
+    let known : found t c.in-Name.name.now ≡ Some (Meaning.Equ c.in-Some-Equ.equated) =
+    sym c.in-Some-Equ.ensures ∙ ap Some c.in-Some-Equ.field-0-is in
+    let few = enough t c.in-Name.name.now (operand c.args.term.now) c.in-Some-Equ.equated c.requires.counted (sym c.view.ensures ∙ ap view_operand c.in-Name.is) known in
     at_most c.take_settled.result _ _ _ _ few c.take_settled.ensures.most
 
 pub returns-in-Some-Equ-clause-folds : goal.returns-in-Some-Equ-clause-folds
 returns-in-Some-Equ-clause-folds c = λ before is.
     let t = c.args.names.now in
     let equ = c.in-Some-Equ.equated in
-    let name : operand c.args.term.now ≡ Name c.in-Name.name.items = ap operand c.in-Name.is in
-    let known : found t c.in-Name.name.items ≡ Some (Meaning.Equ equ) =
-    ap (found t) (sym c.deref.ensures) ∙ sym c.in-Some-Equ.ensures ∙ ap Some c.in-Some-Equ.field-0-is in
+    let name : operand c.args.term.now ≡ Name c.in-Name.name.now = sym c.view.ensures ∙ ap view_operand c.in-Name.is in
+    let known : found t c.in-Name.name.now ≡ Some (Meaning.Equ equ) =
+    sym c.in-Some-Equ.ensures ∙ ap Some c.in-Some-Equ.field-0-is in
     let stands : postfix (stands_for t (operand c.args.term.now)) ≡ postfix (standing equ.settled) =
     ap (λ o. postfix (stands_for t o)) name ∙ ap (λ m. postfix (meant m)) known in
     subst (λ items. Folds (fold_all t items before) c.take_settled.result c.take_settled.new.out) (sym stands) (c.take_settled.ensures.folds before is)

@@ -19,6 +19,6 @@ pub returns : goal.returns
 returns c = λ frames a h.
     let r : IsReduced (reduce (infix_level c.in-Some-infix.op) frames a) c.reduce-2.new.pending.items (map source_item c.reduce-2.new.items.items) =
     subst (λ l. IsReduced (reduce l frames a) c.reduce-2.new.pending.items (map source_item c.reduce-2.new.items.items)) c.level_of.ensures (c.in_ok-reduce-2.ensures.reduced frames a h.waiting h.writing) in
-    let count = c.open_in-count.ensures ∙ ap open_in c.deref.ensures.value in
+    let count = c.open_in-count.ensures ∙ ap open_in c.deref.ensures in
     right_done c.args.sign c.in-Some-infix.op frames a _ c.reduce-2.new.pending.items c.push.new.self.items _ _ c.args.self.now.deepest c.open_in-count.result c.args.self.now.complete
-    c.in_default.not-Close c.in-Some-infix.ensures h r count c.in_ok-push.ensures.items
+    c.in_default.not-Close c.in-Some-infix.ensures h r count c.in_ok-push.ensures.ok

@@ -1,0 +1,57 @@
+//! Names that lie in place.
+
+ghost use Rattle.std.specs.Prelude.{◌≡◌, ◌<◌, IfSome, IfNone, length};
+ghost use Rattle.asm_words.specs.Words.{upper};
+
+use std::marker::Model;
+
+/// The most bytes of a name that lies in place: with them an item of an expression takes three words.
+pub(crate) const MOST_SHORT: usize = 14;
+
+/// A name of up to fourteen bytes, which takes no memory of its own.
+#[derive(Debug, Drop)]
+pub struct ShortName {
+    length: u8,
+    bytes: [u8; MOST_SHORT],
+}
+
+impl Model for ShortName {
+    ghost use Rattle.std.specs.Prelude.{◌≤◌, ℕ, List, take};
+
+    ghost Value = { List ℕ };
+
+    ghost view = { λ name. take name.length name.bytes };
+
+    ghost invariant = { λ name. name.length ≤ 14 };
+}
+
+impl ShortName {
+    /// The text, where it is short.
+    pub(crate) fn new(text: &[u8]) -> Option<ShortName>
+        ensures { IfSome result (λ name. name ≡ text.now) }
+    {
+        if text.len() > MOST_SHORT {
+            return None;
+        }
+        let mut bytes = [0; MOST_SHORT];
+        bytes[..text.len()].copy_from_slice(text);
+        Some(ShortName {
+            length: text.len() as u8,
+            bytes,
+        })
+    }
+
+    /// Its bytes.
+    pub(crate) fn as_slice(&self) -> &[u8]
+        ensures { result.now ≡ self.now }
+    {
+        &self.bytes[..usize::from(self.length)]
+    }
+
+    /// Makes it upper case.
+    pub(crate) fn make_upper(&mut self)
+        ensures { self.new ≡ upper self.old }
+    {
+        self.bytes.as_mut_slice().make_ascii_uppercase();
+    }
+}
