@@ -1,20 +1,17 @@
 -- Expressions that settling leaves as they are.
 use Rattle.std.proofs.Common.{◌≡◌, ◌+◌, ◌≤◌, ◌++◌, ◌∷◌, [], ℕ, List, Option, Some, None, Result, Ok, length, map, take, drop, refl, sym, ap, subst, ◌∙◌, arith, append-nil}
-use Rattle.std.proofs.lemmas.List.{at_drop_all}
-use Rattle.std.specs.Option.{option_map}
 use Rattle.asm_expr.specs.Types.{Item, Atom, ExprFault, Meaning, Settled, Statement}
+use Rattle.asm_expr.specs.declared.meaning.Equated.{Equated}
 use Rattle.asm_expr.specs.declared.part.Part.{Part}
 use Rattle.asm_parse.specs.Expression.{Expression, postfix}
 use Rattle.asm_parse.specs.Source.{Operand, Name, Number, Here}
 use Rattle.asm_value.specs.Items.{IsExpr}
-use Rattle.asm_expr.specs.Names.{Table}
+use Rattle.asm_expr.specs.Names.{Table, found}
 use Rattle.asm_value.specs.Postfix.{source, spread, tree}
-use Rattle.asm_expr.specs.Settling.{divisions_fault, first, item_known, items_known, known, known_item, reduced, settled, settled_as, too_large, unknown_of, unless_fault}
+use Rattle.asm_expr.specs.Settling.{divisions_fault, first, item_known, items_known, known, known_item, reduced, settled, settled_as, standing, too_large, unknown_of, unless_fault}
 use Rattle.asm_expr.specs.Private.Folding.{Folds, fold_all, unless}
 use Rattle.asm_expr.specs.Private.Left.{IsLeft, IsLeftName, IsLeftOperand, IsReducedTree, operand_alone}
-use Rattle.asm_expr.specs.Private.Sharing.{Begins}
 use Rattle.asm_expr.proofs.Alike.{same_divisions, same_reduced}
-use Rattle.asm_expr.proofs.Answers.{items_back}
 use Rattle.asm_expr.proofs.ByNames.{Anything, all_places, weigh}
 use Rattle.asm_expr.proofs.Folds.{fold-whole}
 use Rattle.asm_expr.proofs.Known.{known-postfix}
@@ -43,15 +40,34 @@ unless_one : (f : Option ExprFault) (a : Expression Part) (now : List (Expressio
 unless_one None a now e = (refl, cc)
 unless_one (Some why) a now e = cc
 
-pub left_by_fold : (t : Table) (items : List (Item Atom)) (out : List (Item Part)) (now : List (Expression Part)) → IsExpr items
-    → fold_all t (map known_item items) [] ≡ Ok now → out ≡ spread now → length out ≡ length items → Begins out items → IsLeft t items
-left_by_fold t items out now expr folds written len begins =
+pub left_by_fold : (t : Table) (items : List (Item Atom)) (now : List (Expression Part)) → IsExpr items
+    → fold_all t (map known_item items) [] ≡ Ok now → map known_item items ≡ spread now → IsLeft t items
+left_by_fold t items now expr folds written =
     let e = known (tree items) in
-    let all : items_known out ≡ Some items =
-    begins.1 ∙ ap (option_map (λ others. items ++ others)) (at_drop_all items_known out (length items) (omega (arith, len))) ∙ ap Some (append-nil items) in
     let one = unless_one (divisions_fault t e) (reduced t e) now (sym (fold-whole t e []) ∙ ap (λ xs. fold_all t xs []) (known_items items expr) ∙ folds) in
-    let spelled : postfix (reduced t e) ≡ postfix e = ap spread (sym one.1) ∙ sym written ∙ sym (items_back out items all) ∙ sym (known_items items expr) in
+    let spelled : postfix (reduced t e) ≡ postfix e = ap spread (sym one.1) ∙ sym written ∙ sym (known_items items expr) in
     record { expr = expr; reduced = record { sound = one.0; same = one_expression (reduced t e) e spelled } }
+
+-- Behind others too it is left as it is.
+left_folds : (t : Table) (items : List (Item Atom)) (before : List (Expression Part)) → IsLeft t items → fold_all t (postfix (known (tree items))) before ≡ Ok (known (tree items) ∷ before)
+left_folds t items before left =
+    let e = known (tree items) in
+    fold-whole t e before ∙ ap (λ f. unless f (Ok (reduced t e ∷ before))) left.reduced.sound ∙ ap (λ r. Ok (r ∷ before)) left.reduced.same
+
+pub left_pushed : (t : Table) (s : Settled) (items : List (Item Atom)) (old new : List (Item Part)) → s ≡ Settled.Known items → IsLeft t items → new ≡ old ++ map known_item items
+    → (before : List (Expression Part)) → old ≡ spread before → Folds (fold_all t (postfix (standing s)) before) {A = Unit {0}} (Ok tt) new
+left_pushed t s items old new is left put before were = (
+  known (tree items) ∷ before,
+  ap (λ s. fold_all t (postfix (standing s)) before) is ∙ left_folds t items before left,
+  put ∙ ap (λ xs. xs ++ map known_item items) were ∙ ap (λ xs. spread before ++ xs) (sym (known_items items left.expr)),
+)
+
+-- What a name stands for, and what it is left as, are the same.
+pub same_settled : (t : Table) (name : List ℕ) (equated : Equated) (items : List (Item Atom)) → found t name ≡ Some (Meaning.Equ equated) → IsLeftName t name items → equated.settled ≡ Settled.Known items
+same_settled t name equated items known is =
+    let two : Some (Meaning.Equ equated) ≡ Some (Meaning.Equ (record { settled = Settled.Known items; size = is.size })) = sym known ∙ is.found in
+    let same : equated ≡ record { settled = Settled.Known items; size = is.size } = cc in
+    ap (λ e. e.settled) same
 
 -- Of a table nothing counts but its statements.
 pub left_same : (t u : Table) (items : List (Item Atom)) → t.statements ≡ u.statements → IsLeft u items → IsLeft t items

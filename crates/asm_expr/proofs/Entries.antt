@@ -13,30 +13,43 @@ use Rattle.asm_expr.specs.Types.{Atom, Meaning, Settled, Statement}
 use Rattle.asm_value.specs.declared.expr.TheConstants.{MOST_ITEMS}
 use Rattle.asm_expr.specs.declared.names.Entry.{Entry}
 use Rattle.asm_expr.specs.Names.{AreCounted, IsCounted, Table, empty, with_meaning}
-use Rattle.asm_expr.specs.Private.Entries.{AreKnown, IsLeftBy, Knows, meant, table_of}
+use Rattle.asm_expr.specs.Private.Entries.{AreKnown, IsLeftBy, Knows, meant, named, named_as, table_of}
 use Rattle.asm_expr.specs.Private.Left.{IsLeft, IsLeftName}
 use Rattle.asm_expr.specs.declared.meaning.Equated.{Equated}
 use Rattle.asm_expr.proofs.Again.{left_same}
 
 -- a name is found by its bytes
-pub lookup-meant : {A : Type 0} (entries : List (Vec ℕ A × Entry)) (name : List ℕ)
-    → lookup (bytes_eq name) (meant entries) ≡ option_map (λ e. e.meaning) (lookup (λ k. bytes_eq name k.items) entries)
-lookup-meant [] name = refl
-lookup-meant (e ∷ es) name =
-    elim (bytes_eq name e.0.items) as (λ b. cond b (Some e.1.meaning) (lookup (bytes_eq name) (meant es)) ≡ option_map (λ e. e.meaning) (cond b (Some e.1) (lookup (λ k. bytes_eq name k.items) es))) [
+lookup-as : {A V W : Type 0} (f : V → W) (entries : List (Vec ℕ A × V)) (name : List ℕ) → lookup (bytes_eq name) (named_as f entries) ≡ option_map f (lookup (λ k. bytes_eq name k.items) entries)
+lookup-as f [] name = refl
+lookup-as f (e ∷ es) name =
+    elim (bytes_eq name e.0.items) as (λ b. cond b (Some (f e.1)) (lookup (bytes_eq name) (named_as f es)) ≡ option_map f (cond b (Some e.1) (lookup (λ k. bytes_eq name k.items) es))) [
       | true ↦ refl
-      | false ↦ lookup-meant es name
+      | false ↦ lookup-as f es name
     ]
 
+as_it_is : {V : Type 0} (o : Option V) → option_map (λ v. v) o ≡ o
+as_it_is None = refl
+as_it_is (Some v) = refl
+
+pub lookup-named : {A V : Type 0} (entries : List (Vec ℕ A × V)) (name : List ℕ) → lookup (bytes_eq name) (named entries) ≡ lookup (λ k. bytes_eq name k.items) entries
+lookup-named entries name = lookup-as (λ v. v) entries name ∙ as_it_is (lookup (λ k. bytes_eq name k.items) entries)
+
+pub lookup-meant : {A : Type 0} (entries : List (Vec ℕ A × Entry)) (name : List ℕ)
+    → lookup (bytes_eq name) (meant entries) ≡ option_map (λ e. e.meaning) (lookup (λ k. bytes_eq name k.items) entries)
+lookup-meant entries name = lookup-as (λ e. e.meaning) entries name
+
 -- one more entry at the end
-meant-append : {A : Type 0} (entries : List (Vec ℕ A × Entry)) (e : Vec ℕ A × Entry) → meant (entries ++ e ∷ []) ≡ meant entries ++ (e.0.items, e.1.meaning) ∷ []
-meant-append [] e = refl
-meant-append (x ∷ xs) e = ap (λ rest. (x.0.items, x.1.meaning) ∷ rest) (meant-append xs e)
+append-as : {A V W : Type 0} (f : V → W) (entries : List (Vec ℕ A × V)) (e : Vec ℕ A × V) → named_as f (entries ++ e ∷ []) ≡ named_as f entries ++ (e.0.items, f e.1) ∷ []
+append-as f [] e = refl
+append-as f (x ∷ xs) e = ap (λ rest. (x.0.items, f x.1) ∷ rest) (append-as f xs e)
+
+pub named-append : {A V : Type 0} (entries : List (Vec ℕ A × V)) (e : Vec ℕ A × V) → named (entries ++ e ∷ []) ≡ named entries ++ (e.0.items, e.1) ∷ []
+named-append entries e = append-as (λ v. v) entries e
 
 pub table_after : {A : Type 0} (entries new : List (Vec ℕ A × Entry)) (name : Vec ℕ A) (entry : Entry) (here : ℕ) (statements : List Statement) → new ≡ entries ++ (name, entry) ∷ []
     → table_of new here statements ≡ with_meaning name.items entry.meaning (table_of entries here statements)
 table_after entries new name entry here statements is =
-    ap (λ es. table_of es here statements) is ∙ ap (λ es. record { entries = es; here = here; statements = statements }) (meant-append entries (name, entry))
+    ap (λ es. table_of es here statements) is ∙ ap (λ es. record { entries = es; here = here; statements = statements }) (append-as (λ e. e.meaning) entries (name, entry))
 
 -- What is found with one more entry was found before, or is the entry's.
 found_after : (p : List ℕ → Bool) (entries : List (List ℕ × Meaning)) (name : List ℕ) (what found : Meaning) → ((other : Meaning) → lookup p entries ≡ Some other → IsCounted other) → IsCounted what

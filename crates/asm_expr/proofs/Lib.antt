@@ -1,6 +1,7 @@
 pub mod Below
 mod Lacking
-pub mod Begun
+pub mod Opened
+pub mod Knowing
 pub mod Entries
 pub mod Known
 pub mod Sums

@@ -1,6 +1,7 @@
 -- The items of expressions that stand one behind the other.
-use Rattle.std.proofs.Common.{◌≡◌, ◌≤◌, ℕ, ◌-◌, List, [], ◌∷◌, ◌++◌, Option, Some, None, Ok, length, take, get_or, refl, sym, ap, ◌∙◌, arith, append_assoc, length-append}
+use Rattle.std.proofs.Common.{◌≡◌, ◌≤◌, ℕ, ◌-◌, List, [], ◌∷◌, ◌++◌, Option, Some, None, Ok, length, take, get_or, true, refl, sym, ap, subst, ◌∙◌, arith, append_assoc, length-append}
 use Rattle.std.proofs.Math.Seq.{take-append_seam}
+use Rattle.std.proofs.lemmas.List.{get_or-take, get_or_default, length-take-le}
 use Rattle.asm_expr.specs.Types.{Unary, Binary, Item, ExprFault, Unknown, Worth}
 use Rattle.asm_expr.specs.declared.part.Part.{Part}
 use Rattle.asm_expr.specs.declared.single.Single.{Single}
@@ -9,6 +10,7 @@ use Rattle.asm_parse.specs.Expression.{Expression, Leaf, Prefix, Infix, postfix}
 use Rattle.asm_value.specs.Postfix.{spread}
 use Rattle.asm_expr.specs.Names.{Table}
 use Rattle.asm_expr.specs.Settling.{distance_of, or_else, both, leaf_or}
+use Rattle.asm_expr.specs.Private.Cells.{EndsInLeaf, is_leaf}
 use Rattle.asm_expr.specs.Private.Folding.{root, worth_of, single_of, leaf_of, folded_unary, folded_binary, fold_one, prefixed, joined, Folds}
 
 -- what stands before the last item
@@ -110,8 +112,8 @@ left_operator t Binary.Subtract x y varies ref =
 left_operator t op x y varies ref = ap (λ o. both (binary op) o (worth_of y)) varies
 
 same_fold : (t : Table) (op : Binary) (a b : Expression Part) (before : List (Expression Part)) (x y : Item Part)
-    → x ≡ get_or (spread (b ∷ a ∷ before)) (length (spread (b ∷ a ∷ before)) - 2) x → y ≡ root b → folded_binary t op x y ≡ folded_binary t op (root a) (root b)
-same_fold t op a (Leaf part) before x y left right = ap (λ z. folded_binary t op x z) right ∙ ap (λ z. folded_binary t op z (Item.Leaf part)) (left ∙ second_item part a before x)
+    → (is_leaf (root b) ≡ true → x ≡ get_or (spread (b ∷ a ∷ before)) (length (spread (b ∷ a ∷ before)) - 2) x) → y ≡ root b → folded_binary t op x y ≡ folded_binary t op (root a) (root b)
+same_fold t op a (Leaf part) before x y left right = ap (λ z. folded_binary t op x z) right ∙ ap (λ z. folded_binary t op z (Item.Leaf part)) (left refl ∙ second_item part a before x)
 same_fold t op a (Prefix u b) before x y left right = ap (λ z. folded_binary t op x z) right ∙ right_operator t op x (Item.Unary u) refl refl ∙ sym (right_operator t op (root a) (Item.Unary u) refl refl)
 same_fold t op a (Infix o b c) before x y left right = ap (λ z. folded_binary t op x z) right ∙ right_operator t op x (Item.Binary o) refl refl ∙ sym (right_operator t op (root a) (Item.Binary o) refl refl)
 
@@ -128,12 +130,13 @@ pub right_root : (a b : Expression Part) (before : List (Expression Part)) (old 
 right_root a b before old y n is len right = right ∙ ap (λ k. get_or old (k - 1) y) len ∙ ap (λ xs. get_or xs (length xs - 1) y) is ∙ last_item b (a ∷ before) y
 
 roots : (t : Table) (op : Binary) (a b : Expression Part) (before : List (Expression Part)) (old : List (Item Part)) (x y : Item Part) (n : ℕ)
-    → old ≡ spread (b ∷ a ∷ before) → n ≡ length old → x ≡ get_or old (n - 2) x → y ≡ get_or old (n - 1) y → folded_binary t op x y ≡ folded_binary t op (root a) (root b)
+    → old ≡ spread (b ∷ a ∷ before) → n ≡ length old → (EndsInLeaf old → x ≡ get_or old (n - 2) x) → y ≡ get_or old (n - 1) y → folded_binary t op x y ≡ folded_binary t op (root a) (root b)
 roots t op a b before old x y n is len left right =
-    same_fold t op a b before x y (left ∙ ap (λ k. get_or old (k - 2) x) len ∙ ap (λ xs. get_or xs (length xs - 2) x) is) (right_root a b before old y n is len right)
+    let ends : is_leaf (root b) ≡ true → EndsInLeaf old = λ leaf. subst EndsInLeaf (sym is) (λ d. ap is_leaf (last_item b (a ∷ before) d) ∙ leaf) in
+    same_fold t op a b before x y (λ leaf. left (ends leaf) ∙ ap (λ k. get_or old (k - 2) x) len ∙ ap (λ xs. get_or xs (length xs - 2) x) is) (right_root a b before old y n is len right)
 
 pub binary_number : (t : Table) (op : Binary) (a b : Expression Part) (before : List (Expression Part)) (old new : List (Item Part)) (x y : Item Part) (n : ℕ) (m : Part)
-    → old ≡ spread (b ∷ a ∷ before) → n ≡ length old → x ≡ get_or old (n - 2) x → y ≡ get_or old (n - 1) y → leaf_of (folded_binary t op x y) ≡ Some m
+    → old ≡ spread (b ∷ a ∷ before) → n ≡ length old → (EndsInLeaf old → x ≡ get_or old (n - 2) x) → y ≡ get_or old (n - 1) y → leaf_of (folded_binary t op x y) ≡ Some m
     → new ≡ take (n - 2) old ++ Item.Leaf m ∷ [] → new ≡ spread (joined t op a b ∷ before)
 binary_number t op a b before old new x y n m is len left right leaf made =
     let same : leaf_of (folded_binary t op (root a) (root b)) ≡ Some m = ap leaf_of (sym (roots t op a b before old x y n is len left right)) ∙ leaf in
@@ -147,12 +150,46 @@ binary_number t op a b before old new x y n m is len left right leaf made =
     ∙ ap (λ e. spread (e ∷ before)) (sym (leaf_some (Infix op a b) (folded_binary t op (root a) (root b)) m same))
 
 pub binary_other : (t : Table) (op : Binary) (a b : Expression Part) (before : List (Expression Part)) (old new : List (Item Part)) (x y : Item Part) (n : ℕ)
-    → old ≡ spread (b ∷ a ∷ before) → n ≡ length old → x ≡ get_or old (n - 2) x → y ≡ get_or old (n - 1) y → leaf_of (folded_binary t op x y) ≡ None
+    → old ≡ spread (b ∷ a ∷ before) → n ≡ length old → (EndsInLeaf old → x ≡ get_or old (n - 2) x) → y ≡ get_or old (n - 1) y → leaf_of (folded_binary t op x y) ≡ None
     → new ≡ old ++ Item.Binary op ∷ [] → new ≡ spread (joined t op a b ∷ before)
 binary_other t op a b before old new x y n is len left right none made =
     let same : leaf_of (folded_binary t op (root a) (root b)) ≡ None = ap leaf_of (sym (roots t op a b before old x y n is len left right)) ∙ none in
     let apart : (((spread before ++ postfix a) ++ postfix b) ++ Item.Binary op ∷ []) ≡ spread before ++ ((postfix a ++ postfix b) ++ Item.Binary op ∷ []) = simp append_assoc in
     made ∙ ap (λ xs. xs ++ Item.Binary op ∷ []) is ∙ apart ∙ ap (λ e. spread (e ∷ before)) (sym (leaf_none (Infix op a b) (folded_binary t op (root a) (root b)) same))
+
+-- What makes a leaf stands behind leaves.
+unary_is : (op : Unary) (x : Item Part) (p : Part) → leaf_of (folded_unary op x) ≡ Some p → is_leaf x ≡ true
+unary_is op (Item.Leaf q) p leaf = refl
+unary_is op (Item.Unary u) p leaf = cc
+unary_is op (Item.Binary o) p leaf = cc
+
+right_is : (t : Table) (op : Binary) (x y : Item Part) (p : Part) → leaf_of (folded_binary t op x y) ≡ Some p → is_leaf y ≡ true
+right_is t op x (Item.Leaf q) p leaf = refl
+right_is t op x (Item.Unary u) p leaf = let none = ap leaf_of (right_operator t op x (Item.Unary u) refl refl) in cc
+right_is t op x (Item.Binary o) p leaf = let none = ap leaf_of (right_operator t op x (Item.Binary o) refl refl) in cc
+
+left_is : (t : Table) (op : Binary) (x y : Item Part) (p : Part) → leaf_of (folded_binary t op x y) ≡ Some p → is_leaf x ≡ true
+left_is t op (Item.Leaf q) y p leaf = refl
+left_is t op (Item.Unary u) y p leaf = let none = ap leaf_of (left_operator t op (Item.Unary u) y refl refl) in cc
+left_is t op (Item.Binary o) y p leaf = let none = ap leaf_of (left_operator t op (Item.Binary o) y refl refl) in cc
+
+ends_in : (old : List (Item Part)) (x : Item Part) → 1 ≤ length old → x ≡ get_or old (length old - 1) x → is_leaf x ≡ true → EndsInLeaf old
+ends_in old x some read leaf = λ d. ap is_leaf (get_or_default old (length old - 1) d x (omega (arith, some)) ∙ sym read) ∙ leaf
+
+pub unary_ends : (op : Unary) (old : List (Item Part)) (x : Item Part) (p : Part) → 1 ≤ length old → x ≡ get_or old (length old - 1) x → leaf_of (folded_unary op x) ≡ Some p → EndsInLeaf old
+unary_ends op old x p some read leaf = ends_in old x some read (unary_is op x p leaf)
+
+pub right_ends : (t : Table) (op : Binary) (old : List (Item Part)) (x y : Item Part) (p : Part) → 1 ≤ length old → y ≡ get_or old (length old - 1) y → leaf_of (folded_binary t op x y) ≡ Some p → EndsInLeaf old
+right_ends t op old x y p some read leaf = ends_in old y some read (right_is t op x y p leaf)
+
+pub left_ends : (t : Table) (op : Binary) (old : List (Item Part)) (x y : Item Part) (p : Part) → 2 ≤ length old → (EndsInLeaf old → x ≡ get_or old (length old - 2) x) → y ≡ get_or old (length old - 1) y
+    → leaf_of (folded_binary t op x y) ≡ Some p → EndsInLeaf (take (length old - 1) old)
+left_ends t op old x y p two before read leaf =
+    let len : length (take (length old - 1) old) ≡ length old - 1 = length-take-le (length old - 1) old (omega arith) in
+    let last : length (take (length old - 1) old) - 1 ≡ length old - 2 = omega (arith, len) in
+    let same = before (right_ends t op old x y p (omega (arith, two)) read leaf) in
+    ends_in (take (length old - 1) old) x (omega (arith, two, len))
+    (same ∙ sym (ap (λ k. get_or (take (length old - 1) old) k x) last ∙ get_or-take (length old - 1) old (length old - 2) x (omega (arith, two)))) (left_is t op x y p leaf)
 
 pub none_of : (o : Option ExprFault) → ((why : ExprFault) → o ≡ Some why → ⊥) → o ≡ None
 none_of None never = refl

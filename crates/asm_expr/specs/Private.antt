@@ -5,4 +5,4 @@ pub mod Left
 pub mod Entries
 pub mod Answers
 pub mod Heads
-pub mod Sharing
+pub mod Cells

@@ -1,16 +1,17 @@
 //! What names make of an expression: the items of an object.
 
-ghost use Rattle.std.specs.Prelude.{◌≡◌, ◌⊎◌, Ok, Err, IfOk, IfSome};
+ghost use Rattle.std.specs.Prelude.{◌≡◌, ◌⊎◌, ◌≤◌, length, Some, Ok, Err, IfOk, IfSome};
 ghost use Rattle.std.specs.List.{AllPass};
 ghost use Rattle.asm_parse.specs.declared.fault.ExprFault.{ExprFault};
 ghost use Rattle.asm_expr.specs.declared.answer.Settled.{Settled};
 ghost use Rattle.asm_value.specs.Postfix.{source};
 ghost use Rattle.asm_expr.specs.Settling.{IsWorthOf, is_known, settled};
-ghost use Rattle.asm_expr.specs.Private.Folding.{unknown_at_end};
+ghost use Rattle.asm_expr.specs.Private.Folding.{unknown_at_end, unknown_by};
 
 use crate::alone::{atom_alone, left_alone};
 use crate::names::Names;
 use crate::part::Part;
+use crate::parts::Parts;
 use crate::reduction::reduce;
 use crate::sharing::kept_of;
 use crate::unknown::Unknown;
@@ -39,15 +40,23 @@ impl Settled {
     }
 }
 
-/// What is known of an expression without a value, by its reduced items.
-fn unknown_of(items: &[Item<Part>]) -> Unknown
-    ensures { result ≡ unknown_at_end items.now }
+/// What is known of an expression without a value, by its last item.
+fn unknown_by(last: &Item<Part>) -> Unknown
+    ensures { result ≡ unknown_by (Some last.now) }
 {
-    match items.last() {
-        Some(Item::Leaf(Part::Unknown(what))) => *what,
-        Some(Item::Unary(Unary::High | Unary::Low)) => Unknown::VariesInByte,
+    match last {
+        Item::Leaf(Part::Unknown(what)) => *what,
+        Item::Unary(Unary::High | Unary::Low) => Unknown::VariesInByte,
         _ => Unknown::Varies,
     }
+}
+
+/// What is known of an expression without a value, by its reduced items.
+fn unknown_of(reduced: &Parts<'_>) -> Unknown
+    requires { 1 ≤ length reduced.now }
+    ensures { result ≡ unknown_at_end reduced.now }
+{
+    unknown_by(&reduced.last())
 }
 
 /// What the names make of an expression of one term that settling leaves as it is, if others may have its items; else None.
@@ -69,9 +78,9 @@ fn settle_items(alloc: Global, parsed: &Tree, names: &Names) -> Result<Settled, 
     // Called for what it says of the table: the items that are settled are no more than the most items.
     names.counted();
     let reduced = reduce(parsed, names)?;
-    match kept_of(alloc, parsed, names, reduced.as_slice())? {
+    match kept_of(alloc, reduced.cells())? {
         Some(items) => Ok(Settled::Known(Expr::known(items))),
-        None => Ok(Settled::Unknown(unknown_of(reduced.as_slice()))),
+        None => Ok(Settled::Unknown(unknown_of(&reduced))),
     }
 }
 

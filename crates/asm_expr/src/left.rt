@@ -1,13 +1,47 @@
 //! Expressions that settling leaves as they are, which are those that were settled before.
 
-ghost use Rattle.std.specs.Prelude.{◌≡◌, true};
+ghost use Rattle.std.specs.Prelude.{◌≡◌, ◌∷◌, [], map, true};
+ghost use Rattle.std.specs.List.{flat_map};
+ghost use Rattle.asm_expr.specs.Settling.{known_item};
+ghost use Rattle.asm_expr.specs.Private.Cells.{opened};
 ghost use Rattle.asm_expr.specs.Private.Left.{IsLeft};
 
 use crate::names::Names;
-use crate::parts::Parts;
+use crate::parts::{Cell, Parts};
 use crate::reduction::take_expr;
-use crate::sharing::begins;
-use asm_value::Expr;
+use crate::sharing::item_known;
+use asm_parse::Item;
+use asm_value::{Atom, Expr};
+
+/// Whether a part of what was settled is this item alone.
+fn is_item(cell: &Cell<'_>, item: &Item<Atom>) -> bool
+    ensures { result ≡ true → opened cell.now ≡ known_item item.now ∷ [] }
+{
+    match cell {
+        Cell::Item(settled) => match item_known(settled) {
+            Some(known) => known == *item,
+            None => false,
+        },
+        Cell::List(_) => false,
+    }
+}
+
+/// Whether what was settled is these items.
+fn are_items(cells: &[Cell<'_>], items: &[Item<Atom>]) -> bool
+    ensures { result ≡ true → flat_map opened cells.now ≡ map known_item items.now }
+{
+    if cells.len() != items.len() {
+        return false;
+    }
+    let mut at = 0;
+    while at < items.len() {
+        if !is_item(&cells[at], &items[at]) {
+            return false;
+        }
+        at += 1;
+    }
+    true
+}
 
 /// Whether these names make of an expression what it is.
 pub(crate) fn is_left(expr: &Expr, names: &Names) -> bool
@@ -18,7 +52,7 @@ pub(crate) fn is_left(expr: &Expr, names: &Names) -> bool
     };
     let mut out = Parts::new();
     match take_expr(&mut out, expr, names) {
-        Ok(()) => out.as_slice().len() == list.len() && begins(out.as_slice(), list),
+        Ok(()) => are_items(out.cells(), list),
         Err(_) => false,
     }
 }

@@ -1,30 +1,32 @@
 //! What names make of an expression.
 
-ghost use Rattle.std.specs.Prelude.{◌≡◌, ◌<◌, ◌≤◌, ◌+◌, ◌-◌, ◌++◌, ◌∷◌, [], List, Ok, IfOk, true, length, map, take};
+ghost use Rattle.std.specs.Prelude.{◌≡◌, ◌<◌, ◌≤◌, ◌+◌, ◌-◌, ◌++◌, ◌∷◌, [], List, Ok, Some, IfOk, IfSome, true, length, map};
 ghost use Rattle.std.specs.List.{AllPass};
 ghost use Rattle.asm_expr.specs.declared.part.Part.{Part};
 ghost use Rattle.asm_parse.specs.declared.item.Item.{Item};
 ghost use Rattle.asm_parse.specs.Expression.{Expression, Leaf, postfix};
 ghost use Rattle.asm_value.specs.Postfix.{source, spread, tree};
 ghost use Rattle.asm_parse.specs.Source.{operand, source_item};
-ghost use Rattle.asm_expr.specs.Names.{AreCounted, items_of};
+ghost use Rattle.asm_expr.specs.Names.{AreCounted, found, items_of};
 ghost use Rattle.asm_value.specs.Arithmetic.{binary};
 ghost use Rattle.asm_value.specs.Items.{IsExpr};
 ghost use Rattle.asm_expr.specs.Settling.{both, distance_of, is_known, known_item, size_of, standing};
 ghost use Rattle.asm_value.specs.Private.Steps.{arity};
+ghost use Rattle.asm_expr.specs.Private.Left.{IsLeftName};
 ghost use Rattle.asm_expr.specs.Private.Folding.{Folds, IsReduced, difference_of, fold_all, fold_one, folded_binary, folded_unary, item_fault, item_size, items_for, leaf_of, prefixed, single_of, worth_of};
 
 use crate::answer::Settled;
-use crate::meaning::Meaning;
+use crate::meaning::{Equated, Meaning};
 use crate::names::Names;
 use crate::part::Part;
-use crate::parts::Parts;
+use crate::parts::{Parts, known_item};
 use crate::single::Single;
 use crate::unknown::Unknown;
 use crate::weigh::item_size;
 use crate::worth::Worth;
 use asm_parse::{Binary, ExprFault, Item, Term, TermView, Tree, Unary};
 use asm_value::{Atom, Expr, MOST_ITEMS, Room, apply_binary, apply_unary, items};
+use std::rc::Rc;
 
 fn worth_of(item: &Item<Part>) -> Worth
     ensures { result ≡ worth_of item.now }
@@ -124,20 +126,8 @@ fn item_fault(op: Binary, divisor: &Item<Part>) -> Option<ExprFault>
     }
 }
 
-/// Puts a leaf in the place of the last items.
-fn put_leaf(items: &mut Parts, count: usize, leaf: Part)
-    requires some { 1 ≤ count }
-    requires there { count ≤ length items.old }
-    requires room { length items.old < MOST_ITEMS }
-    ensures put { items.new ≡ take (length items.old - count) items.old ++ Item.Leaf leaf ∷ [] }
-    ensures len { length items.new + count ≡ length items.old + 1 }
-{
-    items.drop_last(count);
-    items.push(Item::Leaf(leaf));
-}
-
 /// A prefix operator behind its operand's items.
-fn fold_unary(items: &mut Parts, op: Unary)
+fn fold_unary(items: &mut Parts<'_>, op: Unary)
     requires some { 1 ≤ length items.old }
     requires room { length items.old < MOST_ITEMS }
     ensures least { length items.old ≤ length items.new }
@@ -145,14 +135,14 @@ fn fold_unary(items: &mut Parts, op: Unary)
     ensures folds { (a : Expression Part) (before : List (Expression Part)) → items.old ≡ spread (a ∷ before) →
         items.new ≡ spread (prefixed op a ∷ before) }
 {
-    match leaf_of(folded_unary(op, &items.from_end(1))) {
-        Some(leaf) => put_leaf(items, 1, leaf),
+    match leaf_of(folded_unary(op, &items.last())) {
+        Some(leaf) => items.replace_last(leaf),
         None => items.push(Item::Unary(op)),
     }
 }
 
 /// An operator behind the items of its two operands.
-fn fold_binary(items: &mut Parts, op: Binary, names: &Names) -> Result<(), ExprFault>
+fn fold_binary(items: &mut Parts<'_>, op: Binary, names: &Names) -> Result<(), ExprFault>
     requires two { 2 ≤ length items.old }
     requires room { length items.old < MOST_ITEMS }
     ensures least { IfOk result (λ _. length items.old ≤ length items.new + 1) }
@@ -160,14 +150,14 @@ fn fold_binary(items: &mut Parts, op: Binary, names: &Names) -> Result<(), ExprF
     ensures folds { (a b : Expression Part) (before : List (Expression Part)) → items.old ≡ spread (b ∷ a ∷ before) →
         Folds (fold_one names.now (Item.Binary op) (b ∷ a ∷ before)) result items.new }
 {
-    let left = items.from_end(2);
-    let right = items.from_end(1);
+    let left = items.before_last();
+    let right = items.last();
     if let Some(fault) = item_fault(op, &right) {
         return Err(fault);
     }
     match leaf_of(folded_binary(names, op, &left, &right)) {
         Some(leaf) => {
-            put_leaf(items, 2, leaf);
+            items.replace_two(leaf);
             Ok(())
         }
         None => {
@@ -178,7 +168,7 @@ fn fold_binary(items: &mut Parts, op: Binary, names: &Names) -> Result<(), ExprF
 }
 
 /// One item more behind items that are reduced.
-fn fold(items: &mut Parts, item: Item<Part>, names: &Names) -> Result<(), ExprFault>
+fn fold(items: &mut Parts<'_>, item: Item<Part>, names: &Names) -> Result<(), ExprFault>
     requires operands { arity item ≤ length items.old }
     requires room { length items.old < MOST_ITEMS }
     ensures least { IfOk result (λ _. length items.old + 1 ≤ length items.new + arity item) }
@@ -199,20 +189,8 @@ fn fold(items: &mut Parts, item: Item<Part>, names: &Names) -> Result<(), ExprFa
     }
 }
 
-/// An item of an object.
-fn known_item(item: Item<Atom>) -> Item<Part>
-    ensures { result ≡ known_item item }
-{
-    match item {
-        Item::Leaf(Atom::Number(n)) => Item::Leaf(Part::Number(n)),
-        Item::Leaf(Atom::Ref(r)) => Item::Leaf(Part::Ref(r)),
-        Item::Unary(op) => Item::Unary(op),
-        Item::Binary(op) => Item::Binary(op),
-    }
-}
-
 /// The items of an expression behind items that are reduced.
-fn take_items(out: &mut Parts, items: &[Item<Atom>], names: &Names) -> Result<(), ExprFault>
+fn take_items(out: &mut Parts<'_>, items: &[Item<Atom>], names: &Names) -> Result<(), ExprFault>
     requires expr { IsExpr items.now }
     requires room { length out.old + length items.now ≤ MOST_ITEMS }
     ensures most { IfOk result (λ _. length out.new ≤ length out.old + length items.now) }
@@ -225,9 +203,9 @@ fn take_items(out: &mut Parts, items: &[Item<Atom>], names: &Names) -> Result<()
     Ok(())
 }
 
-/// Those of an expression whose items do not lie side by side.
+/// The items of an expression that do not lie side by side, behind items that are reduced.
 #[inline(never)]
-fn take_gathered(out: &mut Parts, expr: &Expr, names: &Names) -> Result<(), ExprFault>
+fn take_gathered(out: &mut Parts<'_>, expr: &Expr, names: &Names) -> Result<(), ExprFault>
     requires room { length out.old + length expr.now ≤ MOST_ITEMS }
     ensures whole { postfix (tree expr.now) ≡ expr.now }
     ensures most { IfOk result (λ _. length out.new ≤ length out.old + length expr.now) }
@@ -238,7 +216,7 @@ fn take_gathered(out: &mut Parts, expr: &Expr, names: &Names) -> Result<(), Expr
 }
 
 /// The items of any expression behind items that are reduced.
-pub(crate) fn take_expr(out: &mut Parts, expr: &Expr, names: &Names) -> Result<(), ExprFault>
+pub(crate) fn take_expr(out: &mut Parts<'_>, expr: &Expr, names: &Names) -> Result<(), ExprFault>
     requires room { length out.old + length expr.now ≤ MOST_ITEMS }
     ensures whole { postfix (tree expr.now) ≡ expr.now }
     ensures most { IfOk result (λ _. length out.new ≤ length out.old + length expr.now) }
@@ -252,7 +230,7 @@ pub(crate) fn take_expr(out: &mut Parts, expr: &Expr, names: &Names) -> Result<(
 }
 
 /// A leaf behind items that are reduced, which has no fault.
-fn put_part(out: &mut Parts, part: Part) -> Result<(), ExprFault>
+fn put_part(out: &mut Parts<'_>, part: Part) -> Result<(), ExprFault>
     requires room { length out.old < MOST_ITEMS }
     ensures most { IfOk result (λ _. length out.new ≤ length out.old + 1) }
     ensures folds { (before : List (Expression Part)) → out.old ≡ spread before → Folds (Ok (Leaf part ∷ before)) result out.new }
@@ -262,7 +240,7 @@ fn put_part(out: &mut Parts, part: Part) -> Result<(), ExprFault>
 }
 
 /// What an EQU name's expression is, behind items that are reduced.
-fn take_settled(out: &mut Parts, settled: &Settled, names: &Names) -> Result<(), ExprFault>
+fn take_settled(out: &mut Parts<'_>, settled: &Settled, names: &Names) -> Result<(), ExprFault>
     requires room { length out.old + items_of settled.now ≤ MOST_ITEMS }
     ensures most { IfOk result (λ _. length out.new ≤ length out.old + items_of settled.now) }
     ensures folds { (before : List (Expression Part)) → out.old ≡ spread before →
@@ -274,8 +252,44 @@ fn take_settled(out: &mut Parts, settled: &Settled, names: &Names) -> Result<(),
     }
 }
 
+/// The items for which a name stands, where settling leaves them as they are and there are two at least.
+fn list_left<'a>(name: &[u8], names: &'a Names) -> Option<&'a Rc<Vec<Item<Atom>>>>
+    ensures { IfSome result (λ list. IsLeftName names.now name.now list.now.value.items × (2 ≤ length list.now.value.items)) }
+{
+    match names.left(name) {
+        Some(expr) => match expr.shared() {
+            Some(list) if 2 <= list.len() => Some(list),
+            _ => None,
+        },
+        None => None,
+    }
+}
+
+/// What an EQU's expression is for which a name stands, behind items that are reduced. What settling leaves as it is need not be
+/// settled again.
+fn take_equ<'a>(
+    out: &mut Parts<'a>,
+    name: &[u8],
+    equated: &Equated,
+    names: &'a Names,
+) -> Result<(), ExprFault>
+    requires known { found names.now name.now ≡ Some (Meaning.Equ equated.now) }
+    requires room { length out.old + items_of equated.now.settled ≤ MOST_ITEMS }
+    ensures most { IfOk result (λ _. length out.new ≤ length out.old + items_of equated.now.settled) }
+    ensures folds { (before : List (Expression Part)) → out.old ≡ spread before →
+        Folds (fold_all names.now (postfix (standing equated.now.settled)) before) result out.new }
+{
+    match list_left(name, names) {
+        Some(list) => {
+            out.push_list(list);
+            Ok(())
+        }
+        None => take_settled(out, &equated.settled, names),
+    }
+}
+
 /// What a term stands for, behind items that are reduced.
-fn take_term(out: &mut Parts, term: &Term, names: &Names) -> Result<(), ExprFault>
+fn take_term<'a>(out: &mut Parts<'a>, term: &Term, names: &'a Names) -> Result<(), ExprFault>
     requires known { is_known names.now (Item.Leaf (operand term.now)) ≡ true }
     requires counted { AreCounted names.now }
     requires room { length out.old + size_of names.now (operand term.now) ≤ MOST_ITEMS }
@@ -291,7 +305,7 @@ fn take_term(out: &mut Parts, term: &Term, names: &Names) -> Result<(), ExprFaul
             Some(Meaning::External(external)) => put_part(out, Part::Ref(*external)),
             Some(Meaning::Constant(n)) => put_part(out, Part::Number(*n)),
             Some(Meaning::UnknownConstant) => put_part(out, Part::Unknown(Unknown::Number)),
-            Some(Meaning::Equ(equated)) => take_settled(out, &equated.settled, names),
+            Some(Meaning::Equ(equated)) => take_equ(out, name, equated, names),
             Some(Meaning::Faulty) => put_part(out, Part::Unknown(Unknown::Anything)),
             None => unreachable!(),
         },
@@ -299,7 +313,7 @@ fn take_term(out: &mut Parts, term: &Term, names: &Names) -> Result<(), ExprFaul
 }
 
 /// An item of a source, behind items that are reduced.
-fn take_item(out: &mut Parts, item: &Item<Term>, names: &Names) -> Result<(), ExprFault>
+fn take_item<'a>(out: &mut Parts<'a>, item: &Item<Term>, names: &'a Names) -> Result<(), ExprFault>
     requires known { is_known names.now (source_item item.now) ≡ true }
     requires counted { AreCounted names.now }
     requires operands { arity (source_item item.now) ≤ length out.old }
@@ -316,7 +330,7 @@ fn take_item(out: &mut Parts, item: &Item<Term>, names: &Names) -> Result<(), Ex
 }
 
 /// The items of an expression with each fixed part as its number, or as one that is not known.
-pub(crate) fn reduce(parsed: &Tree, names: &Names) -> Result<Parts, ExprFault>
+pub(crate) fn reduce<'a>(parsed: &Tree, names: &'a Names) -> Result<Parts<'a>, ExprFault>
     requires { AllPass (is_known names.now) parsed.now }
     ensures { IsReduced names.now (source parsed.now) result }
 {

@@ -172,7 +172,9 @@ impl Expr {
     }
 
     /// The items in postfix order, where they are so kept that other expressions may have them; None where they are not.
-    pub fn shared(&self) -> Option<&Rc<Vec<Item<Atom>>>> {
+    pub fn shared(&self) -> Option<&Rc<Vec<Item<Atom>>>>
+        ensures { IfSome result (λ items. items.now.value.items ≡ self.now) }
+    {
         match &self.items {
             Kept::Shared(items) => Some(items),
             _ => None,

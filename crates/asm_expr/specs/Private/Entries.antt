@@ -8,9 +8,16 @@ use Rattle.asm_expr.specs.declared.statement.Statement.{Statement}
 use Rattle.asm_expr.specs.Names.{Table, empty}
 use Rattle.asm_expr.specs.Private.Left.{IsLeft}
 
+-- the entries of a map whose keys are bytes, and of each value what f has of it
+abbrev pub named_as : {A V W : Type 0} → (V → W) → List (Vec ℕ A × V) → List (List ℕ × W)
+named_as f entries = map (λ e. (e.0.items, f e.1)) entries
+
+abbrev pub named : {A V : Type 0} → List (Vec ℕ A × V) → List (List ℕ × V)
+named entries = named_as (λ v. v) entries
+
 -- what each name stands for
 abbrev pub meant : {A : Type 0} → List (Vec ℕ A × Entry) → List (List ℕ × Meaning)
-meant entries = map (λ e. (e.0.items, e.1.meaning)) entries
+meant entries = named_as (λ e. e.meaning) entries
 
 abbrev pub table_of : {A : Type 0} → List (Vec ℕ A × Entry) → ℕ → List Statement → Table
 table_of entries here statements = record { entries = meant entries; here = here; statements = statements }

@@ -19,8 +19,11 @@ at_most : (r : Result (Unit {0}) ExprFault) (new old m n : ℕ) → m ≤ n → 
 at_most (Ok x) new old m n few most = omega (arith, few, most)
 at_most (Err why) new old m n few most = tt
 
-pub take_settled-requires : goal.take_settled-requires
-take_settled-requires c =
+pub take_equ-requires-clause-known : goal.take_equ-requires-clause-known
+take_equ-requires-clause-known c = sym c.in-Some-Equ.ensures ∙ ap Some c.in-Some-Equ.field-0-is
+
+pub take_equ-requires-clause-room : goal.take_equ-requires-clause-room
+take_equ-requires-clause-room c =
     let t = c.args.names.now in
     let known : found t c.in-Name.name.now ≡ Some (Meaning.Equ c.in-Some-Equ.equated) =
     sym c.in-Some-Equ.ensures ∙ ap Some c.in-Some-Equ.field-0-is in
@@ -33,7 +36,7 @@ returns-in-Some-Equ-clause-most c =
     let known : found t c.in-Name.name.now ≡ Some (Meaning.Equ c.in-Some-Equ.equated) =
     sym c.in-Some-Equ.ensures ∙ ap Some c.in-Some-Equ.field-0-is in
     let few = enough t c.in-Name.name.now (operand c.args.term.now) c.in-Some-Equ.equated c.requires.counted (sym c.view.ensures ∙ ap view_operand c.in-Name.is) known in
-    at_most c.take_settled.result _ _ _ _ few c.take_settled.ensures.most
+    at_most c.take_equ.result _ _ _ _ few c.take_equ.ensures.most
 
 pub returns-in-Some-Equ-clause-folds : goal.returns-in-Some-Equ-clause-folds
 returns-in-Some-Equ-clause-folds c = λ before is.
@@ -44,4 +47,4 @@ returns-in-Some-Equ-clause-folds c = λ before is.
     sym c.in-Some-Equ.ensures ∙ ap Some c.in-Some-Equ.field-0-is in
     let stands : postfix (stands_for t (operand c.args.term.now)) ≡ postfix (standing equ.settled) =
     ap (λ o. postfix (stands_for t o)) name ∙ ap (λ m. postfix (meant m)) known in
-    subst (λ items. Folds (fold_all t items before) c.take_settled.result c.take_settled.new.out) (sym stands) (c.take_settled.ensures.folds before is)
+    subst (λ items. Folds (fold_all t items before) c.take_equ.result c.take_equ.new.out) (sym stands) (c.take_equ.ensures.folds before is)

@@ -2,7 +2,7 @@ use Rattle.std.proofs.Common.{◌≡◌, ◌∷◌, ◌++◌, [], sym, ap, subst
 use Rattle.indexmap.proofs.CallerLemmas.{insert_entry-new}
 use Rattle.asm_expr.specs.declared.names.Entry.{Entry}
 use Rattle.asm_expr.specs.Names.{AreCounted, found, with_meaning}
-use Rattle.asm_expr.specs.Private.Entries.{Knows, table_of}
+use Rattle.asm_expr.specs.Private.Entries.{AreKnown, Knows, table_of}
 use Rattle.asm_expr.proofs.Entries.{counted_after, known_after, lookup-meant, none_meant, table_after}
 use Rattle.asm_expr.proofs.names.Names.define.Goals as goal
 
@@ -27,3 +27,8 @@ invariant_of-self-2 c = (
   known_after c.self.inside.statements c.self.inside.entries.entries c.insert.new.self.entries c.args.name (entry c) (inserted c) c.self.invariant.1
       (subst (λ t. Knows t.statements c.args.meaning c.left_at-left_at.result) (sym c.self.view_is) c.left_at-left_at.ensures),
 )
+
+pub invariant_of-self : goal.invariant_of-self
+invariant_of-self c =
+    let same = c.in_err-insert.ensures.err in
+    (subst (λ es. AreCounted (table_of es c.self.inside.here c.self.inside.statements)) (sym same) c.self.invariant.0, subst (AreKnown c.self.inside.statements) (sym same) c.self.invariant.1)

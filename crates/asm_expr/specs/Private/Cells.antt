@@ -1,0 +1,28 @@
+-- How items that are being settled are kept.
+use Rattle.std.specs.Prelude.{◌≡◌, ◌≤◌, ◌-◌, Bool, true, false, List, [], ◌∷◌, length, map}
+use Rattle.std.proofs.Common.{get_or}
+use Rattle.asm_parse.specs.declared.item.Item.{Item}
+use Rattle.asm_value.specs.declared.atom.Atom.{Atom}
+use Rattle.asm_value.specs.Items.{IsExpr}
+use Rattle.asm_expr.specs.declared.part.Part.{Part}
+use Rattle.asm_expr.specs.declared.parts.Cell.{Cell}
+use Rattle.asm_expr.specs.Settling.{known_item}
+
+abbrev pub opened : Cell → List (Item Part)
+opened (Cell.Item item) = item ∷ []
+opened (Cell.List list) = map known_item list.now.value.items
+
+-- The items of an expression that is more than a leaf: an operator stands at the end.
+abbrev pub IsOperation : List (Item Atom) → Type 0
+IsOperation items = IsExpr items × (2 ≤ length items)
+
+abbrev pub IsSound : Cell → Type 0
+IsSound (Cell.Item item) = Unit {0}
+IsSound (Cell.List list) = IsOperation list.now.value.items
+
+abbrev pub is_leaf : Item Part → Bool
+is_leaf (Item.Leaf part) = true
+is_leaf _ = false
+
+abbrev pub EndsInLeaf : List (Item Part) → Type 0
+EndsInLeaf items = (d : Item Part) → is_leaf (get_or items (length items - 1) d) ≡ true
