@@ -2,6 +2,8 @@ mod Ends
 pub mod Macros
 mod Openings
 mod Unvaried
+mod Words
+mod Passed
 mod Signless
 mod Put_plain
 mod First_tokens
