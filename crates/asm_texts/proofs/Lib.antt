@@ -3,6 +3,7 @@ pub mod Macros
 mod Openings
 mod Unvaried
 mod Words
+mod Pairs
 mod Passed
 mod Signless
 mod Put_plain

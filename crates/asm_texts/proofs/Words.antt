@@ -18,11 +18,11 @@ pub without : (b : Bool) → (b ≡ true → ⊥) → b ≡ false
 without true never = absurd (never refl)
 without false never = refl
 
-flipped : (b : Bool) → b ≡ false → not b ≡ true
+pub flipped : (b : Bool) → b ≡ false → not b ≡ true
 flipped false e = refl
 flipped true e = absurd (false≢true (sym e))
 
-turned : (b : Bool) → b ≡ true → not b ≡ false
+pub turned : (b : Bool) → b ≡ true → not b ≡ false
 turned true e = refl
 turned false e = absurd (false≢true e)
 
@@ -58,19 +58,23 @@ pub empty : (s : Sign) → is_sign s [] ≡ false
 empty Sign.Word = refl
 empty Sign.Second = refl
 
-put : List ℕ → List (List ℕ) → List (List ℕ)
+pub put : List ℕ → List (List ℕ) → List (List ℕ)
 put word [] = word ∷ []
 put word (w ∷ ws) = (word ++ w) ∷ ws
 
-put_on : (word : List ℕ) (b : ℕ) (ws : List (List ℕ)) → put (word ++ b ∷ []) ws ≡ put word (onto_first b ws)
+pub put_on : (word : List ℕ) (b : ℕ) (ws : List (List ℕ)) → put (word ++ b ∷ []) ws ≡ put word (onto_first b ws)
 unfolding put
 put_on word b [] = refl
 put_on word b (w ∷ ws) = ap (λ x. x ∷ ws) (append_assoc word (b ∷ []) w)
 
-put_none : (s : Sign) (ws : List (List ℕ)) → list_any (is_sign s) (put [] ws) ≡ list_any (is_sign s) ws
+pub put_none : (s : Sign) (ws : List (List ℕ)) → list_any (is_sign s) (put [] ws) ≡ list_any (is_sign s) ws
 unfolding put
 put_none s [] = ap (λ b. b || false) (empty s)
 put_none s (w ∷ ws) = refl
+
+pub put_alone : (word : List ℕ) (ws : List (List ℕ)) → put word ([] ∷ ws) ≡ (word ++ []) ∷ ws
+unfolding put
+put_alone word ws = refl
 
 or_none : (b : Bool) → (b || false) ≡ b
 or_none true = refl

@@ -2,6 +2,7 @@
 
 ghost use Rattle.std.specs.Prelude.{◌≡◌};
 ghost use Rattle.std.specs.List.{list_any};
+ghost use Rattle.asm_texts.specs.Private.Pairs.{has_pair, is_pair};
 ghost use Rattle.asm_texts.specs.Signs.{has_sign, is_sign, words};
 
 use asm_scan::continues_name;
@@ -32,10 +33,44 @@ fn is_sign(sign: Sign, word: &[u8]) -> bool
     }
 }
 
-/// Whether a word of a text is one.
+/// Whether two small letters are one of the pairs of which each word of blocks has one: IF and ENDIF, ELSE, MACRO, REPT, ENDM.
+fn is_pair(a: u8, b: u8) -> bool
+    ensures { result ≡ is_pair a b }
+{
+    // By the second letter, since most bytes are none of these.
+    match b {
+        b'f' => a == b'i',
+        b's' => a == b'l',
+        b'r' => a == b'c',
+        b't' => a == b'p',
+        b'm' => a == b'd',
+        _ => false,
+    }
+}
+
+/// Whether such a pair stands in a text, in either case.
+fn has_pair(text: &[u8]) -> bool
+    ensures { result ≡ has_pair text.now }
+{
+    let mut before = 0;
+    for byte in text {
+        let small = byte.to_ascii_lowercase();
+        if is_pair(before, small) {
+            return true;
+        }
+        before = small;
+    }
+    false
+}
+
+/// Whether a word of a text is a sign. Few lines have a pair of letters of one, and to look for those takes half of what it takes to
+/// cut a line into words.
 fn has_word(sign: Sign, text: &[u8]) -> bool
     ensures { result ≡ list_any (is_sign sign) (words text.now) }
 {
+    if !has_pair(text) {
+        return false;
+    }
     text.split(|byte| !continues_name(*byte))
         .any(|word| is_sign(sign, word))
 }
