@@ -175,7 +175,7 @@ left_out p places k there = left_at p places k there.0 there.1 there.2
 
 -- The texts of a call are plain where its arguments are.
 
--- no letter and no colon
+-- a letter, or a colon: nothing else makes a sign
 abbrev is_signer : ℕ → Bool
 is_signer b = is_ascii_alphabetic b || (b == 0x3A)
 
