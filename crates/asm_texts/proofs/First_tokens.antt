@@ -1,5 +1,5 @@
 -- Lines that are no word of blocks by their first token, and the lines that are asked where all texts that are put in are plain.
-use Rattle.std.proofs.Common.{◌≡◌, ◌⊎◌, inl, inr, ◌∙◌, ◌&&◌, sym, ap, refl, subst, ℕ, true, false, Bool, List, [], ◌∷◌, Some, None, Result, Ok, Err, codes, get_or, take}
+use Rattle.std.proofs.Common.{◌≡◌, ◌⊎◌, inl, inr, ◌∙◌, ◌&&◌, sym, ap, refl, subst, ℕ, true, false, Bool, List, [], ◌∷◌, ◌++◌, Some, None, Result, Ok, Err, codes, get_or, take}
 use Rattle.std.specs.List.{Contains, filter, list_any}
 use Rattle.std.proofs.lemmas.Bool.{cases_Bool, cond-false, cond-true, false≢true, or_parts}
 use Rattle.asm_scan.specs.declared.fault.ScanFault.{ScanFault}
@@ -24,6 +24,8 @@ use Rattle.asm_texts.specs.Private.Varying.{first_of_line_varies, is_held, is_of
 use Rattle.asm_texts.specs.Roles.{role_of_head}
 use Rattle.asm_texts.specs.Signs.{has_sign}
 use Rattle.asm_texts.specs.Stands.{Stands, role_in}
+use Rattle.asm_texts.proofs.Passed.{behind_token, from_token}
+use Rattle.asm_texts.proofs.Words.{found, found_out, read}
 use Rattle.asm_texts.proofs.Put_plain.{left_out, line_apart, stays_plain}
 use Rattle.asm_texts.proofs.Signless.{IsOther, and_false, no_macro, no_words, none_in, role}
 use Rattle.asm_texts.proofs.Unvaried.{Keeps, last_left, same_worded}
@@ -32,22 +34,24 @@ is_other : (r : Role) → is_of_blocks r ≡ false → r ≡ Role.Other
 is_other Role.Other e = refl
 is_other _ e = absurd (false≢true (sym e))
 
-no_colon : (k : Kind) (text after : List ℕ) → IsToken k text after → has_sign Sign.Second text ≡ false → is_colon_kind k ≡ false
-no_colon (Kind.Mark Mark.Colon) text after is none = absurd (false≢true (sym none ∙ ap (has_sign Sign.Second) is))
+no_colon : (k : Kind) (text after : List ℕ) → IsToken k text after → found Sign.Second [] (text ++ after) ≡ false → is_colon_kind k ≡ false
+no_colon (Kind.Mark Mark.Colon) text after is none = absurd (false≢true (sym none ∙ ap (λ t. found Sign.Second [] (t ++ after)) is ∙ found_out Sign.Second [] 0x3A after refl))
 no_colon _ text after is none = refl
 
 -- Without a colon and MACRO, the first token says what a line is to blocks.
 form_first : (line : List ℕ) (a : Lexeme) (others : List Lexeme) (rest : List ℕ) → BeginsTokens line (a ∷ others) rest → has_sign Sign.Second line ≡ false → IsOther (form (a ∷ [])) → IsOther (form (a ∷ others))
 form_first line a [] rest begins none other = other
 form_first line a (b ∷ more) rest begins none other =
-    let have = none_in Sign.Second line rest (a ∷ b ∷ more) begins none in
-    let colon = no_colon b.kind b.text begins.2.0 begins.2.1.token_is have.1.0 in
+    let alone = sym (read Sign.Second line) ∙ none in
+    let have = none_in Sign.Second line rest (a ∷ b ∷ more) begins alone in
+    let behind_first = behind_token Sign.Second a.kind a.text begins.0 begins.1.token_is (from_token Sign.Second line a begins.0 begins.1 alone) in
+    let colon = no_colon b.kind b.text begins.2.0 begins.2.1.token_is (from_token Sign.Second begins.0 b begins.2.0 begins.2.1 behind_first) in
     elim (cases_Bool (is_name a && is_word (codes "EQU") b)) [
       | inl equ ↦ ap role (cond-true (is_name a && is_word (codes "EQU") b) _ _ equ)
       | inr no_equ ↦
           ap role (cond-false (is_name a && is_word (codes "EQU") b) _ _ no_equ)
           ∙ ap role (cond-false (is_name a && is_colon b) _ _ (and_false (is_name a) (is_colon b) colon))
-          ∙ ap role (cond-false (is_name a && is_word (codes "MACRO") b) _ _ (no_macro Sign.Second a b refl have.1.0))
+          ∙ ap role (cond-false (is_name a && is_word (codes "MACRO") b) _ _ (no_macro Sign.Second a b have.1.0))
           ∙ ap role_of_head (same_worded None a (b ∷ more) [])
           ∙ other
     ]

@@ -2,6 +2,9 @@ mod Ends
 pub mod Macros
 mod Openings
 mod Unvaried
+mod Words
+mod Pairs
+mod Passed
 mod Signless
 mod Put_plain
 mod First_tokens

@@ -1,30 +1,24 @@
--- Signs: bytes without which a line is none of blocks.
-use Rattle.std.specs.Prelude.{ℕ, List, [], ◌∷◌, Bool, false, ◌==◌, ◌&&◌, ◌||◌}
-use Rattle.std.specs.Str.{str_to_ascii_lowercase}
+-- Signs: words and a byte without which a line is none of blocks.
+use Rattle.std.specs.Prelude.{ℕ, List, [], ◌∷◌, Bool, not, ◌==◌, ◌||◌, codes}
+use Rattle.std.specs.List.{list_any, slice_split}
+use Rattle.std.specs.Str.{str_eq_ignore_ascii_case}
+use Rattle.asm_scan.specs.Classes.{continues_name}
 use Rattle.asm_texts.specs.declared.signs.Sign.{Sign}
 
--- two small letters that stand so in IF and ENDIF, ELSE, MACRO, REPT or ENDM
-abbrev pub is_pair : ℕ → ℕ → Bool
-is_pair a b =
-    ((a == 0x69) && (b == 0x66)) || ((a == 0x6C) && (b == 0x73)) || ((a == 0x63) && (b == 0x72)) || ((a == 0x70) && (b == 0x74))
-    || ((a == 0x64) && (b == 0x6D))
+-- the words of a text: what stands between the bytes that continue no name, perhaps nothing
+abbrev pub words : List ℕ → List (List ℕ)
+words text = slice_split (λ b. not (continues_name b)) text
 
--- A small letter, behind another byte, is the sign of a word of blocks, or of what makes a line one of blocks from its second
--- token on: the R in the CR of MACRO, or a colon, whatever stands before it.
-abbrev pub is_sign : Sign → ℕ → ℕ → Bool
-is_sign Sign.Word a b = is_pair a b
-is_sign Sign.Second a b = ((a == 0x63) && (b == 0x72)) || (b == 0x3A)
+-- each word of blocks but LOCAL, which is none to blocks
+abbrev pub words_of_blocks : List (List ℕ)
+words_of_blocks = codes "IF" ∷ codes "ENDIF" ∷ codes "ELSE" ∷ codes "MACRO" ∷ codes "REPT" ∷ codes "ENDM" ∷ []
 
--- one of some bytes is, the first perhaps behind what stands before them
-abbrev pub signed : Sign → ℕ → List ℕ → Bool
-signed sign before [] = false
-signed sign before (b ∷ bytes) = is_sign sign before b || signed sign b bytes
+-- a whole word is a sign, in either case
+abbrev pub is_sign : Sign → List ℕ → Bool
+is_sign Sign.Word word = list_any (str_eq_ignore_ascii_case word) words_of_blocks
+is_sign Sign.Second word = str_eq_ignore_ascii_case word (codes "MACRO")
 
--- so is a byte of a text, in either case
+-- A text has a sign of blocks: one of its words, or of what makes a line one of blocks from its second token on, MACRO or a colon.
 abbrev pub has_sign : Sign → List ℕ → Bool
-has_sign sign text = signed sign 0 (str_to_ascii_lowercase text)
-
--- a small letter that is one behind some letter
-abbrev pub ends_sign : Sign → ℕ → Bool
-ends_sign Sign.Word b = (b == 0x66) || (b == 0x73) || (b == 0x72) || (b == 0x74) || (b == 0x6D)
-ends_sign Sign.Second b = b == 0x72
+has_sign Sign.Word text = list_any (is_sign Sign.Word) (words text)
+has_sign Sign.Second text = list_any (is_sign Sign.Second) (words text) || list_any (λ b. b == 0x3A) text

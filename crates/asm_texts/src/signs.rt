@@ -1,15 +1,36 @@
-//! Signs: bytes without which a line is none of blocks.
+//! Signs: words and a byte without which a line is none of blocks.
 
 ghost use Rattle.std.specs.Prelude.{◌≡◌};
-ghost use Rattle.asm_texts.specs.Signs.{ends_sign, has_sign, is_pair, is_sign};
+ghost use Rattle.std.specs.List.{list_any};
+ghost use Rattle.asm_texts.specs.Private.Pairs.{has_pair, is_pair};
+ghost use Rattle.asm_texts.specs.Signs.{has_sign, is_sign, words};
+
+use asm_scan::continues_name;
 
 /// What is looked for in a line, in either case.
 #[derive(Clone, Copy, Debug)]
 pub(crate) enum Sign {
-    /// Of words of blocks: two letters that stand side by side in one, IF, LS, CR, PT or DM. Each but LOCAL has such.
+    /// A whole word of blocks: IF, ENDIF, ELSE, MACRO, REPT or ENDM.
     Word,
-    /// Of what makes a line one of blocks whose first token is no such word: a colon, or the CR of MACRO.
+    /// What makes a line one of blocks whose first token is no such word: the word MACRO, or a colon.
     Second,
+}
+
+/// Whether a word is such a sign.
+fn is_sign(sign: Sign, word: &[u8]) -> bool
+    ensures { result ≡ is_sign sign word.now }
+{
+    match sign {
+        Sign::Word => {
+            word.eq_ignore_ascii_case(b"IF")
+                || word.eq_ignore_ascii_case(b"ENDIF")
+                || word.eq_ignore_ascii_case(b"ELSE")
+                || word.eq_ignore_ascii_case(b"MACRO")
+                || word.eq_ignore_ascii_case(b"REPT")
+                || word.eq_ignore_ascii_case(b"ENDM")
+        }
+        Sign::Second => word.eq_ignore_ascii_case(b"MACRO"),
+    }
 }
 
 /// Whether two small letters are one of the pairs of which each word of blocks has one: IF and ENDIF, ELSE, MACRO, REPT, ENDM.
@@ -27,25 +48,14 @@ fn is_pair(a: u8, b: u8) -> bool
     }
 }
 
-/// Whether a small letter is a sign behind another byte.
-fn is_sign(sign: Sign, a: u8, b: u8) -> bool
-    ensures { result ≡ is_sign sign a b }
-{
-    match sign {
-        Sign::Word => is_pair(a, b),
-        Sign::Second => (a == b'c' && b == b'r') || b == b':',
-    }
-}
-
-/// Whether a line has such a sign: few lines without a word of blocks have one of those, and to look for them costs much less than
-/// to cut the line.
-pub(crate) fn has_sign(sign: Sign, line: &[u8]) -> bool
-    ensures { result ≡ has_sign sign line.now }
+/// Whether such a pair stands in a text, in either case.
+fn has_pair(text: &[u8]) -> bool
+    ensures { result ≡ has_pair text.now }
 {
     let mut before = 0;
-    for byte in line {
+    for byte in text {
         let small = byte.to_ascii_lowercase();
-        if is_sign(sign, before, small) {
+        if is_pair(before, small) {
             return true;
         }
         before = small;
@@ -53,12 +63,25 @@ pub(crate) fn has_sign(sign: Sign, line: &[u8]) -> bool
     false
 }
 
-/// Whether a small letter is a sign behind some letter.
-pub(crate) fn ends_sign(sign: Sign, small: u8) -> bool
-    ensures { result ≡ ends_sign sign small }
+/// Whether a word of a text is a sign. Few lines have a pair of letters of one, and to look for those takes half of what it takes to
+/// cut a line into words.
+fn has_word(sign: Sign, text: &[u8]) -> bool
+    ensures { result ≡ list_any (is_sign sign) (words text.now) }
+{
+    if !has_pair(text) {
+        return false;
+    }
+    text.split(|byte| !continues_name(*byte))
+        .any(|word| is_sign(sign, word))
+}
+
+/// Whether a text has such a sign: few lines that are none of blocks have one, and to look for them costs much less than to cut the
+/// line.
+pub(crate) fn has_sign(sign: Sign, text: &[u8]) -> bool
+    ensures { result ≡ has_sign sign text.now }
 {
     match sign {
-        Sign::Word => matches!(small, b'f' | b's' | b'r' | b't' | b'm'),
-        Sign::Second => small == b'r',
+        Sign::Word => has_word(sign, text),
+        Sign::Second => has_word(sign, text) || text.contains(&b':'),
     }
 }
