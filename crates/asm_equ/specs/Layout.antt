@@ -1,6 +1,6 @@
 -- Where the statements of a source stand, as far as its names ask.
 use Rattle.std.specs.Prelude.{ℕ, List, slice_index}
-use Rattle.asm_expr.specs.declared.statement.Statement.{Statement}
+use Rattle.asm_expr.specs.Types.{Statement}
 use Rattle.asm_equ.specs.declared.layout.Layout as layout
 
 -- the statements in order, and for each line the number of the next one behind the lines before it

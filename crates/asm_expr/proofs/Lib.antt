@@ -4,8 +4,6 @@ pub mod Opened
 pub mod Knowing
 pub mod Entries
 pub mod Known
-pub mod Sums
-pub mod Places
 pub mod Fixed
 pub mod Constants
 pub mod Folds

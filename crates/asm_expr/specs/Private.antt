@@ -1,5 +1,4 @@
 -- What private contracts alone cite: no reviewer need believe it.
-pub mod Sums
 pub mod Folding
 pub mod Left
 pub mod Entries

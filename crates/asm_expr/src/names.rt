@@ -1,18 +1,16 @@
 //! What the names of a module stand for, and where its statements lie.
 
 ghost use Rattle.std.specs.Prelude.{◌≡◌, IfOk, IfSome, None, OnOk, OnErr, option_copied};
-ghost use Rattle.asm_expr.specs.declared.statement.Statement.{Statement};
+ghost use Rattle.asm_expr.specs.Types.{Statement};
 ghost use Rattle.asm_expr.specs.Distances.{distance, some_distance};
 ghost use Rattle.asm_expr.specs.Names.{AreCounted, IsCounted, empty, found, with_meaning, with_statement};
 ghost use Rattle.asm_expr.specs.Private.Entries.{Knows};
 ghost use Rattle.asm_expr.specs.Private.Left.{IsLeftName};
 
 use crate::answer::Settled;
-use crate::layout::Layout;
 use crate::left::is_left;
 use crate::meaning::Meaning;
-use crate::statement::Statement;
-use crate::worth::Worth;
+use asm_distance::{Layout, Statement, Worth};
 use asm_value::{Expr, MOST_ITEMS};
 use indexmap::IndexMap;
 use name_key::NameKey;

@@ -23,7 +23,7 @@ use crate::parts::{Parts, known_item};
 use crate::single::Single;
 use crate::unknown::Unknown;
 use crate::weigh::item_size;
-use crate::worth::Worth;
+use asm_distance::Worth;
 use asm_parse::{Binary, ExprFault, Item, Term, TermView, Tree, Unary};
 use asm_value::{Atom, Expr, MOST_ITEMS, Room, apply_binary, apply_unary, items};
 use std::rc::Rc;

@@ -4,7 +4,7 @@ use Rattle.std.specs.List.{cons_option, filter_map}
 use Rattle.std.specs.Option.{option_map}
 use Rattle.std.proofs.Math.Path.{fun_ext}
 use Rattle.std.proofs.lemmas.List.Sums.{sum_by-append}
-use Rattle.asm_expr.specs.declared.statement.Statement.{Statement}
+use Rattle.asm_expr.specs.Types.{Statement}
 use Rattle.asm_expr.specs.declared.meaning.Meaning.{Meaning}
 use Rattle.asm_expr.specs.Names.{Table, found}
 use Rattle.z80_instr.specs.declared.Branch.{Branch}

@@ -3,8 +3,7 @@ use Rattle.std.specs.Prelude.{Bool, true, List, Option, Some, None, if◌then◌
 use Rattle.std.specs.List.{filter_map}
 use Rattle.std.specs.Option.{option_map}
 use Rattle.z80_instr.specs.declared.Branch.{Branch}
-use Rattle.asm_expr.specs.declared.statement.Statement as sized
-use Rattle.asm_expr.specs.declared.statement.Statement.{Statement}
+use Rattle.asm_expr.specs.Types.{Statement}
 use Rattle.asm_expr.specs.Names.{Table, found}
 use Rattle.asm_spell.specs.Few.{IsFew}
 use Rattle.asm_spell.specs.Line as line
@@ -16,7 +15,7 @@ use Rattle.asm_equ.specs.Layout.{Layout}
 
 -- Where a JR may grow, one to a label or an external is a relaxable jump.
 abbrev pub may_grow : Bool → Table → Body → Statement → Statement
-may_grow true t (line.Short (Branch.Relative condition) target) s = if is_some (ref_of (found t target)) then sized.TheVariants.Relaxable else s
+may_grow true t (line.Short (Branch.Relative condition) target) s = if is_some (ref_of (found t target)) then Statement.Relaxable else s
 may_grow grow t body s = s
 
 -- the statement of a line, if it has one

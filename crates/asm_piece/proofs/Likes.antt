@@ -11,8 +11,7 @@ use Rattle.asm_parse.specs.Source.{Operand, Number, Name, Here}
 use Rattle.asm_expr.specs.declared.answer.Settled.{Settled}
 use Rattle.asm_expr.specs.Below.{Atom}
 use Rattle.asm_expr.specs.declared.meaning.Meaning.{Meaning}
-use Rattle.asm_expr.specs.declared.statement.Statement as sized
-use Rattle.asm_expr.specs.declared.statement.Statement.{Statement}
+use Rattle.asm_expr.specs.Types.{Statement}
 use Rattle.asm_expr.specs.Names.{Table, found}
 use Rattle.asm_expr.specs.Origins.{AgreeOn, is_number_item, is_number_name}
 use Rattle.asm_expr.specs.Below.{source}
@@ -31,9 +30,9 @@ use Rattle.asm_piece.proofs.Making.{answered_items, number_in_ok, space_settled}
 
 -- Jumps.
 abbrev jump_by : Kind → Statement
-jump_by size.Place = sized.TheVariants.Relaxable
-jump_by (size.Number n) = sized.TheVariants.Sized 3
-jump_by size.Neither = sized.TheVariants.Sized 3
+jump_by size.Place = Statement.Relaxable
+jump_by (size.Number n) = Statement.Sized 3
+jump_by size.Neither = Statement.Sized 3
 
 jump_kind : (m : Option Meaning) → jump_sized (ref_of m) ≡ jump_by (kind m)
 jump_kind None = refl

@@ -4,8 +4,7 @@ use Rattle.std.specs.List.{sum_by}
 use Rattle.std.proofs.lemmas.List.Concat.{flat_map-append}
 use Rattle.asm_parse.specs.declared.item.Item.{Item}
 use Rattle.asm_parse.specs.Source.{Name}
-use Rattle.asm_expr.specs.declared.statement.Statement as sized
-use Rattle.asm_expr.specs.declared.statement.Statement.{Statement}
+use Rattle.asm_expr.specs.Types.{Statement}
 use Rattle.asm_expr.specs.Names.{Table, found}
 use Rattle.std.proofs.lemmas.List.Sums.{sum_by-cons}
 use Rattle.z80_instr.specs.declared.Instr.{Instr}
@@ -32,10 +31,10 @@ abbrev pub AreKept : Type 0
 AreKept = (field : Field) (value : ℕ) (instr : Instr) → length (canonical (with_number field value instr)) ≡ length (canonical instr)
 
 code_size : AreKept → (t : Table) (instr : Instr) (numbers : List (Field × line.Expression)) (p : Piece) → made.code t instr numbers ≡ Ok (Some_piece p)
-    → sized.TheVariants.Sized (length (canonical instr)) ≡ piece_sized p
+    → Statement.Sized (length (canonical instr)) ≡ piece_sized p
 code_size kept t instr numbers p is =
     let c = code_made t instr numbers p is in
-    ap (λ n. sized.TheVariants.Sized n) (sym (size_kept kept (map (λ n. (n.0, number_or_0 n.1)) c.read) instr)) ∙ ap piece_sized c.piece
+    ap (λ n. Statement.Sized n) (sym (size_kept kept (map (λ n. (n.0, number_or_0 n.1)) c.read) instr)) ∙ ap piece_sized c.piece
 
 jump_bytes : (condition : Option ShortCond) → length (canonical (long_jump condition 0)) ≡ 3
 jump_bytes None = refl
@@ -44,7 +43,7 @@ jump_bytes (Some condition) = refl
 jump_size : AreKept → (t : Table) (condition : Option ShortCond) (target : List ℕ) (p : Piece) (o : Option ℕ) → made.jump_by o t condition target ≡ Ok (Some_piece p) → jump_sized o ≡ piece_sized p
 jump_size kept t condition target p (Some r) is = let same : made.Jump condition r ≡ p = cc in ap piece_sized same
 jump_size kept t condition target p None is =
-    ap (λ n. sized.TheVariants.Sized n) (sym (jump_bytes condition)) ∙ code_size kept t (long_jump condition 0) ((Field.Word, Item.Leaf (Name target) ∷ []) ∷ []) p is
+    ap (λ n. Statement.Sized n) (sym (jump_bytes condition)) ∙ code_size kept t (long_jump condition 0) ((Field.Word, Item.Leaf (Name target) ∷ []) ∷ []) p is
 
 -- Data takes as many bytes as its items.
 sum_of : {A : Type 0} (size : A → ℕ) (read : A → Result (List Cell) StmtFault) → ((x : A) (cs : List Cell) → read x ≡ Ok cs → length (bytes cs) ≡ size x)
@@ -71,10 +70,10 @@ word_sized t e cs is =
     ap (λ xs. length (bytes xs)) (sym same)
 
 data_size : {A : Type 0} (size : A → ℕ) (read : A → Result (List Cell) StmtFault) → ((x : A) (cs : List Cell) → read x ≡ Ok cs → length (bytes cs) ≡ size x)
-    → (xs : List A) (p : Piece) → made.all_laid (each read xs) ≡ Ok (Some_piece p) → sized.TheVariants.Sized (sum_by size xs) ≡ piece_sized p
+    → (xs : List A) (p : Piece) → made.all_laid (each read xs) ≡ Ok (Some_piece p) → Statement.Sized (sum_by size xs) ≡ piece_sized p
 data_size size read one xs p is =
     let d = data_made read xs p is in
-    ap (λ n. sized.TheVariants.Sized n) (sym (sum_of size read one xs d.cells d.is)) ∙ ap piece_sized d.piece
+    ap (λ n. Statement.Sized n) (sym (sum_of size read one xs d.cells d.is)) ∙ ap piece_sized d.piece
 
 twice : {A : Type 0} (xs : List A) → 2 * length xs ≡ sum_by (λ (_ : A). 2) xs
 twice [] = refl
@@ -98,11 +97,11 @@ piece kept t (line.Code instr numbers) p is = ap (λ s. Some s) (code_size kept 
 piece kept t (line.Jump condition target) p is = ap (λ s. Some s) (jump_size kept t condition target p (ref_of (found t target)) is)
 piece kept t (line.Short branch target) p is = by_ref (ref_of (found t target)) is
   where
-    by_ref : (o : Option ℕ) → made.short_by o branch ≡ Ok (Some_piece p) → Some (sized.TheVariants.Sized 2) ≡ Some (piece_sized p)
+    by_ref : (o : Option ℕ) → made.short_by o branch ≡ Ok (Some_piece p) → Some (Statement.Sized 2) ≡ Some (piece_sized p)
     by_ref (Some r) is = let same : made.Short branch r ≡ p = cc in ap (λ q. Some (piece_sized q)) same
     by_ref None is = cc
 piece kept t (line.Bytes values) p is = ap (λ s. Some s) (data_size value_size (value_cells t) (value_sized t) values p is)
-piece kept t (line.Words fields) p is = ap (λ n. Some (sized.TheVariants.Sized n)) (twice fields) ∙ ap (λ s. Some s) (data_size (λ _. 2) (word_cells t) (word_sized t) fields p is)
+piece kept t (line.Words fields) p is = ap (λ n. Some (Statement.Sized n)) (twice fields) ∙ ap (λ s. Some s) (data_size (λ _. 2) (word_cells t) (word_sized t) fields p is)
 piece kept t (line.Space e fill) p is = space_piece t e fill p is
 piece kept t (line.Origin e) p is = let bad = origin_nothing t e (Some_piece p) is in cc
 piece kept t b p is = cc
@@ -121,7 +120,7 @@ pub record Lengths : Type 0 where
   pub least : (instr : Instr) → 1 ≤ length (canonical instr)
   pub most : (instr : Instr) → length (canonical instr) ≤ 4
 
-of_size : (n : ℕ) (p : Piece) → IsCount n → Some (sized.TheVariants.Sized n) ≡ Some (piece_sized p) → TakesFew p
+of_size : (n : ℕ) (p : Piece) → IsCount n → Some (Statement.Sized n) ≡ Some (piece_sized p) → TakesFew p
 of_size n (made.Bytes blank holes) count is = let same : n ≡ length blank = cc in subst IsCount same count
 of_size n (made.Space k fill) count is = let same : n ≡ k = cc in subst (λ m. 1 ≤ m) same count.0
 of_size n (made.Jump condition target) count is = tt
@@ -138,7 +137,7 @@ few kept lengths t (line.Jump condition target) p count is = by_ref (ref_of (fou
     by_ref None so = of_size 3 p (omega arith, omega arith) so
     by_ref (Some r) so = relaxed p so
       where
-        relaxed : (q : Piece) → Some sized.TheVariants.Relaxable ≡ Some (piece_sized q) → TakesFew q
+        relaxed : (q : Piece) → Some Statement.Relaxable ≡ Some (piece_sized q) → TakesFew q
         relaxed (made.Bytes blank holes) so = cc
         relaxed (made.Space k fill) so = cc
         relaxed (made.Jump condition target) so = tt

@@ -3,8 +3,7 @@ use Rattle.std.specs.Prelude.{◌≡◌, ◌≤◌, ℕ, zero, suc, ◌*◌, Lis
 use Rattle.std.specs.List.{sum_by}
 use Rattle.asm_expr.specs.declared.answer.Settled.{Settled}
 use Rattle.asm_expr.specs.declared.meaning.Meaning.{Meaning}
-use Rattle.asm_expr.specs.declared.statement.Statement as statement
-use Rattle.asm_expr.specs.declared.statement.Statement.{Statement}
+use Rattle.asm_expr.specs.Types.{Statement}
 use Rattle.asm_expr.specs.Names.{Table, found}
 use Rattle.z80_instr.specs.Table.{canonical}
 use Rattle.asm_spell.specs.declared.fault.StmtFault.{StmtFault}
@@ -16,15 +15,15 @@ use Rattle.asm_piece.specs.Made.{Piece, number_in, ref_of, space_size}
 
 -- a piece as far as its size matters
 abbrev pub piece_sized : Piece → Statement
-piece_sized (made.Bytes blank holes) = statement.TheVariants.Sized (length blank)
-piece_sized (made.Space n fill) = statement.TheVariants.Sized n
-piece_sized (made.Jump condition target) = statement.TheVariants.Relaxable
-piece_sized (made.Short branch target) = statement.TheVariants.Sized 2
+piece_sized (made.Bytes blank holes) = Statement.Sized (length blank)
+piece_sized (made.Space n fill) = Statement.Sized n
+piece_sized (made.Jump condition target) = Statement.Relaxable
+piece_sized (made.Short branch target) = Statement.Sized 2
 
 -- JP to a name may be coded short where that is a label or an external.
 abbrev pub jump_sized : Option ℕ → Statement
-jump_sized (Some r) = statement.TheVariants.Relaxable
-jump_sized None = statement.TheVariants.Sized 3
+jump_sized (Some r) = Statement.Relaxable
+jump_sized None = Statement.Sized 3
 
 -- the number of a DS, where one is known
 abbrev pub size_in : Result Settled StmtFault → Option ℕ
@@ -34,17 +33,17 @@ size_in (Err why) = None
 -- DS 0 is no statement.
 abbrev pub space_sized : Option ℕ → Option Statement
 space_sized (Some zero) = None
-space_sized (Some (suc n)) = Some (statement.TheVariants.Sized (suc n))
-space_sized None = Some statement.TheVariants.Unsized
+space_sized (Some (suc n)) = Some (Statement.Sized (suc n))
+space_sized None = Some Statement.Unsized
 
 -- The statement that a word and its operands make, as far as its size matters. A DS of which no number is known, since it is faulty or
 -- a name in it has no value, is one whose size is not known. The other directives make none.
 abbrev pub sized : Table → Body → Option Statement
-sized t (line.Code instr numbers) = Some (statement.TheVariants.Sized (length (canonical instr)))
+sized t (line.Code instr numbers) = Some (Statement.Sized (length (canonical instr)))
 sized t (line.Jump condition target) = Some (jump_sized (ref_of (found t target)))
-sized t (line.Short branch target) = Some (statement.TheVariants.Sized 2)
-sized t (line.Bytes values) = Some (statement.TheVariants.Sized (sum_by value_size values))
-sized t (line.Words fields) = Some (statement.TheVariants.Sized (2 * length fields))
+sized t (line.Short branch target) = Some (Statement.Sized 2)
+sized t (line.Bytes values) = Some (Statement.Sized (sum_by value_size values))
+sized t (line.Words fields) = Some (Statement.Sized (2 * length fields))
 sized t (line.Space size fill) = space_sized (size_in (space_size t size))
 sized t _ = None
 

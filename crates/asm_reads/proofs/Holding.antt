@@ -7,7 +7,7 @@ use Rattle.std.proofs.lemmas.List.Concat.{flat_map_single}
 use Rattle.asm_parse.specs.declared.item.Item.{Item}
 use Rattle.asm_parse.specs.Source.{Name}
 use Rattle.asm_expr.specs.declared.answer.Settled.{Settled}
-use Rattle.asm_expr.specs.declared.statement.Statement.TheVariants.{Sized}
+use Rattle.asm_expr.specs.Types.{Statement as Size}
 use Rattle.asm_expr.specs.Distances.{Step}
 use Rattle.asm_expr.specs.Names.{Table, found}
 use Rattle.asm_expr.specs.Below.{source}
@@ -67,7 +67,7 @@ code_holds rows t instr numbers p fields ok is =
     let c = code_made t instr numbers p is in
     let read = reads rows t instr numbers c.read ok (shape t instr numbers c.read fields c.is c.told) in
     record {
-      size = ap piece_sized (sym c.piece) ∙ ap Sized (size_kept rows.size (map (λ n. (n.0, number_or_0 n.1)) c.read) instr);
+      size = ap piece_sized (sym c.piece) ∙ ap (λ n. Size.Sized n) (size_kept rows.size (map (λ n. (n.0, number_or_0 n.1)) c.read) instr);
       target = ap target_by (sym c.piece);
       pieces = λ places step at long bs small linked. (
           let same : bs ≡ canonical (at_of places t numbers instr) = subst (λ q. IsLinkedPiece at long places q bs) (sym c.piece) linked ∙ read.filled places step in
@@ -83,7 +83,7 @@ data_size places (statement.Word e ∷ items) = omega (arith, data_size places i
 
 data_holds : (t : Table) (p : Piece) (items : List Datum) → Lays p items t → Holds t p (statement.Data items)
 data_holds t p items l = record {
-  size = ap piece_sized (sym l.piece) ∙ ap Sized l.size;
+  size = ap piece_sized (sym l.piece) ∙ ap (λ n. Size.Sized n) l.size;
   target = ap target_by (sym l.piece);
   pieces = λ places step at long bs small linked. (
       let same : bs ≡ flat_map (datum_bytes places) items = subst (λ q. IsLinkedPiece at long places q bs) (sym l.piece) linked ∙ cells_filled places [] l.fields ∙ l.places places step in

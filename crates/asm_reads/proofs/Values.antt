@@ -7,7 +7,7 @@ use Rattle.asm_expr.specs.declared.answer.Settled.{Settled}
 use Rattle.asm_expr.specs.Below.{Atom}
 use Rattle.asm_expr.specs.declared.meaning.Meaning.{Meaning}
 use Rattle.asm_expr.specs.declared.unknown.Unknown.{Unknown}
-use Rattle.asm_expr.specs.declared.worth.Worth.{Worth}
+use Rattle.asm_expr.specs.Types.{Worth}
 use Rattle.asm_expr.specs.Distances.{Step}
 use Rattle.asm_expr.specs.Below.{value}
 use Rattle.asm_expr.specs.Names.{Table, found}

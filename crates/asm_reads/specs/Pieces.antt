@@ -4,7 +4,7 @@ use Rattle.std.specs.Bool.{MatchBool}
 use Rattle.std.specs.List.{flat_map, sum_by}
 use Rattle.asm_parse.specs.Expression.{Expression}
 use Rattle.asm_expr.specs.Below.{Atom}
-use Rattle.asm_expr.specs.declared.statement.Statement as sized
+use Rattle.asm_expr.specs.Types.{Statement as Size}
 use Rattle.asm_expr.specs.Below.{value}
 use Rattle.z80_instr.specs.declared.Instr.{Instr}
 use Rattle.z80_instr.specs.Table.{canonical}
@@ -48,15 +48,15 @@ abbrev pub width : Datum → ℕ
 width (statement.Byte e) = 1
 width (statement.Word e) = 2
 
-abbrev pub sized_as : Statement → sized.Statement
-sized_as (statement.Code instr numbers) = sized.TheVariants.Sized (length (canonical instr))
-sized_as (statement.Data items) = sized.TheVariants.Sized (sum_by width items)
-sized_as (statement.Space n fill) = sized.TheVariants.Sized n
-sized_as (statement.Jump condition target) = sized.TheVariants.Relaxable
-sized_as (statement.Short branch target) = sized.TheVariants.Sized 2
+abbrev pub sized_as : Statement → Size
+sized_as (statement.Code instr numbers) = Size.Sized (length (canonical instr))
+sized_as (statement.Data items) = Size.Sized (sum_by width items)
+sized_as (statement.Space n fill) = Size.Sized n
+sized_as (statement.Jump condition target) = Size.Relaxable
+sized_as (statement.Short branch target) = Size.Sized 2
 
 -- how many bytes a statement takes, long or short
-abbrev pub takes : Bool → sized.Statement → ℕ
-takes long (sized.TheVariants.Sized n) = n
-takes long sized.TheVariants.Relaxable = if long then 3 else 2
-takes long sized.TheVariants.Unsized = 0
+abbrev pub takes : Bool → Size → ℕ
+takes long (Size.Sized n) = n
+takes long Size.Relaxable = if long then 3 else 2
+takes long Size.Unsized = 0

@@ -8,7 +8,7 @@ use Rattle.asm_parse.specs.Source.{Operand, Number, Name, Here}
 use Rattle.asm_expr.specs.Below.{Atom}
 use Rattle.asm_expr.specs.declared.answer.Settled.{Settled}
 use Rattle.asm_expr.specs.declared.meaning.Meaning.{Meaning}
-use Rattle.asm_expr.specs.declared.worth.Worth.{Worth}
+use Rattle.asm_expr.specs.Types.{Worth}
 use Rattle.asm_expr.specs.Names.{Table, found}
 use Rattle.asm_expr.specs.Below.{source, tree}
 use Rattle.asm_expr.specs.Settling.{replaced, worth}

@@ -7,8 +7,7 @@ use Rattle.z80_instr.specs.declared.Branch.{Branch}
 use Rattle.asm_parse.specs.declared.item.Item.{Item}
 use Rattle.asm_parse.specs.Source.{Number}
 use Rattle.asm_expr.specs.declared.meaning.Meaning.{Meaning}
-use Rattle.asm_expr.specs.declared.statement.Statement as size
-use Rattle.asm_expr.specs.declared.statement.Statement.{Statement}
+use Rattle.asm_expr.specs.Types.{Statement}
 use Rattle.asm_expr.specs.Distances.{is_unsized}
 use Rattle.asm_expr.specs.Names.{Table, found}
 use Rattle.asm_expr.specs.Origins.{is_valued_name}
@@ -30,7 +29,7 @@ abbrev names : Names
 names = (label, Kind.Label 0) ∷ []
 
 abbrev stand : List Statement
-stand = size.TheVariants.Relaxable ∷ size.TheVariants.Sized 2 ∷ []
+stand = Statement.Relaxable ∷ Statement.Sized 2 ∷ []
 
 abbrev table : Table
 table = record { entries = (label, Meaning.Label 0) ∷ []; here = 0; statements = stand }

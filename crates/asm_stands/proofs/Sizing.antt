@@ -12,9 +12,7 @@ use Rattle.asm_parse.specs.Source.{Operand, Number, Name, Here}
 use Rattle.asm_expr.specs.declared.answer.Settled.{Settled}
 use Rattle.asm_expr.specs.Below.{Atom}
 use Rattle.asm_expr.specs.declared.meaning.Meaning.{Meaning}
-use Rattle.asm_expr.specs.declared.statement.Statement as size
-use Rattle.asm_expr.specs.declared.statement.Statement.{Statement}
-use Rattle.asm_expr.specs.declared.worth.Worth.{Worth}
+use Rattle.asm_expr.specs.Types.{Statement, Worth}
 use Rattle.asm_expr.specs.Distances.{is_unsized}
 use Rattle.asm_expr.specs.Names.{Table, found}
 use Rattle.asm_expr.specs.Origins.{is_number_item, is_number_name}
@@ -92,12 +90,12 @@ jump_known None = refl
 space_known : (o : Option ℕ) (n : ℕ) → o ≡ Some n → (s : Statement) → space_sized o ≡ Some s → is_unsized s ≡ false
 space_known None n is s some = absurd cc
 space_known (Some zero) n is s some = absurd cc
-space_known (Some (suc k)) n is s some = let same : size.TheVariants.Sized (suc k) ≡ s = cc in ap is_unsized (sym same)
+space_known (Some (suc k)) n is s some = let same : Statement.Sized (suc k) ≡ s = cc in ap is_unsized (sym same)
 
 told : (x s : Statement) → Some x ≡ Some s → is_unsized x ≡ false → is_unsized s ≡ false
 told x s same is = let one : x ≡ s = cc in ap is_unsized (sym one) ∙ is
 
-either : (b : Bool) (s : Statement) → is_unsized s ≡ false → is_unsized (cond b size.TheVariants.Relaxable s) ≡ false
+either : (b : Bool) (s : Statement) → is_unsized s ≡ false → is_unsized (cond b Statement.Relaxable s) ≡ false
 either true s is = refl
 either false s is = is
 

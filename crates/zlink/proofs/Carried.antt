@@ -9,7 +9,7 @@ use Rattle.std.proofs.lemmas.Option.{slice_get-map, slice_get_within}
 use Rattle.std.proofs.lemmas.Slice.Zip.{AllZip-right}
 use Rattle.asm_expr.specs.Below.{modulus}
 use Rattle.asm_expr.specs.Distances.{Step}
-use Rattle.asm_expr.specs.declared.statement.Statement as sizing
+use Rattle.asm_expr.specs.Types.{Statement as Size}
 use Rattle.ruler.specs.Choice as choice
 use Rattle.ruler.specs.Choice.{Choice, bytes_before, place}
 use Rattle.ruler.proofs.Places.{place-next}
@@ -96,13 +96,13 @@ own_ref names p k le = by_test (nat_le k (length p.holds.statements)) refl
     by_test true e = refl
     by_test false e = absurd (omega (arith, leb-false k (length p.holds.statements) e))
 
-known_size : (to : ℕ → ℕ) (long : Bool) (o : object.Statement) (n : ℕ) → size_of o ≡ sizing.TheVariants.Sized n → choice.size_of long (sized_by to o) ≡ n
+known_size : (to : ℕ → ℕ) (long : Bool) (o : object.Statement) (n : ℕ) → size_of o ≡ Size.Sized n → choice.size_of long (sized_by to o) ≡ n
 known_size to long (object.Bytes bytes holes) n is = cc
 known_size to long (object.Jump marked condition target) n is = absurd cc
 known_size to long (object.Short branch target) n is = cc
 known_size to long (object.Space size fill) n is = cc
 
-sized_back : (xs : List object.Statement) (k : ℕ) (n : sizing.Statement) → slice_get (sizes xs) k ≡ Some n → (o : object.Statement) × (slice_get xs k ≡ Some o) × (size_of o ≡ n)
+sized_back : (xs : List object.Statement) (k : ℕ) (n : Size) → slice_get (sizes xs) k ≡ Some n → (o : object.Statement) × (slice_get xs k ≡ Some o) × (size_of o ≡ n)
 sized_back xs k n is = by (slice_get xs k) refl (sym (slice_get-map size_of xs k) ∙ is)
   where
     by : (found : Option object.Statement) → slice_get xs k ≡ found → option_map size_of found ≡ Some n → (o : object.Statement) × (slice_get xs k ≡ Some o) × (size_of o ≡ n)
@@ -123,7 +123,7 @@ module _ (whole : List Placed) (names : Publics) (c : Choice) where
 
   steps : (p : Part) → StandsThere whole names p → Step (sizes p.holds.statements) (λ ref. at_whole (stands names p ref))
   steps p there k n is =
-      let o = sized_back p.holds.statements k (sizing.TheVariants.Sized n) is in
+      let o = sized_back p.holds.statements k (Size.Sized n) is in
       let within = slice_get_within p.holds.statements k o.0 o.1 in
       let next = place-next c (file.shape whole) (p.base + k) (sized_by (stands names p) o.0) (slice_get-map (λ x. sized_by x.stands x.statement) whole (p.base + k) ∙ ap (option_map (λ x. sized_by x.stands x.statement)) (there k o.0 o.1)) in
       let far : at_whole (stands names p (suc k)) ≡ at_whole (p.base + k + 1) = ap at_whole (own_ref names p (suc k) (omega (arith, within)) ∙ omega arith) in

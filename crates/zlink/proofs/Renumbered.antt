@@ -4,7 +4,7 @@ use Rattle.std.specs.List.{flat_map, sum_by}
 use Rattle.std.proofs.lemmas.List.Concat.{flat_map-cons}
 use Rattle.asm_parse.specs.Expression.{Expression, Leaf, Prefix, Infix}
 use Rattle.asm_expr.specs.Below.{Atom}
-use Rattle.asm_expr.specs.declared.statement.Statement as sizing
+use Rattle.asm_expr.specs.Types.{Statement as Size}
 use Rattle.asm_expr.specs.Below.{unary, binary}
 use Rattle.asm_expr.specs.Below.{value}
 use Rattle.asm_expr.proofs.Sizes.{sum_by-cons}
@@ -56,10 +56,10 @@ module _ (places : ℕ → ℕ) (to : ℕ → ℕ) where
   piece-renumbered at long (statement.Short branch target) bytes is = is
 
 -- What a size and the ref of a jump make of a statement, as far as its size matters.
-abbrev sized_to : (ℕ → ℕ) → sizing.Statement → Option ℕ → Sized
-sized_to to (sizing.TheVariants.Sized n) None = sized.Fixed n
-sized_to to (sizing.TheVariants.Sized n) (Some target) = sized.Short (to target)
-sized_to to sizing.TheVariants.Relaxable (Some target) = sized.Jump (to target)
+abbrev sized_to : (ℕ → ℕ) → Size → Option ℕ → Sized
+sized_to to (Size.Sized n) None = sized.Fixed n
+sized_to to (Size.Sized n) (Some target) = sized.Short (to target)
+sized_to to Size.Relaxable (Some target) = sized.Jump (to target)
 sized_to to other target = sized.Fixed 0
 
 of_object : (to : ℕ → ℕ) (o : object.Statement) → sized_by to o ≡ sized_to to (size_of o) (target_in o)

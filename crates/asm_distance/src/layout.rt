@@ -1,9 +1,9 @@
 //! Statements in order, and the distances between them.
 
 ghost use Rattle.std.specs.Prelude.{◌≡◌, ◌++◌, ◌∷◌, [], List, IfOk, OnOk, OnErr, MatchOption, ◌<◌, ◌≤◌, length, take};
-ghost use Rattle.asm_expr.specs.declared.statement.Statement.{Statement};
-ghost use Rattle.asm_expr.specs.Distances.{distance, some_distance};
-ghost use Rattle.asm_expr.specs.Private.Sums.{IsBefore, gap};
+ghost use Rattle.asm_distance.specs.declared.statement.Statement.{Statement};
+ghost use Rattle.asm_distance.specs.Distances.{distance, some_distance};
+ghost use Rattle.asm_distance.specs.Private.Sums.{IsBefore, gap};
 
 use crate::statement::Statement;
 use crate::worth::Worth;
@@ -39,17 +39,18 @@ struct Passed {
     before: Before,
 }
 
-/// Statements in order. Clauses see their list.
+/// Statements in order, each as its size, and the distances between their places. Clauses see the list of statements. A distance
+/// takes the same time whatever stands between.
 #[derive(Debug, Drop)]
-pub(crate) struct Layout {
+pub struct Layout {
     passed: Vec<Passed>,
     end: Before,
 }
 
 impl Model for Layout {
     ghost use Rattle.std.specs.Prelude.{List, map};
-    ghost use Rattle.asm_expr.specs.declared.statement.Statement.{Statement};
-    ghost use Rattle.asm_expr.specs.Private.Sums.{AreSummed};
+    ghost use Rattle.asm_distance.specs.declared.statement.Statement.{Statement};
+    ghost use Rattle.asm_distance.specs.Private.Sums.{AreSummed};
 
     ghost Value = { List Statement };
 
@@ -60,7 +61,7 @@ impl Model for Layout {
 
 impl Layout {
     /// No statements.
-    pub(crate) fn new(alloc: Global) -> Layout
+    pub fn new(alloc: Global) -> Layout
         ensures { result ≡ [] }
     {
         Layout {
@@ -74,7 +75,7 @@ impl Layout {
     }
 
     /// No statements, with room for so many.
-    pub(crate) fn with_capacity(alloc: Global, count: usize) -> Result<Layout, AllocError>
+    pub fn with_capacity(alloc: Global, count: usize) -> Result<Layout, AllocError>
         ensures { IfOk result (λ layout. layout ≡ []) }
     {
         Ok(Layout {
@@ -87,15 +88,15 @@ impl Layout {
         })
     }
 
-    /// How many statements there are.
-    pub(crate) fn len(&self) -> usize
+    /// How many statements have passed.
+    pub fn len(&self) -> usize
         ensures { result ≡ length self.now }
     {
         self.passed.len()
     }
 
-    /// Passes a statement.
-    pub(crate) fn pass(&mut self, statement: Statement) -> Result<(), AllocError>
+    /// Passes a statement, which stands behind all others. Where memory is lacking the statements are as they were.
+    pub fn pass(&mut self, statement: Statement) -> Result<(), AllocError>
         ensures ok { OnOk result (self.new ≡ self.old ++ statement ∷ []) }
         ensures err { OnErr result (self.new ≡ self.old) }
     {
@@ -123,8 +124,10 @@ impl Layout {
         }
     }
 
-    /// How far statement `p` lies behind statement `q`, modulo 65,536.
-    pub(crate) fn distance(&self, p: u16, q: u16) -> Worth
+    /// How far statement `p` lies behind statement `q`, modulo 65,536, each by its number from 0: a number where each size between them
+    /// is known, no number is known over one that is not, and it varies where a relaxable jump stands between, whatever else. The
+    /// number of all statements is the place of their end. A number past that is no statement's: the distance from it varies.
+    pub fn distance(&self, p: u16, q: u16) -> Worth
         ensures { result ≡ distance self.now p q }
     {
         match (self.before(p), self.before(q)) {
@@ -133,8 +136,8 @@ impl Layout {
         }
     }
 
-    /// How far a statement lies from a place that is not known.
-    pub(crate) fn some_distance(&self, p: u16) -> Worth
+    /// How far statement `p` lies from a place that is not known: it varies for a number past the end, else no number is known.
+    pub fn some_distance(&self, p: u16) -> Worth
         ensures { result ≡ some_distance self.now p }
     {
         if self.passed.len() < usize::from(p) {
