@@ -1,6 +1,6 @@
 //! Operands that begin at `$`, as JR and DJNZ have them.
 
-ghost use Rattle.std.specs.Prelude.{◌≡◌, [], ◌∷◌, ◌↔◌, IsTrue, List, Some, map, length, nat_eq, MatchOption};
+ghost use Rattle.std.specs.Prelude.{◌≡◌, [], ◌∷◌, ◌↔◌, IsTrue, Some, map, length, nat_eq, MatchOption};
 ghost use Rattle.std.specs.List.{AllPass};
 ghost use Rattle.std.specs.Option.{option_eq, option_map};
 ghost use Rattle.asm_parse.specs.declared.item.Item.{Item};

@@ -17,7 +17,7 @@ use name_key::NameKey;
 use std::alloc::{AllocError, Global};
 use std::marker::Model;
 
-/// What a name stands for.
+/// What a name stands for, and what was found out of that.
 #[derive(Debug, Drop)]
 struct Entry {
     meaning: Meaning,

@@ -1,6 +1,6 @@
 //! What names make of an expression.
 
-ghost use Rattle.std.specs.Prelude.{◌≡◌, ◌<◌, ◌≤◌, ◌+◌, ◌-◌, ◌++◌, ◌∷◌, [], List, Ok, Some, IfOk, IfSome, true, length, map};
+ghost use Rattle.std.specs.Prelude.{◌≡◌, ◌<◌, ◌≤◌, ◌+◌, ◌∷◌, List, Ok, Some, IfOk, IfSome, true, length, map};
 ghost use Rattle.std.specs.List.{AllPass};
 ghost use Rattle.asm_expr.specs.declared.part.Part.{Part};
 ghost use Rattle.asm_parse.specs.declared.item.Item.{Item};

@@ -70,11 +70,23 @@ fn add_known(known: &mut Vec<Item<Atom>>, cell: &Cell<'_>) -> Result<bool, Alloc
     }
 }
 
+/// How many items there are in all parts.
+fn count_of(cells: &[Cell<'_>]) -> usize {
+    let mut count = 0usize;
+    for cell in cells {
+        count = count.saturating_add(match cell {
+            Cell::Item(_) => 1,
+            Cell::List(list) => list.len(),
+        });
+    }
+    count
+}
+
 /// What is settled as a list of its own; None where a part of it has no value.
 fn items_known(alloc: Global, cells: &[Cell<'_>]) -> Result<Option<Vec<Item<Atom>>>, AllocError>
     ensures { IfOk result (λ answer. option_map (λ known. known.items) answer ≡ items_known (flat_map opened cells.now)) }
 {
-    let mut known = Vec::with_capacity(alloc, cells.len())?;
+    let mut known = Vec::with_capacity(alloc, count_of(cells))?;
     for cell in cells {
         if !add_known(&mut known, cell)? {
             return Ok(None);
@@ -83,7 +95,7 @@ fn items_known(alloc: Global, cells: &[Cell<'_>]) -> Result<Option<Vec<Item<Atom
     Ok(Some(known))
 }
 
-/// One part that is all, as it is kept; None where it has no value.
+/// A part as it is kept where it is all there is; None where it has no value.
 fn kept_alone(cell: &Cell<'_>) -> Result<Option<Kept>, AllocError>
     ensures { IfOk result (λ answer. option_map kept answer ≡ items_known (opened cell.now)) }
 {
@@ -93,19 +105,8 @@ fn kept_alone(cell: &Cell<'_>) -> Result<Option<Kept>, AllocError>
     }
 }
 
-/// How many items a piece takes the place of where it takes less memory than they do.
+/// So many items take as much memory as one piece.
 const ITEMS_OF_A_PIECE: usize = 3;
-
-/// Whether a piece for each part takes less memory than the items themselves.
-fn is_shared(cells: &[Cell<'_>]) -> bool {
-    let mut count = 0usize;
-    for cell in cells {
-        if let Cell::List(list) = cell {
-            count = count.saturating_add(list.len());
-        }
-    }
-    count / ITEMS_OF_A_PIECE > cells.len()
-}
 
 /// What is settled, as it is kept; None where a part of it has no value.
 pub(crate) fn kept_of(alloc: Global, cells: &[Cell<'_>]) -> Result<Option<Kept>, AllocError>
@@ -114,7 +115,8 @@ pub(crate) fn kept_of(alloc: Global, cells: &[Cell<'_>]) -> Result<Option<Kept>,
     if let [cell] = cells {
         return kept_alone(cell);
     }
-    if is_shared(cells) {
+    // A piece for each part, where that takes less memory than all items.
+    if count_of(cells) / ITEMS_OF_A_PIECE > cells.len() {
         Ok(pieces_of(alloc, cells)?.map(Kept::Pieces))
     } else {
         Ok(items_known(alloc, cells)?.map(Kept::Many))

@@ -22,7 +22,7 @@ source_item (Item.Leaf t) = Item.Leaf (operand t)
 source_item (Item.Unary op) = Item.Unary op
 source_item (Item.Binary op) = Item.Binary op
 
--- the same of what a view gives
+-- the leaf and the item of a source that a view shows
 abbrev pub view_operand : TermView → Operand
 view_operand (TermView.Number n) = Number n
 view_operand (TermView.Name name) = Name name.now

@@ -20,14 +20,14 @@ pub enum Item<L> {
     Binary(Binary),
 }
 
-/// A leaf of an expression of a source, as a tree keeps it. What a tree takes is its items, so a name lies in place or behind one
-/// pointer.
+/// A leaf of an expression of a source, as a tree keeps it. What a tree takes is its items, so a short name lies in place, and a
+/// longer one in memory of its own.
 #[derive(Debug, Drop)]
 pub enum Term {
     Number(u16),
     /// A name in upper case.
     Short(ShortName),
-    /// One that is longer.
+    /// A name in upper case of more than fourteen bytes.
     Long(Box<Vec<u8>>),
     /// `$`: the place of the statement.
     Here,

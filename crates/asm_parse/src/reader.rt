@@ -1,7 +1,7 @@
 //! From tokens to expressions: operators wait on a stack until what binds less tightly follows, and are then put behind
 //! their operands.
 
-ghost use Rattle.std.specs.Prelude.{◌≡◌, ◌≤◌, ◌⊎◌, ◌∷◌, [], ℕ, List, ◌++◌, map, max, Some, Ok, Err, IfOk, IfErr};
+ghost use Rattle.std.specs.Prelude.{◌≡◌, ◌≤◌, ◌⊎◌, ◌∷◌, [], List, ◌++◌, map, max, Some, Ok, Err, IfOk, IfErr};
 ghost use Rattle.asm_scan.specs.Tokens.{lexeme, lexemes};
 ghost use Rattle.asm_parse.specs.declared.fault.ExprFault.{ExprFault};
 ghost use Rattle.asm_parse.specs.Expression.{postfix};

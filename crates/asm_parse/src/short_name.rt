@@ -2,6 +2,7 @@
 
 ghost use Rattle.std.specs.Prelude.{◌≡◌, ◌<◌, IfSome, IfNone, length};
 ghost use Rattle.asm_words.specs.Words.{upper};
+ghost use Rattle.asm_parse.specs.declared.short_name.TheConstants.{MOST_SHORT};
 
 use std::marker::Model;
 
@@ -17,18 +18,20 @@ pub struct ShortName {
 
 impl Model for ShortName {
     ghost use Rattle.std.specs.Prelude.{◌≤◌, ℕ, List, take};
+    ghost use Rattle.asm_parse.specs.declared.short_name.TheConstants.{MOST_SHORT};
 
     ghost Value = { List ℕ };
 
     ghost view = { λ name. take name.length name.bytes };
 
-    ghost invariant = { λ name. name.length ≤ 14 };
+    ghost invariant = { λ name. name.length ≤ MOST_SHORT };
 }
 
 impl ShortName {
-    /// The text, where it is short.
+    /// The text, where it has fourteen bytes at most.
     pub(crate) fn new(text: &[u8]) -> Option<ShortName>
-        ensures { IfSome result (λ name. name ≡ text.now) }
+        ensures short { IfSome result (λ name. name ≡ text.now) }
+        ensures long { IfNone result (MOST_SHORT < length text.now) }
     {
         if text.len() > MOST_SHORT {
             return None;

@@ -99,7 +99,7 @@ fn five(alloc: Global) -> Result<Names, anyhow::Error> {
 }
 
 /// That module with names that EQU gives: a fixed one, a constant, a place, five copies of the first two, a distance that varies,
-/// twice that, and twice that again.
+/// twice that, and twice that again; and two by names of fourteen and fifteen bytes.
 fn five_with_equs(alloc: Global) -> Result<Names, anyhow::Error> {
     with_equs(
         alloc,
@@ -113,6 +113,8 @@ fn five_with_equs(alloc: Global) -> Result<Names, anyhow::Error> {
             (b"REACH", b"V-X"),
             (b"TWICE", b"REACH+REACH"),
             (b"FOUR", b"TWICE+TWICE"),
+            (b"FOURTEEN_BYTES", b"2+4"),
+            (b"FIFTEEN_BYTES_X", b"FOURTEEN_BYTES+1"),
         ],
     )
 }

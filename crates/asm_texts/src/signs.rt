@@ -48,7 +48,7 @@ fn is_pair(a: u8, b: u8) -> bool
     }
 }
 
-/// Whether such a pair stands in a text, in either case.
+/// Whether two letters of which each word of blocks has some stand side by side in a text, in either case.
 fn has_pair(text: &[u8]) -> bool
     ensures { result ≡ has_pair text.now }
 {

@@ -1,6 +1,6 @@
 //! Expressions whose names are replaced, as lists of postfix items, and their values.
 
-ghost use Rattle.std.specs.Prelude.{◌≡◌, ◌<◌, ◌≤◌, ◌+◌, ◌∷◌, ℕ, List, Some, length, IfOk, IfSome, MatchOption, All, IsTrue, ◌↔◌, slice_index, []};
+ghost use Rattle.std.specs.Prelude.{◌≡◌, ◌<◌, ◌≤◌, ◌+◌, ◌∷◌, List, Some, length, IfOk, IfSome, MatchOption, All, IsTrue, ◌↔◌, slice_index, []};
 ghost use Rattle.std.specs.List.{list_all, list_any};
 ghost use Rattle.std.specs.Option.{option_map};
 ghost use Rattle.asm_value.specs.declared.atom.Atom.{Atom};
@@ -159,11 +159,19 @@ impl Expr {
         })
     }
 
-    /// The same expression once more, where its items are so kept that others may have them; else None.
+    /// The same expression once more, where that copies no list: it has one item, or its items are so kept that others may have
+    /// them. None where it would.
+    ///
+    /// # Errors
+    ///
+    /// Where no more expressions can have these items.
     pub fn again(&self) -> Result<Option<Expr>, AllocError>
         ensures { IfOk result (λ answer. IfSome answer (λ expr. expr ≡ self.now)) }
     {
         match &self.items {
+            Kept::One(alone) => Ok(Some(Expr {
+                items: Kept::One(*alone),
+            })),
             Kept::Shared(items) => Ok(Some(Expr {
                 items: Kept::Shared(Rc::clone(items)?),
             })),

@@ -8,6 +8,7 @@ use Rattle.asm_expr.specs.declared.part.Part.{Part}
 use Rattle.asm_expr.specs.declared.parts.Cell.{Cell}
 use Rattle.asm_expr.specs.Settling.{known_item}
 
+-- the items of a part
 abbrev pub opened : Cell → List (Item Part)
 opened (Cell.Item item) = item ∷ []
 opened (Cell.List list) = map known_item list.now.value.items
@@ -16,6 +17,7 @@ opened (Cell.List list) = map known_item list.now.value.items
 abbrev pub IsOperation : List (Item Atom) → Type 0
 IsOperation items = IsExpr items × (2 ≤ length items)
 
+-- A list stands for such an expression.
 abbrev pub IsSound : Cell → Type 0
 IsSound (Cell.Item item) = Unit {0}
 IsSound (Cell.List list) = IsOperation list.now.value.items
@@ -24,5 +26,6 @@ abbrev pub is_leaf : Item Part → Bool
 is_leaf (Item.Leaf part) = true
 is_leaf _ = false
 
+-- The last item is a leaf.
 abbrev pub EndsInLeaf : List (Item Part) → Type 0
 EndsInLeaf items = (d : Item Part) → is_leaf (get_or items (length items - 1) d) ≡ true

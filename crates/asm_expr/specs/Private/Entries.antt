@@ -27,7 +27,7 @@ abbrev pub IsLeftBy : List Statement → Settled → Type 0
 IsLeftBy statements (Settled.Known items) = IsLeft (record empty { statements = statements }) items
 IsLeftBy statements (Settled.Unknown what) = Unit {0}
 
--- So it was found of a meaning's expression, when so many of the statements had passed.
+-- It was found that settling leaves a meaning's expression as it is, when so many of the statements had passed.
 abbrev pub Knows : List Statement → Meaning → Option ℕ → Type 0
 Knows statements (Meaning.Equ equated) (Some n) = (n ≤ length statements) × IsLeftBy (take n statements) equated.settled
 Knows statements what (Some n) = Unit {0}

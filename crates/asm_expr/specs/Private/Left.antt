@@ -18,18 +18,19 @@ pub record IsReducedTree (t : Table) (e : Expression Part) : Type 0 where
   pub sound : divisions_fault t e ≡ None
   pub same : reduced t e ≡ e
 
--- the expression of these items is such
+-- Settling leaves the expression of these items as it is.
 pub record IsLeft (t : Table) (items : List (Item Atom)) : Type 0 where
   pub expr : IsExpr items
   pub reduced : IsReducedTree t (known (tree items))
 
--- a name stands for these items
+-- A name stands for these items, which are not too many, and settling leaves them as they are.
 pub record IsLeftName (t : Table) (name : List ℕ) (items : List (Item Atom)) : Type 0 where
   pub size : ℕ
   pub few : size ≤ MOST_ITEMS
   pub found : found t name ≡ Some (Meaning.Equ (record { settled = Settled.Known items; size = size }))
   pub left : IsLeft t items
 
+-- So does an operand that is a name; no other does.
 abbrev pub IsLeftOperand : Table → Operand → List (Item Atom) → Type 0
 IsLeftOperand t (Name name) items = IsLeftName t name items
 IsLeftOperand t _ items = ⊥

@@ -13,6 +13,6 @@ abbrev pub paired : ℕ → List ℕ → Bool
 paired before [] = false
 paired before (b ∷ bytes) = is_pair before b || paired b bytes
 
--- so is a byte of a text, in either case
+-- a pair stands in a text, in either case
 abbrev pub has_pair : List ℕ → Bool
 has_pair text = paired 0 (str_to_ascii_lowercase text)
