@@ -5,13 +5,14 @@ ghost use Rattle.std.specs.List.{list_any};
 ghost use Rattle.std.specs.Str.{bytes_eq};
 
 use indexmap::IndexSet;
+use name_key::NameKey;
 use std::alloc::{AllocError, Global};
 use std::marker::Model;
 
 /// Some names, each looked up at once.
 #[derive(Drop)]
 pub struct Listed<'a> {
-    set: IndexSet<&'a [u8]>,
+    set: IndexSet<&'a [u8], NameKey>,
 }
 
 impl<'a> Model for Listed<'a> {
@@ -23,12 +24,12 @@ impl<'a> Model for Listed<'a> {
 }
 
 impl<'a> Listed<'a> {
-    /// No names.
-    pub(crate) fn new(alloc: Global) -> Listed<'a>
+    /// No names, which are to be looked up by a key.
+    pub(crate) fn new(alloc: Global, key: NameKey) -> Listed<'a>
         ensures { result ≡ [] }
     {
         Listed {
-            set: IndexSet::new(alloc),
+            set: IndexSet::with_hasher(alloc, key),
         }
     }
 

@@ -16,6 +16,7 @@ use crate::listed::Listed;
 use asm_equ::Layout;
 use asm_names::{Kind, NameTable, SourceLine};
 use asm_spell::{Body, KeptName, Line};
+use name_key::{KeyMixer, NameKey};
 use std::alloc::{AllocError, Global};
 use zmo_module::Label;
 
@@ -108,6 +109,28 @@ pub fn begins(lines: &[SourceLine]) -> bool
     lines.iter().any(|line| is_origin(&line.line))
 }
 
+/// Mixes in the names that a line passes on.
+fn mix(mixer: &mut KeyMixer, line: &Line) {
+    if let Line::Statement {
+        label: _,
+        body: Some(Body::Public(names)),
+    } = line
+    {
+        for name in names {
+            mixer.mix(name);
+        }
+    }
+}
+
+/// The key of the names that PUBLIC lines list, which need be defined nowhere.
+fn key_of(lines: &[SourceLine]) -> NameKey {
+    let mut mixer = KeyMixer::new();
+    for line in lines {
+        mix(&mut mixer, &line.line);
+    }
+    mixer.key()
+}
+
 /// Adds the names that a PUBLIC lists.
 fn list_names<'a>(names: &'a [KeptName], listed: &mut Listed<'a>) -> Result<(), AllocError>
     ensures { OnOk result ((name : List ℕ) → list_any (bytes_eq name) listed.new ≡ (list_any (bytes_eq name) listed.old || list_any (bytes_eq name) (listed_of names.now))) }
@@ -122,7 +145,7 @@ fn list_names<'a>(names: &'a [KeptName], listed: &mut Listed<'a>) -> Result<(), 
 fn listed_by<'a>(alloc: Global, lines: &'a [SourceLine]) -> Result<Listed<'a>, AllocError>
     ensures { IfOk result (λ all. (name : List ℕ) → list_any (bytes_eq name) all ≡ list_any (bytes_eq name) (listed (lines_of lines.now))) }
 {
-    let mut all = Listed::new(alloc);
+    let mut all = Listed::new(alloc, key_of(lines));
     for line in lines {
         if let Line::Statement {
             label: _,

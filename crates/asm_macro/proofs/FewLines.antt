@@ -14,7 +14,7 @@ use Rattle.asm_sections.specs.Blocks.{Body, Branches, Section, body_of, branches
 use Rattle.asm_texts.specs.Roles.{is_alone}
 use Rattle.asm_texts.specs.Calls.{Macro, Opened, label_lines, opened}
 use Rattle.asm_macro.specs.declared.fault.MacroFault.{MacroFault}
-use Rattle.asm_macro.specs.State.{State, counted, is_known, macro_named, table}
+use Rattle.asm_macro.specs.State.{State, counted, is_known, macro_called, table}
 use Rattle.asm_macro.specs.Judged.{first, is_counted, most_lines, parameters, redefined, stray, unclosed, unread}
 use Rattle.asm_sections.specs.Onward.{Next, Rest, BehindFirst, BehindSecond, Turns, renumbered}
 use Rattle.asm_macro.specs.Parts.{Part, Stop, Last, Go, Within, called, closing, conditional, definition, headed, judged, learned, most_open, part, passed, read, repeated, resumed, second_of, turns, unless_deep, worded}
@@ -122,7 +122,7 @@ few_headed (line.Block BlockWord.Local) depth e l f tokens rest = omega arith
 few_headed (line.Block BlockWord.Else) depth e l f tokens rest = omega arith
 few_headed (line.Block BlockWord.EndIf) depth e l f tokens rest = omega arith
 few_headed (line.Block BlockWord.EndM) depth e l f tokens rest = omega arith
-few_headed (line.Word name) depth e l f tokens rest = few_worded depth e l f tokens rest (upper name) (macro_named e (upper name))
+few_headed (line.Word name) depth e l f tokens rest = few_worded depth e l f tokens rest (upper name) (macro_called e (upper name))
 few_headed line.Nothing depth e l f tokens rest = omega arith
 
 -- a line that is read and not counted is none that may stand

@@ -11,7 +11,7 @@ use Rattle.asm_scan.specs.Scanned.{scanned}
 use Rattle.asm_macro.specs.declared.fault.MacroFault.{MacroFault}
 use Rattle.asm_texts.specs.Lines.{Numbered, form_of}
 use Rattle.asm_texts.specs.Calls.{Macro}
-use Rattle.asm_macro.specs.State.{State, macro_named, with_macro, is_known, with_constant, counted, table}
+use Rattle.asm_macro.specs.State.{State, macro_called, with_macro, is_known, with_constant, counted, table}
 use Rattle.asm_macro.specs.Values.{worth}
 use Rattle.asm_texts.specs.Roles.{is_alone}
 use Rattle.asm_sections.specs.Blocks.{Section, Body, Branches, body_of, branches_of}
@@ -116,7 +116,7 @@ called depth e l form tokens rest m (Some body) =
     (body_lines l.number (table_of m (arguments_in l.text tokens form.rest) e.counter body.locals) body.lines) (Rest rest)
 called depth e l form tokens rest m None = Stop (label_lines form.label l tokens) l.number MacroFault.Stray
 
--- a word: a call where a macro has that name, else END or any other
+-- a word: a call where it calls a macro, else END or any other
 abbrev pub worded : ℕ → State → Numbered → Form → List Lexeme → List Numbered → List ℕ → Option Macro → Part
 worded depth e l form tokens rest name (Some m) = unless_deep depth l (called depth e l form tokens rest m (opened m.body))
 worded depth e l form tokens rest name None = if bytes_eq name (codes "END") then Last l else Go (l ∷ []) e rest
@@ -128,7 +128,7 @@ headed (line.Macro name) depth e l form tokens rest = definition e l name (param
 headed (line.Block BlockWord.Rept) depth e l form tokens rest = repeated depth e l (body_of rest) (worth (table e) form.rest)
 headed (line.Block BlockWord.If) depth e l form tokens rest = conditional depth e l (branches_of rest) (worth (table e) form.rest)
 headed (line.Block word) depth e l form tokens rest = fails l MacroFault.Stray
-headed (line.Word name) depth e l form tokens rest = worded depth e l form tokens rest (upper name) (macro_named e (upper name))
+headed (line.Word name) depth e l form tokens rest = worded depth e l form tokens rest (upper name) (macro_called e (upper name))
 headed line.Nothing depth e l form tokens rest = Go (l ∷ []) e rest
 
 abbrev pub read : ℕ → State → Numbered → List Numbered → Result (List Lexeme) ScanFault → Part

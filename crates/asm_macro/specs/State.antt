@@ -1,5 +1,5 @@
 -- What an expansion knows at a line.
-use Rattle.std.specs.Prelude.{ℕ, ◌+◌, Bool, List, [], ◌∷◌, ◌++◌, Option, map, is_some}
+use Rattle.std.specs.Prelude.{ℕ, ◌+◌, Bool, List, [], ◌∷◌, ◌++◌, Option, None, if◌then◌else◌, codes, map, is_some}
 use Rattle.std.specs.Map.{lookup}
 use Rattle.std.specs.Str.{bytes_eq}
 use Rattle.asm_expr.specs.declared.meaning.Meaning.{Meaning}
@@ -19,6 +19,13 @@ start = record { macros = []; constants = []; counter = 0; count = 0 }
 
 abbrev pub macro_named : State → List ℕ → Option Macro
 macro_named e name = lookup (bytes_eq name) e.macros
+
+-- the one of some macros that a word calls: EQU is known before macros, so it calls none
+abbrev pub called_by : List ℕ → List (List ℕ × Macro) → Option Macro
+called_by word macros = if bytes_eq word (codes "EQU") then None else lookup (bytes_eq word) macros
+
+abbrev pub macro_called : State → List ℕ → Option Macro
+macro_called e word = called_by word e.macros
 
 abbrev pub with_macro : List ℕ → Macro → State → State
 with_macro name m e = record e { macros = e.macros ++ (name, m) ∷ [] }

@@ -1,6 +1,6 @@
 //! Lines that are taken up.
 
-ghost use Rattle.std.specs.Prelude.{◌≡◌, ◌<◌, ◌≤◌, ◌+◌, ◌||◌, nat_lt, IfOk, OnOk, Ok, List, ℕ, None, Some, codes, false, length, true};
+ghost use Rattle.std.specs.Prelude.{◌≡◌, ◌<◌, ◌≤◌, ◌+◌, ◌||◌, nat_lt, All, IfOk, IfSome, OnOk, Ok, List, ℕ, None, Some, codes, false, length, true};
 ghost use Rattle.std.specs.Option.{option_map};
 ghost use Rattle.asm_scan.specs.Tokens.{lexemes};
 ghost use Rattle.asm_scan.specs.Scanned.{scanned};
@@ -8,12 +8,11 @@ ghost use Rattle.asm_words.specs.Words.{upper};
 ghost use Rattle.asm_line.specs.Views.{form_seen, head_seen};
 ghost use Rattle.asm_replace.specs.Views.{texts};
 ghost use Rattle.asm_replace.specs.Replaced.{Table};
-ghost use Rattle.asm_texts.specs.Kept.{IsCall};
-ghost use Rattle.asm_texts.specs.Prepared.{SaySame, body_texts, macros_seen, said};
-ghost use Rattle.std.specs.Map.{lookup};
+ghost use Rattle.asm_texts.specs.Kept.{IsCall, IsKept};
+ghost use Rattle.asm_texts.specs.Prepared.{SaySame, body_texts, macro_seen, macros_seen, said};
 ghost use Rattle.std.specs.Str.{bytes_eq};
 ghost use Rattle.asm_macro.specs.Private.Entering.{Entered};
-ghost use Rattle.asm_macro.specs.State.{macro_named, table};
+ghost use Rattle.asm_macro.specs.State.{called_by, macro_called, macro_named, table};
 ghost use Rattle.asm_macro.specs.Values.{worth};
 ghost use Rattle.asm_macro.specs.Ahead.{seen};
 ghost use Rattle.asm_sections.specs.Blocks.{body_of, branches_of};
@@ -80,12 +79,24 @@ fn may_not_stand(labelled: bool, depth: usize, reserved: bool) -> bool
     labelled || depth > 0 || reserved
 }
 
+/// The macro that a word in upper case calls, if it calls one. EQU is known before macros, so it calls none, whatever has its name.
+fn called_by<'m>(macros: &'m IndexMap<Vec<u8>, Macro, NameKey>, word: &[u8]) -> Option<&'m Macro>
+    ensures found { (texts : List (List ℕ)) → option_map (λ m. macro_seen texts m.now) result ≡ called_by word.now (macros_seen texts macros.now.entries) }
+    ensures kept { (texts : List (List ℕ)) → All (λ e. IsKept texts e.1) macros.now.entries → IfSome result (λ m. IsKept texts m.now) }
+{
+    if word == b"EQU".as_slice() {
+        None
+    } else {
+        macro_of(macros, word)
+    }
+}
+
 /// The longest word that is looked up as a macro's name without memory of its own.
 const SHORT: usize = 16;
 
-/// Whether a word is short, names no macro and is not END.
+/// Whether a word is short, calls no macro and is not END.
 fn is_plain(macros: &IndexMap<Vec<u8>, Macro, NameKey>, word: &[u8]) -> bool
-    ensures none { (texts : List (List ℕ)) → result ≡ true → lookup (bytes_eq (upper word.now)) (macros_seen texts macros.now.entries) ≡ None }
+    ensures none { (texts : List (List ℕ)) → result ≡ true → called_by (upper word.now) (macros_seen texts macros.now.entries) ≡ None }
     ensures no_end { result ≡ true → bytes_eq (upper word.now) (codes "END") ≡ false }
 {
     if word.len() > SHORT {
@@ -95,7 +106,7 @@ fn is_plain(macros: &IndexMap<Vec<u8>, Macro, NameKey>, word: &[u8]) -> bool
     let name = &mut bytes[..word.len()];
     name.copy_from_slice(word);
     name.make_ascii_uppercase();
-    macro_of(macros, name).is_none() && &*name != b"END".as_slice()
+    called_by(macros, name).is_none() && &*name != b"END".as_slice()
 }
 
 impl<'a> Expansion<'a> {
@@ -173,7 +184,7 @@ impl<'a> Expansion<'a> {
         Ok(())
     }
 
-    /// A word: a call where a macro has that name, else END or any other.
+    /// A word: a call where it calls a macro, else END or any other.
     fn word(
         &mut self,
         line: Line<'_>,
@@ -186,10 +197,10 @@ impl<'a> Expansion<'a> {
         ensures count { OnOk result (self.new.count ≡ self.old.count) }
         ensures around { OnOk result (length self.new.around.items ≤ length self.old.around.items + 1) }
         ensures taken { Takes (seen line.entry) result (rest_of self.new) (moved (rest_of self.old).depth (rest_of self.old).around
-            (worded (rest_of self.old).depth (state_of self.old) (seen line.entry) (form_seen form.entry) (lexemes tokens.entry.now) (rest_of self.old).text (upper name.now) (macro_named (state_of self.old) (upper name.now)))) }
+            (worded (rest_of self.old).depth (state_of self.old) (seen line.entry) (form_seen form.entry) (lexemes tokens.entry.now) (rest_of self.old).text (upper name.now) (macro_called (state_of self.old) (upper name.now)))) }
     {
         let key = name.to_ascii_uppercase(self.alloc)?;
-        let Some(called) = macro_of(&self.macros, &key) else {
+        let Some(called) = called_by(&self.macros, &key) else {
             if key.as_slice() == b"END".as_slice() {
                 return Ok(Taken::Last);
             }

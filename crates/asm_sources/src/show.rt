@@ -1,7 +1,9 @@
 //! What is printed of a source.
 
 use crate::Source;
-use asm_module::{AsmFault, Lines, MacroFault, StmtFault, Why, assemble_with};
+use asm_module::{
+    AsmFault, Lines, MacroFault, Module, StmtFault, Why, assemble, assemble_listed, assemble_with,
+};
 use std::alloc::Global;
 use std::io::Write;
 use zmo_object::write;
@@ -31,6 +33,29 @@ pub(crate) fn report_fault<W: Write>(out: &mut W, fault: AsmFault) -> Result<(),
     Ok(writeln!(out)?)
 }
 
+/// The module of a source with its lines: by the call that has no word for `JR`, where none is to grow.
+fn listed(alloc: Global, source: &Source) -> Result<(Module, Lines), AsmFault> {
+    if source.grow {
+        assemble_with(alloc, &source.module, &source.text, true)
+    } else {
+        assemble_listed(alloc, &source.module, &source.text)
+    }
+}
+
+/// Says where the call that answers a module alone answers another one than that of the object, or a fault.
+fn report_alone<W: Write>(
+    alloc: Global,
+    out: &mut W,
+    source: &Source,
+    object: &[u8],
+) -> Result<(), anyhow::Error> {
+    let module = assemble(alloc, &source.module, &source.text)?;
+    if write(alloc, &module)?.as_slice() != object {
+        writeln!(out, "alone it is another module")?;
+    }
+    Ok(())
+}
+
 /// Prints the object of a source, or its first fault.
 pub(crate) fn report<W: Write>(
     alloc: Global,
@@ -39,10 +64,13 @@ pub(crate) fn report<W: Write>(
 ) -> Result<(), anyhow::Error> {
     out.write_all(&source.title)?;
     writeln!(out)?;
-    match assemble_with(alloc, &source.module, &source.text, source.grow) {
+    match listed(alloc, source) {
         Ok((module, lines)) => {
             let text = write(alloc, &module)?;
             writeln!(out, "{}", hex::encode(alloc, &text)?)?;
+            if !source.grow {
+                report_alone(alloc, out, source, &text)?;
+            }
             report_lines(out, &lines)
         }
         Err(fault) => report_fault(out, fault),

@@ -11,7 +11,7 @@ use clap::{Arg, ArgAction, Command, value_parser};
 use std::alloc::{AllocError, Global};
 
 /// The version of the command, and the toolchain that its proofs were made with.
-const VERSION: &str = "0.1.0, proved with rattle-kit-13b";
+const VERSION: &str = "0.1.0, proved with rattle-kit-13f";
 
 /// A path that has to be given, and what is said of it.
 fn path<'a>(alloc: Global, name: &'a str, help: &'a str) -> Arg<'a>

@@ -24,11 +24,6 @@ by_why why fault = refusal.Source fault
 abbrev pub of_source : AsmFault → Refusal
 of_source fault = by_why fault.why fault
 
--- of an object
-abbrev pub of_object : ObjectFault → Refusal
-of_object object.NoMemory = refusal.NoMemory
-of_object fault = refusal.Object fault
-
 -- of modules
 abbrev pub of_link : LinkFault → Refusal
 of_link link.TooManyStatements = refusal.Modules join.TooManyStatements

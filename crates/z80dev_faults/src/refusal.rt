@@ -1,7 +1,7 @@
 //! Why there is no file, and how it is printed.
 
 ghost use Rattle.std.specs.Prelude.{◌≡◌};
-ghost use Rattle.z80dev_faults.specs.Refusals.{of_build, of_link, of_object, of_source};
+ghost use Rattle.z80dev_faults.specs.Refusals.{of_build, of_link, of_source};
 
 use crate::names::why_name;
 use std::fmt;
@@ -32,16 +32,6 @@ impl Refusal {
         match fault.why {
             Why::NoMemory => Refusal::NoMemory,
             _ => Refusal::Source(fault),
-        }
-    }
-
-    /// Of an object.
-    pub fn of_object(fault: ObjectFault) -> Refusal
-        ensures { result ≡ of_object fault }
-    {
-        match fault {
-            ObjectFault::NoMemory => Refusal::NoMemory,
-            _ => Refusal::Object(fault),
         }
     }
 

@@ -9,7 +9,7 @@ use Rattle.asm_line.specs.Forms.{Form, Head}
 use Rattle.asm_line.specs.Forms as line
 use Rattle.asm_macro.specs.declared.fault.MacroFault.{MacroFault}
 use Rattle.asm_texts.specs.Lines.{Numbered}
-use Rattle.asm_macro.specs.State.{State, macro_named, table, with_macro}
+use Rattle.asm_macro.specs.State.{State, macro_called, macro_named, table, with_macro}
 use Rattle.asm_macro.specs.Values.{worth}
 use Rattle.asm_sections.specs.Blocks.{Body, body_of, branches_of}
 use Rattle.asm_macro.specs.Judged.{is_stray, parameters}
@@ -48,5 +48,5 @@ by_head (line.Macro name) depth e l form tokens rest = defined depth e l form na
 by_head (line.Block BlockWord.Rept) depth e l form tokens rest = unless_stray (is_some form.label) l (repeated depth e l (body_of rest) (worth (table e) form.rest))
 by_head (line.Block BlockWord.If) depth e l form tokens rest = unless_stray (is_some form.label) l (conditional depth e l (branches_of rest) (worth (table e) form.rest))
 by_head (line.Block word) depth e l form tokens rest = fails l MacroFault.Stray
-by_head (line.Word name) depth e l form tokens rest = worded depth e l form tokens rest (upper name) (macro_named e (upper name))
+by_head (line.Word name) depth e l form tokens rest = worded depth e l form tokens rest (upper name) (macro_called e (upper name))
 by_head line.Nothing depth e l form tokens rest = Go (l ∷ []) e rest

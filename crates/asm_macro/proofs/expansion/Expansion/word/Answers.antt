@@ -1,11 +1,9 @@
 use Rattle.std.proofs.Common.{◌≡◌, ◌<◌, ◌+◌, ◌∙◌, ◌∷◌, ap, sym, subst, refl, length, arith, IfSome, Some, None, Ok}
-use Rattle.std.specs.Map.{lookup}
-use Rattle.std.specs.Str.{bytes_eq}
 use Rattle.asm_scan.specs.Tokens.{lexemes}
 use Rattle.asm_words.specs.Words.{upper}
 use Rattle.asm_line.specs.Views.{form_seen}
 use Rattle.asm_macro.specs.declared.fault.MacroFault.{MacroFault}
-use Rattle.asm_macro.specs.State.{macro_named}
+use Rattle.asm_macro.specs.State.{called_by, macro_called}
 use Rattle.asm_texts.specs.Kept.{IsCall}
 use Rattle.asm_texts.specs.Calls.{arguments_in, body_lines, label_lines, table_of}
 use Rattle.asm_sections.specs.Onward as onward
@@ -27,12 +25,12 @@ returns-in-None-clause-taken c =
     let name = upper c.args.name.now in
     let key = c.deref.ensures.value ∙ c.in_ok-key.ensures.ok in
     let m = macro_seen x.lines c.in-Some.called.now in
-    let found : macro_named (state_of x) name ≡ Some m = ap (λ k. lookup (bytes_eq k) (macros_seen x.lines x.macros.entries)) (sym key) ∙ sym (c.in-Some.ensures.found x.lines) in
+    let found : macro_called (state_of x) name ≡ Some m = ap (λ k. called_by k (macros_seen x.lines x.macros.entries)) (sym key) ∙ sym (c.in-Some.ensures.found x.lines) in
     let shallow : (rest_of x).depth < 16 = omega (arith, c.if-len-self-ge-MOST_OPEN.false, c.len.ensures, depth_is x) in
     let label = c.in_ok-label.ensures l.number in
     let ready = c.in_ok-prepared.ensures.prepares x.lines (c.in-Some.ensures.kept x.lines c.requires.sound.macros) in
     let none = subst (Prepares x.lines c.in-Some.called.now l.text tokens f.rest x.counter) c.in-None.is ready in
-    let off = called_off (rest_of x).depth (rest_of x).around (state_of x) l f tokens (rest_of x).text name (macro_named (state_of x) name) m found shallow (opened_is x.lines c.in-Some.called.now None none) in
+    let off = called_off (rest_of x).depth (rest_of x).around (state_of x) l f tokens (rest_of x).text name (macro_called (state_of x) name) m found shallow (opened_is x.lines c.in-Some.called.now None none) in
     subst (Takes l c.refused.result (rest_of x)) (ap (λ g. Fails g l.number MacroFault.Stray) label ∙ sym off) (c.refused.ensures l (rest_of x) refl)
 
 pub returns-clause-taken : goal.returns-clause-taken
@@ -44,13 +42,13 @@ returns-clause-taken c =
     let name = upper c.args.name.now in
     let key = c.deref.ensures.value ∙ c.in_ok-key.ensures.ok in
     let m = macro_seen x.lines c.in-Some.called.now in
-    let found : macro_named (state_of x) name ≡ Some m = ap (λ k. lookup (bytes_eq k) (macros_seen x.lines x.macros.entries)) (sym key) ∙ sym (c.in-Some.ensures.found x.lines) in
+    let found : macro_called (state_of x) name ≡ Some m = ap (λ k. called_by k (macros_seen x.lines x.macros.entries)) (sym key) ∙ sym (c.in-Some.ensures.found x.lines) in
     let shallow : (rest_of x).depth < 16 = omega (arith, c.if-len-self-ge-MOST_OPEN.false, c.len.ensures, depth_is x) in
     let label = c.in_ok-label.ensures l.number in
     let ready = c.in_ok-prepared.ensures.prepares x.lines (c.in-Some.ensures.kept x.lines c.requires.sound.macros) in
     let p = subst (Prepares x.lines c.in-Some.called.now l.text tokens f.rest x.counter) c.in-Some-prepared.is ready in
     let names = table_of m (arguments_in l.text tokens f.rest) x.counter p.0.locals in
-    let on = called_on (rest_of x).depth (rest_of x).around (state_of x) l f tokens (rest_of x).text name (macro_named (state_of x) name) m p.0 found shallow (opened_is x.lines c.in-Some.called.now (Some p.0) p.1) in
+    let on = called_on (rest_of x).depth (rest_of x).around (state_of x) l f tokens (rest_of x).text name (macro_called (state_of x) name) m p.0 found shallow (opened_is x.lines c.in-Some.called.now (Some p.0) p.1) in
     let new = rest_of c.enter.new.self in
     let entered = c.in_ok-enter-in-Some-prepared.ensures.entered names p.2 in
     let whole = entered
