@@ -42,7 +42,7 @@ writes game.siz, game.crt, game.com, game.lst and game.sym.";
 
 pub(crate) const CHECK: &str =
     r"Reads the two texts that link and build write, and prints one line: `best N`
-where no choice of short and long jumps that fits has fewer than N bytes,
+where some choice of short and long jumps that fits has N bytes and none fewer,
 `range K` where statement K, counted from 0, reaches its label in no choice, or
 `size N` where each choice has N bytes at least, which is more than there is
 room for. Writes nothing.
@@ -79,7 +79,7 @@ nothing.
 Example: z80dev blank a.img";
 
 pub(crate) const RUN: &str =
-    r"Reads COM, IMG, and standard input to its end (Ctrl-D where it is typed), which
+    r"Reads IMG, COM, and standard input to its end (Ctrl-D where it is typed), which
 is what is typed to the program. Prints what the program prints, and writes IMG
 however the run ends. The status is 0 where the program ends by itself; else it
 is 1, and standard error says `stopped: WHY at PPPP`.
