@@ -11,7 +11,7 @@ use Rattle.asm_macro.specs.Texts.{numbered, source_lines}
 use Rattle.asm_macro.specs.Judged.{most_lines}
 use Rattle.asm_macro.specs.Parts.{Part, Stop, Last, Go, Within, closing, part, passed, resumed, turns}
 use Rattle.asm_macro.specs.Expands.{End, Whole, Ended, Stopped, Expands, nothing, line, Comes, stop, last, go, within, Follows, whole, ended, stopped, IsExpansion, long, short}
-use Rattle.asm_laws.proofs.Rooms.{left, left_part, room, room_behind, rooms_expands}
+use Rattle.source_laws.proofs.Rooms.{left, left_part, room, room_behind, rooms_expands}
 
 -- a text, a part, and what follows a text come to some lines and end somehow
 abbrev Total : ℕ → State → List Numbered → Type 0

@@ -1,6 +1,6 @@
 -- What is taken up counts: where a line or turn leads on, there is room for one less behind it, and a text that ends whole leaves no more
 -- room than there was.
-use Rattle.std.proofs.Common.{◌≡◌, ◌≤◌, ◌+◌, ◌-◌, ◌&&◌, if◌then◌else◌, refl, sym, subst, ℕ, zero, suc, Bool, true, false, nat_le, List, [], ◌∷◌, Option, Some, None, Result, Ok, Err, codes, arith}
+use Rattle.std.proofs.Common.{◌≡◌, ◌≤◌, ◌+◌, ◌-◌, ◌&&◌, if◌then◌else◌, refl, subst, ℕ, zero, suc, Bool, true, false, nat_le, List, [], ◌∷◌, Option, Some, None, Result, Ok, Err, codes, arith}
 use Rattle.std.proofs.lemmas.Bool.{leb-false}
 use Rattle.std.specs.Str.{bytes_eq}
 use Rattle.asm_scan.specs.declared.fault.ScanFault.{ScanFault}

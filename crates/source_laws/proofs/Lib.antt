@@ -1,0 +1,7 @@
+mod Rooms
+mod Total
+mod Reach
+mod Faults
+mod Causes
+mod Answered
+mod Sources

@@ -1,0 +1,10 @@
+use Rattle.asm_macro.specs.Expands.{Stopped}
+use Rattle.source_laws.proofs.Causes.{has_cause}
+use Rattle.source_laws.proofs.Total.{some_expansion}
+use Rattle.source_laws.proofs.laws.some_expansion.Goals as goal
+
+pub returns-clause-some : goal.returns-clause-some
+returns-clause-some c = some_expansion
+
+pub returns-clause-caused : goal.returns-clause-caused
+returns-clause-caused c = λ text lines number why is. has_cause c.scanned.ensures text lines (Stopped number why) is

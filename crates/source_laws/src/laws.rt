@@ -1,0 +1,35 @@
+//! Laws of sources, as functions that do nothing.
+
+ghost use Rattle.std.specs.Prelude.{◌≢◌, ◌⊎◌, Bool, List, Result, ℕ};
+ghost use Rattle.asm_macro.specs.declared.fault.MacroFault.{MacroFault};
+ghost use Rattle.asm_macro.specs.Expands.{End, IsExpansion, Stopped};
+ghost use Rattle.asm_module.specs.declared.fault.AsmFault.{AsmFault};
+ghost use Rattle.asm_module.specs.Assembled.{Assembled, Assembles, HasCause};
+ghost use Rattle.asm_texts.specs.Lines.{Numbered};
+ghost use Rattle.zlink.specs.declared.source.Source.{Source};
+ghost use Rattle.zlink.specs.Sources.{Assembly, AreAssembled, IsFirstFaulty};
+
+/// Each text has an expansion, which may stop with a fault; so with `asm_macro::laws::one_expansion` it has one. Where it stops, that is
+/// never for want of memory.
+pub fn some_expansion()
+    ensures some { (text : List ℕ) → (lines : List Numbered) × (end : End) × IsExpansion text lines end }
+    ensures caused { (text : List ℕ) (lines : List Numbered) (number : ℕ) (why : MacroFault) → IsExpansion text lines (Stopped number why) → why ≢ MacroFault.NoMemory }
+{
+    asm_scan::laws::scanned();
+}
+
+/// Each text is a module, or has a first fault, which is not want of memory; so with `asm_module::laws::one_answer` it is one, or has one.
+pub fn some_answer()
+    ensures { (name text : List ℕ) (grow : Bool) → (result : Result Assembled AsmFault) × HasCause result × Assembles name text grow result }
+{
+    asm_scan::laws::scanned();
+}
+
+/// Each list of sources is a list of programs, one a source, or has a first source that is faulty, with its first fault. So what `zlink`
+/// says of sources that are a program, and of those that are none, it says of all.
+pub fn some_sources()
+    ensures { (grow : Bool) (sources : List Source) →
+        ((assemblies : List Assembly) × AreAssembled grow sources assemblies) ⊎ ((number : ℕ) × (fault : AsmFault) × IsFirstFaulty grow sources number fault) }
+{
+    asm_scan::laws::scanned();
+}
