@@ -5,3 +5,4 @@ mod Faults
 mod Causes
 mod Answered
 mod Sources
+mod Grown

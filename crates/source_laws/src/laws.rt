@@ -1,13 +1,19 @@
 //! Laws of sources, as functions that do nothing.
 
-ghost use Rattle.std.specs.Prelude.{◌≢◌, ◌⊎◌, Bool, List, Result, ℕ};
+ghost use Rattle.std.specs.Prelude.{◌≡◌, ◌≢◌, ◌⊎◌, ◌↔◌, Bool, Contains, List, Result, true, ℕ};
 ghost use Rattle.asm_macro.specs.declared.fault.MacroFault.{MacroFault};
 ghost use Rattle.asm_macro.specs.Expands.{End, IsExpansion, Stopped};
 ghost use Rattle.asm_module.specs.declared.fault.AsmFault.{AsmFault};
 ghost use Rattle.asm_module.specs.Assembled.{Assembled, Assembles, HasCause};
 ghost use Rattle.asm_texts.specs.Lines.{Numbered};
+ghost use Rattle.ruler.specs.Choice.{Choice, IsSettled};
+ghost use Rattle.source_laws.specs.Grown.{IsMarkedJump};
 ghost use Rattle.zlink.specs.declared.source.Source.{Source};
+ghost use Rattle.zlink.specs.Linked.{IsOutput, Output};
 ghost use Rattle.zlink.specs.Sources.{Assembly, AreAssembled, IsFirstFaulty};
+ghost use Rattle.zlink_file.specs.Objects.{shape};
+ghost use Rattle.zlink_program.specs.Whole.{program};
+ghost use Rattle.zmo_module.specs.Modules.{Module};
 
 /// Each text has an expansion, which may stop with a fault; so with `asm_macro::laws::one_expansion` it has one. Where it stops, that is
 /// never for want of memory.
@@ -33,3 +39,10 @@ pub fn some_sources()
 {
     asm_scan::laws::scanned();
 }
+
+/// The jumps that were written as a JR and grew, as `link` and `build_with` list them, are those that every choice has long in which each
+/// short jump reaches its target.
+pub fn grown_are_needed()
+    ensures { (modules : List Module) (order : List ℕ) (o : Output) → IsOutput modules order o → (k : ℕ) →
+        Contains o.grown k ↔ (IsMarkedJump (program modules) k × ((c : Choice) → IsSettled c (shape (program modules)) → c k ≡ true)) }
+{}

@@ -1,0 +1,10 @@
+-- Jumps of a program that were written as a JR.
+use Rattle.std.specs.Prelude.{◌≡◌, ℕ, List, Some, slice_get, true}
+use Rattle.zlink_file.specs.Objects.{is_marked}
+use Rattle.zlink_program.specs.Whole.{Placed}
+
+-- statement k of the whole is one
+pub record IsMarkedJump (program : List Placed) (k : ℕ) : Type 0 where
+  pub placed : Placed
+  pub there : slice_get program k ≡ Some placed
+  pub marked : is_marked placed.statement ≡ true
