@@ -2,7 +2,7 @@
 
 use crate::Source;
 use asm_module::{
-    AsmFault, Lines, MacroFault, Module, StmtFault, Why, assemble, assemble_listed, assemble_with,
+    AsmFault, Lines, MacroFault, StmtFault, Why, assemble, assemble_listed, assemble_with,
 };
 use std::alloc::Global;
 use std::io::Write;
@@ -33,25 +33,21 @@ pub(crate) fn report_fault<W: Write>(out: &mut W, fault: AsmFault) -> Result<(),
     Ok(writeln!(out)?)
 }
 
-/// The module of a source with its lines: by the call that has no word for `JR`, where none is to grow.
-fn listed(alloc: Global, source: &Source) -> Result<(Module, Lines), AsmFault> {
-    if source.grow {
-        assemble_with(alloc, &source.module, &source.text, true)
-    } else {
-        assemble_listed(alloc, &source.module, &source.text)
-    }
-}
-
-/// Says where the call that answers a module alone answers another one than that of the object, or a fault.
-fn report_alone<W: Write>(
+/// Says where a call that lets no `JR` grow answers another module than that of the object, or fails.
+fn report_others<W: Write>(
     alloc: Global,
     out: &mut W,
     source: &Source,
     object: &[u8],
 ) -> Result<(), anyhow::Error> {
-    let module = assemble(alloc, &source.module, &source.text)?;
-    if write(alloc, &module)?.as_slice() != object {
+    let alone = assemble(alloc, &source.module, &source.text)?;
+    if write(alloc, &alone)?.as_slice() != object {
         writeln!(out, "alone it is another module")?;
+    }
+    let (listed, lines) = assemble_listed(alloc, &source.module, &source.text)?;
+    drop(lines);
+    if write(alloc, &listed)?.as_slice() != object {
+        writeln!(out, "with its lines it is another module")?;
     }
     Ok(())
 }
@@ -64,12 +60,12 @@ pub(crate) fn report<W: Write>(
 ) -> Result<(), anyhow::Error> {
     out.write_all(&source.title)?;
     writeln!(out)?;
-    match listed(alloc, source) {
+    match assemble_with(alloc, &source.module, &source.text, source.grow) {
         Ok((module, lines)) => {
             let text = write(alloc, &module)?;
             writeln!(out, "{}", hex::encode(alloc, &text)?)?;
             if !source.grow {
-                report_alone(alloc, out, source, &text)?;
+                report_others(alloc, out, source, &text)?;
             }
             report_lines(out, &lines)
         }
