@@ -33,21 +33,24 @@ pub(crate) fn report_fault<W: Write>(out: &mut W, fault: AsmFault) -> Result<(),
     Ok(writeln!(out)?)
 }
 
-/// Says where a call that lets no `JR` grow answers another module than that of the object, or fails.
+/// Says where a call that lets no `JR` grow answers another module than that of the object, or other lines; or fails.
 fn report_others<W: Write>(
     alloc: Global,
     out: &mut W,
     source: &Source,
     object: &[u8],
+    lines: &Lines,
 ) -> Result<(), anyhow::Error> {
     let alone = assemble(alloc, &source.module, &source.text)?;
     if write(alloc, &alone)?.as_slice() != object {
         writeln!(out, "alone it is another module")?;
     }
-    let (listed, lines) = assemble_listed(alloc, &source.module, &source.text)?;
-    drop(lines);
+    let (listed, others) = assemble_listed(alloc, &source.module, &source.text)?;
     if write(alloc, &listed)?.as_slice() != object {
         writeln!(out, "with its lines it is another module")?;
+    }
+    if others.each != lines.each || others.last != lines.last {
+        writeln!(out, "its statements come from other lines")?;
     }
     Ok(())
 }
@@ -65,7 +68,7 @@ pub(crate) fn report<W: Write>(
             let text = write(alloc, &module)?;
             writeln!(out, "{}", hex::encode(alloc, &text)?)?;
             if !source.grow {
-                report_others(alloc, out, source, &text)?;
+                report_others(alloc, out, source, &text, &lines)?;
             }
             report_lines(out, &lines)
         }

@@ -15,8 +15,8 @@ ghost use Rattle.zlink_file.specs.Objects.{shape};
 ghost use Rattle.zlink_program.specs.Whole.{program};
 ghost use Rattle.zmo_module.specs.Modules.{Module};
 
-/// Each text has an expansion, which may stop with a fault; so with `asm_macro::laws::one_expansion` it has one. Where it stops, that is
-/// never for want of memory.
+/// Each text has an expansion, which may stop with a fault; so with `asm_macro::laws::one_expansion` it has one. The fault is never
+/// `NoMemory`.
 pub fn some_expansion()
     ensures some { (text : List ℕ) → (lines : List Numbered) × (end : End) × IsExpansion text lines end }
     ensures caused { (text : List ℕ) (lines : List Numbered) (number : ℕ) (why : MacroFault) → IsExpansion text lines (Stopped number why) → why ≢ MacroFault.NoMemory }
@@ -24,7 +24,7 @@ pub fn some_expansion()
     asm_scan::laws::scanned();
 }
 
-/// Each text is a module, or has a first fault, which is not want of memory; so with `asm_module::laws::one_answer` it is one, or has one.
+/// Each text is a module, or has a first fault, which is not `NoMemory`; so with `asm_module::laws::one_answer` it is one, or has one.
 pub fn some_answer()
     ensures { (name text : List ℕ) (grow : Bool) → (result : Result Assembled AsmFault) × HasCause result × Assembles name text grow result }
 {
@@ -32,7 +32,7 @@ pub fn some_answer()
 }
 
 /// Each list of sources is a list of programs, one a source, or has a first source that is faulty, with its first fault. So what `zlink`
-/// says of sources that are a program, and of those that are none, it says of all.
+/// says of sources each of which is a program, and of those of which one is none, it says of all.
 pub fn some_sources()
     ensures { (grow : Bool) (sources : List Source) →
         ((assemblies : List Assembly) × AreAssembled grow sources assemblies) ⊎ ((number : ℕ) × (fault : AsmFault) × IsFirstFaulty grow sources number fault) }

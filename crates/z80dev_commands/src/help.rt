@@ -42,10 +42,11 @@ writes game.siz, game.crt, game.com, game.lst and game.sym.";
 
 pub(crate) const CHECK: &str =
     r"Reads the two texts that link and build write, and prints one line: `best N`
-where some choice of short and long jumps that fits has N bytes and none fewer,
-`range K` where statement K, counted from 0, reaches its label in no choice, or
-`size N` where each choice has N bytes at least, which is more than there is
-room for. Writes nothing.
+where some choice of short and long jumps that fits has N bytes and none fewer.
+Where none fits it is `range K`, where statement K, counted from 0, reaches its
+label in no choice in which each short JP reaches its own, or `size N`, where
+each such choice has N bytes at least, which is more than there is room for.
+Writes nothing.
 
 Example: z80dev check game.siz game.crt
 prints best 260, say.";
