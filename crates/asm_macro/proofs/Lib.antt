@@ -1,5 +1,6 @@
 mod Ends
 mod Unique
+mod Leads
 mod FewLines
 mod Stacks
 mod Turned

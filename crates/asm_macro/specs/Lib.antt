@@ -5,6 +5,7 @@ pub mod Values
 pub mod Judged
 pub mod Parts
 pub mod Expands
+pub mod Leads
 pub mod Ahead
 pub mod Views
 pub mod Given

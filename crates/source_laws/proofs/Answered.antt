@@ -1,9 +1,7 @@
 -- Each text is a module, or has a first fault.
-use Rattle.std.proofs.Common.{◌≡◌, ◌≢◌, ◌≤◌, refl, ap, ℕ, Bool, true, false, List, [], ◌∷◌, ◌++◌, Option, Some, None, Result, Ok, Err, option_map, map, length, filter_map}
+use Rattle.std.proofs.Common.{◌≡◌, ◌≢◌, ◌≤◌, refl, ap, subst, ℕ, Bool, true, false, List, [], ◌∷◌, ◌++◌, Option, Some, None, Result, Ok, Err, option_map, map, length, filter_map}
 use Rattle.std.proofs.lemmas.Option.{slice_get_past}
 use Rattle.std.specs.Option.{option_map_or}
-use Rattle.asm_scan.specs.Lines.{Scans}
-use Rattle.asm_scan.specs.Scanned.{scanned}
 use Rattle.asm_expr.specs.Names.{Table}
 use Rattle.asm_spell.specs.declared.fault.StmtFault.{StmtFault}
 use Rattle.asm_spell.specs.Line.{Body, Line}
@@ -32,8 +30,6 @@ use Rattle.asm_module.specs.Assembled.{Assembled, Assembles, HasCause, answer, a
 use Rattle.asm_module.specs.Source.{at, equ_fault, first_pass, layout, source_fault, state_fault, table}
 use Rattle.asm_module.specs.Whys.{equ_why, line_why, macro_why, name_why, state_why}
 use Rattle.source_laws.proofs.Reach.{is_led, is_passed}
-use Rattle.source_laws.proofs.Causes.{has_cause, why_behind}
-use Rattle.source_laws.proofs.Total.{some_expansion}
 
 -- no fault is want of memory, on whatever line
 abbrev NoneIs : {A : Type 0} → A → Option (ℕ × A) → Type 0
@@ -173,13 +169,19 @@ of_lines name text grow lines is =
     let count = length (source_lines text) in
     (assembled name grow count circle (Ok lines), answered_caused (source_fault grow lines circle) _ (source_caused grow lines circle), (Ok lines, is, circle, λ pass. tells (taken lines), refl))
 
-of_end : (name text : List ℕ) (grow : Bool) (lines : List Numbered) (end : End) → IsExpansion text lines end → why_behind end ≢ MacroFault.NoMemory → Answers name text grow
+of_end : (name text : List ℕ) (grow : Bool) (lines : List Numbered) (end : End) → IsExpansion text lines end
+    → ((number : ℕ) (why : MacroFault) → end ≡ Stopped number why → why ≢ MacroFault.NoMemory) → Answers name text grow
 of_end name text grow lines (Whole e) is h = of_lines name text grow lines (Whole e, tt, is)
 of_end name text grow lines Ended is h = of_lines name text grow lines (Ended, tt, is)
 of_end name text grow lines (Stopped number why) is h =
-    (Err (record { line = number; why = macro_why why }), macro_caused why h, (Err (number, why), is_expanded text number why h (lines, is), (λ k. false), tt, refl))
+    (Err (record { line = number; why = macro_why why }), macro_caused why (h number why refl), (Err (number, why), is_expanded text number why (h number why refl) (lines, is), (λ k. false), tt, refl))
 
-pub some_answer : ((text : List ℕ) → Scans text (scanned text)) → (name text : List ℕ) (grow : Bool) → (result : Result Assembled AsmFault) × HasCause result × Assembles name text grow result
-some_answer scans name text grow =
-    let e = some_expansion text in
-    of_end name text grow e.0 e.1 e.2 (has_cause scans text e.0 e.1 e.2)
+-- with what `some_expansion` says
+module _
+    (some : (text : List ℕ) → (lines : List Numbered) × (end : End) × IsExpansion text lines end)
+    (caused : (text : List ℕ) (lines : List Numbered) (number : ℕ) (why : MacroFault) → IsExpansion text lines (Stopped number why) → why ≢ MacroFault.NoMemory)
+  where
+    pub some_answer : (name text : List ℕ) (grow : Bool) → Answers name text grow
+    some_answer name text grow =
+        let e = some text in
+        of_end name text grow e.0 e.1 e.2 (λ number why is. caused text e.0 number why (subst (IsExpansion text e.0) is e.2))

@@ -1,4 +1,3 @@
-mod Rooms
 mod Total
 mod Reach
 mod Faults

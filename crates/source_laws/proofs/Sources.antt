@@ -1,7 +1,5 @@
 -- Each list of sources is a list of programs, or has a first source that is faulty.
 use Rattle.std.proofs.Common.{◌≡◌, ◌⊎◌, inl, inr, refl, ℕ, suc, Bool, List, [], ◌∷◌, Option, Some, None, Result, Ok, Err}
-use Rattle.asm_scan.specs.Lines.{Scans}
-use Rattle.asm_scan.specs.Scanned.{scanned}
 use Rattle.asm_texts.specs.Lines.{Numbered}
 use Rattle.asm_names.specs.Faults.{first}
 use Rattle.asm_source.specs.Read.{taken}
@@ -11,7 +9,6 @@ use Rattle.asm_module.specs.Source.{equ_fault, first_pass, layout, state_fault}
 use Rattle.asm_reads.specs.Statement.{Statement}
 use Rattle.zlink.specs.declared.source.Source.{Source}
 use Rattle.zlink.specs.Sources.{Assembly, AreAssembled, IsFirstFaulty}
-use Rattle.source_laws.proofs.Answered.{some_answer}
 
 -- what is a module states a program
 abbrev States : List ℕ → Bool → Type 0
@@ -40,8 +37,9 @@ before grow s sources (Ok a) caused is (inr (number, fault, f)) =
     let p = states s.name.now s.text.now grow a is in
     inr (suc number, fault, record { before = record { assembled = a; program = p.0 } ∷ f.before; good = (record { assembled = is; stated = p.1 }, f.good); source = f.source; there = f.there; faulty = f.faulty; caused = f.caused })
 
-pub some_sources : ((text : List ℕ) → Scans text (scanned text)) → (grow : Bool) (sources : List Source) → ((assemblies : List Assembly) × AreAssembled grow sources assemblies) ⊎ ((number : ℕ) × (fault : AsmFault) × IsFirstFaulty grow sources number fault)
-some_sources scans grow [] = inl ([], tt)
-some_sources scans grow (s ∷ sources) =
-    let one = some_answer scans s.name.now s.text.now grow in
-    before grow s sources one.0 one.1 one.2 (some_sources scans grow sources)
+-- with what `some_answer` says
+pub some_sources : ((name text : List ℕ) (grow : Bool) → (result : Result Assembled AsmFault) × HasCause result × Assembles name text grow result) → (grow : Bool) (sources : List Source) → Answers grow sources
+some_sources some grow [] = inl ([], tt)
+some_sources some grow (s ∷ sources) =
+    let one = some s.name.now s.text.now grow in
+    before grow s sources one.0 one.1 one.2 (some_sources some grow sources)

@@ -1,17 +1,18 @@
 -- Each text has an expansion.
 use Rattle.std.proofs.Common.{◌≡◌, ◌<◌, ◌≤◌, ◌+◌, if◌then◌else◌, refl, ℕ, zero, suc, Bool, true, false, nat_le, List, [], ◌∷◌, ◌++◌, length, arith}
 use Rattle.std.proofs.lemmas.Bool.{leb-false, leb-true}
+use Rattle.limits.specs.declared.TheConstants.{LONGEST_TEXT}
+use Rattle.asm_macro.specs.declared.expansion.TheConstants.{MOST_LINES}
 use Rattle.asm_texts.specs.Lines.{Numbered, form_of}
 use Rattle.asm_texts.specs.Roles.{is_alone}
 use Rattle.asm_sections.specs.Blocks.{Body, Section}
 use Rattle.asm_sections.specs.Onward.{Next, Rest, BehindFirst, BehindSecond, Turns, renumbered}
 use Rattle.asm_macro.specs.declared.fault.MacroFault.{MacroFault}
-use Rattle.asm_macro.specs.State.{State, counted, start}
+use Rattle.asm_macro.specs.State.{State, counted, start, room}
 use Rattle.asm_macro.specs.Texts.{numbered, source_lines}
-use Rattle.asm_macro.specs.Judged.{most_lines}
+use Rattle.asm_macro.specs.Leads.{IsOfLine, Leads, most, room_behind}
 use Rattle.asm_macro.specs.Parts.{Part, Stop, Last, Go, Within, closing, part, passed, resumed, turns}
 use Rattle.asm_macro.specs.Expands.{End, Whole, Ended, Stopped, Expands, nothing, line, Comes, stop, last, go, within, Follows, whole, ended, stopped, IsExpansion, long, short}
-use Rattle.source_laws.proofs.Rooms.{left, left_part, room, room_behind, rooms_expands}
 
 -- a text, a part, and what follows a text come to some lines and end somehow
 abbrev Total : ℕ → State → List Numbered → Type 0
@@ -50,46 +51,51 @@ follows n d next again (Whole e) h = let a = again e h in (a.0, a.1, whole a.2)
 follows n d next again Ended h = ([], Ended, ended)
 follows n d next again (Stopped number why) h = ([], Stopped number why, stopped)
 
-goes_in : (n : ℕ) → Lead n → (d : ℕ) (given : List Numbered) (e : State) (inner : ℕ) (text : List Numbered) (next : Next)
-    → ((e : State) → room e < n → Arrives d (resumed d next e)) → room e < n → Arrives d (Within given e inner text next)
-goes_in n lead d given e inner text next again h =
-    let t = lead inner e text h in
-    let f = follows n d next again t.1 (omega (arith, h, rooms_expands inner e text t.0 t.1 t.2)) in
-    ((given ++ t.0) ++ f.0, f.1, within t.0 f.0 t.1 t.2 f.2)
+-- with what `asm_macro::laws::parts` says of lines and of texts
+module _
+    (parts : (depth : ℕ) (e : State) (l : Numbered) (rest : List Numbered) → Leads (IsOfLine depth e l rest) 1 (room e) (part depth e l rest))
+    (texts : (depth : ℕ) (e : State) (text lines : List Numbered) (end : End) → Expands depth e text lines end → length lines + room_behind end ≤ room e)
+  where
+    goes_in : (n : ℕ) → Lead n → (d : ℕ) (given : List Numbered) (e : State) (inner : ℕ) (text : List Numbered) (next : Next)
+        → ((e : State) → room e < n → Arrives d (resumed d next e)) → room e < n → Arrives d (Within given e inner text next)
+    goes_in n lead d given e inner text next again h =
+        let t = lead inner e text h in
+        let f = follows n d next again t.1 (omega (arith, h, texts inner e text t.0 t.1 t.2)) in
+        ((given ++ t.0) ++ f.0, f.1, within t.0 f.0 t.1 t.2 f.2)
 
-turns_arrive : (n : ℕ) → Lead n → (d some number : ℕ) (body : Body) (e : State) → room e < n → Arrives d (turns d some number body e)
-turns_arrive n lead d zero number body e h = closes d body.section.end (Go [] e body.after) (goes n lead d [] e body.after h)
-turns_arrive n lead d (suc k) number body e h =
-    elim (nat_le most_lines e.count) as (λ b. Arrives d (if b then Stop [] number MacroFault.TooManyLines else Within [] (counted e) (d + 1) (renumbered number body.section.lines) (Turns k number body))) [
-      | true ↦ stops d number [] MacroFault.TooManyLines
-      | false ↦ goes_in n lead d [] (counted e) (d + 1) (renumbered number body.section.lines) (Turns k number body) (λ e2 h2. turns_arrive n lead d k number body e2 h2) (omega (arith, h))
-    ]
+    turns_arrive : (n : ℕ) → Lead n → (d some number : ℕ) (body : Body) (e : State) → room e < n → Arrives d (turns d some number body e)
+    turns_arrive n lead d zero number body e h = closes d body.section.end (Go [] e body.after) (goes n lead d [] e body.after h)
+    turns_arrive n lead d (suc k) number body e h =
+        elim (nat_le MOST_LINES e.count) as (λ b. Arrives d (if b then Stop [] number MacroFault.TooManyLines else Within [] (counted e) (d + 1) (renumbered number body.section.lines) (Turns k number body))) [
+          | true ↦ stops d number [] MacroFault.TooManyLines
+          | false ↦ goes_in n lead d [] (counted e) (d + 1) (renumbered number body.section.lines) (Turns k number body) (λ e2 h2. turns_arrive n lead d k number body e2 h2) (omega (arith, h))
+        ]
 
-resumes : (n : ℕ) → Lead n → (d : ℕ) (next : Next) (e : State) → room e < n → Arrives d (resumed d next e)
-resumes n lead d (Rest text) e h = goes n lead d [] e text h
-resumes n lead d (BehindFirst b) e h = closes d b.first.end (passed b.others (Go [] e b.after)) (passes d b.others (Go [] e b.after) (goes n lead d [] e b.after h))
-resumes n lead d (BehindSecond t [] after) e h = closes d t.end (Go [] e after) (goes n lead d [] e after h)
-resumes n lead d (BehindSecond t (u ∷ more) after) e h = stops d t.end.number [] MacroFault.Stray
-resumes n lead d (Turns k number body) e h = turns_arrive n lead d k number body e h
+    resumes : (n : ℕ) → Lead n → (d : ℕ) (next : Next) (e : State) → room e < n → Arrives d (resumed d next e)
+    resumes n lead d (Rest text) e h = goes n lead d [] e text h
+    resumes n lead d (BehindFirst b) e h = closes d b.first.end (passed b.others (Go [] e b.after)) (passes d b.others (Go [] e b.after) (goes n lead d [] e b.after h))
+    resumes n lead d (BehindSecond t [] after) e h = closes d t.end (Go [] e after) (goes n lead d [] e after h)
+    resumes n lead d (BehindSecond t (u ∷ more) after) e h = stops d t.end.number [] MacroFault.Stray
+    resumes n lead d (Turns k number body) e h = turns_arrive n lead d k number body e h
 
-arrives : (n : ℕ) → Lead n → (d : ℕ) (p : Part) → left p ≤ n → Arrives d p
-arrives n lead d (Stop given number why) h = stops d number given why
-arrives n lead d (Last l) h = (l ∷ [], Ended, last)
-arrives n lead d (Go given e rest) h = goes n lead d given e rest (omega (arith, h))
-arrives n lead d (Within given e inner text next) h = goes_in n lead d given e inner text next (λ e2 h2. resumes n lead d next e2 h2) (omega (arith, h))
+    arrives : (n : ℕ) → Lead n → (d : ℕ) (p : Part) → most p ≤ n → Arrives d p
+    arrives n lead d (Stop given number why) h = stops d number given why
+    arrives n lead d (Last l) h = (l ∷ [], Ended, last)
+    arrives n lead d (Go given e rest) h = goes n lead d given e rest (omega (arith, h))
+    arrives n lead d (Within given e inner text next) h = goes_in n lead d given e inner text next (λ e2 h2. resumes n lead d next e2 h2) (omega (arith, h))
 
-totals : (n : ℕ) → Lead n
-totals zero d e text h = absurd (omega (arith, h))
-totals (suc n) d e [] h = ([], Whole e, nothing)
-totals (suc n) d e (l ∷ rest) h =
-    let a = arrives n (totals n) d (part d e l rest) (omega (arith, h, left_part d e l rest)) in
-    (a.0, a.1, line a.2)
+    totals : (n : ℕ) → Lead n
+    totals zero d e text h = absurd (omega (arith, h))
+    totals (suc n) d e [] h = ([], Whole e, nothing)
+    totals (suc n) d e (l ∷ rest) h =
+        let a = arrives n (totals n) d (part d e l rest) (omega (arith, h, (parts d e l rest).1)) in
+        (a.0, a.1, line a.2)
 
-by_length : (text : List ℕ) (is_short : Bool) → nat_le (length text) 16777216 ≡ is_short → (lines : List Numbered) × (end : End) × IsExpansion text lines end
-by_length text true is =
-    let t = totals (suc (room start)) 0 start (numbered 1 (source_lines text)) (omega arith) in
-    (t.0, t.1, short (leb-true (length text) 16777216 is) t.2)
-by_length text false is = ([], Stopped 1 MacroFault.TooManyLines, long (leb-false (length text) 16777216 is))
+    by_length : (text : List ℕ) (is_short : Bool) → nat_le (length text) LONGEST_TEXT ≡ is_short → (lines : List Numbered) × (end : End) × IsExpansion text lines end
+    by_length text true is =
+        let t = totals (suc (room start)) 0 start (numbered 1 (source_lines text)) (omega arith) in
+        (t.0, t.1, short (leb-true (length text) LONGEST_TEXT is) t.2)
+    by_length text false is = ([], Stopped 1 MacroFault.TooManyLines, long (leb-false (length text) LONGEST_TEXT is))
 
-pub some_expansion : (text : List ℕ) → (lines : List Numbered) × (end : End) × IsExpansion text lines end
-some_expansion text = by_length text (nat_le (length text) 16777216) refl
+    pub some_expansion : (text : List ℕ) → (lines : List Numbered) × (end : End) × IsExpansion text lines end
+    some_expansion text = by_length text (nat_le (length text) LONGEST_TEXT) refl

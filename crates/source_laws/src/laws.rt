@@ -22,13 +22,14 @@ pub fn some_expansion()
     ensures caused { (text : List ℕ) (lines : List Numbered) (number : ℕ) (why : MacroFault) → IsExpansion text lines (Stopped number why) → why ≢ MacroFault.NoMemory }
 {
     asm_scan::laws::scanned();
+    asm_macro::laws::parts();
 }
 
 /// Each text is a module, or has a first fault, which is not `NoMemory`; so with `asm_module::laws::one_answer` it is one, or has one.
 pub fn some_answer()
     ensures { (name text : List ℕ) (grow : Bool) → (result : Result Assembled AsmFault) × HasCause result × Assembles name text grow result }
 {
-    asm_scan::laws::scanned();
+    some_expansion();
 }
 
 /// Each list of sources is a list of programs, one a source, or has a first source that is faulty, with its first fault. So what `zlink`
@@ -37,7 +38,7 @@ pub fn some_sources()
     ensures { (grow : Bool) (sources : List Source) →
         ((assemblies : List Assembly) × AreAssembled grow sources assemblies) ⊎ ((number : ℕ) × (fault : AsmFault) × IsFirstFaulty grow sources number fault) }
 {
-    asm_scan::laws::scanned();
+    some_answer();
 }
 
 /// The jumps that were written as a JR and grew, as `link` and `build_with` list them, are those that every choice has long in which each

@@ -4,7 +4,7 @@ use Rattle.source_laws.proofs.Total.{some_expansion}
 use Rattle.source_laws.proofs.laws.some_expansion.Goals as goal
 
 pub returns-clause-some : goal.returns-clause-some
-returns-clause-some c = some_expansion
+returns-clause-some c = some_expansion c.parts.ensures.line c.parts.ensures.text
 
 pub returns-clause-caused : goal.returns-clause-caused
-returns-clause-caused c = λ text lines number why is. has_cause c.scanned.ensures text lines (Stopped number why) is
+returns-clause-caused c = λ text lines number why is. has_cause c.scanned.ensures c.parts.ensures.line c.parts.ensures.onward text lines (Stopped number why) is
