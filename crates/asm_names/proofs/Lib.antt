@@ -1,4 +1,4 @@
 pub mod TakenUp
 mod Few
 mod Distinct
-mod Given
+pub mod Given

@@ -128,13 +128,13 @@ fn widened(condition: ShortCond) -> Cond
     }
 }
 
-/// JP to an address that is still to be put in.
-fn long_jump(condition: Option<ShortCond>) -> Instr
-    ensures { result ≡ long_jump condition 0 }
+/// JP to a place.
+pub fn long_jump(condition: Option<ShortCond>, to: u16) -> Instr
+    ensures { result ≡ long_jump condition to }
 {
     match condition {
-        None => Instr::Jump(0),
-        Some(condition) => Instr::JumpIf(widened(condition), 0),
+        None => Instr::Jump(to),
+        Some(condition) => Instr::JumpIf(widened(condition), to),
     }
 }
 
@@ -162,7 +162,12 @@ pub(crate) fn jump(
         Some(target) => Ok(Made::Piece(Piece::Jump { condition, target })),
         None => {
             let tree = Tree::name(alloc, target)?;
-            code(alloc, long_jump(condition), &[(Field::Word, tree)], names)
+            code(
+                alloc,
+                long_jump(condition, 0),
+                &[(Field::Word, tree)],
+                names,
+            )
         }
     }
 }

@@ -17,6 +17,7 @@ mod space;
 
 pub use asm_spell::{Body, Branch, StmtFault, Value};
 pub use cell::{Cell, Filling};
+pub use code::long_jump;
 pub use defined::are_defined;
 pub use piece::{Made, Piece};
 pub use settling::settle;

@@ -14,7 +14,8 @@ use Rattle.asm_names.specs.Names.{Names, kind_of}
 use Rattle.asm_piece.specs.Made.{AreDefined}
 use Rattle.asm_piece.specs.Private.Defined.{fill_defined, is_defined, operands_defined, value_defined}
 use Rattle.asm_piece.proofs.Passing.{passes}
-use Rattle.asm_states.specs.Faults.{names_in, used, value_names}
+use Rattle.asm_equ.specs.Circles.{names_in}
+use Rattle.asm_states.specs.Faults.{used, value_names}
 use Rattle.asm_states.specs.Private.Missing.{fill_misses, is_missing, item_misses, tree_misses, value_misses}
 
 pub any_map : {A B : Type 0} (p : B → Bool) (f : A → B) (xs : List A) → list_any p (map f xs) ≡ list_any (λ x. p (f x)) xs

@@ -1,26 +1,17 @@
 -- What a line other than an EQU may have against it, by what names stand for. Each fault is said by itself, and then which comes first.
 use Rattle.std.specs.Prelude.{ℕ, Bool, true, false, not, List, [], ◌∷◌, ◌++◌, Option, Some, None, Result, Ok, Err, is_none}
-use Rattle.std.specs.List.{filter_map, flat_map, list_any}
+use Rattle.std.specs.List.{flat_map, list_any}
 use Rattle.std.specs.Option.{option_to_list}
-use Rattle.asm_parse.specs.declared.item.Item.{Item}
-use Rattle.asm_parse.specs.Source.{Operand, Name}
 use Rattle.asm_expr.specs.Names.{Table}
 use Rattle.asm_spell.specs.declared.fault.StmtFault.{StmtFault}
 use Rattle.asm_spell.specs.Line as line
-use Rattle.asm_spell.specs.Line.{Body, Expression, Value}
+use Rattle.asm_spell.specs.Line.{Body, Value}
 use Rattle.asm_names.specs.declared.kind.Kind.{Kind}
 use Rattle.asm_names.specs.Faults.{first, if_so}
 use Rattle.asm_names.specs.Names.{Names, kind_of}
+use Rattle.asm_equ.specs.Circles.{names_in}
 use Rattle.asm_piece.specs.Made.{Made, made}
 use Rattle.asm_states.specs.declared.fault.StateFault.{StateFault}
-
--- the names in an expression, from left to right
-abbrev pub name_in : Item Operand → Option (List ℕ)
-name_in (Item.Leaf (Name name)) = Some name
-name_in _ = None
-
-abbrev pub names_in : Expression → List (List ℕ)
-names_in e = filter_map name_in e
 
 abbrev pub value_names : Value → List (List ℕ)
 value_names (line.Text text) = []

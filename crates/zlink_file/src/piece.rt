@@ -6,40 +6,19 @@ ghost use Rattle.ruler.specs.Choice.{IsNear};
 ghost use Rattle.z80_instr.specs.Codes.{Codes};
 ghost use Rattle.z80_instr.specs.Table.{canonical};
 ghost use Rattle.asm_piece.specs.Cells.{written};
-ghost use Rattle.asm_piece.specs.Made.{long_jump, widened};
+ghost use Rattle.asm_piece.specs.Made.{long_jump};
 ghost use Rattle.asm_reads.specs.Linked.{filled};
 ghost use Rattle.asm_reads.specs.Pieces.{LeadsTo, short_jump};
 ghost use Rattle.zmo_module.specs.Holes.{IsHole, LieWithin, size_of};
 ghost use Rattle.zmo_module.specs.Modules.{statement_of};
 ghost use Rattle.zlink_file.specs.Private.Pieces.{Appends, IsReady, IsSizedPiece};
 
+use asm_piece::long_jump;
 use asm_value::value;
 use std::alloc::AllocError;
 use z80_encode::encode;
-use z80_instr::{Branch, Cond, Instr, ShortCond};
+use z80_instr::{Branch, Instr, ShortCond};
 use zmo_module::{Hole, Statement, Width};
-
-/// The condition of a short jump as one of a long jump.
-fn widened(condition: ShortCond) -> Cond
-    ensures { result ≡ widened condition }
-{
-    match condition {
-        ShortCond::NotZero => Cond::NotZero,
-        ShortCond::Zero => Cond::Zero,
-        ShortCond::NotCarry => Cond::NotCarry,
-        ShortCond::Carry => Cond::Carry,
-    }
-}
-
-/// JP to a place.
-fn long_jump(condition: Option<ShortCond>, to: u16) -> Instr
-    ensures { result ≡ long_jump condition to }
-{
-    match condition {
-        None => Instr::Jump(to),
-        Some(condition) => Instr::JumpIf(widened(condition), to),
-    }
-}
 
 /// JR or DJNZ by a displacement.
 fn short_jump(branch: Branch, displacement: i8) -> Instr
