@@ -1,9 +1,9 @@
 //! All names of a source.
 
 ghost use Rattle.std.specs.Prelude.{◌≡◌, ◌≤◌, IfOk, OnOk, None, length, replicate};
+ghost use Rattle.limits.specs.declared.TheConstants.{MOST_STATEMENTS};
 ghost use Rattle.asm_spell.specs.Line.{line_of};
 ghost use Rattle.asm_order.specs.Order.{IsOrder};
-ghost use Rattle.asm_names.specs.declared.naming.TheConstants.{MOST_STATEMENTS};
 ghost use Rattle.asm_names.specs.Faults.{first, first_fault};
 ghost use Rattle.asm_names.specs.Lines.{lines_of};
 ghost use Rattle.asm_names.specs.Names as defined;

@@ -2,10 +2,10 @@
 
 ghost use Rattle.std.specs.Prelude.{◌≡◌, ◌≤◌, ◌++◌, [], All, IfOk, OnOk, count_by, is_some};
 ghost use Rattle.std.specs.List.{cons_option};
+ghost use Rattle.limits.specs.declared.TheConstants.{MOST_STATEMENTS};
 ghost use Rattle.asm_expr.specs.Names.{found};
 ghost use Rattle.asm_spell.specs.Line.{body_of, line_of};
 ghost use Rattle.asm_piece.specs.Made.{ref_of};
-ghost use Rattle.asm_names.specs.declared.naming.TheConstants.{MOST_STATEMENTS};
 ghost use Rattle.asm_names.specs.Lines.{has_statement, lines_of};
 ghost use Rattle.asm_equ.specs.Layout.{layout_of};
 ghost use Rattle.asm_layout.specs.Laid.{HasFew, IsFewIn, laid, line_sized, may_grow};

@@ -1,6 +1,7 @@
 -- A call of a macro.
 use Rattle.std.proofs.Common.{◌≡◌, ◌<◌, ◌+◌, ◌∙◌, ap, refl, ℕ, false, nat_le, List, [], ◌∷◌, Option, Some, None, length}
 use Rattle.std.proofs.lemmas.Bool.{lt-leb}
+use Rattle.asm_macro.specs.declared.take.TheConstants.{MOST_NESTED}
 use Rattle.asm_scan.specs.Tokens.{Lexeme}
 use Rattle.asm_line.specs.Forms.{Form}
 use Rattle.asm_texts.specs.declared.call.Macro as kept
@@ -24,16 +25,16 @@ pub opened_is : (all : List (List ℕ)) (m : kept.Macro) (o : Option Opened) →
 opened_is all m o e = ap opened (texts_from m.body.at m.body.number (body_texts all m.body)) ∙ e
 
 pub called_on : (depth : ℕ) (around : List Around) (e : state.State) (l : Numbered) (f : Form) (tokens : List Lexeme) (rest : List Numbered) (name : List ℕ) (found : Option Macro) (m : Macro) (o : Opened)
-    → found ≡ Some m → depth < 16 → opened m.body ≡ Some o
+    → found ≡ Some m → depth < MOST_NESTED → opened m.body ≡ Some o
     → moved depth around (parts.worded depth e l f tokens rest name found) ≡ On (label_lines f.label l tokens) (record {
       depth = depth + 1;
       state = record e { counter = e.counter + length o.locals };
       text = body_lines l.number (table_of m (arguments_in l.text tokens f.rest) e.counter o.locals) o.lines;
       around = record { depth = depth; next = onward.Rest rest } ∷ around;
     })
-called_on depth around e l f tokens rest name found m o is h op = let deep : nat_le 16 depth ≡ false = lt-leb 16 depth h in rw (is, deep, op) refl
+called_on depth around e l f tokens rest name found m o is h op = let deep : nat_le MOST_NESTED depth ≡ false = lt-leb MOST_NESTED depth h in rw (is, deep, op) refl
 
 pub called_off : (depth : ℕ) (around : List Around) (e : state.State) (l : Numbered) (f : Form) (tokens : List Lexeme) (rest : List Numbered) (name : List ℕ) (found : Option Macro) (m : Macro)
-    → found ≡ Some m → depth < 16 → opened m.body ≡ None
+    → found ≡ Some m → depth < MOST_NESTED → opened m.body ≡ None
     → moved depth around (parts.worded depth e l f tokens rest name found) ≡ Fails (label_lines f.label l tokens) l.number MacroFault.Stray
-called_off depth around e l f tokens rest name found m is h op = let deep : nat_le 16 depth ≡ false = lt-leb 16 depth h in rw (is, deep, op) refl
+called_off depth around e l f tokens rest name found m is h op = let deep : nat_le MOST_NESTED depth ≡ false = lt-leb MOST_NESTED depth h in rw (is, deep, op) refl

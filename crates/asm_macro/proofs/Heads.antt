@@ -2,6 +2,7 @@
 use Rattle.std.proofs.Common.{◌≡◌, ◌<◌, ◌∙◌, ◌||◌, ◌&&◌, if◌then◌else◌, sym, ap, refl, ℕ, Bool, true, false, not, nat_le, nat_lt, is_some, List, [], ◌∷◌, Option, Some, None, Ok}
 use Rattle.std.proofs.lemmas.Bool.{lt-leb}
 use Rattle.std.specs.Option.{option_map}
+use Rattle.asm_macro.specs.declared.expansion.TheConstants.{MOST_LINES}
 use Rattle.asm_scan.specs.Tokens.{Lexeme}
 use Rattle.asm_scan.specs.Scanned.{scanned}
 use Rattle.asm_words.specs.Words.{upper, is_reserved}
@@ -60,10 +61,10 @@ none_of : (c m : Bool) → m ≡ false → (if c && m then Some MacroFault.TooMa
 none_of true m e = rw e refl
 none_of false m e = refl
 
-few : (e : State) (h : Head) → e.count < 60000 → too_many e h ≡ None
-few e h k = let less : nat_le 60000 e.count ≡ false = lt-leb 60000 e.count k in none_of (is_counted h) (nat_le 60000 e.count) less
+few : (e : State) (h : Head) → e.count < MOST_LINES → too_many e h ≡ None
+few e h k = let less : nat_le MOST_LINES e.count ≡ false = lt-leb MOST_LINES e.count k in none_of (is_counted h) (nat_le MOST_LINES e.count) less
 
-pub part_is : (depth : ℕ) (e : State) (l : Numbered) (rest : List Numbered) (tokens : List Lexeme) → scanned l.text ≡ Ok tokens → e.count < 60000
+pub part_is : (depth : ℕ) (e : State) (l : Numbered) (rest : List Numbered) (tokens : List Lexeme) → scanned l.text ≡ Ok tokens → e.count < MOST_LINES
     → part depth e l rest ≡ by_head (form tokens).head depth (counted e) l (form tokens) tokens rest
 part_is depth e l rest tokens is k =
     let f = form tokens in

@@ -1,5 +1,6 @@
 -- What blocks are gone on with are the parts that they come to.
 use Rattle.std.proofs.Common.{◌≡◌, ◌<◌, ◌≤◌, ◌+◌, ◌∙◌, sym, ap, refl, ℕ, zero, suc, Bool, true, false, if◌then◌else◌, List, [], ◌∷◌, Option, Some, None, arith}
+use Rattle.asm_macro.specs.declared.take.TheConstants.{MOST_NESTED}
 use Rattle.asm_replace.specs.Replaced.{Table}
 use Rattle.asm_texts.specs.Lines.{Numbered, form_of}
 use Rattle.asm_texts.specs.Roles.{is_alone}
@@ -82,13 +83,13 @@ fits_other : (many : ℕ) (others : List Section) (after : List Numbered) → Fi
 fits_other many [] after = tt
 fits_other many (t ∷ more) after = fits_unless many (stray_in (t ∷ more)) (On after) tt
 
-pub fits_behind : (many : ℕ) (texts : List (List ℕ)) (names : Option Table) (f : Following) → many + turn_in f ≤ 16 → Fits many (behind (next_of texts names f))
+pub fits_behind : (many : ℕ) (texts : List (List ℕ)) (names : Option Table) (f : Following) → many + turn_in f ≤ MOST_NESTED → Fits many (behind (next_of texts names f))
 fits_behind many texts names (Following.Rest s) h = tt
 fits_behind many texts names (Following.BehindFirst c) h =
     let b = branches_seen texts names c in fits_unless many (stray b.first.end) (unless (stray_in b.others) (On b.after)) (fits_unless many (stray_in b.others) (On b.after) tt)
 fits_behind many texts names (Following.BehindSecond c) h = let b = branches_seen texts names c in fits_other many b.others b.after
 fits_behind many texts names (Following.Turns zero number body) h = fits_unless many (stray (section_of texts names body.stretch).end) (On (text_of texts names body.after)) tt
-fits_behind many texts names (Following.Turns (suc n) number body) h = let less : many < 16 = omega (arith, h) in less
+fits_behind many texts names (Following.Turns (suc n) number body) h = let less : many < MOST_NESTED = omega (arith, h) in less
 
 -- How many texts and turns open.
 

@@ -1,6 +1,7 @@
 -- What lines that are taken up come to.
 use Rattle.std.proofs.Common.{◌≡◌, ◌⊎◌, inl, inr, ◌<◌, sym, refl, subst, ℕ, false, nat_le, List, [], Option, Some, Result, Ok, Err}
 use Rattle.std.proofs.lemmas.Bool.{lt-leb}
+use Rattle.asm_macro.specs.declared.take.TheConstants.{MOST_NESTED}
 use Rattle.asm_macro.specs.declared.fault.MacroFault.{MacroFault}
 use Rattle.asm_texts.specs.Lines.{Numbered}
 use Rattle.asm_macro.specs.State.{State}
@@ -40,10 +41,10 @@ pub conditional_err : (depth : ℕ) (around : List Around) (e : State) (l : Numb
     → moved depth around (conditional depth e l found w) ≡ Fails [] l.number why
 conditional_err depth around e l found w b why f v = rw (f, v) refl
 
-not_deep : (n : ℕ) → n < 16 → nat_le 16 n ≡ false
-not_deep n h = lt-leb 16 n h
+not_deep : (n : ℕ) → n < MOST_NESTED → nat_le MOST_NESTED n ≡ false
+not_deep n h = lt-leb MOST_NESTED n h
 
-pub repeated_ok : (depth : ℕ) (e : State) (l : Numbered) (found : Option Body) (w : Result ℕ MacroFault) (b : Body) (n : ℕ) → found ≡ Some b → w ≡ Ok n → depth < 16 → repeated depth e l found w ≡ turns depth n l.number b e
+pub repeated_ok : (depth : ℕ) (e : State) (l : Numbered) (found : Option Body) (w : Result ℕ MacroFault) (b : Body) (n : ℕ) → found ≡ Some b → w ≡ Ok n → depth < MOST_NESTED → repeated depth e l found w ≡ turns depth n l.number b e
 repeated_ok depth e l found w b n f v h = rw (f, v, not_deep depth h) refl
 
 pub repeated_err : (depth : ℕ) (around : List Around) (e : State) (l : Numbered) (found : Option Body) (w : Result ℕ MacroFault) (b : Body) (why : MacroFault) → found ≡ Some b → w ≡ Err why

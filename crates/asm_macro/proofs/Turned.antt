@@ -1,5 +1,7 @@
 -- What moves leave.
 use Rattle.std.proofs.Common.{◌≡◌, ◌≤◌, ◌+◌, ◌-◌, ◌∙◌, sym, ap, refl, subst, Err, ℕ, List, [], ◌∷◌, ◌++◌, Option, reverse, length, arith}
+use Rattle.asm_macro.specs.declared.take.TheConstants.{MOST_NESTED}
+use Rattle.asm_macro.specs.declared.expansion.TheConstants.{MOST_LINES}
 use Rattle.asm_replace.specs.Replaced.{Table}
 use Rattle.asm_texts.specs.declared.span.Span.{Span}
 use Rattle.asm_texts.specs.Lines.{Numbered}
@@ -39,7 +41,7 @@ inner many texts names (Following.Rest s) tables fits = absurd fits
 inner many texts names (Following.BehindFirst c) tables fits = refl
 inner many texts names (Following.BehindSecond c) tables fits = refl
 
-pub fits_turn : (many : ℕ) (texts : List (List ℕ)) (names : Option Table) (f : Following) → FitsNext many (next_of texts names f) → many ≤ 16 → many + turn_in f ≤ 16
+pub fits_turn : (many : ℕ) (texts : List (List ℕ)) (names : Option Table) (f : Following) → FitsNext many (next_of texts names f) → many ≤ MOST_NESTED → many + turn_in f ≤ MOST_NESTED
 fits_turn many texts names (Following.Turns left number body) fits most = omega (arith, fits)
 fits_turn many texts names (Following.Rest s) fits most = absurd fits
 fits_turn many texts names (Following.BehindFirst c) fits most = omega (arith, most)
@@ -68,7 +70,7 @@ gone_into x y after f text many sound fits kept is =
     ∙ ap (λ z. On [] (record { depth = length (tables_in z) + z.turns; state = state_of y; text = text_of z.lines (innermost (tables_in z)) text; around = around_seen z.lines (tables_in z) (reverse after) })) (sym kept)
 
 pub sound_into : (x y : Expansion) (after : List Following) (f : Following) (texts : List (List ℕ)) (names : Option Table) → IsSound x
-    → FitsNext (length x.calls.items + x.turns) (next_of texts names f) → WithTurn x f y → y.count ≤ 60000 → after ≡ y.around.items ++ f ∷ []
+    → FitsNext (length x.calls.items + x.turns) (next_of texts names f) → WithTurn x f y → y.count ≤ MOST_LINES → after ≡ y.around.items ++ f ∷ []
     → Sound y.lines (tables_in y) (reverse after) (length y.calls.items) y.turns y.count y.book (reverse y.books.items) y.source y.macros.entries y.calls.items
 sound_into x y after f texts names sound fits kept few is =
     let around = ap reverse (is ∙ ap (λ z. z.around.items ++ f ∷ []) kept) ∙ pushed x.around.items f in

@@ -1,10 +1,10 @@
 -- What of an expansion is still to come: the meaning of an expander between two lines.
 use Rattle.std.specs.Prelude.{◌≡◌, ◌<◌, ◌-◌, ℕ, Bool, true, false, List, [], ◌∷◌, ◌++◌, Result, Ok, Err}
+use Rattle.asm_macro.specs.declared.expansion.TheConstants.{MOST_LINES}
 use Rattle.asm_macro.specs.declared.expander.Line.{Line}
 use Rattle.asm_macro.specs.declared.fault.MacroFault.{MacroFault}
 use Rattle.asm_texts.specs.Lines.{Numbered}
-use Rattle.asm_macro.specs.State.{State}
-use Rattle.asm_macro.specs.Judged.{most_lines}
+use Rattle.asm_macro.specs.State.{State, room}
 use Rattle.asm_sections.specs.Onward.{Next}
 use Rattle.asm_macro.specs.Expands.{End, Ended, Stopped, Expands, Follows, IsDone, IsExpansion}
 
@@ -55,8 +55,8 @@ begun text = record { given = record { number = 0; text = [] }; ahead = Before t
 
 -- How many lines may still come, at most: a line that is given was counted.
 abbrev pub most_left : Ahead → ℕ
-most_left (Before text) = most_lines
-most_left (Within rest) = most_lines - rest.state.count
+most_left (Before text) = MOST_LINES
+most_left (Within rest) = room rest.state
 most_left Over = 0
 most_left (Halted number why) = 0
 

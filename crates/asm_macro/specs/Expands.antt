@@ -1,5 +1,6 @@
 -- The expansion of a text.
 use Rattle.std.specs.Prelude.{◌<◌, ◌≤◌, ℕ, List, [], ◌∷◌, ◌++◌, Result, Ok, Err, length}
+use Rattle.limits.specs.declared.TheConstants.{LONGEST_TEXT}
 use Rattle.asm_macro.specs.declared.fault.MacroFault.{MacroFault}
 use Rattle.asm_texts.specs.Lines.{Numbered}
 use Rattle.asm_macro.specs.Texts.{numbered, source_lines}
@@ -41,8 +42,8 @@ IsDone (Stopped number why) = ⊥
 
 -- A source text comes to these lines, with their numbers, and ends so. One above 16,777,216 bytes is not read.
 pub data IsExpansion (text : List ℕ) : List Numbered → End → Type 0 where
-  long : 16777216 < length text → IsExpansion text [] (Stopped 1 MacroFault.TooManyLines)
-  short : {lines : List Numbered} {end : End} → length text ≤ 16777216 → Expands 0 start (numbered 1 (source_lines text)) lines end → IsExpansion text lines end
+  long : LONGEST_TEXT < length text → IsExpansion text [] (Stopped 1 MacroFault.TooManyLines)
+  short : {lines : List Numbered} {end : End} → length text ≤ LONGEST_TEXT → Expands 0 start (numbered 1 (source_lines text)) lines end → IsExpansion text lines end
 
 -- What is answered of a whole text: its lines, or the line at which it stops and the fault. Want of memory alone has no
 -- cause in the text.

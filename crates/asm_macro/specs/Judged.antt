@@ -1,6 +1,7 @@
 -- The faults that a line has when it is met, before any expression is looked at. Each is said by itself, and then which
 -- comes first.
 use Rattle.std.specs.Prelude.{ℕ, Bool, true, false, not, ◌||◌, ◌&&◌, List, [], ◌∷◌, Option, Some, None, Result, Ok, Err, if◌then◌else◌, nat_le, nat_lt, is_some}
+use Rattle.asm_macro.specs.declared.expansion.TheConstants.{MOST_LINES}
 use Rattle.asm_scan.specs.declared.fault.ScanFault.{ScanFault}
 use Rattle.asm_scan.specs.Tokens.{Lexeme}
 use Rattle.asm_words.specs.Words.{upper, is_reserved}
@@ -23,12 +24,9 @@ is_counted (line.Block BlockWord.EndIf) = false
 is_counted (line.Block BlockWord.EndM) = false
 is_counted _ = true
 
-abbrev pub most_lines : ℕ
-most_lines = 60000
-
--- 60,000 lines and turns are taken up already
+-- as many lines and turns are taken up already as may be
 abbrev pub too_many : State → Head → Option MacroFault
-too_many e head = if is_counted head && nat_le most_lines e.count then Some MacroFault.TooManyLines else None
+too_many e head = if is_counted head && nat_le MOST_LINES e.count then Some MacroFault.TooManyLines else None
 
 -- the line is too long, or does not scan
 abbrev pub unread : Result (List Lexeme) ScanFault → Option MacroFault

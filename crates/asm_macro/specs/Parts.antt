@@ -1,6 +1,8 @@
 -- What a line that is met comes to, with the lines behind it in its text.
 use Rattle.std.specs.Prelude.{ℕ, zero, suc, ◌+◌, List, [], ◌∷◌, Option, Some, None, Result, Ok, Err, if◌then◌else◌, nat_le, length, map, codes}
 use Rattle.std.specs.Str.{bytes_eq}
+use Rattle.asm_macro.specs.declared.take.TheConstants.{MOST_NESTED}
+use Rattle.asm_macro.specs.declared.expansion.TheConstants.{MOST_LINES}
 use Rattle.asm_scan.specs.declared.fault.ScanFault.{ScanFault}
 use Rattle.asm_scan.specs.Tokens.{Lexeme}
 use Rattle.asm_words.specs.Words.{upper}
@@ -17,7 +19,7 @@ use Rattle.asm_texts.specs.Roles.{is_alone}
 use Rattle.asm_sections.specs.Blocks.{Section, Body, Branches, body_of, branches_of}
 use Rattle.asm_sections.specs.Onward.{Next, Rest, BehindFirst, BehindSecond, Turns, renumbered}
 use Rattle.asm_texts.specs.Calls.{Opened, opened, body_lines, arguments_in, table_of, label_lines}
-use Rattle.asm_macro.specs.Judged.{most_lines, parameters, line_fault}
+use Rattle.asm_macro.specs.Judged.{parameters, line_fault}
 
 pub data Part : Type 0 where
   -- these lines are given, and then comes a fault, at a line's number
@@ -58,18 +60,15 @@ abbrev pub chosen : ℕ → ℕ → State → Branches → Part
 chosen (suc n) depth e b = Within [] e depth b.first.lines (BehindFirst b)
 chosen zero depth e b = closing b.first.end (second_of depth e b.others b.after)
 
--- calls and repetitions nest to 16
-abbrev pub most_open : ℕ
-most_open = 16
-
+-- calls and repetitions nest so deep at most
 abbrev pub unless_deep : ℕ → Numbered → Part → Part
-unless_deep depth l part = if nat_le most_open depth then fails l MacroFault.TooDeep else part
+unless_deep depth l part = if nat_le MOST_NESTED depth then fails l MacroFault.TooDeep else part
 
 -- a body some times over, each turn of which counts as a line
 abbrev pub turns : ℕ → ℕ → ℕ → Body → State → Part
 turns depth zero number body e = closing body.section.end (Go [] e body.after)
 turns depth (suc n) number body e =
-    if nat_le most_lines e.count then Stop [] number MacroFault.TooManyLines
+    if nat_le MOST_LINES e.count then Stop [] number MacroFault.TooManyLines
     else Within [] (counted e) (depth + 1) (renumbered number body.section.lines) (Turns n number body)
 
 -- what follows a text, in the one around it, by the state that it leaves

@@ -1,10 +1,11 @@
 -- What an expansion knows at a line.
-use Rattle.std.specs.Prelude.{ℕ, ◌+◌, Bool, List, [], ◌∷◌, ◌++◌, Option, None, if◌then◌else◌, codes, map, is_some}
+use Rattle.std.specs.Prelude.{ℕ, ◌+◌, ◌-◌, Bool, List, [], ◌∷◌, ◌++◌, Option, None, if◌then◌else◌, codes, map, is_some}
 use Rattle.std.specs.Map.{lookup}
 use Rattle.std.specs.Str.{bytes_eq}
 use Rattle.asm_expr.specs.declared.meaning.Meaning.{Meaning}
 use Rattle.asm_expr.specs.Names as names
 use Rattle.asm_texts.specs.Calls.{Macro}
+use Rattle.asm_macro.specs.declared.expansion.TheConstants.{MOST_LINES}
 
 -- The macros by their names; the names that EQU gave a value that is known here; how many LOCAL names there were; how many
 -- lines were taken up. Names are in upper case.
@@ -42,3 +43,7 @@ with_constant name value e = record e { constants = e.constants ++ (name, value)
 
 abbrev pub counted : State → State
 counted e = record e { count = e.count + 1 }
+
+-- how many lines and turns may still be taken up
+abbrev pub room : State → ℕ
+room e = MOST_LINES - e.count

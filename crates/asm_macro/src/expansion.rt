@@ -20,7 +20,7 @@ use name_key::NameKey;
 use std::alloc::{AllocError, Global};
 
 /// The most lines and turns of a whole expansion.
-pub(crate) const MOST_LINES: u32 = 60_000;
+pub const MOST_LINES: u32 = 60_000;
 
 /// An expansion between two moves.
 #[derive(Debug, Drop)]

@@ -1,12 +1,13 @@
 //! What the innermost text is gone on with.
 
 ghost use Rattle.std.specs.Prelude.{◌≡◌, ◌≤◌, ◌+◌, OnOk, List, Option, length, ℕ};
+ghost use Rattle.asm_macro.specs.declared.take.TheConstants.{MOST_NESTED};
+ghost use Rattle.asm_macro.specs.declared.expansion.TheConstants.{MOST_LINES};
 ghost use Rattle.asm_replace.specs.Replaced.{Table};
 ghost use Rattle.asm_texts.specs.Lines.{Numbered};
 ghost use Rattle.asm_sections.specs.Sections.{branches_seen};
 ghost use Rattle.asm_sections.specs.Views.{next_of, onward_seen};
-ghost use Rattle.asm_macro.specs.Judged.{most_lines};
-ghost use Rattle.asm_macro.specs.Parts.{chosen, most_open, resumed};
+ghost use Rattle.asm_macro.specs.Parts.{chosen, resumed};
 ghost use Rattle.asm_macro.specs.Private.Frames.{innermost};
 ghost use Rattle.asm_macro.specs.Private.Going.{Enters, Fits, into, part_of, texts_opened, turn_in, turns_opened};
 ghost use Rattle.asm_macro.specs.Private.Moves.{IsSound, Resumes, most_moves, moved, rest_of, state_of, tables_in};
@@ -20,9 +21,9 @@ impl<'a> Expansion<'a> {
     /// Counts a turn of a REPT, if it is one that opens.
     fn count_turn(&mut self, following: &Following) -> Result<(), Stop>
         requires sound { IsSound self.old }
-        requires shallow { length self.old.calls.items + self.old.turns + turn_in following.now ≤ most_open }
+        requires shallow { length self.old.calls.items + self.old.turns + turn_in following.now ≤ MOST_NESTED }
         ensures counted { OnOk result (self.new ≡ record self.old { count = self.old.count + turn_in following.now; turns = self.old.turns + turn_in following.now }) }
-        ensures few { OnOk result (self.new.count ≤ most_lines) }
+        ensures few { OnOk result (self.new.count ≤ MOST_LINES) }
         ensures enters { (texts : List (List ℕ)) (names : Option Table) (depth : ℕ) (text : List Numbered) → Enters result (state_of self.new) (depth + turn_in following.now) text (next_of texts names following.now)
             (into depth (state_of self.old) text (next_of texts names following.now)) }
     {
@@ -82,7 +83,7 @@ impl<'a> Expansion<'a> {
     /// Goes on behind a text in a block that is over, or with the turns of a REPT.
     pub(crate) fn go_behind(&mut self, following: Following) -> Result<(), Stop>
         requires sound { IsSound self.old }
-        requires shallow { length self.old.calls.items + self.old.turns + turn_in following ≤ most_open }
+        requires shallow { length self.old.calls.items + self.old.turns + turn_in following ≤ MOST_NESTED }
         ensures sound { OnOk result (IsSound self.new) }
         ensures count { OnOk result (self.old.count ≤ self.new.count) }
         ensures less { OnOk result (most_moves self.new ≤ most_moves self.old) }

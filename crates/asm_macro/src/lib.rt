@@ -14,6 +14,8 @@ mod take;
 mod whole;
 
 pub use expander::{Expander, Line};
+pub use expansion::MOST_LINES;
 pub use fault::MacroFault;
 pub use source::source_part;
+pub use take::MOST_NESTED;
 pub use whole::{Expanded, ExpandedLine, expand};

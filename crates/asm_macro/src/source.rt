@@ -12,11 +12,9 @@ use asm_sections::Book;
 use asm_texts::{Lines, Span};
 use bstr::ByteSlice;
 use indexmap::IndexMap;
+use limits::LONGEST_TEXT;
 use name_key::NameKey;
 use std::alloc::Global;
-
-/// The most bytes of a source text.
-const LONGEST_TEXT: usize = 16_777_216;
 
 /// How many bytes stand before the first byte 1AH.
 fn end_of(text: &[u8]) -> usize

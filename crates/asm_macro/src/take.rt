@@ -2,6 +2,7 @@
 
 ghost use Rattle.std.specs.Prelude.{◌≡◌, ◌<◌, ◌≤◌, ◌+◌, ◌||◌, nat_lt, All, IfOk, IfSome, OnOk, Ok, List, ℕ, None, Some, codes, false, length, true};
 ghost use Rattle.std.specs.Option.{option_map};
+ghost use Rattle.asm_macro.specs.declared.take.TheConstants.{MOST_NESTED};
 ghost use Rattle.asm_scan.specs.Tokens.{lexemes};
 ghost use Rattle.asm_scan.specs.Scanned.{scanned};
 ghost use Rattle.asm_words.specs.Words.{upper};
@@ -17,7 +18,7 @@ ghost use Rattle.asm_macro.specs.Values.{worth};
 ghost use Rattle.asm_macro.specs.Ahead.{seen};
 ghost use Rattle.asm_sections.specs.Blocks.{body_of, branches_of};
 ghost use Rattle.asm_macro.specs.Judged.{is_counted, parameters};
-ghost use Rattle.asm_macro.specs.Parts.{conditional, most_open, part, repeated, worded};
+ghost use Rattle.asm_macro.specs.Parts.{conditional, part, repeated, worded};
 ghost use Rattle.asm_macro.specs.Private.Stopped.{stopped};
 ghost use Rattle.asm_macro.specs.Private.Frames.{innermost};
 ghost use Rattle.asm_macro.specs.Private.Heads.{by_head, defined, kept};
@@ -39,7 +40,7 @@ use std::alloc::{AllocError, Global};
 use std::mem;
 
 /// The most calls and repetitions within one another.
-const MOST_OPEN: usize = 16;
+pub const MOST_NESTED: usize = 16;
 
 /// A fault at a line; want of memory has no line.
 fn stopped(number: u32, why: MacroFault) -> Stop
@@ -146,7 +147,7 @@ impl<'a> Expansion<'a> {
         };
         match self.constants.value_of(self.alloc, tokens) {
             Ok(value) => {
-                if self.calls.len() + self.turns >= MOST_OPEN {
+                if self.calls.len() + self.turns >= MOST_NESTED {
                     return Err(Stop::At(line.number, MacroFault::TooDeep));
                 }
                 self.go_behind(Following::Turns(value, line.number, body))
@@ -165,7 +166,7 @@ impl<'a> Expansion<'a> {
     ) -> Result<(), AllocError>
         requires sound { IsSound self.old }
         requires call { IsCall self.old.lines call }
-        requires shallow { length self.old.calls.items + self.old.turns < most_open }
+        requires shallow { length self.old.calls.items + self.old.turns < MOST_NESTED }
         ensures sound { OnOk result (IsSound self.new) }
         ensures count { OnOk result (self.new.count ≡ self.old.count) }
         ensures around { OnOk result (length self.new.around.items ≤ length self.old.around.items + 1) }
@@ -206,7 +207,7 @@ impl<'a> Expansion<'a> {
             }
             return Ok(Taken::Line);
         };
-        if self.calls.len() + self.turns >= MOST_OPEN {
+        if self.calls.len() + self.turns >= MOST_NESTED {
             return Err(Stop::At(line.number, MacroFault::TooDeep));
         }
         let label = label_before(self.alloc, line.text, tokens, form)?;

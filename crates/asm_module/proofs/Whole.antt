@@ -2,6 +2,7 @@
 use Rattle.std.proofs.Common.{◌≡◌, ◌≤◌, ◌∙◌, sym, ap, refl, subst, ℕ, Bool, false, List, [], ◌∷◌, Option, Some, None, Ok, Err, length, map, slice_get}
 use Rattle.std.specs.List.{All}
 use Rattle.std.proofs.lemmas.List.{length-map}
+use Rattle.asm_macro.specs.declared.expansion.TheConstants.{MOST_LINES}
 use Rattle.asm_scan.specs.Scanned.{scanned}
 use Rattle.asm_scan.specs.Tokens.{Lexeme}
 use Rattle.asm_spell.specs.Few.{IsFew}
@@ -16,7 +17,6 @@ use Rattle.asm_equ.specs.Circles.{TellsCircles}
 use Rattle.asm_layout.specs.Laid.{HasFew, IsFewIn}
 use Rattle.asm_macro.specs.declared.fault.MacroFault.{MacroFault}
 use Rattle.asm_macro.specs.Expands.{End, IsExpanded, IsExpansion}
-use Rattle.asm_macro.specs.Judged.{most_lines}
 use Rattle.asm_macro.specs.Texts.{source_lines}
 use Rattle.asm_names.specs.Faults as defined
 use Rattle.asm_names.specs.Faults.{first}
@@ -129,12 +129,12 @@ module _ (name text : List ℕ) (grow : Bool) (from : List Numbered) (expanded :
         )
 
     -- There are few lines.
-    pub few_lines : ((text : List ℕ) (lines : List Numbered) (end : End) → IsExpansion text lines end → length lines ≤ most_lines)
-        → ((lines : List Numbered) → unread lines ≡ None → map (λ l. l.number) (taken lines) ≡ map (λ l. l.number) lines) → length lines ≤ most_lines
+    pub few_lines : ((text : List ℕ) (lines : List Numbered) (end : End) → IsExpansion text lines end → length lines ≤ MOST_LINES)
+        → ((lines : List Numbered) → unread lines ≡ None → map (λ l. l.number) (taken lines) ≡ map (λ l. l.number) lines) → length lines ≤ MOST_LINES
     few_lines few read =
-        let le : length from ≤ most_lines = few text from expanded.0 expanded.2 in
+        let le : length from ≤ MOST_LINES = few text from expanded.0 expanded.2 in
         let same : length (taken from) ≡ length from = sym (length-map (taken from) (λ l. l.number)) ∙ ap length (read from all) ∙ length-map from (λ l. l.number) in
-        subst (λ n. n ≤ most_lines) (sym (ap length are ∙ same)) le
+        subst (λ n. n ≤ MOST_LINES) (sym (ap length are ∙ same)) le
 
   -- The data of each line takes few bytes.
   pub few_data : ((lines : List Numbered) (k : ℕ) (l : Taken) → slice_get (taken lines) k ≡ Some l → (there : Numbered) × (slice_get lines k ≡ Some there) × IsRead there l)

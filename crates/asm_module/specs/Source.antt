@@ -1,6 +1,7 @@
 -- The module of the lines of a source, or its first fault.
 use Rattle.std.specs.Prelude.{ℕ, Bool, List, [], ◌∷◌, Option, map, take}
 use Rattle.std.specs.Option.{option_map}
+use Rattle.zmo_module.specs.declared.module.TheConstants.{LONGEST_NAME}
 use Rattle.asm_expr.specs.Names.{Table}
 use Rattle.asm_equ.specs.Layout.{Layout}
 use Rattle.asm_equ.specs.Meanings as equ
@@ -53,10 +54,10 @@ abbrev pub source_fault : Bool → List Numbered → (ℕ → Bool) → Option A
 source_fault grow lines circle =
     first (first_pass lines ∷ equ_fault (taken lines) circle (layout grow (taken lines) circle) ∷ state_fault (taken lines) circle (layout grow (taken lines) circle) ∷ [])
 
--- The module of lines without a fault. Its name is the first 255 bytes of the one given.
+-- The module of lines without a fault. Its name is the one given, as far as it may go.
 abbrev pub module_by : List ℕ → Bool → List Taken → (ℕ → Bool) → Layout → Module
 module_by name grow lines circle layout = record {
-  name = take 255 name;
+  name = take LONGEST_NAME name;
   begins = begins lines;
   entry = entry (labels layout (names lines)) lines;
   grow = grow;

@@ -1,6 +1,7 @@
 //! The lines of a source to a module.
 
 ghost use Rattle.std.specs.Prelude.{◌≡◌, ◌<◌, ◌^◌, [], ℕ, All, Bool, List, None, IfOk, length, take};
+ghost use Rattle.zmo_module.specs.declared.module.TheConstants.{LONGEST_NAME};
 ghost use Rattle.asm_expr.specs.Names.{found};
 ghost use Rattle.asm_equ.specs.Layout.{layout_of};
 ghost use Rattle.asm_layout.specs.Laid.{HasFew};
@@ -23,7 +24,7 @@ use asm_names::{NameTable, SourceLine};
 use asm_rules::fit_words;
 use asm_states::{Stated, state_lines};
 use std::alloc::{AllocError, Global};
-use zmo_module::Module;
+use zmo_module::{LONGEST_NAME, Module};
 
 /// The statements of lines, or the first line other than an EQU that is faulty.
 fn state(
@@ -45,10 +46,10 @@ fn state(
 
 /// The first 255 bytes of a name.
 fn short_name(alloc: Global, name: &[u8]) -> Result<Vec<u8>, AllocError>
-    ensures { IfOk result (λ short. short.items ≡ take 255 name.now) }
+    ensures { IfOk result (λ short. short.items ≡ take LONGEST_NAME name.now) }
 {
     let mut short = name.to_vec(alloc)?;
-    short.truncate(255);
+    short.truncate(LONGEST_NAME);
     Ok(short)
 }
 

@@ -3,9 +3,10 @@
 use crate::names::read_all;
 use asm_equ::{Layout, settle_names, turns_of};
 use asm_expr::Statement as Size;
-use asm_names::{MOST_STATEMENTS, names_of};
+use asm_names::names_of;
 use asm_spell::StmtFault;
 use asm_states::{StateFault, Stated, Statement, laws, state_lines};
+use limits::MOST_STATEMENTS;
 use std::alloc::Global;
 use std::process::Abort;
 use std::test::Fail;

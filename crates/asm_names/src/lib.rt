@@ -11,5 +11,5 @@ mod table;
 
 pub use fault::NameFault;
 pub use kind::{Kind, SourceLine};
-pub use naming::{MOST_NAMES, MOST_STATEMENTS, names_of};
+pub use naming::names_of;
 pub use table::NameTable;

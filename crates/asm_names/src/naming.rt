@@ -10,14 +10,9 @@ use crate::fault::NameFault;
 use crate::kind::SourceLine;
 use crate::table::NameTable;
 use asm_spell::{Body, Line};
+use limits::{MOST_NAMES, MOST_STATEMENTS};
 use name_key::{KeyMixer, NameKey};
 use std::alloc::Global;
-
-/// The most statements that a module may have.
-pub const MOST_STATEMENTS: usize = 20_000;
-
-/// The most labels, externals and names of EQU that a module may have.
-pub const MOST_NAMES: usize = 40_000;
 
 /// Whether a word takes a place in the program, as far as its own line tells: `DS 0` too.
 fn is_statement(body: &Body) -> bool

@@ -2,6 +2,7 @@
 use Rattle.std.specs.Prelude.{◌≢◌, ℕ, zero, suc, ◌-◌, ◌%◌, ◌==◌, ◌&&◌, Bool, false, List, [], ◌∷◌, Option, Some, None, Result, Ok, Err, if◌then◌else◌, All, length, map}
 use Rattle.std.specs.List.{AllPass, flat_map, list_all}
 use Rattle.std.specs.Option.{IfSome}
+use Rattle.limits.specs.declared.TheConstants.{FIRST_PLACE}
 use Rattle.asm_words.specs.Results.{◌>>=◌}
 use Rattle.asm_parse.specs.declared.item.Item.{Item}
 use Rattle.asm_parse.specs.Expression.{postfix}
@@ -163,9 +164,9 @@ number_in (Settled.Unknown what) = None
 abbrev pub space : Table → Expression → Option Expression → Result Made StmtFault
 space t size fill = space_size t size >>= λ s. space_fill t fill >>= λ f. Ok (sized_by (number_in s) f)
 
--- An ORG is 0100H, before any statement. One of which no number is known may be that.
+-- An ORG is where a program begins, before any statement. One of which no number is known may be that.
 abbrev pub origin_by : Option ℕ → Bool
-origin_by (Some n) = n == 256
+origin_by (Some n) = n == FIRST_PLACE
 origin_by None = false
 
 abbrev pub is_origin : Settled → Bool

@@ -11,11 +11,9 @@ use crate::field::{fixed, number, settle_expr};
 use crate::piece::{Made, Piece};
 use asm_expr::{Names, Settled, Tree, Unknown, is_constant};
 use asm_spell::StmtFault;
+use limits::FIRST_PLACE;
 use std::alloc::Global;
 use z80_form::Field;
-
-/// Where a program begins.
-const ORIGIN: u16 = 0x0100;
 
 /// The number that is settled, if one is.
 pub(crate) fn number_in(settled: &Settled) -> Option<u16>
@@ -86,7 +84,7 @@ fn is_origin(settled: &Settled) -> bool
     ensures { result ≡ is_origin settled.now }
 {
     match settled {
-        Settled::Known(expr) => number(expr) == Some(ORIGIN),
+        Settled::Known(expr) => number(expr).is_some_and(|place| u32::from(place) == FIRST_PLACE),
         Settled::Unknown(what) => matches!(what, Unknown::Anything | Unknown::Number),
     }
 }

@@ -1,10 +1,10 @@
 -- What a statement is known to keep by its line and by the code's types.
 use Rattle.std.specs.Prelude.{◌≤◌, Some}
+use Rattle.limits.specs.declared.TheConstants.{MOST_BYTES}
 use Rattle.asm_reads.specs.Spelled.{IsSpelled}
 use Rattle.asm_spell.specs.Few.{IsFew}
 use Rattle.asm_spell.specs.Line as line
 use Rattle.asm_spell.specs.Line.{Line}
-use Rattle.zmo_module.specs.declared.statement.TheConstants.{MOST_BYTES}
 use Rattle.zmo_module.specs.Modules as object
 use Rattle.zmo_module.specs.Modules.{Statement}
 

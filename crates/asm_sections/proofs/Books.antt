@@ -1,6 +1,7 @@
 -- Lines that are looked through, and the texts within them.
 use Rattle.std.proofs.Common.{◌≡◌, ◌<◌, ◌≤◌, ◌+◌, ◌-◌, ◌∙◌, sym, ap, refl, ℕ, zero, suc, List, [], ◌∷◌, Option, map, take, drop, length, arith, length-take, length-drop, ◌^◌, None, get_or}
 use Rattle.std.proofs.lemmas.List.{drop-map, length-map, take-map}
+use Rattle.limits.specs.declared.TheConstants.{LONGEST_TEXT}
 use Rattle.asm_block.specs.declared.matching.Role.{Role}
 use Rattle.asm_block.specs.Blocks.{between}
 use Rattle.asm_replace.specs.Replaced.{Table}
@@ -66,7 +67,7 @@ has_all texts names s b at is =
     ∙ ap (take (s.end - s.at)) (is ∙ roles_are texts names s) ∙ take-map (role_in names) (s.end - s.at) (take (s.end - s.at) lines)
     ∙ ap (map (role_in names)) (cut 0 (s.end - s.at) (s.end - s.at) lines (omega arith)) ∙ sym (roles_are texts names s)
 
-pub few : (texts : List (List ℕ)) (names : Option Table) (s : Span) (rs : List Role) → rs ≡ roles (text_of texts names s) → length texts ≤ 16777216 → length rs < 2 ^ 32
+pub few : (texts : List (List ℕ)) (names : Option Table) (s : Span) (rs : List Role) → rs ≡ roles (text_of texts names s) → length texts ≤ LONGEST_TEXT → length rs < 2 ^ 32
 few texts names s rs is h =
     let len = ap length is ∙ length-map (text_of texts names s) (λ l. role_of_head (form_of l.text).head) ∙ length-text_of texts names s in
     omega (arith, h, len, length-take (s.end - s.at) (drop s.at texts), length-drop s.at texts)

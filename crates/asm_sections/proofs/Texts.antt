@@ -2,6 +2,7 @@
 use Rattle.std.proofs.Common.{◌≡◌, ◌<◌, ◌≤◌, ◌+◌, ◌-◌, ◌∙◌, sym, ap, refl, ℕ, zero, suc, List, [], ◌∷◌, Option, Some, length, take, drop, get_or, arith, length-take, length-drop, ◌++◌, append_assoc, append-nil, get_or-take, drop_of_length-le}
 use Rattle.std.specs.Option.{unwrap_or}
 use Rattle.std.proofs.lemmas.List.{drop_more, drop-take, get_or-drop, length-map}
+use Rattle.limits.specs.declared.TheConstants.{LONGEST_TEXT}
 use Rattle.asm_block.specs.declared.matching.Role.{Role}
 use Rattle.asm_replace.specs.Replaced.{Table}
 use Rattle.asm_texts.specs.declared.span.Span.{Span}
@@ -159,7 +160,7 @@ body_is texts names s n h is =
 pub inside : (texts : List (List ℕ)) (names : Option Table) (s : Span) (n : ℕ) → n < length (roles (text_of texts names s)) → n < length (text_of texts names s)
 inside texts names s n h = omega (arith, h, length-map (text_of texts names s) (λ l. role_of_head (form_of l.text).head))
 
-pub room : (texts : List (List ℕ)) (names : Option Table) (s : Span) (n : ℕ) → n < length (text_of texts names s) → length texts ≤ 16777216 → s.at + n < 16777216
+pub room : (texts : List (List ℕ)) (names : Option Table) (s : Span) (n : ℕ) → n < length (text_of texts names s) → length texts ≤ LONGEST_TEXT → s.at + n < LONGEST_TEXT
 room texts names s n h few = omega (arith, few, (within texts names s n h).1)
 
 pub front_line : (texts : List (List ℕ)) (names : Option Table) (s : Span) (number : ℕ) (text : List ℕ) → s.at < s.end → s.at < length texts

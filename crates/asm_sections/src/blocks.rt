@@ -2,6 +2,7 @@
 
 ghost use Rattle.std.specs.Prelude.{◌≡◌, ◌<◌, ◌≤◌, ◌+◌, IfOk, IfSome, None, length};
 ghost use Rattle.std.specs.Option.{option_map};
+ghost use Rattle.limits.specs.declared.TheConstants.{LONGEST_TEXT};
 ghost use Rattle.asm_sections.specs.Blocks.{body_of, branches_of};
 ghost use Rattle.asm_sections.specs.Books.{IsBook};
 ghost use Rattle.asm_texts.specs.Kept.{IsCall};
@@ -18,7 +19,7 @@ use std::alloc::{AllocError, Global};
 
 /// The first lines of a text, up to one of them.
 fn front(span: Span, len: usize) -> Stretch
-    requires { span.at + len < 16777216 }
+    requires { span.at + len < LONGEST_TEXT }
     ensures { result ≡ front_of span len }
 {
     let end = span.at + len;
@@ -34,7 +35,7 @@ fn front(span: Span, len: usize) -> Stretch
 
 /// The lines behind one of a text.
 fn behind(span: Span, len: usize) -> Span
-    requires { span.at + len < 16777216 }
+    requires { span.at + len < LONGEST_TEXT }
     ensures { result ≡ behind_of span len }
 {
     Span {
@@ -52,7 +53,7 @@ fn open(
     source: &mut Book,
     book: &mut Book,
 ) -> Result<bool, AllocError>
-    requires few { length lines.now ≤ 16777216 }
+    requires few { length lines.now ≤ LONGEST_TEXT }
     requires call { IfSome call (λ c. IsCall lines.now c.now) }
     requires source { IsBook lines.now None source.old }
     requires book { IsBook lines.now (option_map (λ c. said c.now) call) book.old }
@@ -89,7 +90,7 @@ pub fn body_of(
     source: &mut Book,
     book: &mut Book,
 ) -> Result<Option<Block>, AllocError>
-    requires few { length lines.now ≤ 16777216 }
+    requires few { length lines.now ≤ LONGEST_TEXT }
     requires call { IfSome call (λ c. IsCall lines.now c.now) }
     requires source { IsBook lines.now None source.old }
     requires book { IsBook lines.now (option_map (λ c. said c.now) call) book.old }
@@ -121,7 +122,7 @@ pub fn branches_of(
     source: &mut Book,
     book: &mut Book,
 ) -> Result<Option<Choice>, AllocError>
-    requires few { length lines.now ≤ 16777216 }
+    requires few { length lines.now ≤ LONGEST_TEXT }
     requires call { IfSome call (λ c. IsCall lines.now c.now) }
     requires source { IsBook lines.now None source.old }
     requires book { IsBook lines.now (option_map (λ c. said c.now) call) book.old }

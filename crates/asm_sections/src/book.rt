@@ -2,6 +2,7 @@
 
 ghost use Rattle.std.specs.Prelude.{◌≡◌, ◌≤◌, ◌-◌, ◌<◌, ℕ, IfOk, List, OnOk, Option, Some, length, true};
 ghost use Rattle.std.specs.Option.{option_map};
+ghost use Rattle.limits.specs.declared.TheConstants.{LONGEST_TEXT};
 ghost use Rattle.asm_block.specs.Blocks.{between};
 ghost use Rattle.asm_replace.specs.Replaced.{Table};
 ghost use Rattle.asm_texts.specs.Kept.{IsCall};
@@ -101,7 +102,7 @@ impl Book {
         call: Option<&Call>,
         span: Span,
     ) -> Result<(), AllocError>
-        requires few { length lines.now ≤ 16777216 }
+        requires few { length lines.now ≤ LONGEST_TEXT }
         requires book { IsBook lines.now (option_map (λ c. said c.now) call) self.old }
         ensures book { IsBook lines.now (option_map (λ c. said c.now) call.entry) self.new }
         ensures has { OnOk result (between (span.at - self.new.at) (span.end - self.new.at) self.new.links

@@ -1,17 +1,18 @@
 -- What an expansion says of its text.
 use Rattle.std.proofs.Common.{◌≤◌, ℕ, List, Ok, Err, length}
+use Rattle.limits.specs.declared.TheConstants.{LONGEST_TEXT}
 use Rattle.asm_macro.specs.declared.fault.MacroFault.{MacroFault}
 use Rattle.asm_macro.specs.Expands.{IsDone, IsExpanded, IsExpansion, End, long, short}
 use Rattle.asm_texts.specs.Lines.{Numbered}
 use Rattle.asm_source.specs.Private.Steps.{IsReading}
 use Rattle.asm_source.specs.Source.{IsSourceText}
 
-short_by : (text : List ℕ) (lines : List Numbered) (end : End) → IsDone end → IsExpansion text lines end → length text ≤ 16777216
+short_by : (text : List ℕ) (lines : List Numbered) (end : End) → IsDone end → IsExpansion text lines end → length text ≤ LONGEST_TEXT
 short_by text lines end done (long above) = absurd done
 short_by text lines end done (short below expands) = below
 
 -- A text that has an expansion is no longer than one may be.
-pub short_text : (text : List ℕ) (lines : List Numbered) → IsExpanded text (Ok lines) → length text ≤ 16777216
+pub short_text : (text : List ℕ) (lines : List Numbered) → IsExpanded text (Ok lines) → length text ≤ LONGEST_TEXT
 short_text text lines (end, done, is) = short_by text lines end done is
 
 -- What stops the reading.

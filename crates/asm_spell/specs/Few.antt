@@ -1,6 +1,7 @@
 -- How many bytes the items of DB and of DW take: those of a line are few.
 use Rattle.std.specs.Prelude.{◌≤◌, ℕ, ◌*◌, length}
 use Rattle.std.specs.List.{sum_by}
+use Rattle.limits.specs.declared.TheConstants.{MOST_BYTES}
 use Rattle.asm_spell.specs.Line as line
 use Rattle.asm_spell.specs.Line.{Body, Value}
 
@@ -9,9 +10,9 @@ abbrev pub value_size : Value → ℕ
 value_size (line.Text text) = length text
 value_size (line.Byte e) = 1
 
--- from 1 to 65,535
+-- what a statement may take
 abbrev pub IsCount : ℕ → Type 0
-IsCount n = (1 ≤ n) × (n ≤ 65535)
+IsCount n = (1 ≤ n) × (n ≤ MOST_BYTES)
 
 -- Data, if the body is that, takes so many bytes.
 abbrev pub IsFew : Body → Type 0

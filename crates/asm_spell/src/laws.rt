@@ -1,6 +1,7 @@
 //! Laws of statements, as functions that do nothing: their calls bring the clauses.
 
 ghost use Rattle.std.specs.Prelude.{◌≡◌, ◌≤◌, ◌↔◌, length, true, ◌∷◌, ◌++◌, [], ℕ, List, Option, Some, Ok, All};
+ghost use Rattle.asm_scan.specs.declared.scan.TheConstants.{LONGEST_LINE};
 ghost use Rattle.asm_scan.specs.Tokens.{Lexeme, doubled};
 ghost use Rattle.asm_scan.specs.Scanned.{scanned};
 ghost use Rattle.asm_line.specs.Forms.{form};
@@ -43,12 +44,12 @@ pub fn names()
     asm_parse::laws::parsed();
 }
 
-/// The names of a line have 255 bytes at most, and its data takes from 1 to 65,535.
+/// The names of a line have 255 bytes at most, as it has itself, and its data takes from 1 to 65,535.
 pub fn few()
     ensures names { (line : List ℕ) (tokens : List Lexeme) (found : Line) → scanned line ≡ Ok tokens → spelled tokens ≡ Ok found →
-        All (λ name. length name ≤ 255) (line_names found) }
+        All (λ name. length name ≤ LONGEST_LINE) (line_names found) }
     ensures targets { (line : List ℕ) (tokens : List Lexeme) (found : Line) → scanned line ≡ Ok tokens → spelled tokens ≡ Ok found →
-        All (λ name. length name ≤ 255) (line_targets found) }
+        All (λ name. length name ≤ LONGEST_LINE) (line_targets found) }
     ensures data { (line : List ℕ) (tokens : List Lexeme) (label : Option (List ℕ)) (body : Body) → scanned line ≡ Ok tokens →
         spelled tokens ≡ Ok (Statement label (Some body)) → IsFew body }
 {

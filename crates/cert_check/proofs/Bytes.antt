@@ -7,6 +7,7 @@ use Rattle.std.proofs.lemmas.Option.{slice_get_within, slice_get_past}
 use Rattle.std.proofs.lemmas.List.{drop-take, get_or_past, length-set, take_all, take-take}
 use Rattle.std.proofs.lemmas.List.Elements.{All-head, All-set, All-tail}
 use Rattle.std.proofs.lemmas.List.Sums.{sum_by-cons, sum_by-le, sum_by-take-drop, sum_by_more}
+use Rattle.certificate.specs.declared.limits.TheConstants.{MOST_BYTES, MOST_STATEMENTS}
 use Rattle.certificate.specs.declared.shape.Statement.{Statement}
 use Rattle.certificate.specs.declared.shape.Statement.TheVariants.{Jump}
 use Rattle.certificate.specs.Choice.{Choice, chosen, size_of, IsShape, size_at, bytes_before, IsJump, IsNear, IsShort, Reaches, total}
@@ -16,8 +17,8 @@ use Rattle.cert_check.specs.Private.Following.{IsLayout, IsSize}
 -- Sums of sizes.
 
 -- not too many of them are added up within a machine's number
-pub bytes_fit : (sizes : List ℕ) → All IsSize sizes → length sizes ≤ 20000 → sum sizes < 2 ^ 32
-bytes_fit sizes bytes few = let le = sum_by-le (λ x. x) 65535 sizes (λ k d lt. (bytes k d lt).1) in omega arith
+pub bytes_fit : (sizes : List ℕ) → All IsSize sizes → length sizes ≤ MOST_STATEMENTS → sum sizes < 2 ^ 32
+bytes_fit sizes bytes few = let le = sum_by-le (λ x. x) MOST_BYTES sizes (λ k d lt. (bytes k d lt).1) in omega arith
 
 at_least : (sizes : List ℕ) → All IsSize sizes → length sizes ≤ sum sizes
 at_least [] bytes = omega arith

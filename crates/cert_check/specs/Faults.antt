@@ -1,6 +1,6 @@
 use Rattle.std.specs.Prelude.{◌≡◌, ℕ, ◌+◌, ◌-◌, ◌<◌, ◌≤◌, ◌⊎◌, true, false, List, [], ◌∷◌, ◌++◌, length, slice_index, take, map}
 use Rattle.std.specs.List.{range_with_len}
-use Rattle.certificate.specs.declared.limits.TheConstants.{MAX_TOTAL}
+use Rattle.certificate.specs.declared.limits.TheConstants.{LONGEST_PROGRAM}
 use Rattle.certificate.specs.declared.shape.Statement.{Statement}
 use Rattle.certificate.specs.declared.cert.Verdict.{Verdict}
 use Rattle.certificate.specs.declared.cert.Verdict.TheVariants.{Best, Range, TooLarge}
@@ -30,9 +30,9 @@ pub record IsStillShort (c : Choice) (shape : List Statement) (k : ℕ) : Type 0
 
 -- the total is that of the verdict, and on the right side of the most bytes that there is room for
 abbrev pub HasTotal : ℕ → Verdict → Type 0
-HasTotal bytes (Best n) = (bytes ≡ n) × (bytes ≤ MAX_TOTAL)
+HasTotal bytes (Best n) = (bytes ≡ n) × (bytes ≤ LONGEST_PROGRAM)
 HasTotal bytes (Range k) = Unit {0}
-HasTotal bytes (TooLarge n) = (bytes ≡ n) × (MAX_TOTAL < bytes)
+HasTotal bytes (TooLarge n) = (bytes ≡ n) × (LONGEST_PROGRAM < bytes)
 
 -- what is so where there is a fault
 abbrev pub Stands : List Statement → List ℕ → Verdict → CheckFault → Type 0

@@ -1,6 +1,8 @@
 //! The bytes of statements, and which jumps reach their targets.
 
 ghost use Rattle.std.specs.Prelude.{◌≡◌, ◌<◌, ◌≤◌, ◌^◌, All, IfOk, MatchBool, length, slice_index, sum, take};
+ghost use Rattle.cert_check.specs.declared.layout.TheConstants.{MOST_AHEAD};
+ghost use Rattle.certificate.specs.declared.limits.TheConstants.{MOST_BYTES};
 ghost use Rattle.certificate.specs.Choice.{IsNear, IsShape, chosen, size_of, total};
 ghost use Rattle.cert_check.specs.Faults.{IsStillShort};
 ghost use Rattle.cert_check.specs.Private.Following.{IsFirstMiss, IsLayout, IsSize};
@@ -19,7 +21,7 @@ pub(crate) const LONG: u32 = 3;
 /// How many bytes a statement takes, as a long jump or not.
 fn size(statement: Statement, long: bool) -> u32
     ensures value { result ≡ size_of long statement }
-    ensures bound { result ≤ 65535 }
+    ensures bound { result ≤ MOST_BYTES }
 {
     match statement {
         Statement::Fixed(bytes) => u32::from(bytes),
@@ -56,7 +58,7 @@ pub(crate) fn total(sizes: &[u32]) -> u32
 /// Whether statements of these sizes take at most some bytes. Each takes one at least, so no more than that are added up.
 fn take_at_most(sizes: &[u32], limit: u32) -> bool
     requires bytes { All IsSize sizes.now }
-    requires limit { limit ≤ 20000 }
+    requires limit { limit ≤ MOST_AHEAD }
     ensures { MatchBool result (sum sizes.now ≤ limit) (limit < sum sizes.now) }
 {
     sizes.len() <= limit as usize && total(sizes) <= limit

@@ -7,7 +7,7 @@ ghost use Rattle.cert_check.specs.Private.Following.{IsJudged, IsLayout, IsTotal
 
 use crate::fault::CheckFault;
 use crate::layout::{first_miss, misses, total};
-use certificate::{MAX_TOTAL, Statement, Verdict};
+use certificate::{LONGEST_PROGRAM, Statement, Verdict};
 
 /// Whether a statement is a jump that is always short and does not reach its target.
 fn is_out_of_range(statements: &[Statement], long: &[bool], sizes: &[u32], k: usize) -> bool
@@ -27,7 +27,7 @@ fn check_total(sizes: &[u32], verdict: Verdict) -> Result<(), CheckFault>
     ensures { IsTotalChecked (sum sizes.now) verdict result }
 {
     let bytes = total(sizes);
-    let fits = bytes <= MAX_TOTAL;
+    let fits = bytes <= LONGEST_PROGRAM;
     match verdict {
         Verdict::Best(n) if bytes == n && fits => Ok(()),
         Verdict::TooLarge(n) if bytes == n && !fits => Ok(()),

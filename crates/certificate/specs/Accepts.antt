@@ -1,5 +1,5 @@
 use Rattle.std.specs.Prelude.{◌≡◌, ℕ, ◌<◌, List}
-use Rattle.certificate.specs.declared.limits.TheConstants.{MAX_TOTAL}
+use Rattle.certificate.specs.declared.limits.TheConstants.{LONGEST_PROGRAM}
 use Rattle.certificate.specs.Types.{Statement, Verdict}
 use Rattle.certificate.specs.declared.cert.Verdict.TheVariants.{Best, Range, TooLarge}
 use Rattle.certificate.specs.Choice.{Choice, IsShape, IsShort, Reaches, IsValid, IsBest, total}
@@ -18,7 +18,7 @@ pub record IsOutOfRange (c : Choice) (shape : List Statement) (k : ℕ) : Type 0
 abbrev pub Shows : Choice → List Statement → Verdict → Type 0
 Shows c shape (Best n) = IsValid c shape × (total c shape ≡ n)
 Shows c shape (Range k) = IsOutOfRange c shape k
-Shows c shape (TooLarge n) = (total c shape ≡ n) × (MAX_TOTAL < n)
+Shows c shape (TooLarge n) = (total c shape ≡ n) × (LONGEST_PROGRAM < n)
 
 -- The texts spell a shape, and a forcing order of it with this verdict, which holds of the choice after that order. The
 -- order need not be least-first.

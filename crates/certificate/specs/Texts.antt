@@ -1,6 +1,6 @@
 use Rattle.std.specs.Prelude.{◌≡◌, ℕ, ◌+◌, ◌^◌, ◌<◌, ◌≤◌, ◌⊎◌, All, List, [], ◌∷◌, ◌++◌, length, map, codes, decimal, slice_index, slice_get, Some, Result, Ok, Err}
 use Rattle.std.specs.Str.Parse.{IsNumeral, digits_value}
-use Rattle.certificate.specs.declared.limits.TheConstants.{MAX_STATEMENTS}
+use Rattle.certificate.specs.declared.limits.TheConstants.{MOST_BYTES, MOST_STATEMENTS}
 use Rattle.certificate.specs.Types.{Statement, Verdict, Cert, TextFault}
 use Rattle.certificate.specs.declared.shape.Statement.TheVariants.{Fixed, Jump, Short}
 use Rattle.certificate.specs.declared.cert.Verdict.TheVariants.{Best, Range, TooLarge}
@@ -88,7 +88,7 @@ answered (Err fault) = Err fault
 
 -- the line of a statement of a fixed size
 abbrev pub IsFixedLine : List ℕ → Type 0
-IsFixedLine line = (n : ℕ) × (1 ≤ n) × (n ≤ 65535) × (line ≡ statement_line (Fixed n))
+IsFixedLine line = (n : ℕ) × (1 ≤ n) × (n ≤ MOST_BYTES) × (line ≡ statement_line (Fixed n))
 
 -- a decimal number of any size: digits, of which the first is no 0 unless it stands alone
 pub record IsNumber (digits : List ℕ) : Type 0 where
@@ -112,7 +112,7 @@ IsStatementLine line = IsFixedLine line ⊎ ((target : ℕ) × IsAnyJumpLine lin
 -- The grammar of a sizes text, but for how great a target may be. That depends on the count of statements, so targets
 -- are judged where the whole text has kept this grammar.
 abbrev pub AreSizesLines : List (List ℕ) → Type 0
-AreSizesLines = AreFramed sizes_header IsStatementLine (λ line. line ≡ end_line) (λ count. count ≤ MAX_STATEMENTS)
+AreSizesLines = AreFramed sizes_header IsStatementLine (λ line. line ≡ end_line) (λ count. count ≤ MOST_STATEMENTS)
 
 -- the line of a jump to what is no statement and not the end
 abbrev pub IsFarLine : ℕ → List ℕ → Type 0

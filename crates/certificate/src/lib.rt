@@ -16,6 +16,6 @@ mod sizes;
 
 pub use cert::{Cert, Verdict, print_cert, read_cert};
 pub use fault::TextFault;
-pub use limits::{FIRST_PLACE, MAX_STATEMENTS, MAX_TOTAL};
+pub use limits::{FIRST_PLACE, LONGEST_PROGRAM, MOST_BYTES, MOST_STATEMENTS};
 pub use shape::{Shape, Statement};
 pub use sizes::{print_sizes, read_sizes};

@@ -4,7 +4,10 @@
 pub const FIRST_PLACE: u32 = 0x100;
 
 /// The most statements of a program.
-pub const MAX_STATEMENTS: usize = 20_000;
+pub const MOST_STATEMENTS: usize = 20_000;
+
+/// The most bytes of a statement.
+pub const MOST_BYTES: u32 = 65_535;
 
 /// The most bytes of a program, from 0100H to FCFFH.
-pub const MAX_TOTAL: u32 = 64_512;
+pub const LONGEST_PROGRAM: u32 = 64_512;

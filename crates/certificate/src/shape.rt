@@ -1,6 +1,6 @@
 //! What the sizes of a program depend on.
 
-use crate::limits::MAX_STATEMENTS;
+use crate::limits::MOST_STATEMENTS;
 use std::marker::Model;
 
 /// One statement of a program, as far as sizes go. Targets are numbers of statements, counted from 0; the count of all
@@ -78,7 +78,7 @@ impl Shape {
         ensures { IsTrue result ↔ IsShape statements.now }
     {
         let count = statements.len();
-        count <= MAX_STATEMENTS && statements.iter().all(|s| s.is_within(count))
+        count <= MOST_STATEMENTS && statements.iter().all(|s| s.is_within(count))
     }
 
     /// The statements.

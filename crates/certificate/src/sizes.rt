@@ -1,12 +1,13 @@
 //! The sizes text.
 
 ghost use Rattle.std.specs.Prelude.{◌≡◌, ◌≢◌, ◌⊎◌, ◌≤◌, ℕ, List, Result, Ok, IfOk, MatchBool, MatchOption};
+ghost use Rattle.certificate.specs.declared.limits.TheConstants.{MOST_BYTES};
 ghost use Rattle.certificate.specs.Types.{Statement, TextFault};
 ghost use Rattle.certificate.specs.Texts.{OrNoMemory, ReadsSizes, end_line};
 ghost use Rattle.certificate.specs.Private.Reading.{AreLinesRead, IsFirstFar, IsStatementRead};
 
 use crate::fault::TextFault;
-use crate::limits::MAX_STATEMENTS;
+use crate::limits::MOST_STATEMENTS;
 use crate::lines::{behind, first_line, numbered, push_line, target};
 use crate::shape::{Shape, Statement};
 use std::alloc::{AllocError, Global};
@@ -40,7 +41,7 @@ fn statement(line: &[u8]) -> Option<Statement>
 
 /// A statement of this size, where there may be one.
 fn fixed(size: u32) -> Option<Statement>
-    ensures { MatchOption result ((1 ≤ size) → (size ≤ 65535) → ⊥) (λ s. (1 ≤ size) × (size ≤ 65535) × (s ≡ Statement.Fixed size)) }
+    ensures { MatchOption result ((1 ≤ size) → (size ≤ MOST_BYTES) → ⊥) (λ s. (1 ≤ size) × (size ≤ MOST_BYTES) × (s ≡ Statement.Fixed size)) }
 {
     let size = u16::try_from(size).ok()?;
     if size == 0 {
@@ -72,7 +73,7 @@ fn statements_of(alloc: Global, text: &[u8]) -> Result<Vec<Statement>, TextFault
             }
             return Ok(statements);
         }
-        if statements.len() == MAX_STATEMENTS {
+        if statements.len() == MOST_STATEMENTS {
             return Err(TextFault::BadLine(number));
         }
         let Some(found) = statement(line) else {

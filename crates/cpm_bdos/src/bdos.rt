@@ -29,13 +29,14 @@ pub struct Bdos<S: Sectors, C: Console> {
 
 impl<S: Sectors, C: Console> Model for Bdos<S, C> {
     ghost use Rattle.std.specs.Prelude.{◌<◌};
+    ghost use Rattle.cpm_directory.specs.declared.entry.TheConstants.{USERS};
     ghost use Rattle.cpm_bdos.specs.System.{System};
 
     ghost Value = { System S C };
 
     ghost view = { λ b. record { disk = b.disk; terminal = b.terminal; dma = b.dma; user = b.user; search = b.search } };
 
-    ghost invariant = { λ b. b.user < 32 };
+    ghost invariant = { λ b. b.user < USERS };
 }
 
 impl<S: Sectors, C: Console> Bdos<S, C> {

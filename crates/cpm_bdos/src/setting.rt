@@ -1,6 +1,7 @@
 //! The calls that ask neither console nor disk.
 
 ghost use Rattle.std.specs.Prelude.{◌≡◌, ◌<◌, IfOk};
+ghost use Rattle.cpm_directory.specs.declared.entry.TheConstants.{USERS};
 ghost use Rattle.cpm_bdos.specs.Settings.{set_by, user_set};
 
 use crate::function::SettingCall;
@@ -32,9 +33,9 @@ pub struct Settings {
 ///
 /// [`Stop::UnknownDrive`] where another drive than A is selected.
 pub(crate) fn set_by(call: SettingCall, argument: u16, dma: u16, user: u8) -> Result<Settings, Stop>
-    requires { user < 32 }
+    requires { user < USERS }
     ensures settings { result ≡ set_by call argument dma user }
-    ensures user { IfOk result (λ s. s.user < 32) }
+    ensures user { IfOk result (λ s. s.user < USERS) }
 {
     let byte = (argument % 256) as u8;
     let kept = Settings {
@@ -73,9 +74,9 @@ pub(crate) fn set_by(call: SettingCall, argument: u16, dma: u16, user: u8) -> Re
 
 /// FFH asks for the user, any other byte sets it modulo 32.
 fn user_set(byte: u8, dma: u16, user: u8) -> Settings
-    requires { user < 32 }
+    requires { user < USERS }
     ensures settings { result ≡ user_set byte dma user }
-    ensures user { result.user < 32 }
+    ensures user { result.user < USERS }
 {
     if byte == ASK {
         Settings {

@@ -10,13 +10,14 @@ use Rattle.cpm_directory.specs.Entries.{at, is_extent, is_of}
 use Rattle.cpm_directory.specs.Letters.{letters}
 use Rattle.std.proofs.lemmas.Bool.{eq-eqb, ltb-true}
 use Rattle.std.proofs.lemmas.Slice.Eq.{bytes_eq-Decides}
+use Rattle.cpm_directory.specs.declared.entry.TheConstants.{USERS}
 use Rattle.cpm_directory.proofs.Names.{true_both}
 use Rattle.cpm_directory.specs.Private.Files.{AreInOrder, file_of, files_of}
 use Rattle.cpm_directory.specs.Searches.{IsListing, is_file, listed_of}
 
 -- a file of users 0 to 31
 record IsFileOf (entries : List Entry) (f : File) : Type 0 where
-  user : f.user < 32
+  user : f.user < USERS
   is : is_file f.user f.name entries ≡ true
 
 kept_by : (e : Entry) (es : List Entry) (x : File) (b : Bool) → Contains (files_of es) x → Contains (map file_of (cond b (e ∷ filter is_extent es) (filter is_extent es))) x
@@ -52,7 +53,7 @@ said entries f = listed_of f.user f.name entries
 
 pub listing : (entries : List Entry) (sorted : List File) → AreInOrder (files_of entries) sorted → IsListing entries (map (said entries) sorted)
 listing entries sorted are = record {
-  each = All-map (λ l. (l.user < 32) × (is_file l.user l.name entries ≡ true) × (l ≡ listed_of l.user l.name entries)) (said entries) sorted (λ k d h.
+  each = All-map (λ l. (l.user < USERS) × (is_file l.user l.name entries ≡ true) × (l ≡ listed_of l.user l.name entries)) (said entries) sorted (λ k d h.
       let f = get_or sorted k d in
       let is = All-contains (IsFileOf entries) (files_of entries) f (are_files entries entries (All-contains_itself entries)) (are.each f (Contains-get_or sorted k d h)) in
       (is.user, is.is, refl));

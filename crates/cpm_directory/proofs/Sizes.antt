@@ -3,6 +3,7 @@ use Rattle.std.proofs.Common.{◌≡◌, ◌<◌, ◌≤◌, ◌==◌, ℕ, suc,
 use Rattle.std.specs.Prelude.{max, fold, filter}
 use Rattle.std.specs.List.{list_any, reduce}
 use Rattle.std.proofs.Math.Nat.{zero-max}
+use Rattle.cpm_directory.specs.declared.entry.TheConstants.{USERS}
 use Rattle.cpm_directory.specs.Types.{Entry}
 use Rattle.cpm_directory.specs.Entries.{at, blank, is_of, record_end}
 use Rattle.cpm_directory.specs.Rules.{IsGood, IsSound}
@@ -39,7 +40,7 @@ counted_below : (kind : DiskKind) (e : Entry) → IsGood kind e → record_end e
 counted_below EightInch e good = omega (arith, good.0, good.1, good.2)
 counted_below Megabyte e good = omega (arith, good.0, good.1, good.2)
 
-pub size_most : (kind : DiskKind) (user : ℕ) (name : List ℕ) (entries : List Entry) → user < 32 → IsSound kind entries → IfSome (size user name entries) (λ n. n ≤ file_records kind)
+pub size_most : (kind : DiskKind) (user : ℕ) (name : List ℕ) (entries : List Entry) → user < USERS → IsSound kind entries → IfSome (size user name entries) (λ n. n ≤ file_records kind)
 size_most kind user name entries low sound = elim (is_file user name entries) as (λ b. IfSome (if b then Some (fold max 0 (map record_end (filter (is_of user name) entries))) else None) (λ n. n ≤ file_records kind)) [
   | true ↦ most (is_of user name) record_end entries blank 0 (file_records kind) (omega arith) (λ k below of.
       let user_is = eqb-true (at entries k).user user (both_true ((at entries k).user == user) _ of).0 in

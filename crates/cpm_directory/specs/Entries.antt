@@ -2,6 +2,7 @@
 -- (CP/M 2.2 Interface Guide, file control blocks; Alteration Guide, the directory.)
 use Rattle.std.specs.Prelude.{ℕ, ◌+◌, ◌*◌, ◌/◌, ◌%◌, ◌==◌, Bool, ◌&&◌, ◌||◌, not, List, [], ◌∷◌, ◌++◌, take, drop, replicate, slice_index, slice_index_or, slice_set, nat_lt, nat_le, max}
 use Rattle.std.specs.Str.{bytes_eq}
+use Rattle.cpm_directory.specs.declared.entry.TheConstants.{USERS}
 use Rattle.cpm_image.specs.declared.kind.DiskKind.{DiskKind}
 use Rattle.cpm_image.specs.declared.kind.DiskKind.TheVariants.{EightInch, Megabyte}
 use Rattle.cpm_image.specs.Kind.{block_records}
@@ -34,7 +35,7 @@ at entries k = slice_index_or entries k blank
 
 -- users 0 to 31 have extents of files. E5H is free; any other byte is foreign, and names no file
 abbrev pub is_extent : Entry → Bool
-is_extent e = nat_lt e.user 32
+is_extent e = nat_lt e.user USERS
 
 abbrev pub is_free : Entry → Bool
 is_free e = e.user == 0xE5

@@ -1,5 +1,6 @@
 -- The rules that a directory keeps, and the first fault of one that does not.
 use Rattle.std.specs.Prelude.{◌≡◌, ◌<◌, ◌≤◌, ◌⊎◌, ℕ, ◌%◌, true, List, length, take, Result, Ok, Err, ⊤}
+use Rattle.cpm_directory.specs.declared.rules.TheConstants.{LAST_EXTENT, MOST_RECORDS}
 use Rattle.cpm_directory.specs.Types.{Entry, DiskFault}
 use Rattle.cpm_image.specs.Kind.{block_count, first_block, last_high}
 use Rattle.cpm_image.specs.declared.kind.DiskKind.{DiskKind}
@@ -7,9 +8,9 @@ use Rattle.cpm_directory.specs.declared.fault.DiskFault.TheVariants as fault
 use Rattle.cpm_directory.specs.Entries.{at, is_extent, block, extent_number}
 use Rattle.cpm_directory.specs.Letters.{letters}
 
--- at most 128 records, EX up to 31, and the low six bits of S2 up to the kind's greatest
+-- the records of an extent at most, EX up to its greatest, and the low six bits of S2 up to the kind's greatest
 abbrev pub IsGood : DiskKind → Entry → Type 0
-IsGood kind e = (e.records ≤ 128) × (e.extent ≤ 31) × (e.s2 % 64 ≤ last_high kind)
+IsGood kind e = (e.records ≤ MOST_RECORDS) × (e.extent ≤ LAST_EXTENT) × (e.s2 % 64 ≤ last_high kind)
 
 -- a block of files, or 0 for none. The blocks before those of files are the directory
 abbrev pub IsBlock : DiskKind → ℕ → Type 0

@@ -4,6 +4,7 @@ use Rattle.std.specs.List.{list_any, range_with_len}
 use Rattle.std.specs.Cmp.Lexicographic.{slice_cmp}
 use Rattle.std.specs.Ordering.{nat_cmp}
 use Rattle.std.specs.declared.cmp.Ordering.TheVariants.{Less}
+use Rattle.cpm_directory.specs.declared.entry.TheConstants.{USERS}
 use Rattle.cpm_image.specs.Kind.{block_count, first_block}
 use Rattle.cpm_image.specs.declared.kind.DiskKind.{DiskKind}
 use Rattle.cpm_directory.specs.Types.{Entry, Pattern, Listed}
@@ -59,7 +60,7 @@ ComesBefore user name other_user other_name = (user < other_user) ⊎ ((user ≡
 
 -- The files of a directory, each once, by user and then by name.
 pub record IsListing (entries : List Entry) (listed : List Listed) : Type 0 where
-  pub each : All (λ l. (l.user < 32) × (is_file l.user l.name entries ≡ true) × (l ≡ listed_of l.user l.name entries)) listed
+  pub each : All (λ l. (l.user < USERS) × (is_file l.user l.name entries ≡ true) × (l ≡ listed_of l.user l.name entries)) listed
   pub every : (k : ℕ) → is_extent (at entries k) ≡ true → Any (λ l. (l.user ≡ (at entries k).user) × (l.name ≡ letters (at entries k).name)) listed
   pub ordered : (i j : ℕ) (d : Listed) → i < j → j < length listed →
       ComesBefore (slice_index_or listed i d).user (slice_index_or listed i d).name (slice_index_or listed j d).user (slice_index_or listed j d).name

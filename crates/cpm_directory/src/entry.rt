@@ -31,7 +31,7 @@ pub struct Entry {
 /// The user byte of an entry that is free.
 const FREE: u8 = 0xE5;
 /// How many users have files.
-const USERS: u8 = 32;
+pub const USERS: u8 = 32;
 /// The byte of a pattern that matches whatever stands there, `?`.
 const WILD: u8 = 0x3F;
 /// S2 counts in its low six bits.

@@ -14,12 +14,12 @@ mod rules;
 mod searches;
 
 pub use blocks::free_block;
-pub use entry::Entry;
+pub use entry::{Entry, USERS};
 pub use fault::DiskFault;
 pub use listing::{Listed, list};
 pub use name::Name;
 pub use pattern::Pattern;
-pub use rules::judge;
+pub use rules::{LAST_EXTENT, MOST_RECORDS, judge};
 pub use searches::{
     file_is_read_only, file_is_system, find, free_entry, is_file, position_of, size,
 };

@@ -10,9 +10,9 @@ use crate::{DiskFault, Entry, Name};
 use cpm_image::DiskKind;
 
 /// The most records of an extent.
-const MOST_RECORDS: u8 = 128;
+pub const MOST_RECORDS: u8 = 128;
 /// The greatest EX.
-const LAST_EXTENT: u8 = 31;
+pub const LAST_EXTENT: u8 = 31;
 /// S2 counts in its low six bits.
 const COUNTS: u8 = 64;
 

@@ -1,6 +1,7 @@
 //! What is looked for in a directory.
 
 ghost use Rattle.std.specs.Prelude.{◌≡◌, ◌<◌, ◌≤◌, IfSome, length, position};
+ghost use Rattle.cpm_directory.specs.declared.entry.TheConstants.{USERS};
 ghost use Rattle.cpm_image.specs.Kind.{file_records};
 ghost use Rattle.cpm_image.specs.declared.kind.DiskKind.{DiskKind};
 ghost use Rattle.cpm_directory.specs.Entries.{is_exact_match, is_extent_of};
@@ -93,7 +94,7 @@ pub fn find(entries: &[Entry], user: u8, pattern: &Pattern, from: u16) -> Option
 /// How many records a file has up to its last, written or not. `None` where there is no such file.
 pub fn size(entries: &[Entry], user: u8, name: &Name) -> Option<u32>
     ensures size { result ≡ size user name.now entries.now }
-    ensures most { (kind : DiskKind) → user < 32 → IsSound kind entries.now → IfSome result (λ n. n ≤ file_records kind) }
+    ensures most { (kind : DiskKind) → user < USERS → IsSound kind entries.now → IfSome result (λ n. n ≤ file_records kind) }
 {
     entries
         .iter()

@@ -7,6 +7,7 @@ use Rattle.cpm_operations.proofs.RecordPlaces.{place_within}
 use Rattle.cpm_directory.proofs.Words.{new_block}
 use Rattle.std.proofs.lemmas.Bool.{and_from, and_parts, cases_Bool, cases_eq, cases_lt, lt-leb, not-false}
 use Rattle.std.specs.List.{list_any}
+use Rattle.cpm_directory.specs.declared.entry.TheConstants.{USERS}
 use Rattle.cpm_directory.specs.declared.entry.Entry.{Entry}
 use Rattle.cpm_directory.specs.Entries.{block_numbers, extent_number, place_in_block, at, blank, block, erased, is_extent, is_extent_of, is_match, is_of, is_read_only, is_system, new_extent, place_on_disk, renamed}
 use Rattle.cpm_directory.specs.Letters.{letters, name_matches, with_letters}
@@ -39,7 +40,7 @@ find_none p [] none = refl
 find_none p (x ∷ xs) none = ap (λ b. if b then Some x else find p xs) (none 0 (omega arith)) ∙ find_none p xs (λ j low. none (suc j) (omega arith))
 
 -- a file's extent of a directory that keeps the rules is found at its entry
-pub extent_found : (kind : DiskKind) (entries : List Entry) (user : ℕ) (name : List ℕ) (number k : ℕ) → user < 32 → IsSound kind entries → k < length entries → is_extent_of user name number (at entries k) ≡ true → find (is_extent_of user name number) entries ≡ Some (at entries k)
+pub extent_found : (kind : DiskKind) (entries : List Entry) (user : ℕ) (name : List ℕ) (number k : ℕ) → user < USERS → IsSound kind entries → k < length entries → is_extent_of user name number (at entries k) ≡ true → find (is_extent_of user name number) entries ≡ Some (at entries k)
 extent_found kind entries user name number k low sound below is = find_unique (is_extent_of user name number) entries k below is (λ j _ too.
     let one = and_parts (is_of user name (at entries k)) (extent_number (at entries k) == number) is in
     let two = and_parts (is_of user name (at entries j)) (extent_number (at entries j) == number) too in
@@ -49,7 +50,7 @@ extent_found kind entries user name number k low sound below is = find_unique (i
     (b.0 ∙ sym a.0, b.1 ∙ sym a.1, eqb-true (extent_number (at entries j)) number two.1 ∙ sym (eqb-true (extent_number (at entries k)) number one.1)))
 
 -- a new file
-pub new_file : (kind : DiskKind) (image : Image) (entries : List Entry) (user : ℕ) (name : List ℕ) (k : ℕ) → user < 32 → letters name ≡ name → k < length entries → is_file user name entries ≡ false → directory kind image ≡ slice_set entries k (new_extent user name 0) → IsSound kind (directory kind image) → IsNewFile kind image user name
+pub new_file : (kind : DiskKind) (image : Image) (entries : List Entry) (user : ℕ) (name : List ℕ) (k : ℕ) → user < USERS → letters name ≡ name → k < length entries → is_file user name entries ≡ false → directory kind image ≡ slice_set entries k (new_extent user name 0) → IsSound kind (directory kind image) → IsNewFile kind image user name
 new_file kind image entries user name k low seven below none is sound = record {
   first = ap (option_map (λ e. e.records)) found;
   records = λ i. ap (option_and_then (in_block kind image i)) found ∙ ap (λ b. if b == 0 then None else Some (disk_record kind image (place_on_disk kind e i))) (new_block kind user 0 (i / block_records kind) name);
@@ -88,7 +89,7 @@ new_file kind image entries user name k low seven below none is sound = record {
     ]
 
 -- no entry of a file that matched is left
-pub erased_file : (kind : DiskKind) (image : Image) (entries : List Entry) (user : ℕ) (pattern : List ℕ) (name : List ℕ) → user < 32 → name_matches pattern name ≡ true → directory kind image ≡ after_erasure user pattern entries → IsNoFile kind image user name
+pub erased_file : (kind : DiskKind) (image : Image) (entries : List Entry) (user : ℕ) (pattern : List ℕ) (name : List ℕ) → user < USERS → name_matches pattern name ≡ true → directory kind image ≡ after_erasure user pattern entries → IsNoFile kind image user name
 erased_file kind image entries user pattern name low matches is number = find_none (is_extent_of user name number) (directory kind image) (λ j _.
     let gone : is_of user name (at (directory kind image) j) ≡ false = subst (λ x. is_of user name x ≡ false) (sym (ap (λ es. at es j) is ∙ at_erasure user pattern entries j low)) (not_of (at entries j)) in
     ap (λ b. b && (extent_number (at (directory kind image) j) == number)) gone)
@@ -142,12 +143,12 @@ renamed_test user from to q r e long seven not_to kept = elim (cases_Bool (is_of
 ]
 
 -- a block that an entry of a directory names, but 0, is one of files
-pub range_of : (kind : DiskKind) (entries : List Entry) (k : ℕ) (e : Entry) → IsSound kind entries → e ≡ at entries k → e.user < 32 → (group : ℕ) → (block kind e group ≡ 0 → ⊥) → (first_block kind ≤ block kind e group) × (block kind e group < block_count kind)
+pub range_of : (kind : DiskKind) (entries : List Entry) (k : ℕ) (e : Entry) → IsSound kind entries → e ≡ at entries k → e.user < USERS → (group : ℕ) → (block kind e group ≡ 0 → ⊥) → (first_block kind ≤ block kind e group) × (block kind e group < block_count kind)
 range_of kind entries k e sound is_at low group some =
     let ext = subst (λ x. is_extent x ≡ true) is_at (below_extent e low) in
     elim (subst (λ x. IsBlock kind (block kind x group)) (sym is_at) (sound.blocks k ext group)) as (λ _. (first_block kind ≤ block kind e group) × (block kind e group < block_count kind)) [ inl none ↦ absurd (some none) | inr files ↦ files ]
 
-pub moved_file : (kind : DiskKind) (old new : Image) (user : ℕ) (from to : List ℕ) → user < 32 → length from ≡ length to → letters to ≡ to → (from ≡ to → ⊥) → IsSound kind (directory kind old) → is_file user to (directory kind old) ≡ false → directory kind new ≡ after_renaming user from to (directory kind old) → SameBut kind (IsOfDirectory kind) old new → IsMoved kind old new user from to
+pub moved_file : (kind : DiskKind) (old new : Image) (user : ℕ) (from to : List ℕ) → user < USERS → length from ≡ length to → letters to ≡ to → (from ≡ to → ⊥) → IsSound kind (directory kind old) → is_file user to (directory kind old) ≡ false → directory kind new ≡ after_renaming user from to (directory kind old) → SameBut kind (IsOfDirectory kind) old new → IsMoved kind old new user from to
 moved_file kind old new user from to low long seven apart sound none is rest = record {
   counts = λ number. ap (option_map (λ e. e.records)) (found number) ∙ same_count (find (is_extent_of user from number) (directory kind old));
   records = λ number i below. ap (option_and_then (in_block kind new i)) (found number) ∙ same_bytes number i below (find (is_extent_of user from number) (directory kind old)) refl;
@@ -201,14 +202,14 @@ moved_file kind old new user from to low long seven apart sound none is rest = r
     ]
 
 -- a call that made a file
-pub made_file : (kind : DiskKind) (old new : Image) (user : ℕ) (name : List ℕ) (put : ℕ × Entry) → user < 32 → letters name ≡ name → IsPut kind (directory kind old) put → creation user name (directory kind old) ≡ Ok put → Changed kind old new (slice_set (directory kind old) put.0 put.1) → IsNewFile kind new user name
+pub made_file : (kind : DiskKind) (old new : Image) (user : ℕ) (name : List ℕ) (put : ℕ × Entry) → user < USERS → letters name ≡ name → IsPut kind (directory kind old) put → creation user name (directory kind old) ≡ Ok put → Changed kind old new (slice_set (directory kind old) put.0 put.1) → IsNewFile kind new user name
 made_file kind old new user name put low seven is_put asked made =
     let (none, is_1) = unless_ok (is_file user name (directory kind old)) fault.Exists (given (free_entry (directory kind old)) fault.DirectoryFull >>= λ k. Ok (k, new_extent user name 0)) put asked in
     new_file kind new (directory kind old) user name put.0 low seven is_put.within none (made.entries_are ∙ ap (slice_set (directory kind old) put.0) (created_entry user name (directory kind old) put asked))
     (is_put.sound (directory kind new) (λ k. inr (ap (λ es. at es k) made.entries_are)))
 
 -- a call that moved one
-pub renamed_file : (kind : DiskKind) (old new : Image) (user : ℕ) (from to : List ℕ) → user < 32 → length from ≡ length to → letters to ≡ to → IsSound kind (directory kind old) → renaming user from to (directory kind old) ≡ Ok tt → Changed kind old new (after_renaming user from to (directory kind old)) → IsMoved kind old new user from to
+pub renamed_file : (kind : DiskKind) (old new : Image) (user : ℕ) (from to : List ℕ) → user < USERS → length from ≡ length to → letters to ≡ to → IsSound kind (directory kind old) → renaming user from to (directory kind old) ≡ Ok tt → Changed kind old new (after_renaming user from to (directory kind old)) → IsMoved kind old new user from to
 renamed_file kind old new user from to low long seven sound asked made =
     let (there, is_1) = unless_ok (not (is_file user from (directory kind old))) fault.NotFound (unless (is_file user to (directory kind old)) fault.Exists (unless (file_is_read_only user from (directory kind old)) fault.ReadOnly (Ok tt))) tt asked in
     let (none, is_2) = unless_ok (is_file user to (directory kind old)) fault.Exists (unless (file_is_read_only user from (directory kind old)) fault.ReadOnly (Ok tt)) tt is_1 in

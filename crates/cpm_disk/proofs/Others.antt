@@ -5,6 +5,7 @@ use Rattle.cpm_image.specs.declared.kind.DiskKind.{DiskKind}
 use Rattle.cpm_disk.proofs.Numbers.{outside_directory, same_block}
 use Rattle.cpm_operations.proofs.RecordPlaces.{place_within}
 use Rattle.std.proofs.lemmas.Bool.{and_parts, cases_Bool, cases_eq}
+use Rattle.cpm_directory.specs.declared.entry.TheConstants.{USERS}
 use Rattle.cpm_directory.specs.declared.entry.Entry.{Entry}
 use Rattle.cpm_directory.specs.Entries.{at, blank, block, erased, is_free, is_match, is_of, new_extent, place_on_disk, renamed}
 use Rattle.cpm_directory.specs.Letters.{byte_matches, letters, name_matches}
@@ -24,7 +25,7 @@ use Rattle.cpm_disk.proofs.StillMounted.{write_between}
 use Rattle.cpm_disk.proofs.Files.{Alike, same_file}
 
 -- a call that changes the directory alone, in no entry of the file
-pub beside : (kind : DiskKind) (old new : Image) (entries : List Entry) (user : ℕ) (name : List ℕ) → user < 32 → IsSound kind (directory kind old) → PartlyChanged kind old new entries
+pub beside : (kind : DiskKind) (old new : Image) (entries : List Entry) (user : ℕ) (name : List ℕ) → user < USERS → IsSound kind (directory kind old) → PartlyChanged kind old new entries
     → ((k : ℕ) → k < entry_count kind → Alike (is_of user name) (at (directory kind old) k) (at entries k)) → SameFile kind old new user name
 beside kind old new entries user name low sound left alike = same_file kind old new user name
     (λ k below. elim (left.between k) as (λ _. Alike (is_of user name) (at (directory kind old) k) (at (directory kind new) k)) [
@@ -41,7 +42,7 @@ pub whole_change : (kind : DiskKind) (old new : Image) (entries : List Entry) �
 whole_change kind old new entries made = record { between = λ k. inr (ap (λ es. at es k) made.entries_are); rest = made.rest }
 
 -- an entry of another file, or of none, is not of the file
-pub not_free : (user : ℕ) (name : List ℕ) (e : Entry) → user < 32 → is_free e ≡ true → is_of user name e ≡ false
+pub not_free : (user : ℕ) (name : List ℕ) (e : Entry) → user < USERS → is_free e ≡ true → is_of user name e ≡ false
 not_free user name e low free = elim (cases_Bool (is_of user name e)) as (λ _. is_of user name e ≡ false) [
   | inl of ↦ (let user_is = (of_file user name e of).0 in let free_is = eqb-true e.user 0xE5 free in absurd (omega arith))
   | inr not_of ↦ not_of
@@ -63,7 +64,7 @@ put_alike entries number e user name within before after k = elim (cases_eq k nu
   | inr other ↦ inl (get_or-set_other entries number k e blank other)
 ]
 
-pub over_free : (kind : DiskKind) (entries : List Entry) (put : ℕ × Entry) (user : ℕ) (name : List ℕ) (other : ℕ) (others : List ℕ) → other < 32 → IsPut kind entries put → is_of user name put.1 ≡ true → ((other ≡ user) → (others ≡ name) → ⊥) → (k : ℕ) → Alike (is_of other others) (at entries k) (at (slice_set entries put.0 put.1) k)
+pub over_free : (kind : DiskKind) (entries : List Entry) (put : ℕ × Entry) (user : ℕ) (name : List ℕ) (other : ℕ) (others : List ℕ) → other < USERS → IsPut kind entries put → is_of user name put.1 ≡ true → ((other ≡ user) → (others ≡ name) → ⊥) → (k : ℕ) → Alike (is_of other others) (at entries k) (at (slice_set entries put.0 put.1) k)
 over_free kind entries put user name other others low is_put of apart = put_alike entries put.0 put.1 other others is_put.within (not_free other others (at entries put.0) low is_put.free) (apart_from user name other others put.1 of apart)
 
 -- entries that match a pattern are erased
@@ -75,7 +76,7 @@ matches_letters (p ∷ pattern) (b ∷ name) =
     let byte : b % 128 % 128 ≡ b % 128 = omega arith in
     ap (λ n. ((p == 0x3F) || (p % 128 == n)) && name_matches pattern (letters name)) byte ∙ ap (λ m. byte_matches p b && m) (matches_letters pattern name)
 
-pub erased_alike : (entries : List Entry) (user : ℕ) (pattern : List ℕ) (other : ℕ) (others : List ℕ) → user < 32 → other < 32 → ((other ≡ user) → (name_matches pattern others ≡ true) → ⊥) → (k : ℕ) → Alike (is_of other others) (at entries k) (at (after_erasure user pattern entries) k)
+pub erased_alike : (entries : List Entry) (user : ℕ) (pattern : List ℕ) (other : ℕ) (others : List ℕ) → user < USERS → other < USERS → ((other ≡ user) → (name_matches pattern others ≡ true) → ⊥) → (k : ℕ) → Alike (is_of other others) (at entries k) (at (after_erasure user pattern entries) k)
 erased_alike entries user pattern other others low low_other apart k =
     let after : at (after_erasure user pattern entries) k ≡ erased_by user pattern (at entries k) = at_erasure user pattern entries k low in
     elim (cases_Bool (is_match user pattern (at entries k))) as (λ _. Alike (is_of other others) (at entries k) (at (after_erasure user pattern entries) k)) [
@@ -95,7 +96,7 @@ erased_alike entries user pattern other others low low_other apart k =
       | inr kept ↦ inl (after ∙ ap (λ b. if b then erased (at entries k) else at entries k) kept)
     ]
 
-pub renamed_alike : (entries : List Entry) (user : ℕ) (old new : List ℕ) (other : ℕ) (others : List ℕ) → user < 32 → other < 32 → length old ≡ length new → letters new ≡ new → ((other ≡ user) → (others ≡ old) → ⊥) → ((other ≡ user) → (others ≡ new) → ⊥) → (k : ℕ) → Alike (is_of other others) (at entries k) (at (after_renaming user old new entries) k)
+pub renamed_alike : (entries : List Entry) (user : ℕ) (old new : List ℕ) (other : ℕ) (others : List ℕ) → user < USERS → other < USERS → length old ≡ length new → letters new ≡ new → ((other ≡ user) → (others ≡ old) → ⊥) → ((other ≡ user) → (others ≡ new) → ⊥) → (k : ℕ) → Alike (is_of other others) (at entries k) (at (after_renaming user old new entries) k)
 renamed_alike entries user old new other others low low_other long seven apart_old apart_new k =
     let after : at (after_renaming user old new entries) k ≡ renamed_by user old new (at entries k) = at_renaming user old new entries k low in
     elim (cases_Bool (is_of user old (at entries k))) as (λ _. Alike (is_of other others) (at entries k) (at (after_renaming user old new entries) k)) [
@@ -116,7 +117,7 @@ untouched kind old new p i bytes (inl put) n below files beside_it = put.0.rest.
 untouched kind old new p i bytes (inr none) n below files beside_it = none.1.records n below beside_it
 
 -- a record that is written, in a file's entry and in a block that no other has
-pub beside_write : (kind : DiskKind) (old new : Image) (p : Placement) (i : ℕ) (bytes : List ℕ) (user : ℕ) (name : List ℕ) (other : ℕ) (others : List ℕ) → other < 32 → IsSound kind (directory kind old) → IsKeptBy kind user name (directory kind old) p → ((other ≡ user) → (others ≡ name) → ⊥) → PartlyWritten kind old new p i bytes → SameFile kind old new other others
+pub beside_write : (kind : DiskKind) (old new : Image) (p : Placement) (i : ℕ) (bytes : List ℕ) (user : ℕ) (name : List ℕ) (other : ℕ) (others : List ℕ) → other < USERS → IsSound kind (directory kind old) → IsKeptBy kind user name (directory kind old) p → ((other ≡ user) → (others ≡ name) → ⊥) → PartlyWritten kind old new p i bytes → SameFile kind old new other others
 beside_write kind old new p i bytes user name other others low sound kept apart left = same_file kind old new other others
     (λ k below. elim (write_between kind old new p i bytes left k) as (λ _. Alike (is_of other others) (at (directory kind old) k) (at (directory kind new) k)) [
       | inl same ↦ inl same
@@ -148,11 +149,11 @@ create_others kind old new user name put seven sound is_put asked left other oth
     let of : is_of user name put.1 ≡ true = subst (λ e. is_of user name e ≡ true) (sym (created_entry user name (directory kind old) put asked)) (is_of_file user name (new_extent user name 0) refl seven) in
     beside kind old new (slice_set (directory kind old) put.0 put.1) other others low sound left (λ k _. over_free kind (directory kind old) put user name other others low is_put of (λ same_user same_name. apart (same_user, same_name)) k)
 
-pub erase_others : (kind : DiskKind) (old new : Image) (user : ℕ) (pattern : List ℕ) → user < 32 → IsSound kind (directory kind old) → PartlyChanged kind old new (after_erasure user pattern (directory kind old)) → OthersAreSame kind old new (IsMatched user pattern)
+pub erase_others : (kind : DiskKind) (old new : Image) (user : ℕ) (pattern : List ℕ) → user < USERS → IsSound kind (directory kind old) → PartlyChanged kind old new (after_erasure user pattern (directory kind old)) → OthersAreSame kind old new (IsMatched user pattern)
 erase_others kind old new user pattern low_user sound left other others low apart =
     beside kind old new (after_erasure user pattern (directory kind old)) other others low sound left (λ k _. erased_alike (directory kind old) user pattern other others low_user low (λ same_user matches. apart (same_user, matches)) k)
 
-pub rename_others : (kind : DiskKind) (old new : Image) (user : ℕ) (from to : List ℕ) → user < 32 → length from ≡ length to → letters to ≡ to → IsSound kind (directory kind old) → PartlyChanged kind old new (after_renaming user from to (directory kind old)) → OthersAreSame kind old new (IsEither user from to)
+pub rename_others : (kind : DiskKind) (old new : Image) (user : ℕ) (from to : List ℕ) → user < USERS → length from ≡ length to → letters to ≡ to → IsSound kind (directory kind old) → PartlyChanged kind old new (after_renaming user from to (directory kind old)) → OthersAreSame kind old new (IsEither user from to)
 rename_others kind old new user from to low_user long seven sound left other others low apart =
     beside kind old new (after_renaming user from to (directory kind old)) other others low sound left
     (λ k _. renamed_alike (directory kind old) user from to other others low_user low long seven (λ same_user same_name. apart (same_user, inl same_name)) (λ same_user same_name. apart (same_user, inr same_name)) k)

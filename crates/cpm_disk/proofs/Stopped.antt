@@ -6,6 +6,7 @@ use Rattle.cpm_disk.proofs.Numbers.{same_record, slot_below, some_files}
 use Rattle.std.proofs.lemmas.Bool.{and_parts, cases_Bool, cases_eq}
 use Rattle.std.proofs.lemmas.List.{set-get_or}
 use Rattle.std.specs.List.{list_any}
+use Rattle.cpm_directory.specs.declared.entry.TheConstants.{USERS}
 use Rattle.cpm_directory.specs.declared.entry.Entry.{Entry}
 use Rattle.cpm_directory.specs.Entries.{blocks_of, extent_number, at, blank, block, has_record, is_extent, is_extent_of, is_of, is_read_only, is_system}
 use Rattle.cpm_directory.specs.Rules.{IsSound}
@@ -49,7 +50,7 @@ record IsHolder (kind : DiskKind) (user number : ℕ) (p : Placement) (place : �
   here : group ≡ number % 128 / block_records kind
   not_new : p.is_new ≡ false
 
-holder : (kind : DiskKind) (old : Image) (user : ℕ) (name : List ℕ) (number : ℕ) (p : Placement) (placed : Placed kind (directory kind old) user name number p) → user < 32 → IsKeptBy kind user name (directory kind old) p
+holder : (kind : DiskKind) (old : Image) (user : ℕ) (name : List ℕ) (number : ℕ) (p : Placement) (placed : Placed kind (directory kind old) user name number p) → user < USERS → IsKeptBy kind user name (directory kind old) p
     → (m : ℕ) (e : Entry) (group : ℕ) → find (is_extent_of user name m) (directory kind old) ≡ Some e → block kind e group ≡ p.block → IsHolder kind user number p placed.place e group
 holder kind old user name number p placed low kept m e group found holds =
     let (k, below, is_at, passes) = found_at (is_extent_of user name m) (directory kind old) e found in
@@ -76,7 +77,7 @@ holder kind old user name number p placed low kept m e group found holds =
     ]
 
 -- a record of the file outside the block
-outside : (kind : DiskKind) (old new : Image) (user : ℕ) (name : List ℕ) (p : Placement) → user < 32 → IsSound kind (directory kind old) → SameBut kind (λ n. IsOfDirectory kind n ⊎ IsOfBlock kind p.block n) old new
+outside : (kind : DiskKind) (old new : Image) (user : ℕ) (name : List ℕ) (p : Placement) → user < USERS → IsSound kind (directory kind old) → SameBut kind (λ n. IsOfDirectory kind n ⊎ IsOfBlock kind p.block n) old new
     → (m : ℕ) (e : Entry) (i : ℕ) → find (is_extent_of user name m) (directory kind old) ≡ Some e → (block kind e (i / block_records kind) ≡ p.block → ⊥) → in_block kind new i e ≡ in_block kind old i e
 outside kind old new user name p low sound rest m e i found apart =
     let (k, below, is_at, passes) = found_at (is_extent_of user name m) (directory kind old) e found in
@@ -84,13 +85,13 @@ outside kind old new user name p low sound rest m e i found apart =
     other_block kind old new e i p.block (λ some. range_of kind (directory kind old) k e sound is_at (omega arith) (i / block_records kind) some) apart rest
 
 -- the block was new: no entry of the file has it
-left_new : (kind : DiskKind) (old new : Image) (user : ℕ) (name : List ℕ) (number : ℕ) (p : Placement) → Placed kind (directory kind old) user name number p → user < 32 → IsSound kind (directory kind old) → IsKeptBy kind user name (directory kind old) p
+left_new : (kind : DiskKind) (old new : Image) (user : ℕ) (name : List ℕ) (number : ℕ) (p : Placement) → Placed kind (directory kind old) user name number p → user < USERS → IsSound kind (directory kind old) → IsKeptBy kind user name (directory kind old) p
     → p.is_new ≡ true → directory kind new ≡ directory kind old → SameBut kind (λ n. IsOfDirectory kind n ⊎ IsOfBlock kind p.block n) old new → HasSameRecords kind old new user name
 left_new kind old new user name number p placed low sound kept is_new same rest = same_records kind old new user name same (λ m e found _.
     outside kind old new user name p low sound rest (m / 128) e (m % 128) found (λ holds. true≢false (sym is_new ∙ (holder kind old user name number p placed low kept (m / 128) e (m % 128 / block_records kind) found holds).not_new)))
 
 -- the record was written to a block that was there, and its entry was not
-left_old : (kind : DiskKind) (old new : Image) (user : ℕ) (name : List ℕ) (number : ℕ) (bytes : List ℕ) (p : Placement) → Placed kind (directory kind old) user name number p → user < 32 → IsSound kind (directory kind old) → IsSound kind (directory kind new) → IsKeptBy kind user name (directory kind old) p
+left_old : (kind : DiskKind) (old new : Image) (user : ℕ) (name : List ℕ) (number : ℕ) (bytes : List ℕ) (p : Placement) → Placed kind (directory kind old) user name number p → user < USERS → IsSound kind (directory kind old) → IsSound kind (directory kind new) → IsKeptBy kind user name (directory kind old) p
     → block kind p.entry (number % 128 / block_records kind) ≡ p.block → writing kind user name number (directory kind old) ≡ Ok p
     → p.is_new ≡ false → directory kind new ≡ directory kind old → HasWritten kind old new p.block (number % block_records kind) p.is_new bytes → HasSameRecords kind old new user name ⊎ HasRecord kind old new user name number bytes
 left_old kind old new user name number bytes p placed low sound sound_new kept at_block asked not_new same made =
@@ -149,7 +150,7 @@ between_one kind old new p within between = elim (between p.number) as (λ _. (d
       | inr after ↦ after ∙ get_or-set_other (directory kind old) p.number k p.entry blank away
     ]
 
-pub write_left : (kind : DiskKind) (old new : Image) (user : ℕ) (name : List ℕ) (number : ℕ) (bytes : List ℕ) (p : Placement) → user < 32 → IsSound kind (directory kind old) → IsSound kind (directory kind new) → IsKeptBy kind user name (directory kind old) p
+pub write_left : (kind : DiskKind) (old new : Image) (user : ℕ) (name : List ℕ) (number : ℕ) (bytes : List ℕ) (p : Placement) → user < USERS → IsSound kind (directory kind old) → IsSound kind (directory kind new) → IsKeptBy kind user name (directory kind old) p
     → block kind p.entry (number % 128 / block_records kind) ≡ p.block → writing kind user name number (directory kind old) ≡ Ok p → PartlyWritten kind old new p (number % block_records kind) bytes → HasSameRecords kind old new user name ⊎ HasRecord kind old new user name number bytes
 write_left kind old new user name number bytes p low sound sound_new kept at_block asked (inl (made, between)) =
     elim (between_one kind old new p (let long = length_directory kind old in let within = kept.within in omega arith) between) as (λ _. HasSameRecords kind old new user name ⊎ HasRecord kind old new user name number bytes) [

@@ -23,6 +23,7 @@ use Rattle.cpm_disk.specs.Files.{HasRecord, count_of, block_record, in_block}
 use Rattle.cpm_disk.specs.Image.{Image, IsOfBlock, IsOfDirectory, SameBut, directory, disk_record}
 use Rattle.std.proofs.lemmas.List.Folds.{list_any_at}
 use Rattle.std.specs.List.{list_any}
+use Rattle.cpm_directory.specs.declared.entry.TheConstants.{USERS}
 use Rattle.cpm_disk.proofs.Attributes.{any_put, any_same}
 use Rattle.cpm_disk.proofs.Files.{Alike, find_alike, same_stored}
 use Rattle.cpm_disk.proofs.Maps.{extent_found, find_none, range_of}
@@ -34,7 +35,7 @@ abbrev pub Was : (kind : DiskKind) → List Entry → ℕ → List ℕ → ℕ �
 Was kind entries user name number place = ((at entries place.0 ≡ place.1) × (is_extent_of user name number place.1 ≡ true) × (find (is_extent_of user name number) entries ≡ Some place.1))
     ⊎ ((is_free (at entries place.0) ≡ true) × (find (is_extent_of user name number) entries ≡ None) × (place.1.records ≡ 0) × ((group : ℕ) → block kind place.1 group ≡ 0) × (extent_number place.1 ≡ number) × ((first : Entry) × (find (is_of user name) entries ≡ Some first) × (place.1.name ≡ first.name)))
 
-was : (kind : DiskKind) (user : ℕ) (name : List ℕ) (number : ℕ) (entries : List Entry) (o : Option ℕ) (place : ℕ × Entry) → user < 32 → number < 2048 → IsSound kind entries → position (is_extent_of user name number) entries ≡ o → found_or_new user name number entries o ≡ Ok place → Was kind entries user name number place
+was : (kind : DiskKind) (user : ℕ) (name : List ℕ) (number : ℕ) (entries : List Entry) (o : Option ℕ) (place : ℕ × Entry) → user < USERS → number < 2048 → IsSound kind entries → position (is_extent_of user name number) entries ≡ o → found_or_new user name number entries o ≡ Ok place → Was kind entries user name number place
 was kind user name number entries (Some k) place low small sound found is =
     let here = position-Some (is_extent_of user name number) entries k blank found in
     let same : ◌≡◌ {A = ℕ × Entry} (k, at entries k) place = cc in
@@ -117,7 +118,7 @@ not_extent user name number other e is apart = elim (cases_Bool (is_extent_of us
 abbrev pub with_bytes : Entry → ℕ → List ℕ → Entry
 with_bytes e i bytes = record e { records = max e.records (i + 1); blocks = bytes }
 
-pub record_put : (kind : DiskKind) (old new : Image) (user : ℕ) (name : List ℕ) (number : ℕ) (bytes : List ℕ) (place : ℕ × Entry) (b : ℕ) (is_new : Bool) (spelled : List ℕ) → block_numbers kind spelled ≡ slice_set (blocks_of kind place.1) (number % 128 / block_records kind) b → user < 32 → IsSound kind (directory kind old) → IsSound kind (directory kind new)
+pub record_put : (kind : DiskKind) (old new : Image) (user : ℕ) (name : List ℕ) (number : ℕ) (bytes : List ℕ) (place : ℕ × Entry) (b : ℕ) (is_new : Bool) (spelled : List ℕ) → block_numbers kind spelled ≡ slice_set (blocks_of kind place.1) (number % 128 / block_records kind) b → user < USERS → IsSound kind (directory kind old) → IsSound kind (directory kind new)
     → IsPlace kind user name (directory kind old) place → Was kind (directory kind old) user name (number / 128) place → Had kind place.1 (number % 128 / block_records kind) (b, is_new) → ((other : ℕ) → other ≢ number % 128 / block_records kind → block kind place.1 other ≡ b → ⊥) → first_block kind ≤ b → b < block_count kind
     → ((k group : ℕ) → k ≢ place.0 → is_extent (at (directory kind old) k) ≡ true → block kind (at (directory kind old) k) group ≡ b → ⊥)
     → block kind (with_bytes place.1 (number % 128) spelled) (number % 128 / block_records kind) ≡ b
@@ -209,7 +210,7 @@ pub record Placed (kind : DiskKind) (entries : List Entry) (user : ℕ) (name : 
   pub had : Had kind place.1 (number % 128 / block_records kind) (p.block, p.is_new)
   pub lone : (other : ℕ) → other ≢ number % 128 / block_records kind → block kind place.1 other ≡ p.block → ⊥
 
-pub placed_of : (kind : DiskKind) (user : ℕ) (name : List ℕ) (number : ℕ) (entries : List Entry) (p : Placement) → user < 32 → IsSound kind entries → IsKeptBy kind user name entries p → writing kind user name number entries ≡ Ok p → Placed kind entries user name number p
+pub placed_of : (kind : DiskKind) (user : ℕ) (name : List ℕ) (number : ℕ) (entries : List Entry) (p : Placement) → user < USERS → IsSound kind entries → IsKeptBy kind user name entries p → writing kind user name number entries ≡ Ok p → Placed kind entries user name number p
 placed_of kind user name number entries p low sound kept asked =
     let (there, is_1) = unless_ok (not (is_file user name entries)) fault.NotFound (unless (file_is_read_only user name entries) fault.ReadOnly (unless (not (nat_lt number (file_records kind))) fault.TooFar (placing kind user name number entries))) p asked in
     let (open_to, is_2) = unless_ok (file_is_read_only user name entries) fault.ReadOnly (unless (not (nat_lt number (file_records kind))) fault.TooFar (placing kind user name number entries)) p is_1 in
@@ -230,7 +231,7 @@ placed_of kind user name number entries p low sound kept asked =
       lone = alone kind user name entries place (number % 128 / block_records kind) found.0 fits blocks.2;
     })
 
-pub record_written : (kind : DiskKind) (old new : Image) (user : ℕ) (name : List ℕ) (number : ℕ) (bytes : List ℕ) (p : Placement) → user < 32 → IsSound kind (directory kind old) → IsSound kind (directory kind new) → IsKeptBy kind user name (directory kind old) p
+pub record_written : (kind : DiskKind) (old new : Image) (user : ℕ) (name : List ℕ) (number : ℕ) (bytes : List ℕ) (p : Placement) → user < USERS → IsSound kind (directory kind old) → IsSound kind (directory kind new) → IsKeptBy kind user name (directory kind old) p
     → block kind p.entry (number % 128 / block_records kind) ≡ p.block → writing kind user name number (directory kind old) ≡ Ok p → Written kind old new p (number % block_records kind) bytes → HasRecord kind old new user name number bytes
 record_written kind old new user name number bytes p low sound sound_new kept placed asked made =
     let is = placed_of kind user name number (directory kind old) p low sound kept asked in

@@ -1,6 +1,7 @@
 -- The files of an image, as a map from user and name: of each extent the count of its records and the bytes of those in its blocks, and
 -- two attributes. Record i of an extent is there where i is below the count and its block is. (CP/M 2.2 Alteration Guide, the directory.)
 use Rattle.std.specs.Prelude.{◌≡◌, ◌≢◌, ◌<◌, ◌⊎◌, ◌+◌, ◌/◌, ◌%◌, ◌==◌, max, replicate, unwrap_or, ℕ, true, false, List, Option, Some, None, find, if◌then◌else◌, option_and_then, option_map}
+use Rattle.cpm_directory.specs.declared.entry.TheConstants.{USERS}
 use Rattle.cpm_image.specs.Kind.{block_records}
 use Rattle.cpm_image.specs.declared.kind.DiskKind.{DiskKind}
 use Rattle.cpm_directory.specs.declared.entry.Entry.{Entry}
@@ -34,7 +35,7 @@ pub record SameFile (kind : DiskKind) (old new : Image) (user : ℕ) (name : Lis
 
 -- every file is as before, but for some
 abbrev pub OthersAreSame : DiskKind → Image → Image → (ℕ → List ℕ → Type 0) → Type 0
-OthersAreSame kind old new named = (user : ℕ) (name : List ℕ) → user < 32 → (named user name → ⊥) → SameFile kind old new user name
+OthersAreSame kind old new named = (user : ℕ) (name : List ℕ) → user < USERS → (named user name → ⊥) → SameFile kind old new user name
 
 -- the file of a user and a name
 abbrev pub IsFile : ℕ → List ℕ → ℕ → List ℕ → Type 0

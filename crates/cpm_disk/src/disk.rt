@@ -1,6 +1,7 @@
 //! Mounted disks.
 
 ghost use Rattle.std.specs.Prelude.{◌≡◌, Bool};
+ghost use Rattle.cpm_directory.specs.declared.entry.TheConstants.{USERS};
 ghost use Rattle.cpm_disk.specs.Private.State.{IsMounted};
 ghost use Rattle.cpm_disk.specs.Calls.{Mounted};
 
@@ -149,7 +150,7 @@ impl<S: Sectors> Disk<S> {
     /// there is no such file, and after a failure.
     pub fn size(&self, user: u8, name: &Name) -> Option<u32>
         ensures size { result ≡ (if self.now.failed then None else size user name.now (directory self.now.kind (S.sectors self.now.device))) }
-        ensures most { user < 32 → IfSome result (λ n. n ≤ file_records self.now.kind) }
+        ensures most { user < USERS → IfSome result (λ n. n ≤ file_records self.now.kind) }
         ensures sound { IsSound self.now.kind (directory self.now.kind (S.sectors self.now.device)) }
     {
         if self.failed {
@@ -164,7 +165,7 @@ impl<S: Sectors> Disk<S> {
     ///
     /// In this order: [`DiskFault::Failed`], [`DiskFault::Exists`], [`DiskFault::DirectoryFull`], [`DiskFault::Fault`].
     pub fn create(&mut self, user: u8, name: &Name) -> Result<u16, DiskFault>
-        requires { user < 32 }
+        requires { user < USERS }
         ensures done { IsCreated S.sectors S.faults self.old self.new user name.now result }
         ensures refusals { IfErr result (FailsOr RefusesCreation) }
         ensures within { IfOk result (λ k. k < entry_count self.old.kind) }
@@ -201,7 +202,7 @@ impl<S: Sectors> Disk<S> {
     /// In this order: [`DiskFault::Failed`], [`DiskFault::NotFound`], [`DiskFault::ReadOnly`] where one that matches is
     /// read-only, [`DiskFault::Fault`].
     pub fn erase(&mut self, user: u8, pattern: &Pattern) -> Result<u16, DiskFault>
-        requires { user < 32 }
+        requires { user < USERS }
         ensures done { IsErased S.sectors S.faults self.old self.new user pattern.now.name result }
         ensures refusals { IfErr result (FailsOr RefusesErasure) }
         ensures gone { OnOk result ((name : List ℕ) → name_matches pattern.now.name name ≡ true → IsNoFile self.new.kind (S.sectors self.new.device) user name) }
@@ -233,7 +234,7 @@ impl<S: Sectors> Disk<S> {
     /// In this order: [`DiskFault::Failed`], [`DiskFault::NotFound`], [`DiskFault::Exists`], [`DiskFault::ReadOnly`],
     /// [`DiskFault::Fault`].
     pub fn rename(&mut self, user: u8, old: &Name, new: &Name) -> Result<(), DiskFault>
-        requires { user < 32 }
+        requires { user < USERS }
         ensures done { IsRenamed S.sectors S.faults self.old self.new user old.now new.now result }
         ensures refusals { IfErr result (FailsOr RefusesRenaming) }
         ensures moved { OnOk result (IsMoved self.old.kind (S.sectors self.old.device) (S.sectors self.new.device) user old.now new.now) }
@@ -274,7 +275,7 @@ impl<S: Sectors> Disk<S> {
         name: &Name,
         number: u32,
     ) -> Result<[u8; 128], DiskFault>
-        requires { user < 32 }
+        requires { user < USERS }
         ensures done { IsRead S.sectors S.faults self.old self.new user name.now number result }
         ensures refusals { IfErr result (FailsOr RefusesReading) }
         ensures found { IfOk result (λ bytes. file_record self.old.kind (S.sectors self.old.device) user name.now number ≡ Some bytes) }
@@ -315,7 +316,7 @@ impl<S: Sectors> Disk<S> {
         number: u32,
         bytes: &[u8; 128],
     ) -> Result<(), DiskFault>
-        requires { user < 32 }
+        requires { user < USERS }
         ensures done { IsWritten S.sectors S.faults self.old self.new user name.now number bytes.now result }
         ensures refusals { IfErr result (FailsOr RefusesWriting) }
         ensures written { OnOk result (HasRecord self.old.kind (S.sectors self.old.device) (S.sectors self.new.device) user name.now number bytes.now) }

@@ -1,5 +1,6 @@
 -- Opening and closing files: 15, 16. (CP/M 2.2 Interface Guide.)
 use Rattle.std.specs.Prelude.{◌+◌, ◌*◌, ◌%◌, ℕ, nat_le, List, Option, Some, None, Result, Ok, if◌then◌else◌}
+use Rattle.cpm_directory.specs.declared.rules.TheConstants.{LAST_EXTENT}
 use Rattle.cpm_image.specs.declared.kind.DiskKind.{DiskKind}
 use Rattle.cpm_image.specs.declared.kind.DiskKind.TheVariants.{EightInch, Megabyte}
 use Rattle.cpm_directory.specs.declared.pattern.Pattern.{Pattern}
@@ -35,7 +36,7 @@ extent_number Megabyte fcb = 32 * (s2_of fcb % 64) + extent_of fcb
 -- the entry of an FCB's extent; none has an EX above 31
 abbrev pub extent_entry : {S : Type 0} → (S → Image) → Mounted S → ℕ → List ℕ → Option ℕ
 extent_entry sectors disk user fcb =
-    if nat_le (extent_of fcb) 31 then extent_found sectors disk user (letters (name_of fcb)) (extent_number disk.kind fcb) else None
+    if nat_le (extent_of fcb) LAST_EXTENT then extent_found sectors disk user (letters (name_of fcb)) (extent_number disk.kind fcb) else None
 
 -- 16
 abbrev pub closed : {S : Type 0} → (S → Image) → Mounted S → ℕ → ℕ → List ℕ → Result ℕ Stop

@@ -1,6 +1,7 @@
 //! Making, erasing and renaming files.
 
 ghost use Rattle.std.specs.Prelude.{◌≡◌, ◌<◌, ℕ, List, Err};
+ghost use Rattle.cpm_directory.specs.declared.entry.TheConstants.{USERS};
 ghost use Rattle.cpm_fcb.specs.Stops.{Ends};
 ghost use Rattle.cpm_file_calls.specs.Changes.{Erases, Makes, Renames, erased, made, renamed};
 
@@ -21,7 +22,7 @@ pub fn make<S: Sectors>(
     memory: &mut Memory,
     address: u16,
 ) -> Result<u16, Stop>
-    requires { user < 32 }
+    requires { user < USERS }
     ensures { Makes S.sectors S.faults disk.old disk.new user address memory.old memory.new result }
 {
     let fcb = Fcb::at(memory, address);
@@ -46,7 +47,7 @@ pub fn erase<S: Sectors>(
     memory: &Memory,
     address: u16,
 ) -> Result<u16, Stop>
-    requires { user < 32 }
+    requires { user < USERS }
     ensures { Erases S.sectors S.faults disk.old disk.new user address memory.now result }
 {
     let fcb = Fcb::at(memory, address);
@@ -71,7 +72,7 @@ pub fn rename<S: Sectors>(
     memory: &Memory,
     address: u16,
 ) -> Result<u16, Stop>
-    requires { user < 32 }
+    requires { user < USERS }
     ensures { Renames S.sectors S.faults disk.old disk.new user address memory.now result }
 {
     let fcb = Fcb::at(memory, address);

@@ -4,6 +4,7 @@ ghost use Rattle.std.specs.Prelude.{◌≡◌};
 ghost use Rattle.cpm_fcb.specs.Stops.{Ends};
 ghost use Rattle.cpm_file_calls.specs.Opening.{closed, code_of, extent_entry, extent_number, opened};
 
+use cpm_directory::LAST_EXTENT;
 use cpm_disk::{Disk, DiskKind, Name, Pattern};
 use cpm_fcb::{Fcb, Stop, put_entry};
 use cpm_image::Sectors;
@@ -11,9 +12,6 @@ use z80_cpu::Memory;
 
 /// What a call answers that finds nothing.
 pub(crate) const NOT_FOUND: u16 = 0xFF;
-
-/// The greatest EX of an entry.
-const LAST_EXTENT: u8 = 31;
 
 /// The answer for an entry: its number modulo 4, or FFH where there is none.
 pub(crate) fn code_of(entry: Option<u16>) -> u16

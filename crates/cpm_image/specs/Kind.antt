@@ -1,11 +1,12 @@
 -- The kinds of disk, each by its few numbers.
 use Rattle.std.specs.Prelude.{ℕ, ◌≡◌, ◌⊎◌}
+use Rattle.cpm_image.specs.declared.format.TheConstants.{RECORD_COUNT, SECTOR_COUNT}
 use Rattle.cpm_image.specs.declared.kind.DiskKind.{DiskKind}
 use Rattle.cpm_image.specs.declared.kind.DiskKind.TheVariants.{EightInch, Megabyte}
 
 -- sectors of an image
 abbrev pub sector_count : DiskKind → ℕ
-sector_count EightInch = 2002
+sector_count EightInch = SECTOR_COUNT
 sector_count Megabyte = 8192
 
 -- records of a block
@@ -20,7 +21,7 @@ block_count Megabyte = 512
 
 -- logical records: those of the blocks
 abbrev pub record_count : DiskKind → ℕ
-record_count EightInch = 1944
+record_count EightInch = RECORD_COUNT
 record_count Megabyte = 8192
 
 -- the first block of files; those before it are the directory

@@ -1,5 +1,7 @@
 //! The kinds of disk.
 
+use crate::format::{RECORD_COUNT, SECTOR_COUNT};
+
 /// A kind of disk, which says how much of everything there is.
 #[derive(Clone, Copy, Debug, PartialEq, Eq)]
 pub enum DiskKind {
@@ -17,10 +19,12 @@ impl DiskKind {
     pub fn of_size(sectors: u32) -> Option<DiskKind>
         ensures { MatchOption result (¬ IsDiskSize sectors) (λ kind. sectors ≡ sector_count kind) }
     {
-        match sectors {
-            2_002 => Some(DiskKind::EightInch),
-            8_192 => Some(DiskKind::Megabyte),
-            _ => None,
+        if sectors == DiskKind::EightInch.sector_count() {
+            Some(DiskKind::EightInch)
+        } else if sectors == DiskKind::Megabyte.sector_count() {
+            Some(DiskKind::Megabyte)
+        } else {
+            None
         }
     }
 
@@ -29,7 +33,7 @@ impl DiskKind {
         ensures { result ≡ sector_count self }
     {
         match self {
-            DiskKind::EightInch => 2_002,
+            DiskKind::EightInch => SECTOR_COUNT,
             DiskKind::Megabyte => 8_192,
         }
     }
@@ -59,7 +63,7 @@ impl DiskKind {
         ensures { result ≡ record_count self }
     {
         match self {
-            DiskKind::EightInch => 1_944,
+            DiskKind::EightInch => RECORD_COUNT,
             DiskKind::Megabyte => 8_192,
         }
     }

@@ -6,6 +6,7 @@ use Rattle.std.proofs.lemmas.List.{get_or_past}
 use Rattle.std.proofs.lemmas.List.Folds.{list_any_at}
 use Rattle.std.proofs.lemmas.Slice.Eq.{bytes_eq-Decides}
 use Rattle.std.specs.List.{list_any, range_with_len}
+use Rattle.cpm_directory.specs.declared.entry.TheConstants.{USERS}
 use Rattle.cpm_directory.specs.declared.entry.Entry.{Entry}
 use Rattle.cpm_directory.specs.Entries.{at, blank, is_extent, is_match, is_of}
 use Rattle.cpm_directory.specs.Letters.{letters, with_letters}
@@ -38,17 +39,17 @@ is_of_file user name e same_user same_name =
     and_from (nat_eq e.user user) (bytes_eq (letters e.name) name) (eq-eqb e.user user same_user) named
 
 -- a blank entry is of no file
-pub blank_is_not_of : (user : ℕ) (name : List ℕ) → user < 32 → is_of user name blank ≡ false
+pub blank_is_not_of : (user : ℕ) (name : List ℕ) → user < USERS → is_of user name blank ≡ false
 blank_is_not_of user name below = rw (ne_eqb 229 user (λ e. omega arith)) refl
 
 -- nor does a pattern match it
-pub blank_is_no_match : (user : ℕ) (pattern : List ℕ) → user < 32 → is_match user pattern blank ≡ false
+pub blank_is_no_match : (user : ℕ) (pattern : List ℕ) → user < USERS → is_match user pattern blank ≡ false
 blank_is_no_match user pattern below = rw (ne_eqb 229 user (λ e. omega arith)) refl
 
-pub extent_below : (e : Entry) → is_extent e ≡ true → e.user < 32
+pub extent_below : (e : Entry) → is_extent e ≡ true → e.user < USERS
 extent_below e ext = ltb-true e.user 32 ext
 
-pub below_extent : (e : Entry) → e.user < 32 → is_extent e ≡ true
+pub below_extent : (e : Entry) → e.user < USERS → is_extent e ≡ true
 below_extent e below = lt-ltb e.user 32 below
 
 -- a write to a list shows at its place alone, if at all

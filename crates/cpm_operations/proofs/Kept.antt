@@ -3,6 +3,7 @@ use Rattle.std.proofs.Common.{◌≡◌, ◌≢◌, ◌⊎◌, ◌<◌, ◌*◌,
 use Rattle.std.proofs.lemmas.Bool.{cases_Bool, cases_eq}
 use Rattle.std.proofs.lemmas.List.Quantifiers.{position-Some}
 use Rattle.std.proofs.lemmas.List.{length-map}
+use Rattle.cpm_directory.specs.declared.entry.TheConstants.{USERS}
 use Rattle.cpm_image.specs.Kind.{file_records}
 use Rattle.cpm_image.specs.declared.kind.DiskKind.{DiskKind}
 use Rattle.cpm_image.specs.declared.kind.DiskKind.TheVariants.{EightInch, Megabyte}
@@ -49,16 +50,16 @@ new_extent_fits kind entries number user name extent low named = record {
   named = named;
 }
 
-pub creation_keeps : (kind : DiskKind) (user : ℕ) (name : List ℕ) (entries : List Entry) (k : ℕ) → user < 32 → letters name ≡ name → IsSound kind entries → is_file user name entries ≡ false → free_entry entries ≡ Some k → StaysSound kind entries (slice_set entries k (new_extent user name 0))
+pub creation_keeps : (kind : DiskKind) (user : ℕ) (name : List ℕ) (entries : List Entry) (k : ℕ) → user < USERS → letters name ≡ name → IsSound kind entries → is_file user name entries ≡ false → free_entry entries ≡ Some k → StaysSound kind entries (slice_set entries k (new_extent user name 0))
 creation_keeps kind user name entries k low seven sound new_file free =
     keeps_by_one kind entries k (new_extent user name 0) sound (position-Some is_free entries k blank free).0
     (new_extent_fits kind entries k user name 0 (some_records kind)
     (λ j _ ext same. true≢false (sym (is_of_file user name (at entries j) same.0 (same.1 ∙ seven)) ∙ none_at (is_of user name) entries j (blank_is_not_of user name low) new_file)))
 
-pub at_erasure : (user : ℕ) (pattern : List ℕ) (entries : List Entry) (k : ℕ) → user < 32 → at (after_erasure user pattern entries) k ≡ erased_by user pattern (at entries k)
+pub at_erasure : (user : ℕ) (pattern : List ℕ) (entries : List Entry) (k : ℕ) → user < USERS → at (after_erasure user pattern entries) k ≡ erased_by user pattern (at entries k)
 at_erasure user pattern entries k low = at_map (erased_by user pattern) entries k (rw (blank_is_no_match user pattern low) refl)
 
-pub erasure_keeps : (kind : DiskKind) (user : ℕ) (pattern : List ℕ) (entries : List Entry) → user < 32 → IsSound kind entries → StaysSound kind entries (after_erasure user pattern entries)
+pub erasure_keeps : (kind : DiskKind) (user : ℕ) (pattern : List ℕ) (entries : List Entry) → user < USERS → IsSound kind entries → StaysSound kind entries (after_erasure user pattern entries)
 erasure_keeps kind user pattern entries low sound mixed between = fewer kind entries mixed sound same
   where
     same : (k : ℕ) → is_extent (at mixed k) ≡ true → at mixed k ≡ at entries k
@@ -72,14 +73,14 @@ erasure_keeps kind user pattern entries low sound mixed between = fewer kind ent
           ])
     ]
 
-pub at_renaming : (user : ℕ) (old new : List ℕ) (entries : List Entry) (k : ℕ) → user < 32 → at (after_renaming user old new entries) k ≡ renamed_by user old new (at entries k)
+pub at_renaming : (user : ℕ) (old new : List ℕ) (entries : List Entry) (k : ℕ) → user < USERS → at (after_renaming user old new entries) k ≡ renamed_by user old new (at entries k)
 at_renaming user old new entries k low = at_map (renamed_by user old new) entries k (rw (blank_is_not_of user old low) refl)
 
 -- what a failing device leaves of a file's entries
 abbrev IsRenamed : ℕ → List ℕ → List ℕ → Entry → Entry → Type 0
 IsRenamed user old new e m = (m ≡ e) ⊎ ((is_of user old e ≡ true) × (m ≡ renamed new e))
 
-renamed_at : (user : ℕ) (old new : List ℕ) (entries mixed : List Entry) → user < 32 → IsBetween entries (after_renaming user old new entries) mixed → (k : ℕ) → IsRenamed user old new (at entries k) (at mixed k)
+renamed_at : (user : ℕ) (old new : List ℕ) (entries mixed : List Entry) → user < USERS → IsBetween entries (after_renaming user old new entries) mixed → (k : ℕ) → IsRenamed user old new (at entries k) (at mixed k)
 renamed_at user old new entries mixed low between k = elim (between k) as (λ _. IsRenamed user old new (at entries k) (at mixed k)) [
   | inl kept ↦ inl kept
   | inr after ↦ (let changed : at mixed k ≡ renamed_by user old new (at entries k) = after ∙ at_renaming user old new entries k low in
@@ -104,7 +105,7 @@ length_of_name user name e is = sym (length-map e.name (λ b. b % 128)) ∙ ap l
 new_letters : (user : ℕ) (old new : List ℕ) (e m : Entry) → length old ≡ length new → letters new ≡ new → is_of user old e ≡ true → m ≡ renamed new e → letters m.name ≡ new
 new_letters user old new e m same seven is changed = ap (λ x. letters x.name) changed ∙ letters_with e.name new (length_of_name user old e is ∙ same) seven
 
-pub renaming_keeps : (kind : DiskKind) (user : ℕ) (old new : List ℕ) (entries : List Entry) → user < 32 → length old ≡ length new → letters new ≡ new → IsSound kind entries → is_file user new entries ≡ false → StaysSound kind entries (after_renaming user old new entries)
+pub renaming_keeps : (kind : DiskKind) (user : ℕ) (old new : List ℕ) (entries : List Entry) → user < USERS → length old ≡ length new → letters new ≡ new → IsSound kind entries → is_file user new entries ≡ false → StaysSound kind entries (after_renaming user old new entries)
 renaming_keeps kind user old new entries low same_length seven sound new_file mixed between = record {
   good = λ k ext. subst (IsGood kind) (sym (rest k)) (sound.good k (was k ext));
   blocks = λ k ext. subst (AreBlocks kind) (sym (rest k)) (sound.blocks k (was k ext));

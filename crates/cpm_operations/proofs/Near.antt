@@ -7,6 +7,7 @@ use Rattle.std.proofs.lemmas.List.Quantifiers.{position-Some}
 use Rattle.std.proofs.lemmas.List.Folds.{find_at, list_any_at}
 use Rattle.std.proofs.lemmas.List.Sums.{position_or_len_is}
 use Rattle.std.specs.List.{position_or_len}
+use Rattle.cpm_directory.specs.declared.entry.TheConstants.{USERS}
 use Rattle.cpm_image.specs.Kind.{file_records}
 use Rattle.cpm_image.specs.declared.kind.DiskKind.{DiskKind}
 use Rattle.cpm_directory.specs.declared.entry.Entry.{Entry}
@@ -22,7 +23,7 @@ parts : (user : ℕ) (name : List ℕ) (number : ℕ) (e : Entry) → is_extent_
 parts user name number e is = let two = and_parts (is_of user name e) (nat_eq (extent_number e) number) is in (two.0, eqb-true (extent_number e) number two.1)
 
 -- no other entry is that of the extent
-alone : (kind : DiskKind) (user : ℕ) (name : List ℕ) (number : ℕ) (entries : List Entry) (j k : ℕ) → user < 32 → IsSound kind entries → is_extent_of user name number (at entries j) ≡ true → is_extent_of user name number (at entries k) ≡ true → j ≡ k
+alone : (kind : DiskKind) (user : ℕ) (name : List ℕ) (number : ℕ) (entries : List Entry) (j k : ℕ) → user < USERS → IsSound kind entries → is_extent_of user name number (at entries j) ≡ true → is_extent_of user name number (at entries k) ≡ true → j ≡ k
 alone kind user name number entries j k low sound one two =
     let (of_one, here) = parts user name number (at entries j) one in
     let (of_two, there) = parts user name number (at entries k) two in
@@ -31,7 +32,7 @@ alone kind user name number entries j k low sound one two =
     sound.named j k (below_extent (at entries j) (omega arith)) (below_extent (at entries k) (omega arith)) (user_one ∙ sym user_two, name_one ∙ sym name_two, here ∙ sym there)
 
 -- so it is the first
-first : (kind : DiskKind) (user : ℕ) (name : List ℕ) (number : ℕ) (entries : List Entry) (k : ℕ) → user < 32 → IsSound kind entries → k < length entries → is_extent_of user name number (at entries k) ≡ true → position_or_len (is_extent_of user name number) entries ≡ k
+first : (kind : DiskKind) (user : ℕ) (name : List ℕ) (number : ℕ) (entries : List Entry) (k : ℕ) → user < USERS → IsSound kind entries → k < length entries → is_extent_of user name number (at entries k) ≡ true → position_or_len (is_extent_of user name number) entries ≡ k
 first kind user name number entries k low sound below is =
     position_or_len_is (is_extent_of user name number) entries k blank (omega arith) (λ j before. other j before (cases_Bool (is_extent_of user name number (at entries j)))) (λ _. is)
   where
@@ -39,13 +40,13 @@ first kind user name number entries k low sound below is =
     other j before (inl passes) = let same = alone kind user name number entries j k low sound passes is in absurd (omega arith)
     other j before (inr fails) = fails
 
-pub extent_position : (kind : DiskKind) (user : ℕ) (name : List ℕ) (number : ℕ) (entries : List Entry) (k : ℕ) → user < 32 → IsSound kind entries → IsExtentAt kind user name number entries k → position (is_extent_of user name (number / 128)) entries ≡ Some k
+pub extent_position : (kind : DiskKind) (user : ℕ) (name : List ℕ) (number : ℕ) (entries : List Entry) (k : ℕ) → user < USERS → IsSound kind entries → IsExtentAt kind user name number entries k → position (is_extent_of user name (number / 128)) entries ≡ Some k
 extent_position kind user name number entries k low sound known =
     let here = first kind user name (number / 128) entries k low sound known.within known.of_extent in
     let inside : nat_lt k (length entries) ≡ true = lt-ltb k (length entries) known.within in
     rw (here, inside) refl
 
-pub extent_found : (kind : DiskKind) (user : ℕ) (name : List ℕ) (number : ℕ) (entries : List Entry) (k : ℕ) → user < 32 → IsSound kind entries → IsExtentAt kind user name number entries k → find (is_extent_of user name (number / 128)) entries ≡ Some (at entries k)
+pub extent_found : (kind : DiskKind) (user : ℕ) (name : List ℕ) (number : ℕ) (entries : List Entry) (k : ℕ) → user < USERS → IsSound kind entries → IsExtentAt kind user name number entries k → find (is_extent_of user name (number / 128)) entries ≡ Some (at entries k)
 extent_found kind user name number entries k low sound known =
     let here = first kind user name (number / 128) entries k low sound known.within known.of_extent in
     find_at (is_extent_of user name (number / 128)) entries ∙ ap (slice_get entries) here ∙ slice_get-get_or entries k blank known.within
@@ -58,7 +59,7 @@ abbrev pub past : Entry
 past = record { user = 0; name = []; extent = 0; s1 = 0; s2 = 0; records = 0; blocks = [] }
 
 -- a record is read by the entry alone
-pub read_at : (kind : DiskKind) (user : ℕ) (name : List ℕ) (number : ℕ) (entries : List Entry) (k : ℕ) → user < 32 → IsSound kind entries → IsExtentAt kind user name number entries k → written_place kind (number % 128) (get_or entries k past) ≡ reading kind user name number entries
+pub read_at : (kind : DiskKind) (user : ℕ) (name : List ℕ) (number : ℕ) (entries : List Entry) (k : ℕ) → user < USERS → IsSound kind entries → IsExtentAt kind user name number entries k → written_place kind (number % 128) (get_or entries k past) ≡ reading kind user name number entries
 read_at kind user name number entries k low sound known =
     let there = file_there kind user name number entries k known in
     let near : nat_lt number (file_records kind) ≡ true = lt-ltb number (file_records kind) known.near in
@@ -66,7 +67,7 @@ read_at kind user name number entries k low sound known =
     ap (written_place kind (number % 128)) (get_or_default entries k past blank known.within) ∙ rw (there, near, found) refl
 
 -- and written
-pub write_at : (kind : DiskKind) (user : ℕ) (name : List ℕ) (number : ℕ) (entries : List Entry) (k : ℕ) → user < 32 → IsSound kind entries → IsExtentAt kind user name number entries k → file_is_read_only user name entries ≡ false
+pub write_at : (kind : DiskKind) (user : ℕ) (name : List ℕ) (number : ℕ) (entries : List Entry) (k : ℕ) → user < USERS → IsSound kind entries → IsExtentAt kind user name number entries k → file_is_read_only user name entries ≡ false
     → placing_in kind k (get_or entries k past) (number % 128) entries ≡ writing kind user name number entries
 write_at kind user name number entries k low sound known free =
     let there = file_there kind user name number entries k known in

@@ -5,6 +5,7 @@ use Rattle.std.proofs.lemmas.List.{get_or_past}
 use Rattle.std.proofs.lemmas.List.Quantifiers.{position-Some}
 use Rattle.std.proofs.lemmas.List.Sums.{fails_before_first}
 use Rattle.std.specs.List.{list_any, position_or_len}
+use Rattle.cpm_directory.specs.declared.entry.TheConstants.{USERS}
 use Rattle.cpm_image.specs.Kind.{block_count, block_records, file_records, first_block}
 use Rattle.cpm_image.specs.declared.kind.DiskKind.{DiskKind}
 use Rattle.cpm_image.specs.declared.kind.DiskKind.TheVariants.{EightInch, Megabyte}
@@ -129,12 +130,12 @@ pub record IsPlace (kind : DiskKind) (user : ℕ) (name : List ℕ) (entries : L
   pub was : (is_of user name (at entries place.0) ≡ true) ⊎ (is_free (at entries place.0) ≡ true)
   pub of_file : is_of user name place.1 ≡ true
 
-pub extent_of_file : (user : ℕ) (name : List ℕ) (number : ℕ) (e : Entry) → user < 32 → is_extent_of user name number e ≡ true → is_extent e ≡ true
+pub extent_of_file : (user : ℕ) (name : List ℕ) (number : ℕ) (e : Entry) → user < USERS → is_extent_of user name number e ≡ true → is_extent e ≡ true
 extent_of_file user name number e low is =
     let user_is = (of_file user name e (and_parts (is_of user name e) (extent_number e == number) is).0).0 in
     below_extent e (omega arith)
 
-pub place_found : (kind : DiskKind) (user : ℕ) (name : List ℕ) (number : ℕ) (entries : List Entry) (o : Option ℕ) (place : ℕ × Entry) → user < 32 → 128 * number < file_records kind → IsSound kind entries → position (is_extent_of user name number) entries ≡ o → found_or_new user name number entries o ≡ Ok place → IsPlace kind user name entries place
+pub place_found : (kind : DiskKind) (user : ℕ) (name : List ℕ) (number : ℕ) (entries : List Entry) (o : Option ℕ) (place : ℕ × Entry) → user < USERS → 128 * number < file_records kind → IsSound kind entries → position (is_extent_of user name number) entries ≡ o → found_or_new user name number entries o ≡ Ok place → IsPlace kind user name entries place
 place_found kind user name number entries (Some k) place low small sound found is =
     let here = position-Some (is_extent_of user name number) entries k blank found in
     let same : ◌≡◌ {A = ℕ × Entry} (k, at entries k) place = cc in
@@ -180,7 +181,7 @@ apart_from : (kind : DiskKind) (entries : List Entry) (number : ℕ) (e : Entry)
 apart_from kind entries number e group b fits (inl old) k g other ext here = fits.apart k group g other ext (subst (λ n. 0 < n) (sym old.1) old.0) (here ∙ sym old.1)
 apart_from kind entries number e group b fits (inr new) k g other ext here = new.3 k g ext here
 
-pub writing_keeps : (kind : DiskKind) (user : ℕ) (name : List ℕ) (number : ℕ) (entries : List Entry) (p : Placement) → user < 32 → IsSound kind entries → writing kind user name number entries ≡ Ok p → IsKeptBy kind user name entries p
+pub writing_keeps : (kind : DiskKind) (user : ℕ) (name : List ℕ) (number : ℕ) (entries : List Entry) (p : Placement) → user < USERS → IsSound kind entries → writing kind user name number entries ≡ Ok p → IsKeptBy kind user name entries p
 writing_keeps kind user name number entries p low sound is =
     let (there, is_1) = unless_ok (not (is_file user name entries)) fault.NotFound (unless (file_is_read_only user name entries) fault.ReadOnly (unless (not (nat_lt number (file_records kind))) fault.TooFar (placing kind user name number entries))) p is in
     let (open_to, is_2) = unless_ok (file_is_read_only user name entries) fault.ReadOnly (unless (not (nat_lt number (file_records kind))) fault.TooFar (placing kind user name number entries)) p is_1 in

@@ -1,6 +1,7 @@
 -- A record that is there lies in the blocks of files.
 use Rattle.std.proofs.Common.{◌≡◌, ◌<◌, ◌≤◌, ◌/◌, ◌%◌, ◌==◌, ℕ, true, not, List, subst, sym, inl, inr, arith, nat_lt, Ok, find}
 use Rattle.std.proofs.lemmas.Bool.{and_parts, eqb-false, not-true, not-false}
+use Rattle.cpm_directory.specs.declared.entry.TheConstants.{USERS}
 use Rattle.cpm_image.specs.Kind.{block_count, block_records, directory_records, file_records, first_block, record_count}
 use Rattle.cpm_image.specs.declared.kind.DiskKind.{DiskKind}
 use Rattle.cpm_image.specs.declared.kind.DiskKind.TheVariants.{EightInch, Megabyte}
@@ -19,7 +20,7 @@ pub place_within : (kind : DiskKind) (b i : ℕ) → first_block kind ≤ b → 
 place_within EightInch b i from to = (omega arith, omega arith)
 place_within Megabyte b i from to = (omega arith, omega arith)
 
-pub reading_within : (kind : DiskKind) (user : ℕ) (name : List ℕ) (number : ℕ) (entries : List Entry) (n : ℕ) → user < 32 → IsSound kind entries → reading kind user name number entries ≡ Ok n → (directory_records kind ≤ n) × (n < record_count kind)
+pub reading_within : (kind : DiskKind) (user : ℕ) (name : List ℕ) (number : ℕ) (entries : List Entry) (n : ℕ) → user < USERS → IsSound kind entries → reading kind user name number entries ≡ Ok n → (directory_records kind ≤ n) × (n < record_count kind)
 reading_within kind user name number entries n low sound is =
     let (there, is_1) = unless_ok (not (is_file user name entries)) fault.NotFound (unless (not (nat_lt number (file_records kind))) fault.TooFar (given (find (is_extent_of user name (number / 128)) entries) fault.NoExtent >>= written_place kind (number % 128))) n is in
     let (near, is_2) = unless_ok (not (nat_lt number (file_records kind))) fault.TooFar (given (find (is_extent_of user name (number / 128)) entries) fault.NoExtent >>= written_place kind (number % 128)) n is_1 in

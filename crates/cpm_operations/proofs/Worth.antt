@@ -1,6 +1,7 @@
 -- From what a call answers to what it is good for.
 use Rattle.std.proofs.Common.{◌≡◌, ◌<◌, ◌≤◌, ℕ, not, List, length, Result, Ok, Err, IfOk, OnOk, sym, subst}
 use Rattle.std.proofs.lemmas.List.Quantifiers.{position-Some}
+use Rattle.cpm_directory.specs.declared.entry.TheConstants.{USERS}
 use Rattle.cpm_image.specs.Kind.{directory_records, record_count}
 use Rattle.cpm_image.specs.declared.kind.DiskKind.{DiskKind}
 use Rattle.cpm_directory.specs.declared.entry.Entry.{Entry}
@@ -18,7 +19,7 @@ use Rattle.cpm_operations.proofs.RecordPlaces.{reading_within}
 use Rattle.cpm_operations.proofs.Placements.{writing_keeps}
 use Rattle.cpm_operations.proofs.Results.{bind_ok, given_ok, unless_ok}
 
-pub created : (kind : DiskKind) (user : ℕ) (name : List ℕ) (entries : List Entry) (r : Result (ℕ × Entry) DiskFault) → user < 32 → letters name ≡ name → r ≡ creation user name entries → IsSound kind entries → IfOk r (IsPut kind entries)
+pub created : (kind : DiskKind) (user : ℕ) (name : List ℕ) (entries : List Entry) (r : Result (ℕ × Entry) DiskFault) → user < USERS → letters name ≡ name → r ≡ creation user name entries → IsSound kind entries → IfOk r (IsPut kind entries)
 created kind user name entries (Err e) low seven is sound = tt
 created kind user name entries (Ok put) low seven is sound =
     let (new_file, is_1) = unless_ok (is_file user name entries) fault.Exists (given (free_entry entries) fault.DirectoryFull >>= λ k. Ok (k, new_extent user name 0)) put (sym is) in
@@ -28,17 +29,17 @@ created kind user name entries (Ok put) low seven is sound =
     let here = position-Some is_free entries k blank found in
     subst (IsPut kind entries) same (record { within = here.0; free = here.1; sound = creation_keeps kind user name entries k low seven sound new_file found })
 
-pub renamed_soundly : (kind : DiskKind) (user : ℕ) (old new : List ℕ) (entries : List Entry) (r : Result (Unit {0}) DiskFault) → user < 32 → length old ≡ length new → letters new ≡ new → r ≡ renaming user old new entries → IsSound kind entries → OnOk r (StaysSound kind entries (after_renaming user old new entries))
+pub renamed_soundly : (kind : DiskKind) (user : ℕ) (old new : List ℕ) (entries : List Entry) (r : Result (Unit {0}) DiskFault) → user < USERS → length old ≡ length new → letters new ≡ new → r ≡ renaming user old new entries → IsSound kind entries → OnOk r (StaysSound kind entries (after_renaming user old new entries))
 renamed_soundly kind user old new entries (Err e) low long seven is sound = tt
 renamed_soundly kind user old new entries (Ok x) low long seven is sound =
     let (there, is_1) = unless_ok (not (is_file user old entries)) fault.NotFound (unless (is_file user new entries) fault.Exists (unless (file_is_read_only user old entries) fault.ReadOnly (Ok tt))) x (sym is) in
     let (new_file, is_2) = unless_ok (is_file user new entries) fault.Exists (unless (file_is_read_only user old entries) fault.ReadOnly (Ok tt)) x is_1 in
     renaming_keeps kind user old new entries low long seven sound new_file
 
-pub located : (kind : DiskKind) (user : ℕ) (name : List ℕ) (number : ℕ) (entries : List Entry) (r : Result ℕ DiskFault) → user < 32 → r ≡ reading kind user name number entries → IsSound kind entries → IfOk r (λ n. (directory_records kind ≤ n) × (n < record_count kind))
+pub located : (kind : DiskKind) (user : ℕ) (name : List ℕ) (number : ℕ) (entries : List Entry) (r : Result ℕ DiskFault) → user < USERS → r ≡ reading kind user name number entries → IsSound kind entries → IfOk r (λ n. (directory_records kind ≤ n) × (n < record_count kind))
 located kind user name number entries (Err e) low is sound = tt
 located kind user name number entries (Ok n) low is sound = reading_within kind user name number entries n low sound (sym is)
 
-pub placed_soundly : (kind : DiskKind) (user : ℕ) (name : List ℕ) (number : ℕ) (entries : List Entry) (r : Result Placement DiskFault) → user < 32 → r ≡ writing kind user name number entries → IsSound kind entries → IfOk r (IsKeptBy kind user name entries)
+pub placed_soundly : (kind : DiskKind) (user : ℕ) (name : List ℕ) (number : ℕ) (entries : List Entry) (r : Result Placement DiskFault) → user < USERS → r ≡ writing kind user name number entries → IsSound kind entries → IfOk r (IsKeptBy kind user name entries)
 placed_soundly kind user name number entries (Err e) low is sound = tt
 placed_soundly kind user name number entries (Ok p) low is sound = writing_keeps kind user name number entries p low sound (sym is)

@@ -1,6 +1,7 @@
 //! Records of a file whose extent's entry is looked for at one number first.
 
 ghost use Rattle.std.specs.Prelude.{◌≡◌, ◌<◌, ◌≤◌, ◌/◌, ◌%◌, IfErr, IfOk, IfSome, None, false, length, position, slice_index_or, true};
+ghost use Rattle.cpm_directory.specs.declared.entry.TheConstants.{USERS};
 ghost use Rattle.cpm_directory.specs.Entries.{blank, block, is_extent_of};
 ghost use Rattle.cpm_directory.specs.Rules.{IsSound};
 ghost use Rattle.cpm_directory.specs.Searches.{file_is_read_only};
@@ -63,7 +64,7 @@ pub fn reading_at(
     name: &Name,
     number: u32,
 ) -> Result<u32, DiskFault>
-    requires user { user < 32 }
+    requires user { user < USERS }
     requires at { IfSome at (IsExtentAt kind user name.now number entries.now) }
     requires sound { IsSound kind entries.now }
     ensures step { result ≡ reading kind user name.now number entries.now }
@@ -91,7 +92,7 @@ pub fn writing_at(
     name: &Name,
     number: u32,
 ) -> Result<Placement, DiskFault>
-    requires user { user < 32 }
+    requires user { user < USERS }
     requires size { length entries.now ≤ 65535 }
     requires at { IfSome at (IsExtentAt kind user name.now number entries.now) }
     requires may_write { may_write ≡ true → file_is_read_only user name.now entries.now ≡ false }

@@ -2,6 +2,7 @@
 
 ghost use Rattle.std.specs.Prelude.{◌≡◌, ◌<◌, ◌≤◌, ◌/◌, ◌%◌, ◌&&◌, IfErr, IfOk, OnOk, count_by, find, length};
 ghost use Rattle.std.specs.List.{list_any};
+ghost use Rattle.cpm_directory.specs.declared.entry.TheConstants.{USERS};
 ghost use Rattle.cpm_directory.specs.Entries.{block, is_extent_of, is_match, is_of, is_read_only};
 ghost use Rattle.cpm_directory.specs.Rules.{IsSound};
 ghost use Rattle.cpm_image.specs.Kind.{block_records, directory_records, entry_blocks, file_records, number_limit, record_count};
@@ -258,7 +259,7 @@ fn write_place(
 ///
 /// In this order: [`DiskFault::NotFound`] where none matches, [`DiskFault::ReadOnly`] where one that does is read-only.
 pub fn erasure(entries: &[Entry], user: u8, pattern: &[u8; 11]) -> Result<u16, DiskFault>
-    requires user { user < 32 }
+    requires user { user < USERS }
     requires size { length entries.now ≤ 65535 }
     ensures step { result ≡ erasure user pattern.now entries.now }
     ensures refusals { IfErr result RefusesErasure }
@@ -273,7 +274,7 @@ pub fn erasure(entries: &[Entry], user: u8, pattern: &[u8; 11]) -> Result<u16, D
 ///
 /// In this order: [`DiskFault::Exists`], [`DiskFault::DirectoryFull`].
 pub fn creation(entries: &[Entry], user: u8, name: &Name) -> Result<(u16, Entry), DiskFault>
-    requires user { user < 32 }
+    requires user { user < USERS }
     requires size { length entries.now ≤ 65535 }
     ensures step { result ≡ creation user name.now entries.now }
     ensures kept { (kind : DiskKind) → IsSound kind entries.now → IfOk result (IsPut kind entries.now) }
@@ -290,7 +291,7 @@ pub fn creation(entries: &[Entry], user: u8, name: &Name) -> Result<(u16, Entry)
 ///
 /// In this order: [`DiskFault::NotFound`], [`DiskFault::Exists`], [`DiskFault::ReadOnly`].
 pub fn renaming(entries: &[Entry], user: u8, old: &Name, new: &Name) -> Result<(), DiskFault>
-    requires { user < 32 }
+    requires { user < USERS }
     ensures step { result ≡ renaming user old.now new.now entries.now }
     ensures kept { (kind : DiskKind) → IsSound kind entries.now → OnOk result (StaysSound kind entries.now (after_renaming user old.now new.now entries.now)) }
     ensures refusals { IfErr result RefusesRenaming }
@@ -314,7 +315,7 @@ pub fn reading(
     name: &Name,
     number: u32,
 ) -> Result<u32, DiskFault>
-    requires { user < 32 }
+    requires { user < USERS }
     ensures step { result ≡ reading kind user name.now number entries.now }
     ensures refusals { IfErr result RefusesReading }
     ensures within { IsSound kind entries.now → IfOk result (λ n. (directory_records kind ≤ n) × (n < record_count kind)) }
@@ -335,7 +336,7 @@ pub fn writing(
     name: &Name,
     number: u32,
 ) -> Result<Placement, DiskFault>
-    requires user { user < 32 }
+    requires user { user < USERS }
     requires size { length entries.now ≤ 65535 }
     ensures step { result ≡ writing kind user name.now number entries.now }
     ensures placed { IfOk result (λ p. block kind p.entry (number % 128 / block_records kind) ≡ p.block) }

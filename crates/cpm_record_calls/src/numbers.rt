@@ -1,6 +1,7 @@
 //! R0 to R2 of an FCB.
 
 ghost use Rattle.std.specs.Prelude.{◌≡◌, ◌<◌, ◌^◌};
+ghost use Rattle.cpm_directory.specs.declared.entry.TheConstants.{USERS};
 ghost use Rattle.cpm_fcb.specs.Stops.{Ends};
 ghost use Rattle.cpm_record_calls.specs.Numbers.{numbered, sized, with_random};
 
@@ -24,7 +25,7 @@ pub fn size<S: Sectors>(
     memory: &mut Memory,
     address: u16,
 ) -> Result<u16, Stop>
-    requires { user < 32 }
+    requires { user < USERS }
     ensures { Ends (sized S.sectors disk.now user address memory.old) memory.old memory.new result }
 {
     let fcb = Fcb::at(memory, address);

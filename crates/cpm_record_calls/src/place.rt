@@ -1,5 +1,6 @@
 //! Where an FCB stands in its file.
 
+use cpm_directory::{LAST_EXTENT, MOST_RECORDS};
 use cpm_disk::DiskKind;
 use cpm_fcb::{Fcb, Stop};
 
@@ -11,17 +12,9 @@ pub struct Place {
     pub current: u8,
 }
 
-/// CR behind the last record of an extent.
-const EXTENT_END: u8 = 128;
-
-/// The greatest EX.
-const LAST_EXTENT: u8 = 31;
-
-/// The greatest number in the low six bits of S2, on a Megabyte disk.
-const LAST_HIGH: u8 = 15;
-
 impl Place {
     ghost use Rattle.std.specs.Prelude.{◌≡◌, ◌<◌, ◌≤◌, IfSome, OnOk, false};
+    ghost use Rattle.cpm_directory.specs.declared.rules.TheConstants.{MOST_RECORDS};
     ghost use Rattle.cpm_record_calls.specs.Places.{is_bad, next_extent, next_high, place_judged, place_of, record_at, turned};
 
     /// The place in an FCB.
@@ -49,7 +42,7 @@ impl Place {
     /// Judges a place to read or write in turn: EX, CR and, on a Megabyte disk, the low six bits of S2 have a greatest value.
     pub(crate) fn judge(self, kind: DiskKind) -> Result<(), Stop>
         ensures judged { result ≡ place_judged kind self }
-        ensures within { OnOk result (self.current ≤ 128) }
+        ensures within { OnOk result (self.current ≤ MOST_RECORDS) }
     {
         if self.is_bad(kind) {
             Err(Stop::BadFcb)
@@ -60,21 +53,21 @@ impl Place {
 
     fn is_bad(self, kind: DiskKind) -> bool
         ensures bad { result ≡ is_bad kind self }
-        ensures within { result ≡ false → self.current ≤ 128 }
+        ensures within { result ≡ false → self.current ≤ MOST_RECORDS }
     {
-        let bad = self.extent > LAST_EXTENT || self.current > EXTENT_END;
+        let bad = self.extent > LAST_EXTENT || self.current > MOST_RECORDS;
         match kind {
             DiskKind::EightInch => bad,
-            DiskKind::Megabyte => bad || self.s2 % 64 > LAST_HIGH,
+            DiskKind::Megabyte => bad || self.s2 % 64 > kind.last_high(),
         }
     }
 
     /// The place of the record that is next: behind the last record of an extent the next extent begins, where there is one.
     pub(crate) fn turned(self, kind: DiskKind) -> Option<Place>
         ensures place { result ≡ turned kind self }
-        ensures within { self.current ≤ 128 → IfSome result (λ p. p.current < 128) }
+        ensures within { self.current ≤ MOST_RECORDS → IfSome result (λ p. p.current < MOST_RECORDS) }
     {
-        if self.current == EXTENT_END {
+        if self.current == MOST_RECORDS {
             self.next_extent(kind)
         } else {
             Some(self)
@@ -84,7 +77,7 @@ impl Place {
     /// The next extent: after EX 31 that of the next S2, on a Megabyte disk alone.
     fn next_extent(self, kind: DiskKind) -> Option<Place>
         ensures place { result ≡ next_extent kind self }
-        ensures within { IfSome result (λ p. p.current < 128) }
+        ensures within { IfSome result (λ p. p.current < MOST_RECORDS) }
     {
         if self.extent < LAST_EXTENT {
             return Some(Place {
@@ -102,9 +95,9 @@ impl Place {
     /// The first extent of the next S2, where there is one.
     fn next_high(self) -> Option<Place>
         ensures place { result ≡ next_high DiskKind.Megabyte self }
-        ensures within { IfSome result (λ p. p.current < 128) }
+        ensures within { IfSome result (λ p. p.current < MOST_RECORDS) }
     {
-        if self.s2 % 64 < LAST_HIGH {
+        if self.s2 % 64 < DiskKind::Megabyte.last_high() {
             Some(Place {
                 extent: 0,
                 s2: self.s2 + 1,

@@ -1,6 +1,7 @@
 //! Records by number.
 
 ghost use Rattle.std.specs.Prelude.{◌≡◌, ◌<◌};
+ghost use Rattle.cpm_directory.specs.declared.entry.TheConstants.{USERS};
 ghost use Rattle.cpm_fcb.specs.Stops.{Ends};
 ghost use Rattle.cpm_record_calls.specs.Random.{ReadsAt, WritesAt, is_within, refused_read, refused_write, with_place_of};
 
@@ -38,7 +39,7 @@ pub fn read_at<S: Sectors>(
     memory: &mut Memory,
     address: u16,
 ) -> Result<u16, Stop>
-    requires { user < 32 }
+    requires { user < USERS }
     ensures { ReadsAt S.sectors S.faults disk.old disk.new user dma address memory.old memory.new result }
 {
     let fcb = Fcb::at(memory, address);
@@ -72,7 +73,7 @@ pub fn write_at<S: Sectors>(
     memory: &mut Memory,
     address: u16,
 ) -> Result<u16, Stop>
-    requires { user < 32 }
+    requires { user < USERS }
     ensures { WritesAt S.sectors S.faults disk.old disk.new user dma address memory.old memory.new result }
 {
     let fcb = Fcb::at(memory, address);

@@ -1,6 +1,7 @@
 //! Records in turn.
 
 ghost use Rattle.std.specs.Prelude.{◌≡◌, ◌<◌, ◌≤◌, OnOk, ℕ, List};
+ghost use Rattle.cpm_directory.specs.declared.entry.TheConstants.{USERS};
 ghost use Rattle.cpm_fcb.specs.Stops.{Ends};
 ghost use Rattle.cpm_fcb.specs.Fcbs.{current_of};
 ghost use Rattle.cpm_record_calls.specs.Sequential.{ReadsNext, WritesNext, refused_read, refused_write, sequential_judged, with_extent, with_place, with_s2};
@@ -34,7 +35,7 @@ pub fn read_next<S: Sectors>(
     memory: &mut Memory,
     address: u16,
 ) -> Result<u16, Stop>
-    requires { user < 32 }
+    requires { user < USERS }
     ensures { ReadsNext S.sectors S.faults disk.old disk.new user dma address memory.old memory.new result }
 {
     let fcb = Fcb::at(memory, address);
@@ -70,7 +71,7 @@ pub fn write_next<S: Sectors>(
     memory: &mut Memory,
     address: u16,
 ) -> Result<u16, Stop>
-    requires { user < 32 }
+    requires { user < USERS }
     ensures { WritesNext S.sectors S.faults disk.old disk.new user dma address memory.old memory.new result }
 {
     let fcb = Fcb::at(memory, address);

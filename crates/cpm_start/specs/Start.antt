@@ -1,10 +1,11 @@
 -- The state in which a program begins under CP/M 2.2.
 use Rattle.std.specs.Prelude.{◌≡◌, ◌*◌, ◌≤◌, ◌<◌, ℕ, List, [], ◌∷◌, Result, Ok, Err, length, replicate, slice_index_or}
 use Rattle.std.specs.List.{flat_map, range_with_len}
+use Rattle.limits.specs.declared.TheConstants.{LONGEST_PROGRAM}
 use Rattle.z80_cpu.specs.declared.registers.Cpu.{Cpu}
 use Rattle.z80_cpu.specs.Cleared.{cleared}
 use Rattle.cpm_fcb.specs.Bytes.{with_bytes}
-use Rattle.cpm_start.specs.declared.limits.TheConstants.{LONGEST_FILE, LONGEST_TAIL}
+use Rattle.cpm_start.specs.declared.words.TheConstants.{LONGEST_TAIL}
 use Rattle.cpm_start.specs.declared.fault.StartFault.{StartFault}
 use Rattle.cpm_start.specs.declared.fault.StartFault.TheVariants as fault
 use Rattle.cpm_start.specs.Words.{control, tail_of, upper}
@@ -48,7 +49,7 @@ start_cpu = record cleared { sp = 0xFDFE; pc = 0x0100 }
 
 -- Why there is no such state: the file is judged before the tail.
 abbrev pub IsStart : List ℕ → List (List ℕ) → Result (Cpu × List ℕ) StartFault → Type 0
-IsStart file words (Ok (cpu, memory)) = (length file ≤ LONGEST_FILE) × (length (tail_of words) ≤ LONGEST_TAIL) × (cpu ≡ start_cpu) × (memory ≡ start_memory file words)
-IsStart file words (Err fault.ComTooLong) = LONGEST_FILE < length file
-IsStart file words (Err fault.TailTooLong) = (length file ≤ LONGEST_FILE) × (LONGEST_TAIL < length (tail_of words))
-IsStart file words (Err fault.NoMemory) = length file ≤ LONGEST_FILE
+IsStart file words (Ok (cpu, memory)) = (length file ≤ LONGEST_PROGRAM) × (length (tail_of words) ≤ LONGEST_TAIL) × (cpu ≡ start_cpu) × (memory ≡ start_memory file words)
+IsStart file words (Err fault.ComTooLong) = LONGEST_PROGRAM < length file
+IsStart file words (Err fault.TailTooLong) = (length file ≤ LONGEST_PROGRAM) × (LONGEST_TAIL < length (tail_of words))
+IsStart file words (Err fault.NoMemory) = length file ≤ LONGEST_PROGRAM

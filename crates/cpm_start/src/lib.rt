@@ -3,10 +3,9 @@
 #![tactic(auto)]
 
 mod fault;
-mod limits;
 mod starting;
 mod words;
 
 pub use fault::StartFault;
-pub use limits::{LONGEST_FILE, LONGEST_TAIL};
 pub use starting::start;
+pub use words::LONGEST_TAIL;

@@ -1,14 +1,15 @@
 //! The state in which a program begins.
 
 ghost use Rattle.std.specs.Prelude.{◌≡◌, ◌≤◌, IfOk, length, map};
+ghost use Rattle.limits.specs.declared.TheConstants.{LONGEST_PROGRAM};
 ghost use Rattle.cpm_start.specs.Start.{IsStart, start_cpu, start_memory, word_at};
 ghost use Rattle.cpm_start.specs.Words.{control, tail_of};
-ghost use Rattle.cpm_start.specs.declared.limits.TheConstants.{LONGEST_FILE, LONGEST_TAIL};
+ghost use Rattle.cpm_start.specs.declared.words.TheConstants.{LONGEST_TAIL};
 
 use crate::fault::StartFault;
-use crate::limits::{LONGEST_FILE, LONGEST_TAIL};
-use crate::words::{control, tail_of, upper};
+use crate::words::{LONGEST_TAIL, control, tail_of, upper};
 use cpm_fcb::put_bytes;
+use limits::LONGEST_PROGRAM;
 use std::alloc::{AllocError, Global};
 use z80_cpu::{Cpu, Memory};
 
@@ -75,7 +76,7 @@ fn start_memory(
     words: &[&[u8]],
     tail: &[u8],
 ) -> Result<Memory, AllocError>
-    requires file { length file.now ≤ LONGEST_FILE }
+    requires file { length file.now ≤ LONGEST_PROGRAM }
     requires tail { length tail.now ≤ LONGEST_TAIL }
     requires words { tail.now ≡ tail_of (map (λ w. w.now) words.now) }
     ensures { IfOk result (λ memory. memory ≡ start_memory file.now (map (λ w. w.now) words.now)) }
@@ -102,7 +103,7 @@ fn start_memory(
 pub fn start(alloc: Global, file: &[u8], words: &[&[u8]]) -> Result<(Cpu, Memory), StartFault>
     ensures { IsStart file.now (map (λ w. w.now) words.now) result }
 {
-    if file.len() > LONGEST_FILE {
+    if file.len() > LONGEST_PROGRAM as usize {
         return Err(StartFault::ComTooLong);
     }
     let tail = tail_of(alloc, words)?;

@@ -5,6 +5,9 @@ ghost use Rattle.cpm_start.specs.Words.{before, behind, control, field, filled, 
 
 use std::alloc::{AllocError, Global};
 
+/// The most bytes of a command's tail.
+pub const LONGEST_TAIL: usize = 127;
+
 /// A word in upper case.
 pub(crate) fn upper(alloc: Global, word: &[u8]) -> Result<Vec<u8>, AllocError>
     ensures { IfOk result (λ bytes. bytes.items ≡ upper word.now) }

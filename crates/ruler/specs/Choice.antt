@@ -1,7 +1,7 @@
 use Rattle.std.specs.Prelude.{◌≡◌, ℕ, zero, suc, ◌+◌, ◌<◌, ◌≤◌, All, Bool, false, if◌then◌else◌, List, length, Some, slice_get}
 use Rattle.std.specs.List.{slice_index_or}
 use Rattle.std.specs.Option.{option_map_or}
-use Rattle.ruler.specs.declared.limits.TheConstants.{FIRST_PLACE, MAX_STATEMENTS, MAX_TOTAL}
+use Rattle.limits.specs.declared.TheConstants.{FIRST_PLACE, LONGEST_PROGRAM, MOST_BYTES, MOST_STATEMENTS}
 use Rattle.ruler.specs.declared.shape.Statement.{Statement}
 use Rattle.ruler.specs.declared.shape.Statement.TheVariants.{Fixed, Jump, Short}
 
@@ -14,13 +14,13 @@ use Rattle.ruler.specs.declared.shape.Statement.TheVariants.{Fixed, Jump, Short}
 
 -- what a program of some count of statements may hold; a target may also be the end
 abbrev pub IsStatement : ℕ → Statement → Type 0
-IsStatement count (Fixed n) = (1 ≤ n) × (n ≤ 65535)
+IsStatement count (Fixed n) = (1 ≤ n) × (n ≤ MOST_BYTES)
 IsStatement count (Jump t) = t ≤ count
 IsStatement count (Short t) = t ≤ count
 
 -- a program is short enough, and its jumps name its statements or its end
 pub record IsShape (shape : List Statement) : Type 0 where
-  pub few : length shape ≤ MAX_STATEMENTS
+  pub few : length shape ≤ MOST_STATEMENTS
   pub each : All (IsStatement (length shape)) shape
 
 -- statement k is a jump to t whose size may be chosen
@@ -102,7 +102,7 @@ pub record IsLowestShortMiss (c : Choice) (shape : List Statement) (k : ℕ) : T
 pub record IsValid (c : Choice) (shape : List Statement) : Type 0 where
   pub settled : IsSettled c shape
   pub shorts : ShortsReach c shape
-  pub fits : total c shape ≤ MAX_TOTAL
+  pub fits : total c shape ≤ LONGEST_PROGRAM
 
 -- no choice that can be laid out takes fewer bytes
 pub record IsBest (c : Choice) (shape : List Statement) : Type 0 where

@@ -5,14 +5,12 @@
 //! which choice is settled, valid and best stand here, in `specs/Choice.antt`.
 #![tactic(auto)]
 
-mod limits;
 mod reach;
 mod ruler;
 mod shape;
 mod spans;
 mod sums;
 
-pub use limits::{FIRST_PLACE, MAX_STATEMENTS, MAX_TOTAL};
 pub use ruler::Ruler;
 pub use shape::{Shape, Statement};
 pub use sums::Sums;

@@ -1,6 +1,6 @@
 //! What the sizes of a program depend on.
 
-use crate::limits::MAX_STATEMENTS;
+use limits::MOST_STATEMENTS;
 use std::marker::Model;
 
 /// One statement of a program, as far as sizes go. Targets are numbers of statements, counted from 0; the count of all
@@ -17,6 +17,7 @@ pub enum Statement {
 
 impl Statement {
     ghost use Rattle.std.specs.Prelude.{◌≡◌, ◌≤◌, ◌↔◌, IsTrue};
+    ghost use Rattle.limits.specs.declared.TheConstants.{MOST_BYTES};
     ghost use Rattle.ruler.specs.Choice.{size_of, IsStatement};
 
     /// Whether it may stand in a program of `count` statements.
@@ -32,7 +33,7 @@ impl Statement {
     /// How many bytes it takes, as a long jump or not.
     pub fn size(self, long: bool) -> u32
         ensures value { result ≡ size_of long self }
-        ensures bound { result ≤ 65535 }
+        ensures bound { result ≤ MOST_BYTES }
     {
         match self {
             Statement::Fixed(bytes) => u32::from(bytes),
@@ -78,7 +79,7 @@ impl Shape {
         ensures { IsTrue result ↔ IsShape statements.now }
     {
         let count = statements.len();
-        count <= MAX_STATEMENTS && statements.iter().all(|s| s.is_within(count))
+        count <= MOST_STATEMENTS && statements.iter().all(|s| s.is_within(count))
     }
 
     /// The statements.

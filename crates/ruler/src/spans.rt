@@ -1,7 +1,7 @@
 //! How far each jump of a program goes, kept up while jumps grow.
 
-ghost use Rattle.ruler.specs.declared.limits.TheConstants.{MAX_STATEMENTS};
 ghost use Rattle.std.specs.Prelude.{◌≡◌, ℕ, ◌+◌, ◌<◌, ◌≤◌, true, false, length, vec_len, min, slice_index, IfOk};
+ghost use Rattle.limits.specs.declared.TheConstants.{MOST_STATEMENTS};
 ghost use Rattle.ruler.specs.Choice.{IsShape};
 ghost use Rattle.ruler.specs.Private.Spans.{AreTargets, ArePlaces, AreSpans, Widened};
 
@@ -106,7 +106,7 @@ fn widen_back(targets: &[u16], spans: &mut [u8], k: u16, low: usize, high: usize
 #[inline(never)]
 pub(crate) fn widen(targets: &[u16], spans: &mut [u8], k: usize)
     requires at { k < length targets.now }
-    requires few { length targets.now ≤ MAX_STATEMENTS }
+    requires few { length targets.now ≤ MOST_STATEMENTS }
     requires same { length spans.old ≡ length targets.now }
     ensures { Widened targets.now spans.old spans.new k }
 {

@@ -3,12 +3,12 @@ use Rattle.std.proofs.Common.{◌≡◌, ℕ, ◌+◌, ◌++◌, ◌<◌, Bool, 
 use Rattle.std.proofs.lemmas.List.{length-replicate, append-nil}
 use Rattle.std.specs.Io.KnownBytes.{Consumes, IsAtEnd}
 use Rattle.std.proofs.KnownBytes.{Keeps-refl}
+use Rattle.limits.specs.declared.TheConstants.{LONGEST_TEXT}
 use Rattle.zlink.specs.declared.fault.LinkFault.TheVariants as link
 use Rattle.zlink.specs.declared.fault.BuildFault.{BuildFault}
 use Rattle.zlink.specs.declared.fault.BuildFault.TheVariants as build
 use Rattle.z80dev.specs.declared.fault.Fault.{Fault}
 use Rattle.z80dev.specs.declared.fault.Fault.TheVariants as fault
-use Rattle.z80dev.specs.declared.text.TheConstants.{TEXT_LIMIT}
 use Rattle.z80dev.specs.Main.{IsBuiltOf, IsFileOf, IsRefused}
 use Rattle.z80dev.specs.Pipe.{Ends}
 use Rattle.z80dev.specs.Reading.{IsCutShort, IsUnread, IsWithin, OfText}
@@ -31,7 +31,7 @@ pub unread : (left kept : Option (List ℕ)) (failed : Bool) (reads interruption
     → OfText left (λ text. Ends text (IsCutShort failed reads interruptions) kept kept unwritten (Err failure))
 unread None kept failed reads interruptions unwritten fault.File (inl cut) = ([], inl (inr cut, Keeps-refl kept))
 unread None kept failed reads interruptions unwritten fault.File (inr long) =
-    let some = long_text TEXT_LIMIT in (some.0, inl (inl some.1, Keeps-refl kept))
+    let some = long_text LONGEST_TEXT in (some.0, inl (inl some.1, Keeps-refl kept))
 unread None kept failed reads interruptions unwritten (fault.Build refusal) why = ([], (subst (IsRefused []) (sym why) tt, Keeps-refl kept))
 unread (Some text) kept failed reads interruptions unwritten fault.File (inl cut) = inl (inr cut, Keeps-refl kept)
 unread (Some text) kept failed reads interruptions unwritten fault.File (inr long) = inl (inl long, Keeps-refl kept)

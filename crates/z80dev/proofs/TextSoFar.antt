@@ -1,12 +1,12 @@
 -- A text that is read piece by piece.
 use Rattle.std.proofs.Common.{◌≡◌, ℕ, ◌+◌, ◌≤◌, Bool, false, List, Option, length}
 use Rattle.std.specs.Io.KnownBytes.{Consumes}
-use Rattle.z80dev.specs.declared.text.TheConstants.{TEXT_LIMIT}
+use Rattle.limits.specs.declared.TheConstants.{LONGEST_TEXT}
 
 -- What was read is what the reader gave, and is within the limit; it has not failed, and each turn is one read, which gave a byte at
 -- least or was interrupted.
 pub record TextSoFar (old new : Option (List ℕ)) (text : List ℕ) (failed : Bool) (reads interruptions turns : ℕ) : Type 0 where
-  pub limit : length text ≤ TEXT_LIMIT
+  pub limit : length text ≤ LONGEST_TEXT
   pub taken : Consumes old new text
   pub sound : failed ≡ false
   pub counted : reads ≡ turns

@@ -1,9 +1,9 @@
 -- How printing the file of a text ends.
 use Rattle.std.specs.Prelude.{◌≡◌, ℕ, ◌<◌, ◌⊎◌, Bool, true, List, length, Option, None, Some, Result, Ok, Err}
 use Rattle.std.specs.Io.KnownBytes.{Appends, Keeps}
+use Rattle.limits.specs.declared.TheConstants.{LONGEST_TEXT}
 use Rattle.z80dev.specs.declared.fault.Fault.{Fault}
 use Rattle.z80dev.specs.declared.fault.Fault.TheVariants as fault
-use Rattle.z80dev.specs.declared.text.TheConstants.{TEXT_LIMIT}
 use Rattle.z80dev.specs.FaultTexts.{fault_text}
 use Rattle.z80dev.specs.Main.{IsRefused, WithFile}
 use Rattle.z80dev_finish.specs.Streams.{AppendsFront}
@@ -27,7 +27,7 @@ said_at (Err fault) = Some (fault_text fault)
 -- on the line of the text's file, of which a front was written.
 abbrev pub IsFileFault : List ℕ → Type 0 → Option (List ℕ) → Option (List ℕ) → Bool → Type 0
 IsFileFault text Cut old new unwritten =
-    (((TEXT_LIMIT < length text) ⊎ Cut) × Keeps old new) ⊎ ((unwritten ≡ true) × WithFile text (AppendsFront old new))
+    (((LONGEST_TEXT < length text) ⊎ Cut) × Keeps old new) ⊎ ((unwritten ≡ true) × WithFile text (AppendsFront old new))
 
 -- How printing ends, by whether reading was cut short, what the writer held before and holds after, and whether it failed.
 abbrev pub Ends : List ℕ → Type 0 → Option (List ℕ) → Option (List ℕ) → Bool → Result Unit Fault → Type 0

@@ -1,23 +1,24 @@
 -- The text of an input, and why it is not read.
 use Rattle.std.specs.Prelude.{◌≡◌, ℕ, ◌<◌, ◌≤◌, ◌⊎◌, Bool, true, List, length, Option, None, Some, IfSome}
+use Rattle.limits.specs.declared.TheConstants.{LONGEST_TEXT}
 use Rattle.zlink.specs.declared.fault.LinkFault.TheVariants as link
 use Rattle.zlink.specs.declared.fault.BuildFault.TheVariants as build
 use Rattle.z80dev.specs.declared.fault.Fault.{Fault}
 use Rattle.z80dev.specs.declared.fault.Fault.TheVariants as fault
-use Rattle.z80dev.specs.declared.text.TheConstants.{READ_LIMIT, TEXT_LIMIT}
+use Rattle.z80dev.specs.declared.text.TheConstants.{MOST_READS}
 
 -- a source text is within its limit
 abbrev pub IsWithin : List ℕ → Type 0
-IsWithin text = length text ≤ TEXT_LIMIT
+IsWithin text = length text ≤ LONGEST_TEXT
 
 -- Reading came to no end: the reader failed, or was asked as often as it may be, and some of the reads were interrupted: so bytes
 -- in memory, which never fail and are never interrupted, always come to their end.
 abbrev pub IsCutShort : Bool → ℕ → ℕ → Type 0
-IsCutShort failed reads interruptions = (failed ≡ true) ⊎ ((reads ≡ READ_LIMIT) × (0 < interruptions))
+IsCutShort failed reads interruptions = (failed ≡ true) ⊎ ((reads ≡ MOST_READS) × (0 < interruptions))
 
 -- Why a text was not read: reading came to no end, or the text is too long where it is known; or memory ran out.
 abbrev pub IsUnread : Option (List ℕ) → Bool → ℕ → ℕ → Fault → Type 0
-IsUnread text failed reads interruptions fault.File = IsCutShort failed reads interruptions ⊎ IfSome text (λ t. TEXT_LIMIT < length t)
+IsUnread text failed reads interruptions fault.File = IsCutShort failed reads interruptions ⊎ IfSome text (λ t. LONGEST_TEXT < length t)
 IsUnread text failed reads interruptions (fault.Build refusal) = refusal ≡ build.Link link.NoMemory
 
 -- What is said of the text of an input: of all its bytes, where they are known, and else of some text.

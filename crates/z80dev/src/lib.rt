@@ -11,7 +11,7 @@ mod verdict;
 pub use fault::Fault;
 pub use input::{Bytes, Input, ReadFault, Watched};
 pub use print::{pipe, print_file};
-pub use text::{READ_LIMIT, TEXT_LIMIT, read_text};
+pub use text::{MOST_READS, read_text};
 pub use verdict::{VerdictFault, check_texts};
 pub use z80dev_commands::{Job, commands};
 pub use z80dev_finish::{

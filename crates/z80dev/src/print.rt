@@ -6,7 +6,7 @@ ghost use Rattle.z80dev.specs.Reading.{IsCutShort, OfText};
 ghost use Rattle.z80dev_finish.specs.Streams.{Says};
 ghost use Rattle.z80dev.specs.Private.Steps.{Writes};
 ghost use Rattle.z80dev.specs.declared.fault.Fault.{Fault};
-ghost use Rattle.z80dev.specs.declared.text.TheConstants.{READ_LIMIT};
+ghost use Rattle.z80dev.specs.declared.text.TheConstants.{MOST_READS};
 
 use crate::fault::{Fault, SOURCE_NAME};
 use crate::input::Input;
@@ -47,7 +47,7 @@ pub fn print_file<I: Input, W: Write>(
     requires writable { output.old.failed ≡ false }
     ensures ends { OfText (I.remaining input.old) (λ text.
         Ends text (IsCutShort (I.failed input.new) (I.reads input.new) (I.interruptions input.new)) (W.contents output.old.stream) (W.contents output.new.stream) output.new.failed result) }
-    ensures reads { I.reads input.new ≤ READ_LIMIT }
+    ensures reads { I.reads input.new ≤ MOST_READS }
 {
     let text = read_text(alloc, input)?;
     let source = Source {
@@ -86,7 +86,7 @@ pub fn pipe<I: Input, W: Write, E: Write>(
         × Says (said_at end) (E.contents errors.old.stream) (E.contents errors.new.stream) errors.new.failed) }
 
     // Whatever the input, it is asked for a bounded number of times.
-    ensures reads { I.reads input.new ≤ READ_LIMIT }
+    ensures reads { I.reads input.new ≤ MOST_READS }
 {
     match print_file(alloc, input, output) {
         Ok(()) => DONE,

@@ -3,22 +3,20 @@
 ghost use Rattle.std.specs.Prelude.{◌≡◌, ◌≤◌, false, IfErr, IfOk, OnOk, length};
 ghost use Rattle.std.specs.Io.KnownBytes.{Consumes, IsAtEnd};
 ghost use Rattle.z80dev.specs.Reading.{IsUnread, IsWithin};
-ghost use Rattle.z80dev.specs.declared.text.TheConstants.{READ_LIMIT};
+ghost use Rattle.z80dev.specs.declared.text.TheConstants.{MOST_READS};
 
 use crate::fault::Fault;
 use crate::input::{Input, ReadFault};
+use limits::LONGEST_TEXT;
 use std::alloc::Global;
 
-/// How many bytes a source text has at most.
-pub const TEXT_LIMIT: usize = 16_777_216;
-
-/// How often a reader is asked at most.
-pub const READ_LIMIT: usize = 16_777_217;
+/// How often a reader is asked at most: for each byte of the longest text, and once for its end.
+pub const MOST_READS: usize = LONGEST_TEXT + 1;
 
 /// How many bytes are asked for at once: few, since they are zeroed for each text and most objects are small.
 const CHUNK: usize = 2048;
 
-/// Reads a text to its end, of at most [`TEXT_LIMIT`] bytes, by at most [`READ_LIMIT`] reads.
+/// Reads a text to its end, of at most [`LONGEST_TEXT`] bytes, by at most [`MOST_READS`] reads.
 ///
 /// A read that a signal interrupts is tried again; one that fails is not.
 ///
@@ -34,14 +32,14 @@ pub fn read_text<I: Input>(alloc: Global, input: &mut I) -> Result<Vec<u8>, Faul
     ensures text { IfOk result (λ text. Consumes (I.remaining input.old) (I.remaining input.new) text.items) }
     ensures end { OnOk result (IsAtEnd (I.remaining input.new)) }
     ensures err { IfErr result (IsUnread (I.remaining input.old) (I.failed input.new) (I.reads input.new) (I.interruptions input.new)) }
-    ensures reads { I.reads input.new ≤ READ_LIMIT }
+    ensures reads { I.reads input.new ≤ MOST_READS }
 {
     let mut text = Vec::new(alloc);
     let mut chunk = [0; CHUNK];
-    for turn in 0..READ_LIMIT {
+    for turn in 0..MOST_READS {
         match input.read(&mut chunk) {
             Ok(0) => return Ok(text),
-            Ok(count) if count > TEXT_LIMIT - text.len() => return Err(Fault::File),
+            Ok(count) if count > LONGEST_TEXT - text.len() => return Err(Fault::File),
             Ok(count) => text.extend_from_slice(&chunk[..count])?,
             Err(ReadFault::Interrupted) => {}
             Err(ReadFault::Failed) => return Err(Fault::File),

@@ -1,5 +1,6 @@
 -- Turns of a program by its statements: where each leads, by flags, B and places. No byte is decoded.
 use Rattle.std.specs.Prelude.{◌≡◌, ℕ, zero, suc, ◌+◌, Bool, true, if◌then◌else◌, List, Option, Some, None, length, nat_eq, slice_get, slice_range}
+use Rattle.limits.specs.declared.TheConstants.{FIRST_PLACE}
 use Rattle.z80_instr.specs.declared.Instr.{Instr}
 use Rattle.z80_instr.specs.declared.ShortCond.{ShortCond}
 use Rattle.z80_cpu.specs.Types.{Flags}
@@ -17,9 +18,9 @@ use Rattle.asm_reads.specs.Pieces.{valued}
 use Rattle.z80_form.specs.Numbers.{with_numbers}
 use Rattle.zlink.specs.Reads.{shape}
 
--- the memory holds the file, from 0100H
+-- the memory holds the file, from where a program begins
 abbrev pub Holds : List ℕ → List ℕ → Type 0
-Holds memory file = slice_range memory 256 (256 + length file) ≡ file
+Holds memory file = slice_range memory FIRST_PLACE (FIRST_PLACE + length file) ≡ file
 
 -- The memory holds the file, and PC is the place of the program's statement k.
 pub record IsAt (file : List ℕ) (program : List Statement) (c : Choice) (k : ℕ) (s : Statement) (m : Machine) : Type 0 where

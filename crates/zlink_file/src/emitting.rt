@@ -12,7 +12,7 @@ ghost use Rattle.zlink_file.specs.Private.Pieces.{Appends, AreLaid, AreReady, Is
 
 use crate::piece::put_statement;
 use crate::refs::fill_table;
-use ruler::FIRST_PLACE;
+use limits::FIRST_PLACE;
 use std::alloc::{AllocError, Global};
 use zlink_program::laws::{laid_out, within};
 use zlink_program::{Links, Module};

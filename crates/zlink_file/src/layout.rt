@@ -1,8 +1,8 @@
 //! Where the statements of a whole stand.
 
 ghost use Rattle.std.specs.Prelude.{◌≡◌, ◌&&◌, ◌≤◌, ◌<◌, ◌+◌, ◌++◌, ◌^◌, All, IfOk, None, OnOk, length, map, vec_len};
+ghost use Rattle.limits.specs.declared.TheConstants.{MOST_STATEMENTS};
 ghost use Rattle.ruler.specs.Choice.{chosen};
-ghost use Rattle.ruler.specs.declared.limits.TheConstants.{MAX_STATEMENTS};
 ghost use Rattle.zmo_module.specs.Modules.{module_of, statement_of};
 ghost use Rattle.zmo_module.specs.Rules.{IsModule};
 ghost use Rattle.zlink_program.specs.Faults.{first_fault};
@@ -13,7 +13,8 @@ ghost use Rattle.zlink_file.specs.Private.Marked.{marked_from};
 ghost use Rattle.zlink_file.specs.Private.Refs.{IsSizable, stands_by};
 
 use crate::refs::stands;
-use ruler::{FIRST_PLACE, Shape, Statement};
+use limits::FIRST_PLACE;
+use ruler::{Shape, Statement};
 use std::alloc::{AllocError, Global};
 use zlink_program::laws::{laid_out, within};
 use zlink_program::{Links, Module};
@@ -76,7 +77,7 @@ pub fn places_of(
     statements: &[Statement],
     long: &[bool],
 ) -> Result<Vec<u32>, AllocError>
-    requires few { length statements.now ≤ MAX_STATEMENTS }
+    requires few { length statements.now ≤ MOST_STATEMENTS }
     requires same { length long.now ≡ length statements.now }
     ensures { IfOk result (λ v. ArePlaces (chosen long.now) statements.now v.items) }
 {

@@ -1,7 +1,7 @@
 //! Faults that are seen without names.
 
 ghost use Rattle.std.specs.Prelude.{◌≡◌, ◌≤◌, All, map};
-ghost use Rattle.zmo_module.specs.declared.module.TheConstants.{MOST_STATEMENTS};
+ghost use Rattle.limits.specs.declared.TheConstants.{MOST_STATEMENTS};
 ghost use Rattle.zmo_module.specs.Modules.{module_of};
 ghost use Rattle.zmo_module.specs.Rules.{IsModule};
 ghost use Rattle.zlink_program.specs.Faults.{begins_late, enters_late, first_of, too_many};
@@ -10,7 +10,8 @@ ghost use Rattle.zlink_program.specs.Parts.{parts};
 ghost use Rattle.zlink_program.specs.Private.Judged.{part, refused};
 
 use crate::fault::JoinFault;
-use zmo_module::{MOST_STATEMENTS, Module};
+use limits::MOST_STATEMENTS;
+use zmo_module::Module;
 
 /// Refuses more statements than a program may have.
 pub(crate) fn check_count(modules: &[Module]) -> Result<(), JoinFault>

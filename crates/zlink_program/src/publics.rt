@@ -1,7 +1,7 @@
 //! The names that modules give to one another.
 
 ghost use Rattle.std.specs.Prelude.{◌≡◌, ◌≤◌, ◌++◌, ◌∷◌, [], All, IfOk, None, OnOk, is_some, map, not};
-ghost use Rattle.zmo_module.specs.declared.module.TheConstants.{MOST_STATEMENTS};
+ghost use Rattle.limits.specs.declared.TheConstants.{MOST_STATEMENTS};
 ghost use Rattle.zmo_module.specs.Modules.{module_of};
 ghost use Rattle.zmo_module.specs.Rules.{IsModule};
 ghost use Rattle.zlink_program.specs.Faults.{first_of};

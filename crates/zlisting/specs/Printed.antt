@@ -1,8 +1,8 @@
 -- How addresses and bytes are printed.
 use Rattle.std.specs.Prelude.{ℕ, ◌+◌, ◌-◌, ◌/◌, ◌%◌, List, [], ◌∷◌, ◌++◌, length, map, take, drop, replicate}
 use Rattle.std.specs.List.{flat_map}
+use Rattle.limits.specs.declared.TheConstants.{FIRST_PLACE}
 use Rattle.hex.specs.Hex.{encode_upper}
-use Rattle.ruler.specs.declared.limits.TheConstants.{FIRST_PLACE}
 
 abbrev pub blanks : ℕ → List ℕ
 blanks n = replicate n 0x20

@@ -4,17 +4,17 @@ use Rattle.std.specs.List.{IsDistinct}
 use Rattle.std.specs.List.Sorted.{IsStrictlyIncreasing}
 use Rattle.std.specs.Option.{IfSome}
 use Rattle.std.specs.Str.{bytes_eq}
+use Rattle.limits.specs.declared.TheConstants.{MOST_BYTES, MOST_NAMES, MOST_STATEMENTS}
 use Rattle.asm_parse.specs.Names.{IsDefinable}
 use Rattle.z80_instr.specs.declared.Branch.{Branch}
-use Rattle.zmo_module.specs.declared.module.TheConstants.{MOST_NAMES, MOST_STATEMENTS}
-use Rattle.zmo_module.specs.declared.statement.TheConstants.{MOST_BYTES}
+use Rattle.zmo_module.specs.declared.module.TheConstants.{LONGEST_NAME}
 use Rattle.zmo_module.specs.Holes.{IsHole, LieWithin}
 use Rattle.zmo_module.specs.Modules as object
 use Rattle.zmo_module.specs.Modules.{Label, Module, Statement}
 
--- a name has 255 bytes at most
+-- a name that fits into an object
 abbrev pub IsShort : List ℕ → Type 0
-IsShort name = length name ≤ 255
+IsShort name = length name ≤ LONGEST_NAME
 
 -- The name of a label or an external: one that a source can define.
 abbrev pub IsObjectName : List ℕ → Type 0

@@ -9,6 +9,6 @@ mod statement;
 
 pub use asm_value::Expr;
 pub use hole::{Hole, Width, ends_in_byte};
-pub use module::{Label, MOST_NAMES, MOST_STATEMENTS, Module};
-pub use statement::{MOST_BYTES, Statement};
+pub use module::{LONGEST_NAME, Label, Module};
+pub use statement::Statement;
 pub use z80_instr::{Branch, ShortCond};

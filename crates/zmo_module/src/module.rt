@@ -2,11 +2,8 @@
 
 use crate::statement::Statement;
 
-/// The most statements that a module may have.
-pub const MOST_STATEMENTS: usize = 20_000;
-
-/// The most labels and externals that a module may have.
-pub const MOST_NAMES: usize = 40_000;
+/// The most bytes of a name: its length is a byte of an object.
+pub const LONGEST_NAME: usize = 255;
 
 /// A name for the place of a statement.
 #[derive(Debug, Drop)]

@@ -3,9 +3,6 @@
 use crate::hole::Hole;
 use z80_instr::{Branch, ShortCond};
 
-/// The most bytes that one statement may take.
-pub const MOST_BYTES: usize = 65_535;
-
 /// A statement of a module. A ref is the number of a statement, where as many as there are is their end; the externals come
 /// behind that.
 #[derive(Debug, Drop)]

@@ -1,5 +1,6 @@
 -- What private contracts alone cite: no reviewer need believe it.
 use Rattle.std.specs.Prelude.{◌≡◌, ◌≤◌, ℕ, List, [], ◌∷◌, ◌++◌, Result, Ok, Err, All, length, map}
+use Rattle.zmo_module.specs.declared.module.TheConstants.{LONGEST_NAME}
 use Rattle.zmo_module.specs.Modules as object
 use Rattle.zmo_module.specs.Modules.{Label, Module, Statement, label_of}
 use Rattle.zmo_fields.specs.declared.fault.FieldFault.{FieldFault}
@@ -28,7 +29,7 @@ Named view old (Err f) new read = Fails f read
 
 -- the numbers of a head fit its fields
 pub record FitsHeader (m : Module) : Type 0 where
-  pub name : length m.name ≤ 255
+  pub name : length m.name ≤ LONGEST_NAME
   pub statements : length m.statements ≤ 65535
   pub labels : length m.labels ≤ 65535
   pub publics : length m.publics ≤ 65535

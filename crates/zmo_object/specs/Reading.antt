@@ -3,6 +3,7 @@ use Rattle.std.specs.Prelude.{◌≡◌, ℕ, ◌+◌, ◌-◌, ◌%◌, ◌==�
 use Rattle.std.specs.List.{list_all, list_any}
 use Rattle.std.specs.Option.{option_and_then}
 use Rattle.std.specs.Str.{bytes_eq}
+use Rattle.limits.specs.declared.TheConstants.{MOST_BYTES, MOST_NAMES, MOST_STATEMENTS}
 use Rattle.asm_words.specs.Results.{◌>>=◌}
 use Rattle.asm_words.specs.Words.{is_reserved, upper}
 use Rattle.asm_scan.specs.Classes.{begins_name, continues_name}
@@ -11,8 +12,6 @@ use Rattle.asm_value.specs.declared.atom.Atom.{Atom}
 use Rattle.asm_value.specs.Items.{is_within}
 use Rattle.zmo_module.specs.declared.hole.Hole.{Hole}
 use Rattle.zmo_module.specs.declared.hole.Width.{Width}
-use Rattle.zmo_module.specs.declared.module.TheConstants.{MOST_NAMES, MOST_STATEMENTS}
-use Rattle.zmo_module.specs.declared.statement.TheConstants.{MOST_BYTES}
 use Rattle.zmo_module.specs.Holes.{ends_in_byte, size_of}
 use Rattle.zmo_module.specs.Modules as object
 use Rattle.zmo_module.specs.Modules.{Label, Module, Statement, module_of}

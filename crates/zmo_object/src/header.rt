@@ -7,9 +7,10 @@ ghost use Rattle.zmo_object.specs.Texts.{counts_text, entry_text, flags, header_
 ghost use Rattle.zmo_object.specs.Reading.{counts_at, entry_at, flags_at, header_at};
 ghost use Rattle.zmo_object.specs.Private.{FitsHeader, counts_of, header_of};
 
+use limits::{MOST_NAMES, MOST_STATEMENTS};
 use std::alloc::AllocError;
 use zmo_fields::{FieldFault, byte, counted, number, put_byte, put_counted, put_word, word};
-use zmo_module::{MOST_NAMES, MOST_STATEMENTS, Module};
+use zmo_module::Module;
 
 /// How many there are of each.
 #[derive(Clone, Copy)]

@@ -2,6 +2,7 @@
 
 ghost use Rattle.std.specs.Prelude.{◌≡◌, ◌≤◌, ◌+◌, ◌++◌, ◌∷◌, [], OnOk, IfOk, All, length, map, true};
 ghost use Rattle.std.specs.List.{flat_map};
+ghost use Rattle.zmo_module.specs.declared.module.TheConstants.{LONGEST_NAME};
 ghost use Rattle.zmo_module.specs.Modules.{label_of};
 ghost use Rattle.zmo_fields.specs.Fields.{Gives, many};
 ghost use Rattle.zmo_fields.specs.Texts.{counted, word};
@@ -35,7 +36,7 @@ pub(crate) struct Lists {
 
 /// Puts labels behind a text.
 pub(crate) fn put_labels(text: &mut Vec<u8>, labels: &[Label]) -> Result<(), AllocError>
-    requires { All (λ l. length l.name.items ≤ 255) labels.now }
+    requires { All (λ l. length l.name.items ≤ LONGEST_NAME) labels.now }
     ensures { OnOk result (text.new.items ≡ text.old.items ++ flat_map label_text (map label_of labels.now)) }
 {
     for label in labels {
@@ -57,7 +58,7 @@ pub(crate) fn put_publics(text: &mut Vec<u8>, publics: &[u16]) -> Result<(), All
 
 /// Puts externals behind a text.
 pub(crate) fn put_externals(text: &mut Vec<u8>, externals: &[Vec<u8>]) -> Result<(), AllocError>
-    requires { All (λ name. length name.items ≤ 255) externals.now }
+    requires { All (λ name. length name.items ≤ LONGEST_NAME) externals.now }
     ensures { OnOk result (text.new.items ≡ text.old.items ++ flat_map counted (map (λ name. name.items) externals.now)) }
 {
     for name in externals {

@@ -9,9 +9,10 @@ ghost use Rattle.zmo_object.specs.Private.{FitsWords};
 
 use crate::code::{branch, branch_code, condition, condition_code};
 use crate::hole::{holes, put_holes};
+use limits::MOST_BYTES;
 use std::alloc::{AllocError, Global};
 use zmo_fields::{FieldFault, byte, number, put_byte, put_word, run, word};
-use zmo_module::{Branch, Hole, MOST_BYTES, ShortCond, Statement};
+use zmo_module::{Branch, Hole, ShortCond, Statement};
 
 fn put_content(text: &mut Vec<u8>, bytes: &[u8], holes: &[Hole]) -> Result<(), AllocError>
     requires { FitsWords (Bytes bytes.now holes.now) }

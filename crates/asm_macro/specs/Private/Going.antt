@@ -1,18 +1,19 @@
 -- What blocks are gone on with, as parts of an expansion.
 use Rattle.std.specs.Prelude.{◌≡◌, ◌<◌, ◌+◌, ℕ, List, [], Result, Ok, Err, if◌then◌else◌, nat_le}
+use Rattle.asm_macro.specs.declared.take.TheConstants.{MOST_NESTED}
+use Rattle.asm_macro.specs.declared.expansion.TheConstants.{MOST_LINES}
 use Rattle.asm_sections.specs.declared.following.Following.{Following}
 use Rattle.asm_sections.specs.Onward as onward
 use Rattle.asm_texts.specs.Lines.{Numbered}
 use Rattle.asm_macro.specs.declared.fault.MacroFault.{MacroFault}
 use Rattle.asm_macro.specs.declared.moves.Stop as moves
 use Rattle.asm_macro.specs.State.{State, counted}
-use Rattle.asm_macro.specs.Judged.{most_lines}
-use Rattle.asm_macro.specs.Parts.{Part, Stop, Go, Within, most_open}
+use Rattle.asm_macro.specs.Parts.{Part, Stop, Go, Within}
 
 -- a text within, at a depth and from a state; a turn of a REPT counts as a line
 abbrev pub into : ℕ → State → List Numbered → onward.Next → Part
 into depth e text (onward.Turns left number body) =
-    if nat_le most_lines e.count then Stop [] number MacroFault.TooManyLines else Within [] (counted e) (depth + 1) text (onward.Turns left number body)
+    if nat_le MOST_LINES e.count then Stop [] number MacroFault.TooManyLines else Within [] (counted e) (depth + 1) text (onward.Turns left number body)
 into depth e text (onward.Rest more) = Within [] e depth text (onward.Rest more)
 into depth e text (onward.BehindFirst b) = Within [] e depth text (onward.BehindFirst b)
 into depth e text (onward.BehindSecond t more after) = Within [] e depth text (onward.BehindSecond t more after)
@@ -47,7 +48,7 @@ texts_opened (onward.Into text next) = 1
 
 -- What may be gone on with where so many calls and repetitions are open: no call, and a turn of a REPT where one more may open.
 abbrev pub FitsNext : ℕ → onward.Next → Type 0
-FitsNext many (onward.Turns left number body) = many < most_open
+FitsNext many (onward.Turns left number body) = many < MOST_NESTED
 FitsNext many (onward.Rest more) = ⊥
 FitsNext many (onward.BehindFirst b) = Unit {0}
 FitsNext many (onward.BehindSecond t more after) = Unit {0}

@@ -1,6 +1,9 @@
 -- One move of an expansion: a line that is taken up, or what follows a text that is over.
 use Rattle.std.specs.Prelude.{◌≡◌, Option, Some, None, ◌+◌, ◌*◌, ◌-◌, ◌≤◌, ◌<◌, ℕ, List, [], ◌∷◌, Result, Ok, Err, Vec, All, length, map, reverse}
 use Rattle.std.specs.Global.{Global}
+use Rattle.limits.specs.declared.TheConstants.{LONGEST_TEXT}
+use Rattle.asm_macro.specs.declared.take.TheConstants.{MOST_NESTED}
+use Rattle.asm_macro.specs.declared.expansion.TheConstants.{MOST_LINES}
 use Rattle.asm_replace.specs.Replaced.{Table}
 use Rattle.asm_sections.specs.declared.book.Book.{Book}
 use Rattle.asm_macro.specs.declared.expansion.Expansion.{Expansion}
@@ -11,7 +14,6 @@ use Rattle.asm_macro.specs.declared.moves.Stop.{Stop}
 use Rattle.asm_macro.specs.declared.fault.MacroFault.{MacroFault}
 use Rattle.asm_texts.specs.Lines.{Numbered}
 use Rattle.asm_macro.specs.State as state
-use Rattle.asm_macro.specs.Judged.{most_lines}
 use Rattle.asm_macro.specs.Parts as parts
 use Rattle.asm_macro.specs.Expands.{Ended, Stopped, IsDone}
 use Rattle.asm_macro.specs.Expands as expands
@@ -49,10 +51,10 @@ rest_of x = record {
 -- are taken up than may be; the books of the innermost text, of those around and of the source are so; and so is what is kept of
 -- macros and of the open calls.
 pub record Sound (texts : List (List ℕ)) (tables : List Table) (around : List Following) (calls repeated taken : ℕ) (own : Book) (others : List Book) (bottom : Book) (kept : List (Vec ℕ Global × Macro)) (called : List Call) : Type 0 where
-  pub short : length texts ≤ 16777216
+  pub short : length texts ≤ LONGEST_TEXT
   pub turns : repeated ≡ turns_in around
-  pub shallow : calls + repeated ≤ parts.most_open
-  pub few : taken ≤ most_lines
+  pub shallow : calls + repeated ≤ MOST_NESTED
+  pub few : taken ≤ MOST_LINES
   pub book : IsBook texts (innermost tables) own
   pub books : AreBooks texts tables others
   pub source : IsBook texts None bottom
@@ -114,7 +116,7 @@ Gives text (Ok (Some Given.Over)) new move = move ≡ Done
 
 -- how many moves may still come, at most
 abbrev pub most_moves : Expansion → ℕ
-most_moves x = 2 * (most_lines - x.count) + length x.around.items
+most_moves x = 2 * (MOST_LINES - x.count) + length x.around.items
 
 -- Fewer moves may still come, and a line that is given is counted.
 abbrev pub Lessens : Expansion → Option Given → Expansion → Type 0

@@ -1,6 +1,7 @@
 -- The steps of the answer, as the code takes them.
 use Rattle.std.specs.Prelude.{◌≡◌, ℕ, Bool, List, [], ◌∷◌, Option, Some, None, Result, Ok, Err, Vec, map, take}
 use Rattle.std.specs.Global.{Global}
+use Rattle.zmo_module.specs.declared.module.TheConstants.{LONGEST_NAME}
 use Rattle.asm_expr.specs.Names.{Table}
 use Rattle.asm_order.specs.declared.walk.Turn.{Turn}
 use Rattle.asm_equ.specs.Circles.{TellsCircles}
@@ -54,7 +55,7 @@ States grow names t layout lines (Err fault) = IsFault (at state_why (stated.fir
 -- A module of statements, by the names and lines of its source.
 abbrev pub held : List ℕ → Bool → List Taken → Layout → List Statement → Module
 held name grow lines layout statements = record {
-  name = take 255 name;
+  name = take LONGEST_NAME name;
   begins = begins lines;
   entry = entry (labels layout (names lines)) lines;
   grow = grow;

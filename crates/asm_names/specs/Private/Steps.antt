@@ -1,9 +1,9 @@
 -- Definitions and lines taken up one after the other.
 use Rattle.std.specs.Prelude.{◌≡◌, ◌<◌, ◌≤◌, ◌+◌, true, false, ℕ, List, [], ◌∷◌, ◌++◌, Option, Some, None, Result, Ok, Err, if◌then◌else◌, count_by, length, map}
+use Rattle.limits.specs.declared.TheConstants.{MOST_STATEMENTS}
 use Rattle.asm_spell.specs.Line.{Line}
 use Rattle.asm_names.specs.declared.fault.NameFault.{NameFault}
 use Rattle.asm_names.specs.declared.naming.Naming.{Naming}
-use Rattle.asm_names.specs.declared.naming.TheConstants.{MOST_STATEMENTS}
 use Rattle.asm_names.specs.declared.kind.Kind.{Kind}
 use Rattle.asm_names.specs.Lines.{Taken, has_statement}
 use Rattle.asm_names.specs.Names.{Names, clashes, kind_of, names, repeats, with_name, with_names}

@@ -1,6 +1,7 @@
 use Rattle.std.specs.Prelude.{◌≡◌, ℕ, ◌+◌, ◌<◌, ◌≤◌, All, true, false, List, length, slice_index, take, Result, Ok, Err, Option, Some, None, Vec, Bool}
 use Rattle.std.specs.Global.{Global}
 use Rattle.std.specs.List.{slice_index_or}
+use Rattle.certificate.specs.declared.limits.TheConstants.{MOST_BYTES}
 use Rattle.certificate.specs.declared.shape.Statement.{Statement}
 use Rattle.certificate.specs.declared.cert.Verdict.{Verdict}
 use Rattle.certificate.specs.declared.cert.Verdict.TheVariants.{Best, Range, TooLarge}
@@ -15,7 +16,7 @@ use Rattle.cert_check.specs.Faults.{IsStillShort, HasTotal}
 
 -- what a statement may take
 abbrev pub IsSize : ℕ → Type 0
-IsSize bytes = (1 ≤ bytes) × (bytes ≤ 65535)
+IsSize bytes = (1 ≤ bytes) × (bytes ≤ MOST_BYTES)
 
 -- a flag for each statement of a shape, and how many bytes each takes by them
 pub record IsLayout (shape : List Statement) (long : List Bool) (sizes : List ℕ) : Type 0 where

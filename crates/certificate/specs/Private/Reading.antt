@@ -2,7 +2,7 @@ use Rattle.std.specs.Prelude.{◌≡◌, ◌≢◌, ℕ, ◌-◌, ◌^◌, ◌<�
 use Rattle.std.specs.Global.{Global}
 use Rattle.std.specs.List.{AllByRecursion, list_all}
 use Rattle.std.specs.Char.{is_ascii_digit}
-use Rattle.certificate.specs.declared.limits.TheConstants.{MAX_STATEMENTS}
+use Rattle.certificate.specs.declared.limits.TheConstants.{MOST_BYTES, MOST_STATEMENTS}
 use Rattle.certificate.specs.Types.{Statement, TextFault}
 use Rattle.certificate.specs.declared.shape.Statement.TheVariants.{Fixed, Jump, Short}
 use Rattle.certificate.specs.declared.cert.CertLine.{CertLine}
@@ -47,7 +47,7 @@ IsTarget word line None = (target : ℕ) → ¬ IsJumpLine word line target
 
 -- a line read as a statement's
 abbrev pub IsRead : List ℕ → Statement → Type 0
-IsRead line (Fixed n) = (1 ≤ n) × (n ≤ 65535) × (line ≡ statement_line (Fixed n))
+IsRead line (Fixed n) = (1 ≤ n) × (n ≤ MOST_BYTES) × (line ≡ statement_line (Fixed n))
 IsRead line (Jump t) = IsTarget (codes "J ") line (Some t)
 IsRead line (Short t) = IsTarget (codes "S ") line (Some t)
 
@@ -64,7 +64,7 @@ AreRead (line ∷ lines) (s ∷ statements) = IsRead line s × AreRead lines sta
 
 -- a sizes text read but for how great its targets may be
 abbrev pub AreLinesRead : List ℕ → Result (Vec Statement Global) TextFault → Type 0
-AreLinesRead text (Ok found) = (lines : List (List ℕ)) × AreRead lines found.items × (length found.items ≤ MAX_STATEMENTS) × (text ≡ text_of (sizes_lines lines))
+AreLinesRead text (Ok found) = (lines : List (List ℕ)) × AreRead lines found.items × (length found.items ≤ MOST_STATEMENTS) × (text ≡ text_of (sizes_lines lines))
 AreLinesRead text (Err (BadLine n)) = BreaksAt AreSizesLines text n
 AreLinesRead text (Err NoMemory) = Unit {0}
 
@@ -73,7 +73,7 @@ pub record ReadsSoFar (text rest : List ℕ) (statements : List Statement) : Typ
   pub lines : List (List ℕ)
   pub text_is : text ≡ text_of (sizes_header ∷ lines) ++ rest
   pub read : AreRead lines statements
-  pub few : length statements ≤ MAX_STATEMENTS
+  pub few : length statements ≤ MOST_STATEMENTS
 
 -- the lowest of some statements that may not stand among so many
 abbrev pub IsFirstFar : List Statement → Option ℕ → Type 0

@@ -15,8 +15,8 @@ pub returns-then-is_end : goal.returns-then-is_end
 returns-then-is_end c =
     ended c.args.text.now c.loop-line.rest.now c.in-Some-first_line.line.now c.in-Some-first_line.after.now c.loop-line.statements.items c.loop-line.invariant c.in-Some-first_line.ensures.line.1 c.if-is_end.ensures (eqb-true (length c.in-Some-first_line.after.now) 0 (sym c.if-not-is_empty.ensures))
 
-pub returns-then-len-eq-MAX_STATEMENTS : goal.returns-then-len-eq-MAX_STATEMENTS
-returns-then-len-eq-MAX_STATEMENTS c =
+pub returns-then-len-eq-MOST_STATEMENTS : goal.returns-then-len-eq-MOST_STATEMENTS
+returns-then-len-eq-MOST_STATEMENTS c =
     broken_line c.args.text.now c.loop-line.rest.now c.in-Some-first_line.line.now c.in-Some-first_line.after.now c.loop-line.statements.items (c.len-number.result + 2) c.loop-line.invariant (omega (arith, c.len-number.ensures)) c.in-Some-first_line.ensures.line.0 c.in-Some-first_line.ensures.line.1
     (λ _ few. absurd (omega (arith, few, c.len.ensures))) c.if-is_end.ensures
 

@@ -1,5 +1,5 @@
 use Rattle.std.proofs.Common.{◌≤◌, map}
-use Rattle.zmo_module.specs.declared.module.TheConstants.{MOST_STATEMENTS}
+use Rattle.limits.specs.declared.TheConstants.{MOST_STATEMENTS}
 use Rattle.zmo_module.specs.Modules.{module_of}
 use Rattle.zlink_program.proofs.Going_on.{Reached, left}
 use Rattle.zlink_program.proofs.checks.check_count.Given as goal

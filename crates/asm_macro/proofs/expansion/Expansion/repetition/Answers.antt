@@ -14,8 +14,8 @@ use Rattle.asm_macro.proofs.Stacks.{depth_is}
 use Rattle.asm_macro.proofs.Taken.{value_is, value_fails, repeated_ok, repeated_err}
 use Rattle.asm_macro.proofs.expansion.Expansion.repetition.Goals as goal
 
-pub returns-else-len-self-ge-MOST_OPEN-clause-taken : goal.returns-else-len-self-ge-MOST_OPEN-clause-taken
-returns-else-len-self-ge-MOST_OPEN-clause-taken c =
+pub returns-else-len-self-ge-MOST_NESTED-clause-taken : goal.returns-else-len-self-ge-MOST_NESTED-clause-taken
+returns-else-len-self-ge-MOST_NESTED-clause-taken c =
     let x = c.args.self.now in
     let y = c.body.new.self in
     let kept = c.in_ok-found.ensures.kept in
@@ -27,7 +27,7 @@ returns-else-len-self-ge-MOST_OPEN-clause-taken c =
     subst (λ z. Resumes c.go_behind.result (rest_of c.go_behind.new.self) (moved (rest_of z).depth (rest_of z).around (repeated (rest_of z).depth (state_of z) l (body_of (rest_of z).text) (worth (state.table (state_of z)) (lexemes c.args.tokens.now))))) kept
     (subst (λ p. Resumes c.go_behind.result (rest_of c.go_behind.new.self) (moved (rest_of y).depth (rest_of y).around p))
     (sym (repeated_ok (rest_of y).depth (state_of y) l (body_of (rest_of y).text) w (body_seen y.lines (innermost (tables_in y)) c.in-Some.body) c.in-Ok.value found value
-    (omega (arith, c.if-len-self-ge-MOST_OPEN.false, c.len.ensures, depth_is y)))) c.go_behind.ensures.resumed)
+    (omega (arith, c.if-len-self-ge-MOST_NESTED.false, c.len.ensures, depth_is y)))) c.go_behind.ensures.resumed)
 
 pub returns-in-Err-clause-taken : goal.returns-in-Err-clause-taken
 returns-in-Err-clause-taken c =

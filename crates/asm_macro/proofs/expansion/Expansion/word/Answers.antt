@@ -1,4 +1,5 @@
 use Rattle.std.proofs.Common.{◌≡◌, ◌<◌, ◌+◌, ◌∙◌, ◌∷◌, ap, sym, subst, refl, length, arith, IfSome, Some, None, Ok}
+use Rattle.asm_macro.specs.declared.take.TheConstants.{MOST_NESTED}
 use Rattle.asm_scan.specs.Tokens.{lexemes}
 use Rattle.asm_words.specs.Words.{upper}
 use Rattle.asm_line.specs.Views.{form_seen}
@@ -26,7 +27,7 @@ returns-in-None-clause-taken c =
     let key = c.deref.ensures.value ∙ c.in_ok-key.ensures.ok in
     let m = macro_seen x.lines c.in-Some.called.now in
     let found : macro_called (state_of x) name ≡ Some m = ap (λ k. called_by k (macros_seen x.lines x.macros.entries)) (sym key) ∙ sym (c.in-Some.ensures.found x.lines) in
-    let shallow : (rest_of x).depth < 16 = omega (arith, c.if-len-self-ge-MOST_OPEN.false, c.len.ensures, depth_is x) in
+    let shallow : (rest_of x).depth < MOST_NESTED = omega (arith, c.if-len-self-ge-MOST_NESTED.false, c.len.ensures, depth_is x) in
     let label = c.in_ok-label.ensures l.number in
     let ready = c.in_ok-prepared.ensures.prepares x.lines (c.in-Some.ensures.kept x.lines c.requires.sound.macros) in
     let none = subst (Prepares x.lines c.in-Some.called.now l.text tokens f.rest x.counter) c.in-None.is ready in
@@ -43,7 +44,7 @@ returns-clause-taken c =
     let key = c.deref.ensures.value ∙ c.in_ok-key.ensures.ok in
     let m = macro_seen x.lines c.in-Some.called.now in
     let found : macro_called (state_of x) name ≡ Some m = ap (λ k. called_by k (macros_seen x.lines x.macros.entries)) (sym key) ∙ sym (c.in-Some.ensures.found x.lines) in
-    let shallow : (rest_of x).depth < 16 = omega (arith, c.if-len-self-ge-MOST_OPEN.false, c.len.ensures, depth_is x) in
+    let shallow : (rest_of x).depth < MOST_NESTED = omega (arith, c.if-len-self-ge-MOST_NESTED.false, c.len.ensures, depth_is x) in
     let label = c.in_ok-label.ensures l.number in
     let ready = c.in_ok-prepared.ensures.prepares x.lines (c.in-Some.ensures.kept x.lines c.requires.sound.macros) in
     let p = subst (Prepares x.lines c.in-Some.called.now l.text tokens f.rest x.counter) c.in-Some-prepared.is ready in
