@@ -68,10 +68,14 @@ fn megabyte(rt: HostRuntime) -> Result<(), Fail> {
 
 #[test]
 fn blank(rt: HostRuntime) -> Result<(), Fail> {
-    for (kind, sectors) in [(DiskKind::EightInch, 2_002), (DiskKind::Megabyte, 8_192)] {
+    for (kind, sectors, records) in [
+        (DiskKind::EightInch, 2_002, 1_944),
+        (DiskKind::Megabyte, 8_192, 8_192),
+    ] {
         let image = MemoryImage::blank(rt.alloc(), kind)?;
         assert_eq!(rt; image.len(), sectors);
         assert_eq!(rt; DiskKind::of_size(sectors), Some(kind));
+        assert_eq!(rt; kind.record_count(), records);
         assert!(rt;
             image
                 .sectors()

@@ -16,7 +16,7 @@ fn entry(user: u8, name: [u8; 11], extent: u8, block: u8) -> Entry {
 #[test]
 fn one_byte(rt: HostRuntime) -> Result<(), Fail> {
     // The place of a byte in an entry, the byte, and what is judged.
-    let rows: [(usize, u8, Option<DiskFault>); 15] = [
+    let rows: [(usize, u8, Option<DiskFault>); 13] = [
         (15, 0x80, None),
         (15, 0x81, Some(DiskFault::BadEntry)),
         (12, 0x1F, None),
@@ -30,9 +30,6 @@ fn one_byte(rt: HostRuntime) -> Result<(), Fail> {
         (31, 0xF2, None),
         (31, 0xF3, Some(DiskFault::BlockRange)),
         (31, 0xFF, Some(DiskFault::BlockRange)),
-        // A user of 31 has files, one of 32 is foreign.
-        (0, 0x1F, None),
-        (0, 0x20, None),
     ];
     for (place, byte, fault) in rows {
         let mut bytes = Entry::new_extent(0, *b"A       COM", 0).to_bytes();
@@ -70,7 +67,11 @@ fn two_entries(rt: HostRuntime) -> Result<(), Fail> {
             entry(0, *b"B       COM", 0, 3).with_record(DiskKind::EightInch, 8, 3),
             Some(DiskFault::BlockTwice),
         ),
-        // A foreign entry and a free one have no blocks.
+        // User 31 has files. A foreign entry and a free one have no blocks.
+        (
+            entry(31, *b"A       COM", 0, 2),
+            Some(DiskFault::BlockTwice),
+        ),
         (entry(32, *b"A       COM", 0, 2), None),
         (entry(0, *b"A       COM", 0, 2).erased(), None),
     ];
