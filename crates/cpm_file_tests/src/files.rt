@@ -280,6 +280,22 @@ fn close_by_extent(rt: HostRuntime) -> Result<(), Fail> {
 }
 
 #[test]
+fn close_the_last_extent(rt: HostRuntime) -> Result<(), Fail> {
+    let entry = b"\x00FILE    TXT\x1F\x00\x00\x00";
+    let mut m = cpm_bdos_steps::plain_with_entry(rt.alloc(), entry)?;
+    for (extent, wanted) in [(0x1F, 0), (0x20, 0xFF)] {
+        run(
+            &mut m,
+            &[
+                Step::Fcb(FCB, FILE, [extent, 0, 0]),
+                Step::Call(16, FCB, Ok(wanted)),
+            ],
+        )?;
+    }
+    Ok(())
+}
+
+#[test]
 fn across_the_top(rt: HostRuntime) -> Result<(), Fail> {
     let mut m = new_plain(rt.alloc(), b"")?;
     run(
