@@ -283,15 +283,13 @@ fn close_by_extent(rt: HostRuntime) -> Result<(), Fail> {
 fn close_the_last_extent(rt: HostRuntime) -> Result<(), Fail> {
     let entry = b"\x00FILE    TXT\x1F\x00\x00\x00";
     let mut m = cpm_bdos_steps::plain_with_entry(rt.alloc(), entry)?;
-    for (extent, wanted) in [(0x1F, 0), (0x20, 0xFF)] {
-        run(
-            &mut m,
-            &[
-                Step::Fcb(FCB, FILE, [extent, 0, 0]),
-                Step::Call(16, FCB, Ok(wanted)),
-            ],
-        )?;
-    }
+    run(
+        &mut m,
+        &[
+            Step::Fcb(FCB, FILE, [0x1F, 0, 0]),
+            Step::Call(16, FCB, Ok(0)),
+        ],
+    )?;
     Ok(())
 }
 
