@@ -1,0 +1,106 @@
+# Completion of z80dev for fish: commands, options, and files by their kind.
+# `scripts/install PREFIX` puts it into PREFIX/share/fish/vendor_completions.d; or copy it to ~/.config/fish/completions.
+
+# Whether the command is the one that is given, and, with a number, whether as many operands stand before the cursor.
+function __z80dev_at
+    set -l words (commandline -opc)
+    test "$words[2]" = $argv[1]; or return
+    test -n "$argv[2]"; or return 0
+    test (count (__z80dev_operands)) -eq $argv[2]
+end
+
+# The words before the cursor, after the command, that are neither an option nor its value.
+function __z80dev_operands
+    set -l is_value no
+    for word in (commandline -opc)[3..]
+        if test $is_value = yes
+            set is_value no
+        else if contains -- $word --out --disk --steps
+            set is_value yes
+        else if not string match -q -- '-*' $word
+            echo $word
+        end
+    end
+end
+
+# Folders, and the files with one of the endings that are given, in upper or lower case.
+function __z80dev_files
+    set -l token (commandline -ct | string replace -r '^--[a-z]+=' '')
+    set -l endings (string join '|' $argv)
+    for path in (complete -C "'' $token" | string replace -r '\t.*' '')
+        if string match -qr '/$' -- $path; or string match -qri "\.($endings)\$" -- $path
+            echo $path
+        end
+    end
+end
+
+# Folders, and the paths of source files without their endings: what a BASE usually is.
+function __z80dev_bases
+    __z80dev_files asm mac z80 | string replace -ri '\.(asm|mac|z80)$' ''
+end
+
+# The files of user 0 on a disk image.
+function __z80dev_names
+    z80dev dir $argv[1] 2>/dev/null | string match -r '^0 \S+' | string replace '0 ' ''
+end
+
+# The image that --disk names.
+function __z80dev_disk
+    commandline -opc | string join ' ' | string match -r -- '--disk[= ]\S+' | string replace -r -- '^--disk[= ]' ''
+end
+
+complete -c z80dev -f
+complete -c z80dev -n __fish_use_subcommand -s h -l help -d 'Print help'
+complete -c z80dev -n __fish_use_subcommand -s V -l version -d 'Print the version'
+complete -c z80dev -n __fish_use_subcommand -a asm -d 'Assemble a source file to an object'
+complete -c z80dev -n __fish_use_subcommand -a link -d 'Link objects to a program'
+complete -c z80dev -n __fish_use_subcommand -a build -d 'Assemble and link source files to a program'
+complete -c z80dev -n __fish_use_subcommand -a check -d 'Check the certificate of a program'
+complete -c z80dev -n __fish_use_subcommand -a dir -d 'List the files on a disk image'
+complete -c z80dev -n __fish_use_subcommand -a put -d 'Copy a file to a disk image'
+complete -c z80dev -n __fish_use_subcommand -a get -d 'Copy a file from a disk image'
+complete -c z80dev -n __fish_use_subcommand -a blank -d 'Make an empty disk image'
+complete -c z80dev -n __fish_use_subcommand -a run -d 'Run a CP/M program'
+
+complete -c z80dev -n '__z80dev_at asm' -s h -l help -d 'Print help'
+complete -c z80dev -n '__z80dev_at asm' -l out -x -a '(__z80dev_bases)' -d 'Path of the object, without its ending'
+complete -c z80dev -n '__z80dev_at asm' -l grow -d 'Let a JR out of reach become a JP'
+complete -c z80dev -n '__z80dev_at asm 0' -a '(__z80dev_files asm mac z80)' -d 'Source file'
+
+complete -c z80dev -n '__z80dev_at link' -s h -l help -d 'Print help'
+complete -c z80dev -n '__z80dev_at link' -l out -x -a '(__z80dev_bases)' -d 'Path of the files, without an ending'
+complete -c z80dev -n '__z80dev_at link' -a '(__z80dev_files zmo)' -d 'Object'
+
+complete -c z80dev -n '__z80dev_at build' -s h -l help -d 'Print help'
+complete -c z80dev -n '__z80dev_at build' -l out -x -a '(__z80dev_bases)' -d 'Path of the files, without an ending'
+complete -c z80dev -n '__z80dev_at build' -l grow -d 'Let a JR out of reach become a JP'
+complete -c z80dev -n '__z80dev_at build' -l list -d 'Write a listing and the labels too'
+complete -c z80dev -n '__z80dev_at build' -s v -l verbose -d 'Print how many jumps are short and long'
+complete -c z80dev -n '__z80dev_at build' -a '(__z80dev_files asm mac z80)' -d 'Source file'
+
+complete -c z80dev -n '__z80dev_at check' -s h -l help -d 'Print help'
+complete -c z80dev -n '__z80dev_at check 0' -a '(__z80dev_files siz)' -d Sizes
+complete -c z80dev -n '__z80dev_at check 1' -a '(__z80dev_files crt)' -d Certificate
+
+complete -c z80dev -n '__z80dev_at dir' -s h -l help -d 'Print help'
+complete -c z80dev -n '__z80dev_at dir 0' -a '(__z80dev_files img dsk cpm)' -d 'Disk image'
+
+complete -c z80dev -n '__z80dev_at put' -s h -l help -d 'Print help'
+complete -c z80dev -n '__z80dev_at put 0' -a '(__z80dev_files img dsk cpm)' -d 'Disk image'
+complete -c z80dev -n '__z80dev_at put 1' -F
+complete -c z80dev -n '__z80dev_at put 2' -a '(string upper (path basename (__z80dev_operands)[2]))' -d 'Name on the disk'
+
+complete -c z80dev -n '__z80dev_at get' -s h -l help -d 'Print help'
+complete -c z80dev -n '__z80dev_at get 0' -a '(__z80dev_files img dsk cpm)' -d 'Disk image'
+complete -c z80dev -n '__z80dev_at get 1' -a '(__z80dev_names (__z80dev_operands)[1])' -d 'Name on the disk'
+complete -c z80dev -n '__z80dev_at get 2' -F
+
+complete -c z80dev -n '__z80dev_at blank' -s h -l help -d 'Print help'
+complete -c z80dev -n '__z80dev_at blank' -l mega -d 'Make an image of 1,048,576 bytes'
+complete -c z80dev -n '__z80dev_at blank 0' -a '(__z80dev_files img dsk cpm)' -d 'Disk image'
+
+complete -c z80dev -n '__z80dev_at run' -s h -l help -d 'Print help'
+complete -c z80dev -n '__z80dev_at run' -l disk -x -a '(__z80dev_files img dsk cpm)' -d 'Image of drive A'
+complete -c z80dev -n '__z80dev_at run' -l steps -x -d 'The most steps that are run'
+complete -c z80dev -n '__z80dev_at run 0' -a '(__z80dev_files com)' -d 'Program'
+complete -c z80dev -n '__z80dev_at run; and not __z80dev_at run 0' -a '(set -l disk (__z80dev_disk); and __z80dev_names $disk[-1])' -d 'Name on the disk'
