@@ -1,9 +1,11 @@
-;;; z80dev.el --- Errors of z80dev in compilation buffers  -*- lexical-binding: t -*-
+;;; z80dev.el --- Sources and errors of z80dev  -*- lexical-binding: t -*-
+
+;; Written by editors/generate from editors/templates/z80dev.el and editors/words: change those.
 
 ;;; Commentary:
 
-;; (load "/PATH/editors/emacs/z80dev.el"), then M-x compile with a command of z80dev:
-;; next-error goes to the line of `error: PATH(LINE): NAME' and of `grown PATH(LINE)'.
+;; (load "/PATH/editors/emacs/z80dev.el") in your init file.  Then files that end with .asm, .mac or .z80 open in `z80dev-mode',
+;; and in a compilation buffer `next-error' goes to the line of `error: PATH(LINE): NAME' and of `grown PATH(LINE)'.
 
 ;;; Code:
 
@@ -15,6 +17,68 @@
              '(z80dev-grown "^grown \\(.+\\)(\\([0-9]+\\))$" 1 2 nil 0))
 (add-to-list 'compilation-error-regexp-alist 'z80dev)
 (add-to-list 'compilation-error-regexp-alist 'z80dev-grown)
+
+(defconst z80dev-name "[A-Za-z_?@.][A-Za-z0-9_?@.]*")
+
+(defconst z80dev-start (concat "^[ \t]*\\(?:" z80dev-name "[ \t]*:[ \t]*\\)?")
+  "What stands before the word of a statement.")
+
+(defconst z80dev-font-lock-keywords
+  (list
+   (list (concat "^[ \t]*\\(" z80dev-name "[ \t]*:\\)") 1 'font-lock-function-name-face)
+   ;; Words that mean this only where a statement begins.  Elsewhere they may be labels.
+   (list (concat z80dev-start (regexp-opt '("adc" "add" "and" "bit" "call" "ccf" "cp" "cpd" "cpdr" "cpi" "cpir" "cpl" "daa" "dec" "di" "djnz" "ei" "ex" "exx" "halt" "im" "in" "inc" "ind" "indr" "ini" "inir" "jp" "jr" "ld" "ldd" "lddr" "ldi" "ldir" "neg" "nop" "or" "otdr" "otir" "out" "outd" "outi" "pop" "push" "res" "ret" "reti" "retn" "rl" "rla" "rlc" "rlca" "rld" "rr" "rra" "rrc" "rrca" "rrd" "rst" "sbc" "scf" "set" "sla" "sra" "srl" "sub" "xor") t) "\\_>") 1 'font-lock-keyword-face)
+   (list (concat z80dev-start (regexp-opt '("db" "defb" "defm" "dw" "defw" "ds" "defs" "org" "public" "global" "extrn" "external" "end" ".z80" "rept" "endm" "local" "if" "else" "endif") t) "\\_>") 1 'font-lock-preprocessor-face)
+   (cons (regexp-opt '("equ" "macro") 'symbols) 'font-lock-preprocessor-face)
+   (cons "\\_<af'" 'font-lock-variable-name-face)
+   (cons (regexp-opt '("a" "b" "c" "d" "e" "h" "l" "i" "r" "af" "bc" "de" "hl" "ix" "iy" "sp" "nz" "z" "nc" "c" "po" "pe" "p" "m") 'symbols) 'font-lock-variable-name-face)
+   (cons (regexp-opt '("high" "low" "mod" "shl" "shr" "eq" "ne" "lt" "le" "gt" "ge" "not" "and" "or" "xor") 'symbols) 'font-lock-builtin-face)
+   (cons "\\_<[0-9][A-Za-z0-9]*\\_>" 'font-lock-constant-face)
+   (cons "\\$" 'font-lock-builtin-face)))
+
+(defvar z80dev-mode-syntax-table
+  (let ((table (make-syntax-table)))
+    (modify-syntax-entry ?\; "<" table)
+    (modify-syntax-entry ?\n ">" table)
+    (modify-syntax-entry ?\' "\"" table)
+    (modify-syntax-entry ?\" "\"" table)
+    (modify-syntax-entry ?\\ "." table)
+    (dolist (mark '(?_ ?? ?@ ?.))
+      (modify-syntax-entry mark "_" table))
+    (dolist (mark '(?$ ?+ ?- ?* ?/ ?,))
+      (modify-syntax-entry mark "." table))
+    table))
+
+(defun z80dev-propertize (start end)
+  "Mark the quotes between START and END that begin no string.
+These are that of AF\\=', and one that its line does not close."
+  (goto-char start)
+  (beginning-of-line)
+  (let ((case-fold-search t))
+    (while (< (point) end)
+      (let ((eol (line-end-position)))
+        (while (re-search-forward "[;'\"]" eol t)
+          (let ((at (1- (point))) (mark (char-before)))
+            (cond
+             ((eq mark ?\;) (goto-char eol))
+             ((and (not (and (eq mark ?\')
+                             (save-excursion (goto-char at) (looking-back "\\_<af" (line-beginning-position)))))
+                   (search-forward (string mark) eol t)))
+             (t (put-text-property at (1+ at) 'syntax-table (string-to-syntax ".")))))))
+      (forward-line 1)
+      (when (eobp) (goto-char (max end (point)))))))
+
+;;;###autoload
+(define-derived-mode z80dev-mode prog-mode "Z80"
+  "Major mode for sources of z80dev."
+  (setq-local comment-start ";")
+  (setq-local comment-start-skip ";+[ \t]*")
+  (setq-local indent-tabs-mode t)
+  (setq-local syntax-propertize-function #'z80dev-propertize)
+  (setq font-lock-defaults '(z80dev-font-lock-keywords nil t)))
+
+;;;###autoload
+(add-to-list 'auto-mode-alist '("\\.\\(?:asm\\|ASM\\|mac\\|MAC\\|z80\\|Z80\\)\\'" . z80dev-mode))
 
 (provide 'z80dev)
 ;;; z80dev.el ends here

@@ -1,2 +1,2 @@
-" Texts of these endings are sources of z80dev, whatever rules of Vim itself say (asm).
+" Files with these endings are sources of z80dev, whatever Vim itself takes them for (asm).
 autocmd BufNewFile,BufRead *.asm,*.ASM,*.mac,*.MAC,*.z80,*.Z80 setlocal filetype=z80dev
