@@ -32,6 +32,9 @@ class Z80dev:
     def check(self, base):
         return [self.path, "check", f"{base}.siz", f"{base}.crt"]
 
+    def run(self, base):
+        return [self.path, "run", f"{base}.com"]
+
     def made(self, folder, base):
         """The bytes of a program that was made."""
         return (folder / f"{base}.com").read_bytes()
@@ -120,6 +123,33 @@ class Host:
 
     def build(self, base):
         return [[self.path, "-o", f"{base}.o", f"{base}.s"]]
+
+
+class Simh:
+    """The machine AltairZ80 of simh, which runs programs and makes none."""
+
+    title = "simh AltairZ80"
+    package = "simh"
+    # A program returns to 0000H, where a HALT ends it.
+    orders = """\
+set cpu z80
+set cpu 64k
+set cpu stoponhalt
+deposit 0 76
+deposit e000 0
+deposit e001 0
+load {base}.com 100
+deposit sp e000
+go 100
+quit
+"""
+
+    def __init__(self):
+        self.path = found("altairz80")
+        self.is_here = bool(self.path)
+
+    def run(self, base):
+        return [self.path, f"{base}.ini"]
 
 
 def all_peers():

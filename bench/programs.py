@@ -76,6 +76,50 @@ def macros():
     return lines_of(lines)
 
 
+# -- a program that is run
+
+def machine(rounds):
+    """A sieve of 4,096 bytes, so many times over, that calls no system: in the language of z80dev."""
+    return f"""\
+        LD      BC,{rounds}
+ROUND:  PUSH    BC
+        LD      HL,SIEVE
+        LD      BC,4096
+CLEAR:  LD      (HL),1
+        INC     HL
+        DEC     BC
+        LD      A,B
+        OR      C
+        JP      NZ,CLEAR
+        LD      HL,SIEVE
+        LD      DE,3
+NEXT:   LD      A,(HL)
+        OR      A
+        JP      Z,AFTER
+        PUSH    HL
+CROSS:  ADD     HL,DE
+        LD      A,H
+        CP      HIGH (SIEVE+4096)
+        JP      NC,DONE
+        LD      (HL),0
+        JP      CROSS
+DONE:   POP     HL
+AFTER:  INC     HL
+        INC     DE
+        INC     DE
+        LD      A,H
+        CP      HIGH (SIEVE+4096)
+        JP      C,NEXT
+        POP     BC
+        DEC     BC
+        LD      A,B
+        OR      C
+        JP      NZ,ROUND
+        RET
+SIEVE   EQU     1000H
+"""
+
+
 # -- modules of one statement
 
 def single(dialect, number, count):
@@ -114,11 +158,17 @@ KINDS = (
 SIZES = {kind: size for kind, _, size in KINDS}
 
 
-class Mix:
-    """A program of so many statements. Of a module, `publics` are labels of it and `externals` those of another one."""
+# Those that call a macro.
+CALLS = ("move", "wait", "avoid", "choose")
 
-    def __init__(self, dialect, statements, seed, module="main", publics=(), externals=()):
+
+class Mix:
+    """A program of so many statements, with calls of macros or without. Of a module, `publics` are labels of it and `externals` those of
+    another one."""
+
+    def __init__(self, dialect, statements, seed, module="main", publics=(), externals=(), calls=True):
         self.dialect = dialect
+        self.calls = calls
         self.chance = Chance(seed)
         self.module = module
         self.publics = list(publics)
@@ -130,7 +180,7 @@ class Mix:
         self.labels = [self.publics[k] if k < len(self.publics) else f"{self.chance.of(STEMS)}{k}" for k in range(count)]
 
     def plan(self, statements):
-        each = [kind for kind, weight, _ in KINDS for _ in range(weight)]
+        each = [kind for kind, weight, _ in KINDS if self.calls or kind not in CALLS for _ in range(weight)]
         kinds = []
         while statements > 0:
             kind = self.chance.of(each)
@@ -340,7 +390,8 @@ class Mix:
     def source(self):
         self.lines = self.dialect.begin(self.module, self.publics, self.externals)
         self.equates()
-        self.macros()
+        if self.calls:
+            self.macros()
         for at, kind in enumerate(self.kinds):
             made = self.item(at, kind, self.labels[at // 3] if at % 3 == 0 else "")
             if at % 8 == 0:
@@ -349,8 +400,8 @@ class Mix:
         return lines_of(self.lines)
 
 
-def mixed(dialect, statements):
-    return Mix(dialect, statements, 23).source()
+def mixed(dialect, statements, calls=True):
+    return Mix(dialect, statements, 23, calls=calls).source()
 
 
 def module(dialect, number, count, statements):
