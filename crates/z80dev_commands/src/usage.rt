@@ -10,8 +10,8 @@ use crate::help;
 use clap::{Arg, ArgAction, Command, value_parser};
 use std::alloc::{AllocError, Global};
 
-/// The version of the command, and the toolchain that its proofs were made with.
-const VERSION: &str = "0.1.0, proved with rattle-kit-13f";
+/// What `--version` prints after the command's name.
+const VERSION: &str = "0.2.0";
 
 /// A path that has to be given, and what is said of it.
 fn path<'a>(alloc: Global, name: &'a str, help: &'a str) -> Arg<'a>
@@ -44,7 +44,7 @@ fn out<'a>(alloc: Global) -> Arg<'a>
     path(
         alloc,
         "BASE",
-        "The path of each file that is written, without its ending",
+        "The path of the files to write, without their endings",
     )
     .long("out")
 }
@@ -69,7 +69,7 @@ fn steps<'a>(alloc: Global) -> Arg<'a>
         alloc,
         "steps",
         "N",
-        "The most turns (instructions, repetitions, system calls), else 100000000",
+        "The most steps (instructions, repetitions, system calls) [default: 100000000]",
     )
     .value_parser(value_parser!(u64))
 }
@@ -105,7 +105,7 @@ fn verbose<'a>(alloc: Global) -> Arg<'a>
     flag(
         alloc,
         "verbose",
-        "Says on standard error how many jumps are short and long, and the bytes saved",
+        "Reports on standard error how many jumps are short and long, and the bytes saved",
     )
     .short('v')
 }
@@ -125,24 +125,24 @@ fn asm<'a>(alloc: Global) -> Result<Command<'a>, AllocError>
     titled(
         alloc,
         "asm",
-        "Assembles a source text to an object",
+        "Assembles a source file to an object file",
         help::ASM,
     )
     .arg(out(alloc))?
     .arg(grow(alloc))?
-    .arg(path(alloc, "SRC", "The source text"))
+    .arg(path(alloc, "SRC", "The source file"))
 }
 
 fn link<'a>(alloc: Global) -> Result<Command<'a>, AllocError>
     ensures app { IfOk result (λ c. app_of c ≡ alone link_shape) }
     ensures local { IfOk result (λ c. (out-Command c).has_globals ≡ false) }
 {
-    titled(alloc, "link", "Links objects to a program", help::LINK)
+    titled(alloc, "link", "Links object files to a program", help::LINK)
         .arg(out(alloc))?
         .arg(paths(
             alloc,
             "OBJ",
-            "The objects, in the order in which they are laid",
+            "The object files, in the order of their code in the program",
         ))
 }
 
@@ -153,7 +153,7 @@ fn build<'a>(alloc: Global) -> Result<Command<'a>, AllocError>
     titled(
         alloc,
         "build",
-        "Assembles and links source texts to a program",
+        "Assembles and links source files to a program",
         help::BUILD,
     )
     .arg(out(alloc))?
@@ -161,13 +161,13 @@ fn build<'a>(alloc: Global) -> Result<Command<'a>, AllocError>
     .arg(flag(
         alloc,
         "list",
-        "Writes the listing BASE.lst and the labels BASE.sym too",
+        "Also writes the listing BASE.lst and the labels BASE.sym",
     ))?
     .arg(verbose(alloc))?
     .arg(paths(
         alloc,
         "SRC",
-        "The source texts, in the order in which they are laid",
+        "The source files, in the order of their code in the program",
     ))
 }
 
@@ -178,10 +178,10 @@ fn check<'a>(alloc: Global) -> Result<Command<'a>, AllocError>
     titled(
         alloc,
         "check",
-        "Proves the certificate of a program's length",
+        "Checks the certificate that a program has the fewest bytes",
         help::CHECK,
     )
-    .arg(path(alloc, "SIZES", "The sizes text: a line for each statement"))?
+    .arg(path(alloc, "SIZES", "The sizes: a line for each statement"))?
     .arg(path(
         alloc,
         "CERT",
@@ -206,7 +206,7 @@ fn image<'a>(alloc: Global) -> Arg<'a>
     ensures rule { rule_of result ≡ path_rule (codes "IMG") }
     ensures local { result.global ≡ false }
 {
-    path(alloc, "IMG", "The path of the disk's image")
+    path(alloc, "IMG", "The path of the disk image")
 }
 
 /// The name of a file on a disk.
@@ -214,7 +214,11 @@ fn name<'a>(alloc: Global) -> Arg<'a>
     ensures rule { rule_of result ≡ path_rule (codes "NAME") }
     ensures local { result.global ≡ false }
 {
-    path(alloc, "NAME", "The file's name on the disk, as BIG.DAT")
+    path(
+        alloc,
+        "NAME",
+        "The file's name on the disk, such as BIG.DAT",
+    )
 }
 
 fn dir<'a>(alloc: Global) -> Result<Command<'a>, AllocError>
@@ -230,7 +234,7 @@ fn put<'a>(alloc: Global) -> Result<Command<'a>, AllocError>
 {
     titled(alloc, "put", "Puts a file on a disk", help::PUT)
         .arg(image(alloc))?
-        .arg(path(alloc, "FILE", "The path of the file that is put"))?
+        .arg(path(alloc, "FILE", "The path of the file to put on the disk"))?
         .arg(name(alloc))
 }
 
@@ -241,7 +245,7 @@ fn get<'a>(alloc: Global) -> Result<Command<'a>, AllocError>
     titled(alloc, "get", "Gets a file from a disk", help::GET)
         .arg(image(alloc))?
         .arg(name(alloc))?
-        .arg(path(alloc, "FILE", "The path of the file that is written"))
+        .arg(path(alloc, "FILE", "The path of the file to write"))
 }
 
 fn blank<'a>(alloc: Global) -> Result<Command<'a>, AllocError>
@@ -257,7 +261,7 @@ fn blank<'a>(alloc: Global) -> Result<Command<'a>, AllocError>
     .arg(flag(
         alloc,
         "mega",
-        "Makes one of 1,048,576 bytes instead of 256,256",
+        "Makes an image of 1,048,576 bytes instead of 256,256",
     ))?
     .arg(image(alloc))
 }
@@ -279,7 +283,7 @@ fn run<'a>(alloc: Global) -> Result<Command<'a>, AllocError>
             alloc,
             "disk",
             "IMG",
-            "The path of the image of drive A, else a blank disk",
+            "The path of the image of drive A [default: a blank disk, which is not kept]",
         ))?
         .arg(steps(alloc))?
         .arg(path(alloc, "COM", "The path of the program"))?

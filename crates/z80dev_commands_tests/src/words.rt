@@ -272,17 +272,20 @@ fn helps(rt: HostRuntime) -> Result<(), Fail> {
     let rows = [
         (
             "z80dev --help",
-            "\n  asm    Assembles a source text to an object\n",
+            "\n  asm    Assembles a source file to an object file\n",
         ),
-        ("z80dev --help", "\n  link   Links objects to a program\n"),
         (
             "z80dev --help",
-            "\n  build  Assembles and links source texts to a program\n",
+            "\n  link   Links object files to a program\n",
+        ),
+        (
+            "z80dev --help",
+            "\n  build  Assembles and links source files to a program\n",
         ),
         ("z80dev --help", "\n  run    Runs a CP/M program\n"),
         (
             "z80dev --help",
-            "\nWithout a command z80dev waits for a source text on standard input",
+            "\nWithout a command, z80dev reads a source file from standard input to its end\n",
         ),
         (
             "z80dev asm -h",
