@@ -1,8 +1,8 @@
-; What the Z80 has no instruction for.
+; Multiplication and division, for which the Z80 has no instruction.
 
         PUBLIC  TIMES,DIVIDE
 
-; HL times DE to HL, modulo 65536.
+; HL becomes HL times DE, modulo 65536.
 TIMES:  LD      B,H
         LD      C,L
         LD      HL,0
@@ -17,20 +17,20 @@ TIMES2: DEC     A
         JP      NZ,TIMES1
         RET
 
-; HL divided by DE to HL, both with signs, cut towards zero. Carry: DE is 0.
+; HL becomes HL divided by DE, both signed, rounded towards zero. Carry: DE is 0.
 DIVIDE: LD      A,D
         OR      E
         SCF
         RET     Z
         LD      A,H
         XOR     D
-        PUSH    AF              ; its sign is that of the answer
+        PUSH    AF              ; the sign of A is the sign of the result
         CALL    MAGNITUDE
         EX      DE,HL
         CALL    MAGNITUDE
         EX      DE,HL
         LD      B,H
-        LD      C,L             ; BC is shifted out to the rest in HL
+        LD      C,L             ; BC is shifted into the remainder in HL
         LD      HL,0
         LD      A,16
 DIVIDE1:
@@ -40,7 +40,7 @@ DIVIDE1:
         SBC     HL,DE
         JP      NC,DIVIDE2
         ADD     HL,DE
-        DEC     C               ; takes the digit of the answer back
+        DEC     C               ; takes the digit of the result back
 DIVIDE2:
         INC     C
         DEC     A
@@ -52,12 +52,12 @@ DIVIDE2:
         RET     P
         JP      OPPOSITE
 
-; HL without its sign.
+; HL becomes its absolute value.
 MAGNITUDE:
         BIT     7,H
         RET     Z
 
-; HL with the other sign. No carry.
+; HL becomes its negative. No carry.
 OPPOSITE:
         LD      A,H
         CPL

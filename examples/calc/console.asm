@@ -1,4 +1,4 @@
-; What is typed and printed.
+; Reads and prints.
 
         PUBLIC  READLN,SAY,NEWLINE,PUTDEC
 
@@ -8,7 +8,7 @@ PRINT   EQU     9
 READ    EQU     10
 ROOM    EQU     80
 
-; Reads a line; HL is its beginning, and 0 stands behind it. Zero: it is empty.
+; Reads a line to HL, with a 0 after its last character. Zero: it is empty.
 READLN: LD      DE,LINE
         LD      C,READ
         CALL    BDOS
@@ -27,7 +27,7 @@ READLN: LD      DE,LINE
         OR      A
         RET
 
-; Prints the text at DE, up to its $.
+; Prints the string at DE, up to its $.
 SAY:    LD      C,PRINT
         JP      BDOS
 
@@ -45,7 +45,7 @@ PUTDEC: BIT     7,H
         OR      A
         SBC     HL,DE
 
-; The digits of HL: those of its tenth, and the last one.
+; Prints the digits of HL: first those of HL/10, then the last one.
 DIGITS: LD      DE,10
         LD      BC,-1
 DIGITS1:
@@ -64,7 +64,7 @@ DIGITS1:
         POP     AF
         ADD     A,'0'
 
-; Prints the character in A. HL stays.
+; Prints the character in A. Keeps HL.
 PUTCHR: PUSH    HL
         LD      E,A
         LD      C,CONOUT
@@ -75,4 +75,4 @@ PUTCHR: PUSH    HL
 LINEEND:
         DB      0DH,0AH,'$'
 LINE:   DB      ROOM,0
-        DS      ROOM+1          ; one more for the 0 behind it
+        DS      ROOM+1          ; one more for the 0 after the line

@@ -1,7 +1,7 @@
-; The value of a text.
+; Finds the value of a line.
 
         PUBLIC  EVAL
-        EXTRN   TIMES,DIVIDE    ; of arith.asm
+        EXTRN   TIMES,DIVIDE    ; in arith.asm
 
 ; Goes to WHERE if the next character is CHAR.
 ON      MACRO   CHAR,WHERE
@@ -9,8 +9,8 @@ ON      MACRO   CHAR,WHERE
         JP      Z,WHERE
         ENDM
 
-; Reads what stands behind an operator with READER: the value before it comes
-; to HL, the one behind it to DE.
+; Reads the operand after an operator with READER. HL becomes the value before
+; the operator, DE the one after it.
 OPERAND MACRO   READER
         INC     IX
         PUSH    HL
@@ -22,14 +22,15 @@ OPERAND MACRO   READER
         LD      L,C
         ENDM
 
-; Ends with a fault: carry, and its text in DE.
+; Returns an error: carry, and its message in DE.
 REFUSE  MACRO   TEXT
         LD      DE,TEXT
         SCF
         RET
         ENDM
 
-; The value in HL of the text at HL, which ends with 0. Carry: a fault.
+; Finds the value of the line at HL, which ends with 0, and returns it in HL.
+; Carry: an error, with its message in DE.
 EVAL:   PUSH    HL
         POP     IX              ; the next character
         CALL    SUM
@@ -39,7 +40,7 @@ EVAL:   PUSH    HL
         RET     Z
         REFUSE  EXTRA
 
-; Products that are added and subtracted.
+; A sum: products that are added and subtracted.
 SUM:    CALL    PRODUCT
         RET     C
 SUM1:   CALL    PEEK
@@ -55,7 +56,7 @@ MINUS:  OPERAND PRODUCT
         SBC     HL,DE
         JP      SUM1
 
-; Factors that are multiplied and divided.
+; A product: factors that are multiplied and divided.
 PRODUCT:
         CALL    FACTOR
         RET     C
@@ -73,7 +74,7 @@ SLASH:  OPERAND FACTOR
         JP      NC,PRODUCT1
         REFUSE  BYZERO
 
-; A number, a negative factor, or a sum in parentheses.
+; A factor: a number, a negative factor, or a sum in parentheses.
 FACTOR: CALL    PEEK
         ON      '-',NEGATE
         ON      '(',INNER
@@ -117,14 +118,14 @@ NUMBER1:
         OR      A
         RET
 
-; The value of the digit in A. Carry: it is none.
+; Returns the value of the digit in A. Carry: A is not a digit.
 DIGIT:  SUB     '0'
         RET     C
         CP      10
         CCF
         RET
 
-; The next character that is no blank.
+; Skips spaces and returns the next character in A.
 PEEK:   LD      A,(IX)
         CP      ' '
         RET     NZ

@@ -1,16 +1,16 @@
-; CALC is a calculator: it reads a line, prints its value, and ends at an
-; empty line. Numbers are whole, from -32768 to 32767, and go round at both
-; ends. There are + - * / and parentheses; / cuts towards zero.
+; CALC is a calculator: it reads a line and prints its value, and so on until an
+; empty line. Numbers are whole, from -32768 to 32767, and wrap around. The
+; operators are + - * / and parentheses; / rounds towards zero.
 ;
 ; Four sources: this one, which comes first, eval.asm, arith.asm, console.asm.
 
         ORG     0100H
-        EXTRN   EVAL            ; of eval.asm
-        EXTRN   READLN,SAY,NEWLINE,PUTDEC       ; of console.asm
+        EXTRN   EVAL            ; in eval.asm
+        EXTRN   READLN,SAY,NEWLINE,PUTDEC       ; in console.asm
 
 BOOT    EQU     0000H
 
-; Prints a text.
+; Prints a string.
 TELL    MACRO   TEXT
         LD      DE,TEXT
         CALL    SAY

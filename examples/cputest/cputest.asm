@@ -1,10 +1,9 @@
 ; CPUTEST tries the instructions of a processor, group by group.
 ;
-; Each group goes through many operands and folds what its instructions leave,
-; registers and flags, into a sum of 16 bits; beside it stands the sum that the
-; Z80 CPU User Manual makes of them. Left out are HALT, ports, interrupts, R,
-; and the flags that the manual leaves open: bits 3 and 5 of F always, S and
-; P/V after BIT.
+; Each group goes through many operands and folds the results, registers and
+; flags, into a sum of 16 bits. Beside each group is the sum that follows from the
+; Z80 CPU User Manual. Left out are HALT, ports, interrupts, R, and the flags that
+; the manual leaves open: bits 3 and 5 of F always, S and P/V after BIT.
 
         ORG     0100H
 
@@ -14,11 +13,11 @@ CONOUT  EQU     2
 PRINT   EQU     9
 
 FLAGS   EQU     0D7H            ; S, Z, H, P/V, N and C of F
-TESTED  EQU     053H            ; those that BIT has a rule for
+TESTED  EQU     053H            ; those for which BIT has a rule
 
-CELLS   EQU     8000H           ; six bytes of memory, far behind the program
+CELLS   EQU     8000H           ; six bytes of memory, far above the program
 
-; Calls a group's routine and says whether its sum is that which is wanted.
+; Calls a group's routine and reports whether its sum is the one expected.
 GROUP   MACRO   TEXT,ROUTINE,WANTED
         LOCAL   NAME,PAST
         LD      HL,0
@@ -38,21 +37,21 @@ EACH    MACRO   ROUTINE
         JP      FOREACH
         ENDM
 
-; One instruction on A, B and F, of which A and F are folded.
+; One instruction on A, B and F. Folds A and F.
 ON      MACRO   WORD,OPERAND
         CALL    SETUP
         WORD    OPERAND
         CALL    FOLDAF
         ENDM
 
-; The same for those that have A before the operand.
+; The same for instructions that have A before the operand.
 ONA     MACRO   WORD,OPERAND
         CALL    SETUP
         WORD    A,OPERAND
         CALL    FOLDAF
         ENDM
 
-; The same for those that change B.
+; The same for instructions that change B.
 ONB     MACRO   WORD
         CALL    SETUP
         WORD    B
@@ -60,7 +59,7 @@ ONB     MACRO   WORD
         CALL    FOLDAF
         ENDM
 
-; One instruction on HL, DE and the flags, of which HL and F are folded.
+; One instruction on HL, DE and the flags. Folds HL and F.
 ONHL    MACRO   WORD,OPERAND
         CALL    SETUPW
         WORD    HL,OPERAND
@@ -102,8 +101,7 @@ BITS    MACRO   NUMBER
         CALL    FOLDAF
         ENDM
 
-; Folds 1 where a condition holds and 0 where it does not, as JP, CALL and RET
-; see it.
+; Folds 1 if a condition holds and 0 if it does not, as JP, CALL and RET see it.
 COND    MACRO   CC
         LOCAL   YES,CALLED,RETURN,PAST
         CALL    SETUP
@@ -192,7 +190,7 @@ STORES  MACRO   REG
         CALL    FOLDMEM
         ENDM
 
-; Calls a place in page zero, where a RET is put first.
+; Calls an address in page zero, after writing a RET there.
 RESTART MACRO   PLACE
         LD      HL,PLACE
         LD      (HL),0C9H
@@ -224,8 +222,8 @@ ENDING: LD      C,PRINT
         CALL    BDOS
         JP      BOOT
 
-; The sums that are wanted. They were worked out by the rules of the manual, in
-; another language and on whole numbers, not by this program.
+; The sums expected. They were worked out from the rules of the manual, in another
+; language and on whole numbers, not by this program.
 GARITH          EQU     06C60H
 GOPERANDS       EQU     0EC65H
 GCOUNTS         EQU     01A8EH
@@ -637,7 +635,7 @@ EACHED: POP     HL
         JP      NZ,EACHB
         RET
 
-; The operands to A, B and F.
+; Loads the operands to A, B and F.
 SETUP:  LD      HL,(BVAL)
         LD      B,L
         LD      HL,(FVAL)
@@ -653,7 +651,7 @@ SETUPW: CALL    SETUP
         LD      E,A
         RET
 
-; Known values to all registers and to the cells.
+; Loads known values to all registers and to the cells.
 REGS:   LD      HL,FILLED
         LD      DE,CELLS
         LD      BC,6
@@ -731,7 +729,7 @@ FOLDHL: PUSH    AF
         POP     AF
         RET
 
-; Folds what BIT has a rule for.
+; Folds the flags for which BIT has a rule.
 FOLDBT: PUSH    AF
         POP     BC
         LD      A,C
@@ -751,8 +749,8 @@ FOLDAF: CALL    FOLD
         POP     AF
         RET
 
-; Folds A: the sum goes round by one bit to the left, and A is added. All
-; registers and flags stay.
+; Folds A: rotates the sum left by one bit and adds A. Keeps all registers and
+; flags.
 FOLD:   PUSH    AF
         PUSH    DE
         PUSH    HL
@@ -770,9 +768,9 @@ FOLD1:  ADD     HL,DE
         RET
 
 ; ---------------------------------------------------------------------------
-; What is said
+; Messages
 
-; Says the sum, the group's name at DE, and whether the sum is HL.
+; Prints the sum, the group's name at DE, and whether the sum is HL.
 REPORT: PUSH    DE
         PUSH    HL
         LD      HL,(SUM)
@@ -826,14 +824,14 @@ ALLGOOD:
 SOMEBAD:
         DB      'This is no Z80.',0DH,0AH,'$'
 
-BAD:    DB      0               ; how many groups were wrong
+BAD:    DB      0               ; the number of groups that were wrong
 SUM:    DW      0
 ROUTINE:
         DW      0
 OLDSP:  DW      0
 BVAL:   DB      0,0
 FVAL:   DB      0
-AVAL:   DB      0               ; behind F, as POP AF wants it
+AVAL:   DB      0               ; after F, as POP AF needs it
         DS      64
 STACK:
 

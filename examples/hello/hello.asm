@@ -2,13 +2,13 @@
 
         ORG     0100H
 
-BDOS    EQU     0005H           ; where the system is called
-PRINT   EQU     9               ; prints the text at DE, up to its $
+BDOS    EQU     0005H           ; the entry of the system
+PRINT   EQU     9               ; prints the string at DE, up to $
 
 START:  LD      DE,TEXT
         LD      C,PRINT
         CALL    BDOS
-        RET                     ; to the system
+        RET                     ; back to CP/M
 
 TEXT:   DB      'Hello, world',0DH,0AH,'$'
 

@@ -1,21 +1,21 @@
-; LINES copies a text and numbers its lines.
+; LINES copies a text file and numbers its lines.
 ;
 ;       LINES FROM.TXT TO.TXT
 ;
-; A text ends at 1AH or at the end of its file. TO.TXT is made anew, and its
-; last record is filled up with 1AH.
+; A text ends at 1AH or at the end of its file. If TO.TXT exists, it is replaced.
+; Its last record is filled up with 1AH.
 
         ORG     0100H
 
 BOOT    EQU     0000H
 BDOS    EQU     0005H
-FROM    EQU     005CH           ; the block of the first word of the command
-SECOND  EQU     006CH           ; that of the second one, up to its name
+FROM    EQU     005CH           ; the FCB of the first word of the command line
+SECOND  EQU     006CH           ; the one of the second word, drive and name only
 INBUF   EQU     0080H
 RECLEN  EQU     128
 NAMELEN EQU     12              ; drive, name and type
 
-EXTENT  EQU     12              ; in a block
+EXTENT  EQU     12              ; in an FCB
 CURREC  EQU     32
 FCBLEN  EQU     33
 
@@ -32,7 +32,7 @@ BUFFER  EQU     26
 LF      EQU     0AH
 FINAL   EQU     1AH
 
-; Calls the system with an address.
+; Calls function NUMBER of the system with an address in DE.
 SYS     MACRO   NUMBER,WHERE
         LD      DE,WHERE
         LD      C,NUMBER
@@ -75,7 +75,7 @@ BYTE:   CALL    PUT
         CALL    GET
         JP      NC,BYTE
 
-; The end of the text: fills the record up.
+; The end of the text: fills the last record up.
 FINISH: LD      A,(OUTPOS)
         OR      A
         JP      Z,CLOSED
@@ -103,12 +103,12 @@ NOROOM: LD      DE,FULL
         JP      ENDING
 USAGE:  LD      DE,USEMSG
 
-; Says a text, and ends.
+; Prints the string at DE and ends the program.
 ENDING: LD      C,PRINT
         CALL    BDOS
         JP      BOOT
 
-; Zero: both names are the same.
+; Zero: both names are equal.
 SAME:   LD      HL,FROM
         LD      DE,TO
         LD      B,NAMELEN
@@ -120,7 +120,7 @@ SAME1:  LD      A,(DE)
         DJNZ    SAME1
         RET
 
-; The next byte of the text to A. Carry: there is none.
+; Reads the next byte of the text to A. Carry: the text is at its end.
 GET:    LD      A,(INPOS)
         CP      RECLEN
         JP      C,GET1
@@ -142,7 +142,7 @@ GET1:   LD      C,A
         OR      A
         RET
 
-; Writes the byte in A, which stays.
+; Writes the byte in A. Keeps A.
 PUT:    PUSH    AF
         LD      C,A
         LD      A,(OUTPOS)
@@ -162,7 +162,7 @@ PUT1:   LD      (OUTPOS),A
         POP     AF
         RET
 
-; Counts a line, and writes its number and two blanks.
+; Counts a line, and writes its number and two spaces.
 COUNT:  LD      HL,NUMBER+DIGITS-1
         LD      B,DIGITS
 COUNT1: LD      A,(HL)

@@ -1,23 +1,24 @@
-; SIEVE prints the primes below a limit, ten a line, and how many they are.
+; SIEVE prints the primes below a limit, ten a line, and then their number.
 ;
 ;       SIEVE [LIMIT]
 ;
-; LIMIT is a decimal number up to 32000; without it the limit is 1000.
+; LIMIT is a decimal number up to 32000. The default is 1000.
 ;
-; All jumps but DJNZ are written as JP. Those whose target is near become JR;
-; the three to USAGE and FINISH, which stand far behind, keep three bytes.
+; All jumps but DJNZ are written as JP. The linker makes them JR if their target
+; is near. Three jumps to USAGE and FINISH keep three bytes: these labels are too
+; far away.
 
         ORG     0100H
 
 BOOT    EQU     0000H
 BDOS    EQU     0005H
-NAME    EQU     005DH           ; the first word of the command, eight bytes
+NAME    EQU     005DH           ; the first word of the command line, eight bytes
 CONOUT  EQU     2
 PRINT   EQU     9
 MOST    EQU     32000           ; the greatest limit
 COLUMNS EQU     10
 
-; Prints a text.
+; Prints a string.
 SAY     MACRO   TEXT
         LD      DE,TEXT
         LD      C,PRINT
@@ -30,9 +31,9 @@ START:  LD      SP,STACK
         LD      (LIMIT),DE
         LD      HL,FLAGS
         ADD     HL,DE
-        LD      (FINAL),HL      ; behind the last flag
+        LD      (FINAL),HL      ; the address after the last flag
 
-; A flag for each number: 0 is a prime, 1 is struck out.
+; A flag for each number: 0 means not struck out, 1 struck out.
         LD      HL,FLAGS
         LD      DE,FLAGS+1
         LD      BC,(LIMIT)
@@ -55,7 +56,7 @@ NEXT:   LD      HL,(LIMIT)
         CALL    SHOW
         POP     HL
 
-; Strikes out what the prime in DE divides.
+; Strikes out the multiples of the prime in DE.
 STRIKE: ADD     HL,DE
         PUSH    HL
         LD      BC,(FINAL)
@@ -68,7 +69,7 @@ STRIKE: ADD     HL,DE
 STEP:   INC     DE
         JP      NEXT
 
-; Prints the prime in DE, which stays, and counts it.
+; Prints and counts the prime in DE. Keeps DE.
 SHOW:   LD      HL,(HOWMANY)
         INC     HL
         LD      (HOWMANY),HL
@@ -84,7 +85,7 @@ SHOW:   LD      HL,(HOWMANY)
 SHOW1:  POP     DE
         RET
 
-; The limit of the command to DE. Carry: there is no such number.
+; Reads the limit from the command line to DE. Carry: it is not such a number.
 GETLIM: LD      HL,NAME
         LD      DE,1000
         LD      A,(HL)
@@ -132,7 +133,7 @@ DECIMAL:
         LD      A,' '
         CALL    PUTCHR
         LD      IX,POWERS
-        LD      C,' '           ; what stands for a zero in front
+        LD      C,' '           ; printed instead of a leading zero
         LD      B,5
 DECIMAL1:
         LD      E,(IX)
@@ -166,7 +167,7 @@ NEWLINE:
         CALL    PUTCHR
         LD      A,0AH
 
-; Prints the character in A. All registers stay.
+; Prints the character in A. Keeps all registers.
 PUTCHR: PUSH    AF
         PUSH    BC
         PUSH    DE
@@ -200,13 +201,13 @@ USEMSG: DB      'SIEVE [LIMIT] prints the primes below LIMIT, '
 
 POWERS: DW      10000,1000,100,10,1
 
-COLUMN: DB      COLUMNS         ; how many columns are left in the line
+COLUMN: DB      COLUMNS         ; columns left in the line
 HOWMANY:
         DW      0
 LIMIT:  DW      0
 FINAL:  DW      0
         DS      64
 STACK:
-FLAGS:                          ; the flags stand behind the program
+FLAGS:                          ; the flags are in the memory after the program
 
         END     START
