@@ -325,10 +325,15 @@ fn helps(rt: HostRuntime) -> Result<(), Fail> {
         ("z80dev dir -h", "\nExample: z80dev dir a.img\n"),
         ("z80dev blank -h", "Usage: z80dev blank [OPTIONS] <IMG>\n"),
         (
+            "z80dev blank -h",
+            " If IMG exists, it is replaced without a warning",
+        ),
+        (
             "z80dev run -h",
             "Usage: z80dev run [OPTIONS] <COM> [WORD]...\n",
         ),
         ("z80dev run -h", "\n      --steps <N> "),
+        ("z80dev run -h", " press Ctrl-D to\n"),
         (
             "z80dev run -h",
             "\nExample: z80dev run --disk a.img game.com FILE.TXT\n",
