@@ -39,8 +39,8 @@ no choice fits, it writes BASE.siz and BASE.crt only, and the certificate shows
 why. Prints nothing; with --grow, prints a line `grown PATH(LINE)` for each JR
 that became a JP.
 
-A file BASE.com, BASE.siz, BASE.crt, BASE.lst or BASE.sym that exists is
-replaced, even if it is one of the sources.
+A file that it writes replaces one of the same name without a warning, even if
+that is one of the sources.
 
 Example: z80dev build --list --out game main.asm print.asm
 writes game.siz, game.crt, game.com, game.lst and game.sym.";
