@@ -17,6 +17,7 @@ BEGIN {
     walk(2)
     say_wanted()
     if (marks > 0) {
+        sub(/^\.\//, "", file)
         printf("%s: %d line%s could not be converted: look for ;?? in the output\n", file, marks, marks == 1 ? "" : "s") >"/dev/stderr"
         exit 1
     }
@@ -828,9 +829,10 @@ function displacement(a, b,    sign, t) {
     return "+" wrapped(t, out_level, 7)
 }
 
-function read_operand(a, b, n,    inner, v, k, had) {
+function read_operand(a, b, n,    v, k, had, value) {
     name_of[n] = ""; level_of[n] = 9; place_of[n] = 0; known_of[n] = 0; shift_of[n] = ""; first_of[n] = a; last_of[n] = b
-    if (from == "sdas" && value_of[a] == "#") a++
+    value = from == "sdas" && value_of[a] == "#"
+    if (value) a++
     first_of[n] = a
     if (a > b) { wrong = "an empty operand"; what_of[n] = "e"; text_of[n] = ""; return }
     if (a == b && is_register(a)) {
@@ -848,7 +850,7 @@ function read_operand(a, b, n,    inner, v, k, had) {
         text_of[n] = "(" value_of[b - 1] shift_of[n] ")"
         return
     }
-    if ((value_of[a] == "(" || value_of[a] == "[") && kind_of[a] == "o" && partner(a, b) == b && !(from == "z80asm" && value_of[a] == "[")) {
+    if (!value && (value_of[a] == "(" || value_of[a] == "[") && kind_of[a] == "o" && partner(a, b) == b && !(from == "z80asm" && value_of[a] == "[")) {
         what_of[n] = "m"
         if (a + 1 == b - 1 && is_register(a + 1)) {
             name_of[n] = toupper(value_of[a + 1])
@@ -1052,7 +1054,7 @@ function one_line(s,    at, k, start, depth) {
     source = s
     cut(s)
     line_wrong = wrong
-    if (tokens == 0 && !wrong) { if (walk_number == 2) plain(comment == "" ? "" : comment); return }
+    if (tokens == 0 && !wrong) { if (walk_number == 2) plain(comment == "" ? "" : substr(s, 1, tail - 1) comment); return }
     if (from == "sjasmplus") {
         # Statements of one line, divided by colons.
         start = 1; parts = 0
@@ -1325,9 +1327,9 @@ function directive(label, word, what, a, b,    s, k, n, list, t, dollar, name, p
         n = names_after(a + 1, b, list)
         s = ""
         for (k = 1; k <= n; k++) {
-            if (walk_number == 1) { if (what == "EXTRN") external[known_as(list[k])] = 1; else exported[known_as(list[k])] = 1 }
+            if (walk_number == 1) { if (what == "EXTRN") external[known_as(list[k])] = declared[known_as(list[k])] = 1; else exported[known_as(list[k])] = 1 }
             else if (what == "PUBLIC" && what_is(known_as(list[k])) != "LABEL") wrong = "PUBLIC of what is no label of this file"
-            if (walk_number == 2) { if (what == "EXTRN") declared[known_as(list[k])] = 1; else if (known_as(list[k]) in said_public) continue; else said_public[known_as(list[k])] = 1 }
+            if (walk_number == 2 && what == "PUBLIC") { if (known_as(list[k]) in said_public) continue; said_public[known_as(list[k])] = 1 }
             s = s (s == "" ? "" : ",") name_for(list[k])
         }
         if (s == "" && !wrong) { say(label, ""); return }
@@ -1734,6 +1736,19 @@ function move_operand(f, t) {
     known_of[t] = known_of[f]; worth_of[t] = worth_of[f]; shift_of[t] = shift_of[f]; inner_of[t] = inner_of[f]; inner_level[t] = inner_level[f]
 }
 
+# A jump by $+n or $-n: the lines that it steps over have to keep their lengths. Each has a byte at least.
+function note_step(sign, n,    i, t) {
+    if (n > 130) return
+    for (i = here; i >= 1 && i <= lines && n > 0; ) {
+        i += sign == "-" ? -1 : 1
+        t = line[i]
+        sub(/^[ \t]*/, "", t)
+        if (t == "" || t ~ /^;/) continue
+        steps[i] = 1
+        n--
+    }
+}
+
 # JP, JR, DJNZ and CALL. The last operand is where they go.
 function jump(label, word, op,    n, condition, to, simple, key, opcode) {
     n = operands
@@ -1749,16 +1764,17 @@ function jump(label, word, op,    n, condition, to, simple, key, opcode) {
     to = word_text(n)
     simple = what_of[n] == "e" && name_of[n] != "" && name_of[n] != "$"
     key = known_as(name_of[n])
+    if (walk_number == 1 && last_of[n] == first_of[n] + 2 && value_of[first_of[n]] == "$" && kind_of[last_of[n]] == "n") note_step(value_of[first_of[n] + 1], number_of[last_of[n]])
     if (word == "CALL") { say(label, op "\t" (n > 1 ? text_of[1] "," : "") to); return }
     if (word == "JP") {
-        if (keep && simple && (condition == "" || condition in short)) to = to "+0"
+        if ((keep || here in steps) && simple && (condition == "" || condition in short)) to = to "+0"
         say(label, op "\t" (n > 1 ? text_of[1] "," : "") to)
         return
     }
     if (n > 1 && !(condition in short)) { mark(label, "no such instruction"); return }
     if (to ~ /^\$([+-][0-9][0-9A-F]*[HBOQD]?)?$/) { say(label, op "\t" (n > 1 ? text_of[1] "," : "") to); return }
     if (simple && (!(key in defined) || what_is(key) == "LABEL" || in_macro())) {
-        if (word == "JR" && !keep) op = op == "jr" ? "jp" : "JP"
+        if (word == "JR" && !keep && !(here in steps)) op = op == "jr" ? "jp" : "JP"
         say(label, op "\t" (n > 1 ? text_of[1] "," : "") to)
         return
     }
