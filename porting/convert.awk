@@ -301,24 +301,29 @@ function string_token(s, i, quote,    n, c, text, d, k, from_quote) {
             if (c == "n") c = "\n"
             else if (c == "r") c = "\r"
             else if (c == "t") c = "\t"
-            else if (c == "a") c = sprintf("%c", 7)
-            else if (c == "b" && from != "pasmo") c = sprintf("%c", 8)
+            else if (c == "a" && from != "sdas") c = sprintf("%c", 7)
+            else if (c == "b" && (from == "sdas" || from == "sjasmplus")) c = sprintf("%c", 8)
+            else if (c == "f" && (from == "sdas" || from == "sjasmplus")) c = sprintf("%c", 12)
+            else if (c == "v" && from == "sjasmplus") c = sprintf("%c", 11)
             else if (c == "e" && from == "sjasmplus") c = sprintf("%c", 27)
             else if (c == "d" && from == "sjasmplus") c = sprintf("%c", 127)
-            else if (c == "f" && from != "pasmo") c = sprintf("%c", 12)
-            else if (c == "v" && from != "pasmo") c = sprintf("%c", 11)
-            else if (c == "x" && from != "z80asm") {
+            else if (c == "x" && from == "pasmo") {
                 d = number_in(substr(s, i + 1, 2), 16)
                 if (d < 0) { wrong = "an escape that it does not know"; d = 0 }
+                if (d == 28) wrong = "a byte 1CH in a string"
                 c = d == 0 ? ZERO : sprintf("%c", d)
                 i += 2
-            } else if (c ~ /[0-7]/) {
+            } else if (c ~ /[0-7]/ && (from != "sjasmplus" || c == "0")) {
                 d = 0
-                for (k = 0; k < 3 && substr(s, i, 1) ~ /[0-7]/; k++) d = d * 8 + substr(s, i++, 1)
+                for (k = 0; k < (from == "sjasmplus" ? 1 : 3) && substr(s, i, 1) ~ /[0-7]/; k++) d = d * 8 + substr(s, i++, 1)
                 i--
                 d = d % 256
+                if (d == 28) wrong = "a byte 1CH in a string"
                 c = d == 0 ? ZERO : sprintf("%c", d)
-            } else if (c !~ /[\\"'?]/) {
+            } else if (from == "sdas") {
+                # sdas knows no other ones: the backslash stays.
+                text = text "\\"
+            } else if (c !~ /[\\"'?]/ && from != "z80asm") {
                 wrong = "an escape that it does not know"
             }
         }
@@ -562,10 +567,11 @@ function byte_of(c,    i) {
 }
 
 function signed(v,    m) {
-    # How the other assembler reckons: 16 bits without signs, or 32 bits with them.
+    # How the other assembler calculates: 16 bits without signs, 32 bits without them (sdas), or 32 bits with them.
     if (from == "pasmo" || from == "m80") { v = v % 65536; return v < 0 ? v + 65536 : v }
     m = 4294967296
     v = v % m
+    if (from == "sdas") return v < 0 ? v + m : v
     if (v >= m / 2) v -= m
     if (v < -m / 2) v += m
     return v
@@ -576,15 +582,28 @@ function unsigned(v) {
     return v < 0 ? v + 65536 : v
 }
 
+# Bit by bit, on 32 bits.
 function bits(a, b, op,    i, x, y, r, place) {
-    a = unsigned(a); b = unsigned(b)
+    if (a < 0) a += 4294967296
+    if (b < 0) b += 4294967296
     r = 0; place = 1
-    for (i = 0; i < 16; i++) {
+    for (i = 0; i < 32; i++) {
         x = a % 2; y = b % 2
         if (op == "AND" && x && y || op == "OR" && (x || y) || op == "XOR" && x != y) r += place
         a = int(a / 2); b = int(b / 2); place *= 2
     }
     return r
+}
+
+# A product whose lowest 32 bits are right: numbers of awk are exact up to 53 bits.
+function product(a, b,    low, high, less) {
+    less = (a < 0) != (b < 0)
+    if (a < 0) a = -a
+    if (b < 0) b = -b
+    low = a % 65536
+    high = int(a / 65536) * b % 65536
+    low = low * b + high * 65536
+    return less ? -low : low
 }
 
 function power(n,    r) {
@@ -596,7 +615,9 @@ function power(n,    r) {
 function compute(op, a, b, yes) {
     if (op == "+") return a + b
     if (op == "-") return a - b
-    if (op == "*") return a * b
+    if (op == "*") return product(a, b)
+    if (op ~ /^SH/ && (b < 0 || b > 31)) wrong = "a shift by more than 31 bits"
+    if (op ~ /^(\/|MOD)$/ && b == 0) wrong = "a division by zero"
     if (op == "/") return b == 0 ? 0 : int(a / b)
     if (op == "MOD") return b == 0 ? 0 : a - b * int(a / b)
     if (op == "SHL") return b < 0 || b > 31 ? 0 : a * power(b)
@@ -640,6 +661,7 @@ function joined(op, lt, ll, lk, lv, lo, lp, rt, rl, rk, rv, ro, rp,    level, bo
 }
 
 function parse_prefix(op, least,    k, t) {
+    if (from == "z80asm" && op ~ /^(-|NOT)$/ && (value_of[p] == "-" || value_of[p] == "~")) { wrong = "two signs: z80asm has an order of its own for them"; p = last + 1; term(0, "0"); return }
     if (op == "DEFINED") {
         t = value_of[p++]
         t = known_as(t)
@@ -714,7 +736,8 @@ function parse_level(least,    op, lt, ll, lk, lv, lo, lp) {
         if (!(op in binary) || tight[op] < least) break
         p++
         lt = out_text; ll = out_level; lk = out_known; lv = out_value; lo = out_ours; lp = out_place
-        parse_level(tight[op] + 1)
+        # Comparisons of z80asm group to the right.
+        parse_level(tight[op] + !(from == "z80asm" && ours[binary[op]] == 5))
         joined(binary[op], lt, ll, lk, lv, lo, lp, out_text, out_level, out_known, out_value, out_ours, out_place)
     }
 }
