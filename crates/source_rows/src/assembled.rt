@@ -1,9 +1,10 @@
-//! What is printed of a source.
+//! Sources assembled.
 
-use crate::Source;
+use anyhow::Context;
 use asm_module::{
     AsmFault, Lines, MacroFault, StmtFault, Why, assemble, assemble_listed, assemble_with,
 };
+use row_text::written_out;
 use std::alloc::Global;
 use std::io::Write;
 use zmo_object::write;
@@ -18,7 +19,7 @@ fn report_lines<W: Write>(out: &mut W, lines: &Lines) -> Result<(), anyhow::Erro
 }
 
 /// Prints the first fault of a source.
-pub(crate) fn report_fault<W: Write>(out: &mut W, fault: AsmFault) -> Result<(), anyhow::Error> {
+fn report_fault<W: Write>(out: &mut W, fault: AsmFault) -> Result<(), anyhow::Error> {
     write!(out, "line {}: ", fault.line)?;
     match fault.why {
         Why::NoMemory => return Err(fault.into()),
@@ -37,15 +38,16 @@ pub(crate) fn report_fault<W: Write>(out: &mut W, fault: AsmFault) -> Result<(),
 fn report_others<W: Write>(
     alloc: Global,
     out: &mut W,
-    source: &Source,
+    name: &[u8],
+    text: &[u8],
     object: &[u8],
     lines: &Lines,
 ) -> Result<(), anyhow::Error> {
-    let alone = assemble(alloc, &source.module, &source.text)?;
+    let alone = assemble(alloc, name, text)?;
     if write(alloc, &alone)?.as_slice() != object {
         writeln!(out, "alone it is another module")?;
     }
-    let (listed, others) = assemble_listed(alloc, &source.module, &source.text)?;
+    let (listed, others) = assemble_listed(alloc, name, text)?;
     if write(alloc, &listed)?.as_slice() != object {
         writeln!(out, "with its lines it is another module")?;
     }
@@ -55,22 +57,47 @@ fn report_others<W: Write>(
     Ok(())
 }
 
+/// The name of a module, and whether a written `JR` may grow in it.
+fn module_of(columns: &str) -> Result<(&str, bool), anyhow::Error> {
+    let (name, rest) = columns.split_once(' ').context("no word for JR")?;
+    let (word, _) = rest.split_once(' ').context("no title")?;
+    Ok((name, word == "grow"))
+}
+
 /// Prints the object of a source, or its first fault.
-pub(crate) fn report<W: Write>(
+pub(crate) fn report_assembled<W: Write>(
     alloc: Global,
     out: &mut W,
-    source: &Source,
+    columns: &str,
+    text: &[u8],
 ) -> Result<(), anyhow::Error> {
-    out.write_all(&source.title)?;
-    writeln!(out)?;
-    match assemble_with(alloc, &source.module, &source.text, source.grow) {
+    let (name, grow) = module_of(columns)?;
+    let name = written_out(alloc, name)?;
+    match assemble_with(alloc, &name, text, grow) {
         Ok((module, lines)) => {
-            let text = write(alloc, &module)?;
-            writeln!(out, "{}", hex::encode(alloc, &text)?)?;
-            if !source.grow {
-                report_others(alloc, out, source, &text, &lines)?;
+            let object = write(alloc, &module)?;
+            writeln!(out, "{}", hex::encode(alloc, &object)?)?;
+            if !grow {
+                report_others(alloc, out, &name, text, &object, &lines)?;
             }
             report_lines(out, &lines)
+        }
+        Err(fault) => report_fault(out, fault),
+    }
+}
+
+/// Prints how many statements the module of a source has, and the last line that is listed.
+pub(crate) fn report_count<W: Write>(
+    alloc: Global,
+    out: &mut W,
+    columns: &str,
+    text: &[u8],
+) -> Result<(), anyhow::Error> {
+    let (name, grow) = module_of(columns)?;
+    match assemble_with(alloc, name.as_bytes(), text, grow) {
+        Ok((module, lines)) => {
+            let count = module.statements.len();
+            Ok(writeln!(out, "{count} of {}", lines.last)?)
         }
         Err(fault) => report_fault(out, fault),
     }

@@ -1,0 +1,72 @@
+//! Rows of tests as text: what a row writes in short is written out, and bytes are shown so that a row can hold them.
+#![tactic(auto)]
+
+use std::alloc::Global;
+use std::io::Write;
+
+/// Writes one copy of a text, in which `|` ends a line, `#` is the number of this copy, from 0, and `^` the next number.
+fn put_copy(out: &mut Vec<u8>, text: &[u8], number: u32) -> Result<(), anyhow::Error> {
+    for byte in text {
+        match byte {
+            b'|' => out.push(b'\n')?,
+            b'#' => write!(out, "{number}")?,
+            b'^' => write!(out, "{}", number.saturating_add(1))?,
+            _ => out.push(*byte)?,
+        }
+    }
+    Ok(())
+}
+
+/// Writes so many copies of a text.
+fn put_copies(out: &mut Vec<u8>, count: &str, text: &[u8]) -> Result<(), anyhow::Error> {
+    for number in 0..u32::from_str_radix(count, 10)? {
+        put_copy(out, text, number)?;
+    }
+    Ok(())
+}
+
+/// Writes a byte in hexadecimal so many times.
+fn put_bytes(out: &mut Vec<u8>, count: &str, byte: &str) -> Result<(), anyhow::Error> {
+    let byte = u8::from_str_radix(byte, 16)?;
+    for _ in 0..u32::from_str_radix(count, 10)? {
+        out.push(byte)?;
+    }
+    Ok(())
+}
+
+/// Writes what braces stand for: `N*TEXT` is N copies of a text, `NxHH` N times the byte HH in hexadecimal, and `HH` that byte.
+fn put_braced(out: &mut Vec<u8>, braced: &str) -> Result<(), anyhow::Error> {
+    if let Some((count, text)) = braced.split_once('*') {
+        return put_copies(out, count, text.as_bytes());
+    }
+    match braced.split_once('x') {
+        Some((count, byte)) => put_bytes(out, count, byte),
+        None => put_bytes(out, "1", braced),
+    }
+}
+
+/// The bytes of a row, with what stands in braces written out.
+pub fn written_out(alloc: Global, row: &str) -> Result<Vec<u8>, anyhow::Error> {
+    let mut out = Vec::new(alloc);
+    for part in row.split('{') {
+        match part.split_once('}') {
+            Some((braced, plain)) => {
+                put_braced(&mut out, braced)?;
+                out.extend_from_slice(plain.as_bytes())?;
+            }
+            None => out.extend_from_slice(part.as_bytes())?,
+        }
+    }
+    Ok(out)
+}
+
+/// Prints a text. A byte that is no letter of ASCII, and a brace, stands in braces in hexadecimal.
+pub fn show_text<W: Write>(out: &mut W, text: &[u8]) -> Result<(), anyhow::Error> {
+    for byte in text {
+        match byte {
+            b' '..=b'z' | b'|' | b'~' => out.write_all(&[*byte])?,
+            _ => write!(out, "{{{byte:02X}}}")?,
+        }
+    }
+    Ok(())
+}

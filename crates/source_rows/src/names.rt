@@ -1,0 +1,53 @@
+//! The names that lines define, and the order in which EQU lines are settled.
+
+use crate::lines::lines_of;
+use anyhow::{Context, anyhow};
+use asm_equ::turns_of;
+use asm_names::{NameTable, names_of};
+use std::alloc::Global;
+use std::io::Write;
+
+/// What some names are, and how many names there are.
+fn show_names<W: Write>(out: &mut W, asked: &str, names: &NameTable) -> Result<(), anyhow::Error> {
+    for name in asked.split(',') {
+        match names.kind(name.as_bytes()) {
+            Some(kind) => writeln!(out, "{name} {kind:?}")?,
+            None => writeln!(out, "{name} is no name")?,
+        }
+    }
+    Ok(writeln!(out, "{} names", names.len())?)
+}
+
+/// What the names of a row are that its first column asks for, and how many there are; or the first line that is faulty.
+pub(crate) fn report_names<W: Write>(
+    alloc: Global,
+    out: &mut W,
+    columns: &str,
+    text: &[u8],
+) -> Result<(), anyhow::Error> {
+    let (asked, _) = columns.split_once(' ').context("no title")?;
+    match names_of(alloc, &lines_of(alloc, text)?) {
+        Ok(names) => show_names(out, asked, &names),
+        Err((line, why)) => Ok(writeln!(out, "line {line}: {why:?}")?),
+    }
+}
+
+/// The lines of a row in an order in which they can be settled, counted from 0, with a star behind each that is on a circle.
+pub(crate) fn report_turns<W: Write>(
+    alloc: Global,
+    out: &mut W,
+    text: &[u8],
+) -> Result<(), anyhow::Error> {
+    let lines = lines_of(alloc, text)?;
+    let Ok(names) = names_of(alloc, &lines) else {
+        return Err(anyhow!("names are faulty"));
+    };
+    if lines.len() >= 100_000 {
+        return Err(anyhow!("too many lines"));
+    }
+    for turn in &turns_of(alloc, &lines, &names)? {
+        let mark = if turn.on_circle { "*" } else { "" };
+        writeln!(out, "{}{mark}", turn.definition)?;
+    }
+    Ok(())
+}
