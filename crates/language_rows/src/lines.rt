@@ -1,7 +1,11 @@
-//! Lines as text.
+//! What lines of source spell.
 
+use anyhow::Context;
 use asm_parse::{Item, KeptName, Term, TermView, Tree};
-use asm_spell::{Body, Line, Value};
+use asm_scan::{Token, tokens};
+use asm_source::read_source;
+use asm_spell::{Body, Line, Value, is_name, statement};
+use std::alloc::Global;
 use std::io::Write;
 
 fn show_item<W: Write>(out: &mut W, item: &Item<Term>) -> Result<(), anyhow::Error> {
@@ -117,7 +121,7 @@ fn show_body<W: Write>(out: &mut W, body: &Body) -> Result<(), anyhow::Error> {
     Ok(())
 }
 
-pub(crate) fn show_line<W: Write>(out: &mut W, line: &Line) -> Result<(), anyhow::Error> {
+fn show_line<W: Write>(out: &mut W, line: &Line) -> Result<(), anyhow::Error> {
     match line {
         Line::Equ { name, value } => {
             out.write_all(name)?;
@@ -136,4 +140,101 @@ pub(crate) fn show_line<W: Write>(out: &mut W, line: &Line) -> Result<(), anyhow
         }
     }
     Ok(())
+}
+
+/// Whether a line is a name that a program can define, and what it spells, or its fault.
+pub(crate) fn report_spelled<W: Write>(
+    alloc: Global,
+    out: &mut W,
+    line: &[u8],
+) -> Result<(), anyhow::Error> {
+    if is_name(line) {
+        write!(out, " a name;")?;
+    }
+    write!(out, " ")?;
+    match statement(alloc, &tokens(alloc, line)?) {
+        Ok(found) => show_line(out, &found),
+        Err(fault) => Ok(write!(out, "{fault:?}")?),
+    }
+}
+
+/// The tokens of a word, those of a text so many times, and those of a last text.
+fn many_tokens<'a>(
+    alloc: Global,
+    word: &'a str,
+    count: u32,
+    text: &'a str,
+    last: &'a str,
+) -> Result<Vec<Token<'a>>, anyhow::Error> {
+    let mut all = tokens(alloc, word.as_bytes())?;
+    let each = tokens(alloc, text.as_bytes())?;
+    for _ in 0..count {
+        all.extend_from_slice(&each)?;
+    }
+    all.extend_from_slice(&tokens(alloc, last.as_bytes())?)?;
+    Ok(all)
+}
+
+/// How many items a line of DB has.
+fn count_of(line: &Line) -> Option<usize> {
+    match line {
+        Line::Statement {
+            label: _,
+            body: Some(Body::Bytes(values)),
+        } => Some(values.len()),
+        _ => None,
+    }
+}
+
+/// How many items more tokens spell behind DB than a line can have, or their fault.
+pub(crate) fn report_many<W: Write>(
+    alloc: Global,
+    out: &mut W,
+    row: &str,
+) -> Result<(), anyhow::Error> {
+    let (word, row) = row.split_once('/').context("no count")?;
+    let (count, row) = row.split_once('/').context("no text")?;
+    let (text, last) = row.split_once('/').context("no last text")?;
+    let count = u32::from_str_radix(count, 10)?;
+    match statement(alloc, &many_tokens(alloc, word, count, text, last)?) {
+        Ok(line) => {
+            let items = count_of(&line).context("another line than of DB")?;
+            Ok(write!(out, " {items} items")?)
+        }
+        Err(fault) => Ok(write!(out, " {fault:?}")?),
+    }
+}
+
+/// A text in which each bar ends a line.
+fn with_line_ends(alloc: Global, text: &[u8]) -> Result<Vec<u8>, anyhow::Error> {
+    let mut lines = text.to_vec(alloc)?;
+    for byte in lines.iter_mut() {
+        if *byte == b'|' {
+            *byte = b'\n';
+        }
+    }
+    Ok(lines)
+}
+
+/// The lines of a source with their numbers, the line that spells nothing, and the last line that is listed; or where the expansion
+/// stops.
+pub(crate) fn report_source<W: Write>(
+    alloc: Global,
+    out: &mut W,
+    text: &[u8],
+) -> Result<(), anyhow::Error> {
+    match read_source(alloc, &with_line_ends(alloc, text)?) {
+        Ok(source) => {
+            for line in &source.lines {
+                write!(out, " {} ", line.number)?;
+                show_line(out, &line.line)?;
+                write!(out, " |")?;
+            }
+            if let Some((number, why)) = source.unread {
+                write!(out, " unread {number} {why:?} |")?;
+            }
+            Ok(write!(out, " last {}", source.last)?)
+        }
+        Err((number, why)) => Ok(write!(out, " stops {number} {why:?}")?),
+    }
 }

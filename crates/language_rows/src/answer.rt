@@ -1,9 +1,10 @@
 //! What an expression's text and the names make, as text.
 
-use crate::tree_of;
+use crate::tables::{define_equ, tree_of};
+use anyhow::Context;
 use asm_expr::{
-    Expr, ExprFault, Names, Room, Settled, Tree, Unknown, constant, has_places, is_defined, items,
-    offset_from_here, parse, settle, value,
+    Expr, ExprFault, Names, Room, Settled, Tree, Unknown, constant, has_places, is_constant,
+    is_defined, items, offset_from_here, parse, settle, value,
 };
 use asm_scan::tokens;
 use std::alloc::Global;
@@ -109,4 +110,38 @@ pub(crate) fn report_offset<W: Write>(
         Err(ExprFault::NoMemory) => Err(ExprFault::NoMemory.into()),
         Err(fault) => Ok(write!(out, "{fault:?}")?),
     }
+}
+
+/// Whether an expression is constant.
+pub(crate) fn report_constant<W: Write>(
+    alloc: Global,
+    out: &mut W,
+    text: &[u8],
+    names: &Names,
+) -> Result<(), anyhow::Error> {
+    let tree = tree_of(alloc, text)?;
+    Ok(write!(out, "{}", is_constant(&tree, names))?)
+}
+
+/// Whether the name K is constant, which EQU gives here.
+pub(crate) fn report_equ<W: Write>(
+    alloc: Global,
+    out: &mut W,
+    text: &[u8],
+    mut names: Names,
+) -> Result<(), anyhow::Error> {
+    define_equ(alloc, &mut names, b"K", text)?;
+    report_constant(alloc, out, b"K", &names)
+}
+
+/// How far a statement stands from another.
+pub(crate) fn report_distance<W: Write>(
+    out: &mut W,
+    row: &str,
+    names: &Names,
+) -> Result<(), anyhow::Error> {
+    let (from, to) = row.split_once(' ').context("no second statement")?;
+    let from = u16::from_str_radix(from, 10)?;
+    let to = u16::from_str_radix(to, 10)?;
+    Ok(write!(out, "{:?}", names.distance(to, from))?)
 }

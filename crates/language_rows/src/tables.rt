@@ -2,22 +2,26 @@
 
 ghost use Rattle.asm_expr.specs.Names.{IsCounted};
 
-use crate::tree_of;
-use asm_expr::{Meaning, Names, equate, is_defined};
+use asm_expr::{Meaning, Names, Tree, equate, is_defined, parse};
+use asm_scan::tokens;
 use std::alloc::{AllocError, Global};
 
-/// Defines a name.
-fn define(
-    alloc: Global,
+/// The tree of an expression.
+pub(crate) fn tree_of(alloc: Global, text: &[u8]) -> Result<Tree, anyhow::Error> {
+    Ok(parse(alloc, &tokens(alloc, text)?)?)
+}
+
+/// Defines a name that is not defined yet.
+pub(crate) fn define(
     names: &mut Names,
-    name: &[u8],
+    name: Vec<u8>,
     meaning: Meaning,
 ) -> Result<(), anyhow::Error>
     requires { IsCounted meaning }
 {
-    match names.meaning(name) {
+    match names.meaning(&name) {
         Some(_) => Err(anyhow::anyhow!("a name twice")),
-        None => Ok(names.define(Vec::from_slice(alloc, name)?, meaning)?),
+        None => Ok(names.define(name, meaning)?),
     }
 }
 
@@ -33,7 +37,7 @@ pub(crate) fn define_equ(
         return Err(anyhow::anyhow!("a name that stands for nothing"));
     }
     let meaning = equate(alloc, &tree, names)?;
-    define(alloc, names, name, meaning)
+    define(names, name.to_vec(alloc)?, meaning)
 }
 
 /// A statement that a module has.
@@ -66,7 +70,7 @@ fn module_of(
     }
     names.set_here(here);
     for (name, statement) in labels {
-        define(alloc, &mut names, name, Meaning::Label(*statement))?;
+        define(&mut names, name.to_vec(alloc)?, Meaning::Label(*statement))?;
     }
     Ok(names)
 }
@@ -123,7 +127,7 @@ fn five_with_equs(alloc: Global) -> Result<Names, anyhow::Error> {
 /// much, BOTH the sum of both places.
 fn beside_faulty(alloc: Global) -> Result<Names, anyhow::Error> {
     let mut names = module_of(alloc, &[Passed::Fixed(3)], 0, &[(b"X", 0), (b"Y", 1)])?;
-    define(alloc, &mut names, b"N", Meaning::Faulty)?;
+    define(&mut names, b"N".to_vec(alloc)?, Meaning::Faulty)?;
     with_equs(
         alloc,
         names,
@@ -153,7 +157,7 @@ fn unsized_ones(alloc: Global) -> Result<Names, anyhow::Error> {
             (b"PF", 5),
         ],
     )?;
-    define(alloc, &mut names, b"N", Meaning::Faulty)?;
+    define(&mut names, b"N".to_vec(alloc)?, Meaning::Faulty)?;
     Ok(names)
 }
 
@@ -167,14 +171,43 @@ fn unsized_with_equs(alloc: Global) -> Result<Names, anyhow::Error> {
     )
 }
 
+/// Seven statements, of which the third is `$`: one of four bytes and one of three stand before it. It takes two bytes itself. A
+/// jump that may be short or long, one byte, a statement of unknown size and one byte follow. Labels behind and ahead of `$`, an
+/// external, a name whose EQU is constant and has no value, and one whose line is faulty.
+fn seven(alloc: Global) -> Result<Names, anyhow::Error> {
+    let mut names = module_of(
+        alloc,
+        &[
+            Passed::Fixed(4),
+            Passed::Fixed(3),
+            Passed::Fixed(2),
+            Passed::Jump,
+            Passed::Fixed(1),
+            Passed::Unsized,
+            Passed::Fixed(1),
+        ],
+        2,
+        &[(b"X", 0), (b"NEAR", 3), (b"AHEAD", 4), (b"LATE", 6)],
+    )?;
+    define(&mut names, b"EXT".to_vec(alloc)?, Meaning::External(8))?;
+    define(
+        &mut names,
+        b"UNSURE".to_vec(alloc)?,
+        Meaning::UnknownConstant,
+    )?;
+    define(&mut names, b"BAD".to_vec(alloc)?, Meaning::Faulty)?;
+    Ok(names)
+}
+
 /// The table of a number: 0 has no names.
-pub(crate) fn table(alloc: Global, number: u8) -> Result<Names, anyhow::Error> {
+pub(crate) fn table(alloc: Global, number: u32) -> Result<Names, anyhow::Error> {
     match number {
-        b'1' => five(alloc),
-        b'2' => five_with_equs(alloc),
-        b'3' => beside_faulty(alloc),
-        b'4' => unsized_ones(alloc),
-        b'5' => unsized_with_equs(alloc),
+        1 => five(alloc),
+        2 => five_with_equs(alloc),
+        3 => beside_faulty(alloc),
+        4 => unsized_ones(alloc),
+        5 => unsized_with_equs(alloc),
+        6 => seven(alloc),
         _ => Ok(Names::new(alloc)),
     }
 }
