@@ -33,16 +33,24 @@ fn report_text<W: Write>(
     call: &str,
     text: &[u8],
 ) -> Result<(), anyhow::Error> {
-    match call.as_bytes() {
-        b"tokens" => scanning::report_tokens(alloc, out, text),
-        b"count" => scanning::report_count(alloc, out, text),
-        b"faults" => scanning::report_faults(out),
-        b"form" => scanning::report_form(alloc, out, text),
-        b"names" => scanning::report_names(alloc, out, text),
-        b"arguments" => calls::report_arguments(alloc, out, text),
-        b"spell" => lines::report_spelled(alloc, out, text),
-        b"source" => lines::report_source(alloc, out, text),
-        _ => Err(anyhow!("no such call")),
+    if call == "tokens" {
+        scanning::report_tokens(alloc, out, text)
+    } else if call == "count" {
+        scanning::report_count(alloc, out, text)
+    } else if call == "faults" {
+        scanning::report_faults(out)
+    } else if call == "form" {
+        scanning::report_form(alloc, out, text)
+    } else if call == "names" {
+        scanning::report_names(alloc, out, text)
+    } else if call == "arguments" {
+        calls::report_arguments(alloc, out, text)
+    } else if call == "spell" {
+        lines::report_spelled(alloc, out, text)
+    } else if call == "source" {
+        lines::report_source(alloc, out, text)
+    } else {
+        Err(anyhow!("no such call"))
     }
 }
 
@@ -53,16 +61,24 @@ fn report_columns<W: Write>(
     call: &str,
     row: &str,
 ) -> Result<(), anyhow::Error> {
-    match call.as_bytes() {
-        b"replace" => calls::report_replaced(alloc, out, row),
-        b"body" => blocks::report_body(alloc, out, row),
-        b"branches" => blocks::report_branches(alloc, out, row),
-        b"no-lines" => blocks::report_no_lines(alloc, out),
-        b"order" => orders::report_order(alloc, out, row),
-        b"chain" => orders::report_chain(alloc, out, row),
-        b"defined" => orders::report_defined(alloc, out, row),
-        b"many" => lines::report_many(alloc, out, row),
-        _ => report_text(alloc, out, call, &written_out(alloc, row)?),
+    if call == "replace" {
+        calls::report_replaced(alloc, out, row)
+    } else if call == "body" {
+        blocks::report_body(alloc, out, row)
+    } else if call == "branches" {
+        blocks::report_branches(alloc, out, row)
+    } else if call == "no-lines" {
+        blocks::report_no_lines(alloc, out)
+    } else if call == "order" {
+        orders::report_order(alloc, out, row)
+    } else if call == "chain" {
+        orders::report_chain(alloc, out, row)
+    } else if call == "defined" {
+        orders::report_defined(alloc, out, row)
+    } else if call == "many" {
+        lines::report_many(alloc, out, row)
+    } else {
+        report_text(alloc, out, call, &written_out(alloc, row)?)
     }
 }
 
@@ -76,15 +92,35 @@ fn report_expression<W: Write>(
 ) -> Result<(), anyhow::Error> {
     write!(out, " ")?;
     let names = &known.names;
-    match call.as_bytes() {
-        b"value" => answer::report_value(alloc, out, text, names),
-        b"kept" => answer::report_kept(alloc, out, text, names),
-        b"offset" => answer::report_offset(alloc, out, text, names),
-        b"constant" => answer::report_constant(alloc, out, text, names),
-        b"equ" => answer::report_equ(alloc, out, text, tables::table(alloc, known.table)?),
-        b"items" => items::report_items(alloc, out, text),
-        _ => answer::report_made(alloc, out, text, names),
+    if call == "value" {
+        answer::report_value(alloc, out, text, names)
+    } else if call == "kept" {
+        answer::report_kept(alloc, out, text, names)
+    } else if call == "offset" {
+        answer::report_offset(alloc, out, text, names)
+    } else if call == "constant" {
+        answer::report_constant(alloc, out, text, names)
+    } else if call == "equ" {
+        answer::report_equ(alloc, out, text, tables::table(alloc, known.table)?)
+    } else if call == "items" {
+        items::report_items(alloc, out, text)
+    } else {
+        answer::report_made(alloc, out, text, names)
     }
+}
+
+/// Whether a call reads an expression.
+fn is_expression(call: &str) -> bool {
+    const CALLS: [&str; 7] = [
+        "expression",
+        "value",
+        "kept",
+        "offset",
+        "constant",
+        "equ",
+        "items",
+    ];
+    CALLS.iter().any(|name| *name == call)
 }
 
 /// Each call.
@@ -95,29 +131,27 @@ fn report<W: Write>(
     row: &str,
     known: &mut Known,
 ) -> Result<(), anyhow::Error> {
-    match call.as_bytes() {
-        b"table" => {
-            let table = u32::from_str_radix(row, 10)?;
-            *known = Known {
-                table,
-                names: tables::table(alloc, table)?,
-            };
-            Ok(())
-        }
-        b"here" => {
-            known.names.set_here(u16::from_str_radix(row, 10)?);
-            Ok(())
-        }
-        b"distance" => {
-            write!(out, " ")?;
-            answer::report_distance(out, row, &known.names)
-        }
-        b"piece" => pieces::report_piece(alloc, out, &written_out(alloc, row)?, &mut known.names),
-        b"size" => pieces::report_size(alloc, out, &written_out(alloc, row)?, &known.names),
-        b"expression" | b"value" | b"kept" | b"offset" | b"constant" | b"equ" | b"items" => {
-            report_expression(alloc, out, call, &written_out(alloc, row)?, known)
-        }
-        _ => report_columns(alloc, out, call, row),
+    if call == "table" {
+        let table = u32::from_str_radix(row, 10)?;
+        *known = Known {
+            table,
+            names: tables::table(alloc, table)?,
+        };
+        Ok(())
+    } else if call == "here" {
+        known.names.set_here(u16::from_str_radix(row, 10)?);
+        Ok(())
+    } else if call == "distance" {
+        write!(out, " ")?;
+        answer::report_distance(out, row, &known.names)
+    } else if call == "piece" {
+        pieces::report_piece(alloc, out, &written_out(alloc, row)?, &mut known.names)
+    } else if call == "size" {
+        pieces::report_size(alloc, out, &written_out(alloc, row)?, &known.names)
+    } else if is_expression(call) {
+        report_expression(alloc, out, call, &written_out(alloc, row)?, known)
+    } else {
+        report_columns(alloc, out, call, row)
     }
 }
 

@@ -51,17 +51,26 @@ fn report_call<W: Write>(
     rest: &str,
     text: &[u8],
 ) -> Result<(), anyhow::Error> {
-    match call.as_bytes() {
-        b"assemble" => assembled::report_assembled(alloc, out, rest, text),
-        b"count" => assembled::report_count(alloc, out, rest, text),
-        b"expand" => expanded::report_expanded(alloc, out, text),
-        b"lines" => expanded::report_lines(alloc, out, rest, text),
-        b"kept" => expanded::report_kept(alloc, out, rest, text),
-        b"names" => names::report_names(alloc, out, rest, text),
-        b"turns" => names::report_turns(alloc, out, text),
-        b"meaning" => meant::report_meaning(alloc, out, rest, text),
-        b"states" => stated::report_stated(alloc, out, rest, text),
-        _ => Err(anyhow!("no such call")),
+    if call == "assemble" {
+        assembled::report_assembled(alloc, out, rest, text)
+    } else if call == "count" {
+        assembled::report_count(alloc, out, rest, text)
+    } else if call == "expand" {
+        expanded::report_expanded(alloc, out, text)
+    } else if call == "lines" {
+        expanded::report_lines(alloc, out, rest, text)
+    } else if call == "kept" {
+        expanded::report_kept(alloc, out, rest, text)
+    } else if call == "names" {
+        names::report_names(alloc, out, rest, text)
+    } else if call == "turns" {
+        names::report_turns(alloc, out, text)
+    } else if call == "meaning" {
+        meant::report_meaning(alloc, out, rest, text)
+    } else if call == "states" {
+        stated::report_stated(alloc, out, rest, text)
+    } else {
+        Err(anyhow!("no such call"))
     }
 }
 
