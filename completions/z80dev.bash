@@ -32,13 +32,54 @@ _z80dev_bases() {
     done
 }
 
-# The files of user 0 on a disk image.
+# A word as the command would get it: without its quotes and backslashes. `eval` would also run what is in $( ) or ` `.
+_z80dev_plain() {
+    local text=$1 quote='' each at
+    REPLY=''
+    for ((at = 0; at < ${#text}; at++)); do
+        each=${text:at:1}
+        if [[ -n "$quote" && "$each" == "$quote" ]]; then
+            quote=''
+        elif [[ -z "$quote" && "$each" == [\'\"] ]]; then
+            quote=$each
+        elif [[ "$each" == \\ && "$quote" != \' ]]; then
+            at=$((at + 1))
+            REPLY+=${text:at:1}
+        else
+            REPLY+=$each
+        fi
+    done
+    # shellcheck disable=SC2088 # the tilde that was typed
+    [[ "$REPLY" != '~/'* ]] || REPLY=$HOME/${REPLY#'~/'}
+}
+
+# Offers a name if the last word is its beginning, in upper or lower case, so quoted that the shell takes it as it is. (`compgen -W`
+# would expand the name, and so run a command that is in it.)
+_z80dev_offer() {
+    local REPLY
+    _z80dev_plain "$word"
+    [[ "$1" == "${REPLY^^}"* ]] || return
+    case $word in
+    \'*) [[ "$1" == *\'* ]] || COMPREPLY+=("$1") ;;
+    \"*) [[ "$1" == *[\"\$\`\\!]* ]] || COMPREPLY+=("$1") ;;
+    *) COMPREPLY+=("$(printf %q "$1")") ;;
+    esac
+}
+
+# The files of user 0 on a disk image whose names `get` takes.
 _z80dev_names() {
-    mapfile -t COMPREPLY < <(compgen -W "$(z80dev dir "$1" 2>/dev/null | sed -n 's/^0 \([^ ]*\).*/\1/p')" -- "${word^^}")
+    local LC_ALL=C line REPLY
+    local letter='[^][:cntrl:][:space:][:lower:]<>.,;:=?*[]'
+    local form="^0 ($letter{1,8}\\.$letter{0,3}) [0-9]+( RO)?( SYS)?\$"
+    _z80dev_plain "$1"
+    while IFS= read -r line; do
+        # A name that begins with a dash would be an option.
+        [[ ! "$line" =~ $form || "${BASH_REMATCH[1]}" == -* ]] || _z80dev_offer "${BASH_REMATCH[1]}"
+    done < <(z80dev dir "$REPLY" 2>/dev/null </dev/null)
 }
 
 _z80dev() {
-    local word=${COMP_WORDS[COMP_CWORD]} command='' option='' options='' disk='' each at operands=()
+    local word=${COMP_WORDS[COMP_CWORD]} command='' option='' options='' disk='' each at REPLY operands=()
     COMPREPLY=()
     for ((at = 1; at < COMP_CWORD; at++)); do
         each=${COMP_WORDS[at]}
@@ -91,8 +132,9 @@ _z80dev() {
     dir:0 | put:0 | get:0 | blank:0) _z80dev_files img dsk cpm ;;
     put:1 | get:2) _z80dev_any_file ;;
     put:2)
-        each=${operands[1]##*/}
-        mapfile -t COMPREPLY < <(compgen -W "${each^^}" -- "${word^^}")
+        _z80dev_plain "${operands[1]}"
+        each=${REPLY##*/}
+        _z80dev_offer "${each^^}"
         ;;
     get:1) _z80dev_names "${operands[0]}" ;;
     run:0) _z80dev_files com ;;

@@ -39,9 +39,11 @@ function __z80dev_bases
     __z80dev_files asm mac z80 | string replace -ri '\.(asm|mac|z80)$' ''
 end
 
-# The files of user 0 on a disk image.
+# The files of user 0 on a disk image whose names `get` takes. A name that begins with a dash would be an option.
 function __z80dev_names
-    z80dev dir $argv[1] 2>/dev/null | string match -r '^0 \S+' | string replace '0 ' ''
+    set -l letter '(?![a-z<>.,;:=?*[\\]])[!-~]'
+    z80dev dir (string replace -r '^~/' $HOME/ -- $argv[1]) 2>/dev/null </dev/null |
+        string replace -rf "^0 (?!-)((?:$letter){1,8}\.(?:$letter){0,3}) [0-9]+( RO)?( SYS)?\$" '$1'
 end
 
 # The image that --disk names.
@@ -88,7 +90,7 @@ complete -c z80dev -n '__z80dev_at dir 0' -a '(__z80dev_files img dsk cpm)' -d '
 complete -c z80dev -n '__z80dev_at put' -s h -l help -d 'Print help'
 complete -c z80dev -n '__z80dev_at put 0' -a '(__z80dev_files img dsk cpm)' -d 'Disk image'
 complete -c z80dev -n '__z80dev_at put 1' -F
-complete -c z80dev -n '__z80dev_at put 2' -a '(string upper (path basename (__z80dev_operands)[2]))' -d 'Name on the disk'
+complete -c z80dev -n '__z80dev_at put 2' -a '(string upper -- (path basename -- (__z80dev_operands)[2]))' -d 'Name on the disk'
 
 complete -c z80dev -n '__z80dev_at get' -s h -l help -d 'Print help'
 complete -c z80dev -n '__z80dev_at get 0' -a '(__z80dev_files img dsk cpm)' -d 'Disk image'
