@@ -1,4 +1,4 @@
--- What the public definitions say where the wrong bodies of must-fail/ would say otherwise.
+-- What the public definitions say where the edits in wrong-bodies/ would say otherwise.
 use Rattle.std.proofs.Common.{ℕ, List, [], ◌∷◌, refl, inl, inr, pos}
 use Rattle.z80_instr.specs.Codes.{Codes, IsUndocumented}
 use Rattle.z80_table.specs.Types.{IndexRegister, Memory, Operand, RegisterPair, WordRegister, Octal, Instr}

@@ -89,9 +89,10 @@ pub(crate) const RUN: &str =
 typed input, and only then starts the program. At a terminal, press Ctrl-D to
 end the input; if the program reads nothing, give it </dev/null.
 
-Prints what the program prints. Writes IMG however the run ends, over anything
-that another command has written to IMG since the run began. The status is 0 if
-the program ends by itself. Otherwise it is 1, and standard error has a line
-`stopped: WHY at PPPP`.
+Prints what the program prints. Writes IMG when the program ends, however it
+ends, over anything that another command has written to IMG since the run began.
+If run itself is killed, for example by Ctrl-C, IMG stays as it was. The status
+is 0 if the program ends by itself. Otherwise it is 1, and standard error has a
+line `stopped: WHY at PPPP`.
 
 Example: z80dev run --disk a.img game.com FILE.TXT";
