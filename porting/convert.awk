@@ -14,6 +14,7 @@ BEGIN {
     start_tables()
     read_file(file, 0)
     walk(1)
+    settle()
     walk(2)
     say_wanted()
     if (marks > 0) {
@@ -83,6 +84,11 @@ function start_tables() {
     directives("EQU", "EQU"); directives("ORG", "ORG"); directives("END", "END")
     directives("IF", "IF"); directives("ELSE", "ELSE"); directives("ENDIF", "ENDIF"); directives("MACRO", "MACRO"); directives("ENDM", "ENDM")
     directives("INCLUDE", "INCLUDE"); directives("INCBIN", "INCBIN")
+    if (from != "sdas") each_of("INCLUDE", swallows, 1)
+    if (from == "m80") each_of("TITLE SUBTTL $TITLE .PRINTX .COMMENT .REQUEST MACLIB $INCLUDE", swallows, 1)
+    if (from == "pasmo") each_of(".WARNING .ERROR", swallows, 1)
+    if (from == "sjasmplus") each_of("OUTPUT DISPLAY", swallows, 1)
+    if (from == "sdas") each_of(".TITLE .SBTTL .OPTSDCC .MODULE", swallows, 1)
     if (from == "m80") {
         operators(6, "* / MOD SHL SHR"); operators(5, "+ -"); operators(4, "EQ NE LT LE GT GE"); operators(2, "AND"); operators(1, "OR XOR")
         prefixes(7, "HIGH=HIGH LOW=LOW"); prefixes(6, "-=- +=+"); prefixes(3, "NOT=NOT")
@@ -122,7 +128,7 @@ function start_tables() {
         directives("DM BYTE .BYTE .DB", "DB"); directives("WORD .WORD .DW", "DW"); directives("BLOCK .BLOCK", "DS"); directives("DC", "DC"); directives("DZ ASCIZ", "DZ")
         directives("REPT DUP", "REPT"); directives("EDUP ENDR", "ENDM"); directives("DEFL", "DEFL")
         directives("DEVICE OUTPUT SAVEBIN SAVESNA SAVETAP PAGE SLOT ENCODING OPT", "DROP")
-        directives("IFDEF", "IFDEF"); directives("IFNDEF", "IFNDEF")
+        directives("IFDEF IFNDEF", "MARK")
         directives("ALIGN DISP PHASE ENT UNPHASE DEPHASE STRUCT ENDS MODULE ENDMODULE DEFINE UNDEFINE LUA ENDLUA ELSEIF IFUSED IFNUSED ASSERT " \
             "DD DWORD DEFD D24 DH HEX DEFH DEFARRAY WHILE ENDW ENDT EXPORT INSERT INCLUDELUA DISPLAY BINARY INCHOB INCTRD TEXTAREA ENDTEXTAREA MAP ENDMAP", "MARK")
         directives("DISPLAY EXPORT", "DROP"); directives("INSERT", "INCBIN")
@@ -260,7 +266,7 @@ function plain_number(word, begins, ends,    w, last) {
     if (last == "H") return number_token(substr(w, 1, length(w) - 1), 16, begins, ends)
     if (from == "sjasmplus" && w ~ /^0B[01]+$/) return number_token(substr(w, 3), 2, begins, ends)
     if (from == "sjasmplus" && w ~ /^0Q[0-7]+$/) return number_token(substr(w, 3), 8, begins, ends)
-    if (from == "sjasmplus" && w ~ /^[0-9]+[BF]$/ && substr(w, 1, length(w) - 1) in counted) {
+    if (from == "sjasmplus" && w ~ /^[0-9]+[BF]$/ && (substr(w, 1, length(w) - 1) in counted) && after_jump()) {
         token("i", w, begins, ends)
         return
     }
@@ -272,14 +278,37 @@ function plain_number(word, begins, ends,    w, last) {
     return number_token(w, radix, begins, ends)
 }
 
+# Whether the statement so far is a jump, after which alone sjasmplus reads 1B and 1F as labels.
+function after_jump(    k) {
+    for (k = tokens; k > 0; k--) if (kind_of[k] == "i" && (toupper(value_of[k]) in instruction)) return toupper(value_of[k]) ~ /^(CALL|DJNZ|JP|JR)$/
+    return 0
+}
+
 # Whether the last token ends a value, so that what follows is an operator.
 function after_value() {
     return tokens > 0 && (kind_of[tokens] ~ /[nsi]/ && !((toupper(value_of[tokens]) in binary) || (toupper(value_of[tokens]) in prefix)) && !is_word(tokens) || value_of[tokens] == ")" || value_of[tokens] == "]")
 }
 
-# Whether a token is the word of its line and no name of an expression.
-function is_word(k) {
-    return kind_of[k] == "i" && ((toupper(value_of[k]) in instruction) || (toupper(value_of[k]) in does))
+# Whether a token is the word of its statement: an instruction, a directive or a macro, after a label at most.
+function is_word(k,    v) {
+    if (!is_command(k)) return 0
+    if (k == 1) return 1
+    v = value_of[k - 1]
+    if (kind_of[k - 1] == "o") return v == "::" || v == ":" && (k == 3 || from == "sjasmplus")
+    return k == 2 && kind_of[1] == "i" && !is_command(1)
+}
+
+function is_command(k,    v) {
+    v = toupper(value_of[k])
+    return kind_of[k] == "i" && ((v in instruction) || (v in does) || (known_as(value_of[k]) in macro))
+}
+
+# Whether what follows a name at the beginning of a line says that the line defines it.
+function is_defined_here(rest) {
+    rest = toupper(rest) " "
+    sub(/^[ \t]+/, "", rest)
+    if (from == "sjasmplus" && tokens == 1 && begin_of[1] == 1) return 1
+    return tokens == 1 && rest ~ /^(:|=|(EQU|DEFL|SET|ASET|MACRO)[ \t,])/
 }
 
 # Reads a string from its quote on; gives where it ends, 0 if it does not.
@@ -462,7 +491,7 @@ function cut(s,    n, i, c, two, start, word, at, rest, q) {
             if (word == "." && from == "sdas") word = "$"
             token("i", word, start, i)
             # What follows is no assembler text.
-            if (tokens <= 2 && toupper(word) ~ /^(TITLE|SUBTTL|\.PRINTX|\.TITLE|\.SBTTL|\.COMMENT|\.WARNING|\.ERROR|\.REQUEST|\.OPTSDCC|\.MODULE|OUTPUT|DISPLAY|INCLUDE|\.INCLUDE|MACLIB)$/ && !(toupper(word) in delimited)) return
+            if ((toupper(word) in swallows) && is_word(tokens) && !is_defined_here(substr(s, i + 1))) return
             continue
         }
         if (c == "$") { token("i", "$", i, i); continue }
@@ -489,6 +518,12 @@ function name_for(name,    upper, n, k) {
     for (n = procs; n > 0; n--) if ((n, name) in own_of) return own_of[n, name]
     if (known_as(name) in renamed) return renamed[known_as(name)]
     return clean(name)
+}
+
+function is_parameter(name,    k, key) {
+    key = from == "m80" ? toupper(name) : name
+    for (k = macros; k > 0; k--) if ((k, key) in parameter) return k
+    return 0
 }
 
 # What a name is known as where it stands: upper and lower case may differ, and a range may have a name of its own.
@@ -523,7 +558,12 @@ function changes(name,    key) {
 function define(name, what,    key, other, n) {
     if (name in parameter_now) return
     key = known_as(name)
-    if (key in defined) { if (what == "DEFL" && what_is(key) == "DEFL") times[key]++; return }
+    if (key in defined) {
+        if (what == "DEFL" && what_is(key) == "DEFL") times[key]++
+        if ((key in dead_definition) && !is_dead()) { defined[key] = what; line_of[key] = here; delete dead_definition[key] }
+        return
+    }
+    if (is_dead()) dead_definition[key] = 1
     defined[key] = what
     times[key] = 1
     line_of[key] = here
@@ -548,6 +588,7 @@ function wrapped(text, level, least) {
 
 function term(v, text) {
     out_text = text; out_level = 9; out_known = 1; out_value = v; out_ours = v % 65536; out_place = 0
+    out_plain = 1; out_parameter = ""; out_base = ""; out_offset = v
 }
 
 # A string as the item of an expression.
@@ -660,25 +701,38 @@ function joined(op, lt, ll, lk, lv, lo, lp, rt, rl, rk, rv, ro, rp,    level, bo
     out_text = both; out_level = level
 }
 
+# Whether a line above defines a name.
+function is_seen(name,    key) {
+    key = known_as(name)
+    if (is_parameter(name)) wrong = "whether a parameter is defined"
+    if (!(key in seen)) return 0
+    if (seen[key] < 0) wrong = "whether a name is defined that a macro or an IF defines"
+    return 1
+}
+
 function parse_prefix(op, least,    k, t) {
     if (from == "z80asm" && op ~ /^(-|NOT)$/ && (value_of[p] == "-" || value_of[p] == "~")) { wrong = "two signs: z80asm has an order of its own for them"; p = last + 1; term(0, "0"); return }
     if (op == "DEFINED") {
         t = value_of[p++]
-        t = known_as(t)
-        k = (t in defined) && line_of[t] < here
+        k = is_seen(t)
         if (k) term(truth, truth == 1 ? "1" : "0FFFFH"); else term(0, "0")
         remark = remark " " value_of[p - 1] (k ? " is" : " is not") " defined."
         return
     }
     if (op == "NUL") { wrong = "NUL"; p = last + 1; term(0, "0"); return }
     parse_level(least)
+    note_calculated()
     t = out_text; k = out_level
     if (op == "+") return
+    rely(out_base, out_offset)
+    if (out_base != "") out_base = "?"
+    out_plain = op ~ /^(!|HIGH|LOW)$/
     if (op == "-") { out_text = "-" wrapped(t, k, 8); out_level = 8; out_value = signed(-out_value); out_ours = unsigned(-out_ours) }
     else if (op == "NOT") { out_text = "NOT " wrapped(t, k, 4); out_level = 4; out_value = signed(-1 - out_value); out_ours = unsigned(-1 - out_ours) }
     else if (op == "!") { out_text = wrapped(t, k, 5) " EQ 0"; out_level = 5; out_value = out_value == 0 ? truth : 0; out_ours = out_ours == 0 ? 65535 : 0 }
     else if (op == "HIGH") { out_text = "HIGH " wrapped(t, k, 8); out_level = 8; out_value = int(unsigned(out_value) / 256); out_ours = int(out_ours / 256) }
     else { out_text = "LOW " wrapped(t, k, 8); out_level = 8; out_value = unsigned(out_value) % 256; out_ours = out_ours % 256 }
+    if (out_base == "") out_offset = out_value
 }
 
 function parse_term(    v, key, n, i, t, level, known, value, own, place) {
@@ -699,13 +753,27 @@ function parse_term(    v, key, n, i, t, level, known, value, own, place) {
         return
     }
     if (kind_of[p] == "i") {
-        if ((toupper(v) in prefix) && !(known_as(v) in defined)) { p++; parse_prefix(prefix[toupper(v)], looser[toupper(v)]); return }
+        if ((toupper(v) in prefix) && !(known_as(v) in defined) && !is_parameter(v)) { p++; parse_prefix(prefix[toupper(v)], looser[toupper(v)]); return }
         p++
+        if (is_parameter(v)) {
+            term(0, clean(v))
+            out_known = 0; out_plain = 0; out_parameter = v; out_base = "?"
+            n = is_parameter(v)
+            if (!((n, from == "m80" ? toupper(v) : v) in number_of_parameter)) {
+                # A LOCAL label.
+                out_base = "@" stack[n] " " toupper(v); out_plain = 1; out_offset = 0
+            }
+            return
+        }
         if (from == "m80" && value_of[p] == "##" && p <= last) { p++; external[known_as(v)] = 1; if (walk_number == 2 && !(known_as(v) in declared)) { declared[known_as(v)] = 1; wanted[++wants] = v } }
         key = known_as(v)
+        if (what_is(key) == "DEFL" && (macro_depth() || walk_number == 2 && (key in tainted))) { term(0, name_for(v)); out_known = 0; wrong = "a name that changes its value"; return }
         if (key in constant) { term(constant[key], name_for(v)); out_ours = constant_ours[key]; if (what_is(key) == "DEFL") out_text = number_text(out_ours); return }
-        out_known = 0; out_value = 0; out_ours = 0
-        out_text = name_for(v); out_level = 9
+        term(0, name_for(v))
+        out_known = 0
+        out_base = v == "$" ? "#" here : key in base_of ? base_of[key] : key
+        out_offset = key in base_of ? offset_of[key] : 0
+        out_plain = v == "$" || what_is(key) == "LABEL" || (key in external) || (key in address_name)
         # In sdas a point is where its own item lies, here the line.
         if (v == "$" && item_at > 0) out_text = "($+" item_at ")"
         if (from == "sdas" && walk_number == 2 && v ~ /^[A-Za-z_.]/ && !(key in defined) && !(key in external) && !in_macro()) {
@@ -721,6 +789,8 @@ function parse_term(    v, key, n, i, t, level, known, value, own, place) {
         parse_level(0)
         if (value_of[p] != (v == "(" ? ")" : "]") || p > last) { wrong = "a parenthesis without its end"; return }
         p++
+        # The argument may have operators that are looser than those around the parentheses.
+        if (out_parameter != "") { out_text = "(" out_text ")"; out_parameter = "" }
         return
     }
     if (v in prefix) { p++; parse_prefix(prefix[v], looser[v]); return }
@@ -729,29 +799,155 @@ function parse_term(    v, key, n, i, t, level, known, value, own, place) {
     term(0, "0")
 }
 
-function parse_level(least,    op, lt, ll, lk, lv, lo, lp) {
+# Notes that the body of a macro calculates with a parameter, so that an argument with operators may be read in another way here.
+function note_calculated(    k) {
+    if (out_parameter == "") return
+    k = is_parameter(out_parameter)
+    if (k && (k, from == "m80" ? toupper(out_parameter) : out_parameter) in number_of_parameter)
+        calculated[macro_of[k], number_of_parameter[k, from == "m80" ? toupper(out_parameter) : out_parameter]] = 1
+    out_parameter = ""
+}
+
+# ---- Lengths that code relies on
+#
+# An expression such as $+5 or NAME+3 relies on the lengths of what lies between. base is "#LINE" for $ on that line, "@BLOCK NAME" for
+# a LOCAL label, the key of another name, "?" for what is none of these, and "" for a number; offset is what is added to it.
+
+function rely(base, offset, unless) {
+    if (walk_number != 1 || keep || base == "" || base == "?" || offset == 0) return
+    relies++
+    rely_base[relies] = base; rely_offset[relies] = offset; rely_line[relies] = here; rely_unless[relies] = unless
+}
+
+# Notes what an operator relies on, and gives base_now and offset_now of its result.
+function rely_on_both(op, lb, lo, rb, ro) {
+    base_now = "?"; offset_now = 0
+    if (lb == "" && rb == "") { base_now = ""; return }
+    if (op == "+" && rb == "") { base_now = lb; offset_now = lo + ro; return }
+    if (op == "+" && lb == "") { base_now = rb; offset_now = lo + ro; return }
+    if (op == "-" && rb == "") { base_now = lb; offset_now = lo - ro; return }
+    if (op == "+") { rely(lb, "?", rb); rely(rb, "?", lb); return }
+    if (op == "-" && lb != "") { rely(lb, rb == "?" ? "?" : lo, ""); rely(lb, "?", rb); rely(rb, ro, ""); return }
+    rely(lb, lo, ""); rely(rb, ro, "")
+}
+
+# The line on which a base lies, 0 if it is no address; what is to be added to the offset is put into base_offset.
+function line_of_base(base,    n) {
+    base_offset = 0
+    for (n = 0; n < 16 && (base in base_of); n++) { base_offset += offset_of[base]; base = base_of[base] }
+    if (base ~ /^#/) return substr(base, 2) + 0
+    if (base ~ /^@/) return (base in local_line) ? local_line[base] : 0
+    return what_is(base) == "LABEL" ? line_of[base] : 0
+}
+
+# Finds the lines that have to keep their lengths.
+function settle(    k, from_line, offset) {
+    for (k = 1; k <= relies; k++) {
+        if (rely_unless[k] != "" && rely_unless[k] != "?" && line_of_base(rely_unless[k])) continue
+        from_line = line_of_base(rely_base[k])
+        if (!from_line) continue
+        if (rely_offset[k] == "?") {
+            if (rely_base[k] ~ /^#/) { uncertain[rely_line[k]] = "a distance from $ that is not known"; continue }
+            offset = 256
+        } else offset = rely_offset[k] + base_offset
+        keep_lines(from_line, offset, rely_line[k])
+    }
+}
+
+function keep_lines(from_line, n, asking,    i, step, block) {
+    n = n % 65536
+    if (n > 32767) n -= 65536
+    if (n < -32768) n += 65536
+    step = n < 0 ? -1 : 1
+    block = block_at[from_line]
+    if (step < 0) n = -n
+    for (i = from_line; i >= 1 && i <= lines && n > 0; i += step) {
+        if (block && step < 0 && i == block || block && step > 0 && (i in is_endm) && block_at[i] == block) {
+            uncertain[asking] = "an address outside of its macro or repetition"
+            return
+        }
+        steps[i] = 1
+        if (i in call_of) keep_body(call_of[i])
+        if (i == from_line && step < 0) continue
+        if (block_at[i] == block && (i in least)) n -= least[i]
+    }
+}
+
+# The body of a macro, wherever it is called.
+function keep_body(name,    i) {
+    if ((name in kept_body) || !(name in macro_line)) return
+    kept_body[name] = 1
+    for (i = macro_line[name] + 1; i <= lines && !((i in is_endm) && block_at[i] == macro_line[name]); i++) {
+        steps[i] = 1
+        if (i in call_of) keep_body(call_of[i])
+    }
+}
+
+# Notes how many bytes a line has at least.
+function note_least(n,    k) {
+    if (walk_number != 1) return
+    for (k = if_depth; k > 0; k--) if (if_state[k] != 1) n = 0
+    if (!(here in least) || least[here] > n) least[here] = n
+}
+
+# Whether two operands give an operator the same value with signs and 32 bits as without them and 16.
+function is_plain(known, v, plain) {
+    return known ? v >= 0 && v < 65536 : plain
+}
+
+function signs_matter(op, lk, lv, lplain, rk, rv, rplain) {
+    if (from == "pasmo" || from == "m80" || lk && rk || (op == "&&" || op == "||")) return 0
+    if (op ~ /^(EQ|NE)$/) return !(lk && lv >= 0 && lv < 32768 || rk && rv >= 0 && rv < 32768 || is_plain(lk, lv, lplain) && is_plain(rk, rv, rplain))
+    if (op ~ /^(\/|MOD|SHR|LT|LE|GT|GE)$/) return !(is_plain(lk, lv, lplain) && is_plain(rk, rv, rplain))
+    return 0
+}
+
+function plain_result(op, lk, lv, lplain, lp, rk, rv, rplain, rp,    l, r) {
+    l = is_plain(lk, lv, lplain); r = is_plain(rk, rv, rplain)
+    if (op ~ /^(EQ|NE|LT|LE|GT|GE|&&|\|\|)$/) return 1
+    if (op == "AND") return l || r
+    if (op ~ /^(\/|MOD|SHR|OR|XOR)$/) return l && r
+    if (op == "+") return l && rk || lk && r
+    if (op == "-") return lp && l && rk
+    return 0
+}
+
+function parse_level(least,    op, lt, ll, lk, lv, lo, lp, lplain, plain_now, lbase, loffset) {
     parse_term()
     while (p <= last && !wrong && kind_of[p] != "n" && kind_of[p] != "s") {
         op = toupper(value_of[p])
         if (!(op in binary) || tight[op] < least) break
         p++
-        lt = out_text; ll = out_level; lk = out_known; lv = out_value; lo = out_ours; lp = out_place
+        note_calculated()
+        lt = out_text; ll = out_level; lk = out_known; lv = out_value; lo = out_ours; lp = out_place; lplain = out_plain; lbase = out_base; loffset = out_offset
         # Comparisons of z80asm group to the right.
         parse_level(tight[op] + !(from == "z80asm" && ours[binary[op]] == 5))
+        note_calculated()
+        if (signs_matter(binary[op], lk, lv, lplain, out_known, out_value, out_plain)) wrong = "a value that may be negative, in a division, shift or comparison"
+        plain_now = plain_result(binary[op], lk, lv, lplain, lp, out_known, out_value, out_plain, out_place)
+        rely_on_both(binary[op], lbase, loffset, out_base, out_offset)
         joined(binary[op], lt, ll, lk, lv, lo, lp, out_text, out_level, out_known, out_value, out_ours, out_place)
+        out_plain = plain_now
+        out_base = base_now; out_offset = out_base == "" ? out_value : offset_now
     }
 }
 
 # CONDITION ? ONE : OTHER. If the condition is known, one of them; else both, masked.
 function choice(    t, level, known, v, one, one_level, one_known, one_value, one_ours, one_place, place) {
+    note_calculated()
     t = out_text; level = out_level; known = out_known; v = out_value; place = out_place
     p++
     parse_level(0)
+    note_calculated()
+    rely(out_base, out_offset, "")
     one = out_text; one_level = out_level; one_known = out_known; one_value = out_value; one_ours = out_ours; one_place = out_place
     if (wrong || value_of[p] != ":" || p > last) { wrong = "a choice that it does not know"; return }
     p++
     parse_level(0)
+    note_calculated()
+    rely(out_base, out_offset, "")
     if (p <= last && value_of[p] == "?") choice()
+    out_base = "?"
     if (known) {
         if (v != 0) { out_text = one; out_level = one_level; out_known = one_known; out_value = one_value; out_ours = one_ours; out_place = one_place }
         return
@@ -770,6 +966,7 @@ function parse(a, b,    v) {
     parse_level(0)
     if (p <= b && !wrong && value_of[p] == "?" && kind_of[p] == "o" && (from == "pasmo" || from == "z80asm")) choice()
     if (p <= b && !wrong) wrong = "an expression that it does not know"
+    rely(out_base, out_offset, "")
     # z80dev would reckon another value.
     if (out_known && unsigned(out_value) != out_ours) {
         out_text = number_text(unsigned(out_value)); out_level = 9
@@ -819,6 +1016,7 @@ function read_operands(a, b,    k, start, depth) {
 
 function is_register(k,    v) {
     v = toupper(value_of[k])
+    if (kind_of[k] == "i" && is_parameter(value_of[k])) return 0
     return kind_of[k] == "i" && ((v in register) || from == "sjasmplus" && v ~ /^(HX|LX|XH|XL|HY|LY|YH|YL)$/ || v == "F" && from != "m80") && !(known_as(value_of[k]) in defined)
 }
 
@@ -839,6 +1037,7 @@ function displacement(a, b,    sign, t) {
     if (from == "pasmo" || from == "m80") {
         # The sign belongs to all that follows it.
         parse(a + 1, b)
+        note_calculated()
         t = wrapped(out_text, out_level, 7)
         byte_value = sign == "-" ? -out_value : out_value
         return sign t
@@ -867,6 +1066,7 @@ function read_operand(a, b, n,    v, k, had, value) {
     if (from == "sdas" && value_of[b] == ")" && toupper(value_of[b - 1]) ~ /^I[XY]$/ && value_of[b - 2] == "(" && b - 2 > a) {
         if (value_of[a] == "#") a++
         parse(a, b - 3)
+        note_calculated()
         what_of[n] = "m"
         name_of[n] = toupper(value_of[b - 1])
         shift_of[n] = out_text ~ /^-/ && out_level >= 6 ? out_text : "+" wrapped(out_text, out_level, 7)
@@ -907,7 +1107,10 @@ function read_operand(a, b, n,    v, k, had, value) {
     had = wrong
     parse(a, b)
     # An argument of a macro may be anything.
-    if (wrong && !had && as_argument) { wrong = ""; out_text = by_tokens(a, b); out_level = 9 }
+    if (wrong && !had && as_argument) {
+        wrong = ""; out_text = by_tokens(a, b); out_level = 9
+        for (k = a; k <= b; k++) if (kind_of[k] == "o" && value_of[k] !~ /^[][()+-]$/) wrong = "an argument that it does not know"
+    }
     text_of[n] = out_text
     level_of[n] = out_level; place_of[n] = out_place; known_of[n] = out_known; worth_of[n] = out_ours
     if (a == b && kind_of[a] == "i") name_of[n] = value_of[a]
@@ -969,11 +1172,49 @@ function run(first, final,    i) {
     i = first
     while (i <= final) {
         here = i
+        if (walk_number == 1) block_at[i] = macros ? block_of[macros] : 0
         jump_to = 0
         if (ended && file_of[i] == ended) { if (walk_number == 2) print ";" line[i]; i++; continue }
         one_line(replaced(line[i]))
         i = jump_to ? jump_to : i + 1
     }
+}
+
+# ---- Branches
+#
+# if_state has a number for each IF that is open: 1 if the branch is taken, 0 if it is not, -1 if that is not known.
+
+function open_if(state) {
+    if_state[++if_depth] = state
+}
+
+function other_branch() {
+    if (if_depth > 0 && if_state[if_depth] >= 0) if_state[if_depth] = 1 - if_state[if_depth]
+}
+
+function close_if() {
+    if (if_depth > 0) if_depth--
+}
+
+# Whether this line is certainly not assembled.
+function is_dead(    k) {
+    for (k = if_depth; k > 0; k--) if (if_state[k] == 0) return 1
+    return 0
+}
+
+# Whether it depends on a call, or on a condition of unknown value, what this line defines.
+function is_unsure(    k) {
+    if (macros) return 1
+    for (k = if_depth; k > 0; k--) if (if_state[k] < 0) return 1
+    return 0
+}
+
+# Notes that a name has been defined, for IFDEF: 1 for certain, -1 perhaps.
+function note_seen(name,    key) {
+    if (is_dead()) return
+    key = known_as(name)
+    if (!is_unsure()) seen[key] = 1
+    else if (!(key in seen)) seen[key] = -1
 }
 
 # A line with the names of repetitions over lists replaced by their items.
@@ -987,8 +1228,10 @@ function put_for(s, name, item,    out, i, c, quote, word) {
     out = ""; quote = ""
     for (i = 1; i <= length(s); i++) {
         c = substr(s, i, 1)
-        if (quote != "") { if (c == quote) quote = "" }
-        else if (c == ";") return out substr(s, i)
+        if (quote != "") {
+            if (c == "\\" && escapes(quote)) { out = out c; c = substr(s, ++i, 1) }
+            else if (c == quote) quote = ""
+        } else if (c == ";") return out substr(s, i)
         else if (c == "\"" || c == QUOTE && toupper(substr(s, i - 2, 2)) != "AF") quote = c
         else if (c ~ /[A-Za-z0-9_?@.$]/) {
             word = ""
@@ -1039,11 +1282,18 @@ function unroll(ends, count, name, first, step,    i, begins, key) {
             constant[key] = first + i * step
             constant_ours[key] = unsigned(first + i * step)
         }
-        run(begins + 1, ends - 1)
+        run_closed(begins + 1, ends - 1)
         drop_names(procs)
         procs--
     }
     jump_to = ends + 1
+}
+
+# Takes the lines of a block up once. Its ENDM closes what is open in it.
+function run_closed(first, final,    depth) {
+    depth = if_depth
+    run(first, final)
+    while (if_depth > depth) { if_depth--; if (walk_number == 2) print "\tENDIF" }
 }
 
 function drop_names(level,    k, part) {
@@ -1053,7 +1303,8 @@ function drop_names(level,    k, part) {
 function walk(number) {
     walk_number = number
     in_comment = 0; scope = 0; above = ""; macros = 0; procs = 0; proc_count = 0; radix = 10; lists = 0; ended = 0; said_org = 0
-    split("", counter); split("", parameter); split("", parameter_now); split("", own_of); split("", constant); split("", constant_ours); split("", stack)
+    if_depth = 0
+    split("", seen); split("", counter); split("", parameter); split("", parameter_now); split("", own_of); split("", constant); split("", constant_ours); split("", stack)
     run(1, lines)
     if (number == 2 && in_comment) mark("", "a comment without an end")
 }
@@ -1114,6 +1365,7 @@ function label_end(a, b,    v, w) {
         if (w == "=" && from == "pasmo") return 0
         return a
     }
+    if (from == "sdas" && (w == "==" || meaning(w) == "EQU2")) return a
     if (w == "SET" && from == "m80") return a
     if ((v in instruction) || (v in does) || (known_as(value_of[a]) in macro)) return 0
     if (from == "pasmo") {
@@ -1124,9 +1376,25 @@ function label_end(a, b,    v, w) {
     return 0
 }
 
-function statement(a, b,    k, label, public, word, does_it) {
+# What of a line of a macro's body would be replaced here and not there, or there and not here.
+function trouble_with_parameters(a, b,    k, t, part, n, i) {
+    if (from == "m80") return ""
+    for (t = a; t <= b; t++) {
+        # sdas replaces whole words in strings, too.
+        if (kind_of[t] == "s" && from == "sdas") for (k in parameter) { split(k, part, SUBSEP); if (index(value_of[t], part[2])) return "a parameter inside of a string" }
+        if (kind_of[t] != "i") continue
+        for (k = macros; k > 0; k--) if ((k, toupper(value_of[t])) in name_in_case && name_in_case[k, toupper(value_of[t])] != value_of[t]) return "a name that differs from a parameter in its case alone"
+        if (from == "sjasmplus" && index(value_of[t], "_")) {
+            n = split(value_of[t], part, "_")
+            for (i = 1; i <= n; i++) if (n > 1 && is_parameter(part[i])) return "a parameter inside of a longer word"
+        }
+    }
+    return ""
+}
+
+function statement(a, b,    k, label, public, word, does_it, a_first) {
     k = label_end(a, b)
-    label = ""; public = 0
+    label = ""; public = 0; a_first = a
     if (from == "z80asm" && macros && walk_number == 2 && inside_of_word(a, b)) { mark("", "a parameter inside of a longer word"); return }
     if (k) {
         label = value_of[a]
@@ -1145,8 +1413,11 @@ function statement(a, b,    k, label, public, word, does_it) {
         mark(label, "sjasmplus takes a word in the first column for a label")
         return
     }
-    if (does_it ~ /^(EQU|DEFL|SETEQ|MACRO)$/) { if (public) public_name(label) }
+    if (does_it ~ /^(EQU|EQU2|DEFL|SETEQ|MACRO)$/) { if (public) public_name(label) }
     else if (label != "") place(label, public)
+    if (walk_number == 2 && !keep && (here in uncertain)) { mark(label, uncertain[here]); return }
+    if (macros && walk_number == 2 && does_it != "ENDM" && (k = trouble_with_parameters(a_first, b)) != "") { mark(label, k); if (does_it ~ /^(IF|ELSE|REPT)/) directive(label, word, does_it, a, b); return }
+    if (from == "m80" && (macros || lists)) for (k = a; k <= b; k++) if (kind_of[k] == "s" && index(value_of[k], "&")) { mark(label, "pasting by & in a string"); return }
     if (line_wrong && does_it !~ /^(DROP|COMMENT|INCLUDE)$/) { if (walk_number == 2) mark(label, line_wrong); return }
     directive(label, word, does_it, a, b)
 }
@@ -1157,7 +1428,10 @@ function inside_of_word(a, b,    k, t, part, name) {
         split(k, part, SUBSEP)
         name = part[2]
         if (name ~ /^\./) continue
-        for (t = a; t <= b; t++) if (kind_of[t] ~ /[is]/ && value_of[t] != name && index(value_of[t], name)) return 1
+        for (t = a; t <= b; t++) {
+            if (kind_of[t] ~ /[is]/ && value_of[t] != name && index(value_of[t], name)) return 1
+            if (kind_of[t] ~ /[ns]/ && index(substr(source, begin_of[t], end_of[t] - begin_of[t] + 1), name)) return 1
+        }
     }
     return 0
 }
@@ -1173,6 +1447,8 @@ function place(label, public,    k) {
     if (from == "sdas" && label !~ /\$$/ && walk_number > 0) scope++
     if (from == "sjasmplus" && label ~ /^[0-9]+$/) { counter[label + 0]++; counted[label + 0] = 1; return }
     if (from == "sjasmplus" && label !~ /^\./ && !macros) above = label ~ /^@/ ? substr(label, 2) : label
+    note_seen(label)
+    if (macros && is_parameter(label)) local_line["@" stack[is_parameter(label)] " " toupper(label)] = here
     if (walk_number == 1) {
         if (macros && label ~ /^\./ && (from == "z80asm" || from == "sjasmplus")) { local_of[stack[macros]] = local_of[stack[macros]] "," clean(label); return }
         k = from == "sjasmplus" && label ~ /^\./ ? above label : label
@@ -1269,19 +1545,23 @@ function names_after(a, b, list,    k, n) {
 function note_constant(name, a, b,    key) {
     key = known_as(name)
     parse(a, b)
-    if (out_known && !wrong) {
+    if (is_dead()) return
+    if (out_known && !wrong && !is_unsure()) {
         constant[key] = out_value
         constant_ours[key] = out_ours
     } else delete constant[key]
     if (out_place) places[key] = 1
+    if (out_place && out_plain) address_name[key] = 1
+    if (out_base != "" && out_base != "?" && out_base != key && !is_parameter(name)) { base_of[key] = out_base; offset_of[key] = out_offset }
 }
 
 function data_items(a, b, bytes,    k, start, depth, s, item) {
-    s = ""; start = a; depth = 0; item_at = 0
+    s = ""; start = a; depth = 0; item_at = 0; item_bytes = 0
     for (k = a; k <= b + 1; k++) {
         if (k == b + 1 || value_of[k] == "," && kind_of[k] == "o" && depth == 0) {
             if (from == "sdas" && start > a) item_at += bytes ? 1 : 2
             if (from == "sdas" && value_of[start] == "#" && kind_of[start] == "o") start++
+            item_bytes += !bytes ? 2 : start == k - 1 && kind_of[start] == "s" ? length(value_of[start]) : 1
             if (bytes && start == k - 1 && kind_of[start] == "s") item = string_items(value_of[start])
             else if (start > k - 1) { if (k == b + 1 && s != "" && from == "sjasmplus") break; wrong = "an empty item"; item = "" }
             else { if (bytes) parse_byte(start, k - 1); else parse(start, k - 1); item = out_text }
@@ -1298,10 +1578,13 @@ function data_items(a, b, bytes,    k, start, depth, s, item) {
 function directive(label, word, what, a, b,    s, k, n, list, t, dollar, name, path) {
     if (what == "DB") {
         s = data_items(a + 1, b, 1)
+        if (from == "sdas" && !(word in delimited)) for (k = a + 1; k <= b; k++) if (kind_of[k] == "s" && length(value_of[k]) > 1) wrong = "a string of which sdas takes the first character"
+        note_least(s == "" ? 0 : item_bytes)
         if (wrong) { mark(label, wrong); return }
         say(label, s == "" ? "" : "DB\t" s)
     } else if (what == "DW") {
         s = data_items(a + 1, b, 0)
+        note_least(item_bytes)
         if (wrong) mark(label, wrong); else say(label, "DW\t" s)
     } else if (what == "DC" || what == "DZ") {
         if (b == a + 1 && kind_of[b] == "s" && what == "DZ") { t = string_items(value_of[b]); say(label, "DB\t" t (t == "" ? "" : ",") "0") }
@@ -1316,18 +1599,23 @@ function directive(label, word, what, a, b,    s, k, n, list, t, dollar, name, p
         n = a + 1
         if (from == "sdas" && value_of[n] == "#") n++
         parse(n, k - 1)
+        if (what == "DSW") note_calculated()
         s = what == "DSW" ? "2*" wrapped(out_text, out_level, 8) : out_text
+        if (out_known && what == "DS") note_least(out_ours)
         if (out_place) wrong = "a size that depends on an address"
         if (k <= b && !wrong) { parse_byte(k + 1, b); s = s "," out_text }
         if (wrong) mark(label, wrong); else say(label, "DS\t" s)
     } else if (what == "EQU" || what == "SETEQ" || what == "EQU2") {
         n = a + 1
-        if (what == "EQU2") { label = value_of[a + 1]; n = a + 3 }
+        if (what == "EQU2" && label == "") { label = value_of[a + 1]; n = a + 3 }
         if (label == "") { mark(label, "no name"); return }
+        if (label == "$") { mark("", "no counterpart"); return }
         if (from == "sdas" && value_of[n] == "#") n++
         if (walk_number == 1) {
             if (what == "SETEQ" && from == "sjasmplus") define(label, "DEFL"); else define(label, "EQU")
         }
+        note_seen(label)
+        if (what == "SETEQ" && from == "sjasmplus" && walk_number == 1 && is_unsure() && !is_dead()) tainted[known_as(label)] = 1
         if (what == "SETEQ" && from == "sjasmplus" && changes(label)) { changing(label, n, b); return }
         if (what == "SETEQ" && from == "sjasmplus" && walk_number == 2) defined[known_as(label)] = "EQU"
         note_constant(label, n, b)
@@ -1337,6 +1625,7 @@ function directive(label, word, what, a, b,    s, k, n, list, t, dollar, name, p
         }
     } else if (what == "DEFL") {
         if (walk_number == 1) define(label, "DEFL")
+        note_seen(label)
         if (changes(label) || walk_number == 1) { changing(label, a + 1, b); return }
         note_constant(label, a + 1, b)
         defined[known_as(label)] = "EQU"
@@ -1350,6 +1639,7 @@ function directive(label, word, what, a, b,    s, k, n, list, t, dollar, name, p
         n = names_after(a + 1, b, list)
         s = ""
         for (k = 1; k <= n; k++) {
+            if (what == "EXTRN") note_seen(list[k])
             if (walk_number == 1) { if (what == "EXTRN") external[known_as(list[k])] = declared[known_as(list[k])] = 1; else exported[known_as(list[k])] = 1 }
             else if (what == "PUBLIC" && what_is(known_as(list[k])) != "LABEL") wrong = "PUBLIC of what is no label of this file"
             if (walk_number == 2 && what == "PUBLIC") { if (known_as(list[k]) in said_public) continue; said_public[known_as(list[k])] = 1 }
@@ -1375,29 +1665,34 @@ function directive(label, word, what, a, b,    s, k, n, list, t, dollar, name, p
         else if (file_of[here] > 1) { ended = 0; say("", "") }
         else say("", "END")
     } else if (what == "IF" || what == "IFNOT" || what == "IF1" || what == "IF2" || what == "IFDEF" || what == "IFNDEF") {
-        if (what == "IF1") s = "1"
-        else if (what == "IF2") s = "0"
+        if (what == "IF1") { s = "1"; n = 1 }
+        else if (what == "IF2") { s = "0"; n = 0 }
         else if (what ~ /DEF/) {
-            k = (known_as(value_of[a + 1]) in defined) && line_of[known_as(value_of[a + 1])] < here
+            k = is_seen(value_of[a + 1])
             remark = " " value_of[a] " " value_of[a + 1]
-            s = k == (what == "IFDEF") ? "1" : "0"
+            n = k == (what == "IFDEF")
+            s = n ? "1" : "0"
         } else {
             parse(a + 1, b)
+            n = !out_known ? -1 : what == "IFNOT" ? out_value == 0 : out_value != 0
+            if (what == "IFNOT") note_calculated()
             s = what == "IFNOT" ? wrapped(out_text, out_level, 6) " EQ 0" : out_text
             if (out_place) wrong = "a condition that depends on an address"
         }
         open_ifs[macros]++
+        open_if(wrong ? -1 : n)
         if (wrong) mark(label, wrong); else say_alone(label, "IF\t" s)
     } else if (what == "ELSE") {
-        if (from == "z80asm" && 0) mark(label, "")
+        other_branch()
         say_alone(label, "ELSE")
-    } else if (what == "ENDIF") { open_ifs[macros]--; say_alone(label, "ENDIF") }
+    } else if (what == "ENDIF") { open_ifs[macros]--; close_if(); say_alone(label, "ENDIF") }
     else if (what == "REPT") repetition(label, a, b)
     else if (what == "MACRO") begin_macro(label, a, b)
     else if (what == "ENDM") {
+        is_endm[here] = 1
         if (from == "pasmo") while (macros > 0 && open_ifs[macros]-- > 0) if (walk_number == 2) print "\tENDIF"
         for (k in parameter) { split(k, list, SUBSEP); if (list[1] == macros) delete parameter[k] }
-        if (macros > 0) macros--
+        if (macros > 0) { if_depth = if_base[macros]; macros-- }
         say_alone(label, "ENDM")
     } else if (what == "LOCAL") {
         n = names_after(a + 1, b, list)
@@ -1408,7 +1703,7 @@ function directive(label, word, what, a, b,    s, k, n, list, t, dollar, name, p
             if (walk_number == 1) for (k = 1; k <= n; k++) {
                 local_of[stack[macros]] = local_of[stack[macros]] "," clean(list[k])
             }
-            for (k = 1; k <= n; k++) parameter[macros, known_as(list[k])] = 1
+            for (k = 1; k <= n; k++) set_parameter(macros, list[k])
             # Written at the head of the macro.
             if (comment != "") say("", "")
         } else mark(label, "LOCAL outside of a macro")
@@ -1440,23 +1735,49 @@ function directive(label, word, what, a, b,    s, k, n, list, t, dollar, name, p
     } else if (what == "INCBIN") {
         if (walk_number == 2) include_bytes(label, a, b)
     } else if (what == "IRP") over_list(label, word, a, b)
-    else if (what == "MARK") mark(label, "no counterpart")
+    else if (what == "MARK") {
+        if (word ~ /^\.?IF/) { open_ifs[macros]++; open_if(-1) }
+        else if (word == "ELSEIF" && if_depth > 0) if_state[if_depth] = -1
+        mark(label, "no counterpart")
+    }
     else if (what == "CALL") {
+        if (walk_number == 1) call_of[here] = known_as(value_of[a])
+        for (k = a + 1; k <= b; k++) if (kind_of[k] == "i" && is_parameter(value_of[k])) { out_parameter = value_of[k]; note_calculated() }
         as_argument = 1
         read_operands(a + 1, b)
         as_argument = 0
+        for (k = 1; k <= operands; k++) argument(known_as(value_of[a]), k)
         s = ""
         for (k = 1; k <= operands; k++) s = s (k > 1 ? "," : "") (what_of[k] == "e" && text_of[k] ~ /^\+\(/ ? substr(text_of[k], 2) : text_of[k])
         if (wrong == "an empty operand") wrong = ""
         for (k = a + 1; k <= b; k++) if (value_of[k] == "<" || value_of[k] == "%" && from == "m80") wrong = "an argument in < >, or by its value"
         if (wrong) mark(label, wrong); else say(label, name_for(value_of[a]) (s == "" ? "" : "\t" s))
     } else if (word in instruction) {
+        note_least(word == "CALL" ? 3 : word ~ /^(JR|DJNZ)$/ ? 2 : 1)
         read_operands(a + 1, b)
         instructions(label, word, value_of[a], a, b)
     } else {
-        for (k = macros; k > 0; k--) if ((k, known_as(value_of[a])) in parameter) { say(label, by_tokens(a, b)); return }
+        for (k = macros; k > 0; k--) if ((k, known_as(value_of[a])) in parameter) {
+            for (n = a; n <= b; n++) if (kind_of[n] == "i" && is_parameter(value_of[n])) { out_parameter = value_of[n]; note_calculated() }
+            say(label, by_tokens(a, b))
+            return
+        }
         mark(label, "a word that it does not know")
     }
+}
+
+# An argument of a macro: what the body may read in another way than that of the other assembler.
+function argument(name, k,    t, v) {
+    if (first_of[k] == last_of[k] && kind_of[first_of[k]] == "s" && length(value_of[first_of[k]]) > 1) text_of[k] = string_items(value_of[first_of[k]])
+    for (t = first_of[k]; t <= last_of[k]; t++) {
+        if (kind_of[t] != "s") continue
+        v = string_items(value_of[t])
+        if (from == "sdas" && length(value_of[t]) > 1) wrong = "an argument that is a string"
+        if (v !~ /^'([^']|'')*'$/ && v !~ /^[0-9]+$/) wrong = "an argument that is a string with special characters"
+    }
+    v = text_of[k]
+    if (v ~ /^\+\(/) v = substr(v, 2)
+    if (what_of[k] == "e" && last_of[k] > first_of[k] && ((name, k) in calculated) && !(v ~ /^\(/ && ends_with_partner(v))) wrong = "an argument with operators, in a macro that calculates with it"
 }
 
 function say_name(text) {
@@ -1468,9 +1789,11 @@ function say_name(text) {
 # A name that is given another value.
 function changing(label, a, b,    key) {
     key = known_as(label)
-    if (macros) {
+    if (is_dead()) { if (walk_number == 2) plain(";" source); return }
+    if (is_unsure() || walk_number == 2 && (key in tainted)) {
+        tainted[key] = 1
         delete constant[key]
-        mark(label, "a name that changes its value, in a repetition or macro")
+        mark(label, "a name that changes its value, in a macro, a repetition or an IF")
         return
     }
     note_constant(label, a, b)
@@ -1480,7 +1803,14 @@ function changing(label, a, b,    key) {
     else plain(";" source)
 }
 
-function begin_macro(label, a, b,    k, n, list, name, s, first) {
+function set_parameter(level, name,    key) {
+    key = from == "m80" ? toupper(name) : name
+    parameter[level, key] = 1
+    if ((level, toupper(name)) in name_in_case && name_in_case[level, toupper(name)] != name) wrong = "two parameters that differ in case alone"
+    name_in_case[level, toupper(name)] = name
+}
+
+function begin_macro(label, a, b,    k, n, list, name, s, first, part) {
     first = a + 1
     name = label
     if (name == "") {
@@ -1489,20 +1819,29 @@ function begin_macro(label, a, b,    k, n, list, name, s, first) {
     }
     if (macros) wrong = "a macro that is defined in another block"
     macros++
-    stack[macros] = here
+    stack[macros] = block_of[macros] = here
+    if (walk_number == 1) macro_line[known_as(name)] = here
     open_ifs[macros] = 0
+    if_base[macros] = if_depth
+    macro_of[macros] = known_as(name)
     n = names_after(first, b, list)
     s = ""
+    for (k in number_of_parameter) { split(k, part, SUBSEP); if (part[1] == macros) delete number_of_parameter[k] }
+    for (k in name_in_case) { split(k, part, SUBSEP); if (part[1] == macros) delete name_in_case[k] }
     for (k = 1; k <= n; k++) {
-        parameter[macros, known_as(list[k])] = 1
+        set_parameter(macros, list[k])
+        number_of_parameter[macros, from == "m80" ? toupper(list[k]) : list[k]] = k
+        if (list[k] ~ /^\?/ && from == "sdas") wrong = "a parameter that makes a label"
+        if (toupper(list[k]) ~ /^(A|H|L|DB|DW|DS|JP|JR|IF|LOW|HIGH|NOT|AND|OR|XOR|MOD|SHL|SHR|EQ|NE|LT|LE|GT|GE)$/) wrong = "a parameter with a name that z80dev needs in what is written"
         s = s (s == "" ? "" : ",") clean(list[k])
     }
     for (k = first; k <= b; k++) if (kind_of[k] == "o" && value_of[k] != ",") wrong = "a parameter with a default"
     if (walk_number == 1) { macro[known_as(name)] = 1; define(name, "MACRO") }
+    k = macros; macros = 0; note_seen(name); macros = k
     # In z80asm a name of a macro's body that begins with a point is one of the call, also where it stands above its definition.
     if (local_of[here] != "") {
         n = split(substr(local_of[here], 2), list, ",")
-        for (k = 1; k <= n; k++) parameter[macros, known_as(list[k])] = 1
+        for (k = 1; k <= n; k++) set_parameter(macros, list[k])
     }
     if (wrong) { mark("", wrong); return }
     k = macros; macros = 0
@@ -1535,8 +1874,9 @@ function repetition(label, a, b,    k, n, ends, part, count, name, first, step) 
         }
     }
     macros++
-    stack[macros] = "REPT"
+    stack[macros] = "REPT"; block_of[macros] = here
     open_ifs[macros] = 0
+    if_base[macros] = if_depth
     if (wrong) mark(label, wrong); else say_alone(label, "REPT\t" out_text)
 }
 
@@ -1558,8 +1898,10 @@ function over_list(label, word, a, b,    ends, t, n, item, i, c, depth, begins, 
     for (i = 1; i <= length(t); i++) {
         c = substr(t, i, 1)
         if (word == "IRPC") { item[n++] = c; continue }
-        if (quote != "") { if (c == quote) quote = "" }
-        else if (c == "\"" || c == QUOTE) quote = c
+        if (quote != "") {
+            if (c == "\\" && escapes(quote)) { item[n] = item[n] c; c = substr(t, ++i, 1) }
+            else if (c == quote) quote = ""
+        } else if (c == "\"" || c == QUOTE) quote = c
         else if (c == "(") depth++
         else if (c == ")") depth--
         if (c == "," && depth == 0 && quote == "") { item[++n] = ""; continue }
@@ -1567,7 +1909,7 @@ function over_list(label, word, a, b,    ends, t, n, item, i, c, depth, begins, 
     }
     if (word == "IRPC") n--
     if (!ends || word != "IRP" && from != "m80") {
-        macros++; stack[macros] = "REPT"; open_ifs[macros] = 0
+        macros++; stack[macros] = "REPT"; block_of[macros] = here; open_ifs[macros] = 0; if_base[macros] = if_depth
         mark(label, "a repetition over a list")
         return
     }
@@ -1579,7 +1921,7 @@ function over_list(label, word, a, b,    ends, t, n, item, i, c, depth, begins, 
         lists++
         list_name[lists] = name; list_item[lists] = item[i]
         procs++; proc_count++
-        run(begins + 1, ends - 1)
+        run_closed(begins + 1, ends - 1)
         drop_names(procs)
         procs--
         lists--
@@ -1759,19 +2101,6 @@ function move_operand(f, t) {
     known_of[t] = known_of[f]; worth_of[t] = worth_of[f]; shift_of[t] = shift_of[f]; inner_of[t] = inner_of[f]; inner_level[t] = inner_level[f]
 }
 
-# A jump by $+n or $-n: the lines that it steps over have to keep their lengths. Each has a byte at least.
-function note_step(sign, n,    i, t) {
-    if (n > 130) return
-    for (i = here; i >= 1 && i <= lines && n > 0; ) {
-        i += sign == "-" ? -1 : 1
-        t = line[i]
-        sub(/^[ \t]*/, "", t)
-        if (t == "" || t ~ /^;/) continue
-        steps[i] = 1
-        n--
-    }
-}
-
 # JP, JR, DJNZ and CALL. The last operand is where they go.
 function jump(label, word, op,    n, condition, to, simple, key, opcode) {
     n = operands
@@ -1787,7 +2116,6 @@ function jump(label, word, op,    n, condition, to, simple, key, opcode) {
     to = word_text(n)
     simple = what_of[n] == "e" && name_of[n] != "" && name_of[n] != "$"
     key = known_as(name_of[n])
-    if (walk_number == 1 && last_of[n] == first_of[n] + 2 && value_of[first_of[n]] == "$" && kind_of[last_of[n]] == "n") note_step(value_of[first_of[n] + 1], number_of[last_of[n]])
     if (word == "CALL") { say(label, op "\t" (n > 1 ? text_of[1] "," : "") to); return }
     if (word == "JP") {
         if ((keep || here in steps) && simple && (condition == "" || condition in short)) to = to "+0"
