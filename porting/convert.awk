@@ -898,6 +898,7 @@ function is_plain(known, v, plain) {
 function signs_matter(op, lk, lv, lplain, rk, rv, rplain) {
     if (from == "pasmo" || from == "m80" || lk && rk || (op == "&&" || op == "||")) return 0
     if (op ~ /^(EQ|NE)$/) return !(lk && lv >= 0 && lv < 32768 || rk && rv >= 0 && rv < 32768 || is_plain(lk, lv, lplain) && is_plain(rk, rv, rplain))
+    if (op ~ /^SH/ && (rk ? rv < 0 || rv > 31 : !rplain)) return 1
     if (op ~ /^(\/|MOD|SHR|LT|LE|GT|GE)$/) return !(is_plain(lk, lv, lplain) && is_plain(rk, rv, rplain))
     return 0
 }
@@ -1245,13 +1246,22 @@ function put_for(s, name, item,    out, i, c, quote, word) {
     return out
 }
 
+# The words of a line, without its strings and its comment.
+function bare(t) {
+    t = " " toupper(t) " "
+    gsub(/AF'/, "AF", t)
+    gsub(/"[^"]*"/, " ", t)
+    if (from != "sdas") gsub(/'[^']*'/, " ", t)
+    sub(/;.*/, " ", t)
+    gsub(/[\t:]/, " ", t)
+    return t
+}
+
 # The line of the ENDM that closes the block whose line is here, 0 if there is none.
 function end_of_block(    i, depth, t) {
     depth = 1
     for (i = here + 1; i <= lines; i++) {
-        t = " " toupper(line[i]) " "
-        sub(/;.*/, " ", t)
-        gsub(/[\t:]/, " ", t)
+        t = bare(line[i])
         if (t ~ / \.?(MACRO|REPT|DUP|IRP|IRPC) /) depth++
         else if (t ~ / (\.?ENDM|EDUP|ENDR) /) if (--depth == 0) return i
     }
@@ -1261,9 +1271,7 @@ function end_of_block(    i, depth, t) {
 # Whether the repetitions of a block have to be written out: a name changes its value there, or is one of each repetition.
 function has_to_unroll(ends,    i, t) {
     for (i = here + 1; i < ends; i++) {
-        t = " " toupper(line[i]) " "
-        sub(/;.*/, " ", t)
-        gsub(/[\t:]/, " ", t)
+        t = bare(line[i])
         if (t ~ / (DEFL|ASET|LOCAL) / || from == "sjasmplus" && t ~ /^ [A-Z0-9_.]+ *=/) return 1
         if (from == "m80" && t ~ /^ [A-Z0-9_.?@$]+ +SET /) return 1
     }
