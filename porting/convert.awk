@@ -80,6 +80,7 @@ function start_tables() {
     ours["AND"] = 3; ours["OR"] = 2; ours["XOR"] = 2
 
     truth = 65535
+    too_wide = "a condition that may have more than 16 bits"
     directives("DB DEFB DEFM", "DB"); directives("DW DEFW", "DW"); directives("DS DEFS", "DS")
     directives("EQU", "EQU"); directives("ORG", "ORG"); directives("END", "END")
     directives("IF", "IF"); directives("ELSE", "ELSE"); directives("ENDIF", "ENDIF"); directives("MACRO", "MACRO"); directives("ENDM", "ENDM")
@@ -588,7 +589,7 @@ function wrapped(text, level, least) {
 
 function term(v, text) {
     out_text = text; out_level = 9; out_known = 1; out_value = v; out_ours = v % 65536; out_place = 0
-    out_plain = 1; out_parameter = ""; out_base = ""; out_offset = v
+    out_plain = 1; out_wide = 0; out_parameter = ""; out_base = ""; out_offset = v
 }
 
 # A string as the item of an expression.
@@ -726,7 +727,9 @@ function parse_prefix(op, least,    k, t) {
     if (op == "+") return
     rely(out_base, out_offset)
     if (out_base != "") out_base = "?"
+    if (op == "!" && out_wide) wrong = too_wide
     out_plain = op ~ /^(!|HIGH|LOW)$/
+    if (out_plain) out_wide = 0
     if (op == "-") { out_text = "-" wrapped(t, k, 8); out_level = 8; out_value = signed(-out_value); out_ours = unsigned(-out_ours) }
     else if (op == "NOT") { out_text = "NOT " wrapped(t, k, 4); out_level = 4; out_value = signed(-1 - out_value); out_ours = unsigned(-1 - out_ours) }
     else if (op == "!") { out_text = wrapped(t, k, 5) " EQ 0"; out_level = 5; out_value = out_value == 0 ? truth : 0; out_ours = out_ours == 0 ? 65535 : 0 }
@@ -913,22 +916,25 @@ function plain_result(op, lk, lv, lplain, lp, rk, rv, rplain, rp,    l, r) {
     return 0
 }
 
-function parse_level(least,    op, lt, ll, lk, lv, lo, lp, lplain, plain_now, lbase, loffset) {
+function parse_level(least,    op, lt, ll, lk, lv, lo, lp, lplain, plain_now, lbase, loffset, lwide, wide_now) {
     parse_term()
     while (p <= last && !wrong && kind_of[p] != "n" && kind_of[p] != "s") {
         op = toupper(value_of[p])
         if (!(op in binary) || tight[op] < least) break
         p++
         note_calculated()
-        lt = out_text; ll = out_level; lk = out_known; lv = out_value; lo = out_ours; lp = out_place; lplain = out_plain; lbase = out_base; loffset = out_offset
+        lt = out_text; ll = out_level; lk = out_known; lv = out_value; lo = out_ours; lp = out_place; lplain = out_plain; lbase = out_base; loffset = out_offset; lwide = out_wide
         # Comparisons of z80asm group to the right.
         parse_level(tight[op] + !(from == "z80asm" && ours[binary[op]] == 5))
         note_calculated()
         if (signs_matter(binary[op], lk, lv, lplain, out_known, out_value, out_plain)) wrong = "a value that may be negative, in a division, shift or comparison"
         plain_now = plain_result(binary[op], lk, lv, lplain, lp, out_known, out_value, out_plain, out_place)
+        if ((lwide || out_wide) && binary[op] ~ /^(EQ|NE|&&|\|\|)$/) wrong = too_wide
+        # A product that is 0 on 16 bits need not be 0 on 32.
+        wide_now = !plain_now && (lwide || out_wide || (binary[op] == "*" || binary[op] == "SHL") && !(lk && out_known) && from != "pasmo" && from != "m80")
         rely_on_both(binary[op], lbase, loffset, out_base, out_offset)
         joined(binary[op], lt, ll, lk, lv, lo, lp, out_text, out_level, out_known, out_value, out_ours, out_place)
-        out_plain = plain_now
+        out_plain = plain_now; out_wide = wide_now
         out_base = base_now; out_offset = out_base == "" ? out_value : offset_now
     }
 }
@@ -1684,6 +1690,7 @@ function directive(label, word, what, a, b,    s, k, n, list, t, dollar, name, p
             parse(a + 1, b)
             n = !out_known ? -1 : what == "IFNOT" ? out_value == 0 : out_value != 0
             if (what == "IFNOT") note_calculated()
+            if (out_wide) wrong = too_wide
             s = what == "IFNOT" ? wrapped(out_text, out_level, 6) " EQ 0" : out_text
             if (out_place) wrong = "a condition that depends on an address"
         }
