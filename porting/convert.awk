@@ -893,6 +893,16 @@ function note_least(n,    k) {
     if (!(here in least) || least[here] > n) least[here] = n
 }
 
+# Whether a shift is by a parameter alone, which is noted: the calls have to give it a small number.
+function shifts_by_parameter(    k, key) {
+    if (out_parameter == "") return 0
+    k = is_parameter(out_parameter)
+    key = from == "m80" ? toupper(out_parameter) : out_parameter
+    if (!k || !((k, key) in number_of_parameter)) return 0
+    shifts[macro_of[k], number_of_parameter[k, key]] = 1
+    return 1
+}
+
 # Whether two operands give an operator the same value with signs and 32 bits as without them and 16.
 function is_plain(known, v, plain) {
     return known ? v >= 0 && v < 65536 : plain
@@ -926,6 +936,7 @@ function parse_level(least,    op, lt, ll, lk, lv, lo, lp, lplain, plain_now, lb
         lt = out_text; ll = out_level; lk = out_known; lv = out_value; lo = out_ours; lp = out_place; lplain = out_plain; lbase = out_base; loffset = out_offset; lwide = out_wide
         # Comparisons of z80asm group to the right.
         parse_level(tight[op] + !(from == "z80asm" && ours[binary[op]] == 5))
+        if (binary[op] ~ /^SH/ && (from == "pasmo" || from == "m80") && (out_known ? out_value > 31 : !shifts_by_parameter())) wrong = "a shift by a number that is not known"
         note_calculated()
         if (signs_matter(binary[op], lk, lv, lplain, out_known, out_value, out_plain)) wrong = "a value that may be negative, in a division, shift or comparison"
         plain_now = plain_result(binary[op], lk, lv, lplain, lp, out_known, out_value, out_plain, out_place)
@@ -1691,6 +1702,7 @@ function directive(label, word, what, a, b,    s, k, n, list, t, dollar, name, p
             n = !out_known ? -1 : what == "IFNOT" ? out_value == 0 : out_value != 0
             if (what == "IFNOT") note_calculated()
             if (out_wide) wrong = too_wide
+            if (out_known && (out_value != 0) != (out_ours != 0)) { out_text = out_value != 0 ? "1" : "0"; out_level = 9 }
             s = what == "IFNOT" ? wrapped(out_text, out_level, 6) " EQ 0" : out_text
             if (out_place) wrong = "a condition that depends on an address"
         }
@@ -1791,6 +1803,7 @@ function argument(name, k,    t, v) {
         if (v !~ /^'([^']|'')*'$/ && v !~ /^[0-9]+$/) wrong = "an argument that is a string with special characters"
     }
     v = text_of[k]
+    if (((name, k) in shifts) && !(known_of[k] && worth_of[k] < 32)) wrong = "an argument that is the number of bits of a shift"
     if (v ~ /^\+\(/) v = substr(v, 2)
     if (what_of[k] == "e" && last_of[k] > first_of[k] && ((name, k) in calculated) && !(v ~ /^\(/ && ends_with_partner(v))) wrong = "an argument with operators, in a macro that calculates with it"
 }
