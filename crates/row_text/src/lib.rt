@@ -70,3 +70,37 @@ pub fn show_text<W: Write>(out: &mut W, text: &[u8]) -> Result<(), anyhow::Error
     }
     Ok(())
 }
+
+/// A byte, and how often it follows itself.
+#[derive(Clone, Copy)]
+struct Run {
+    byte: u8,
+    count: usize,
+}
+
+/// Prints equal bytes: more than eight as their count and the byte, in braces.
+fn show_run<W: Write>(out: &mut W, run: Run) -> Result<(), anyhow::Error> {
+    if run.count > 8 {
+        return Ok(write!(out, "{{{}x{:02X}}}", run.count, run.byte)?);
+    }
+    for _ in 0..run.count {
+        show_text(out, &[run.byte])?;
+    }
+    Ok(())
+}
+
+/// Prints bytes as `show_text` does, but more than eight equal ones as `{9x41}`.
+pub fn show_runs<W: Write>(out: &mut W, bytes: &[u8]) -> Result<(), anyhow::Error> {
+    let mut run = Run { byte: 0, count: 0 };
+    for byte in bytes {
+        if *byte != run.byte {
+            show_run(out, run)?;
+            run = Run {
+                byte: *byte,
+                count: 0,
+            };
+        }
+        run.count = run.count.saturating_add(1);
+    }
+    show_run(out, run)
+}

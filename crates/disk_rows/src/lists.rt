@@ -1,0 +1,276 @@
+//! Lists of entries, in which the directory's functions look.
+
+use crate::disks::show_list;
+use crate::shown::{
+    byte, decimal, first_of, kind_of, name_of, padded, short, show_bytes, show_number, user_of,
+};
+use anyhow::{Context, anyhow};
+use cpm_directory::{
+    DiskFault, Entry, Name, Pattern, file_is_read_only, file_is_system, find, free_block,
+    free_entry, is_file, judge, list, position_of, size,
+};
+use cpm_disk::DiskKind;
+use std::alloc::Global;
+use std::io::Write;
+
+/// Entries of a kind of disk.
+#[derive(Drop)]
+pub(crate) struct List {
+    pub(crate) kind: DiskKind,
+    pub(crate) entries: Vec<Entry>,
+}
+
+/// A list without entries.
+pub(crate) fn new_list(alloc: Global, row: &str) -> Result<List, anyhow::Error> {
+    Ok(List {
+        kind: kind_of(row)?,
+        entries: Vec::new(alloc),
+    })
+}
+
+/// Adds the entry of a new extent: the user, the number of the extent, and the name.
+fn add_extent(alloc: Global, row: &str, list: &mut List) -> Result<(), anyhow::Error> {
+    let (user, row) = first_of(row)?;
+    let (number, name) = first_of(row)?;
+    let number = short(number)?;
+    if number >= 8_192 {
+        return Err(anyhow!("no such extent"));
+    }
+    let entry = Entry::new_extent(user_of(user)?, name_of(alloc, name)?, number);
+    Ok(list.entries.push(entry)?)
+}
+
+/// The last entry, and takes it from the list.
+fn last_of(list: &mut List) -> Result<Entry, anyhow::Error> {
+    list.entries.pop().context("no entry")
+}
+
+/// Puts a record into the last entry: its number in the extent, and the block of it.
+fn add_record(row: &str, list: &mut List) -> Result<(), anyhow::Error> {
+    let (record, block) = first_of(row)?;
+    let record = u8::from_str_radix(record, 10)?;
+    let block = short(block)?;
+    if record >= 128 || (list.kind == DiskKind::EightInch && block >= 256) {
+        return Err(anyhow!("no such record"));
+    }
+    let entry = last_of(list)?.with_record(list.kind, record, block);
+    Ok(list.entries.push(entry)?)
+}
+
+/// The calls that make or change the last entry of a list.
+pub(crate) fn change_list(
+    alloc: Global,
+    call: &str,
+    row: &str,
+    list: &mut List,
+) -> Result<(), anyhow::Error> {
+    match call.as_bytes() {
+        b"add" => add_extent(alloc, row, list),
+        b"add-bytes" => Ok(list.entries.push(Entry::from_bytes(&padded(alloc, row)?))?),
+        b"with" => add_record(row, list),
+        b"erased" => {
+            let entry = last_of(list)?.erased();
+            Ok(list.entries.push(entry)?)
+        }
+        _ => {
+            let entry = last_of(list)?.renamed(&Name::new(name_of(alloc, row)?));
+            Ok(list.entries.push(entry)?)
+        }
+    }
+}
+
+/// The bytes of the last entry, the number of its extent, and what it is.
+fn report_shape<W: Write>(out: &mut W, entry: &Entry) -> Result<(), anyhow::Error> {
+    show_bytes(out, &entry.to_bytes())?;
+    for (is_so, word) in [
+        (entry.is_free(), "free"),
+        (entry.is_read_only(), "read-only"),
+        (entry.is_system(), "system"),
+    ] {
+        if is_so {
+            write!(out, " {word}")?;
+        }
+    }
+    if entry.is_extent() {
+        write!(out, " extent {}", entry.extent_number())?;
+    }
+    Ok(())
+}
+
+/// Whether a record of the last entry is there, and the record of the disk at its place.
+fn report_record<W: Write>(
+    out: &mut W,
+    row: &str,
+    kind: DiskKind,
+    entry: &Entry,
+) -> Result<(), anyhow::Error> {
+    let record = u8::from_str_radix(row, 10)?;
+    if record >= 128 {
+        return Err(anyhow!("no such record"));
+    }
+    let is_there = if entry.has_record(kind, record) { "there" } else { "not there" };
+    Ok(write!(out, " {is_there}, {}", entry.place_on_disk(kind, record))?)
+}
+
+/// A block of the last entry, as a kind of disk has it: the kind, and which.
+fn report_block<W: Write>(out: &mut W, row: &str, entry: &Entry) -> Result<(), anyhow::Error> {
+    let (kind, group) = first_of(row)?;
+    let kind = kind_of(kind)?;
+    let group = u8::from_str_radix(group, 10)?;
+    if group >= kind.entry_blocks() {
+        return Err(anyhow!("no such block"));
+    }
+    Ok(write!(out, " {}", entry.block(kind, group))?)
+}
+
+/// Prints yes or no.
+fn show_truth<W: Write>(out: &mut W, is_so: bool) -> Result<(), anyhow::Error> {
+    let word = if is_so { "yes" } else { "no" };
+    Ok(write!(out, " {word}")?)
+}
+
+/// The calls that look at the last entry of a list.
+pub(crate) fn report_on_last<W: Write>(
+    alloc: Global,
+    out: &mut W,
+    call: &str,
+    row: &str,
+    list: &List,
+) -> Result<(), anyhow::Error> {
+    let entry = list.entries.last().context("no entry")?;
+    match call.as_bytes() {
+        b"shape" => report_shape(out, entry),
+        b"record-of" => report_record(out, row, list.kind, entry),
+        b"block-of" => report_block(out, row, entry),
+        b"is-of" => {
+            let (user, name) = first_of(row)?;
+            let name = Name::new(name_of(alloc, name)?);
+            show_truth(out, entry.is_of(user_of(user)?, &name))
+        }
+        _ => {
+            let (user, name) = first_of(row)?;
+            let name = name_of(alloc, name)?;
+            show_truth(out, entry.is_match(user_of(user)?, &name))
+        }
+    }
+}
+
+/// Whether a list keeps the rules, or its first fault.
+fn report_judged<W: Write>(out: &mut W, list: &List) -> Result<(), anyhow::Error> {
+    match judge(list.kind, &list.entries) {
+        Ok(()) => Ok(write!(out, " kept")?),
+        Err(fault) => Ok(write!(out, " {fault:?}")?),
+    }
+}
+
+/// A file of a list: its records and its attributes.
+fn report_file<W: Write>(
+    alloc: Global,
+    out: &mut W,
+    row: &str,
+    entries: &[Entry],
+) -> Result<(), anyhow::Error> {
+    let (user, name) = first_of(row)?;
+    let user = user_of(user)?;
+    let name = Name::new(name_of(alloc, name)?);
+    if !is_file(entries, user, &name) {
+        return Ok(write!(out, " none, {:?}", size(entries, user, &name))?);
+    }
+    write!(out, " {:?} records", size(entries, user, &name))?;
+    if file_is_read_only(entries, user, &name) {
+        write!(out, " read-only")?;
+    }
+    if file_is_system(entries, user, &name) {
+        write!(out, " system")?;
+    }
+    Ok(())
+}
+
+/// The first free entry and the first free block of a part of a list.
+fn report_free<W: Write>(
+    out: &mut W,
+    row: &str,
+    kind: DiskKind,
+    entries: &[Entry],
+) -> Result<(), anyhow::Error> {
+    let (from, to) = first_of(row)?;
+    let (from, to) = (decimal(from)? as usize, decimal(to)? as usize);
+    let part = entries.get(from..to).context("no such part")?;
+    if part.len() > 256 {
+        return Err(anyhow!("too many entries"));
+    }
+    write!(out, " entry")?;
+    show_number(out, free_entry(part))?;
+    write!(out, ", block")?;
+    show_number(out, free_block(kind, part))
+}
+
+/// The position of an extent: the user, its number and the name.
+fn report_position<W: Write>(
+    alloc: Global,
+    out: &mut W,
+    row: &str,
+    entries: &[Entry],
+) -> Result<(), anyhow::Error> {
+    let (user, row) = first_of(row)?;
+    let (number, name) = first_of(row)?;
+    let name = Name::new(name_of(alloc, name)?);
+    if entries.len() > 256 {
+        return Err(anyhow!("too many entries"));
+    }
+    show_number(out, position_of(entries, user_of(user)?, &name, short(number)?))
+}
+
+/// The first entry that a pattern finds: the user, where to begin, EX, S2 and the name.
+fn report_found<W: Write>(
+    alloc: Global,
+    out: &mut W,
+    row: &str,
+    entries: &[Entry],
+) -> Result<(), anyhow::Error> {
+    let (user, row) = first_of(row)?;
+    let (from, row) = first_of(row)?;
+    let (extent, row) = first_of(row)?;
+    let (high, name) = first_of(row)?;
+    let pattern = Pattern {
+        name: name_of(alloc, name)?,
+        extent: byte(extent)?,
+        high: byte(high)?,
+    };
+    if entries.len() > 256 {
+        return Err(anyhow!("too many entries"));
+    }
+    show_number(out, find(entries, user_of(user)?, &pattern, short(from)?))
+}
+
+/// All files of a list.
+fn report_files<W: Write>(
+    alloc: Global,
+    out: &mut W,
+    entries: &[Entry],
+) -> Result<(), anyhow::Error> {
+    match list(alloc, entries) {
+        Ok(files) => show_list(out, &files),
+        Err(DiskFault::NoMemory) => Err(DiskFault::NoMemory.into()),
+        Err(fault) => Ok(write!(out, " {fault:?}")?),
+    }
+}
+
+/// The calls that look at a whole list.
+pub(crate) fn report_on_list<W: Write>(
+    alloc: Global,
+    out: &mut W,
+    call: &str,
+    row: &str,
+    list: &List,
+) -> Result<(), anyhow::Error> {
+    match call.as_bytes() {
+        b"judge" => report_judged(out, list),
+        b"file" => report_file(alloc, out, row, &list.entries),
+        b"free" => report_free(out, row, list.kind, &list.entries),
+        b"position" => report_position(alloc, out, row, &list.entries),
+        b"match" => report_found(alloc, out, row, &list.entries),
+        b"files" => report_files(alloc, out, &list.entries),
+        _ => Err(anyhow!("no such call")),
+    }
+}

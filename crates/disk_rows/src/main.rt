@@ -1,0 +1,189 @@
+//! Reads rows, a line of standard input each, and prints each with the answer of the call that it names.
+//!
+//! The head of `stdin` says which calls there are and what stands behind each; a line of `;` is a remark.
+#![tactic(auto)]
+
+mod disks;
+mod images;
+mod lists;
+mod shown;
+mod stops;
+
+use anyhow::{Context, anyhow};
+use cpm_disk::{Disk, DiskFault};
+use cpm_image::{Failing, MemoryImage};
+use lists::List;
+use std::alloc::Global;
+use std::io::Write;
+
+/// What the rows work on: an image or the disk that it became, the image as it was then, and a list of entries.
+#[derive(Drop)]
+struct State {
+    image: Option<MemoryImage>,
+    disk: Option<Disk<Failing>>,
+    before: Option<MemoryImage>,
+    list: List,
+}
+
+/// Makes a disk of the image.
+fn report_mounted<W: Write>(
+    alloc: Global,
+    out: &mut W,
+    row: &str,
+    state: &mut State,
+) -> Result<(), anyhow::Error> {
+    let image = state.image.take().context("no image")?;
+    state.before = Some(stops::copy_of(alloc, &image)?);
+    match Disk::mount(alloc, disks::device_of(row, image)?) {
+        Ok(disk) => {
+            state.disk = Some(disk);
+            Ok(write!(out, " mounted")?)
+        }
+        Err((DiskFault::NoMemory, _)) => Err(DiskFault::NoMemory.into()),
+        Err((fault, device)) => {
+            state.image = Some(device.into_image());
+            Ok(write!(out, " {fault:?}")?)
+        }
+    }
+}
+
+/// The calls that make an image, or make a disk of it and an image of that.
+fn report_on_state<W: Write>(
+    alloc: Global,
+    out: &mut W,
+    call: &str,
+    row: &str,
+    state: &mut State,
+) -> Result<(), anyhow::Error> {
+    match call.as_bytes() {
+        b"disk" => {
+            state.disk = None;
+            state.image = Some(MemoryImage::blank(alloc, shown::kind_of(row)?)?);
+            Ok(())
+        }
+        b"mount" => report_mounted(alloc, out, row, state),
+        b"unmount" => {
+            let disk = state.disk.take().context("no disk")?;
+            state.image = Some(disk.unmount().into_image());
+            Ok(())
+        }
+        b"changed" => {
+            let before = state.before.as_ref().context("no image")?;
+            images::report_changed(out, row, before, state.image.as_ref().context("no image")?)
+        }
+        _ => {
+            state.list = lists::new_list(alloc, row)?;
+            Ok(())
+        }
+    }
+}
+
+/// The calls that use an image.
+fn report_on_image<W: Write>(
+    alloc: Global,
+    out: &mut W,
+    call: &str,
+    row: &str,
+    image: &mut MemoryImage,
+) -> Result<(), anyhow::Error> {
+    match call.as_bytes() {
+        b"put" => images::put_entry(alloc, row, image),
+        b"sector" => images::report_written(alloc, out, row, image),
+        b"sectors" => images::report_range(out, row, image, false),
+        b"records" => images::report_range(out, row, image, true),
+        _ => stops::report_stops(alloc, out, row, image),
+    }
+}
+
+/// The calls that use a disk.
+fn report_on_disk<W: Write>(
+    alloc: Global,
+    out: &mut W,
+    call: &str,
+    row: &str,
+    disk: &mut Disk<Failing>,
+) -> Result<(), anyhow::Error> {
+    match call.as_bytes() {
+        b"writes" => disks::report_writes(alloc, out, row, disk),
+        b"reads" => disks::report_reads(alloc, out, row, disk),
+        b"entry" => disks::report_entry(out, row, disk),
+        b"find" => disks::report_found(alloc, out, row, disk),
+        b"extent" => disks::report_extent(alloc, out, row, disk),
+        b"size" => disks::report_size(alloc, out, row, disk),
+        b"list" => disks::report_list(alloc, out, disk),
+        _ => disks::report_change(alloc, out, call, row, disk),
+    }
+}
+
+/// The calls that use nothing.
+fn report_alone<W: Write>(
+    alloc: Global,
+    out: &mut W,
+    call: &str,
+    row: &str,
+) -> Result<(), anyhow::Error> {
+    match call.as_bytes() {
+        b"image" => images::report_image(alloc, out, row),
+        b"kind" => images::report_kind(out, row),
+        b"sector-of" => images::report_sector(out, row),
+        b"tracks" => images::report_track(out, row),
+        b"texts" => images::report_texts(out),
+        _ => Err(anyhow!("no such call")),
+    }
+}
+
+/// Each call.
+fn report<W: Write>(
+    alloc: Global,
+    out: &mut W,
+    call: &str,
+    row: &str,
+    state: &mut State,
+) -> Result<(), anyhow::Error> {
+    match call.as_bytes() {
+        b"disk" | b"mount" | b"unmount" | b"changed" | b"entries" => {
+            report_on_state(alloc, out, call, row, state)
+        }
+        b"put" | b"sector" | b"sectors" | b"records" | b"stops" => {
+            let image = state.image.as_mut().context("no image")?;
+            report_on_image(alloc, out, call, row, image)
+        }
+        b"create" | b"erase" | b"rename" | b"read" | b"write" | b"writes" | b"reads" | b"entry"
+        | b"find" | b"extent" | b"size" | b"list" => {
+            let disk = state.disk.as_mut().context("no disk")?;
+            report_on_disk(alloc, out, call, row, disk)
+        }
+        b"add" | b"add-bytes" | b"with" | b"erased" | b"renamed" => {
+            lists::change_list(alloc, call, row, &mut state.list)
+        }
+        b"shape" | b"record-of" | b"block-of" | b"is-of" | b"matches" => {
+            lists::report_on_last(alloc, out, call, row, &state.list)
+        }
+        b"judge" | b"file" | b"free" | b"position" | b"match" | b"files" => {
+            lists::report_on_list(alloc, out, call, row, &state.list)
+        }
+        _ => report_alone(alloc, out, call, row),
+    }
+}
+
+fn main(rt: HostRuntime) -> Result<(), anyhow::Error> {
+    let alloc = rt.alloc();
+    let mut out = rt.stdout();
+    let mut state = State {
+        image: None,
+        disk: None,
+        before: None,
+        list: lists::new_list(alloc, "eight")?,
+    };
+    for line in rt.lines(alloc) {
+        let line = line?;
+        write!(out, "{line}")?;
+        if !line.as_str().is_empty() && !line.as_str().starts_with(';') {
+            write!(out, " =>")?;
+            let (call, row) = line.split_once(' ').unwrap_or((line.as_str(), ""));
+            report(alloc, &mut out, call, row, &mut state)?;
+        }
+        writeln!(out)?;
+    }
+    Ok(())
+}

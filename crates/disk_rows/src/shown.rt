@@ -1,0 +1,99 @@
+//! Bytes, numbers and names of rows.
+
+use anyhow::{Context, anyhow};
+use cpm_disk::{DiskFault, DiskKind};
+use row_text::{show_runs, written_out};
+use std::alloc::Global;
+use std::io::Write;
+
+/// Prints bytes in `<` and `>`.
+pub(crate) fn show_bytes<W: Write>(out: &mut W, bytes: &[u8]) -> Result<(), anyhow::Error> {
+    write!(out, " <")?;
+    show_runs(out, bytes)?;
+    Ok(write!(out, ">")?)
+}
+
+/// A number in decimal.
+pub(crate) fn decimal(text: &str) -> Result<u32, anyhow::Error> {
+    Ok(u32::from_str_radix(text, 10)?)
+}
+
+/// A number of 16 bits in decimal.
+pub(crate) fn short(text: &str) -> Result<u16, anyhow::Error> {
+    Ok(u16::from_str_radix(text, 10)?)
+}
+
+/// A byte in hexadecimal.
+pub(crate) fn byte(text: &str) -> Result<u8, anyhow::Error> {
+    Ok(u8::from_str_radix(text, 16)?)
+}
+
+/// A user, in decimal.
+pub(crate) fn user_of(text: &str) -> Result<u8, anyhow::Error> {
+    Ok(u8::from_str_radix(text, 10)?)
+}
+
+/// The kind of disk that a word names.
+pub(crate) fn kind_of(word: &str) -> Result<DiskKind, anyhow::Error> {
+    match word.as_bytes() {
+        b"eight" => Ok(DiskKind::EightInch),
+        b"megabyte" => Ok(DiskKind::Megabyte),
+        _ => Err(anyhow!("no such kind of disk")),
+    }
+}
+
+/// A text of so many bytes; where it is shorter, zeros follow.
+pub(crate) fn padded<const N: usize>(alloc: Global, text: &str) -> Result<[u8; N], anyhow::Error> {
+    let bytes = written_out(alloc, text)?;
+    if bytes.len() > N {
+        return Err(anyhow!("too many bytes"));
+    }
+    let mut all = [0; N];
+    for (place, byte) in all.iter_mut().zip(&bytes) {
+        *place = *byte;
+    }
+    Ok(all)
+}
+
+/// The eleven bytes of a name.
+pub(crate) fn name_of(alloc: Global, text: &str) -> Result<[u8; 11], anyhow::Error> {
+    if written_out(alloc, text)?.len() != 11 {
+        return Err(anyhow!("a name has eleven bytes"));
+    }
+    padded(alloc, text)
+}
+
+/// Prints the number of an entry, or `none`.
+pub(crate) fn show_number<W: Write>(out: &mut W, number: Option<u16>) -> Result<(), anyhow::Error> {
+    match number {
+        Some(number) => Ok(write!(out, " {number}")?),
+        None => Ok(write!(out, " none")?),
+    }
+}
+
+/// Prints a number that a call answers, or why it refuses.
+pub(crate) fn show_answer<W: Write>(
+    out: &mut W,
+    answer: Result<u16, DiskFault>,
+) -> Result<(), anyhow::Error> {
+    match answer {
+        Ok(number) => Ok(write!(out, " {number}")?),
+        Err(fault) => Ok(write!(out, " {fault:?}")?),
+    }
+}
+
+/// Prints that a call was done, or why it refuses.
+pub(crate) fn show_done<W: Write>(
+    out: &mut W,
+    answer: Result<(), DiskFault>,
+) -> Result<(), anyhow::Error> {
+    match answer {
+        Ok(()) => Ok(write!(out, " done")?),
+        Err(fault) => Ok(write!(out, " {fault:?}")?),
+    }
+}
+
+/// The first word of a row, and the rest.
+pub(crate) fn first_of(row: &str) -> Result<(&str, &str), anyhow::Error> {
+    Ok(row.split_once(' ').context("a column is missing")?)
+}

@@ -1,0 +1,233 @@
+//! What a call leaves whose device fails at one of its calls, at each in turn.
+
+use crate::disks::{Change, change_of, device_of, make};
+use crate::shown::{first_of, user_of};
+use anyhow::anyhow;
+use cpm_disk::{Disk, DiskFault, Name, Pattern};
+use cpm_image::{FailedWrite, Failing, MemoryImage};
+use std::alloc::Global;
+use std::io::Write;
+
+ghost use Rattle.std.specs.Prelude.{◌<◌};
+
+/// Records that are looked at of each file: at the beginning and the end of blocks and extents, and those that rows write.
+const LOOKED_AT: [u32; 22] = [
+    0, 1, 2, 3, 4, 7, 8, 9, 10, 11, 15, 16, 23, 24, 128, 129, 130, 131, 256, 300, 303, 4_100,
+];
+
+/// What can be seen of a disk: its entries, and what reading records of its files answers.
+#[derive(Drop)]
+struct Seen {
+    entries: Vec<[u8; 32]>,
+    records: Vec<Result<[u8; 128], DiskFault>>,
+}
+
+/// A call, its user, and how its device fails.
+#[derive(Clone, Copy)]
+struct Stopped {
+    change: Change,
+    user: u8,
+    lasts: bool,
+    leaves: FailedWrite,
+}
+
+/// A copy of an image.
+pub(crate) fn copy_of(alloc: Global, image: &MemoryImage) -> Result<MemoryImage, anyhow::Error> {
+    Ok(MemoryImage::from_bytes(alloc, image.sectors().as_flattened())?)
+}
+
+/// The disk of an image, on a device that does not fail.
+fn mounted(alloc: Global, image: MemoryImage) -> Result<Disk<Failing>, anyhow::Error> {
+    match Disk::mount(alloc, device_of("good", image)?) {
+        Ok(disk) => Ok(disk),
+        Err((fault, _)) => Err(fault.into()),
+    }
+}
+
+/// Adds what reading the records of a file answers.
+fn look_at_file(
+    disk: &mut Disk<Failing>,
+    user: u8,
+    name: &Name,
+    records: &mut Vec<Result<[u8; 128], DiskFault>>,
+) -> Result<(), anyhow::Error> {
+    if user >= 32 {
+        return Err(anyhow!("users are 0 to 31"));
+    }
+    for number in LOOKED_AT {
+        records.push(disk.read_block_of(user, name, number))?;
+    }
+    Ok(())
+}
+
+/// The entries of a disk.
+fn entries_of(alloc: Global, disk: &Disk<Failing>) -> Result<Vec<[u8; 32]>, anyhow::Error> {
+    let mut entries = Vec::new(alloc);
+    for number in 0..disk.kind().entry_count() {
+        entries.push(disk.entry(number))?;
+    }
+    Ok(entries)
+}
+
+/// What can be seen once an image is mounted again.
+fn look_at(alloc: Global, image: MemoryImage) -> Result<Seen, anyhow::Error> {
+    let mut disk = mounted(alloc, image)?;
+    let mut records = Vec::new(alloc);
+    for file in &disk.list(alloc)? {
+        look_at_file(&mut disk, file.user, &file.name, &mut records)?;
+    }
+    Ok(Seen {
+        entries: entries_of(alloc, &disk)?,
+        records,
+    })
+}
+
+/// Whether nothing is seen of a disk whose device has failed.
+fn is_unseen(alloc: Global, disk: &Disk<Failing>, name: &Name) -> bool {
+    let any = Pattern {
+        name: *b"???????????",
+        extent: 0x3F,
+        high: 0x3F,
+    };
+    let is_no_file = disk.find(0, &any, 0).is_none()
+        && disk.find_extent(0, name, 0).is_none()
+        && disk.size(0, name).is_none();
+    is_no_file && matches!(disk.list(alloc), Err(DiskFault::Failed)) && has_no_entries(disk)
+}
+
+/// Whether all entries of a disk are E5H.
+fn has_no_entries(disk: &Disk<Failing>) -> bool {
+    for number in 0..disk.kind().entry_count() {
+        if disk.entry(number) != [0xE5; 32] {
+            return false;
+        }
+    }
+    true
+}
+
+/// Whether a disk answers Failed to each call.
+fn fails_all(disk: &mut Disk<Failing>, name: Name) -> bool {
+    let fresh = Name::new(*b"FRESH   TXT");
+    let pattern = Pattern {
+        name: name.bytes(),
+        extent: 0,
+        high: 0,
+    };
+    for change in [
+        Change::Create(fresh),
+        Change::Create(name),
+        Change::Erase(pattern),
+        Change::Rename(name, fresh),
+        Change::Read(name, 0),
+        Change::Read(name, 5_000),
+        Change::Write(name, 0, 1),
+        Change::Write(fresh, 5_000, 1),
+    ] {
+        if make(change, 0, disk) != Err(DiskFault::Failed) {
+            return false;
+        }
+    }
+    true
+}
+
+/// Whether each entry is as before or as after, and where no name changes the records are all as before or all as after.
+fn is_between(change: Change, now: &Seen, before: &Seen, after: &Seen) -> bool {
+    let mut entries = now.entries.iter().zip(&before.entries).zip(&after.entries);
+    if !entries.all(|((entry, old), new)| entry == old || entry == new) {
+        return false;
+    }
+    let records = now.records.as_slice();
+    matches!(change, Change::Erase(_) | Change::Rename(..))
+        || records == before.records.as_slice()
+        || records == after.records.as_slice()
+}
+
+/// Makes a call on a disk, and gives back whether that met the fault, whether the disk then answered as one that has failed, and the image.
+fn stopped_at(
+    alloc: Global,
+    device: Failing,
+    stopped: Stopped,
+) -> Result<(bool, bool, MemoryImage), anyhow::Error> {
+    if stopped.user >= 32 {
+        return Err(anyhow!("users are 0 to 31"));
+    }
+    let mut disk = match Disk::mount(alloc, device) {
+        Ok(disk) => disk,
+        Err((DiskFault::Fault, device)) => return Ok((true, true, device.into_image())),
+        Err((fault, _)) => return Err(fault.into()),
+    };
+    let is_met = make(stopped.change, stopped.user, &mut disk) == Err(DiskFault::Fault);
+    let other = Name::new(*b"OTHER   TXT");
+    let is_failed = is_met && is_unseen(alloc, &disk, &other) && fails_all(&mut disk, other);
+    Ok((is_met, is_failed, disk.unmount().into_image()))
+}
+
+/// The device of a call whose call of a number fails.
+fn failing(stopped: Stopped, image: MemoryImage, call: u32) -> Failing {
+    if stopped.lasts {
+        Failing::lasting(image, call, stopped.leaves)
+    } else {
+        Failing::once(image, call, stopped.leaves)
+    }
+}
+
+/// Makes a call on a device that fails at a call of a number. Whether that met the fault.
+fn meets_fault(
+    alloc: Global,
+    image: &MemoryImage,
+    stopped: Stopped,
+    call: u32,
+    states: (&Seen, &Seen),
+) -> Result<bool, anyhow::Error> {
+    let (before, after) = states;
+    let device = failing(stopped, copy_of(alloc, image)?, call);
+    let (is_met, is_failed, left) = stopped_at(alloc, device, stopped)?;
+    if is_met && !is_failed {
+        return Err(anyhow!("a disk that failed answers"));
+    }
+    let before = if is_met { before } else { after };
+    if is_between(stopped.change, &look_at(alloc, left)?, before, after) {
+        Ok(is_met)
+    } else {
+        Err(anyhow!("neither as before nor as after, at call {call}"))
+    }
+}
+
+/// The call that a row names: `once` or `from`, `old` or `new`, the call, the user and its columns.
+fn stopped_of(alloc: Global, row: &str) -> Result<Stopped, anyhow::Error> {
+    let (mode, row) = first_of(row)?;
+    let (leaves, row) = first_of(row)?;
+    let (call, row) = first_of(row)?;
+    let (user, row) = first_of(row)?;
+    Ok(Stopped {
+        change: change_of(alloc, call, row)?,
+        user: user_of(user)?,
+        lasts: mode == "from",
+        leaves: if leaves == "new" { FailedWrite::New } else { FailedWrite::Old },
+    })
+}
+
+/// What the finished call leaves.
+fn finished(alloc: Global, image: &MemoryImage, stopped: Stopped) -> Result<Seen, anyhow::Error> {
+    let device = device_of("good", copy_of(alloc, image)?)?;
+    let (_, _, left) = stopped_at(alloc, device, stopped)?;
+    look_at(alloc, left)
+}
+
+/// Makes a call on devices that fail at each of their calls in turn, until one meets no fault: at how many calls it stopped.
+pub(crate) fn report_stops<W: Write>(
+    alloc: Global,
+    out: &mut W,
+    row: &str,
+    image: &MemoryImage,
+) -> Result<(), anyhow::Error> {
+    let stopped = stopped_of(alloc, row)?;
+    let before = look_at(alloc, copy_of(alloc, image)?)?;
+    let after = finished(alloc, image, stopped)?;
+    for call in 0..200 {
+        if !meets_fault(alloc, image, stopped, call, (&before, &after))? {
+            return Ok(write!(out, " {call}")?);
+        }
+    }
+    Err(anyhow!("it never ends"))
+}

@@ -1,0 +1,77 @@
+//! Programs that run, and the state in which they begin.
+
+use crate::machine::{Machine, blank_disk, console_of, kind_of, machine_over};
+use crate::shown::show_bytes;
+use anyhow::Context;
+use cpm_run::{RunEnd, run};
+use cpm_start::start;
+use row_text::written_out;
+use std::alloc::Global;
+use std::io::Write;
+
+/// Words with a slash behind each.
+fn words_of(alloc: Global, column: &str) -> Result<Vec<Vec<u8>>, anyhow::Error> {
+    let mut words = Vec::new(alloc);
+    for word in column.split_terminator('/') {
+        words.push(written_out(alloc, word)?)?;
+    }
+    Ok(words)
+}
+
+/// The words, lent.
+fn lent<'a>(alloc: Global, words: &'a [Vec<u8>]) -> Result<Vec<&'a [u8]>, anyhow::Error> {
+    let mut lent = Vec::new(alloc);
+    for word in words {
+        lent.push(word.as_slice())?;
+    }
+    Ok(lent)
+}
+
+/// Runs a program on a fresh disk, with nothing typed: the kind of disk, the limit, the words and the program. The machine that it leaves
+/// has its disk.
+pub(crate) fn report_run<W: Write>(
+    alloc: Global,
+    out: &mut W,
+    row: &str,
+) -> Result<Machine, anyhow::Error> {
+    let (kind, row) = row.split_once(' ').context("no limit")?;
+    let (limit, row) = row.split_once(' ').context("no words")?;
+    let (words, program) = row.split_once('|').context("no program")?;
+    let disk = blank_disk(alloc, kind_of(kind)?)?;
+    let console = console_of(alloc, "good", &[])?;
+    let words = words_of(alloc, words)?;
+    let RunEnd {
+        why,
+        turns,
+        pc,
+        disk,
+        console,
+    } = run(
+        alloc,
+        &written_out(alloc, program)?,
+        &lent(alloc, &words)?,
+        disk,
+        console,
+        u64::from_str_radix(limit, 10)?,
+    );
+    write!(out, " {why:?}, {turns} turns, PC {pc:04X}, put")?;
+    show_bytes(out, console.into_console().output())?;
+    machine_over(alloc, disk, console_of(alloc, "good", &[])?)
+}
+
+/// The state in which a program begins: the words and the program. The machine that it leaves has its memory and registers.
+pub(crate) fn report_start<W: Write>(
+    alloc: Global,
+    out: &mut W,
+    row: &str,
+    mut machine: Machine,
+) -> Result<Machine, anyhow::Error> {
+    let (words, program) = row.split_once('|').context("no program")?;
+    let words = words_of(alloc, words)?;
+    let (cpu, memory) = start(alloc, &written_out(alloc, program)?, &lent(alloc, &words)?)?;
+    let (sp, pc, hl) = (cpu.sp, cpu.pc, cpu.main.hl());
+    write!(out, " SP {sp:04X} PC {pc:04X} HL {hl:04X}")?;
+    machine.cpu = cpu;
+    machine.memory = memory;
+    Ok(machine)
+}
