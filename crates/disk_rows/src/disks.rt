@@ -1,15 +1,16 @@
 //! Disks that are mounted, and their calls.
 
+ghost use Rattle.std.specs.Prelude.{◌<◌};
+
 use crate::shown::{
-    byte, decimal, first_of, name_of, short, show_answer, show_bytes, show_done, show_number, user_of,
+    byte, decimal, first_of, name_of, short, show_answer, show_bytes, show_done, show_number,
+    user_of,
 };
 use anyhow::{Context, anyhow};
 use cpm_disk::{Disk, DiskFault, Listed, Name, Pattern};
 use cpm_image::{FailedWrite, Failing, MemoryImage};
 use std::alloc::Global;
 use std::io::Write;
-
-ghost use Rattle.std.specs.Prelude.{◌<◌};
 
 /// A device over an image: `good`, or `once` or `from` with the number of the call that fails, counted from 0, and `old` or `new`, which
 /// a write that fails leaves.
@@ -19,7 +20,11 @@ pub(crate) fn device_of(row: &str, image: MemoryImage) -> Result<Failing, anyhow
     }
     let (mode, row) = first_of(row)?;
     let (call, leaves) = first_of(row)?;
-    let leaves = if leaves == "new" { FailedWrite::New } else { FailedWrite::Old };
+    let leaves = if leaves == "new" {
+        FailedWrite::New
+    } else {
+        FailedWrite::Old
+    };
     match mode.as_bytes() {
         b"once" => Ok(Failing::once(image, decimal(call)?, leaves)),
         b"from" => Ok(Failing::lasting(image, decimal(call)?, leaves)),

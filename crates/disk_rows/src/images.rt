@@ -1,6 +1,6 @@
 //! Images: their sizes, sectors and records, and the entries that rows put into them.
 
-use crate::shown::{decimal, first_of, kind_of, padded, show_bytes, short};
+use crate::shown::{decimal, first_of, kind_of, padded, short, show_bytes};
 use anyhow::{Context, anyhow};
 use cpm_directory::DiskFault;
 use cpm_image::{DeviceFault, DiskKind, ImageFault, MemoryImage, Sectors, logical_of};
@@ -35,7 +35,11 @@ pub(crate) fn report_image<W: Write>(
     match MemoryImage::from_bytes(alloc, &bytes) {
         Ok(image) => {
             let is_begun = begins_with(&image, &bytes);
-            let sectors = if is_begun { "sectors of these" } else { "sectors of others" };
+            let sectors = if is_begun {
+                "sectors of these"
+            } else {
+                "sectors of others"
+            };
             Ok(write!(out, " {} {sectors}", image.len())?)
         }
         Err(ImageFault::NoMemory) => Err(ImageFault::NoMemory.into()),
@@ -132,8 +136,15 @@ pub(crate) fn report_range<W: Write>(
     let kind = DiskKind::of_size(image.len()).context("no disk")?;
     let mut found = None;
     for number in decimal(from)?..decimal(to)? {
-        let sector = if as_records { sector_of(kind, number)? } else { number };
-        let bytes = *image.sectors().get(sector as usize).context("no such sector")?;
+        let sector = if as_records {
+            sector_of(kind, number)?
+        } else {
+            number
+        };
+        let bytes = *image
+            .sectors()
+            .get(sector as usize)
+            .context("no such sector")?;
         if found.is_some_and(|first| first != bytes) {
             return Ok(write!(out, " different bytes")?);
         }
@@ -162,8 +173,15 @@ pub(crate) fn report_changed<W: Write>(
 
 /// The texts of some faults.
 pub(crate) fn report_texts<W: Write>(out: &mut W) -> Result<(), anyhow::Error> {
-    let (sectors, long, memory) = (ImageFault::NotSectors, ImageFault::TooLong, ImageFault::NoMemory);
-    write!(out, " {sectors:?}: {sectors}; {long:?}: {long}; {memory:?}: {memory}")?;
+    let (sectors, long, memory) = (
+        ImageFault::NotSectors,
+        ImageFault::TooLong,
+        ImageFault::NoMemory,
+    );
+    write!(
+        out,
+        " {sectors:?}: {sectors}; {long:?}: {long}; {memory:?}: {memory}"
+    )?;
     let (device, twice) = (DeviceFault, DiskFault::BlockTwice);
     Ok(write!(out, "; {device:?}: {device}; {twice:?}: {twice}")?)
 }

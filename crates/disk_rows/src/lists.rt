@@ -108,7 +108,11 @@ fn report_record<W: Write>(
     if record >= 128 {
         return Err(anyhow!("no such record"));
     }
-    let is_there = if entry.has_record(kind, record) { "there" } else { "not there" };
+    let is_there = if entry.has_record(kind, record) {
+        "there"
+    } else {
+        "not there"
+    };
     Ok(write!(out, " {is_there}, {}", entry.place_on_disk(kind, record))?)
 }
 
@@ -218,7 +222,10 @@ fn report_position<W: Write>(
     if entries.len() > 256 {
         return Err(anyhow!("too many entries"));
     }
-    show_number(out, position_of(entries, user_of(user)?, &name, short(number)?))
+    show_number(
+        out,
+        position_of(entries, user_of(user)?, &name, short(number)?),
+    )
 }
 
 /// The first entry that a pattern finds: the user, where to begin, EX, S2 and the name.

@@ -6,6 +6,7 @@
 mod disks;
 mod images;
 mod lists;
+mod short;
 mod shown;
 mod stops;
 
@@ -128,6 +129,7 @@ fn report_alone<W: Write>(
         b"sector-of" => images::report_sector(out, row),
         b"tracks" => images::report_track(out, row),
         b"texts" => images::report_texts(out),
+        b"short" => short::report_short(alloc, out),
         _ => Err(anyhow!("no such call")),
     }
 }
@@ -148,8 +150,18 @@ fn report<W: Write>(
             let image = state.image.as_mut().context("no image")?;
             report_on_image(alloc, out, call, row, image)
         }
-        b"create" | b"erase" | b"rename" | b"read" | b"write" | b"writes" | b"reads" | b"entry"
-        | b"find" | b"extent" | b"size" | b"list" => {
+        b"create"
+        | b"erase"
+        | b"rename"
+        | b"read"
+        | b"write"
+        | b"writes"
+        | b"reads"
+        | b"entry"
+        | b"find"
+        | b"extent"
+        | b"size"
+        | b"list" => {
             let disk = state.disk.as_mut().context("no disk")?;
             report_on_disk(alloc, out, call, row, disk)
         }

@@ -1,5 +1,7 @@
 //! What a call leaves whose device fails at one of its calls, at each in turn.
 
+ghost use Rattle.std.specs.Prelude.{◌<◌};
+
 use crate::disks::{Change, change_of, device_of, make};
 use crate::shown::{first_of, user_of};
 use anyhow::anyhow;
@@ -7,8 +9,6 @@ use cpm_disk::{Disk, DiskFault, Name, Pattern};
 use cpm_image::{FailedWrite, Failing, MemoryImage};
 use std::alloc::Global;
 use std::io::Write;
-
-ghost use Rattle.std.specs.Prelude.{◌<◌};
 
 /// Records that are looked at of each file: at the beginning and the end of blocks and extents, and those that rows write.
 const LOOKED_AT: [u32; 22] = [
@@ -203,7 +203,11 @@ fn stopped_of(alloc: Global, row: &str) -> Result<Stopped, anyhow::Error> {
         change: change_of(alloc, call, row)?,
         user: user_of(user)?,
         lasts: mode == "from",
-        leaves: if leaves == "new" { FailedWrite::New } else { FailedWrite::Old },
+        leaves: if leaves == "new" {
+            FailedWrite::New
+        } else {
+            FailedWrite::Old
+        },
     })
 }
 

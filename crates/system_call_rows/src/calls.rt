@@ -111,7 +111,11 @@ pub(crate) fn report_calls<W: Write>(
     let (step, row) = row.split_once(' ').context("no function")?;
     let (function, argument) = row.split_once(' ').context("no argument")?;
     let function = u8::from_str_radix(function, 10)?;
-    let columns = (word(argument)?, decimal(count)?, u16::from_str_radix(step, 10)?);
+    let columns = (
+        word(argument)?,
+        decimal(count)?,
+        u16::from_str_radix(step, 10)?,
+    );
     show_answers(out, &answers_of(alloc, function, columns, machine)?)
 }
 
@@ -124,7 +128,10 @@ pub(crate) fn report_bios<W: Write>(
     let (entry, c) = row.split_once(' ').context("no C")?;
     machine.cpu.main.c = byte(c)?;
     let mut wanted = machine.cpu;
-    match machine.bdos.bios(u8::from_str_radix(entry, 10)?, &mut machine.cpu) {
+    match machine
+        .bdos
+        .bios(u8::from_str_radix(entry, 10)?, &mut machine.cpu)
+    {
         Ok(After::Return) => {
             wanted.main.a = machine.cpu.main.a;
             write!(out, " {:02X}", machine.cpu.main.a)?;

@@ -53,7 +53,11 @@ pub(crate) fn console_of(
 }
 
 /// The disk of an image, whose device makes so many good calls, and fails from then on.
-fn mounted(alloc: Global, image: MemoryImage, good_calls: u32) -> Result<Disk<Failing>, anyhow::Error> {
+fn mounted(
+    alloc: Global,
+    image: MemoryImage,
+    good_calls: u32,
+) -> Result<Disk<Failing>, anyhow::Error> {
     let device = Failing::lasting(image, good_calls, FailedWrite::Old);
     match Disk::mount(alloc, device) {
         Ok(disk) => Ok(disk),
@@ -94,7 +98,11 @@ pub(crate) fn machine_over(
 }
 
 /// A machine with a blank disk, by its columns: the kind of disk, which calls of the console fail, and what is typed.
-pub(crate) fn new_machine(alloc: Global, row: &str, typed: &[u8]) -> Result<Machine, anyhow::Error> {
+pub(crate) fn new_machine(
+    alloc: Global,
+    row: &str,
+    typed: &[u8],
+) -> Result<Machine, anyhow::Error> {
     let (kind, fails) = row.split_once(' ').context("no console")?;
     let disk = blank_disk(alloc, kind_of(kind)?)?;
     machine_over(alloc, disk, console_of(alloc, fails, typed)?)

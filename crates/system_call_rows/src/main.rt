@@ -79,7 +79,13 @@ fn report<W: Write>(
             *machine = Some(next_machine(alloc, out, call, row, before)?);
             Ok(())
         }
-        _ => report_on_machine(alloc, out, call, row, machine.as_mut().context("no machine")?),
+        _ => report_on_machine(
+            alloc,
+            out,
+            call,
+            row,
+            machine.as_mut().context("no machine")?,
+        ),
     }
 }
 

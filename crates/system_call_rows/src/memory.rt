@@ -18,9 +18,17 @@ pub(crate) fn put(memory: &mut Memory, address: u16, bytes: &[u8]) {
 }
 
 /// Puts bytes: the address and the bytes.
-pub(crate) fn put_row(alloc: Global, row: &str, machine: &mut Machine) -> Result<(), anyhow::Error> {
+pub(crate) fn put_row(
+    alloc: Global,
+    row: &str,
+    machine: &mut Machine,
+) -> Result<(), anyhow::Error> {
     let (address, bytes) = row.split_once(' ').context("no bytes")?;
-    put(&mut machine.memory, word(address)?, &written_out(alloc, bytes)?);
+    put(
+        &mut machine.memory,
+        word(address)?,
+        &written_out(alloc, bytes)?,
+    );
     Ok(())
 }
 
@@ -35,7 +43,11 @@ fn put_block(memory: &mut Memory, address: u16, name: &[u8], place: [u8; 3]) {
 }
 
 /// Puts a file control block: the address, EX, S2, CR and the name.
-pub(crate) fn put_fcb(alloc: Global, row: &str, machine: &mut Machine) -> Result<(), anyhow::Error> {
+pub(crate) fn put_fcb(
+    alloc: Global,
+    row: &str,
+    machine: &mut Machine,
+) -> Result<(), anyhow::Error> {
     let (address, row) = row.split_once(' ').context("no EX")?;
     let (extent, row) = row.split_once(' ').context("no S2")?;
     let (high, row) = row.split_once(' ').context("no CR")?;
