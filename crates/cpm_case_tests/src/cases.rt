@@ -2,10 +2,10 @@
 
 use crate::asked::{Asked, some_asked, some_name};
 use crate::filled::{Filling, filled};
+use crate::machine::{FCB, Machine, Plain, mounted};
 use crate::model::ANY;
 use crate::player::{Left, Reply, System};
 use cpm_bdos::Stop;
-use cpm_bdos_steps::{FCB, Machine, Plain, mounted};
 use cpm_console::MemoryConsole;
 use cpm_disk::DiskKind;
 use std::alloc::Global;

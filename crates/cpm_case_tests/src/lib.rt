@@ -8,6 +8,8 @@ mod cases;
 #[cfg(test)]
 mod filled;
 #[cfg(test)]
+mod machine;
+#[cfg(test)]
 mod model;
 #[cfg(test)]
 mod player;

@@ -178,6 +178,22 @@ fn report<W: Write>(
     }
 }
 
+/// A row as it stands, with the answer of its call. A remark has none.
+fn report_row<W: Write>(
+    alloc: Global,
+    out: &mut W,
+    line: &str,
+    state: &mut State,
+) -> Result<(), anyhow::Error> {
+    write!(out, "{line}")?;
+    if !line.is_empty() && !line.starts_with(';') {
+        write!(out, " =>")?;
+        let (call, row) = line.split_once(' ').unwrap_or((line, ""));
+        report(alloc, out, call, row, state)?;
+    }
+    Ok(writeln!(out)?)
+}
+
 fn main(rt: HostRuntime) -> Result<(), anyhow::Error> {
     let alloc = rt.alloc();
     let mut out = rt.stdout();
@@ -188,14 +204,7 @@ fn main(rt: HostRuntime) -> Result<(), anyhow::Error> {
         list: lists::new_list(alloc, "eight")?,
     };
     for line in rt.lines(alloc) {
-        let line = line?;
-        write!(out, "{line}")?;
-        if !line.as_str().is_empty() && !line.as_str().starts_with(';') {
-            write!(out, " =>")?;
-            let (call, row) = line.split_once(' ').unwrap_or((line.as_str(), ""));
-            report(alloc, &mut out, call, row, &mut state)?;
-        }
-        writeln!(out)?;
+        report_row(alloc, &mut out, &line?, &mut state)?;
     }
     Ok(())
 }

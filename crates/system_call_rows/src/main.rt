@@ -89,19 +89,28 @@ fn report<W: Write>(
     }
 }
 
+/// A row as it stands, with the answer of its call. A remark has none.
+fn report_row<W: Write>(
+    alloc: Global,
+    out: &mut W,
+    line: &str,
+    machine: &mut Option<Machine>,
+) -> Result<(), anyhow::Error> {
+    write!(out, "{line}")?;
+    if !line.is_empty() && !line.starts_with(';') {
+        write!(out, " =>")?;
+        let (call, row) = line.split_once(' ').unwrap_or((line, ""));
+        report(alloc, out, call, row, machine)?;
+    }
+    Ok(writeln!(out)?)
+}
+
 fn main(rt: HostRuntime) -> Result<(), anyhow::Error> {
     let alloc = rt.alloc();
     let mut out = rt.stdout();
     let mut machine = Some(machine::new_machine(alloc, "eight good", &[])?);
     for line in rt.lines(alloc) {
-        let line = line?;
-        write!(out, "{line}")?;
-        if !line.as_str().is_empty() && !line.as_str().starts_with(';') {
-            write!(out, " =>")?;
-            let (call, row) = line.split_once(' ').unwrap_or((line.as_str(), ""));
-            report(alloc, &mut out, call, row, &mut machine)?;
-        }
-        writeln!(out)?;
+        report_row(alloc, &mut out, &line?, &mut machine)?;
     }
     Ok(())
 }

@@ -1,8 +1,10 @@
 //! Programs that run, and the state in which they begin.
 
-use crate::machine::{Machine, blank_disk, console_of, kind_of, machine_over};
+use crate::machine::{Keyboard, Machine, blank_disk, console_of, kind_of, machine_over};
 use crate::shown::show_bytes;
 use anyhow::Context;
+use cpm_disk::DiskKind;
+use cpm_image::Failing;
 use cpm_run::{RunEnd, run};
 use cpm_start::start;
 use row_text::written_out;
@@ -27,33 +29,48 @@ fn lent<'a>(alloc: Global, words: &'a [Vec<u8>]) -> Result<Vec<&'a [u8]>, anyhow
     Ok(lent)
 }
 
-/// Runs a program on a fresh disk, with nothing typed: the kind of disk, the limit, the words and the program. The machine that it leaves
-/// has its disk.
+/// A program that is to run: the kind of disk, the limit, the words of its command, and its bytes.
+#[derive(Drop)]
+struct Program {
+    kind: DiskKind,
+    limit: u64,
+    words: Vec<Vec<u8>>,
+    bytes: Vec<u8>,
+}
+
+fn program_of(alloc: Global, row: &str) -> Result<Program, anyhow::Error> {
+    let (kind, row) = row.split_once(' ').context("no limit")?;
+    let (limit, row) = row.split_once(' ').context("no words")?;
+    let (words, bytes) = row.split_once('|').context("no program")?;
+    Ok(Program {
+        kind: kind_of(kind)?,
+        limit: u64::from_str_radix(limit, 10)?,
+        words: words_of(alloc, words)?,
+        bytes: written_out(alloc, bytes)?,
+    })
+}
+
+/// Runs a program on a blank disk, with nothing typed.
+fn ended(alloc: Global, program: &Program) -> Result<RunEnd<Failing, Keyboard>, anyhow::Error> {
+    let words = lent(alloc, &program.words)?;
+    let console = console_of(alloc, "good", &[])?;
+    let disk = blank_disk(alloc, program.kind)?;
+    Ok(run(alloc, &program.bytes, &words, disk, console, program.limit))
+}
+
+/// Runs a program: why it ends, after how many turns, where, and what it put. The machine that it leaves has its disk.
 pub(crate) fn report_run<W: Write>(
     alloc: Global,
     out: &mut W,
     row: &str,
 ) -> Result<Machine, anyhow::Error> {
-    let (kind, row) = row.split_once(' ').context("no limit")?;
-    let (limit, row) = row.split_once(' ').context("no words")?;
-    let (words, program) = row.split_once('|').context("no program")?;
-    let disk = blank_disk(alloc, kind_of(kind)?)?;
-    let console = console_of(alloc, "good", &[])?;
-    let words = words_of(alloc, words)?;
     let RunEnd {
         why,
         turns,
         pc,
         disk,
         console,
-    } = run(
-        alloc,
-        &written_out(alloc, program)?,
-        &lent(alloc, &words)?,
-        disk,
-        console,
-        u64::from_str_radix(limit, 10)?,
-    );
+    } = ended(alloc, &program_of(alloc, row)?)?;
     write!(out, " {why:?}, {turns} turns, PC {pc:04X}, put")?;
     show_bytes(out, console.into_console().output())?;
     machine_over(alloc, disk, console_of(alloc, "good", &[])?)
