@@ -45,15 +45,33 @@ fn last_of(list: &mut List) -> Result<Entry, anyhow::Error> {
     list.entries.pop().context("no entry")
 }
 
-/// Puts a record into the last entry: its number in the extent, and the block of it.
+/// An entry with a record in a block.
+fn with_record(
+    entry: &Entry,
+    kind: DiskKind,
+    record: u8,
+    block: u16,
+) -> Result<Entry, anyhow::Error> {
+    if record >= 128 {
+        return Err(anyhow!("an extent has 128 records"));
+    }
+    match kind {
+        DiskKind::EightInch => {
+            if block >= 256 {
+                return Err(anyhow!("a block has a byte"));
+            }
+            Ok(entry.with_record(DiskKind::EightInch, record, block))
+        }
+        DiskKind::Megabyte => Ok(entry.with_record(DiskKind::Megabyte, record, block)),
+    }
+}
+
+/// Puts a record into the last entry: its number in the extent, and its block.
 fn add_record(row: &str, list: &mut List) -> Result<(), anyhow::Error> {
     let (record, block) = first_of(row)?;
     let record = u8::from_str_radix(record, 10)?;
-    let block = short(block)?;
-    if record >= 128 || (list.kind == DiskKind::EightInch && block >= 256) {
-        return Err(anyhow!("no such record"));
-    }
-    let entry = last_of(list)?.with_record(list.kind, record, block);
+    let kind = list.kind;
+    let entry = with_record(&last_of(list)?, kind, record, short(block)?)?;
     Ok(list.entries.push(entry)?)
 }
 
