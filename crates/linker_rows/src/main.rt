@@ -1,0 +1,97 @@
+//! Reads rows, a line of standard input each, and prints each with the answer of the call that it names.
+//!
+//! The head of `stdin` says which calls there are and what their columns mean; a line of `;` is a remark.
+#![tactic(auto)]
+
+mod building;
+mod files;
+mod linking;
+mod made;
+mod shown;
+mod sources;
+mod told;
+
+use anyhow::anyhow;
+use files::Program;
+use std::alloc::Global;
+use std::io::Write;
+
+/// The calls that print what comes with a file.
+fn report_told<W: Write>(
+    alloc: Global,
+    out: &mut W,
+    call: &str,
+    row: &str,
+) -> Result<(), anyhow::Error> {
+    match call.as_bytes() {
+        b"statements" => told::report_statements(alloc, out, row),
+        b"symbols" => told::report_symbols(alloc, out, row),
+        b"last" => told::report_last(alloc, out, row),
+        b"grown" => told::report_grown(alloc, out, row),
+        b"module-name" => told::report_module_name(alloc, out, row),
+        b"made-listing" => made::report_listing(alloc, out, row),
+        b"made-symbols" => made::report_symbols(alloc, out, row),
+        _ => Err(anyhow!("no such call")),
+    }
+}
+
+/// The calls that build sources which stand in the row.
+fn report_built<W: Write>(
+    alloc: Global,
+    out: &mut W,
+    call: &str,
+    row: &str,
+) -> Result<(), anyhow::Error> {
+    match call.as_bytes() {
+        b"build" => building::report_build(alloc, out, row),
+        b"texts" => building::report_texts(alloc, out, row),
+        b"judge" => building::report_judged(alloc, out, row),
+        b"same" => building::report_same(alloc, out, row),
+        b"fault" => building::report_fault(alloc, out, row),
+        b"sentence" => building::report_sentence(alloc, out, row),
+        b"no-memory" => building::report_no_memory(out),
+        b"object" => linking::report_object(alloc, out, row),
+        _ => report_told(alloc, out, call, row),
+    }
+}
+
+/// The calls that build files, else the others. Rows after a `program` are about it.
+fn report<W: Write>(
+    rt: &HostRuntime,
+    out: &mut W,
+    call: &str,
+    row: &str,
+    program: &mut Option<Program>,
+) -> Result<(), anyhow::Error> {
+    match call.as_bytes() {
+        b"program" => {
+            let next = files::program_of(rt, row)?;
+            files::report_program(rt.alloc(), out, &next)?;
+            *program = Some(next);
+            Ok(())
+        }
+        b"at" => match program {
+            Some(program) => files::report_bytes(rt.alloc(), out, program, row),
+            None => Err(anyhow!("no program")),
+        },
+        b"listing" => files::report_listing(rt, out, row),
+        _ => report_built(rt.alloc(), out, call, row),
+    }
+}
+
+fn main(rt: HostRuntime) -> Result<(), anyhow::Error> {
+    let alloc = rt.alloc();
+    let mut out = rt.stdout();
+    let mut program = None;
+    for line in rt.lines(alloc) {
+        let line = line?;
+        write!(out, "{line}")?;
+        if !line.as_str().starts_with(';') {
+            write!(out, " =>")?;
+            let (call, row) = line.split_once(' ').unwrap_or((line.as_str(), ""));
+            report(&rt, &mut out, call, row, &mut program)?;
+        }
+        writeln!(out)?;
+    }
+    Ok(())
+}
