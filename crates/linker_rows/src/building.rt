@@ -93,16 +93,22 @@ pub(crate) fn report_judged<W: Write>(
     show_checked(alloc, out, &sizes, &lines_of(alloc, cert)?)
 }
 
-/// What is built of any count of source files with `~` between them, all of them named N. The signs of a copy may be in it.
-fn built_of_many(alloc: Global, row: &str) -> Result<Result<Built, BuildFault>, anyhow::Error> {
-    let text = lines_of(alloc, row)?;
+/// Any count of sources with `~` between them, all of them named N.
+fn many_sources(alloc: Global, text: &str) -> Result<Vec<Source<'_>>, anyhow::Error> {
     let mut sources = Vec::new(alloc);
-    for text in std::str::from_utf8(&text)?.split('~') {
+    for part in text.split('~') {
         sources.push(Source {
             name: b"N",
-            text: text.as_bytes(),
+            text: part.as_bytes(),
         })?;
     }
+    Ok(sources)
+}
+
+/// What is built of any count of source files. Braces may have the `~` between them.
+fn built_of_many(alloc: Global, row: &str) -> Result<Result<Built, BuildFault>, anyhow::Error> {
+    let text = lines_of(alloc, row)?;
+    let sources = many_sources(alloc, std::str::from_utf8(&text)?)?;
     Ok(build(alloc, &sources))
 }
 

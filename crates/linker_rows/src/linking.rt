@@ -92,9 +92,13 @@ pub(crate) fn report_refused<W: Write>(
 ) -> Result<(), anyhow::Error> {
     let modules = modules_of(alloc, texts, grow, true)?;
     match link(alloc, &modules) {
-        Ok(_) => Ok(write!(out, "; linked: a file")?),
-        Err(fault) if fault == *want => Ok(()),
-        Err(_) => Ok(write!(out, "; linked: another fault")?),
+        Ok(_linked) => Ok(write!(out, "; linked: a file")?),
+        Err(fault) => {
+            if fault != *want {
+                write!(out, "; linked: another fault")?;
+            }
+            Ok(())
+        }
     }
 }
 
