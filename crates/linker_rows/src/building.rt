@@ -8,7 +8,7 @@ use std::alloc::Global;
 use std::io::Write;
 use zlink::{BuildFault, Built, LinkFault, Source, build};
 
-/// Prints a file, what the checker says of its two texts, and where modules that are linked make another one.
+/// Prints a file, what the checker says of its two texts, and whether its modules are linked to another one.
 fn show_built<W: Write>(
     alloc: Global,
     out: &mut W,
@@ -24,7 +24,7 @@ fn show_built<W: Write>(
     report_difference(alloc, out, texts, (grow, true), built)
 }
 
-/// Prints why no file is built, and where modules that are linked are not refused alike.
+/// Prints why no file is built, and whether its modules are refused for another reason.
 fn show_refused<W: Write>(
     alloc: Global,
     out: &mut W,
@@ -57,7 +57,7 @@ pub(crate) fn report_build<W: Write>(
     }
 }
 
-/// The sizes and the certificate of sources, where modules make a file or no choice fits.
+/// The sizes and the certificate of sources, also of those for which no choice fits.
 fn two_texts(alloc: Global, row: &str) -> Result<(Vec<u8>, Vec<u8>), anyhow::Error> {
     let (grow, rest) = column_of(row);
     let texts = texts_of(alloc, rest)?;

@@ -11,7 +11,7 @@ use std::io::Write;
 use zlink::{Built, LinkFault, Linked, Module, Source, link};
 use zmo_object::{read, write};
 
-/// The module of a source, or what is read of the object that is written of it.
+/// The module of a source, as it is or as it is read of its object.
 fn module_of_source(
     alloc: Global,
     source: Source<'_>,
@@ -28,7 +28,7 @@ fn module_of_source(
     }
 }
 
-/// The modules of sources, each read of its object where `is_read` says so.
+/// The modules of sources, each read of its object if `is_read` says so.
 fn modules_of(
     alloc: Global,
     texts: &[Vec<u8>],
@@ -46,7 +46,7 @@ fn modules_of(
     Ok(modules)
 }
 
-/// In what a program that is linked differs from one that is built; empty where they are alike.
+/// In what a program that is linked differs from one that is built; empty if they are alike.
 fn difference(linked: &Linked, built: &Built) -> &'static str {
     if linked.com != built.com {
         return "; linked: another file";
@@ -82,7 +82,7 @@ pub(crate) fn report_difference<W: Write>(
     }
 }
 
-/// Prints where the modules of sources, written and read again, are not refused alike.
+/// Prints whether the modules of sources, written and read again, are linked, or refused for another reason.
 pub(crate) fn report_refused<W: Write>(
     alloc: Global,
     out: &mut W,

@@ -3,13 +3,13 @@
 //! The head of `stdin` says which calls there are and what their columns mean; a line of `;` is a remark.
 #![tactic(auto)]
 
+mod beside;
 mod building;
 mod files;
 mod linking;
 mod made;
 mod shown;
 mod sources;
-mod told;
 
 use anyhow::anyhow;
 use files::Program;
@@ -17,18 +17,18 @@ use std::alloc::Global;
 use std::io::Write;
 
 /// The calls that print what comes with a file.
-fn report_told<W: Write>(
+fn report_beside<W: Write>(
     alloc: Global,
     out: &mut W,
     call: &str,
     row: &str,
 ) -> Result<(), anyhow::Error> {
     match call.as_bytes() {
-        b"statements" => told::report_statements(alloc, out, row),
-        b"symbols" => told::report_symbols(alloc, out, row),
-        b"last" => told::report_last(alloc, out, row),
-        b"grown" => told::report_grown(alloc, out, row),
-        b"module-name" => told::report_module_name(alloc, out, row),
+        b"statements" => beside::report_statements(alloc, out, row),
+        b"symbols" => beside::report_symbols(alloc, out, row),
+        b"last" => beside::report_last(alloc, out, row),
+        b"grown" => beside::report_grown(alloc, out, row),
+        b"module-name" => beside::report_module_name(alloc, out, row),
         b"made-listing" => made::report_listing(alloc, out, row),
         b"made-symbols" => made::report_symbols(alloc, out, row),
         _ => Err(anyhow!("no such call")),
@@ -51,7 +51,7 @@ fn report_built<W: Write>(
         b"sentence" => building::report_sentence(alloc, out, row),
         b"no-memory" => building::report_no_memory(out),
         b"object" => linking::report_object(alloc, out, row),
-        _ => report_told(alloc, out, call, row),
+        _ => report_beside(alloc, out, call, row),
     }
 }
 

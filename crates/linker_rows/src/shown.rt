@@ -1,4 +1,4 @@
-//! Bytes, lines and faults as a row has them.
+//! Bytes, lines and errors, as an answer shows them.
 
 use anyhow::anyhow;
 use cert_check::{CheckFault, check};

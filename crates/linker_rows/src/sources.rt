@@ -33,7 +33,7 @@ pub(crate) fn column_of(row: &str) -> (bool, &str) {
     (word == "grow", rest)
 }
 
-/// The sources that are these texts, named A, B and so on.
+/// Sources with these texts, named A, B and so on.
 pub(crate) fn sources_of(
     alloc: Global,
     texts: &[Vec<u8>],
@@ -58,7 +58,7 @@ pub(crate) fn build_sources(
     }
 }
 
-/// What is built of the source files of a row, where no written `JR` may grow. A fault ends the program.
+/// What is built of the source files of a row, with each written `JR` short. An error ends the program.
 pub(crate) fn built_of(alloc: Global, row: &str) -> Result<Built, anyhow::Error> {
     let texts = texts_of(alloc, row)?;
     let sources = sources_of(alloc, &texts)?;

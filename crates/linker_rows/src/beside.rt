@@ -1,4 +1,4 @@
-//! What comes with a file: where its statements are and come from, the last lines of its sources, its labels, and the jumps that grew.
+//! What comes with a file: the address and the line of each statement, the last lines of its sources, its labels, the jumps that grew.
 
 use crate::sources::{build_sources, built_of, column_of, lines_of, sources_of, texts_of};
 use row_text::show_text;
