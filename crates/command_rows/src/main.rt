@@ -1,0 +1,83 @@
+//! Reads rows, a line of standard input each, and prints each with the answer of the call that it names.
+//!
+//! The head of `stdin` says which calls there are and what follows the name of each; a line of `;` is a remark.
+#![tactic(auto)]
+
+mod disks;
+mod making;
+mod pipes;
+mod streams;
+mod words;
+
+use anyhow::anyhow;
+use std::alloc::Global;
+use std::io;
+use std::io::Write;
+
+/// The bytes of a row with what stands in braces written out, and `|` for the end of a line.
+pub(crate) fn text_of(alloc: Global, row: &str) -> Result<Vec<u8>, anyhow::Error> {
+    let mut text = row_text::written_out(alloc, row)?;
+    for byte in text.iter_mut() {
+        if *byte == b'|' {
+            *byte = b'\n';
+        }
+    }
+    Ok(text)
+}
+
+/// Prints a blank and bytes in `<>`.
+pub(crate) fn show<W: Write>(out: &mut W, bytes: &[u8]) -> Result<(), anyhow::Error> {
+    write!(out, " <")?;
+    row_text::show_runs(out, bytes)?;
+    Ok(write!(out, ">")?)
+}
+
+/// The calls over disks and the words of a command.
+fn report_words<W: Write>(
+    alloc: Global,
+    out: &mut W,
+    call: &str,
+    row: &str,
+) -> Result<(), anyhow::Error> {
+    match call.as_bytes() {
+        b"disk" => disks::report_disk(alloc, out, row),
+        b"name" => disks::report_name(alloc, out, row),
+        b"words" => words::report_job(alloc, out, row),
+        b"says" => words::report_part(alloc, out, row),
+        _ => Err(anyhow!("no such call")),
+    }
+}
+
+/// All calls.
+fn report<W: Write>(
+    alloc: Global,
+    out: &mut W,
+    call: &str,
+    row: &str,
+) -> Result<(), anyhow::Error> {
+    match call.as_bytes() {
+        b"pipe" => pipes::report_pipe(alloc, out, row),
+        b"check" => pipes::report_check(alloc, out, row),
+        b"streams" => pipes::report_streams(alloc, out, row),
+        b"asm" => making::report_asm(alloc, out, row),
+        b"link" => making::report_link(alloc, out, row),
+        b"build" => making::report_build(alloc, out, row),
+        _ => report_words(alloc, out, call, row),
+    }
+}
+
+fn main(rt: HostRuntime) -> Result<(), anyhow::Error> {
+    let alloc = rt.alloc();
+    let mut out = rt.stdout();
+    for line in rt.lines(alloc) {
+        let line = line?;
+        write!(out, "{line}")?;
+        if !line.as_str().starts_with(';') {
+            write!(out, " =>")?;
+            let (call, row) = line.split_once(' ').unwrap_or((line.as_str(), ""));
+            report(alloc, &mut out, call, row)?;
+        }
+        writeln!(out)?;
+    }
+    Ok(())
+}

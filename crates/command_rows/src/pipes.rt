@@ -1,0 +1,168 @@
+//! What `pipe` prints of a text, and `check_texts` of a sizes text and its certificate.
+
+use crate::streams::{Ending, Reader, Writer};
+use crate::{show, text_of};
+use anyhow::{Context, anyhow};
+use std::alloc::Global;
+use std::io::Write;
+use z80dev::{Bytes, Output, Watched, check_texts, pipe};
+
+/// How a call ended: its status, what was printed and said, and whether either writer failed.
+#[derive(Drop)]
+struct Ended {
+    status: u8,
+    output: Vec<u8>,
+    errors: Vec<u8>,
+    output_failed: bool,
+    errors_failed: bool,
+}
+
+/// Prints how a call ended.
+fn show_ended<W: Write>(out: &mut W, ended: &Ended) -> Result<(), anyhow::Error> {
+    write!(out, " {}", ended.status)?;
+    show(out, &ended.output)?;
+    show(out, &ended.errors)?;
+    if ended.output_failed {
+        write!(out, ", output failed")?;
+    }
+    if ended.errors_failed {
+        write!(out, ", errors failed")?;
+    }
+    Ok(())
+}
+
+/// How `pipe` ends over a text in memory.
+fn piped_text(alloc: Global, text: &[u8]) -> Ended {
+    let mut input = Bytes::new(text);
+    let mut output = Output::new(Vec::new(alloc));
+    let mut errors = Output::new(Vec::new(alloc));
+    let status = pipe(alloc, &mut input, &mut output, &mut errors);
+    let (output_failed, errors_failed) = (output.has_failed(), errors.has_failed());
+    Ended {
+        status,
+        output: output.into_stream(),
+        errors: errors.into_stream(),
+        output_failed,
+        errors_failed,
+    }
+}
+
+/// Reports what `pipe` makes of a text in memory.
+pub(crate) fn report_pipe<W: Write>(
+    alloc: Global,
+    out: &mut W,
+    row: &str,
+) -> Result<(), anyhow::Error> {
+    let text = text_of(alloc, row)?;
+    show_ended(out, &piped_text(alloc, &text))
+}
+
+/// The reader of a column.
+fn reader_of(column: &str, text: Vec<u8>) -> Result<Reader, anyhow::Error> {
+    let (kind, number) = column.split_once(':').unwrap_or((column, "0"));
+    let number = u64::from_str_radix(number, 10)?;
+    let ending = match kind.as_bytes() {
+        b"whole" => Ending::Whole,
+        b"fails" => Ending::Fails(number),
+        b"interrupted" => Ending::Interrupted(number),
+        b"endless" => Ending::Endless,
+        b"always-interrupted" => Ending::AlwaysInterrupted,
+        _ => return Err(anyhow!("no such reader")),
+    };
+    Ok(Reader {
+        text,
+        given: 0,
+        reads: 0,
+        ending,
+    })
+}
+
+/// The writer of a column.
+fn writer_of(alloc: Global, column: &str) -> Result<Writer, anyhow::Error> {
+    let room = match column.as_bytes() {
+        b"all" => usize::MAX,
+        b"full" => 0,
+        _ => usize::try_from(u64::from_str_radix(column, 10)?)?,
+    };
+    Ok(Writer {
+        taken: Vec::new(alloc),
+        room,
+        is_full: column == "full",
+    })
+}
+
+/// How `pipe` ends over a reader and two writers, how often the reader was read, and whether it failed.
+fn piped(alloc: Global, reader: Reader, writer: Writer, teller: Writer) -> (Ended, u64, bool) {
+    let mut input = Watched::new(reader);
+    let mut output = Output::new(writer);
+    let mut errors = Output::new(teller);
+    let status = pipe(alloc, &mut input, &mut output, &mut errors);
+    let (output_failed, errors_failed) = (output.has_failed(), errors.has_failed());
+    let ended = Ended {
+        status,
+        output: output.into_stream().taken,
+        errors: errors.into_stream().taken,
+        output_failed,
+        errors_failed,
+    };
+    (ended, input.reads(), input.has_failed())
+}
+
+/// Reports how `pipe` ends over streams that fail.
+pub(crate) fn report_streams<W: Write>(
+    alloc: Global,
+    out: &mut W,
+    row: &str,
+) -> Result<(), anyhow::Error> {
+    let (reader, rest) = row.split_once(' ').context("no writer")?;
+    let (writer, rest) = rest.split_once(' ').context("no second writer")?;
+    let (teller, text) = rest.split_once(' ').context("no text")?;
+    let reader = reader_of(reader, text_of(alloc, text)?)?;
+    let (writer, teller) = (writer_of(alloc, writer)?, writer_of(alloc, teller)?);
+    let (ended, reads, has_failed) = piped(alloc, reader, writer, teller);
+    show_streams(out, &ended, reads, has_failed)
+}
+
+/// Prints how `pipe` ended, how often its reader was read, and whether that failed.
+fn show_streams<W: Write>(
+    out: &mut W,
+    ended: &Ended,
+    reads: u64,
+    has_failed: bool,
+) -> Result<(), anyhow::Error> {
+    show_ended(out, ended)?;
+    write!(out, ", {reads} reads")?;
+    if has_failed {
+        write!(out, ", input failed")?;
+    }
+    Ok(())
+}
+
+/// How `check_texts` ends over two writers.
+fn checked(alloc: Global, sizes: &[u8], cert: &[u8], writer: Writer, teller: Writer) -> Ended {
+    let mut output = Output::new(writer);
+    let mut errors = Output::new(teller);
+    let status = check_texts(alloc, sizes, cert, &mut output, &mut errors);
+    let (output_failed, errors_failed) = (output.has_failed(), errors.has_failed());
+    Ended {
+        status,
+        output: output.into_stream().taken,
+        errors: errors.into_stream().taken,
+        output_failed,
+        errors_failed,
+    }
+}
+
+/// Reports how `check_texts` ends over two writers.
+pub(crate) fn report_check<W: Write>(
+    alloc: Global,
+    out: &mut W,
+    row: &str,
+) -> Result<(), anyhow::Error> {
+    let (writer, rest) = row.split_once(' ').context("no second writer")?;
+    let (teller, texts) = rest.split_once(' ').context("no texts")?;
+    let (sizes, cert) = texts.split_once(" & ").context("no certificate")?;
+    let (writer, teller) = (writer_of(alloc, writer)?, writer_of(alloc, teller)?);
+    let (sizes, cert) = (text_of(alloc, sizes)?, text_of(alloc, cert)?);
+    show_ended(out, &checked(alloc, &sizes, &cert, writer, teller))
+}

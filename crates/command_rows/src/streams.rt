@@ -1,0 +1,94 @@
+//! Readers and writers that fail, stop, or go on for ever, as a row asks for them.
+
+use std::io::{Error, ErrorKind, Read, Result, Write};
+
+/// How a reader ends.
+#[derive(Clone, Copy)]
+pub(crate) enum Ending {
+    /// All bytes are read.
+    Whole,
+    /// The read of this number fails.
+    Fails(u64),
+    /// The read of this number is interrupted.
+    Interrupted(u64),
+    /// It gives line feeds without end.
+    Endless,
+    /// Each read is interrupted.
+    AlwaysInterrupted,
+}
+
+/// Gives a text byte by byte, but for the reads that fail.
+#[derive(Drop)]
+pub(crate) struct Reader {
+    pub(crate) text: Vec<u8>,
+    pub(crate) given: usize,
+    pub(crate) reads: u64,
+    pub(crate) ending: Ending,
+}
+
+impl Reader {
+    /// The next byte of the text, if there is one.
+    fn next_byte(&mut self) -> Option<u8> {
+        let byte = *self.text.get(self.given)?;
+        self.given = self.given.saturating_add(1);
+        Some(byte)
+    }
+
+    /// The byte of a read.
+    fn read_byte(&mut self) -> Result<Option<u8>> {
+        self.reads = self.reads.saturating_add(1);
+        match self.ending {
+            Ending::Fails(number) if number == self.reads => {
+                Err(Error::from(ErrorKind::UnexpectedEof))
+            }
+            Ending::Interrupted(number) if number == self.reads => {
+                Err(Error::from(ErrorKind::Interrupted))
+            }
+            Ending::AlwaysInterrupted => Err(Error::from(ErrorKind::Interrupted)),
+            Ending::Endless => Ok(Some(b'\n')),
+            _ => Ok(self.next_byte()),
+        }
+    }
+}
+
+impl Read for Reader {
+    fn read(&mut self, buffer: &mut [u8]) -> Result<usize> {
+        match buffer.first_mut() {
+            Some(place) => match self.read_byte()? {
+                Some(byte) => {
+                    *place = byte;
+                    Ok(1)
+                }
+                None => Ok(0),
+            },
+            None => Ok(0),
+        }
+    }
+}
+
+/// Takes as many bytes as there is room for, one at a time, and then none; a writer without room for one byte fails at once.
+#[derive(Drop)]
+pub(crate) struct Writer {
+    pub(crate) taken: Vec<u8>,
+    pub(crate) room: usize,
+    pub(crate) is_full: bool,
+}
+
+impl Write for Writer {
+    fn write(&mut self, bytes: &[u8]) -> Result<usize> {
+        if self.is_full {
+            return Err(Error::from(ErrorKind::StorageFull));
+        }
+        match bytes.first() {
+            Some(byte) if self.taken.len() < self.room => {
+                self.taken.push(*byte)?;
+                Ok(1)
+            }
+            _ => Ok(0),
+        }
+    }
+
+    fn flush(&mut self) -> Result<()> {
+        Ok(())
+    }
+}

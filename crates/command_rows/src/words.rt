@@ -1,0 +1,48 @@
+//! Which job the words of a line ask for, and which fault of usage they are.
+
+use anyhow::Context;
+use std::alloc::Global;
+use std::io::Write;
+use z80dev::commands;
+
+/// The words of a line, cut at its blanks.
+fn words_of(alloc: Global, line: &str) -> Result<Vec<String>, anyhow::Error> {
+    let mut words = Vec::new(alloc);
+    for word in line.split(' ') {
+        words.push(String::from_str(alloc, word)?)?;
+    }
+    Ok(words)
+}
+
+/// Reports the job of a line, or the kind of its fault.
+pub(crate) fn report_job<W: Write>(
+    alloc: Global,
+    out: &mut W,
+    row: &str,
+) -> Result<(), anyhow::Error> {
+    let words = words_of(alloc, row)?;
+    match commands(alloc, &words) {
+        Ok(job) => write!(out, " {job:?}")?,
+        Err(error) => write!(out, " error {:?}", error.kind())?,
+    }
+    Ok(())
+}
+
+/// Reports whether what is said of a line has a part.
+pub(crate) fn report_part<W: Write>(
+    alloc: Global,
+    out: &mut W,
+    row: &str,
+) -> Result<(), anyhow::Error> {
+    let (line, part) = row.split_once(" & ").context("no part")?;
+    let part = String::from_utf8(crate::text_of(alloc, part)?)?;
+    let words = words_of(alloc, line)?;
+    match commands(alloc, &words) {
+        Ok(_) => write!(out, " a job")?,
+        Err(error) => {
+            let said = format!(in alloc; "{error}")?;
+            write!(out, " {}", said.as_str().contains(part.as_str()))?;
+        }
+    }
+    Ok(())
+}
