@@ -72,6 +72,8 @@ _z80dev_names() {
     local letter='[^][:cntrl:][:space:][:lower:]<>.,;:=?*[]'
     local form="^0 ($letter{1,8}\\.$letter{0,3}) [0-9]+( RO)?( SYS)?\$"
     _z80dev_plain "$1"
+    # To open a pipe or a device could wait for ever.
+    [[ -f "$REPLY" ]] || return 0
     while IFS= read -r line; do
         # A name that begins with a dash would be an option.
         [[ ! "$line" =~ $form || "${BASH_REMATCH[1]}" == -* ]] || _z80dev_offer "${BASH_REMATCH[1]}"

@@ -42,7 +42,10 @@ end
 # The files of user 0 on a disk image whose names `get` takes. A name that begins with a dash would be an option.
 function __z80dev_names
     set -l letter '(?![a-z<>.,;:=?*[\\]])[!-~]'
-    z80dev dir (string replace -r '^~/' $HOME/ -- $argv[1]) 2>/dev/null </dev/null |
+    set -l image (string replace -r '^~/' $HOME/ -- $argv[1])
+    # To open a pipe or a device could wait for ever.
+    test -f "$image"; or return 1
+    z80dev dir "$image" 2>/dev/null </dev/null |
         string replace -rf "^0 (?!-)((?:$letter){1,8}\.(?:$letter){0,3}) [0-9]+( RO)?( SYS)?\$" '$1'
 end
 
