@@ -1,5 +1,5 @@
 " Vim compiler file: sources of z80dev.
-" :compiler z80dev, then :make builds the source in the buffer; for several sources
+" :compiler! z80dev, then :make builds the source in the buffer; for several sources
 " :set makeprg=z80dev\ build\ --list\ --out\ game\ main.asm\ print.asm
 
 if exists('current_compiler')
