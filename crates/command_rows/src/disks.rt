@@ -57,7 +57,7 @@ fn file_of(answer: Answer<Refusal>) -> Result<Vec<u8>, anyhow::Error> {
     }
 }
 
-/// A number of so many bytes.
+/// A number of that many bytes.
 fn count_of(word: &str) -> Result<usize, anyhow::Error> {
     Ok(usize::try_from(u64::from_str_radix(word, 10)?)?)
 }
@@ -80,7 +80,7 @@ fn made_image(alloc: Global, step: &str, rest: &str) -> Result<Option<Vec<u8>>, 
     }
 }
 
-/// Puts a file of so many bytes 21H. A refusal is printed, and leaves the image.
+/// Puts a file of the given number of bytes 21H. A refusal is printed, and leaves the image.
 fn put_file<W: Write>(
     alloc: Global,
     out: &mut W,
@@ -97,7 +97,7 @@ fn put_file<W: Write>(
     Ok(write!(out, " put")?)
 }
 
-/// Puts so many empty files F0, F1 and so on.
+/// Puts that many empty files F0, F1 and so on.
 fn put_many<W: Write>(
     alloc: Global,
     out: &mut W,
@@ -111,7 +111,7 @@ fn put_many<W: Write>(
     Ok(write!(out, " put")?)
 }
 
-/// Prints so many bytes of an image, from one on.
+/// Prints that many bytes of an image, from one on.
 fn show_part<W: Write>(out: &mut W, image: &[u8], rest: &str) -> Result<(), anyhow::Error> {
     let (from, count) = rest.split_once(' ').context("no count")?;
     let rest = image.get(count_of(from)?..).context("no such byte")?;

@@ -8,7 +8,7 @@ use std::alloc::Global;
 use std::io::Write;
 use z80dev::{Answer, Output, SourceFile, Store, Told, WriteFailed, asm, build, finish, link};
 
-/// Files in memory, of which only so many can be written, and whether one could not be.
+/// Files in memory, of which only some can be written, and whether one could not be.
 #[derive(Drop)]
 struct Shelf {
     alloc: Global,
@@ -64,7 +64,7 @@ struct End {
     files: Vec<(String, Vec<u8>)>,
 }
 
-/// How `finish` ends for an answer, on a shelf with room for so many files.
+/// How `finish` ends for an answer, on a shelf with room for that many files.
 fn finished(alloc: Global, answer: &Answer<Told<'_>>, room: usize) -> End {
     let mut shelf = Shelf {
         alloc,

@@ -25,7 +25,7 @@ fn begins_with(image: &MemoryImage, bytes: &[u8]) -> bool {
     }
 }
 
-/// The image that so many bytes make.
+/// An image of that many bytes.
 pub(crate) fn report_image<W: Write>(
     alloc: Global,
     out: &mut W,
@@ -47,7 +47,7 @@ pub(crate) fn report_image<W: Write>(
     }
 }
 
-/// The kind of a disk of so many sectors.
+/// The kind of a disk of that many sectors.
 pub(crate) fn report_kind<W: Write>(out: &mut W, row: &str) -> Result<(), anyhow::Error> {
     match DiskKind::of_size(decimal(row)?) {
         Some(kind) => Ok(write!(out, " {kind:?}, {} records", kind.record_count())?),

@@ -42,7 +42,7 @@ pub(crate) fn kind_of(word: &str) -> Result<DiskKind, anyhow::Error> {
     }
 }
 
-/// A text of so many bytes; where it is shorter, zeros follow.
+/// A text of that many bytes; where it is shorter, zeros follow.
 pub(crate) fn padded<const N: usize>(alloc: Global, text: &str) -> Result<[u8; N], anyhow::Error> {
     let bytes = written_out(alloc, text)?;
     if bytes.len() > N {

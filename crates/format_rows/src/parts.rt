@@ -2,7 +2,7 @@
 
 use std::io::Write;
 
-/// Prints a part that comes so many times in a row.
+/// Prints a part that comes several times in a row.
 fn show_part<W: Write>(out: &mut W, count: u32, part: &[u8]) -> Result<(), anyhow::Error> {
     write!(out, " ")?;
     if count > 1 {

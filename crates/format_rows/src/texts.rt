@@ -14,7 +14,7 @@ pub(crate) fn hexadecimal(alloc: Global, row: &str) -> Result<Vec<u8>, anyhow::E
     Ok(hex::decode(alloc, &digits)?)
 }
 
-/// Lines, each of which ends in `|`.
+/// Lines, each ending in `|`.
 pub(crate) fn lines_of(alloc: Global, row: &str) -> Result<Vec<u8>, anyhow::Error> {
     let mut text = written_out(alloc, row)?;
     for byte in text.iter_mut() {

@@ -158,7 +158,7 @@ pub(crate) fn report_spelled<W: Write>(
     }
 }
 
-/// The tokens of a word, those of a text so many times, and those of a last text.
+/// The tokens of a word, those of a text that many times, and those of a last text.
 fn many_tokens<'a>(
     alloc: Global,
     word: &'a str,

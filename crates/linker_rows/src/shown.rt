@@ -7,7 +7,7 @@ use std::alloc::Global;
 use std::io::Write;
 use zlink::{BuildFault, LinkFault};
 
-/// Prints so many times the same byte.
+/// Prints that many times the same byte.
 fn show_run<W: Write>(out: &mut W, count: u32, byte: u8) -> Result<(), anyhow::Error> {
     if count > 4 {
         return Ok(write!(out, "{{{count}x{byte:02X}}}")?);

@@ -17,7 +17,7 @@ fn put_copy(out: &mut Vec<u8>, text: &[u8], number: u32) -> Result<(), anyhow::E
     Ok(())
 }
 
-/// Writes so many copies of a text.
+/// Writes that many copies of a text.
 fn put_copies(out: &mut Vec<u8>, count: &str, text: &[u8]) -> Result<(), anyhow::Error> {
     for number in 0..u32::from_str_radix(count, 10)? {
         put_copy(out, text, number)?;
@@ -25,7 +25,7 @@ fn put_copies(out: &mut Vec<u8>, count: &str, text: &[u8]) -> Result<(), anyhow:
     Ok(())
 }
 
-/// Writes a byte in hexadecimal so many times.
+/// Writes a byte in hexadecimal that many times.
 fn put_bytes(out: &mut Vec<u8>, count: &str, byte: &str) -> Result<(), anyhow::Error> {
     let byte = u8::from_str_radix(byte, 16)?;
     for _ in 0..u32::from_str_radix(count, 10)? {

@@ -102,7 +102,7 @@ fn show_step<W: Write>(out: &mut W, expander: &mut Expander<'_>) -> Result<(), a
     }
 }
 
-/// The tokens that are kept of so many lines.
+/// The tokens that are kept of that many lines.
 fn show_steps<W: Write>(
     out: &mut W,
     expander: &mut Expander<'_>,
@@ -114,7 +114,7 @@ fn show_steps<W: Write>(
     Ok(())
 }
 
-/// The tokens that are kept of so many lines of a source.
+/// The tokens that are kept of that many lines of a source.
 pub(crate) fn report_kept<W: Write>(
     alloc: Global,
     out: &mut W,

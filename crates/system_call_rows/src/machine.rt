@@ -52,7 +52,7 @@ pub(crate) fn console_of(
     }
 }
 
-/// The disk of an image, whose device makes so many good calls, and fails from then on.
+/// The disk of an image, whose device makes that many good calls, and fails from then on.
 fn mounted(
     alloc: Global,
     image: MemoryImage,
@@ -115,7 +115,7 @@ fn image_of(machine: Machine) -> MemoryImage {
     disk.unmount().into_image()
 }
 
-/// A fresh machine with the disk of another, whose device makes so many good calls after those of mounting, and then fails.
+/// A fresh machine with the disk of another, whose device makes that many good calls after those of mounting, and then fails.
 pub(crate) fn with_device(
     alloc: Global,
     machine: Machine,
