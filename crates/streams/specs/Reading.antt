@@ -1,7 +1,7 @@
 -- How reads end.
 use Rattle.std.specs.Prelude.{ℕ, Bool, true, false, Result, Ok, Err}
-use Rattle.z80dev.specs.declared.input.ReadFault.{ReadFault}
-use Rattle.z80dev.specs.declared.input.ReadFault.TheVariants.{Interrupted, Failed}
+use Rattle.streams.specs.declared.input.ReadFault.{ReadFault}
+use Rattle.streams.specs.declared.input.ReadFault.TheVariants.{Interrupted, Failed}
 
 -- whether a read failed: one that was interrupted did not
 abbrev pub is_failure : Result ℕ ReadFault → Bool

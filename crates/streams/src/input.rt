@@ -3,7 +3,7 @@
 ghost use Rattle.std.specs.Prelude.{◌≡◌, ◌+◌, ◌-◌, ◌^◌, ◌<◌, ◌≤◌, ℕ, Bool, false, List, Option};
 ghost use Rattle.std.specs.Io.KnownBytes.{ReadConsumes};
 ghost use Rattle.std.specs.Io.{ReadsAtMost};
-ghost use Rattle.z80dev.specs.Streams.{interruption_count, is_failure};
+ghost use Rattle.streams.specs.Reading.{interruption_count, is_failure};
 
 use std::io::{ErrorKind, Read};
 

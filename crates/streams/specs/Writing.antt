@@ -1,0 +1,47 @@
+-- What writes do to a stream.
+use Rattle.std.specs.Prelude.{◌≡◌, ◌<◌, ◌≤◌, ◌^◌, ℕ, List, [], ◌∷◌, ◌++◌, ◌+◌, Result, Ok, Err, codes, length, take}
+use Rattle.std.specs.Io.KnownBytes.{Appends, Keeps}
+use Rattle.streams.specs.declared.sink.WriteFault.{WriteFault}
+use Rattle.streams.specs.declared.sink.WriteFault.TheVariants.{Interrupted, Failed}
+use Rattle.streams.specs.declared.writing.WriteFailed.{WriteFailed}
+use Rattle.streams.specs.Stream.{Stream, counted}
+
+-- neither count rose
+pub record Succeeds (old new : Stream) : Type 0 where
+  pub failures : new.failures ≡ old.failures
+  pub interruptions : new.interruptions ≡ old.interruptions
+
+-- A signal came in between, and the stream counts it. The count has 64 bits and does not stay at its greatest, so a stream that were
+-- interrupted for ever would fail in the end.
+pub record IsInterrupted (old new : Stream) : Type 0 where
+  pub failures : new.failures ≡ old.failures
+  pub interruptions : new.interruptions ≡ old.interruptions + 1
+  pub bound : new.interruptions < 2 ^ 64
+
+-- the stream failed, and counts it
+pub record HasFailed (old new : Stream) : Type 0 where
+  pub failures : new.failures ≡ counted old.failures
+
+-- One write: it takes the first bytes, at least one; or none, since the stream was interrupted or failed.
+abbrev pub Writes : Stream → Stream → List ℕ → Result ℕ WriteFault → Type 0
+Writes old new bytes (Ok n) = (0 < n) × (n ≤ length bytes) × Appends old.bytes new.bytes (take n bytes) × Succeeds old new
+Writes old new bytes (Err Interrupted) = Keeps old.bytes new.bytes × IsInterrupted old new
+Writes old new bytes (Err Failed) = Keeps old.bytes new.bytes × HasFailed old new
+
+abbrev pub Flushes : Stream → Stream → Result Unit WriteFault → Type 0
+Flushes old new (Ok _) = Keeps old.bytes new.bytes × Succeeds old new
+Flushes old new (Err Interrupted) = Keeps old.bytes new.bytes × IsInterrupted old new
+Flushes old new (Err Failed) = Keeps old.bytes new.bytes × HasFailed old new
+
+-- known bytes grow by a front of these
+abbrev pub AppendsFront : Stream → Stream → List ℕ → Type 0
+AppendsFront old new bytes = (n : ℕ) × Appends old.bytes new.bytes (take n bytes)
+
+-- Putting bytes: all of them are written and the stream did not fail; or it failed, and a front of them is written.
+abbrev pub Puts : Stream → Stream → List ℕ → Result Unit WriteFailed → Type 0
+Puts old new bytes (Ok _) = Appends old.bytes new.bytes bytes × (new.failures ≡ old.failures)
+Puts old new bytes (Err _) = AppendsFront old new bytes × (new.failures ≡ counted old.failures)
+
+-- the line of an error
+abbrev pub error_line : List ℕ → List ℕ
+error_line text = codes "error: " ++ text ++ 10 ∷ []

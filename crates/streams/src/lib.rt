@@ -1,0 +1,18 @@
+//! Byte streams whose failures have a cause.
+//!
+//! The readers and writers of `std` do not tell a contract whether they failed or were interrupted. An [`Input`] and a [`Sink`] do: they
+//! count it, so a call above can promise that it fails only if its stream failed. [`Watched`] makes an [`Input`] of any reader,
+//! [`WatchedSink`] a [`Sink`] of any writer; [`Bytes`] and [`MemorySink`] are in memory.
+#![tactic(auto)]
+
+mod input;
+mod memory;
+mod sink;
+mod watched;
+mod writing;
+
+pub use input::{Bytes, Input, ReadFault, Watched};
+pub use memory::MemorySink;
+pub use sink::{Sink, WriteFault};
+pub use watched::WatchedSink;
+pub use writing::{WriteFailed, flush, put, put_all, tell};

@@ -1,0 +1,37 @@
+//! Where bytes are written.
+
+ghost use Rattle.std.specs.Prelude.{◌<◌, length};
+ghost use Rattle.streams.specs.Stream.{Stream};
+ghost use Rattle.streams.specs.Writing.{Flushes, Writes};
+
+/// Why a write takes no bytes.
+#[derive(Clone, Copy, Debug, PartialEq, Eq)]
+pub enum WriteFault {
+    /// A signal came in between. The write may be tried again.
+    Interrupted,
+    /// The writer failed.
+    Failed,
+}
+
+/// A writer that counts its failures, and how often a signal interrupted it.
+pub trait Sink {
+    /// The bytes that were written, where they are known, and both counts.
+    ghost stream: { Self → Stream };
+
+    /// Writes some of the bytes, at least one, and returns how many.
+    ///
+    /// # Errors
+    ///
+    /// [`WriteFault::Interrupted`] and [`WriteFault::Failed`]; nothing is written then.
+    fn write(&mut self, bytes: &[u8]) -> Result<usize, WriteFault>
+        requires some { 0 < length bytes.now }
+        ensures { Writes (stream self.old) (stream self.new) bytes.now result };
+
+    /// Hands on what a buffer may hold back.
+    ///
+    /// # Errors
+    ///
+    /// [`WriteFault::Interrupted`] and [`WriteFault::Failed`].
+    fn flush(&mut self) -> Result<(), WriteFault>
+        ensures { Flushes (stream self.old) (stream self.new) result };
+}

@@ -1,0 +1,86 @@
+//! Writing to any writer of `std`.
+
+ghost use Rattle.std.specs.Prelude.{◌≡◌};
+ghost use Rattle.streams.specs.Private.Steps.{Counts};
+ghost use Rattle.streams.specs.Stream.{counted, stream_of};
+
+use crate::sink::{Sink, WriteFault};
+use std::io::{Error, ErrorKind, Write};
+
+/// A writer, how often it failed, and how often a signal interrupted it.
+#[derive(Drop)]
+pub struct WatchedSink<W> {
+    stream: W,
+    failures: u64,
+    interruptions: u64,
+}
+
+impl<W> WatchedSink<W> {
+    /// Of a writer that has not failed.
+    pub fn new(stream: W) -> WatchedSink<W>
+        ensures stream { result.stream ≡ stream }
+        ensures failures { result.failures ≡ 0 }
+        ensures interruptions { result.interruptions ≡ 0 }
+    {
+        WatchedSink {
+            stream,
+            failures: 0,
+            interruptions: 0,
+        }
+    }
+
+    /// How often it failed.
+    pub fn failures(&self) -> u64
+        ensures { result ≡ self.now.failures }
+    {
+        self.failures
+    }
+
+    /// The writer.
+    pub fn into_stream(self) -> W
+        ensures { result ≡ self.stream }
+    {
+        self.stream
+    }
+
+    /// Counts a failure, or an interruption if the error says that it was one.
+    fn fault(&mut self, error: &Error) -> WriteFault
+        ensures stream { self.new.stream ≡ self.old.stream }
+        ensures counts { Counts self.old.failures self.old.interruptions self.new.failures self.new.interruptions result }
+    {
+        if error.kind() == ErrorKind::Interrupted && self.interruptions < u64::MAX {
+            self.interruptions += 1;
+            return WriteFault::Interrupted;
+        }
+        self.failed()
+    }
+
+    /// Counts a failure.
+    fn failed(&mut self) -> WriteFault
+        ensures counted { self.new ≡ record self.old { failures = counted self.old.failures } }
+        ensures fault { result ≡ WriteFault.Failed }
+    {
+        self.failures = self.failures.saturating_add(1);
+        WriteFault::Failed
+    }
+}
+
+impl<W: Write> Sink for WatchedSink<W> {
+    ghost stream = { λ w. stream_of (W.contents w.stream) w.failures w.interruptions };
+
+    fn write(&mut self, bytes: &[u8]) -> Result<usize, WriteFault> {
+        match self.stream.write(bytes) {
+            // A writer that takes nothing would be asked for ever.
+            Ok(0) => Err(self.failed()),
+            Ok(count) => Ok(count),
+            Err(error) => Err(self.fault(&error)),
+        }
+    }
+
+    fn flush(&mut self) -> Result<(), WriteFault> {
+        match self.stream.flush() {
+            Ok(()) => Ok(()),
+            Err(error) => Err(self.fault(&error)),
+        }
+    }
+}
