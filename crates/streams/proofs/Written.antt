@@ -1,16 +1,16 @@
 -- Bytes that are written piece by piece.
-use Rattle.std.proofs.Common.{◌≡◌, ℕ, ◌+◌, ◌-◌, ◌<◌, ◌≤◌, Bor, List, [], ◌∷◌, ◌++◌, Option, None, Some, Result, Ok, Err, length, get_or, refl, take, drop, ap, sym, subst, ◌∙◌, arith}
+use Rattle.std.proofs.Common.{◌≡◌, ℕ, ◌+◌, ◌-◌, ◌<◌, ◌≤◌, Bor, List, [], ◌++◌, Result, Ok, Err, length, get_or, refl, take, drop, ap, sym, subst, ◌∙◌, arith}
 use Rattle.std.proofs.Math.Seq.{take-add}
 use Rattle.std.proofs.lemmas.List.{append_assoc, drop-drop, length-drop, flat_map_more, take-append-drop, take_all, take_more, take_at}
 use Rattle.std.proofs.lemmas.Bool.{false≢true}
 use Rattle.std.proofs.lemmas.Grind.{flat_map-append}
-use Rattle.std.proofs.KnownBytes.{Appends-trans}
+use Rattle.std.proofs.KnownBytes.{Appends-kept, Appends-trans}
 use Rattle.std.specs.Io.KnownBytes.{Appends}
 use Rattle.std.specs.List.{flat_map}
 use Rattle.std.specs.Result.{IsErr}
 use Rattle.streams.specs.declared.writing.WriteFailed.{WriteFailed}
 use Rattle.streams.specs.Stream.{Stream, counted}
-use Rattle.streams.specs.Writing.{AppendsFront, Puts}
+use Rattle.streams.specs.Writing.{AppendsFront, Hands_on, Puts}
 
 -- the first of the bytes are written, the rest is to be written, and the stream did not fail meanwhile
 pub record Written (old new : Stream) (bytes rest : List ℕ) : Type 0 where
@@ -51,3 +51,9 @@ parts pieces k d lt =
     ap (flat_map f) (sym (take-append-drop (k + 1) pieces)) ∙ flat_map-append f (take (k + 1) pieces) (drop (k + 1) pieces)
     ∙ ap (λ front. flat_map f front ++ flat_map f (drop (k + 1) pieces)) (take_more pieces k d lt)
     ∙ ap (λ front. front ++ flat_map f (drop (k + 1) pieces)) (sym (flat_map_more f [] (take k pieces) (get_or pieces k d)))
+
+-- all of the bytes are written, and then what a buffer holds back is handed on
+pub handed_on : (old mid new : Stream) (bytes : List ℕ) (result : Result Unit WriteFailed) → Puts old mid bytes (Ok tt) → Hands_on mid new result → Puts old new bytes result
+handed_on old mid new bytes (Ok _) put flushed = (Appends-kept old.bytes mid.bytes new.bytes bytes put.0 flushed.0, flushed.1 ∙ put.1)
+handed_on old mid new bytes (Err _) put flushed =
+    ((length bytes, subst (Appends old.bytes new.bytes) (sym (take_all (length bytes) bytes (omega (arith)))) (Appends-kept old.bytes mid.bytes new.bytes bytes put.0 flushed.0)), flushed.1 ∙ ap counted put.1)

@@ -42,6 +42,11 @@ abbrev pub Puts : Stream → Stream → List ℕ → Result Unit WriteFailed →
 Puts old new bytes (Ok _) = Appends old.bytes new.bytes bytes × (new.failures ≡ old.failures)
 Puts old new bytes (Err _) = AppendsFront old new bytes × (new.failures ≡ counted old.failures)
 
+-- Handing on what a buffer holds back, which was written already.
+abbrev pub Hands_on : Stream → Stream → Result Unit WriteFailed → Type 0
+Hands_on old new (Ok _) = Keeps old.bytes new.bytes × (new.failures ≡ old.failures)
+Hands_on old new (Err _) = Keeps old.bytes new.bytes × (new.failures ≡ counted old.failures)
+
 -- the line of an error
 abbrev pub error_line : List ℕ → List ℕ
 error_line text = codes "error: " ++ text ++ 10 ∷ []

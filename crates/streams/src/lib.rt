@@ -15,4 +15,4 @@ pub use input::{Bytes, Input, ReadFault, Watched};
 pub use memory::MemorySink;
 pub use sink::{Sink, WriteFault};
 pub use watched::WatchedSink;
-pub use writing::{WriteFailed, flush, put, put_all, tell};
+pub use writing::{WriteFailed, flush, print, put, put_all, tell};

@@ -1,9 +1,9 @@
 //! Writing all of some bytes.
 
-ghost use Rattle.std.specs.Prelude.{◌<◌, [], length};
+ghost use Rattle.std.specs.Prelude.{◌<◌, length};
 ghost use Rattle.std.specs.List.{flat_map};
 ghost use Rattle.streams.specs.Private.Steps.{PutsSome};
-ghost use Rattle.streams.specs.Writing.{Puts, error_line};
+ghost use Rattle.streams.specs.Writing.{Hands_on, Puts, error_line};
 
 use crate::sink::{Sink, WriteFault};
 
@@ -27,7 +27,7 @@ fn put_some<S: Sink>(sink: &mut S, bytes: &[u8]) -> Result<usize, WriteFailed>
 
 /// Hands on what a buffer holds back. A call that a signal interrupts is tried again.
 pub fn flush<S: Sink>(sink: &mut S) -> Result<(), WriteFailed>
-    ensures { Puts (S.stream sink.old) (S.stream sink.new) [] result }
+    ensures { Hands_on (S.stream sink.old) (S.stream sink.new) result }
 {
     loop {
         match sink.flush() {
@@ -66,6 +66,18 @@ pub fn put_all<S: Sink>(sink: &mut S, pieces: &[&[u8]]) -> Result<(), WriteFaile
         put(sink, piece)?;
     }
     Ok(())
+}
+
+/// Writes all the bytes, and hands on what a buffer holds back.
+///
+/// # Errors
+///
+/// If the writer fails. Some of the bytes may be written then, from the first on.
+pub fn print<S: Sink>(sink: &mut S, bytes: &[u8]) -> Result<(), WriteFailed>
+    ensures { Puts (S.stream sink.old) (S.stream sink.new) bytes.now result }
+{
+    put(sink, bytes)?;
+    flush(sink)
 }
 
 /// Writes the line of an error: `error: `, the text and a line feed.
