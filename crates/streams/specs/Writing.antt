@@ -37,10 +37,18 @@ Flushes old new (Err Failed) = Keeps old.bytes new.bytes × HasFailed old new
 abbrev pub AppendsFront : Stream → Stream → List ℕ → Type 0
 AppendsFront old new bytes = (n : ℕ) × Appends old.bytes new.bytes (take n bytes)
 
--- Putting bytes: all of them are written and the stream did not fail; or it failed, and a front of them is written.
+-- all of the bytes are written, and the stream did not fail
+abbrev pub PutsAll : Stream → Stream → List ℕ → Type 0
+PutsAll old new bytes = Appends old.bytes new.bytes bytes × (new.failures ≡ old.failures)
+
+-- the stream failed once, and a front of the bytes is written
+abbrev pub PutsFront : Stream → Stream → List ℕ → Type 0
+PutsFront old new bytes = AppendsFront old new bytes × (new.failures ≡ counted old.failures)
+
+-- what putting bytes does
 abbrev pub Puts : Stream → Stream → List ℕ → Result Unit WriteFailed → Type 0
-Puts old new bytes (Ok _) = Appends old.bytes new.bytes bytes × (new.failures ≡ old.failures)
-Puts old new bytes (Err _) = AppendsFront old new bytes × (new.failures ≡ counted old.failures)
+Puts old new bytes (Ok _) = PutsAll old new bytes
+Puts old new bytes (Err _) = PutsFront old new bytes
 
 -- Handing on what a buffer holds back, which was written already.
 abbrev pub Hands_on : Stream → Stream → Result Unit WriteFailed → Type 0

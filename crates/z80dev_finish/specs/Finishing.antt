@@ -1,38 +1,46 @@
--- How a command ends that has an answer, and how its end is told.
-use Rattle.std.specs.Prelude.{◌≡◌, ℕ, Bool, true, IfSome, List, ◌++◌, Option, None, Some, Result, Ok, Err, codes, string_bytes}
-use Rattle.std.specs.Io.KnownBytes.{Appends, Keeps}
-use Rattle.z80dev_finish.specs.declared.ending.FinishFault.{FinishFault}
-use Rattle.z80dev_finish.specs.declared.ending.FinishFault.TheVariants as fault
-use Rattle.z80dev_finish.specs.Streams.{AppendsFront, Says}
+-- How a command ends that has an answer.
+use Rattle.std.specs.Prelude.{◌≡◌, ◌⊎◌, ℕ, ◌+◌, ◌<◌, IfSome, List, ◌++◌, Option, None, Some, length, map, slice_get, string_bytes, take}
+use Rattle.streams.specs.Stream.{Stream, counted}
+use Rattle.streams.specs.Writing.{PutsAll, PutsFront}
+use Rattle.z80dev_finish.specs.declared.answer.Answer as made
+use Rattle.z80dev_finish.specs.declared.answer.Kind.{Kind}
+use Rattle.z80dev_finish.specs.declared.end.End.{End}
+use Rattle.z80dev_finish.specs.declared.end.End.TheVariants as end
+use Rattle.z80dev_finish.specs.Answers.{ending, file_of}
+use Rattle.z80dev_finish.specs.Files.{Adds, Folder}
 
--- How a command ends whose answer is this: the files are written in their order, then the lines are printed, then what is said is said. A file
--- that is not written ends it before anything is printed.
-abbrev pub Finishes : {R : Type 0} → List ℕ → Option R → (Result Unit (FinishFault R) → Type 0) → Option (List ℕ) → Option (List ℕ) → Bool → Result Unit (FinishFault R) → Type 0
-Finishes printed refusal Files old new failed (Ok _) = Files (Ok tt) × (refusal ≡ None) × Appends old new printed
-Finishes printed refusal Files old new failed (Err (fault.Refused why)) = Files (Ok tt) × (refusal ≡ Some why) × Appends old new printed
-Finishes printed refusal Files old new failed (Err fault.Output) = Files (Ok tt) × (failed ≡ true) × AppendsFront old new printed
-Finishes printed refusal Files old new failed (Err (fault.File path)) = Files (Err (fault.File path)) × Keeps old new
-Finishes printed refusal Files old new failed (Err fault.NoMemory) = Files (Err fault.NoMemory) × Keeps old new
+-- the path of a file of the command: the one that was given, and the file's ending
+abbrev pub path_of : List ℕ → Kind → List ℕ
+path_of base kind = base ++ ending kind
 
--- the text of a fault, where that of a refusal is known
-abbrev pub finish_text : {R : Type 0} → (R → Option (List ℕ)) → FinishFault R → Option (List ℕ)
-finish_text text (fault.File path) = Some (codes "file " ++ string_bytes path)
-finish_text text fault.Output = Some (codes "file -")
-finish_text text (fault.Refused why) = text why
-finish_text text fault.NoMemory = Some (codes "NoMemory")
+abbrev pub named : List ℕ → Kind × List ℕ → List ℕ × List ℕ
+named base file = (path_of base file.0, file.1)
 
--- the exit status: 3 for a file, 1 for a refusal
-abbrev pub finish_status : {R : Type 0} → FinishFault R → ℕ
-finish_status (fault.File path) = 3
-finish_status fault.Output = 3
-finish_status (fault.Refused why) = 1
-finish_status fault.NoMemory = 1
+-- all of the files are written
+abbrev pub AllWritten : List ℕ → List (Kind × List ℕ) → Folder → Folder → Type 0
+AllWritten base files old new = Adds old new (map (named base) files) × (new.failures ≡ old.failures)
 
-abbrev pub finish_status_at : {R : Type 0} → Result Unit (FinishFault R) → ℕ
-finish_status_at (Ok _) = 0
-finish_status_at (Err fault) = finish_status fault
+-- One of the files cannot be written: those before it are, and it is written or not.
+abbrev pub IsUnwritten : List ℕ → List (Kind × List ℕ) → Folder → Folder → List ℕ → List ℕ → Type 0
+IsUnwritten base files old new path last = (n : ℕ) × (file : Kind × List ℕ) × (slice_get files n ≡ Some file) × (path ≡ base) × (last ≡ ending file.0)
+    × (Adds old new (map (named base) (take n files)) ⊎ Adds old new (map (named base) (take (n + 1) files))) × (new.failures ≡ counted old.failures)
 
--- what is said on standard error: nothing where all is done
-abbrev pub FinishSays : {R : Type 0} → (R → Option (List ℕ)) → Option (List ℕ) → Option (List ℕ) → Bool → Result Unit (FinishFault R) → Type 0
-FinishSays text old new failed (Ok _) = Says None old new failed
-FinishSays text old new failed (Err fault) = IfSome (finish_text text fault) (λ said. Says (Some said) old new failed)
+-- Memory ran out for the path of one of the files: those before it are written.
+abbrev pub IsBrokenOff : List ℕ → List (Kind × List ℕ) → Folder → Folder → Type 0
+IsBrokenOff base files old new = (n : ℕ) × (n < length files) × Adds old new (map (named base) (take n files)) × (new.failures ≡ old.failures)
+
+-- what is refused has this text, where its text is known
+abbrev pub IsWhy : {R : Type 0} → (R → Option (List ℕ)) → Option R → List ℕ → Type 0
+IsWhy text None said = ⊥
+IsWhy text (Some why) said = IfSome (text why) (λ known. said ≡ known)
+
+-- How a command ends whose answer this is: its files are written in their order, then its lines are printed, then what it refuses is the end. A
+-- file that cannot be written, or a failure of the output, is the end before that.
+abbrev pub Finishes : {R : Type 0} → (R → Option (List ℕ)) → List ℕ → made.Answer R → Folder → Folder → Stream → Stream → End → Type 0
+Finishes text base a old new before after end.Done =
+    AllWritten base (map file_of a.files.items) old new × PutsAll before after a.printed.items × (a.refusal ≡ None)
+Finishes text base a old new before after (end.Refused said) =
+    AllWritten base (map file_of a.files.items) old new × PutsAll before after a.printed.items × IsWhy text a.refusal (string_bytes said)
+Finishes text base a old new before after (end.File path last) = IsUnwritten base (map file_of a.files.items) old new path.now last.now × (after ≡ before)
+Finishes text base a old new before after end.Stream = AllWritten base (map file_of a.files.items) old new × PutsFront before after a.printed.items
+Finishes text base a old new before after end.NoMemory = ((new ≡ old) ⊎ IsBrokenOff base (map file_of a.files.items) old new) × (after ≡ before)

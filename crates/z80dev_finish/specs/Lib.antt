@@ -1,5 +1,5 @@
-pub mod Streams
 pub mod Answers
-pub mod Storing
+pub mod Files
+pub mod End
 pub mod Finishing
 pub mod Private

@@ -1,15 +1,16 @@
-//! What commands answer, and how they end: files that are written, lines that are printed, a refusal that is said, and the exit
+//! What commands answer, and how they end: files that are written, lines that are printed, a refusal that is reported, and the exit
 //! status that tells of it.
 //!
-//! A call answers an [`Answer`] and touches nothing; [`finish`] does it, on a [`Store`] of files and two [`Output`]s.
+//! A call answers an [`Answer`] and touches nothing. [`finish`] does it, on [`Files`] and an output, and says how that ended; [`report`]
+//! writes the line of that end.
 #![tactic(auto)]
 
 mod answer;
+mod end;
 mod ending;
-mod output;
-mod store;
+mod files;
 
 pub use answer::{Answer, Kind, NewFile};
-pub use ending::{DONE, FILE_FAULT, FinishFault, REFUSED, USAGE, finish};
-pub use output::{Output, WriteFailed};
-pub use store::Store;
+pub use end::{DONE, End, FILE_FAULT, REFUSED, USAGE, report};
+pub use ending::finish;
+pub use files::{Files, Unread};

@@ -1,8 +1,25 @@
--- How the steps of writing end.
-use Rattle.std.specs.Prelude.{◌≡◌, ℕ, ◌≤◌, Bool, true, false, List, Option, None, Some, length, take}
-use Rattle.std.specs.Io.KnownBytes.{Appends, Keeps}
+-- How the steps of a command's end are done.
+use Rattle.std.specs.Prelude.{◌≡◌, ◌⊎◌, ℕ, List, Option, None, Some, Result, Ok, Err, String, string_bytes}
+use Rattle.std.specs.Global.{Global}
+use Rattle.z80dev_finish.specs.declared.answer.Kind.{Kind}
+use Rattle.z80dev_finish.specs.declared.end.End.{End}
+use Rattle.z80dev_finish.specs.declared.end.End.TheVariants as end
+use Rattle.z80dev_finish.specs.Files.{Folder}
+use Rattle.z80dev_finish.specs.Finishing.{AllWritten, IsBrokenOff, IsUnwritten, IsWhy}
 
--- a front of some bytes was put, or the writer failed and nothing was
-abbrev pub PutsSome : Option (List ℕ) → Option (List ℕ) → Bool → List ℕ → Option ℕ → Type 0
-PutsSome old new failed bytes (Some n) = (n ≤ length bytes) × Appends old new (take n bytes) × (failed ≡ false)
-PutsSome old new failed bytes None = Keeps old new × (failed ≡ true)
+-- the text of what is refused, where there is something
+abbrev pub IsText : {R : Type 0} → (R → Option (List ℕ)) → Option R → Option (String Global) → Type 0
+IsText text None None = Unit {0}
+IsText text (Some why) (Some said) = IsWhy text (Some why) (string_bytes said)
+IsText text _ _ = ⊥
+
+-- how writing files ends
+abbrev pub Writes : List ℕ → List (Kind × List ℕ) → Folder → Folder → Result Unit End → Type 0
+Writes base files old new (Ok _) = AllWritten base files old new
+Writes base files old new (Err (end.File path last)) = IsUnwritten base files old new path.now last.now
+Writes base files old new (Err end.NoMemory) = IsBrokenOff base files old new
+Writes base files old new (Err other) = ⊥
+
+abbrev pub end_of : Result Unit End → End
+end_of (Ok _) = end.Done
+end_of (Err e) = e

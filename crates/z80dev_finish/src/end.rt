@@ -1,0 +1,84 @@
+//! How a command ends, and how that is told.
+
+ghost use Rattle.std.specs.Prelude.{◌≡◌, ◌++◌, codes};
+ghost use Rattle.streams.specs.Writing.{Puts, error_line};
+ghost use Rattle.z80dev_finish.specs.End.{Tells, end_status};
+ghost use Rattle.z80dev_finish.specs.declared.end.End.{End};
+ghost use Rattle.z80dev_finish.specs.declared.end.End.TheVariants as end;
+
+use std::alloc::AllocError;
+use streams::{Sink, WriteFailed, put_all, tell};
+
+/// The exit status if all is done.
+pub const DONE: u8 = 0;
+
+/// The exit status if what was read is refused, or memory ran out.
+pub const REFUSED: u8 = 1;
+
+/// The exit status if the words of the command are wrong.
+pub const USAGE: u8 = 2;
+
+/// The exit status if reading or writing fails.
+pub const FILE_FAULT: u8 = 3;
+
+/// How a command ends.
+#[derive(Debug, Drop)]
+pub enum End<'a> {
+    /// All is done.
+    Done,
+    /// What was read is refused, for this reason.
+    Refused(String),
+    /// A file cannot be read or written. Its path is in two parts, so that no memory is needed to name it.
+    File { path: &'a str, ending: &'static str },
+    /// Standard input or output failed, or standard input is too long.
+    Stream,
+    /// Memory ran out.
+    NoMemory,
+}
+
+impl<'a> From<AllocError> for End<'a> {
+    ghost from_gives = { λ _ e. e ≡ end.NoMemory };
+
+    fn from(_: AllocError) -> End<'a> {
+        End::NoMemory
+    }
+}
+
+impl End<'_> {
+    /// The exit status.
+    pub fn status(&self) -> u8
+        ensures { result ≡ end_status self.now }
+    {
+        match self {
+            End::Done => DONE,
+            End::Refused(_) | End::NoMemory => REFUSED,
+            End::File { .. } | End::Stream => FILE_FAULT,
+        }
+    }
+}
+
+/// Writes the line of a file that cannot be read or written.
+fn tell_file<'a, E: Sink>(
+    errors: &mut E,
+    path: &'a [u8],
+    ending: &'a [u8],
+) -> Result<(), WriteFailed>
+    ensures { Puts (E.stream errors.old) (E.stream errors.new) (error_line (codes "file " ++ path.now ++ ending.now)) result }
+{
+    put_all(errors, &[b"error: file ", path, ending, b"\n"])
+}
+
+/// Writes the line of an end on `errors`, unless all is done, and gives its exit status. That writing fails changes nothing.
+pub fn report<E: Sink>(end: &End<'_>, errors: &mut E) -> u8
+    ensures status { result ≡ end_status end.now }
+    ensures told { Tells end.now (E.stream errors.old) (E.stream errors.new) }
+{
+    let _ = match end {
+        End::Done => return DONE,
+        End::Refused(text) => tell(errors, text.as_bytes()),
+        End::File { path, ending } => tell_file(errors, path.as_bytes(), ending.as_bytes()),
+        End::Stream => tell(errors, b"file -"),
+        End::NoMemory => tell(errors, b"NoMemory"),
+    };
+    end.status()
+}
