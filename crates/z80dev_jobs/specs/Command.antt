@@ -1,0 +1,102 @@
+-- What the command `z80dev` does, whatever its words.
+use Rattle.std.specs.Prelude.{◌≡◌, ◌⊎◌, ¬, ℕ, true, List, ◌++◌, Option, None, Some, Result, codes, decimal, map, unwrap_or}
+use Rattle.clap.specs.Words.{IsAmong, fault_of, takes}
+use Rattle.clap.specs.declared.error.kind.ErrorKind.{ErrorKind}
+use Rattle.clap.specs.declared.error.kind.ErrorKind.TheVariants as kind
+use Rattle.streams.specs.Stream.{Stream}
+use Rattle.streams.specs.Writing.{PutsAll, PutsFront, error_line}
+use Rattle.z80dev.specs.Pipe.{Ends, said_at, status_at}
+use Rattle.z80dev.specs.Reading.{IsCutShort, OfText}
+use Rattle.z80dev.specs.declared.fault.Fault.{Fault}
+use Rattle.z80dev_commands.specs.Commands.{IsJob, z80dev}
+use Rattle.z80dev_commands.specs.declared.Job.{Job}
+use Rattle.z80dev_commands.specs.declared.Job.TheVariants.{Pipe, Asm, Link, Build, Check, Dir, Put, Get, Blank, Run}
+use Rattle.z80dev_finish.specs.End.{IsPut, Tells, TellsOf, end_status}
+use Rattle.z80dev_finish.specs.declared.end.End.{End}
+use Rattle.z80dev_finish.specs.declared.end.End.TheVariants as end
+use Rattle.z80dev_jobs.specs.Disks.{BlankEnds, DirEnds, GetEnds, PutEnds}
+use Rattle.z80dev_jobs.specs.Making.{AsmEnds, BuildEnds, CheckEnds, Effect, LinkEnds, effect_of}
+use Rattle.z80dev_jobs.specs.Running.{RunEnds}
+use Rattle.z80dev_jobs.specs.Words.{AreTexts, IsNotText}
+use Rattle.z80dev_jobs.specs.World.{World}
+
+abbrev pub effect : World → World → Effect
+effect old new = effect_of old.folder new.folder old.output new.output
+
+-- A job ends, its end is reported on standard error, and standard input is not read.
+abbrev pub Reports : (Effect → End → Type 0) → World → World → ℕ → Type 0
+Reports Ends old new status = (e : End) × Ends (effect old new) e × (status ≡ end_status e) × Tells e old.errors new.errors × (new.input ≡ old.input)
+
+-- .. and, if all is done, a line, where there is one
+abbrev pub TellsLine : Option (List ℕ) → Stream → Stream → Type 0
+TellsLine None old new = new ≡ old
+TellsLine (Some line) old new = IsPut old new line
+
+abbrev pub TellsWith : Option (List ℕ) → End → Stream → Stream → Type 0
+TellsWith line end.Done old new = TellsLine line old new
+TellsWith line e old new = Tells e old new
+
+abbrev pub ReportsLine : (Effect → Option (List ℕ) → End → Type 0) → World → World → ℕ → Type 0
+ReportsLine Ends old new status = (line : Option (List ℕ)) × (e : End) × Ends (effect old new) line e × (status ≡ end_status e) × TellsWith line e old.errors new.errors
+    × (new.input ≡ old.input)
+
+-- Without words: the file of the source text on standard input is printed in hexadecimal.
+abbrev pub PipeEnds : World → World → ℕ → Type 0
+PipeEnds old new status = (new.folder ≡ old.folder) × OfText old.input.left (λ text. (e : Result Unit Fault) × (status ≡ status_at e)
+    × Ends text (IsCutShort new.input.failed new.input.reads new.input.interruptions) old.output new.output e × TellsOf (said_at e) old.errors new.errors)
+
+-- how many instructions a run may take that names no number
+abbrev pub default_steps : ℕ
+default_steps = 100000000
+
+-- What each job does.
+abbrev pub JobEnds : Job → World → World → ℕ → Type 0
+JobEnds Pipe old new status = PipeEnds old new status
+JobEnds (Asm out grow source) old new status = Reports (AsmEnds out.now grow source.now) old new status
+JobEnds (Link out objects) old new status = Reports (LinkEnds out.now (map (λ path. path.now) objects.items)) old new status
+JobEnds (Build out grow list verbose sources) old new status = ReportsLine (BuildEnds out.now grow list verbose (map (λ path. path.now) sources.items)) old new status
+JobEnds (Check sizes cert) old new status = Reports (CheckEnds sizes.now cert.now) old new status
+JobEnds (Dir image) old new status = Reports (DirEnds image.now) old new status
+JobEnds (Put image file name) old new status = Reports (PutEnds image.now file.now name.now) old new status
+JobEnds (Get image name file) old new status = Reports (GetEnds image.now name.now file.now) old new status
+JobEnds (Blank mega image) old new status = Reports (BlankEnds mega image.now) old new status
+JobEnds (Run disk steps program words) old new status = RunEnds disk (unwrap_or steps default_steps) program.now (map (λ word. word.now) words.items) old new status
+
+-- no file is touched, and standard input is not read
+pub record Untouched (old new : World) : Type 0 where
+  pub folder : new.folder ≡ old.folder
+  pub input : new.input ≡ old.input
+
+-- Memory ran out before the job began.
+abbrev pub NoMemoryFor : World → World → ℕ → Type 0
+NoMemoryFor old new status = (status ≡ 1) × Tells end.NoMemory old.errors new.errors × (new.output ≡ old.output)
+
+-- A word is not UTF-8.
+abbrev pub RefusesWord : ℕ → World → World → ℕ → Type 0
+RefusesWord n old new status = (status ≡ 2) × IsPut old.errors new.errors (error_line (codes "word " ++ decimal n ++ codes " is not UTF-8")) × (new.output ≡ old.output)
+
+-- The help or the version is printed.
+abbrev pub Shows : World → World → ℕ → Type 0
+Shows old new status = (text : List ℕ)
+    × (((status ≡ 0) × PutsAll old.output new.output text × (new.errors ≡ old.errors)) ⊎ ((status ≡ 3) × PutsFront old.output new.output text × Tells end.Stream old.errors new.errors))
+
+-- What is wrong with the words is put on standard error.
+abbrev pub RefusesUsage : World → World → ℕ → Type 0
+RefusesUsage old new status = (status ≡ 2) × (text : List ℕ) × IsPut old.errors new.errors text × (new.output ≡ old.output)
+
+-- what is done with words that ask for no job, by the kind of their fault
+abbrev pub RefusesWords : ErrorKind → World → World → ℕ → Type 0
+RefusesWords kind.DisplayHelp old new status = Shows old new status
+RefusesWords kind.DisplayVersion old new status = Shows old new status
+RefusesWords kind.OutOfMemory old new status = ⊥
+RefusesWords other old new status = RefusesUsage old new status
+
+-- The command with its words, as bytes: the words ask for a job, which is done; or they ask for none, for the help, or for the version; or a word
+-- is not UTF-8; or memory ran out before it was known what they ask for.
+abbrev pub CommandEnds : List (List ℕ) → World → World → ℕ → Type 0
+CommandEnds words old new status =
+    ((texts : List (List ℕ)) × (job : Job) × AreTexts words texts × IsJob texts job × JobEnds job old new status)
+    ⊎ (Untouched old new
+    × (((texts : List (List ℕ)) × (k : ErrorKind) × AreTexts words texts × IsAmong k (fault_of z80dev texts) × ¬ (takes z80dev texts ≡ true) × RefusesWords k old new status)
+    ⊎ (((n : ℕ) × IsNotText words n × RefusesWord n old new status)
+    ⊎ NoMemoryFor old new status)))

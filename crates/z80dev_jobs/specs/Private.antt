@@ -1,0 +1,2 @@
+-- What private contracts alone cite: no reviewer need believe it.
+pub mod Steps

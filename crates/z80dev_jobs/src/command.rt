@@ -1,0 +1,238 @@
+//! The command.
+
+ghost use Rattle.std.specs.Prelude.{◌≡◌, ◌≤◌, false, map, string_bytes, unwrap_or};
+ghost use Rattle.z80dev.specs.declared.text.TheConstants.{MOST_READS};
+ghost use Rattle.z80dev_jobs.specs.Command.{CommandEnds, JobEnds, RefusesError, RefusesFault, RunEnds, default_steps};
+ghost use Rattle.z80dev_jobs.specs.Reading.{reader_of};
+ghost use Rattle.z80dev_jobs.specs.World.{world_of};
+
+use crate::disks::{blank_image, dir_image, get_file, put_file};
+use crate::host::{Ended, Host};
+use crate::making::{Wanted, asm_file, build_files, check_files, link_files};
+use crate::running::{STEPS, end_run, inputs_of, ready_of};
+use crate::words::{WordsFault, texts_of};
+use clap::Error;
+use clap::error::ErrorKind;
+use std::alloc::Global;
+use z80dev::{
+    DONE, End, Files, Input, Job, Sink, USAGE, commands, pipe, print, put, put_all, report, tell,
+};
+use z80dev_run::Ran;
+
+/// Reports an end, however a function passed it on, and gives the exit status.
+fn report_any<E: Sink>(end: Result<End<'_>, End<'_>>, errors: &mut E) -> u8
+    ensures status { result ≡ end_status (ended end.entry) }
+    ensures told { Tells (ended end.entry) (E.stream errors.old) (E.stream errors.new) }
+{
+    match end {
+        Ok(end) | Err(end) => report(&end, errors),
+    }
+}
+
+/// Reports why the words are not known, and gives the exit status.
+fn refuse_fault<E: Sink>(alloc: Global, fault: WordsFault, errors: &mut E) -> u8
+    ensures { RefusesFault fault (E.stream errors.old) (E.stream errors.new) result }
+{
+    let WordsFault::NotText(number) = fault else {
+        return report(&End::NoMemory, errors);
+    };
+    match format!(in alloc; "word {number} is not UTF-8") {
+        Ok(text) => {
+            let _ = tell(errors, text.as_bytes());
+            USAGE
+        }
+        Err(_) => report(&End::NoMemory, errors),
+    }
+}
+
+/// Prints the help or the version that the words ask for, or writes what is wrong with them on standard error, and gives the exit status.
+fn refuse_words<W: Sink, E: Sink>(
+    alloc: Global,
+    error: &Error,
+    output: &mut W,
+    errors: &mut E,
+) -> u8
+    ensures { RefusesError (kind_of error.now) (W.stream output.old) (W.stream output.new) (E.stream errors.old) (E.stream errors.new) result }
+{
+    let Ok(text) = format!(in alloc; "{error}") else {
+        return report(&End::NoMemory, errors);
+    };
+    match error.kind() {
+        ErrorKind::OutOfMemory => report(&End::NoMemory, errors),
+        ErrorKind::DisplayHelp | ErrorKind::DisplayVersion => {
+            match print(output, text.as_bytes()) {
+                Ok(()) => DONE,
+                Err(_) => report(&End::Stream, errors),
+            }
+        }
+        _ => {
+            let _ = put(errors, text.as_bytes());
+            USAGE
+        }
+    }
+}
+
+/// Builds a program, says how many jumps are short and long if it is wanted, and gives the exit status.
+fn build_job<'a, F: Files, W: Sink, E: Sink>(
+    alloc: Global,
+    wanted: Wanted<'a>,
+    sources: &[&'a str],
+    files: &mut F,
+    output: &mut W,
+    errors: &mut E,
+) -> u8
+    ensures { BuildJobEnds wanted.out.now wanted.grow wanted.list wanted.verbose (map (λ path. path.now) sources.now) (effect_of (F.folder files.old) (F.folder files.new) (W.stream output.old) (W.stream output.new)) (E.stream errors.old) (E.stream errors.new) result }
+{
+    match build_files(alloc, wanted, sources, files, output) {
+        Ok(Some(line)) => {
+            let _ = put(errors, line.as_bytes());
+            DONE
+        }
+        Ok(None) => DONE,
+        Err(end) => report(&end, errors),
+    }
+}
+
+/// Runs a program, and gives the exit status with what the command worked on.
+fn run_job<F: Files, I: Input, W: Sink + Drop, E: Sink>(
+    alloc: Global,
+    disk: Option<&str>,
+    steps: u64,
+    path: &str,
+    words: &[&str],
+    mut host: Host<F, I, W, E>,
+) -> Ended<F, I, W, E>
+    requires sound { I.failed host.entry.input ≡ false }
+    requires unread { I.reads host.entry.input ≡ 0 }
+    requires calm { I.interruptions host.entry.input ≡ 0 }
+{
+    let inputs = match inputs_of(alloc, disk, path, &mut host.files, &mut host.input) {
+        Ok(inputs) => inputs,
+        Err(end) => {
+            let status = report(&end, &mut host.errors);
+            return Ended { status, host };
+        }
+    };
+    let ready = match ready_of(alloc, &inputs, words) {
+        Ok(ready) => ready,
+        Err(end) => {
+            let status = report(&end, &mut host.errors);
+            return Ended { status, host };
+        }
+    };
+    let Host {
+        mut files,
+        input,
+        output,
+        mut errors,
+    } = host;
+    let mut ran = ready.run(alloc, output, steps);
+    let status = end_run(alloc, disk, &mut ran, &mut files, &mut errors);
+    let Ran { output, .. } = ran;
+    let host = Host {
+        files,
+        input,
+        output,
+        errors,
+    };
+    Ended { status, host }
+}
+
+/// Does a job, and gives the exit status with what the command worked on.
+fn work<F: Files, I: Input, W: Sink + Drop, E: Sink>(
+    alloc: Global,
+    job: Job<'_>,
+    mut host: Host<F, I, W, E>,
+) -> Ended<F, I, W, E>
+    requires sound { I.failed host.entry.input ≡ false }
+    requires unread { I.reads host.entry.input ≡ 0 }
+    requires calm { I.interruptions host.entry.input ≡ 0 }
+    ensures { JobEnds job.entry (world_of (F.folder host.entry.files) (reader_of (I.remaining host.entry.input) (I.failed host.entry.input) (I.reads host.entry.input) (I.interruptions host.entry.input)) (W.stream host.entry.output) (E.stream host.entry.errors)) (world_of (F.folder result.host.files) (reader_of (I.remaining result.host.input) (I.failed result.host.input) (I.reads result.host.input) (I.interruptions result.host.input)) (W.stream result.host.output) (E.stream result.host.errors)) result.status }
+    ensures reads { I.reads result.host.input ≤ MOST_READS }
+{
+    let status = match job {
+        Job::Pipe => pipe(alloc, &mut host.input, &mut host.output, &mut host.errors),
+        Job::Asm { out, grow, source } => {
+            let end = asm_file(alloc, out, grow, source, &mut host.files, &mut host.output);
+            report_any(end, &mut host.errors)
+        }
+        Job::Link { out, objects } => {
+            let end = link_files(alloc, out, &objects, &mut host.files, &mut host.output);
+            report_any(end, &mut host.errors)
+        }
+        Job::Build {
+            out,
+            grow,
+            list,
+            verbose,
+            sources,
+        } => {
+            let wanted = Wanted {
+                out,
+                grow,
+                list,
+                verbose,
+            };
+            build_job(alloc, wanted, &sources, &mut host.files, &mut host.output, &mut host.errors)
+        }
+        Job::Check { sizes, cert } => {
+            let end = check_files(alloc, sizes, cert, &mut host.files, &mut host.output);
+            report_any(end, &mut host.errors)
+        }
+        Job::Dir { image } => {
+            let end = dir_image(alloc, image, &mut host.files, &mut host.output);
+            report_any(end, &mut host.errors)
+        }
+        Job::Put { image, file, name } => {
+            let end = put_file(alloc, image, file, name, &mut host.files, &mut host.output);
+            report_any(end, &mut host.errors)
+        }
+        Job::Get { image, name, file } => {
+            let end = get_file(alloc, image, name, file, &mut host.files, &mut host.output);
+            report_any(end, &mut host.errors)
+        }
+        Job::Blank { mega, image } => {
+            let end = blank_image(alloc, mega, image, &mut host.files, &mut host.output);
+            report(&end, &mut host.errors)
+        }
+        Job::Run {
+            disk,
+            steps,
+            program,
+            words,
+        } => return run_job(alloc, disk, steps.unwrap_or(STEPS), program, &words, host),
+    };
+    Ended { status, host }
+}
+
+/// The command `z80dev`: does what its words ask for, the program's name first, and gives the exit status with what it worked on. Standard
+/// input must not have been read.
+///
+/// The status is 0 if all is done, 1 if what was read is refused or memory ran out, 2 if the words are wrong, and 3 if a file or a stream
+/// failed; then, and only then, a line on standard error says why. A failure of standard error changes no status.
+pub fn command<F: Files, I: Input, W: Sink + Drop, E: Sink>(
+    alloc: Global,
+    words: Vec<Vec<u8>>,
+    mut host: Host<F, I, W, E>,
+) -> Ended<F, I, W, E>
+    requires sound { I.failed host.entry.input ≡ false }
+    requires unread { I.reads host.entry.input ≡ 0 }
+    requires calm { I.interruptions host.entry.input ≡ 0 }
+    ensures ends { CommandEnds (map (λ word. word.items) words.items) (world_of (F.folder host.entry.files) (reader_of (I.remaining host.entry.input) (I.failed host.entry.input) (I.reads host.entry.input) (I.interruptions host.entry.input)) (W.stream host.entry.output) (E.stream host.entry.errors)) (world_of (F.folder result.host.files) (reader_of (I.remaining result.host.input) (I.failed result.host.input) (I.reads result.host.input) (I.interruptions result.host.input)) (W.stream result.host.output) (E.stream result.host.errors)) result.status }
+    ensures reads { I.reads result.host.input ≤ MOST_READS }
+{
+    let texts = match texts_of(alloc, words) {
+        Ok(texts) => texts,
+        Err(fault) => {
+            let status = refuse_fault(alloc, fault, &mut host.errors);
+            return Ended { status, host };
+        }
+    };
+    match commands(alloc, &texts) {
+        Ok(job) => work(alloc, job, host),
+        Err(error) => {
+            let status = refuse_words(alloc, &error, &mut host.output, &mut host.errors);
+            Ended { status, host }
+        }
+    }
+}

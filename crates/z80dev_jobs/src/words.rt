@@ -1,0 +1,53 @@
+//! The words that the program was called with.
+
+ghost use Rattle.std.specs.Prelude.{map};
+ghost use Rattle.z80dev_jobs.specs.Words.{ReadsWords};
+
+use std::alloc::{AllocError, Global};
+
+/// What the program calls itself.
+const NAME: &str = "z80dev";
+
+/// Why the words are not known.
+#[derive(Clone, Copy, Debug, PartialEq, Eq)]
+pub(crate) enum WordsFault {
+    /// The word of this number is not UTF-8. The first after the program's name has the number 1.
+    NotText(usize),
+    /// Memory ran out.
+    NoMemory,
+}
+
+impl From<AllocError> for WordsFault {
+    ghost from_gives = { λ _ e. e ≡ fault.NoMemory };
+
+    fn from(_: AllocError) -> WordsFault {
+        WordsFault::NoMemory
+    }
+}
+
+/// A word as text. That of the number 0, the path by which the program was called, is told to nobody, so it may be any bytes.
+fn text_of(alloc: Global, number: usize, bytes: Vec<u8>) -> Result<String, WordsFault>
+    ensures { ReadsWord number bytes.items result }
+{
+    match String::from_utf8(bytes) {
+        Ok(text) => Ok(text),
+        Err(_) if number == 0 => Ok(String::from_str(alloc, NAME)?),
+        Err(_) => Err(WordsFault::NotText(number)),
+    }
+}
+
+/// The words as text, the program's name first.
+///
+/// # Errors
+///
+/// The first word that is not UTF-8; or memory ran out.
+pub(crate) fn texts_of(alloc: Global, words: Vec<Vec<u8>>) -> Result<Vec<String>, WordsFault>
+    ensures { ReadsWords (map (λ word. word.items) words.items) result }
+{
+    let mut texts = Vec::with_capacity(alloc, words.len())?;
+    for (number, word) in words.into_iter().enumerate() {
+        let text = text_of(alloc, number, word)?;
+        texts.push(text)?;
+    }
+    Ok(texts)
+}
