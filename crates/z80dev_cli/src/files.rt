@@ -1,10 +1,11 @@
 //! Files of the machine that the program runs on.
 
 use arrayvec::ArrayString;
+use std::alloc::Global;
 use std::fmt::{self, Write};
 use std::fs::{self, File, OpenOptions};
 use std::io::ErrorKind;
-use z80dev::{Fault, Output, Store, Watched, WriteFailed, read_text};
+use z80dev::{Fault, Files, Unread, Watched, WatchedSink, WriteFailed, put, read_text};
 
 /// How many parts may lie beside a file, left by runs that were killed or of runs that have not ended.
 const PARTS: u32 = 100;
@@ -15,40 +16,46 @@ const NAME_LIMIT: usize = 248;
 /// A path of any length that the system takes, for which no memory is asked.
 type PartPath = ArrayString<4096>;
 
-/// The files, and whether one could not be written.
+/// The files of the system, and how often a call failed.
 #[derive(Drop)]
 pub(crate) struct HostFiles<'a> {
     rt: &'a HostRuntime,
-    failed: bool,
+    failures: u64,
 }
 
 impl<'a> HostFiles<'a> {
     pub(crate) fn new(rt: &'a HostRuntime) -> HostFiles<'a> {
-        HostFiles { rt, failed: false }
+        HostFiles { rt, failures: 0 }
     }
 }
 
-impl Store for HostFiles<'_> {
+impl Files for HostFiles<'_> {
     ghost use Rattle.std.specs.Prelude.{None};
+    ghost use Rattle.z80dev_finish.specs.Files.{folder_of};
 
-    ghost written = { λ _. None };
+    ghost folder = { λ files. folder_of None files.failures };
 
-    ghost failed = { λ files. files.failed };
+    fn read(&mut self, alloc: Global, path: &str) -> Result<Vec<u8>, Unread> {
+        let read = match fs::open(self.rt, path) {
+            Ok(file) => read_text(alloc, &mut Watched::new(file)),
+            Err(_) => Err(Fault::File),
+        };
+        match read {
+            Ok(bytes) => Ok(bytes),
+            Err(Fault::File) => {
+                self.failures = self.failures.saturating_add(1);
+                Err(Unread::File)
+            }
+            Err(Fault::Build(_)) => Err(Unread::NoMemory),
+        }
+    }
 
     fn write(&mut self, path: &str, bytes: &[u8]) -> Result<(), WriteFailed> {
         let answer = write(self.rt, path, bytes);
         if answer.is_err() {
-            self.failed = true;
+            self.failures = self.failures.saturating_add(1);
         }
         answer
-    }
-}
-
-/// The bytes of a file.
-pub(crate) fn read(rt: &HostRuntime, path: &str) -> Result<Vec<u8>, Fault> {
-    match fs::open(rt, path) {
-        Ok(file) => read_text(rt.alloc(), &mut Watched::new(file)),
-        Err(_) => Err(Fault::File),
     }
 }
 
@@ -63,7 +70,7 @@ fn write(rt: &HostRuntime, path: &str, bytes: &[u8]) -> Result<(), WriteFailed> 
 /// Writes the bytes to what is there.
 fn write_to(rt: &HostRuntime, path: &str, bytes: &[u8]) -> Result<(), WriteFailed> {
     match OpenOptions::new().write(true).open(rt, path) {
-        Ok(file) => Output::new(file).put(bytes),
+        Ok(file) => put(&mut WatchedSink::new(file), bytes),
         Err(_) => Err(WriteFailed),
     }
 }
@@ -71,7 +78,7 @@ fn write_to(rt: &HostRuntime, path: &str, bytes: &[u8]) -> Result<(), WriteFaile
 /// Writes the bytes beside the file, and gives them its name when all are written.
 fn replace(rt: &HostRuntime, path: &str, bytes: &[u8]) -> Result<(), WriteFailed> {
     let (part, file) = new_part(rt, path)?;
-    let answer = Output::new(file).put(bytes);
+    let answer = put(&mut WatchedSink::new(file), bytes);
     if answer.is_ok() && fs::rename(rt, part.as_str(), path).is_ok() {
         return Ok(());
     }

@@ -40,7 +40,7 @@ why. Prints nothing; with --grow, prints a line `grown PATH(LINE)` for each JR
 that became a JP.
 
 A file that it writes replaces one of the same name without a warning, even if
-that is one of the sources.
+that is one of the sources or is write-protected.
 
 Example: z80dev build --list --out game main.asm print.asm
 writes game.siz, game.crt, game.com, game.lst and game.sym.";
@@ -50,8 +50,8 @@ pub(crate) const CHECK: &str =
 line. `best N` means that some choice of short and long jumps fits and has N
 bytes, and that no choice that fits has fewer. The other two mean that no choice
 fits: `range K` because statement K, counted from 0, does not reach its label in
-any choice in which every short JP reaches its own; `size N` because every such
-choice has at least N bytes, more than there is room for. Writes nothing.
+any choice in which every short jump reaches its own; `size N` because every
+such choice has at least N bytes, more than there is room for. Writes nothing.
 
 Example: z80dev check game.siz game.crt
 prints a line such as best 260.";
@@ -66,21 +66,22 @@ prints lines such as 0 GAME.COM 3.";
 
 pub(crate) const PUT: &str =
     r"Reads IMG and FILE, and writes IMG with FILE added under NAME for user 0. The
-last record is filled up with 1AH. A file of that name on the disk is never
-replaced. Prints nothing.
+last record is filled up with 1AH. NAME is in upper case, as GAME.COM. A file of
+that name on the disk is never replaced. Prints nothing.
 
 Example: z80dev put a.img game.com GAME.COM";
 
 pub(crate) const GET: &str =
     r"Reads IMG and writes user 0's file NAME to FILE, in whole records of 128 bytes.
-Prints nothing, and leaves IMG as it is.
+NAME is in upper case, as GAME.COM. If FILE exists, it is replaced without a
+warning. Prints nothing, and leaves IMG as it is.
 
 Example: z80dev get a.img GAME.COM game.com";
 
 pub(crate) const BLANK: &str =
     r"Writes IMG: an eight inch disk, single density, of 256,256 bytes, or with --mega
-one of 1,048,576 bytes. If IMG exists, it is replaced without a warning, and the
-files on it are lost. Prints nothing.
+one of 1,048,576 bytes. If IMG exists, it is replaced without a warning, even if
+it is write-protected, and the files on it are lost. Prints nothing.
 
 Example: z80dev blank a.img";
 
@@ -91,8 +92,11 @@ end the input; if the program reads nothing, give it </dev/null.
 
 Prints what the program prints. Writes IMG when the program ends, however it
 ends, over anything that another command has written to IMG since the run began.
-If run itself is killed, for example by Ctrl-C, IMG stays as it was. The status
-is 0 if the program ends by itself. Otherwise it is 1, and standard error has a
-line `stopped: WHY at PPPP`.
+If run itself is killed, for example by Ctrl-C, IMG stays as it was.
+
+The status is 0 if the program ends by itself, and 1 if something stops it; then
+standard error has a line `stopped: WHY at PPPP`. If the program cannot start,
+there is a line `error: ..` instead: the status is 1 if IMG is not an image of a
+disk, and 3 if a file cannot be read or IMG cannot be written.
 
 Example: z80dev run --disk a.img game.com FILE.TXT";
