@@ -1,5 +1,5 @@
 -- How a command ends, and how that is told.
-use Rattle.std.specs.Prelude.{◌≡◌, ◌⊎◌, ℕ, List, [], ◌++◌, Option, None, Some, codes, string_bytes}
+use Rattle.std.specs.Prelude.{◌≡◌, ◌⊎◌, ℕ, List, ◌++◌, Option, None, Some, codes, string_bytes}
 use Rattle.streams.specs.Stream.{Stream}
 use Rattle.streams.specs.Writing.{PutsAll, PutsFront, error_line}
 use Rattle.z80dev_finish.specs.declared.end.End.{End}

@@ -2,7 +2,8 @@
 
 ghost use Rattle.std.specs.Prelude.{◌≡◌, ◌++◌, codes};
 ghost use Rattle.streams.specs.Writing.{Puts, error_line};
-ghost use Rattle.z80dev_finish.specs.End.{Tells, end_status};
+ghost use Rattle.z80dev_finish.specs.End.{Tells, end_status, end_text};
+ghost use Rattle.z80dev_finish.specs.Private.Steps.{PutsLine};
 ghost use Rattle.z80dev_finish.specs.declared.end.End.{End};
 ghost use Rattle.z80dev_finish.specs.declared.end.End.TheVariants as end;
 
@@ -68,17 +69,24 @@ fn tell_file<'a, E: Sink>(
     put_all(errors, &[b"error: file ", path, ending, b"\n"])
 }
 
+/// Writes the line of an end, unless all is done.
+fn tell_end<E: Sink>(end: &End<'_>, errors: &mut E) -> Result<(), WriteFailed>
+    ensures { PutsLine (end_text end.now) (E.stream errors.old) (E.stream errors.new) result }
+{
+    match end {
+        End::Done => Ok(()),
+        End::Refused(text) => tell(errors, text.as_bytes()),
+        End::File { path, ending } => tell_file(errors, path.as_bytes(), ending.as_bytes()),
+        End::Stream => tell(errors, b"file -"),
+        End::NoMemory => tell(errors, b"NoMemory"),
+    }
+}
+
 /// Writes the line of an end on `errors`, unless all is done, and gives its exit status. That writing fails changes nothing.
 pub fn report<E: Sink>(end: &End<'_>, errors: &mut E) -> u8
     ensures status { result ≡ end_status end.now }
     ensures told { Tells end.now (E.stream errors.old) (E.stream errors.new) }
 {
-    let _ = match end {
-        End::Done => return DONE,
-        End::Refused(text) => tell(errors, text.as_bytes()),
-        End::File { path, ending } => tell_file(errors, path.as_bytes(), ending.as_bytes()),
-        End::Stream => tell(errors, b"file -"),
-        End::NoMemory => tell(errors, b"NoMemory"),
-    };
+    let _ = tell_end(end, errors);
     end.status()
 }

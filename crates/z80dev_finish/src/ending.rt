@@ -42,12 +42,12 @@ fn write_files<'a, F: Files>(
 {
     for file in new {
         let path = path_of(alloc, base, file.kind)?;
-        if files.write(&path, &file.bytes).is_err() {
+        let Ok(()) = files.write(&path, &file.bytes) else {
             return Err(End::File {
                 path: base,
                 ending: file.kind.ending(),
             });
-        }
+        };
     }
     Ok(())
 }
@@ -65,9 +65,9 @@ fn finish_all<'a, F: Files, W: Sink, R: Display>(
     // Made first: once a file is written, it is too late to run out of memory.
     let refusal = text_of(alloc, &answer.refusal)?;
     write_files(alloc, base, &answer.files, files)?;
-    if print(output, &answer.printed).is_err() {
+    let Ok(()) = print(output, &answer.printed) else {
         return Err(End::Stream);
-    }
+    };
     match refusal {
         Some(text) => Err(End::Refused(text)),
         None => Ok(()),

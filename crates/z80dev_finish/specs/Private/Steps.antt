@@ -1,11 +1,19 @@
 -- How the steps of a command's end are done.
-use Rattle.std.specs.Prelude.{◌≡◌, ◌⊎◌, ℕ, List, Option, None, Some, Result, Ok, Err, String, string_bytes}
+use Rattle.std.specs.Prelude.{◌≡◌, ℕ, List, Option, None, Some, Result, Ok, Err, String, string_bytes}
 use Rattle.std.specs.Global.{Global}
 use Rattle.z80dev_finish.specs.declared.answer.Kind.{Kind}
 use Rattle.z80dev_finish.specs.declared.end.End.{End}
 use Rattle.z80dev_finish.specs.declared.end.End.TheVariants as end
+use Rattle.streams.specs.Stream.{Stream}
+use Rattle.streams.specs.Writing.{Puts, error_line}
+use Rattle.streams.specs.declared.writing.WriteFailed.{WriteFailed}
 use Rattle.z80dev_finish.specs.Files.{Folder}
 use Rattle.z80dev_finish.specs.Finishing.{AllWritten, IsBrokenOff, IsUnwritten, IsWhy}
+
+-- the line of an error is put, if there is one
+abbrev pub PutsLine : Option (List ℕ) → Stream → Stream → Result Unit WriteFailed → Type 0
+PutsLine None old new result = new ≡ old
+PutsLine (Some text) old new result = Puts old new (error_line text) result
 
 -- the text of what is refused, where there is something
 abbrev pub IsText : {R : Type 0} → (R → Option (List ℕ)) → Option R → Option (String Global) → Type 0

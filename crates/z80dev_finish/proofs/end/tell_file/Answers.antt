@@ -1,6 +1,6 @@
-use Rattle.std.proofs.Common.{◌≡◌, ◌++◌, codes, ap, [], ◌∷◌, subst, sym, ◌∙◌, rules, List, ℕ}
+use Rattle.std.proofs.Common.{◌≡◌, ◌++◌, codes, ap, [], ◌∷◌, subst, sym, List, ℕ}
 use Rattle.std.proofs.lemmas.List.{append_assoc}
-use Rattle.streams.specs.Writing.{Puts, error_line}
+use Rattle.streams.specs.Writing.{Puts}
 use Rattle.z80dev_finish.proofs.end.tell_file.Goals as goal
 
 pub returns : goal.returns
@@ -8,5 +8,5 @@ returns g c =
     let path : List ℕ = c.args.path.now in
     let last : List ℕ = c.args.ending.now in
     let pieces : codes "error: file " ++ (path ++ (last ++ (10 ∷ []))) ≡ codes "error: file " ++ (path ++ last ++ 10 ∷ []) =
-        ap (λ x. codes "error: file " ++ x) (sym (append_assoc path last (10 ∷ []))) in
+    ap (λ x. codes "error: file " ++ x) (sym (append_assoc path last (10 ∷ []))) in
     subst (λ bytes. Puts (g.E.Sink.stream c.args.errors.now) (g.E.Sink.stream c.put_all.new.sink) bytes c.put_all.result) pieces c.put_all.ensures
