@@ -1,12 +1,12 @@
 -- How printing a file ends, from how its steps end.
-use Rattle.std.proofs.Common.{◌≡◌, ℕ, ◌+◌, ◌++◌, ◌<◌, Bool, List, [], Option, None, Some, Result, Ok, Err, length, replicate, sym, subst, ◌∙◌, inl, inr, arith}
+use Rattle.std.proofs.Common.{◌≡◌, ℕ, ◌+◌, ◌++◌, ◌<◌, Bool, List, [], Option, None, Some, Result, Ok, Err, length, replicate, refl, sym, subst, ◌∙◌, inl, inr, arith}
 use Rattle.std.proofs.lemmas.List.{length-replicate, append-nil}
 use Rattle.std.specs.Io.KnownBytes.{Consumes, IsAtEnd}
-use Rattle.std.proofs.KnownBytes.{Keeps-refl}
 use Rattle.limits.specs.declared.TheConstants.{LONGEST_TEXT}
 use Rattle.zlink.specs.declared.fault.LinkFault.TheVariants as link
 use Rattle.zlink.specs.declared.fault.BuildFault.{BuildFault}
 use Rattle.zlink.specs.declared.fault.BuildFault.TheVariants as build
+use Rattle.streams.specs.Stream.{Stream}
 use Rattle.z80dev.specs.declared.fault.Fault.{Fault}
 use Rattle.z80dev.specs.declared.fault.Fault.TheVariants as fault
 use Rattle.z80dev.specs.Main.{IsBuiltOf, IsFileOf, IsRefused}
@@ -27,15 +27,15 @@ long_text : (n : ℕ) → (text : List ℕ) × (n < length text)
 long_text n = (replicate (n + 1) 0, omega (arith, length-replicate {A = ℕ} (n + 1) 0))
 
 -- without a text nothing is written
-pub unread : (left kept : Option (List ℕ)) (failed : Bool) (reads interruptions : ℕ) (unwritten : Bool) (failure : Fault) → IsUnread left failed reads interruptions failure
-    → OfText left (λ text. Ends text (IsCutShort failed reads interruptions) kept kept unwritten (Err failure))
-unread None kept failed reads interruptions unwritten fault.File (inl cut) = ([], inl (inr cut, Keeps-refl kept))
-unread None kept failed reads interruptions unwritten fault.File (inr long) =
-    let some = long_text LONGEST_TEXT in (some.0, inl (inl some.1, Keeps-refl kept))
-unread None kept failed reads interruptions unwritten (fault.Build refusal) why = ([], (subst (IsRefused []) (sym why) tt, Keeps-refl kept))
-unread (Some text) kept failed reads interruptions unwritten fault.File (inl cut) = inl (inr cut, Keeps-refl kept)
-unread (Some text) kept failed reads interruptions unwritten fault.File (inr long) = inl (inl long, Keeps-refl kept)
-unread (Some text) kept failed reads interruptions unwritten (fault.Build refusal) why = (subst (IsRefused text) (sym why) tt, Keeps-refl kept)
+pub unread : (left : Option (List ℕ)) (kept : Stream) (failed : Bool) (reads interruptions : ℕ) (failure : Fault) → IsUnread left failed reads interruptions failure
+    → OfText left (λ text. Ends text (IsCutShort failed reads interruptions) kept kept (Err failure))
+unread None kept failed reads interruptions fault.File (inl cut) = ([], inl (inr cut, refl))
+unread None kept failed reads interruptions fault.File (inr long) =
+    let some = long_text LONGEST_TEXT in (some.0, inl (inl some.1, refl))
+unread None kept failed reads interruptions (fault.Build refusal) why = ([], (subst (IsRefused []) (sym why) tt, refl))
+unread (Some text) kept failed reads interruptions fault.File (inl cut) = inl (inr cut, refl)
+unread (Some text) kept failed reads interruptions fault.File (inr long) = inl (inl long, refl)
+unread (Some text) kept failed reads interruptions (fault.Build refusal) why = (subst (IsRefused text) (sym why) tt, refl)
 
 -- what `build` answers of a text within the limit that it refuses
 pub refusing : (text : List ℕ) (refusal : BuildFault) → IsWithin text → IsBuiltOf text (Err refusal) → IsRefused text refusal
@@ -49,22 +49,22 @@ refusing text (build.Link (link.NoFit why sizes cert)) within answer = (within, 
 refusing text (build.Link link.NoMemory) within answer = tt
 
 -- a text that is refused
-pub refused : (left end kept : Option (List ℕ)) (failed : Bool) (reads interruptions : ℕ) (unwritten : Bool) (text : List ℕ) (refusal : BuildFault) → Consumes left end text
-    → IsAtEnd end → IsRefused text refusal → OfText left (λ t. Ends t (IsCutShort failed reads interruptions) kept kept unwritten (Err (fault.Build refusal)))
-refused left end kept failed reads interruptions unwritten text refusal taken at_end is =
-    read_whole left end text (λ t. Ends t (IsCutShort failed reads interruptions) kept kept unwritten (Err (fault.Build refusal))) taken at_end (is, Keeps-refl kept)
+pub refused : (left end : Option (List ℕ)) (kept : Stream) (failed : Bool) (reads interruptions : ℕ) (text : List ℕ) (refusal : BuildFault) → Consumes left end text
+    → IsAtEnd end → IsRefused text refusal → OfText left (λ t. Ends t (IsCutShort failed reads interruptions) kept kept (Err (fault.Build refusal)))
+refused left end kept failed reads interruptions text refusal taken at_end is =
+    read_whole left end text (λ t. Ends t (IsCutShort failed reads interruptions) kept kept (Err (fault.Build refusal))) taken at_end (is, refl)
 
-writing : (text file : List ℕ) (failed : Bool) (reads interruptions : ℕ) (old new : Option (List ℕ)) (unwritten : Bool) (r : Result Unit Fault) → IsWithin text → IsFileOf text file
-    → Writes file old new unwritten r → Ends text (IsCutShort failed reads interruptions) old new unwritten r
-writing text file failed reads interruptions old new unwritten (Ok done) limit built wrote = (limit, file, built, wrote)
-writing text file failed reads interruptions old new unwritten (Err fault.File) limit built wrote = inr (wrote.0, (limit, file, built, wrote.1))
-writing text file failed reads interruptions old new unwritten (Err (fault.Build refusal)) limit built wrote = (subst (IsRefused text) (sym wrote.0) tt, wrote.1)
+writing : (text file : List ℕ) (failed : Bool) (reads interruptions : ℕ) (old new : Stream) (r : Result Unit Fault) → IsWithin text → IsFileOf text file
+    → Writes file old new r → Ends text (IsCutShort failed reads interruptions) old new r
+writing text file failed reads interruptions old new (Ok done) limit built wrote = (limit, file, built, wrote)
+writing text file failed reads interruptions old new (Err fault.File) limit built wrote = inr (limit, file, built, wrote)
+writing text file failed reads interruptions old new (Err (fault.Build refusal)) limit built wrote = (subst (IsRefused text) (sym wrote.0) tt, wrote.1)
 
 -- a text whose file is written
-pub written : (left end old new : Option (List ℕ)) (failed : Bool) (reads interruptions : ℕ) (unwritten : Bool) (text file : List ℕ) (r : Result Unit Fault) → Consumes left end text
-    → IsAtEnd end → IsWithin text → IsFileOf text file → Writes file old new unwritten r → OfText left (λ t. Ends t (IsCutShort failed reads interruptions) old new unwritten r)
-written left end old new failed reads interruptions unwritten text file r taken at_end limit built wrote =
-    read_whole left end text (λ t. Ends t (IsCutShort failed reads interruptions) old new unwritten r) taken at_end (writing text file failed reads interruptions old new unwritten r limit built wrote)
+pub written : (left end : Option (List ℕ)) (old new : Stream) (failed : Bool) (reads interruptions : ℕ) (text file : List ℕ) (r : Result Unit Fault) → Consumes left end text
+    → IsAtEnd end → IsWithin text → IsFileOf text file → Writes file old new r → OfText left (λ t. Ends t (IsCutShort failed reads interruptions) old new r)
+written left end old new failed reads interruptions text file r taken at_end limit built wrote =
+    read_whole left end text (λ t. Ends t (IsCutShort failed reads interruptions) old new r) taken at_end (writing text file failed reads interruptions old new r limit built wrote)
 
 -- what is said of a text, with one thing more
 pub of_text : (left : Option (List ℕ)) (P Q : List ℕ → Type 0) → OfText left P → ((text : List ℕ) → P text → Q text) → OfText left Q

@@ -1,3 +1,4 @@
 pub mod Ends
+pub mod Reported
 pub mod TextSoFar
 pub mod Certain

@@ -2,8 +2,6 @@
 use Rattle.std.specs.Prelude.{ℕ, List, codes}
 use Rattle.cert_check.specs.declared.fault.CheckFault.{CheckFault}
 use Rattle.cert_check.specs.declared.fault.CheckFault.TheVariants as check
-use Rattle.z80dev.specs.declared.verdict.VerdictFault.{VerdictFault}
-use Rattle.z80dev.specs.declared.verdict.VerdictFault.TheVariants as verdict
 use Rattle.z80dev_faults.specs.Numbered.{numbered}
 
 abbrev pub check_text : CheckFault → List ℕ
@@ -16,8 +14,3 @@ check_text (check.StillShort k) = numbered (codes "StillShort") k
 check_text check.WrongTotal = codes "WrongTotal"
 check_text (check.NotOutOfRange k) = numbered (codes "NotOutOfRange") k
 check_text check.NoMemory = codes "NoMemory"
-
--- the text of a fault of the check, whose output is a standard stream
-abbrev pub verdict_fault_text : VerdictFault → List ℕ
-verdict_fault_text (verdict.Refused fault) = check_text fault
-verdict_fault_text verdict.Output = codes "file -"

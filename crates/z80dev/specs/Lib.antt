@@ -1,4 +1,3 @@
-pub mod Streams
 pub mod FaultTexts
 pub mod CheckTexts
 pub mod Reading

@@ -1,21 +1,22 @@
-//! The calls of the command `z80dev`: each takes what the command reads and answers its exit status.
+//! The calls of the command `z80dev`. [`pipe`] reads a source file and prints its program, [`check_texts`] prints the verdict of a
+//! certificate, and the crates below answer the other commands.
 #![tactic(auto)]
 
 mod fault;
-mod input;
 pub mod laws;
 mod print;
 mod text;
 mod verdict;
 
 pub use fault::Fault;
-pub use input::{Bytes, Input, ReadFault, Watched};
 pub use print::{pipe, print_file};
+pub use streams::{
+    Bytes, Input, MemorySink, ReadFault, Sink, Watched, WatchedSink, WriteFailed, WriteFault,
+};
 pub use text::{MOST_READS, read_text};
-pub use verdict::{VerdictFault, check_texts};
+pub use verdict::check_texts;
 pub use z80dev_commands::{Job, commands};
 pub use z80dev_finish::{
-    Answer, DONE, FILE_FAULT, FinishFault, Kind, NewFile, Output, REFUSED, Store, USAGE,
-    WriteFailed, finish,
+    Answer, DONE, End, FILE_FAULT, Files, Kind, NewFile, REFUSED, USAGE, Unread, finish, report,
 };
 pub use z80dev_make::{Jumps, Made, Refusal, SourceFile, Told, asm, build, link};

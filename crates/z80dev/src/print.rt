@@ -3,27 +3,25 @@
 ghost use Rattle.std.specs.Prelude.{◌≡◌, ◌≤◌, ◌⊎◌, false, Result};
 ghost use Rattle.z80dev.specs.Pipe.{Ends, said_at, status_at};
 ghost use Rattle.z80dev.specs.Reading.{IsCutShort, OfText};
-ghost use Rattle.z80dev_finish.specs.Streams.{Says};
-ghost use Rattle.z80dev.specs.Private.Steps.{Writes};
+ghost use Rattle.z80dev.specs.Private.Steps.{Reports, Writes};
 ghost use Rattle.z80dev.specs.declared.fault.Fault.{Fault};
 ghost use Rattle.z80dev.specs.declared.text.TheConstants.{MOST_READS};
+ghost use Rattle.z80dev_finish.specs.End.{TellsOf};
 
 use crate::fault::{Fault, SOURCE_NAME};
-use crate::input::Input;
 use crate::text::read_text;
 use std::alloc::Global;
-use std::io::Write;
-use z80dev_finish::{DONE, Output};
+use streams::{Input, Sink, print};
+use z80dev_finish::{DONE, End, report};
 use zlink::{Source, build};
 
 /// Writes the bytes in lower-case hexadecimal, and a line feed.
-fn write_file<W: Write>(alloc: Global, file: &[u8], output: &mut Output<W>) -> Result<(), Fault>
-    requires { output.old.failed ≡ false }
-    ensures { Writes file.now (W.contents output.old.stream) (W.contents output.new.stream) output.new.failed result }
+fn write_file<W: Sink>(alloc: Global, file: &[u8], output: &mut W) -> Result<(), Fault>
+    ensures { Writes file.now (W.stream output.old) (W.stream output.new) result }
 {
     let mut digits = hex::encode(alloc, file)?;
     digits.push('\n')?;
-    match output.put(digits.as_bytes()) {
+    match print(output, digits.as_bytes()) {
         Ok(()) => Ok(()),
         Err(_) => Err(Fault::File),
     }
@@ -34,19 +32,18 @@ fn write_file<W: Write>(alloc: Global, file: &[u8], output: &mut Output<W>) -> R
 ///
 /// # Errors
 ///
-/// [`Fault::Build`] where `build` refuses the text, or memory runs out; nothing is written then. [`Fault::File`] where
-/// the text is above 16,777,216 bytes, reading fails or takes more than 16,777,217 reads, or writing fails.
-pub fn print_file<I: Input, W: Write>(
+/// [`Fault::Build`] if `build` refuses the text, or memory runs out; nothing is written then. [`Fault::File`] if the text
+/// has more than 16,777,216 bytes, reading fails or takes more than 16,777,217 reads, or writing fails.
+pub fn print_file<I: Input, W: Sink>(
     alloc: Global,
     input: &mut I,
-    output: &mut Output<W>,
+    output: &mut W,
 ) -> Result<(), Fault>
     requires sound { I.failed input.old ≡ false }
     requires unread { I.reads input.old ≡ 0 }
     requires calm { I.interruptions input.old ≡ 0 }
-    requires writable { output.old.failed ≡ false }
     ensures ends { OfText (I.remaining input.old) (λ text.
-        Ends text (IsCutShort (I.failed input.new) (I.reads input.new) (I.interruptions input.new)) (W.contents output.old.stream) (W.contents output.new.stream) output.new.failed result) }
+        Ends text (IsCutShort (I.failed input.new) (I.reads input.new) (I.interruptions input.new)) (W.stream output.old) (W.stream output.new) result) }
     ensures reads { I.reads input.new ≤ MOST_READS }
 {
     let text = read_text(alloc, input)?;
@@ -58,41 +55,53 @@ pub fn print_file<I: Input, W: Write>(
     write_file(alloc, &built.com, output)
 }
 
-/// Prints the file of a text, as [`print_file`] does, and says on `errors` what goes wrong. Three streams are given that
-/// have not failed yet; the input has not been read.
+/// How the command ends with this fault. The line of a refusal is made in memory, so that a writer that fails or is
+/// interrupted on it is known to be the one that did; that of want of memory needs none.
+fn end_of(alloc: Global, fault: &Fault) -> End<'static>
+    ensures { Reports fault.now result }
+{
+    match fault {
+        Fault::File => End::File {
+            path: SOURCE_NAME,
+            ending: "",
+        },
+        Fault::Build(_) => match format!(in alloc; "{fault}") {
+            Ok(text) => End::Refused(text),
+            Err(_) => End::NoMemory,
+        },
+    }
+}
+
+/// Prints the file of a text, as [`print_file`] does, and reports on `errors` what goes wrong. The input has not been read
+/// or failed yet.
 ///
-/// The answer is an exit status: 0 where the file was written, and nothing on `errors`; 1 where the text is refused or
-/// memory ran out, with one line on `errors` and nothing on `output`; 3 where the text is above 16,777,216 bytes, reading
-/// fails or takes more than 16,777,217 reads, or writing fails, with `error: file MAIN` on `errors`. A fault of `errors`
-/// changes nothing.
-pub fn pipe<I: Input, W: Write, E: Write>(
+/// The result is an exit status: 0 if the file is written, and nothing on `errors`; 1 if the text is refused or memory ran
+/// out, with one line on `errors` and nothing on `output`; 3 if the text has more than 16,777,216 bytes, reading fails or
+/// takes more than 16,777,217 reads, or writing fails, with `error: file MAIN` on `errors`. If `errors` fails, the status
+/// is the same.
+pub fn pipe<I: Input, W: Sink, E: Sink>(
     alloc: Global,
     input: &mut I,
-    output: &mut Output<W>,
-    errors: &mut Output<E>,
+    output: &mut W,
+    errors: &mut E,
 ) -> u8
     requires sound { I.failed input.old ≡ false }
     requires unread { I.reads input.old ≡ 0 }
     requires calm { I.interruptions input.old ≡ 0 }
-    requires writable { output.old.failed ≡ false }
-    requires tellable { errors.old.failed ≡ false }
 
     ensures status { (result ≡ 0) ⊎ ((result ≡ 1) ⊎ (result ≡ 3)) }
 
     // There is one end that the status, the file that is written and the line on `errors` all speak of.
     ensures ends { OfText (I.remaining input.old) (λ text.
         (end : Result Unit Fault) × (result ≡ status_at end)
-        × Ends text (IsCutShort (I.failed input.new) (I.reads input.new) (I.interruptions input.new)) (W.contents output.old.stream) (W.contents output.new.stream) output.new.failed end
-        × Says (said_at end) (E.contents errors.old.stream) (E.contents errors.new.stream) errors.new.failed) }
+        × Ends text (IsCutShort (I.failed input.new) (I.reads input.new) (I.interruptions input.new)) (W.stream output.old) (W.stream output.new) end
+        × TellsOf (said_at end) (E.stream errors.old) (E.stream errors.new)) }
 
     // Whatever the input, it is asked for a bounded number of times.
     ensures reads { I.reads input.new ≤ MOST_READS }
 {
     match print_file(alloc, input, output) {
         Ok(()) => DONE,
-        Err(fault) => {
-            errors.say(&fault);
-            fault.status()
-        }
+        Err(fault) => report(&end_of(alloc, &fault), errors),
     }
 }

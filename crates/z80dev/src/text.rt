@@ -6,9 +6,9 @@ ghost use Rattle.z80dev.specs.Reading.{IsUnread, IsWithin};
 ghost use Rattle.z80dev.specs.declared.text.TheConstants.{MOST_READS};
 
 use crate::fault::Fault;
-use crate::input::{Input, ReadFault};
 use limits::LONGEST_TEXT;
 use std::alloc::Global;
+use streams::{Input, ReadFault};
 
 /// How often a reader is asked at most: for each byte of the longest text, and once for its end.
 pub const MOST_READS: usize = LONGEST_TEXT + 1;

@@ -1,72 +1,14 @@
 //! What `check` prints of a sizes text and its certificate.
 
-ghost use Rattle.std.specs.Prelude.{◌≡◌, ◌⊎◌, false, IfOk, Result, string_bytes};
-ghost use Rattle.z80dev.specs.declared.verdict.VerdictFault.{VerdictFault};
-ghost use Rattle.z80dev.specs.declared.verdict.VerdictFault.TheVariants as verdict;
-ghost use Rattle.cert_check.specs.declared.fault.CheckFault.TheVariants as check;
-ghost use Rattle.z80dev_finish.specs.Streams.{Says};
-ghost use Rattle.z80dev.specs.Verdict.{VerdictEnds, judged_line, verdict_said, verdict_status};
+ghost use Rattle.std.specs.Prelude.{◌≡◌, IfOk, string_bytes};
+ghost use Rattle.z80dev.specs.Private.Steps.{IsTextOf, Judges, end_of};
+ghost use Rattle.z80dev.specs.Verdict.{VerdictEnds, judged_line};
 
 use cert_check::{CheckFault, check};
 use certificate::Verdict;
 use std::alloc::{AllocError, Global};
-use std::fmt;
-use std::io::Write;
-use z80dev_finish::{DONE, FILE_FAULT, Output, REFUSED};
-
-/// Why no verdict is printed.
-#[derive(Clone, Copy, Debug, PartialEq, Eq)]
-pub enum VerdictFault {
-    /// The texts show nothing, or memory ran out.
-    Refused(CheckFault),
-    /// The output cannot be written.
-    Output,
-}
-
-/// What is printed after `error: `: the name of the fault, with its number in parentheses.
-impl fmt::Display for VerdictFault {
-    ghost use Rattle.std.specs.Prelude.{Some};
-    ghost use Rattle.z80dev.specs.CheckTexts.{verdict_fault_text};
-
-    ghost output = { λ fault. Some (verdict_fault_text fault) };
-
-    fn fmt<W: fmt::Write>(&self, f: &mut fmt::Formatter<W>) -> fmt::Result {
-        match self {
-            VerdictFault::Refused(CheckFault::BadSizes(line)) => write!(f, "BadSizes({line})"),
-            VerdictFault::Refused(CheckFault::BadCertificate(line)) => {
-                write!(f, "BadCertificate({line})")
-            }
-            VerdictFault::Refused(CheckFault::NotForced(line)) => write!(f, "NotForced({line})"),
-            VerdictFault::Refused(CheckFault::NotAJump(line)) => write!(f, "NotAJump({line})"),
-            VerdictFault::Refused(CheckFault::Repeated(line)) => write!(f, "Repeated({line})"),
-            VerdictFault::Refused(CheckFault::StillShort(statement)) => {
-                write!(f, "StillShort({statement})")
-            }
-            VerdictFault::Refused(CheckFault::WrongTotal) => f.write_str("WrongTotal"),
-            VerdictFault::Refused(CheckFault::NotOutOfRange(statement)) => {
-                write!(f, "NotOutOfRange({statement})")
-            }
-            VerdictFault::Refused(CheckFault::NoMemory) => f.write_str("NoMemory"),
-            VerdictFault::Output => f.write_str("file -"),
-        }
-    }
-}
-
-impl From<CheckFault> for VerdictFault {
-    ghost from_gives = { λ fault e. e ≡ verdict.Refused fault };
-
-    fn from(fault: CheckFault) -> VerdictFault {
-        VerdictFault::Refused(fault)
-    }
-}
-
-impl From<AllocError> for VerdictFault {
-    ghost from_gives = { λ _ e. e ≡ verdict.Refused check.NoMemory };
-
-    fn from(_: AllocError) -> VerdictFault {
-        VerdictFault::Refused(CheckFault::NoMemory)
-    }
-}
+use streams::{Sink, print};
+use z80dev_finish::End;
 
 /// The line of a verdict.
 fn line_of(alloc: Global, verdict: Verdict) -> Result<String, AllocError>
@@ -79,55 +21,63 @@ fn line_of(alloc: Global, verdict: Verdict) -> Result<String, AllocError>
     }
 }
 
-/// Checks the texts and writes the line of what they show.
-fn print_verdict<W: Write>(
-    alloc: Global,
-    sizes: &[u8],
-    cert: &[u8],
-    output: &mut Output<W>,
-) -> Result<(), VerdictFault>
-    requires { output.old.failed ≡ false }
-    ensures { VerdictEnds sizes.now cert.now (W.contents output.old.stream) (W.contents output.new.stream) output.new.failed result }
+/// What is printed after `error: `: the name of the fault, with its number in parentheses.
+fn text_of(alloc: Global, fault: CheckFault) -> Result<String, AllocError>
+    ensures { IfOk result (λ text. IsTextOf fault (string_bytes text)) }
 {
-    let verdict = check(alloc, sizes, cert)?;
-    let line = line_of(alloc, verdict)?;
-    match output.put(line.as_bytes()) {
-        Ok(()) => Ok(()),
-        Err(_) => Err(VerdictFault::Output),
+    match fault {
+        CheckFault::BadSizes(line) => format!(in alloc; "BadSizes({line})"),
+        CheckFault::BadCertificate(line) => format!(in alloc; "BadCertificate({line})"),
+        CheckFault::NotForced(line) => format!(in alloc; "NotForced({line})"),
+        CheckFault::NotAJump(line) => format!(in alloc; "NotAJump({line})"),
+        CheckFault::Repeated(line) => format!(in alloc; "Repeated({line})"),
+        CheckFault::StillShort(statement) => format!(in alloc; "StillShort({statement})"),
+        CheckFault::WrongTotal => String::from_str(alloc, "WrongTotal"),
+        CheckFault::NotOutOfRange(statement) => format!(in alloc; "NotOutOfRange({statement})"),
+        CheckFault::NoMemory => Err(AllocError),
     }
 }
 
-/// Checks a sizes text and its certificate, and writes what they show to `output`: `best N`, `range K` or `size N`. Two
-/// streams are given that have not failed yet.
-///
-/// The answer is an exit status: 0 where the line was written, and nothing on `errors`; 1 where the texts are refused or
-/// memory ran out, with `error: NAME` on `errors` and nothing on `output`; 3 where writing fails, with `error: file -` on
-/// `errors`. A fault of `errors` changes nothing.
-pub fn check_texts<W: Write, E: Write>(
+/// What the texts prove, or how the command ends because they prove nothing.
+fn judge(alloc: Global, sizes: &[u8], cert: &[u8]) -> Result<Verdict, End<'static>>
+    ensures { Judges sizes.now cert.now result }
+{
+    match check(alloc, sizes, cert) {
+        Ok(verdict) => Ok(verdict),
+        Err(fault) => Err(End::Refused(text_of(alloc, fault)?)),
+    }
+}
+
+/// Checks the texts and writes the line of what they prove.
+fn print_verdict<W: Sink>(
     alloc: Global,
     sizes: &[u8],
     cert: &[u8],
-    output: &mut Output<W>,
-    errors: &mut Output<E>,
-) -> u8
-    requires writable { output.old.failed ≡ false }
-    requires tellable { errors.old.failed ≡ false }
+    output: &mut W,
+) -> Result<(), End<'static>>
+    ensures { VerdictEnds sizes.now cert.now (W.stream output.old) (W.stream output.new) (end_of result) }
+{
+    let verdict = judge(alloc, sizes, cert)?;
+    let line = line_of(alloc, verdict)?;
+    match print(output, line.as_bytes()) {
+        Ok(()) => Ok(()),
+        Err(_) => Err(End::Stream),
+    }
+}
 
-    ensures status { (result ≡ 0) ⊎ ((result ≡ 1) ⊎ (result ≡ 3)) }
-
-    // There is one end that the status, the line that is written and the line on `errors` all speak of.
-    ensures ends { (end : Result Unit VerdictFault) × (result ≡ verdict_status end)
-        × VerdictEnds sizes.now cert.now (W.contents output.old.stream) (W.contents output.new.stream) output.new.failed end
-        × Says (verdict_said end) (E.contents errors.old.stream) (E.contents errors.new.stream) errors.new.failed }
+/// Checks a sizes text and its certificate, and writes what they prove to `output`: `best N`, `range K` or `size N`. The
+/// result says how that ended: [`End::Done`] if the line is written; [`End::Refused`] with the name of the fault if the
+/// texts prove nothing; [`End::Stream`] if writing fails.
+pub fn check_texts<W: Sink>(
+    alloc: Global,
+    sizes: &[u8],
+    cert: &[u8],
+    output: &mut W,
+) -> End<'static>
+    ensures { VerdictEnds sizes.now cert.now (W.stream output.old) (W.stream output.new) result }
 {
     match print_verdict(alloc, sizes, cert, output) {
-        Ok(()) => DONE,
-        Err(fault) => {
-            errors.say(&fault);
-            match fault {
-                VerdictFault::Refused(_) => REFUSED,
-                VerdictFault::Output => FILE_FAULT,
-            }
-        }
+        Ok(()) => End::Done,
+        Err(end) => end,
     }
 }
