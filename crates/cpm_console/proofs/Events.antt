@@ -1,7 +1,8 @@
 -- Events one after the other.
-use Rattle.std.proofs.Common.{◌≡◌, ◌⊎◌, ℕ, List, [], ◌∷◌, ◌++◌, map, refl, ap, sym, subst, ◌∙◌, inl, inr, arith, append_assoc}
+use Rattle.std.proofs.Common.{◌≡◌, ◌⊎◌, ℕ, List, [], ◌∷◌, ◌++◌, map, refl, ap, sym, ◌∙◌, inl, inr, arith, append_assoc}
 use Rattle.std.proofs.KnownBytes.{Appends-nil, Appends-trans}
-use Rattle.cpm_console.specs.Dialog.{Dialog, Event, HasRisen, Passes, Put, Took, put_by, taken}
+use Rattle.cpm_console.specs.Dialog.{Dialog, Event, Passes, Put, Took, put_by, taken}
+use Rattle.streams.specs.Stream.{counted}
 use Rattle.cpm_console.specs.Screen.{Screen, Does, Stops, column_after}
 
 taken-append : (x y : List Event) → taken (x ++ y) ≡ taken x ++ taken y
@@ -54,7 +55,7 @@ stops-after a b c x y first second = record {
   one = second.one;
   passed = rw (append_assoc x second.done (map Put second.failed)) (passes-then a.dialog b.dialog c.dialog x _ first.passed second.passed);
   column = second.column ∙ ap (λ k. column_after k (put_by second.done)) first.column ∙ sym (column_after-append (put_by x) a.column (put_by second.done)) ∙ ap (column_after a.column) (sym (put_by-append x second.done));
-  risen = subst (λ n. HasRisen n c.dialog.faults) first.unfailed second.risen;
+  fault = second.fault ∙ ap counted first.unfailed;
 }
 
 pub stops-before : (a b : Screen) (x y : List Event) → Stops a b x → Stops a b (x ++ y)
@@ -66,11 +67,11 @@ stops-before a b x y stopped = record {
   one = stopped.one;
   passed = stopped.passed;
   column = stopped.column;
-  risen = stopped.risen;
+  fault = stopped.fault;
 }
 
 -- a byte whose put failed
-pub failed_put : (a b : Screen) (byte : ℕ) → HasRisen a.dialog.faults b.dialog.faults → b.column ≡ a.column
+pub failed_put : (a b : Screen) (byte : ℕ) → b.dialog.faults ≡ counted a.dialog.faults → b.column ≡ a.column
     → Passes a.dialog b.dialog [] ⊎ Passes a.dialog b.dialog (Put byte ∷ []) → Stops a b (Put byte ∷ [])
-failed_put a b byte risen column (inl none) = record { done = []; failed = []; rest = Put byte ∷ []; front = refl; one = omega arith; passed = none; column = column; risen = risen }
-failed_put a b byte risen column (inr one) = record { done = []; failed = byte ∷ []; rest = []; front = refl; one = omega arith; passed = one; column = column; risen = risen }
+failed_put a b byte fault column (inl none) = record { done = []; failed = []; rest = Put byte ∷ []; front = refl; one = omega arith; passed = none; column = column; fault = fault }
+failed_put a b byte fault column (inr one) = record { done = []; failed = byte ∷ []; rest = []; front = refl; one = omega arith; passed = one; column = column; fault = fault }

@@ -2,4 +2,3 @@ pub mod Input
 pub mod Events
 pub mod Texts
 pub mod Lines
-pub mod WrittenByte

@@ -92,7 +92,7 @@ get-failed room line a b buffer ConsoleFault h got column = record {
   one = omega arith;
   passed = got.1;
   column = column;
-  risen = got.0;
+  fault = got.0;
 }
 
 -- a byte was taken

@@ -1,5 +1,5 @@
 -- What passes between a console and the program that uses it.
-use Rattle.std.specs.Prelude.{◌≡◌, ◌<◌, ◌⊎◌, ◌^◌, ◌-◌, ℕ, List, [], ◌∷◌, ◌++◌, Option}
+use Rattle.std.specs.Prelude.{◌≡◌, ℕ, List, [], ◌∷◌, ◌++◌, Option}
 use Rattle.std.specs.Io.KnownBytes.{Appends}
 
 -- A console as its user sees it: the bytes that are left to be taken, the bytes that were put where its writer tells them, and how
@@ -37,7 +37,3 @@ pub record Passes (old new : Dialog) (events : List Event) : Type 0 where
 pub record Succeeds (old new : Dialog) (events : List Event) : Type 0 where
   pub passed : Passes old new events
   pub unfailed : new.faults ≡ old.faults
-
--- a count of 64 bits rose: at its greatest it stays, and counts as risen
-abbrev pub HasRisen : ℕ → ℕ → Type 0
-HasRisen before now = (before < now) ⊎ ((before ≡ 2 ^ 64 - 1) × (now ≡ 2 ^ 64 - 1))

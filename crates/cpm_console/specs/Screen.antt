@@ -1,6 +1,7 @@
 -- A terminal: a console with a column.
 use Rattle.std.specs.Prelude.{◌≡◌, ◌≤◌, ◌==◌, ◌+◌, ◌-◌, ◌%◌, ◌&&◌, Bool, not, ℕ, nat_le, List, [], ◌∷◌, ◌++◌, length, map, if◌then◌else◌}
-use Rattle.cpm_console.specs.Dialog.{Dialog, Event, HasRisen, Passes, Put, put_by}
+use Rattle.cpm_console.specs.Dialog.{Dialog, Event, Passes, Put, put_by}
+use Rattle.streams.specs.Stream.{counted}
 use Rattle.cpm_console.specs.declared.terminal.Terminal.{Terminal}
 
 pub record Screen : Type 0 where
@@ -33,7 +34,7 @@ pub record Does (old new : Screen) (events : List Event) : Type 0 where
   pub unfailed : new.dialog.faults ≡ old.dialog.faults
   pub column : new.column ≡ column_after old.column (put_by events)
 
--- The console failed on the way: of these events a front passed. The byte of a put that failed may be put all the same; it does
+-- The console failed once, on the way: of these events a front passed. The byte of a put that failed may be put all the same; it does
 -- not move the column.
 pub record Stops (old new : Screen) (events : List Event) : Type 0 where
   pub done : List Event
@@ -43,4 +44,4 @@ pub record Stops (old new : Screen) (events : List Event) : Type 0 where
   pub one : length failed ≤ 1
   pub passed : Passes old.dialog new.dialog (done ++ map Put failed)
   pub column : new.column ≡ column_after old.column (put_by done)
-  pub risen : HasRisen old.dialog.faults new.dialog.faults
+  pub fault : new.dialog.faults ≡ counted old.dialog.faults

@@ -8,8 +8,8 @@ use crate::error::ConsoleError;
 
 /// A console: bytes that were typed and wait to be taken, and bytes that are put behind one another.
 ///
-/// It counts its faults: a call that succeeds leaves the count as it was, and one that fails raises it. At the greatest
-/// count of 64 bits it stays, and counts as raised.
+/// It counts its faults: a call that succeeds leaves the count as it was, and one that fails adds one. At the greatest
+/// count of 64 bits it stays.
 pub trait Console {
     /// The input that is left, the output so far where it is known, and how often the console has failed.
     ghost dialog: { Self → Dialog };

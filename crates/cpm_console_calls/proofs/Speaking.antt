@@ -17,7 +17,7 @@ not_taken old new EndOfInput gets column = (
   subst (λ i. Does old new (taken_from old.column i).events) (sym gets.0) (record { passed = gets.1.passed; unfailed = gets.1.unfailed; column = column }),
 )
 not_taken old new ConsoleFault gets column =
-    record { done = []; failed = []; rest = (taken_talk old).events; front = refl; one = omega arith; passed = gets.1; column = column; risen = gets.0 }
+    record { done = []; failed = []; rest = (taken_talk old).events; front = refl; one = omega arith; passed = gets.1; column = column; fault = gets.0 }
 
 -- a byte was taken, and not echoed whole
 pub not_echoed : (old mid new : Screen) (byte : ℕ) (error : ConsoleError) → Gets old.dialog mid.dialog (Ok byte) → mid.column ≡ old.column → is_echoed byte ≡ true

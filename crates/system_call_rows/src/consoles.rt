@@ -3,11 +3,13 @@
 use crate::machine::{Keyboard, console_of};
 use crate::memory::put;
 use crate::shown::{show_bytes, word};
+use crate::writers::Scripted;
 use anyhow::Context;
 use cpm_console::{Console, ConsoleError, StreamConsole, Terminal};
 use row_text::written_out;
 use std::alloc::Global;
 use std::io::Write;
+use streams::{MemorySink, WatchedSink};
 use z80_cpu::Memory;
 
 /// A terminal at a column, by its columns: the column, which calls fail, and a text.
@@ -116,7 +118,7 @@ pub(crate) fn report_stream<W: Write>(
 ) -> Result<(), anyhow::Error> {
     let (typed, row) = row.split_once(' ').context("no text")?;
     let (text, raw) = row.split_once(' ').context("no raw byte")?;
-    let console = StreamConsole::new(written_out(alloc, typed)?, Vec::new(alloc));
+    let console = StreamConsole::new(written_out(alloc, typed)?, MemorySink::new(alloc));
     let mut terminal = Terminal::new(console);
     show_taken(out, &mut terminal.console)?;
     for byte in &written_out(alloc, text)? {
@@ -125,5 +127,25 @@ pub(crate) fn report_stream<W: Write>(
     terminal.console.put(u8::from_str_radix(raw, 16)?)?;
     write!(out, ", column {}", terminal.column)?;
     let Terminal { console, .. } = terminal;
-    show_bytes(out, &console.into_writer())
+    show_bytes(out, &console.into_writer().into_bytes())
+}
+
+/// Puts bytes with a console over a writer: each fault, the column after them, how often the writer failed, and what it took.
+pub(crate) fn report_writer<W: Write>(
+    alloc: Global,
+    out: &mut W,
+    row: &str,
+) -> Result<(), anyhow::Error> {
+    let (letters, text) = row.split_once(' ').context("no text")?;
+    let writer = WatchedSink::new(Scripted::new(alloc, letters)?);
+    let mut terminal = Terminal::new(StreamConsole::new(Vec::new(alloc), writer));
+    for byte in &written_out(alloc, text)? {
+        if let Err(error) = terminal.put_char(*byte) {
+            write!(out, " {error:?}")?;
+        }
+    }
+    let Terminal { console, column } = terminal;
+    let writer = console.into_writer();
+    write!(out, " column {column}, failures {}", writer.failures())?;
+    show_bytes(out, &writer.into_stream().taken)
 }

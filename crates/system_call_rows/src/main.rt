@@ -9,6 +9,7 @@ mod machine;
 mod memory;
 mod runs;
 mod shown;
+mod writers;
 
 use anyhow::{Context, anyhow};
 use machine::Machine;
@@ -74,6 +75,7 @@ fn report<W: Write>(
         b"line" => consoles::report_line(alloc, out, row),
         b"text" => consoles::report_dollar(alloc, out, row),
         b"stream" => consoles::report_stream(alloc, out, row),
+        b"writer" => consoles::report_writer(alloc, out, row),
         b"machine" | b"device" | b"entry" | b"run" | b"start" | b"output" => {
             let before = machine.take().context("no machine")?;
             *machine = Some(next_machine(alloc, out, call, row, before)?);

@@ -6,10 +6,10 @@ use Rattle.cpm_disk.specs.Image.{Image}
 use Rattle.cpm_run.specs.Run.{IsRun}
 use Rattle.cpm_run.specs.declared.ending.Why.{Why}
 
-module _ (faults : Image → ℕ) (file : List ℕ) (disk : Mounted Image) (steps : ℕ) (end : Why) (turns pc : ℕ) (left : Mounted Image) (kept : Dialog) where
-  abbrev Run : List (List ℕ) → Dialog → Type 0
-  Run words console = IsRun (λ sectors. sectors) faults (λ dialog. dialog) file words disk console steps end turns pc left kept
+module _ (faults : Image → ℕ) (disk : Mounted Image) (steps : ℕ) (end : Why) (turns pc : ℕ) (left : Mounted Image) (kept : Dialog) where
+  abbrev Run : List ℕ → List (List ℕ) → Dialog → Type 0
+  Run file words console = IsRun (λ sectors. sectors) faults (λ dialog. dialog) file words disk console steps end turns pc left kept
 
-  -- by the words and the console that were meant
-  pub as_read : (words meant : List (List ℕ)) (console given : Dialog) → words ≡ meant → console ≡ given → Run words console → Run meant given
-  as_read words meant console given e f run = subst (λ c. Run meant c) f (subst (λ w. Run w console) e run)
+  -- by the program, the words and the console that were meant
+  pub as_read : (file program : List ℕ) (words meant : List (List ℕ)) (console given : Dialog) → file ≡ program → words ≡ meant → console ≡ given → Run file words console → Run program meant given
+  as_read file program words meant console given d e f run = subst (λ c. Run program meant c) f (subst (λ w. Run program w console) e (subst (λ p. Run p words console) d run))

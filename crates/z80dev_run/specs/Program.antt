@@ -1,6 +1,7 @@
 -- What the command `run` does with what it has read.
-use Rattle.std.specs.Prelude.{◌≡◌, ℕ, List, Option, Ok}
+use Rattle.std.specs.Prelude.{◌≡◌, ℕ, List, Ok, map}
 use Rattle.std.specs.List.{concat}
+use Rattle.streams.specs.Stream.{Stream}
 use Rattle.cpm_console.specs.Dialog.{Dialog, dialog_of}
 use Rattle.cpm_disk.specs.Calls.{Mounted}
 use Rattle.cpm_disk.specs.Image.{Image}
@@ -8,11 +9,19 @@ use Rattle.cpm_run.specs.Run.{IsRun}
 use Rattle.cpm_run.specs.declared.ending.Why.{Why}
 use Rattle.z80dev_disk.specs.Disks.{IsMounted}
 use Rattle.z80dev_run.specs.Input.{typed}
+use Rattle.z80dev_run.specs.declared.running.Ready.{Ready}
 
--- The program is run with its words on the disk whose image the bytes are, with what is typed and a console that has this output so far. The image is that of the
--- disk then, and the output that of the console.
-abbrev pub IsRan : List ℕ → List (List ℕ) → List ℕ → List ℕ → Option (List ℕ) → ℕ → Why → ℕ → ℕ → List ℕ → Option (List ℕ) → Type 0
+-- What is ready to run: the program and its words, the disk whose image the bytes are, and what is typed by the bytes of standard input.
+pub record IsReady (program : List ℕ) (words : List (List ℕ)) (image input : List ℕ) (ready : Ready) : Type 0 where
+  pub program_is : ready.program.now ≡ program
+  pub words_are : map (λ w. w.now) ready.words.items ≡ words
+  pub disk_is : IsMounted image (Ok ready.disk)
+  pub typed_is : ready.typed.items ≡ typed input
+
+-- The program is run with its words on the disk whose image the bytes are, with what is typed and a console that begins with the bytes and
+-- the failures of a stream. The image is that of the disk then, and the stream has the output and the faults of the console.
+abbrev pub IsRan : List ℕ → List (List ℕ) → List ℕ → List ℕ → Stream → ℕ → Why → ℕ → ℕ → List ℕ → Stream → Type 0
 IsRan file words image input before steps end turns pc left after =
     (disk : Mounted Image) × (then : Mounted Image) × (console : Dialog) × IsMounted image (Ok disk)
-    × IsRun (λ sectors. sectors) (λ sectors. 0) (λ dialog. dialog) file words disk (dialog_of (typed input) before 0) steps end turns pc then console
-    × (left ≡ concat then.device) × (after ≡ console.output)
+    × IsRun (λ sectors. sectors) (λ sectors. 0) (λ dialog. dialog) file words disk (dialog_of (typed input) before.bytes before.failures) steps end turns pc then console
+    × (left ≡ concat then.device) × (after.bytes ≡ console.output) × (after.failures ≡ console.faults)

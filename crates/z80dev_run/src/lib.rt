@@ -3,11 +3,13 @@
 
 mod ending;
 mod input;
+mod preparing;
 mod running;
 mod stopped;
 
 pub use cpm_run::{Stop, Why};
 pub use ending::conclude;
-pub use running::{Ran, run_program};
+pub use preparing::ready;
+pub use running::{Ran, Ready};
 pub use stopped::stopped_line;
 pub use z80dev_disk::Refusal;

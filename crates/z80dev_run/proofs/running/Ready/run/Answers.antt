@@ -1,0 +1,22 @@
+use Rattle.std.proofs.Common.{ℕ, List, map, ◌∙◌, ap}
+use Rattle.std.specs.Borrow.{Bor}
+use Rattle.std.specs.List.{concat}
+use Rattle.cpm_console.specs.Dialog.{dialog_of}
+use Rattle.z80dev_run.proofs.Read.{as_read}
+use Rattle.z80dev_run.proofs.running.Ready.run.Goals as goal
+
+pub returns : goal.returns
+returns g c = λ program words image input is.
+    let before = g.S.Sink.stream c.args.output in (
+      c.args.self.disk,
+      c.run-end.result.disk,
+      c.run-end.result.console,
+      is.disk_is,
+      as_read (λ sectors. 0) _ _ _ _ _ _ _ _ _ _ _ _ _ is.program_is
+          (ap (λ (words : List (Bor (List ℕ))). map (λ w. w.now) words) c.deref.ensures.value ∙ is.words_are)
+          (c.new-console.ensures ∙ ap (λ bytes. dialog_of bytes before.bytes before.failures) is.typed_is)
+          c.run-end.ensures,
+      ap concat c.unmount.ensures.device,
+      c.into_writer.ensures.output,
+      c.into_writer.ensures.faults,
+    )

@@ -1,0 +1,46 @@
+//! What a program needs before it runs.
+
+ghost use Rattle.std.specs.Prelude.{◌≡◌, ◌≢◌, Err, IfErr, IfOk, map};
+ghost use Rattle.z80dev_disk.specs.Disks.{IsMounted};
+ghost use Rattle.z80dev_disk.specs.declared.refusal.Refusal.TheVariants as refusal;
+ghost use Rattle.z80dev_run.specs.Program.{IsReady};
+
+use crate::input::typed;
+use crate::running::Ready;
+use std::alloc::{AllocError, Global};
+use z80dev_disk::{Refusal, disk_of};
+
+/// The words as bytes.
+fn bytes_of<'a>(alloc: Global, words: &[&'a str]) -> Result<Vec<&'a [u8]>, AllocError>
+    ensures { IfOk result (λ bytes. map (λ w. w.now) bytes.items ≡ map (λ w. w.now) words.now) }
+{
+    let mut bytes = Vec::with_capacity(alloc, words.len())?;
+    for word in words {
+        bytes.push(word.as_bytes())?;
+    }
+    Ok(bytes)
+}
+
+/// Makes a program ready to run with its words on the disk whose image is given. An image without bytes is a blank eight inch disk. What
+/// is typed is `input`, in which CR LF and LF are one CR.
+///
+/// # Errors
+///
+/// Those of the image: it is not one, or its directory breaks a rule; or memory ran out. Nothing has run then, and nothing is printed.
+pub fn ready<'a>(
+    alloc: Global,
+    program: &'a [u8],
+    words: &[&'a str],
+    image: &[u8],
+    input: &[u8],
+) -> Result<Ready<'a>, Refusal>
+    ensures ready { IfOk result (IsReady program.now (map (λ w. w.now) words.now) image.now input.now) }
+    ensures refused { IfErr result (λ why. why ≢ refusal.NoMemory → IsMounted image.now (Err why)) }
+{
+    Ok(Ready {
+        program,
+        disk: disk_of(alloc, image)?,
+        words: bytes_of(alloc, words)?,
+        typed: typed(alloc, input)?,
+    })
+}
