@@ -1,5 +1,5 @@
 -- What the command `z80dev` does, whatever its words.
-use Rattle.std.specs.Prelude.{◌≡◌, ◌⊎◌, ¬, ℕ, true, List, ◌++◌, Option, None, Some, Result, codes, decimal, map, unwrap_or}
+use Rattle.std.specs.Prelude.{◌≡◌, ◌⊎◌, ℕ, true, List, ◌++◌, Option, None, Some, Result, codes, decimal, map, unwrap_or}
 use Rattle.clap.specs.Words.{IsAmong, fault_of, takes}
 use Rattle.clap.specs.declared.error.kind.ErrorKind.{ErrorKind}
 use Rattle.clap.specs.declared.error.kind.ErrorKind.TheVariants as kind
@@ -97,6 +97,6 @@ abbrev pub CommandEnds : List (List ℕ) → World → World → ℕ → Type 0
 CommandEnds words old new status =
     ((texts : List (List ℕ)) × (job : Job) × AreTexts words texts × IsJob texts job × JobEnds job old new status)
     ⊎ (Untouched old new
-    × (((texts : List (List ℕ)) × (k : ErrorKind) × AreTexts words texts × IsAmong k (fault_of z80dev texts) × ¬ (takes z80dev texts ≡ true) × RefusesWords k old new status)
+    × (((texts : List (List ℕ)) × (k : ErrorKind) × AreTexts words texts × IsAmong k (fault_of z80dev texts) × (takes z80dev texts ≡ true → ⊥) × RefusesWords k old new status)
     ⊎ (((n : ℕ) × IsNotText words n × RefusesWord n old new status)
     ⊎ NoMemoryFor old new status)))

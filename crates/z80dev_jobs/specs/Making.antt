@@ -19,8 +19,10 @@ use Rattle.z80dev_make.specs.declared.jumps.Jumps.{Jumps}
 
 -- Before and after: the files, and standard output.
 pub record Effect : Type 0 where
-  pub old new : Folder
-  pub before after : Stream
+  pub old : Folder
+  pub new : Folder
+  pub before : Stream
+  pub after : Stream
 
 abbrev pub effect_of : Folder → Folder → Stream → Stream → Effect
 effect_of old new before after = record { old = old; new = new; before = before; after = after }

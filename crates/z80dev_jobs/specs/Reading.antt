@@ -46,7 +46,8 @@ ReadsAll old new paths (Err e) = IsOneNotRead old new paths e
 pub record Reader : Type 0 where
   pub left : Option (List ℕ)
   pub failed : Bool
-  pub reads interruptions : ℕ
+  pub reads : ℕ
+  pub interruptions : ℕ
 
 abbrev pub reader_of : Option (List ℕ) → Bool → ℕ → ℕ → Reader
 reader_of left failed reads interruptions = record { left = left; failed = failed; reads = reads; interruptions = interruptions }

@@ -7,7 +7,8 @@ use Rattle.z80dev_jobs.specs.Reading.{Reader}
 pub record World : Type 0 where
   pub folder : Folder
   pub input : Reader
-  pub output errors : Stream
+  pub output : Stream
+  pub errors : Stream
 
 abbrev pub world_of : Folder → Reader → Stream → Stream → World
 world_of folder input output errors = record { folder = folder; input = input; output = output; errors = errors }

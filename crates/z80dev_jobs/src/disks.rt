@@ -1,6 +1,7 @@
 //! The commands on images of disks.
 
-ghost use Rattle.z80dev_jobs.specs.Disks.{BlankEnds, DirEnds, GetEnds, PutEnds};
+ghost use Rattle.std.specs.Prelude.{◌≡◌};
+ghost use Rattle.z80dev_jobs.specs.Disks.{BlankEnds, DirEnds, GetEnds, PutEnds, kind_of};
 ghost use Rattle.z80dev_jobs.specs.Making.{effect_of, ended};
 ghost use Rattle.z80dev_jobs.specs.Private.Steps.{IsName};
 
@@ -65,6 +66,17 @@ pub(crate) fn get_file<'a, F: Files, W: Sink>(
     Ok(finish(alloc, path, &get(alloc, &bytes, &name), files, output))
 }
 
+/// The kind of disk that `blank` makes.
+fn kind_of(mega: bool) -> DiskKind
+    ensures { result ≡ kind_of mega }
+{
+    if mega {
+        DiskKind::Megabyte
+    } else {
+        DiskKind::EightInch
+    }
+}
+
 /// Makes the image of a blank disk.
 pub(crate) fn blank_image<'a, F: Files, W: Sink>(
     alloc: Global,
@@ -75,10 +87,5 @@ pub(crate) fn blank_image<'a, F: Files, W: Sink>(
 ) -> End<'a>
     ensures { BlankEnds mega image.now (effect_of (F.folder files.old) (F.folder files.new) (W.stream output.old) (W.stream output.new)) result }
 {
-    let kind = if mega {
-        DiskKind::Megabyte
-    } else {
-        DiskKind::EightInch
-    };
-    finish(alloc, image, &blank(alloc, kind), files, output)
+    finish(alloc, image, &blank(alloc, kind_of(mega)), files, output)
 }

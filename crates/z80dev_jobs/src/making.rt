@@ -83,7 +83,7 @@ fn build_texts<'a, F: Files, W: Sink>(
     output: &mut W,
 ) -> Result<Option<String>, End<'a>>
     requires { length paths.now ≡ length texts.now }
-    ensures { EndsWith (IsBuiltOf wanted.out.now wanted.grow wanted.list wanted.verbose (map (λ path. path.now) paths.now) (map (λ text. text.items) texts.now) (effect_of (F.folder files.old) (F.folder files.new) (W.stream output.old) (W.stream output.new))) result }
+    ensures { EndsWith (IsBuiltOf wanted.entry.out.now wanted.entry.grow wanted.entry.list wanted.entry.verbose (map (λ path. path.now) paths.now) (map (λ text. text.items) texts.now) (effect_of (F.folder files.old) (F.folder files.new) (W.stream output.old) (W.stream output.new))) result }
 {
     let sources = sources_of(alloc, paths, texts)?;
     let Made { answer, jumps } = build(alloc, &sources, wanted.grow, wanted.list);
@@ -103,7 +103,7 @@ pub(crate) fn build_files<'a, F: Files, W: Sink>(
     files: &mut F,
     output: &mut W,
 ) -> Result<Option<String>, End<'a>>
-    ensures { EndsWith (BuildEnds wanted.out.now wanted.grow wanted.list wanted.verbose (map (λ path. path.now) paths.now) (effect_of (F.folder files.old) (F.folder files.new) (W.stream output.old) (W.stream output.new))) result }
+    ensures { EndsWith (BuildEnds wanted.entry.out.now wanted.entry.grow wanted.entry.list wanted.entry.verbose (map (λ path. path.now) paths.now) (effect_of (F.folder files.old) (F.folder files.new) (W.stream output.old) (W.stream output.new))) result }
 {
     let texts = read_all(alloc, paths, files)?;
     build_texts(alloc, wanted, paths, &texts, files, output)

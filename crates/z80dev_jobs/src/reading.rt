@@ -28,7 +28,7 @@ pub(crate) fn read_if_given<'a, F: Files>(
     path: Option<&'a str>,
     files: &mut F,
 ) -> Result<Vec<u8>, End<'a>>
-    ensures { ReadsIfGiven (F.folder files.old) (F.folder files.new) path result }
+    ensures { ReadsIfGiven (F.folder files.old) (F.folder files.new) path.entry result }
 {
     match path {
         Some(path) => read(alloc, path, files),
@@ -47,7 +47,9 @@ pub(crate) fn read_all<'a, F: Files>(
     let mut texts = Vec::with_capacity(alloc, paths.len())?;
     for path in paths {
         let text = read(alloc, path, files)?;
-        texts.push(text)?;
+        if texts.push(text).is_err() {
+            return Err(End::NoMemory);
+        }
     }
     Ok(texts)
 }

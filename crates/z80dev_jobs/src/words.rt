@@ -1,7 +1,8 @@
 //! The words that the program was called with.
 
-ghost use Rattle.std.specs.Prelude.{map};
-ghost use Rattle.z80dev_jobs.specs.Words.{ReadsWords};
+ghost use Rattle.std.specs.Prelude.{◌≡◌, map};
+ghost use Rattle.z80dev_jobs.specs.declared.words.WordsFault.TheVariants as fault;
+ghost use Rattle.z80dev_jobs.specs.Words.{ReadsWord, ReadsWords};
 
 use std::alloc::{AllocError, Global};
 
@@ -47,7 +48,9 @@ pub(crate) fn texts_of(alloc: Global, words: Vec<Vec<u8>>) -> Result<Vec<String>
     let mut texts = Vec::with_capacity(alloc, words.len())?;
     for (number, word) in words.into_iter().enumerate() {
         let text = text_of(alloc, number, word)?;
-        texts.push(text)?;
+        if texts.push(text).is_err() {
+            return Err(WordsFault::NoMemory);
+        }
     }
     Ok(texts)
 }

@@ -1,0 +1,34 @@
+-- From what `finish` does to what a command does.
+use Rattle.std.proofs.Common.{◌≡◌, ℕ, List, Option, None, Some, ap, inl, inr, subst, string_bytes}
+use Rattle.std.specs.Prelude.{◌⊎◌}
+use Rattle.std.specs.Option.{option_map}
+use Rattle.streams.specs.Stream.{Stream}
+use Rattle.z80dev_finish.specs.Answers.{Answer, MemoryAside, answer_by}
+use Rattle.z80dev_finish.specs.Files.{Folder}
+use Rattle.z80dev_finish.specs.Finishing.{Finishes, IsWhy}
+use Rattle.z80dev_finish.specs.declared.answer.Answer as made
+use Rattle.z80dev_finish.specs.declared.end.End.{End}
+use Rattle.z80dev_finish.specs.declared.end.End.TheVariants as end
+use Rattle.z80dev_jobs.specs.Making.{CarriesOut, IsCarriedOut, SaysWhy, effect_of}
+
+why_said : {R : Type 0} (text : R → List ℕ) (refusal : Option R) (said : List ℕ) → IsWhy (λ r. Some (text r)) refusal said → SaysWhy (option_map text refusal) said
+why_said text None said none = absurd none
+why_said text (Some why) said is = is
+
+finished : {R : Type 0} (text : R → List ℕ) (base : List ℕ) (a : made.Answer R) (old new : Folder) (before after : Stream) (e : End)
+    → Finishes (λ r. Some (text r)) base a old new before after e → IsCarriedOut base (answer_by text a) (effect_of old new before after) e
+finished text base a old new before after end.Done does = (does.0, does.1, ap (option_map text) does.2)
+finished text base a old new before after (end.Refused said) does = (does.0, does.1, why_said text a.refusal (string_bytes said) does.2)
+finished text base a old new before after (end.File path last) does = does
+finished text base a old new before after end.Stream does = does
+finished text base a old new before after end.NoMemory does = does
+
+-- .. over files that were read meanwhile, which changes none
+pub carried : {R : Type 0} (text : R → List ℕ) (base : List ℕ) (a : made.Answer R) (old mid new : Folder) (before after : Stream) (e : End) → mid ≡ old
+    → Finishes (λ r. Some (text r)) base a mid new before after e → IsCarriedOut base (answer_by text a) (effect_of old new before after) e
+carried text base a old mid new before after e same does =
+    subst (λ f. IsCarriedOut base (answer_by text a) (effect_of f new before after) e) same (finished text base a mid new before after e does)
+
+pub aside : (Is Other : Answer → Type 0) (a : Answer) → ((b : Answer) → Is b → Other b) → MemoryAside Is a → MemoryAside Other a
+aside Is Other a more (inl out) = inl out
+aside Is Other a more (inr is) = inr (more a is)

@@ -1,0 +1,13 @@
+use Rattle.std.proofs.Common.{inl, map, subst}
+use Rattle.z80dev_finish.specs.Answers.{MemoryAside, answer_by}
+use Rattle.z80dev_jobs.proofs.Carried.{carried}
+use Rattle.z80dev_make.specs.Link.{IsLink}
+use Rattle.z80dev_make.specs.Answers.{told_text}
+use Rattle.z80dev_jobs.proofs.making.link_files.Goals as goal
+
+pub returns : goal.returns
+returns g c =
+    let read = c.in_ok-objects.ensures in
+    let answer = answer_by told_text c.link.result in
+    inl (map (λ text. text.items) c.in_ok-objects.objects.items, read.1, (answer, subst (λ texts. MemoryAside (IsLink (map (λ text. text.items) texts)) answer) c.deref.ensures.value c.link.ensures,
+        carried told_text c.args.out.now c.link.result (g.F.Files.folder c.args.files.now) (g.F.Files.folder c.read_all.new.files) (g.F.Files.folder c.finish.new.files) (g.W.Sink.stream c.args.output.now) (g.W.Sink.stream c.finish.new.output) c.finish.result read.0 c.finish.ensures))
