@@ -1,15 +1,19 @@
 -- From what `finish` does to what a command does.
-use Rattle.std.proofs.Common.{◌≡◌, ℕ, List, Option, None, Some, ap, inl, inr, subst, string_bytes}
+use Rattle.std.proofs.Common.{◌≡◌, ℕ, List, Option, None, Some, Result, Ok, Err, ap, inl, inr, refl, subst, string_bytes}
 use Rattle.std.specs.Prelude.{◌⊎◌}
 use Rattle.std.specs.Option.{option_map}
 use Rattle.streams.specs.Stream.{Stream}
+use Rattle.streams.specs.Writing.{Puts}
+use Rattle.streams.specs.declared.writing.WriteFailed.{WriteFailed}
 use Rattle.z80dev_finish.specs.Answers.{Answer, MemoryAside, answer_by}
+use Rattle.z80dev_finish.specs.End.{IsPut, Tells}
 use Rattle.z80dev_finish.specs.Files.{Folder}
 use Rattle.z80dev_finish.specs.Finishing.{Finishes, IsWhy}
 use Rattle.z80dev_finish.specs.declared.answer.Answer as made
 use Rattle.z80dev_finish.specs.declared.end.End.{End}
 use Rattle.z80dev_finish.specs.declared.end.End.TheVariants as end
-use Rattle.z80dev_jobs.specs.Making.{CarriesOut, IsCarriedOut, SaysWhy, effect_of}
+use Rattle.z80dev_jobs.specs.Command.{TellsWith}
+use Rattle.z80dev_jobs.specs.Making.{IsCarriedOut, LineAt, SaysWhy, effect_of}
 
 why_said : {R : Type 0} (text : R → List ℕ) (refusal : Option R) (said : List ℕ) → IsWhy (λ r. Some (text r)) refusal said → SaysWhy (option_map text refusal) said
 why_said text None said none = absurd none
@@ -32,3 +36,23 @@ carried text base a old mid new before after e same does =
 pub aside : (Is Other : Answer → Type 0) (a : Answer) → ((b : Answer) → Is b → Other b) → MemoryAside Is a → MemoryAside Other a
 aside Is Other a more (inl out) = inl out
 aside Is Other a more (inr is) = inr (more a is)
+
+-- a line is put, whatever comes of it
+pub put_so : (old new : Stream) (line : List ℕ) (result : Result Unit WriteFailed) → Puts old new line result → IsPut old new line
+put_so old new line (Ok _) put = inl put
+put_so old new line (Err _) put = inr put
+
+-- an end at which not all is done has no line
+pub no_line : (e : End) (wanted : Option (List ℕ)) → (e ≡ end.Done → ⊥) → LineAt e None wanted
+no_line end.Done wanted not = absurd (not refl)
+no_line (end.Refused said) wanted not = refl
+no_line (end.File path last) wanted not = refl
+no_line end.Stream wanted not = refl
+no_line end.NoMemory wanted not = refl
+
+pub tells_alone : (e : End) (old new : Stream) → Tells e old new → TellsWith None e old new
+tells_alone end.Done old new tells = tells
+tells_alone (end.Refused said) old new tells = tells
+tells_alone (end.File path last) old new tells = tells
+tells_alone end.Stream old new tells = tells
+tells_alone end.NoMemory old new tells = tells

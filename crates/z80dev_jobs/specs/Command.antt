@@ -62,34 +62,34 @@ JobEnds (Get image name file) old new status = Reports (GetEnds image.now name.n
 JobEnds (Blank mega image) old new status = Reports (BlankEnds mega image.now) old new status
 JobEnds (Run disk steps program words) old new status = RunEnds disk (unwrap_or steps default_steps) program.now (map (λ word. word.now) words.items) old new status
 
--- no file is touched, and standard input is not read
+-- No file is touched, and standard input is not read
 pub record Untouched (old new : World) : Type 0 where
   pub folder : new.folder ≡ old.folder
   pub input : new.input ≡ old.input
 
 -- Memory ran out before the job began.
-abbrev pub NoMemoryFor : World → World → ℕ → Type 0
-NoMemoryFor old new status = (status ≡ 1) × Tells end.NoMemory old.errors new.errors × (new.output ≡ old.output)
+abbrev pub LacksMemory : Stream → Stream → Stream → Stream → ℕ → Type 0
+LacksMemory before after old new status = (status ≡ 1) × (after ≡ before) × Tells end.NoMemory old new
 
 -- A word is not UTF-8.
-abbrev pub RefusesWord : ℕ → World → World → ℕ → Type 0
-RefusesWord n old new status = (status ≡ 2) × IsPut old.errors new.errors (error_line (codes "word " ++ decimal n ++ codes " is not UTF-8")) × (new.output ≡ old.output)
+abbrev pub RefusesWord : ℕ → Stream → Stream → Stream → Stream → ℕ → Type 0
+RefusesWord n before after old new status = (status ≡ 2) × (after ≡ before) × IsPut old new (error_line (codes "word " ++ decimal n ++ codes " is not UTF-8"))
 
 -- The help or the version is printed.
-abbrev pub Shows : World → World → ℕ → Type 0
-Shows old new status = (text : List ℕ)
-    × (((status ≡ 0) × PutsAll old.output new.output text × (new.errors ≡ old.errors)) ⊎ ((status ≡ 3) × PutsFront old.output new.output text × Tells end.Stream old.errors new.errors))
+abbrev pub Shows : Stream → Stream → Stream → Stream → ℕ → Type 0
+Shows before after old new status = (text : List ℕ)
+    × (((status ≡ 0) × PutsAll before after text × (new ≡ old)) ⊎ ((status ≡ 3) × PutsFront before after text × Tells end.Stream old new))
 
 -- What is wrong with the words is put on standard error.
-abbrev pub RefusesUsage : World → World → ℕ → Type 0
-RefusesUsage old new status = (status ≡ 2) × (text : List ℕ) × IsPut old.errors new.errors text × (new.output ≡ old.output)
+abbrev pub RefusesUsage : Stream → Stream → Stream → Stream → ℕ → Type 0
+RefusesUsage before after old new status = (status ≡ 2) × (after ≡ before) × (text : List ℕ) × IsPut old new text
 
 -- what is done with words that ask for no job, by the kind of their fault
-abbrev pub RefusesWords : ErrorKind → World → World → ℕ → Type 0
-RefusesWords kind.DisplayHelp old new status = Shows old new status
-RefusesWords kind.DisplayVersion old new status = Shows old new status
-RefusesWords kind.OutOfMemory old new status = ⊥
-RefusesWords other old new status = RefusesUsage old new status
+abbrev pub RefusesWords : ErrorKind → Stream → Stream → Stream → Stream → ℕ → Type 0
+RefusesWords kind.DisplayHelp before after old new status = Shows before after old new status
+RefusesWords kind.DisplayVersion before after old new status = Shows before after old new status
+RefusesWords kind.OutOfMemory before after old new status = ⊥
+RefusesWords other before after old new status = RefusesUsage before after old new status
 
 -- The command with its words, as bytes: the words ask for a job, which is done; or they ask for none, for the help, or for the version; or a word
 -- is not UTF-8; or memory ran out before it was known what they ask for.
@@ -97,6 +97,6 @@ abbrev pub CommandEnds : List (List ℕ) → World → World → ℕ → Type 0
 CommandEnds words old new status =
     ((texts : List (List ℕ)) × (job : Job) × AreTexts words texts × IsJob texts job × JobEnds job old new status)
     ⊎ (Untouched old new
-    × (((texts : List (List ℕ)) × (k : ErrorKind) × AreTexts words texts × IsAmong k (fault_of z80dev texts) × (takes z80dev texts ≡ true → ⊥) × RefusesWords k old new status)
-    ⊎ (((n : ℕ) × IsNotText words n × RefusesWord n old new status)
-    ⊎ NoMemoryFor old new status)))
+    × (((texts : List (List ℕ)) × (k : ErrorKind) × AreTexts words texts × IsAmong k (fault_of z80dev texts) × (takes z80dev texts ≡ true → ⊥) × RefusesWords k old.output new.output old.errors new.errors status)
+    ⊎ (((n : ℕ) × IsNotText words n × RefusesWord n old.output new.output old.errors new.errors status)
+    ⊎ LacksMemory old.output new.output old.errors new.errors status)))

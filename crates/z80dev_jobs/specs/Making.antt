@@ -76,9 +76,14 @@ told false jumps = None
 told true None = None
 told true (Some j) = Some (jumps_text j ++ 10 ∷ [])
 
--- The program of sources that were read is written. The line of its jumps goes with the end at which all is done.
+-- The line goes with the end at which all is done.
+abbrev pub LineAt : End → Option (List ℕ) → Option (List ℕ) → Type 0
+LineAt end.Done line wanted = line ≡ wanted
+LineAt other line wanted = line ≡ None
+
+-- The program of sources that were read is written, and its jumps are counted.
 abbrev pub IsBuiltOf : List ℕ → Bool → Bool → Bool → List (List ℕ) → List (List ℕ) → Effect → Option (List ℕ) → End → Type 0
-IsBuiltOf out grow list verbose paths texts x line e = (jumps : Option Jumps) × (line ≡ told verbose jumps)
+IsBuiltOf out grow list verbose paths texts x line e = (jumps : Option Jumps) × LineAt e line (told verbose jumps)
     × CarriesOut out (λ a. (files : List SourceFile) × AreFiles paths texts files × IsMade files grow list a jumps) x e
 
 -- `build`: the sources are read, and their program is written.

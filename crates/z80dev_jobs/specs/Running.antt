@@ -1,6 +1,7 @@
 -- How the command `run` ends.
-use Rattle.std.specs.Prelude.{◌≡◌, ◌≢◌, ◌⊎◌, ℕ, List, [], ◌∷◌, ◌++◌, Option, None, Some, Result, Ok, Err, codes, string_bytes}
+use Rattle.std.specs.Prelude.{◌≡◌, ◌≢◌, ◌⊎◌, ℕ, List, [], ◌∷◌, ◌++◌, Option, None, Some, Result, Ok, Err, Vec, codes, string_bytes}
 use Rattle.std.specs.Borrow.{Bor}
+use Rattle.std.specs.Global.{Global}
 use Rattle.cpm_fcb.specs.declared.stop.Stop.TheVariants as stop
 use Rattle.cpm_run.specs.declared.ending.Why.{Why}
 use Rattle.cpm_run.specs.declared.ending.Why.TheVariants as why
@@ -23,7 +24,9 @@ use Rattle.z80dev_run.specs.Program.{IsRan}
 -- The image of the disk is read, if there is one, then the program, then standard input. The first that is not read is the end.
 abbrev pub ReadsInputs : Option (Bor (List ℕ)) → List ℕ → Folder → Folder → Reader → Reader → Result Inputs End → Type 0
 ReadsInputs disk path old new before after (Ok inputs) = ReadsIfGiven old new disk (Ok inputs.image) × IsRead old path inputs.program.items × ReadsInput before after (Ok inputs.typed)
-ReadsInputs disk path old new before after (Err e) = ((ReadsIfGiven old new disk (Err e) ⊎ IsNotRead old new path e) × (after ≡ before)) ⊎ ((new ≡ old) × IsInputUnread before after e)
+ReadsInputs disk path old new before after (Err e) = (ReadsIfGiven old new disk (Err e) × (after ≡ before))
+    ⊎ ((image : Vec ℕ Global) × ReadsIfGiven old old disk (Ok image)
+    × ((IsNotRead old new path e × (after ≡ before)) ⊎ ((program : List ℕ) × IsRead old path program × (new ≡ old) × IsInputUnread before after e)))
 
 -- The bytes are no disk, which is the end; or memory ran out.
 abbrev pub IsNoDisk : List ℕ → End → Type 0
@@ -42,14 +45,11 @@ abbrev pub why_at : Why → Result Unit WriteFailed → Why
 why_at end (Ok _) = end
 why_at end (Err _) = why.Stopped stop.ConsoleFault
 
--- the line of a file that cannot be written, and its status
-abbrev pub BlamesDisk : Option (Bor (List ℕ)) → Stream → Stream → ℕ → Type 0
-BlamesDisk None old new status = ⊥
-BlamesDisk (Some path) old new status = (status ≡ 3) × IsPut old new (error_line (codes "file " ++ path.now))
-
+-- It is reported that the image cannot be written, or why the run ended.
 abbrev pub ReportsRun : Option (Bor (List ℕ)) → Result Unit WriteFailed → Why → ℕ → Stream → Stream → ℕ → Type 0
-ReportsRun disk (Ok _) end pc old new status = Concludes end pc old new status
-ReportsRun disk (Err _) end pc old new status = BlamesDisk disk old new status
+ReportsRun None kept end pc old new status = Concludes end pc old new status
+ReportsRun (Some path) (Ok _) end pc old new status = Concludes end pc old new status
+ReportsRun (Some path) (Err _) end pc old new status = (status ≡ 3) × IsPut old new (error_line (codes "file " ++ path.now))
 
 -- What the program printed is handed on, the image that it leaves is written, and it is reported why it stopped, in this order.
 abbrev pub EndsRun : Option (Bor (List ℕ)) → Why → ℕ → List ℕ → Stream → Stream → Folder → Folder → Stream → Stream → ℕ → Type 0

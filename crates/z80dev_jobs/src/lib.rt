@@ -3,13 +3,13 @@
 //! [`command`] is all that the program calls. A [`Host`] is what it works on: files by their paths, and the three standard streams.
 #![tactic(auto)]
 
-mod command;
 mod disks;
+mod dispatch;
 mod host;
 mod making;
 mod reading;
 mod running;
 mod words;
 
-pub use command::command;
+pub use dispatch::command;
 pub use host::{Ended, Host};

@@ -57,7 +57,8 @@ fn sources_of<'a>(
     ensures { IfOk result (λ files. AreFiles (map (λ path. path.now) paths.now) (map (λ text. text.items) texts.now) files.items) }
 {
     let mut sources = Vec::with_capacity(alloc, paths.len())?;
-    for (path, text) in paths.iter().zip(texts) {
+    for path in paths {
+        let text = &texts[sources.len()];
         sources.push(SourceFile { path: *path, text })?;
     }
     Ok(sources)

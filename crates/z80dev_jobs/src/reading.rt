@@ -47,9 +47,9 @@ pub(crate) fn read_all<'a, F: Files>(
     let mut texts = Vec::with_capacity(alloc, paths.len())?;
     for path in paths {
         let text = read(alloc, path, files)?;
-        if texts.push(text).is_err() {
+        let Ok(()) = texts.push(text) else {
             return Err(End::NoMemory);
-        }
+        };
     }
     Ok(texts)
 }

@@ -46,11 +46,11 @@ pub(crate) fn texts_of(alloc: Global, words: Vec<Vec<u8>>) -> Result<Vec<String>
     ensures { ReadsWords (map (λ word. word.items) words.items) result }
 {
     let mut texts = Vec::with_capacity(alloc, words.len())?;
-    for (number, word) in words.into_iter().enumerate() {
-        let text = text_of(alloc, number, word)?;
-        if texts.push(text).is_err() {
+    for word in words {
+        let text = text_of(alloc, texts.len(), word)?;
+        let Ok(()) = texts.push(text) else {
             return Err(WordsFault::NoMemory);
-        }
+        };
     }
     Ok(texts)
 }

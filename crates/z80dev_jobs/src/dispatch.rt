@@ -1,8 +1,13 @@
 //! The command.
 
-ghost use Rattle.std.specs.Prelude.{◌≡◌, ◌≤◌, false, map, string_bytes, unwrap_or};
+ghost use Rattle.std.specs.Prelude.{◌≡◌, ◌≤◌, false, map};
 ghost use Rattle.z80dev.specs.declared.text.TheConstants.{MOST_READS};
-ghost use Rattle.z80dev_jobs.specs.Command.{CommandEnds, JobEnds, RefusesError, RefusesFault, RunEnds, default_steps};
+ghost use Rattle.clap.specs.Words.{kind_of};
+ghost use Rattle.z80dev_finish.specs.End.{Tells, end_status};
+ghost use Rattle.z80dev_jobs.specs.Command.{CommandEnds, JobEnds};
+ghost use Rattle.z80dev_jobs.specs.Making.{effect_of, ended};
+ghost use Rattle.z80dev_jobs.specs.Private.Steps.{EndsBuild, RefusesError, RefusesFault};
+ghost use Rattle.z80dev_jobs.specs.Running.{RunEnds};
 ghost use Rattle.z80dev_jobs.specs.Reading.{reader_of};
 ghost use Rattle.z80dev_jobs.specs.World.{world_of};
 
@@ -14,9 +19,8 @@ use crate::words::{WordsFault, texts_of};
 use clap::Error;
 use clap::error::ErrorKind;
 use std::alloc::Global;
-use z80dev::{
-    DONE, End, Files, Input, Job, Sink, USAGE, commands, pipe, print, put, put_all, report, tell,
-};
+use streams::{print, put, tell};
+use z80dev::{DONE, End, Files, Input, Job, Sink, USAGE, commands, pipe, report};
 use z80dev_run::Ran;
 
 /// Reports an end, however a function passed it on, and gives the exit status.
@@ -81,7 +85,7 @@ fn build_job<'a, F: Files, W: Sink, E: Sink>(
     output: &mut W,
     errors: &mut E,
 ) -> u8
-    ensures { BuildJobEnds wanted.out.now wanted.grow wanted.list wanted.verbose (map (λ path. path.now) sources.now) (effect_of (F.folder files.old) (F.folder files.new) (W.stream output.old) (W.stream output.new)) (E.stream errors.old) (E.stream errors.new) result }
+    ensures { EndsBuild wanted.entry.out.now wanted.entry.grow wanted.entry.list wanted.entry.verbose (map (λ path. path.now) sources.now) (effect_of (F.folder files.old) (F.folder files.new) (W.stream output.old) (W.stream output.new)) (E.stream errors.old) (E.stream errors.new) result }
 {
     match build_files(alloc, wanted, sources, files, output) {
         Ok(Some(line)) => {
@@ -94,17 +98,19 @@ fn build_job<'a, F: Files, W: Sink, E: Sink>(
 }
 
 /// Runs a program, and gives the exit status with what the command worked on.
-fn run_job<F: Files, I: Input, W: Sink + Drop, E: Sink>(
+fn run_job<'a, F: Files, I: Input, W: Sink + Drop, E: Sink>(
     alloc: Global,
-    disk: Option<&str>,
+    disk: Option<&'a str>,
     steps: u64,
-    path: &str,
-    words: &[&str],
+    path: &'a str,
+    words: &[&'a str],
     mut host: Host<F, I, W, E>,
 ) -> Ended<F, I, W, E>
-    requires sound { I.failed host.entry.input ≡ false }
-    requires unread { I.reads host.entry.input ≡ 0 }
-    requires calm { I.interruptions host.entry.input ≡ 0 }
+    requires sound { I.failed host.input ≡ false }
+    requires unread { I.reads host.input ≡ 0 }
+    requires calm { I.interruptions host.input ≡ 0 }
+    ensures ends { RunEnds disk.entry steps path.now (map (λ word. word.now) words.now) (world_of (F.folder host.files) (reader_of (I.remaining host.input) (I.failed host.input) (I.reads host.input) (I.interruptions host.input)) (W.stream host.output) (E.stream host.errors)) (world_of (F.folder result.host.files) (reader_of (I.remaining result.host.input) (I.failed result.host.input) (I.reads result.host.input) (I.interruptions result.host.input)) (W.stream result.host.output) (E.stream result.host.errors)) result.status }
+    ensures reads { I.reads result.host.input ≤ MOST_READS }
 {
     let inputs = match inputs_of(alloc, disk, path, &mut host.files, &mut host.input) {
         Ok(inputs) => inputs,
@@ -144,10 +150,10 @@ fn work<F: Files, I: Input, W: Sink + Drop, E: Sink>(
     job: Job<'_>,
     mut host: Host<F, I, W, E>,
 ) -> Ended<F, I, W, E>
-    requires sound { I.failed host.entry.input ≡ false }
-    requires unread { I.reads host.entry.input ≡ 0 }
-    requires calm { I.interruptions host.entry.input ≡ 0 }
-    ensures { JobEnds job.entry (world_of (F.folder host.entry.files) (reader_of (I.remaining host.entry.input) (I.failed host.entry.input) (I.reads host.entry.input) (I.interruptions host.entry.input)) (W.stream host.entry.output) (E.stream host.entry.errors)) (world_of (F.folder result.host.files) (reader_of (I.remaining result.host.input) (I.failed result.host.input) (I.reads result.host.input) (I.interruptions result.host.input)) (W.stream result.host.output) (E.stream result.host.errors)) result.status }
+    requires sound { I.failed host.input ≡ false }
+    requires unread { I.reads host.input ≡ 0 }
+    requires calm { I.interruptions host.input ≡ 0 }
+    ensures ends { JobEnds job.entry (world_of (F.folder host.files) (reader_of (I.remaining host.input) (I.failed host.input) (I.reads host.input) (I.interruptions host.input)) (W.stream host.output) (E.stream host.errors)) (world_of (F.folder result.host.files) (reader_of (I.remaining result.host.input) (I.failed result.host.input) (I.reads result.host.input) (I.interruptions result.host.input)) (W.stream result.host.output) (E.stream result.host.errors)) result.status }
     ensures reads { I.reads result.host.input ≤ MOST_READS }
 {
     let status = match job {
@@ -215,10 +221,10 @@ pub fn command<F: Files, I: Input, W: Sink + Drop, E: Sink>(
     words: Vec<Vec<u8>>,
     mut host: Host<F, I, W, E>,
 ) -> Ended<F, I, W, E>
-    requires sound { I.failed host.entry.input ≡ false }
-    requires unread { I.reads host.entry.input ≡ 0 }
-    requires calm { I.interruptions host.entry.input ≡ 0 }
-    ensures ends { CommandEnds (map (λ word. word.items) words.items) (world_of (F.folder host.entry.files) (reader_of (I.remaining host.entry.input) (I.failed host.entry.input) (I.reads host.entry.input) (I.interruptions host.entry.input)) (W.stream host.entry.output) (E.stream host.entry.errors)) (world_of (F.folder result.host.files) (reader_of (I.remaining result.host.input) (I.failed result.host.input) (I.reads result.host.input) (I.interruptions result.host.input)) (W.stream result.host.output) (E.stream result.host.errors)) result.status }
+    requires sound { I.failed host.input ≡ false }
+    requires unread { I.reads host.input ≡ 0 }
+    requires calm { I.interruptions host.input ≡ 0 }
+    ensures ends { CommandEnds (map (λ word. word.items) words.items) (world_of (F.folder host.files) (reader_of (I.remaining host.input) (I.failed host.input) (I.reads host.input) (I.interruptions host.input)) (W.stream host.output) (E.stream host.errors)) (world_of (F.folder result.host.files) (reader_of (I.remaining result.host.input) (I.failed result.host.input) (I.reads result.host.input) (I.interruptions result.host.input)) (W.stream result.host.output) (E.stream result.host.errors)) result.status }
     ensures reads { I.reads result.host.input ≤ MOST_READS }
 {
     let texts = match texts_of(alloc, words) {
