@@ -20,6 +20,7 @@ fn tell_why<E: Sink>(alloc: Global, why: Why, pc: u16, errors: &mut E)
 
 /// Says why a run stopped, if it has not finished, and returns the exit status: 0 if it finished, and else 1 with one line on `errors`,
 /// `stopped: WHY at PPPP`. A failure of `errors` changes nothing else.
+#[tactic(auto, using(crate::proofs::Told::concluded))]
 pub fn conclude<E: Sink>(alloc: Global, why: Why, pc: u16, errors: &mut E) -> u8
     ensures { Concludes why pc (E.stream errors.old) (E.stream errors.new) result }
 {
