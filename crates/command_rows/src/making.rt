@@ -6,21 +6,24 @@ use crate::{show, text_of};
 use anyhow::Context;
 use std::alloc::Global;
 use std::io::Write;
-use z80dev::{Answer, Output, SourceFile, Store, Told, WriteFailed, asm, build, finish, link};
+use z80dev::{
+    Answer, Files, MemorySink, SourceFile, Told, Unread, WriteFailed, asm, build, finish, link,
+    report,
+};
 
-/// Files in memory, of which only some can be written, and whether one could not be.
+/// Files in memory, of which only some can be written, and how often one could not be.
 #[derive(Drop)]
 struct Shelf {
     alloc: Global,
     room: usize,
     files: Vec<(String, Vec<u8>)>,
-    failed: bool,
+    failures: u64,
 }
 
 impl Shelf {
-    /// The file behind those before, if there is room.
+    /// Puts the file after those before, if there is room.
     fn add(&mut self, path: &str, bytes: &[u8]) -> Result<(), WriteFailed>
-        ensures { self.new.failed ≡ self.old.failed }
+        ensures { self.new.failures ≡ self.old.failures }
     {
         if self.files.len() == self.room {
             return Err(WriteFailed);
@@ -39,25 +42,31 @@ impl Shelf {
     }
 }
 
-impl Store for Shelf {
+impl Files for Shelf {
     ghost use Rattle.std.specs.Prelude.{None};
 
-    ghost written = { λ _. None };
+    ghost folder = { λ shelf. record { files = None; failures = shelf.failures } };
 
-    ghost failed = { λ shelf. shelf.failed };
+    /// No call of a row reads a file, so this fails.
+    fn read(&mut self, _: Global, _: &str) -> Result<Vec<u8>, Unread> {
+        self.failures = self.failures.saturating_add(1);
+        Err(Unread::File)
+    }
 
     fn write(&mut self, path: &str, bytes: &[u8]) -> Result<(), WriteFailed> {
-        let answer = self.add(path, bytes);
-        if answer.is_err() {
-            self.failed = true;
+        match self.add(path, bytes) {
+            Ok(()) => Ok(()),
+            Err(fault) => {
+                self.failures = self.failures.saturating_add(1);
+                Err(fault)
+            }
         }
-        answer
     }
 }
 
 /// How `finish` ended: the status, what is printed and said, and the files.
 #[derive(Drop)]
-struct End {
+struct Outcome {
     status: u8,
     output: Vec<u8>,
     errors: Vec<u8>,
@@ -65,30 +74,31 @@ struct End {
 }
 
 /// How `finish` ends for an answer, on a shelf with room for that many files.
-fn finished(alloc: Global, answer: &Answer<Told<'_>>, room: usize) -> End {
+fn finished(alloc: Global, answer: &Answer<Told<'_>>, room: usize) -> Outcome {
     let mut shelf = Shelf {
         alloc,
         room,
         files: Vec::new(alloc),
-        failed: false,
+        failures: 0,
     };
-    let mut output = Output::new(Vec::new(alloc));
-    let mut errors = Output::new(Vec::new(alloc));
-    let status = finish(alloc, "P", answer, &mut shelf, &mut output, &mut errors);
-    End {
+    let mut output = MemorySink::new(alloc);
+    let mut errors = MemorySink::new(alloc);
+    let end = finish(alloc, "P", answer, &mut shelf, &mut output);
+    let status = report(&end, &mut errors);
+    Outcome {
         status,
-        output: output.into_stream(),
-        errors: errors.into_stream(),
+        output: output.into_bytes(),
+        errors: errors.into_bytes(),
         files: shelf.files,
     }
 }
 
 /// Prints how `finish` ended.
-fn show_finished<W: Write>(out: &mut W, end: &End) -> Result<(), anyhow::Error> {
-    write!(out, " {}", end.status)?;
-    show(out, &end.output)?;
-    show(out, &end.errors)?;
-    for (path, bytes) in end.files.iter() {
+fn show_finished<W: Write>(out: &mut W, finished: &Outcome) -> Result<(), anyhow::Error> {
+    write!(out, " {}", finished.status)?;
+    show(out, &finished.output)?;
+    show(out, &finished.errors)?;
+    for (path, bytes) in finished.files.iter() {
         write!(out, " {path}")?;
         show(out, bytes)?;
     }

@@ -5,16 +5,16 @@ use crate::{show, text_of};
 use anyhow::{Context, anyhow};
 use std::alloc::Global;
 use std::io::Write;
-use z80dev::{Bytes, Output, Watched, check_texts, pipe};
+use z80dev::{Bytes, MemorySink, Watched, WatchedSink, check_texts, pipe, report};
 
-/// How a call ended: its status, what was printed and said, and whether either writer failed.
+/// How a call ended: its status, what was printed and reported, and how often either writer failed.
 #[derive(Drop)]
 struct Ended {
     status: u8,
     output: Vec<u8>,
     errors: Vec<u8>,
-    output_failed: bool,
-    errors_failed: bool,
+    output_failures: u64,
+    errors_failures: u64,
 }
 
 /// Prints how a call ended.
@@ -22,10 +22,10 @@ fn show_ended<W: Write>(out: &mut W, ended: &Ended) -> Result<(), anyhow::Error>
     write!(out, " {}", ended.status)?;
     show(out, &ended.output)?;
     show(out, &ended.errors)?;
-    if ended.output_failed {
+    if ended.output_failures != 0 {
         write!(out, ", output failed")?;
     }
-    if ended.errors_failed {
+    if ended.errors_failures != 0 {
         write!(out, ", errors failed")?;
     }
     Ok(())
@@ -34,16 +34,16 @@ fn show_ended<W: Write>(out: &mut W, ended: &Ended) -> Result<(), anyhow::Error>
 /// How `pipe` ends over a text in memory.
 fn piped_text(alloc: Global, text: &[u8]) -> Ended {
     let mut input = Bytes::new(text);
-    let mut output = Output::new(Vec::new(alloc));
-    let mut errors = Output::new(Vec::new(alloc));
+    let mut output = MemorySink::new(alloc);
+    let mut errors = MemorySink::new(alloc);
     let status = pipe(alloc, &mut input, &mut output, &mut errors);
-    let (output_failed, errors_failed) = (output.has_failed(), errors.has_failed());
+    let (output_failures, errors_failures) = (output.failures(), errors.failures());
     Ended {
         status,
-        output: output.into_stream(),
-        errors: errors.into_stream(),
-        output_failed,
-        errors_failed,
+        output: output.into_bytes(),
+        errors: errors.into_bytes(),
+        output_failures,
+        errors_failures,
     }
 }
 
@@ -79,32 +79,40 @@ fn reader_of(column: &str, text: Vec<u8>) -> Result<Reader, anyhow::Error> {
 
 /// The writer of a column.
 fn writer_of(alloc: Global, column: &str) -> Result<Writer, anyhow::Error> {
-    let room = match column.as_bytes() {
+    let (number, kind) = column.split_once('~').unwrap_or(("0", column));
+    let room = match kind.as_bytes() {
         b"all" => usize::MAX,
         b"full" => 0,
-        _ => usize::try_from(u64::from_str_radix(column, 10)?)?,
+        _ => usize::try_from(u64::from_str_radix(kind, 10)?)?,
     };
     Ok(Writer {
         taken: Vec::new(alloc),
         room,
-        is_full: column == "full",
+        is_full: kind == "full",
+        interruptions: u64::from_str_radix(number, 10)?,
+        waits: 0,
     })
+}
+
+/// How a call ended over two writers.
+fn ended_over(status: u8, output: WatchedSink<Writer>, errors: WatchedSink<Writer>) -> Ended {
+    let (output_failures, errors_failures) = (output.failures(), errors.failures());
+    Ended {
+        status,
+        output: output.into_stream().taken,
+        errors: errors.into_stream().taken,
+        output_failures,
+        errors_failures,
+    }
 }
 
 /// How `pipe` ends over a reader and two writers, how often the reader was read, and whether it failed.
 fn piped(alloc: Global, reader: Reader, writer: Writer, teller: Writer) -> (Ended, u64, bool) {
     let mut input = Watched::new(reader);
-    let mut output = Output::new(writer);
-    let mut errors = Output::new(teller);
+    let mut output = WatchedSink::new(writer);
+    let mut errors = WatchedSink::new(teller);
     let status = pipe(alloc, &mut input, &mut output, &mut errors);
-    let (output_failed, errors_failed) = (output.has_failed(), errors.has_failed());
-    let ended = Ended {
-        status,
-        output: output.into_stream().taken,
-        errors: errors.into_stream().taken,
-        output_failed,
-        errors_failed,
-    };
+    let ended = ended_over(status, output, errors);
     (ended, input.reads(), input.has_failed())
 }
 
@@ -138,19 +146,13 @@ fn show_streams<W: Write>(
     Ok(())
 }
 
-/// How `check_texts` ends over two writers.
+/// How `check_texts` and `report` end over two writers.
 fn checked(alloc: Global, sizes: &[u8], cert: &[u8], writer: Writer, teller: Writer) -> Ended {
-    let mut output = Output::new(writer);
-    let mut errors = Output::new(teller);
-    let status = check_texts(alloc, sizes, cert, &mut output, &mut errors);
-    let (output_failed, errors_failed) = (output.has_failed(), errors.has_failed());
-    Ended {
-        status,
-        output: output.into_stream().taken,
-        errors: errors.into_stream().taken,
-        output_failed,
-        errors_failed,
-    }
+    let mut output = WatchedSink::new(writer);
+    let mut errors = WatchedSink::new(teller);
+    let end = check_texts(alloc, sizes, cert, &mut output);
+    let status = report(&end, &mut errors);
+    ended_over(status, output, errors)
 }
 
 /// Reports how `check_texts` ends over two writers.

@@ -66,16 +66,34 @@ impl Read for Reader {
     }
 }
 
-/// Takes as many bytes as there is room for, one at a time, and then none; a writer without room for one byte fails at once.
+/// Takes as many bytes as there is room for, one at a time, and then none; a writer that is full fails instead. Each write is
+/// interrupted so many times before.
 #[derive(Drop)]
 pub(crate) struct Writer {
     pub(crate) taken: Vec<u8>,
     pub(crate) room: usize,
     pub(crate) is_full: bool,
+    pub(crate) interruptions: u64,
+    pub(crate) waits: u64,
+}
+
+impl Writer {
+    /// Whether the write is interrupted once more.
+    fn is_interrupted(&mut self) -> bool {
+        if self.waits < self.interruptions {
+            self.waits += 1;
+            return true;
+        }
+        self.waits = 0;
+        false
+    }
 }
 
 impl Write for Writer {
     fn write(&mut self, bytes: &[u8]) -> Result<usize> {
+        if self.is_interrupted() {
+            return Err(Error::from(ErrorKind::Interrupted));
+        }
         if self.is_full {
             return Err(Error::from(ErrorKind::StorageFull));
         }

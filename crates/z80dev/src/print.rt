@@ -55,8 +55,8 @@ pub fn print_file<I: Input, W: Sink>(
     write_file(alloc, &built.com, output)
 }
 
-/// How the command ends with this fault. The line of a refusal is made in memory, so that a writer that fails or is
-/// interrupted on it is known to be the one that did; that of want of memory needs none.
+/// The end of a command with this fault. The text of a refusal is made in memory before any of it is written, so its line
+/// is cut short only if the writer fails. If there is no memory for the text, memory ran out, and that line needs none.
 fn end_of(alloc: Global, fault: &Fault) -> End<'static>
     ensures { Reports fault.now result }
 {
