@@ -1,8 +1,8 @@
 //! The commands that make files of sources and objects, and `check`.
 
 ghost use Rattle.std.specs.Prelude.{◌≡◌, IfOk, length, map, option_map, string_bytes};
-ghost use Rattle.z80dev_jobs.specs.Making.{AreFiles, AsmEnds, BuildEnds, CheckEnds, IsBuiltOf, LinkEnds, effect_of, ended, told};
-ghost use Rattle.z80dev_jobs.specs.Private.Steps.{EndsWith};
+ghost use Rattle.z80dev_jobs.specs.Making.{AreFiles, AsmEnds, BuildEnds, CheckEnds, LinkEnds, effect_of, ended, told};
+ghost use Rattle.z80dev_jobs.specs.Private.Steps.{BuildsTexts, EndsWith};
 
 use crate::reading::{read, read_all};
 use std::alloc::{AllocError, Global};
@@ -84,7 +84,7 @@ fn build_texts<'a, F: Files, W: Sink>(
     output: &mut W,
 ) -> Result<Option<String>, End<'a>>
     requires { length paths.now ≡ length texts.now }
-    ensures { EndsWith (IsBuiltOf wanted.entry.out.now wanted.entry.grow wanted.entry.list wanted.entry.verbose (map (λ path. path.now) paths.now) (map (λ text. text.items) texts.now) (effect_of (F.folder files.old) (F.folder files.new) (W.stream output.old) (W.stream output.new))) result }
+    ensures { EndsWith (BuildsTexts wanted.entry.out.now wanted.entry.grow wanted.entry.list wanted.entry.verbose (map (λ path. path.now) paths.now) (map (λ text. text.items) texts.now) (effect_of (F.folder files.old) (F.folder files.new) (W.stream output.old) (W.stream output.new))) result }
 {
     let sources = sources_of(alloc, paths, texts)?;
     let Made { answer, jumps } = build(alloc, &sources, wanted.grow, wanted.list);

@@ -50,11 +50,11 @@ pub(crate) fn inputs_of<'a, F: Files, I: Input>(
 }
 
 /// A program that is ready to run, or how the command ends because it is refused.
-pub(crate) fn ready_of<'a>(
+pub(crate) fn ready_of<'p, 'w>(
     alloc: Global,
-    inputs: &'a Inputs,
-    words: &[&'a str],
-) -> Result<Ready<'a>, End<'a>>
+    inputs: &'p Inputs,
+    words: &[&'w str],
+) -> Result<Ready<'p, 'w>, End<'static>>
     ensures { MakesReady inputs.now (map (λ word. word.now) words.now) result }
 {
     match ready(alloc, &inputs.program, words, &inputs.image, &inputs.typed) {

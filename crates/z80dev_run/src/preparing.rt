@@ -27,13 +27,13 @@ fn bytes_of<'a>(alloc: Global, words: &[&'a str]) -> Result<Vec<&'a [u8]>, Alloc
 /// # Errors
 ///
 /// Those of the image: it is not one, or its directory breaks a rule; or memory ran out. Nothing has run then, and nothing is printed.
-pub fn ready<'a>(
+pub fn ready<'p, 'w>(
     alloc: Global,
-    program: &'a [u8],
-    words: &[&'a str],
+    program: &'p [u8],
+    words: &[&'w str],
     image: &[u8],
     input: &[u8],
-) -> Result<Ready<'a>, Refusal>
+) -> Result<Ready<'p, 'w>, Refusal>
     ensures ready { IfOk result (IsReady program.now (map (λ w. w.now) words.now) image.now input.now) }
     ensures refused { IfErr result (λ why. why ≢ refusal.NoMemory → IsMounted image.now (Err why)) }
 {

@@ -36,14 +36,14 @@ impl<S> Ran<S> {
 
 /// A program that is ready to run: its disk is mounted, and what will be typed is known.
 #[derive(Drop)]
-pub struct Ready<'a> {
-    pub(crate) program: &'a [u8],
-    pub(crate) words: Vec<&'a [u8]>,
+pub struct Ready<'p, 'w> {
+    pub(crate) program: &'p [u8],
+    pub(crate) words: Vec<&'w [u8]>,
     pub(crate) disk: Disk<MemoryImage>,
     pub(crate) typed: Vec<u8>,
 }
 
-impl<'a> Ready<'a> {
+impl Ready<'_, '_> {
     /// Runs the program for at most so many turns. What it prints goes to `output`.
     pub fn run<S: Sink + Drop>(self, alloc: Global, output: S, steps: u64) -> Ran<S>
         ensures { (program : List ℕ) (words : List (List ℕ)) (image input : List ℕ) → IsReady program words image input self.entry

@@ -9,7 +9,7 @@ use Rattle.z80dev_finish.specs.declared.end.End.TheVariants as end
 use Rattle.z80dev_finish.specs.End.{end_status}
 use Rattle.z80dev_jobs.specs.Command.{LacksMemory, RefusesWord, RefusesWords, TellsWith}
 use Rattle.z80dev_jobs.specs.Disks.{IsBadName}
-use Rattle.z80dev_jobs.specs.Making.{BuildEnds, Effect}
+use Rattle.z80dev_jobs.specs.Making.{BuildEnds, Effect, IsBuiltOf}
 use Rattle.z80dev_jobs.specs.Running.{IsNoDisk}
 use Rattle.z80dev_jobs.specs.declared.running.Inputs.{Inputs}
 use Rattle.z80dev_jobs.specs.declared.words.WordsFault.{WordsFault}
@@ -31,6 +31,10 @@ EndsWith Is (Err e) = Is None e
 abbrev pub MakesReady : Inputs → List (List ℕ) → Result Ready End → Type 0
 MakesReady inputs words (Ok made) = IsReady inputs.program.items words inputs.image.items inputs.typed.items made
 MakesReady inputs words (Err e) = IsNoDisk inputs.image.items e
+
+-- the program of sources that were read is written, or memory runs out before
+abbrev pub BuildsTexts : List ℕ → Bool → Bool → Bool → List (List ℕ) → List (List ℕ) → Effect → Option (List ℕ) → End → Type 0
+BuildsTexts out grow list verbose paths texts x line e = IsBuiltOf out grow list verbose paths texts x line e ⊎ ((e ≡ end.NoMemory) × (x.new ≡ x.old) × (x.after ≡ x.before))
 
 -- `build` with the line of its jumps
 abbrev pub EndsBuild : List ℕ → Bool → Bool → Bool → List (List ℕ) → Effect → Stream → Stream → ℕ → Type 0
