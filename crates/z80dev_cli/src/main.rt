@@ -24,7 +24,7 @@ fn run(rt: &HostRuntime) -> Result<u8, AllocError> {
         output: WatchedSink::new(output),
         errors: WatchedSink::new(rt.stderr()),
     };
-    Ok(command(rt.alloc(), words, host).status)
+    Ok(command(rt.alloc(), &words, host).status)
 }
 
 fn main(rt: HostRuntime) -> ExitCode {

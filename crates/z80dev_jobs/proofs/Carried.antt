@@ -1,6 +1,5 @@
 -- From what `finish` does to what a command does.
 use Rattle.std.proofs.Common.{◌≡◌, ℕ, Bool, List, String, Option, None, Some, Result, Ok, Err, ap, inl, inr, refl, subst, string_bytes}
-use Rattle.std.specs.Prelude.{◌⊎◌}
 use Rattle.std.specs.Global.{Global}
 use Rattle.std.specs.List.{AllZip}
 use Rattle.std.specs.Option.{option_map}

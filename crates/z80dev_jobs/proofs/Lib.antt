@@ -1,2 +1,4 @@
 pub mod Carried
 pub mod One_by_one
+pub mod One_word
+pub mod Refused

@@ -1,5 +1,5 @@
 -- What the command `z80dev` does, whatever its words.
-use Rattle.std.specs.Prelude.{◌≡◌, ◌⊎◌, ℕ, true, List, ◌++◌, Option, None, Some, Result, codes, decimal, map, unwrap_or}
+use Rattle.std.specs.Prelude.{◌≡◌, ◌≢◌, ◌⊎◌, ℕ, true, List, ◌++◌, Option, None, Some, Result, codes, decimal, map, unwrap_or}
 use Rattle.clap.specs.Words.{IsAmong, fault_of, takes}
 use Rattle.clap.specs.declared.error.kind.ErrorKind.{ErrorKind}
 use Rattle.clap.specs.declared.error.kind.ErrorKind.TheVariants as kind
@@ -84,12 +84,14 @@ Shows before after old new status = (text : List ℕ)
 abbrev pub RefusesUsage : Stream → Stream → Stream → Stream → ℕ → Type 0
 RefusesUsage before after old new status = (status ≡ 2) × (after ≡ before) × (text : List ℕ) × IsPut old new text
 
+-- the words ask for the help, or for the version
+abbrev pub AsksToShow : ErrorKind → Type 0
+AsksToShow k = (k ≡ kind.DisplayHelp) ⊎ (k ≡ kind.DisplayVersion)
+
 -- what is done with words that ask for no job, by the kind of their fault
 abbrev pub RefusesWords : ErrorKind → Stream → Stream → Stream → Stream → ℕ → Type 0
-RefusesWords kind.DisplayHelp before after old new status = Shows before after old new status
-RefusesWords kind.DisplayVersion before after old new status = Shows before after old new status
-RefusesWords kind.OutOfMemory before after old new status = ⊥
-RefusesWords other before after old new status = RefusesUsage before after old new status
+RefusesWords k before after old new status = (AsksToShow k × Shows before after old new status)
+    ⊎ ((AsksToShow k → ⊥) × (k ≢ kind.OutOfMemory) × RefusesUsage before after old new status)
 
 -- The command with its words, as bytes: the words ask for a job, which is done; or they ask for none, for the help, or for the version; or a word
 -- is not UTF-8; or memory ran out before it was known what they ask for.

@@ -7,7 +7,6 @@ use Rattle.limits.specs.declared.TheConstants.{LONGEST_TEXT}
 use Rattle.z80dev.specs.Reading.{IsCutShort}
 use Rattle.z80dev_finish.specs.declared.end.End.{End}
 use Rattle.z80dev_finish.specs.declared.end.End.TheVariants as end
-use Rattle.z80dev_finish.specs.declared.files.Unread.TheVariants as unread
 use Rattle.z80dev_finish.specs.Files.{Folder, FailsSo, IsAt, IsUnreadable}
 
 -- The file of this path has these bytes, at most as many as a text may have. Of files that are not known, this says nothing of the bytes.

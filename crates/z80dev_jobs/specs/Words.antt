@@ -1,6 +1,7 @@
 -- The words that the program was called with, as text.
-use Rattle.std.specs.Prelude.{◌≡◌, ◌⊎◌, ◌<◌, ℕ, All, List, [], ◌∷◌, Option, Some, Result, Ok, Err, String, Vec, codes, drop, map, slice_get, string_bytes, take}
+use Rattle.std.specs.Prelude.{◌≡◌, ◌⊎◌, ◌<◌, ℕ, List, [], ◌∷◌, Some, Result, Ok, Err, String, Vec, codes, drop, map, slice_get, string_bytes, take}
 use Rattle.std.specs.Global.{Global}
+use Rattle.std.specs.List.{AllByRecursion}
 use Rattle.std.specs.Str.{IsUtf8}
 use Rattle.z80dev_jobs.specs.declared.words.WordsFault.{WordsFault}
 use Rattle.z80dev_jobs.specs.declared.words.WordsFault.TheVariants as fault
@@ -12,11 +13,11 @@ IsOwnName word text = (IsUtf8 word × (text ≡ word)) ⊎ ((IsUtf8 word → ⊥
 -- The words are UTF-8, but for the first, and these are their texts.
 abbrev pub AreTexts : List (List ℕ) → List (List ℕ) → Type 0
 AreTexts [] texts = texts ≡ []
-AreTexts (word ∷ words) texts = (name : List ℕ) × IsOwnName word name × All IsUtf8 words × (texts ≡ name ∷ words)
+AreTexts (word ∷ words) texts = (name : List ℕ) × IsOwnName word name × AllByRecursion IsUtf8 words × (texts ≡ name ∷ words)
 
 -- the word of this number is the first that is not UTF-8, but for the word of the number 0
 abbrev pub IsNotText : List (List ℕ) → ℕ → Type 0
-IsNotText words n = (word : List ℕ) × (0 < n) × (slice_get words n ≡ Some word) × (IsUtf8 word → ⊥) × All IsUtf8 (drop 1 (take n words))
+IsNotText words n = (word : List ℕ) × (0 < n) × (slice_get words n ≡ Some word) × (IsUtf8 word → ⊥) × AllByRecursion IsUtf8 (drop 1 (take n words))
 
 -- a word's own text
 abbrev pub ReadsWord : ℕ → List ℕ → Result (String Global) WordsFault → Type 0

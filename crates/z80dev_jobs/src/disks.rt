@@ -47,7 +47,13 @@ pub(crate) fn put_file<'a, F: Files, W: Sink>(
     let name = name_of(alloc, word)?;
     let bytes = read(alloc, image, files)?;
     let file = read(alloc, path, files)?;
-    Ok(finish(alloc, image, &put(alloc, &bytes, &file, &name), files, output))
+    Ok(finish(
+        alloc,
+        image,
+        &put(alloc, &bytes, &file, &name),
+        files,
+        output,
+    ))
 }
 
 /// Gets a file from a disk.

@@ -179,7 +179,14 @@ fn work<F: Files, I: Input, W: Sink + Drop, E: Sink>(
                 list,
                 verbose,
             };
-            build_job(alloc, wanted, &sources, &mut host.files, &mut host.output, &mut host.errors)
+            build_job(
+                alloc,
+                wanted,
+                &sources,
+                &mut host.files,
+                &mut host.output,
+                &mut host.errors,
+            )
         }
         Job::Check { sizes, cert } => {
             let end = check_files(alloc, sizes, cert, &mut host.files, &mut host.output);
@@ -218,13 +225,13 @@ fn work<F: Files, I: Input, W: Sink + Drop, E: Sink>(
 /// failed; then, and only then, a line on standard error says why. A failure of standard error changes no status.
 pub fn command<F: Files, I: Input, W: Sink + Drop, E: Sink>(
     alloc: Global,
-    words: Vec<Vec<u8>>,
+    words: &[Vec<u8>],
     mut host: Host<F, I, W, E>,
 ) -> Ended<F, I, W, E>
     requires sound { I.failed host.input ≡ false }
     requires unread { I.reads host.input ≡ 0 }
     requires calm { I.interruptions host.input ≡ 0 }
-    ensures ends { CommandEnds (map (λ word. word.items) words.items) (world_of (F.folder host.files) (reader_of (I.remaining host.input) (I.failed host.input) (I.reads host.input) (I.interruptions host.input)) (W.stream host.output) (E.stream host.errors)) (world_of (F.folder result.host.files) (reader_of (I.remaining result.host.input) (I.failed result.host.input) (I.reads result.host.input) (I.interruptions result.host.input)) (W.stream result.host.output) (E.stream result.host.errors)) result.status }
+    ensures ends { CommandEnds (map (λ word. word.items) words.now) (world_of (F.folder host.files) (reader_of (I.remaining host.input) (I.failed host.input) (I.reads host.input) (I.interruptions host.input)) (W.stream host.output) (E.stream host.errors)) (world_of (F.folder result.host.files) (reader_of (I.remaining result.host.input) (I.failed result.host.input) (I.reads result.host.input) (I.interruptions result.host.input)) (W.stream result.host.output) (E.stream result.host.errors)) result.status }
     ensures reads { I.reads result.host.input ≤ MOST_READS }
 {
     let texts = match texts_of(alloc, words) {

@@ -27,11 +27,11 @@ impl From<AllocError> for WordsFault {
 }
 
 /// A word as text. That of the number 0, the path by which the program was called, is told to nobody, so it may be any bytes.
-fn text_of(alloc: Global, number: usize, bytes: Vec<u8>) -> Result<String, WordsFault>
-    ensures { ReadsWord number bytes.items result }
+fn text_of(alloc: Global, number: usize, word: &[u8]) -> Result<String, WordsFault>
+    ensures { ReadsWord number word.now result }
 {
-    match String::from_utf8(bytes) {
-        Ok(text) => Ok(text),
+    match str::from_utf8(word) {
+        Ok(text) => Ok(String::from_str(alloc, text)?),
         Err(_) if number == 0 => Ok(String::from_str(alloc, NAME)?),
         Err(_) => Err(WordsFault::NotText(number)),
     }
@@ -42,8 +42,8 @@ fn text_of(alloc: Global, number: usize, bytes: Vec<u8>) -> Result<String, Words
 /// # Errors
 ///
 /// The first word that is not UTF-8; or memory ran out.
-pub(crate) fn texts_of(alloc: Global, words: Vec<Vec<u8>>) -> Result<Vec<String>, WordsFault>
-    ensures { ReadsWords (map (λ word. word.items) words.items) result }
+pub(crate) fn texts_of(alloc: Global, words: &[Vec<u8>]) -> Result<Vec<String>, WordsFault>
+    ensures { ReadsWords (map (λ word. word.items) words.now) result }
 {
     let mut texts = Vec::with_capacity(alloc, words.len())?;
     for word in words {

@@ -10,5 +10,12 @@ pub returns : goal.returns
 returns g c =
     let read = c.in_ok-text.ensures in
     let source : SourceFile = record { path = c.args.path; text = c.deref.result } in
-    inl (c.in_ok-text.text.items, read.1, (answer_by told_text c.asm.result, aside (IsAsm source c.args.grow) (λ a. (file : SourceFile) × (file.path.now ≡ c.args.path.now) × (file.text.now ≡ c.in_ok-text.text.items) × IsAsm file c.args.grow a) (answer_by told_text c.asm.result) (λ a is. (source, refl, c.deref.ensures.value, is)) c.asm.ensures,
-        carried told_text c.args.out.now c.asm.result (g.F.Files.folder c.args.files.now) (g.F.Files.folder c.read.new.files) (g.F.Files.folder c.finish.new.files) (g.W.Sink.stream c.args.output.now) (g.W.Sink.stream c.finish.new.output) c.finish.result read.0 c.finish.ensures))
+    inl (
+      c.in_ok-text.text.items,
+      read.1,
+      (
+        answer_by told_text c.asm.result,
+        aside (IsAsm source c.args.grow) (λ a. (file : SourceFile) × (file.path.now ≡ c.args.path.now) × (file.text.now ≡ c.in_ok-text.text.items) × IsAsm file c.args.grow a) (answer_by told_text c.asm.result) (λ a is. (source, refl, c.deref.ensures.value, is)) c.asm.ensures,
+        carried told_text c.args.out.now c.asm.result (g.F.Files.folder c.args.files.now) (g.F.Files.folder c.read.new.files) (g.F.Files.folder c.finish.new.files) (g.W.Sink.stream c.args.output.now) (g.W.Sink.stream c.finish.new.output) c.finish.result read.0 c.finish.ensures,
+      ),
+    )

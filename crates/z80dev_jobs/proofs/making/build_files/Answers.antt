@@ -13,5 +13,5 @@ returns g c =
     let before = g.W.Sink.stream c.args.output.now in
     let after = g.W.Sink.stream c.build_texts.new.output in
     built_of_read w.out.now w.grow w.list w.verbose paths (map (λ text. text.items) c.in_ok-texts.texts.items) (g.F.Files.folder c.args.files.now) mid new before after c.build_texts.result
-        c.in_ok-texts.ensures.0 c.in_ok-texts.ensures.1
-        (subst (λ texts. EndsWith (BuildsTexts w.out.now w.grow w.list w.verbose paths (map (λ text. text.items) texts) (effect_of mid new before after)) c.build_texts.result) c.deref.ensures.value c.build_texts.ensures)
+    c.in_ok-texts.ensures.0 c.in_ok-texts.ensures.1
+    (subst (λ texts. EndsWith (BuildsTexts w.out.now w.grow w.list w.verbose paths (map (λ text. text.items) texts) (effect_of mid new before after)) c.build_texts.result) c.deref.ensures.value c.build_texts.ensures)

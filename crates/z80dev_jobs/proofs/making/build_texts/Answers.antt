@@ -1,6 +1,7 @@
-use Rattle.std.proofs.Common.{◌≡◌, List, ℕ, None, Some, inl, inr, map, refl, subst, sym}
+use Rattle.std.proofs.Common.{inl, inr, refl, subst}
 use Rattle.std.proofs.lemmas.Result.{err_from_is_err_and}
 use Rattle.z80dev_finish.specs.Answers.{answer_by}
+use Rattle.z80dev_finish.specs.declared.end.End.TheVariants as end
 use Rattle.z80dev_make.specs.Answers.{told_text}
 use Rattle.z80dev_make.specs.Build.{IsMade}
 use Rattle.z80dev_jobs.proofs.Carried.{carried, no_line}
@@ -20,9 +21,26 @@ pub returns : goal.returns
 returns g c =
     let made = c.build-answer.result in
     let answer = answer_by told_text made.answer in
-    inl (made.jumps, no_line c.finish.result _ c.in_default.not-Done, (answer,
+    inl (
+      made.jumps,
+      no_line c.finish.result _ c.in_default.not-Done,
+      (
+        answer,
         (c.in_ok-sources.sources.items, c.in_ok-sources.ensures, subst (λ files. IsMade files c.args.wanted.grow c.args.wanted.list answer made.jumps) c.deref.ensures.value c.build-answer.ensures),
-        carried told_text c.args.wanted.out.now made.answer (g.F.Files.folder c.args.files.now) (g.F.Files.folder c.args.files.now) (g.F.Files.folder c.finish.new.files) (g.W.Sink.stream c.args.output.now) (g.W.Sink.stream c.finish.new.output) c.finish.result refl c.finish.ensures))
+        carried told_text c.args.wanted.out.now made.answer (g.F.Files.folder c.args.files.now) (g.F.Files.folder c.args.files.now) (g.F.Files.folder c.finish.new.files) (g.W.Sink.stream c.args.output.now) (g.W.Sink.stream c.finish.new.output) c.finish.result refl c.finish.ensures,
+      ),
+    )
 
 pub returns-in-Done : goal.returns-in-Done
-returns-in-Done g c = ?
+returns-in-Done g c =
+    let made = c.build-answer.result in
+    let answer = answer_by told_text made.answer in
+    inl (
+      made.jumps,
+      c.in_ok-line.ensures,
+      (
+        answer,
+        (c.in_ok-sources.sources.items, c.in_ok-sources.ensures, subst (λ files. IsMade files c.args.wanted.grow c.args.wanted.list answer made.jumps) c.deref.ensures.value c.build-answer.ensures),
+        carried told_text c.args.wanted.out.now made.answer (g.F.Files.folder c.args.files.now) (g.F.Files.folder c.args.files.now) (g.F.Files.folder c.finish.new.files) (g.W.Sink.stream c.args.output.now) (g.W.Sink.stream c.finish.new.output) end.Done refl c.in-Done.ensures,
+      ),
+    )

@@ -1,6 +1,5 @@
-use Rattle.std.proofs.Common.{inl, inr, refl, subst, sym}
+use Rattle.std.proofs.Common.{inl, inr, refl, subst}
 use Rattle.std.proofs.lemmas.Result.{err_from_is_err_and}
-use Rattle.z80dev_jobs.specs.Making.{CheckEnds, effect_of, ended}
 use Rattle.z80dev_jobs.specs.Reading.{IsNotRead}
 use Rattle.z80dev_jobs.proofs.making.check_files.Goals as goal
 

@@ -9,5 +9,12 @@ pub returns : goal.returns
 returns g c =
     let read = c.in_ok-objects.ensures in
     let answer = answer_by told_text c.link.result in
-    inl (map (λ text. text.items) c.in_ok-objects.objects.items, read.1, (answer, subst (λ texts. MemoryAside (IsLink (map (λ text. text.items) texts)) answer) c.deref.ensures.value c.link.ensures,
-        carried told_text c.args.out.now c.link.result (g.F.Files.folder c.args.files.now) (g.F.Files.folder c.read_all.new.files) (g.F.Files.folder c.finish.new.files) (g.W.Sink.stream c.args.output.now) (g.W.Sink.stream c.finish.new.output) c.finish.result read.0 c.finish.ensures))
+    inl (
+      map (λ text. text.items) c.in_ok-objects.objects.items,
+      read.1,
+      (
+        answer,
+        subst (λ texts. MemoryAside (IsLink (map (λ text. text.items) texts)) answer) c.deref.ensures.value c.link.ensures,
+        carried told_text c.args.out.now c.link.result (g.F.Files.folder c.args.files.now) (g.F.Files.folder c.read_all.new.files) (g.F.Files.folder c.finish.new.files) (g.W.Sink.stream c.args.output.now) (g.W.Sink.stream c.finish.new.output) c.finish.result read.0 c.finish.ensures,
+      ),
+    )
