@@ -5,7 +5,8 @@ use std::alloc::Global;
 use std::fmt::{self, Write};
 use std::fs::{self, File, OpenOptions};
 use std::io::ErrorKind;
-use z80dev::{Fault, Files, Unread, Watched, WatchedSink, WriteFailed, put, read_text};
+use streams::{Watched, WatchedSink, WriteFailed, put};
+use z80dev::{Fault, Files, Unread, read_text};
 
 /// How many parts may lie beside a file, left by runs that were killed or of runs that have not ended.
 const PARTS: u32 = 100;
@@ -31,9 +32,8 @@ impl<'a> HostFiles<'a> {
 
 impl Files for HostFiles<'_> {
     ghost use Rattle.std.specs.Prelude.{None};
-    ghost use Rattle.z80dev_finish.specs.Files.{folder_of};
 
-    ghost folder = { λ files. folder_of None files.failures };
+    ghost folder = { λ files. record { files = None; failures = files.failures } };
 
     fn read(&mut self, alloc: Global, path: &str) -> Result<Vec<u8>, Unread> {
         let read = match fs::open(self.rt, path) {
