@@ -6,7 +6,7 @@
 mod disks;
 mod making;
 mod pipes;
-mod streams;
+mod scripted;
 mod words;
 
 use anyhow::anyhow;

@@ -1,6 +1,6 @@
 //! What `pipe` prints of a text, and `check_texts` of a sizes text and its certificate.
 
-use crate::streams::{Ending, Reader, Writer};
+use crate::scripted::{Ending, Reader, Writer};
 use crate::{show, text_of};
 use anyhow::{Context, anyhow};
 use std::alloc::Global;
