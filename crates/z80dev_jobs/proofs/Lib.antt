@@ -1,4 +1,5 @@
 pub mod Carried
+pub mod Newest
 pub mod One_by_one
 pub mod One_word
 pub mod Refused

@@ -5,4 +5,5 @@ pub mod Disks
 pub mod Running
 pub mod Words
 pub mod Command
+pub mod Memory
 pub mod Private

@@ -1,0 +1,36 @@
+-- Files in memory.
+use Rattle.std.specs.Prelude.{◌≢◌, ℕ, ◌+◌, ◌-◌, ◌^◌, All, Bool, ◌||◌, ◌&&◌, nat_eq, nat_lt, List, Option, None, Some, map, min}
+use Rattle.std.specs.Borrow.{Bor}
+use Rattle.z80dev_finish.specs.Files.{File, Folder, IsAt}
+use Rattle.z80dev_jobs.specs.declared.failing.Failure.{Failure}
+use Rattle.z80dev_jobs.specs.declared.memory.MemoryFiles.{MemoryFiles}
+use Rattle.z80dev_jobs.specs.declared.memory.Written.{Written}
+
+-- a file that was written, by its path
+abbrev pub file_of : Written → File
+file_of w = (w.path.items, w.bytes.items)
+
+-- all that were written, the oldest first
+abbrev pub files_of : MemoryFiles → List File
+files_of m = map file_of m.written.items
+
+-- A host that tells its files: what is promised of the bytes of files is about these.
+abbrev pub folder_of : MemoryFiles → Folder
+folder_of m = record { files = Some (files_of m); failures = m.failures }
+
+-- The newest file of a path has these bytes; or there is none.
+abbrev pub Finds : List File → List ℕ → Option (Bor (List ℕ)) → Type 0
+Finds files path (Some bytes) = IsAt files path bytes.now
+Finds files path None = All (λ file. file.0 ≢ path) files
+
+-- Failures of two causes are counted together. A count of 64 bits stays at its greatest.
+abbrev pub together : ℕ → ℕ → ℕ
+together own theirs = min (own + theirs) (2 ^ 64 - 1)
+
+-- the files of a folder, with failures besides its own
+abbrev pub with_failures : ℕ → Folder → Folder
+with_failures own folder = record { files = folder.files; failures = together own folder.failures }
+
+-- whether the call of this number, from 1 on, is one that fails
+abbrev pub is_failing : Failure → ℕ → Bool
+is_failing f n = nat_eq n f.call || (f.lasting && nat_lt f.call n)

@@ -1,0 +1,97 @@
+//! Files of which some call fails.
+
+ghost use Rattle.std.specs.Prelude.{◌≡◌};
+ghost use Rattle.streams.specs.Stream.{counted};
+ghost use Rattle.z80dev_jobs.specs.Memory.{is_failing, with_failures};
+
+use std::alloc::Global;
+use streams::WriteFailed;
+use z80dev::{Files, Unread};
+
+/// Which calls of the files fail, and what a write leaves then.
+#[derive(Clone, Copy, Debug)]
+pub struct Failure {
+    /// The number of the first that fails; the first call of all is 1.
+    pub call: u64,
+    /// Whether all after it fail too.
+    pub lasting: bool,
+    /// Whether a write that fails leaves the new file; if not, it leaves the old one.
+    pub leaves_new: bool,
+}
+
+/// Files of which some calls fail. The others are passed on.
+#[derive(Drop)]
+pub struct FailingFiles<F> {
+    files: F,
+    failure: Failure,
+    calls: u64,
+    failures: u64,
+}
+
+impl<F> FailingFiles<F> {
+    /// Of files that were not called yet.
+    pub fn new(files: F, failure: Failure) -> FailingFiles<F>
+        ensures files { result.files ≡ files }
+        ensures failure { result.failure ≡ failure }
+        ensures calls { result.calls ≡ 0 }
+        ensures failures { result.failures ≡ 0 }
+    {
+        FailingFiles {
+            files,
+            failure,
+            calls: 0,
+            failures: 0,
+        }
+    }
+
+    /// The files.
+    pub fn into_files(self) -> F
+        ensures { result ≡ self.files }
+    {
+        self.files
+    }
+
+    /// Counts a call, and gives whether it fails.
+    fn is_failing(&mut self) -> bool
+        ensures files { self.new.files ≡ self.old.files }
+        ensures failures { self.new.failures ≡ self.old.failures }
+        ensures calls { self.new.calls ≡ counted self.old.calls }
+        ensures fails { result ≡ is_failing self.old.failure (counted self.old.calls) }
+    {
+        self.calls = self.calls.saturating_add(1);
+        let Failure { call, lasting, .. } = self.failure;
+        self.calls == call || (lasting && self.calls > call)
+    }
+
+    /// Counts a failure.
+    fn count(&mut self)
+        ensures files { self.new.files ≡ self.old.files }
+        ensures failures { self.new.failures ≡ counted self.old.failures }
+    {
+        self.failures = self.failures.saturating_add(1);
+    }
+}
+
+impl<F: Files> Files for FailingFiles<F> {
+    ghost folder = { λ f. with_failures f.failures (F.folder f.files) };
+
+    fn read(&mut self, alloc: Global, path: &str) -> Result<Vec<u8>, Unread> {
+        if self.is_failing() {
+            self.count();
+            return Err(Unread::File);
+        }
+        self.files.read(alloc, path)
+    }
+
+    fn write(&mut self, path: &str, bytes: &[u8]) -> Result<(), WriteFailed> {
+        if !self.is_failing() {
+            return self.files.write(path, bytes);
+        }
+        if self.failure.leaves_new {
+            // If this fails, the files count it, so that no call counts as two failures.
+            self.files.write(path, bytes)?;
+        }
+        self.count();
+        Err(WriteFailed)
+    }
+}
