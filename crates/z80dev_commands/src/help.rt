@@ -50,8 +50,9 @@ pub(crate) const CHECK: &str =
 line. `best N` means that some choice of short and long jumps fits and has N
 bytes, and that no choice that fits has fewer. The other two mean that no choice
 fits: `range K` because statement K, counted from 0, does not reach its label in
-any choice in which every short jump reaches its own; `size N` because every
-such choice has at least N bytes, more than there is room for. Writes nothing.
+any choice in which every jump that is made short reaches its own; `size N`
+because every such choice has at least N bytes, more than there is room for.
+Writes nothing.
 
 Example: z80dev check game.siz game.crt
 prints a line such as best 260.";
