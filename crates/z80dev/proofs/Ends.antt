@@ -32,10 +32,10 @@ pub unread : (left : Option (List ℕ)) (kept : Stream) (failed : Bool) (reads i
 unread None kept failed reads interruptions fault.File (inl cut) = ([], inl (inr cut, refl))
 unread None kept failed reads interruptions fault.File (inr long) =
     let some = long_text LONGEST_TEXT in (some.0, inl (inl some.1, refl))
-unread None kept failed reads interruptions (fault.Build refusal) why = ([], (subst (IsRefused []) (sym why) tt, refl))
+unread None kept failed reads interruptions (fault.Build refusal) why = ([], (subst (IsRefused []) (sym why.0) tt, refl))
 unread (Some text) kept failed reads interruptions fault.File (inl cut) = inl (inr cut, refl)
 unread (Some text) kept failed reads interruptions fault.File (inr long) = inl (inl long, refl)
-unread (Some text) kept failed reads interruptions (fault.Build refusal) why = (subst (IsRefused text) (sym why) tt, refl)
+unread (Some text) kept failed reads interruptions (fault.Build refusal) why = (subst (IsRefused text) (sym why.0) tt, refl)
 
 -- what `build` answers of a text within the limit that it refuses
 pub refusing : (text : List ℕ) (refusal : BuildFault) → IsWithin text → IsBuiltOf text (Err refusal) → IsRefused text refusal

@@ -1,5 +1,5 @@
 -- The text of an input, and why it is not read.
-use Rattle.std.specs.Prelude.{◌≡◌, ℕ, ◌<◌, ◌≤◌, ◌⊎◌, Bool, true, List, length, Option, None, Some, IfSome}
+use Rattle.std.specs.Prelude.{◌≡◌, ℕ, ◌<◌, ◌≤◌, ◌⊎◌, Bool, true, false, List, length, Option, None, Some, IfSome}
 use Rattle.limits.specs.declared.TheConstants.{LONGEST_TEXT}
 use Rattle.zlink.specs.declared.fault.LinkFault.TheVariants as link
 use Rattle.zlink.specs.declared.fault.BuildFault.TheVariants as build
@@ -19,7 +19,7 @@ IsCutShort failed reads interruptions = (failed ≡ true) ⊎ ((reads ≡ MOST_R
 -- Why a text was not read: reading came to no end, or the text is too long where it is known; or memory ran out.
 abbrev pub IsUnread : Option (List ℕ) → Bool → ℕ → ℕ → Fault → Type 0
 IsUnread text failed reads interruptions fault.File = IsCutShort failed reads interruptions ⊎ IfSome text (λ t. LONGEST_TEXT < length t)
-IsUnread text failed reads interruptions (fault.Build refusal) = refusal ≡ build.Link link.NoMemory
+IsUnread text failed reads interruptions (fault.Build refusal) = (refusal ≡ build.Link link.NoMemory) × (failed ≡ false)
 
 -- What is said of the text of an input: of all its bytes, where they are known, and else of some text.
 abbrev pub OfText : Option (List ℕ) → (List ℕ → Type 0) → Type 0

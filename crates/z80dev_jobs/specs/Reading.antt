@@ -1,5 +1,5 @@
 -- What a command reads: files by their paths, and standard input.
-use Rattle.std.specs.Prelude.{◌≡◌, ◌⊎◌, ℕ, ◌<◌, ◌≤◌, Bool, IfSome, List, [], Option, None, Some, Result, Ok, Err, Vec, length, map, slice_get, take}
+use Rattle.std.specs.Prelude.{◌≡◌, ◌⊎◌, ℕ, ◌<◌, ◌≤◌, Bool, false, IfSome, List, [], Option, None, Some, Result, Ok, Err, Vec, length, map, slice_get, take}
 use Rattle.std.specs.Borrow.{Bor}
 use Rattle.std.specs.Global.{Global}
 use Rattle.std.specs.List.{AllZip}
@@ -54,7 +54,7 @@ reader_of left failed reads interruptions = record { left = left; failed = faile
 -- Standard input is not read: reading failed or did not end, or it is too long; or memory ran out.
 abbrev pub IsInputUnread : Reader → Reader → End → Type 0
 IsInputUnread old new end.Stream = IsCutShort new.failed new.reads new.interruptions ⊎ IfSome old.left (λ text. LONGEST_TEXT < length text)
-IsInputUnread old new end.NoMemory = Unit {0}
+IsInputUnread old new end.NoMemory = new.failed ≡ false
 IsInputUnread old new _ = ⊥
 
 -- Standard input is read to its end.
