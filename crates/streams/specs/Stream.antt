@@ -1,14 +1,16 @@
 -- A stream as a promise sees it.
-use Rattle.std.specs.Prelude.{ℕ, ◌+◌, ◌-◌, ◌^◌, List, Option, min}
+use Rattle.std.specs.Prelude.{ℕ, Bool, ◌+◌, ◌-◌, ◌^◌, List, Option, min}
 
--- The bytes that were written, where they are known; how often the stream failed; how often a signal interrupted it.
+-- The bytes that were written, where they are known; how often the stream failed; how often a signal interrupted it; and whether a buffer may
+-- hold some of the bytes back.
 pub record Stream : Type 0 where
   pub bytes : Option (List ℕ)
   pub failures : ℕ
   pub interruptions : ℕ
+  pub held : Bool
 
-abbrev pub stream_of : Option (List ℕ) → ℕ → ℕ → Stream
-stream_of bytes failures interruptions = record { bytes = bytes; failures = failures; interruptions = interruptions }
+abbrev pub stream_of : Option (List ℕ) → ℕ → ℕ → Bool → Stream
+stream_of bytes failures interruptions held = record { bytes = bytes; failures = failures; interruptions = interruptions; held = held }
 
 -- a count of 64 bits after one more: at its greatest it stays
 abbrev pub counted : ℕ → ℕ

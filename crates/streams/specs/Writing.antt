@@ -1,5 +1,5 @@
 -- What writes do to a stream.
-use Rattle.std.specs.Prelude.{◌≡◌, ◌<◌, ◌≤◌, ◌^◌, ℕ, List, [], ◌∷◌, ◌++◌, ◌+◌, Result, Ok, Err, codes, length, take}
+use Rattle.std.specs.Prelude.{◌≡◌, ◌<◌, ◌≤◌, ◌^◌, ℕ, false, List, [], ◌∷◌, ◌++◌, ◌+◌, Result, Ok, Err, codes, length, take}
 use Rattle.std.specs.Io.KnownBytes.{Appends, Keeps}
 use Rattle.streams.specs.declared.sink.WriteFault.{WriteFault}
 use Rattle.streams.specs.declared.sink.WriteFault.TheVariants.{Interrupted, Failed}
@@ -29,7 +29,7 @@ Writes old new bytes (Err Interrupted) = Keeps old.bytes new.bytes × IsInterrup
 Writes old new bytes (Err Failed) = Keeps old.bytes new.bytes × HasFailed old new
 
 abbrev pub Flushes : Stream → Stream → Result Unit WriteFault → Type 0
-Flushes old new (Ok _) = Keeps old.bytes new.bytes × Succeeds old new
+Flushes old new (Ok _) = Keeps old.bytes new.bytes × (new.held ≡ false) × Succeeds old new
 Flushes old new (Err Interrupted) = Keeps old.bytes new.bytes × IsInterrupted old new
 Flushes old new (Err Failed) = Keeps old.bytes new.bytes × HasFailed old new
 
@@ -52,7 +52,7 @@ Puts old new bytes (Err _) = PutsFront old new bytes
 
 -- Handing on what a buffer holds back, which was written already.
 abbrev pub Hands_on : Stream → Stream → Result Unit WriteFailed → Type 0
-Hands_on old new (Ok _) = Keeps old.bytes new.bytes × (new.failures ≡ old.failures)
+Hands_on old new (Ok _) = Keeps old.bytes new.bytes × (new.failures ≡ old.failures) × (new.held ≡ false)
 Hands_on old new (Err _) = Keeps old.bytes new.bytes × (new.failures ≡ counted old.failures)
 
 -- the line of an error

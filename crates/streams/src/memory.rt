@@ -1,6 +1,6 @@
 //! Writing to memory.
 
-ghost use Rattle.std.specs.Prelude.{◌≡◌, [], Some};
+ghost use Rattle.std.specs.Prelude.{◌≡◌, [], Some, false};
 ghost use Rattle.streams.specs.Stream.{stream_of};
 
 use crate::sink::{Sink, WriteFault};
@@ -41,7 +41,7 @@ impl MemorySink {
 }
 
 impl Sink for MemorySink {
-    ghost stream = { λ m. stream_of (Some m.bytes.items) m.failures 0 };
+    ghost stream = { λ m. stream_of (Some m.bytes.items) m.failures 0 false };
 
     fn write(&mut self, bytes: &[u8]) -> Result<usize, WriteFault> {
         if self.bytes.extend_from_slice(bytes).is_ok() {

@@ -7,12 +7,14 @@ ghost use Rattle.streams.specs.Stream.{counted, stream_of};
 use crate::sink::{Sink, WriteFault};
 use std::io::{Error, ErrorKind, Write};
 
-/// A writer, how often it failed, and how often a signal interrupted it.
+/// A writer, how often it failed, how often a signal interrupted it, and whether it may hold bytes back: it may from the beginning, and after each
+/// write.
 #[derive(Drop)]
 pub struct WatchedSink<W> {
     stream: W,
     failures: u64,
     interruptions: u64,
+    held: bool,
 }
 
 impl<W> WatchedSink<W> {
@@ -26,6 +28,7 @@ impl<W> WatchedSink<W> {
             stream,
             failures: 0,
             interruptions: 0,
+            held: true,
         }
     }
 
@@ -66,9 +69,10 @@ impl<W> WatchedSink<W> {
 }
 
 impl<W: Write> Sink for WatchedSink<W> {
-    ghost stream = { λ w. stream_of (W.contents w.stream) w.failures w.interruptions };
+    ghost stream = { λ w. stream_of (W.contents w.stream) w.failures w.interruptions w.held };
 
     fn write(&mut self, bytes: &[u8]) -> Result<usize, WriteFault> {
+        self.held = true;
         match self.stream.write(bytes) {
             // A writer that takes nothing would be asked for ever.
             Ok(0) => Err(self.failed()),
@@ -79,7 +83,10 @@ impl<W: Write> Sink for WatchedSink<W> {
 
     fn flush(&mut self) -> Result<(), WriteFault> {
         match self.stream.flush() {
-            Ok(()) => Ok(()),
+            Ok(()) => {
+                self.held = false;
+                Ok(())
+            }
             Err(error) => Err(self.fault(&error)),
         }
     }

@@ -1,6 +1,6 @@
 //! Writing all of some bytes.
 
-ghost use Rattle.std.specs.Prelude.{◌<◌, length};
+ghost use Rattle.std.specs.Prelude.{◌≡◌, ◌<◌, OnOk, false, length};
 ghost use Rattle.std.specs.List.{flat_map};
 ghost use Rattle.streams.specs.Private.Steps.{PutsSome};
 ghost use Rattle.streams.specs.Writing.{Hands_on, Puts, error_line};
@@ -74,7 +74,8 @@ pub fn put_all<S: Sink>(sink: &mut S, pieces: &[&[u8]]) -> Result<(), WriteFaile
 ///
 /// If the writer fails. Some of the bytes may be written then, from the first on.
 pub fn print<S: Sink>(sink: &mut S, bytes: &[u8]) -> Result<(), WriteFailed>
-    ensures { Puts (S.stream sink.old) (S.stream sink.new) bytes.now result }
+    ensures puts { Puts (S.stream sink.old) (S.stream sink.new) bytes.now result }
+    ensures handed { OnOk result ((S.stream sink.new).held ≡ false) }
 {
     put(sink, bytes)?;
     flush(sink)
