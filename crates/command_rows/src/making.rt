@@ -11,7 +11,7 @@ use z80dev::{
     report,
 };
 
-/// Files in memory, of which only some can be written, and how often one could not be.
+/// Files in memory: only some of them can be written. It counts the writes that failed.
 #[derive(Drop)]
 struct Shelf {
     alloc: Global,

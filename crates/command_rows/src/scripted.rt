@@ -67,7 +67,7 @@ impl Read for Reader {
 }
 
 /// Takes as many bytes as there is room for, one at a time, and then none; a writer that is full fails instead. Each write is
-/// interrupted so many times before.
+/// interrupted as often as `interruptions` says before it takes a byte.
 #[derive(Drop)]
 pub(crate) struct Writer {
     pub(crate) taken: Vec<u8>,

@@ -6,7 +6,7 @@ use std::env::{Env, FillError};
 /// How many bytes a word has room for at first.
 const ROOM: usize = 256;
 
-/// The bytes of the word of this number, if there are so many.
+/// The bytes of the word of this number; `None` after the last word.
 fn bytes_of(rt: &HostRuntime, number: usize) -> Result<Option<Vec<u8>>, AllocError> {
     let mut bytes = Vec::new(rt.alloc());
     let mut room = ROOM;

@@ -27,7 +27,7 @@ effect old new = effect_of old.folder new.folder old.output new.output
 abbrev pub Reports : (Effect → End → Type 0) → World → World → ℕ → Type 0
 Reports Ends old new status = (e : End) × Ends (effect old new) e × (status ≡ end_status e) × Tells e old.errors new.errors × (new.input ≡ old.input)
 
--- .. and, if all is done, a line, where there is one
+-- A job that counts its jumps may put a line on standard error when all is done.
 abbrev pub TellsLine : Option (List ℕ) → Stream → Stream → Type 0
 TellsLine None old new = new ≡ old
 TellsLine (Some line) old new = IsPut old new line

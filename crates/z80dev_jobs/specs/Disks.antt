@@ -23,7 +23,7 @@ IsBadName _ = ⊥
 abbrev pub NothingDone : Effect → Type 0
 NothingDone x = (x.new ≡ x.old) × (x.after ≡ x.before)
 
--- The word is the name of a file, of which this holds; or it is not, which is the end.
+-- If the word is the name of a file, the command goes on with that name; if not, this is the end.
 abbrev pub Named : Option (List ℕ) → (List ℕ → Type 0) → Effect → End → Type 0
 Named (Some name) Does x e = Does name
 Named None Does x e = IsBadName e × NothingDone x

@@ -46,7 +46,7 @@ IsCarriedOut base a x (end.File path last) = IsUnwritten base a.files x.old x.ne
 IsCarriedOut base a x end.Stream = AllWritten base a.files x.old x.new × PutsFront x.before x.after a.printed
 IsCarriedOut base a x end.NoMemory = ((x.new ≡ x.old) ⊎ IsBrokenOff base a.files x.old x.new) × (x.after ≡ x.before)
 
--- .. of one of the answers that are right
+-- One of the answers that are right is carried out.
 abbrev pub CarriesOut : List ℕ → (Answer → Type 0) → Effect → End → Type 0
 CarriesOut base IsRight x e = (a : Answer) × IsRight a × IsCarriedOut base a x e
 
@@ -54,7 +54,7 @@ CarriesOut base IsRight x e = (a : Answer) × IsRight a × IsCarriedOut base a x
 abbrev pub With : List ℕ → (List ℕ → Type 0) → Effect → End → Type 0
 With path Does x e = ((bytes : List ℕ) × IsRead x.old path bytes × Does bytes) ⊎ (IsNotRead x.old x.new path e × (x.after ≡ x.before))
 
--- .. of files, in their order
+-- Files are read in their order, and this is done with their bytes; or one is not read, which is the end, and nothing is printed.
 abbrev pub WithAll : List (List ℕ) → (List (List ℕ) → Type 0) → Effect → End → Type 0
 WithAll paths Does x e = ((texts : List (List ℕ)) × AllZip (IsRead x.old) paths texts × Does texts) ⊎ (IsOneNotRead x.old x.new paths e × (x.after ≡ x.before))
 

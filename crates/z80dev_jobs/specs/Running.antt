@@ -40,7 +40,7 @@ IsKept None image old new (Ok _) = new ≡ old
 IsKept None image old new (Err _) = ⊥
 IsKept (Some path) image old new result = Stores old new (path.now, image) result
 
--- why a run ends, if what it printed was handed on or not
+-- why a run ends: output that cannot be flushed is a fault of the console
 abbrev pub why_at : Why → Result Unit WriteFailed → Why
 why_at end (Ok _) = end
 why_at end (Err _) = why.Stopped stop.ConsoleFault
@@ -51,7 +51,8 @@ ReportsRun None kept end pc old new status = Concludes end pc old new status
 ReportsRun (Some path) (Ok _) end pc old new status = Concludes end pc old new status
 ReportsRun (Some path) (Err _) end pc old new status = (status ≡ 3) × IsPut old new (error_line (codes "file " ++ path.now))
 
--- What the program printed is handed on, the image that it leaves is written, and it is reported why it stopped, in this order.
+-- What the program printed is flushed, the image that it leaves is written, and it is reported why it stopped, or that the image could not be
+-- written. Which of the first two comes first, this does not say.
 abbrev pub EndsRun : Option (Bor (List ℕ)) → Why → ℕ → List ℕ → Stream → Stream → Folder → Folder → Stream → Stream → ℕ → Type 0
 EndsRun disk end pc image printed output old new before after status =
     (flushed kept : Result Unit WriteFailed) × Hands_on printed output flushed × IsKept disk image old new kept × ReportsRun disk kept (why_at end flushed) pc before after status

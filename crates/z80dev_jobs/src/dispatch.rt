@@ -221,8 +221,9 @@ fn work<F: Files, I: Input, W: Sink + Drop, E: Sink>(
 /// The command `z80dev`: does what its words ask for, the program's name first, and gives the exit status with what it worked on. Standard
 /// input must not have been read.
 ///
-/// The status is 0 if all is done; 1 if what was read is refused, a run was stopped or memory ran out; 2 if the words are wrong; and 3 if a
-/// file or a stream failed. If it is not 0, a line on standard error says why. A failure of standard error changes no status.
+/// The status is 0 if all is done; 1 if what was read is refused, a run was stopped (also by output that failed) or memory ran out; 2 if the
+/// words are wrong; and 3 if a file, standard input, or the output of any other command failed. If it is not 0, a line on standard error says
+/// why. A failure of standard error changes no status.
 pub fn command<F: Files, I: Input, W: Sink + Drop, E: Sink>(
     alloc: Global,
     words: &[Vec<u8>],

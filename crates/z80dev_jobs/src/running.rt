@@ -78,7 +78,7 @@ fn keep_disk<F: Files, W>(
     }
 }
 
-/// Why a run ends, if what it printed was handed on or not.
+/// Why a run ends: output that cannot be flushed is a fault of the console.
 fn why_at(why: Why, flushed: Result<(), WriteFailed>) -> Why
     ensures { result ≡ why_at why flushed }
 {
