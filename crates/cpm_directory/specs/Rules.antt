@@ -1,5 +1,5 @@
 -- The rules that a directory keeps, and the first fault of one that does not.
-use Rattle.std.specs.Prelude.{◌≡◌, ◌<◌, ◌≤◌, ◌⊎◌, ℕ, ◌%◌, true, List, length, take, Result, Ok, Err, ⊤, All, Any, slice_index_or}
+use Rattle.std.specs.Prelude.{◌≡◌, ◌<◌, ◌≤◌, ◌⊎◌, ℕ, ◌%◌, true, List, length, take, Result, Ok, Err, ⊤, All, AllPairs, Any}
 use Rattle.cpm_directory.specs.declared.rules.TheConstants.{LAST_EXTENT, MOST_RECORDS}
 use Rattle.cpm_directory.specs.Types.{Broken, Entry, DiskFault}
 use Rattle.cpm_image.specs.Kind.{block_count, first_block, last_high}
@@ -89,4 +89,4 @@ pub record AreBroken (kind : DiskKind) (entries : List Entry) (broken : List Bro
   pub each : All (IsBroken kind entries) broken
   -- every other entry of users 0 to 31 keeps the rules
   pub every : (k : ℕ) → is_extent (at entries k) ≡ true → KeepsRules kind (take k entries) (at entries k) ⊎ Any (λ b. b.number ≡ k) broken
-  pub ordered : (i j : ℕ) (d : Broken) → i < j → j < length broken → (slice_index_or broken i d).number < (slice_index_or broken j d).number
+  pub ordered : AllPairs (λ a b. a.number < b.number) broken

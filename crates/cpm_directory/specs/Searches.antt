@@ -1,5 +1,5 @@
 -- What is looked for in a directory.
-use Rattle.std.specs.Prelude.{◌≡◌, ◌<◌, ℕ, ◌+◌, ◌-◌, Bool, true, ◌&&◌, not, List, Option, Some, None, map, filter, drop, max, fold, find, position, length, if◌then◌else◌, option_map, slice_index_or, nat_eq, unwrap_or, ◌⊎◌, All, Any, count_by, sum}
+use Rattle.std.specs.Prelude.{◌≡◌, ◌<◌, ℕ, ◌+◌, ◌-◌, Bool, true, ◌&&◌, not, List, Option, Some, None, map, filter, drop, max, fold, find, position, length, if◌then◌else◌, option_map, slice_index_or, nat_eq, unwrap_or, ◌⊎◌, All, Any, count_by, sum_by}
 use Rattle.std.specs.List.{list_any, range_with_len}
 use Rattle.std.specs.Cmp.Lexicographic.{slice_cmp}
 use Rattle.std.specs.Ordering.{nat_cmp}
@@ -48,7 +48,7 @@ size user name entries = if is_file user name entries
 abbrev pub usage_of : DiskKind → ℕ → List ℕ → List Entry → Usage
 usage_of kind user name entries = record {
   entries = count_by (is_of user name) entries;
-  blocks = sum (map (held_blocks kind) (filter (is_of user name) entries));
+  blocks = sum_by (held_blocks kind) (filter (is_of user name) entries);
 }
 
 abbrev pub no_usage : Usage

@@ -10,7 +10,7 @@ use crate::change::{Change, change_all};
 use crate::reader::read_entries;
 use crate::records::{read_record, store};
 use crate::writable::{Writable, is_known};
-use cpm_directory::laws::is_name;
+use cpm_directory::laws::{are_entries, is_name};
 use cpm_directory::{
     Attribute, DiskFault, Entry, Listed, Name, Pattern, Space, Usage, find, judge, list,
     position_of, size, space_of, usage_of,
@@ -281,6 +281,8 @@ impl<S: Sectors> Disk<S> {
             return Err(DiskFault::Failed);
         }
         let count = marking(&self.entries, user, &pattern.name)?;
+        // A law: the names of entries have the bytes of their type.
+        are_entries(&self.entries);
         self.writable = None;
         let change = Change::Mark {
             user,
