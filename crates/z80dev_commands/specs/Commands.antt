@@ -116,13 +116,9 @@ erase_shape = with_rules (codes "erase") (target_rules ++ (paths_rule (codes "NA
 abbrev pub rename_shape : Shape
 rename_shape = with_rules (codes "rename") (target_rules ++ (path_rule (codes "OLD") ∷ path_rule (codes "NEW") ∷ []))
 
--- the command that sets an attribute of files, and the one that takes it away
-abbrev pub protect_name : Bool → Text
-protect_name on = if on then codes "protect" else codes "unprotect"
-
 -- `protect [--system] [--user N] [--no-lock] IMG NAME..`, and `unprotect` with the same words
-abbrev pub protect_shape : Bool → Shape
-protect_shape on = with_rules (protect_name on) (flag_rule (codes "system") ∷ (target_rules ++ (paths_rule (codes "NAME") ∷ [])))
+abbrev pub protect_shape : Text → Shape
+protect_shape name = with_rules name (flag_rule (codes "system") ∷ (target_rules ++ (paths_rule (codes "NAME") ∷ [])))
 
 -- `check-disk IMG`
 abbrev pub check_disk_shape : Shape
@@ -151,7 +147,8 @@ with_files = with_subcommand (with_subcommand (with_subcommand (with_subcommand 
 
 -- .. with the others on disks, and with the one that runs a program
 abbrev pub z80dev : App
-z80dev = with_subcommand (with_subcommand (with_subcommand (with_subcommand (with_subcommand with_files (protect_shape true)) (protect_shape false)) check_disk_shape) blank_shape) run_shape
+z80dev = with_subcommand (with_subcommand (with_subcommand (with_subcommand (with_subcommand with_files (protect_shape (codes "protect"))) (protect_shape (codes "unprotect"))) check_disk_shape)
+    blank_shape) run_shape
 
 -- ---- jobs
 
@@ -220,7 +217,11 @@ FindsTarget target rows = Finds (codes "IMG") target.image rows × FindsUserOrZe
 abbrev pub FindsManner : Manner → List Row → Type 0
 FindsManner manner rows = (is_on (codes "replace") rows ≡ manner.replace) × (is_on (codes "text") rows ≡ manner.text)
 
--- the attribute that `--system` names, or that none names
+-- the command that sets an attribute of files, and the one that takes it away
+abbrev pub protect_name : Bool → Text
+protect_name on = if on then codes "protect" else codes "unprotect"
+
+-- the attribute is the one that `--system` names
 abbrev pub is_system : Attribute → Bool
 is_system ReadOnly = false
 is_system System = true

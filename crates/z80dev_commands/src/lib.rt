@@ -27,9 +27,9 @@ pub struct Target<'a> {
 /// What `protect` sets and `unprotect` takes away.
 #[derive(Clone, Copy, Debug, PartialEq, Eq)]
 pub enum Attribute {
-    /// The file cannot be erased, renamed or replaced.
+    /// The file is read-only: `erase` refuses it.
     ReadOnly,
-    /// CP/M's own DIR does not list the file.
+    /// The file is a system file: CP/M's own DIR does not list it.
     System,
 }
 
