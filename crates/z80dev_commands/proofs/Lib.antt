@@ -1,3 +1,5 @@
 pub mod Builders
+pub mod Counts
+pub mod Ends
 pub mod Rows
 pub mod Values
