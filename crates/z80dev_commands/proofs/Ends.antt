@@ -1,7 +1,7 @@
 -- How a command ends whose parse succeeds: with its job, or refused.
-use Rattle.std.proofs.Common.{◌≡◌, ◌⊎◌, inl, inr, true, List, Option, Some, subst, sym}
+use Rattle.std.proofs.Common.{◌≡◌, ◌⊎◌, inl, inr, true, List, Some, subst, sym}
 use Rattle.std.specs.Prelude.{Err, IfErr, IfOk, MatchResult, Ok, Result}
-use Rattle.clap.specs.Words.{HasKind, Row, Text, fault_of, kind_of, subcommand_of, takes}
+use Rattle.clap.specs.Words.{HasKind, Row, Text, fault_of, kind_of, takes}
 use Rattle.clap.specs.declared.error.Error.{Error}
 use Rattle.clap.specs.declared.error.kind.ErrorKind.TheVariants.{OutOfMemory}
 use Rattle.z80dev_commands.specs.declared.Job.{Job}

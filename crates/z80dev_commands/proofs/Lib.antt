@@ -1,5 +1,4 @@
 pub mod Builders
-pub mod Counts
 pub mod Ends
 pub mod Rows
 pub mod Values

@@ -5,8 +5,7 @@ ghost use Rattle.clap.specs.Words.{all_of, first_of, found_of, kind_of, rows_of}
 ghost use Rattle.z80dev_commands.specs.Commands.{Finds, FindsAll, FindsAny, FindsIfGiven, FindsLock, FindsManner, FindsNumber, FindsTarget, FindsUser, FindsUserOrZero, IsJobOf, Miscounts, is_on, is_system, protect_name};
 ghost use Rattle.z80dev_commands.specs.Private.{AreFound, HasTarget, IsFlag, IsNumber, IsRefused};
 
-use crate::usage;
-use crate::{Attribute, Job, Manner, Target};
+use crate::{Attribute, Job, Manner, Target, usage};
 use clap::error::ErrorKind;
 use clap::{ArgMatches, Command, Error};
 use std::alloc::{AllocError, Global};
@@ -231,11 +230,7 @@ fn put<'a>(alloc: Global, found: &ArgMatches<'a>) -> Result<Job<'a>, Error>
 }
 
 /// `get --all`, with the values of its list.
-fn get_all<'a>(
-    alloc: Global,
-    found: &ArgMatches<'a>,
-    files: &[&'a str],
-) -> Result<Job<'a>, Error>
+fn get_all<'a>(alloc: Global, found: &ArgMatches<'a>, files: &[&'a str]) -> Result<Job<'a>, Error>
     requires found { AreFound (codes "get") (rows_of (found_of found.now)) }
     requires all { is_on (codes "all") (rows_of (found_of found.now)) ≡ true }
     requires files { FindsAny (codes "FILE") files.now (rows_of (found_of found.now)) }
@@ -249,11 +244,7 @@ fn get_all<'a>(
             folder: text(found, "NAME"),
         })
     } else {
-        Err(miscounted(
-            usage::get(alloc),
-            ErrorKind::TooManyValues,
-            NO_FILE,
-        )?)
+        Err(miscounted(usage::get(alloc), ErrorKind::TooManyValues, NO_FILE)?)
     }
 }
 
@@ -358,11 +349,7 @@ fn run<'a>(alloc: Global, found: &ArgMatches<'a>) -> Result<Job<'a>, AllocError>
 }
 
 /// The job of the command of this name.
-pub(crate) fn job<'a>(
-    alloc: Global,
-    name: &str,
-    found: &ArgMatches<'a>,
-) -> Result<Job<'a>, Error>
+pub(crate) fn job<'a>(alloc: Global, name: &str, found: &ArgMatches<'a>) -> Result<Job<'a>, Error>
     requires { AreFound name.now (rows_of (found_of found.now)) }
     ensures { MatchResult result (IsJobOf (Some (name.now, rows_of (found_of found.now)))) (IsRefused (Some (name.now, rows_of (found_of found.now)))) }
 {

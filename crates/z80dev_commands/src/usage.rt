@@ -239,10 +239,7 @@ fn user_or_zero<'a>(alloc: Global) -> Arg<'a>
     ensures rule { rule_of result ≡ user_rule }
     ensures local { result.global ≡ false }
 {
-    user(
-        alloc,
-        "The user whose files they are, 0 to 31 [default: 0]",
-    )
+    user(alloc, "The user whose files they are, 0 to 31 [default: 0]")
 }
 
 /// A command with the image that it changes: whose files, whether it is locked, and its path.
@@ -275,10 +272,7 @@ fn dir<'a>(alloc: Global) -> Result<Command<'a>, AllocError>
     ensures local { IfOk result (λ c. (out-Command c).has_globals ≡ false) }
 {
     titled(alloc, "dir", "Lists the files of a disk", help::DIR)
-        .arg(user(
-            alloc,
-            "Lists the files of this user only, 0 to 31",
-        ))?
+        .arg(user(alloc, "Lists the files of this user only, 0 to 31"))?
         .arg(flag(
             alloc,
             "long",

@@ -11,8 +11,8 @@ text-requires c = has_text (codes "get") (codes "IMG") _ refl c.requires
 pub user_or_zero-requires : goal.user_or_zero-requires
 user_or_zero-requires c = reads_number 31 (codes "get") (codes "N") _ refl c.requires
 
-pub flag-requires-2 : goal.flag-requires-2
-flag-requires-2 c = reads_flag (codes "get") (codes "text") _ refl c.requires
+pub flag-requires-in-Ok : goal.flag-requires-in-Ok
+flag-requires-in-Ok c = reads_flag (codes "get") (codes "text") _ refl c.requires
 
-pub text-requires-2 : goal.text-requires-2
-text-requires-2 c = has_text (codes "get") (codes "NAME") _ refl c.requires
+pub text-requires-in-Ok : goal.text-requires-in-Ok
+text-requires-in-Ok c = has_text (codes "get") (codes "NAME") _ refl c.requires

@@ -11,5 +11,5 @@ user_or_zero-requires c = reads_number 31 (codes "get") (codes "N") _ refl c.req
 pub flag-requires : goal.flag-requires
 flag-requires c = reads_flag (codes "get") (codes "text") _ refl c.requires.found
 
-pub text-requires-2 : goal.text-requires-2
-text-requires-2 c = has_text (codes "get") (codes "NAME") _ refl c.requires.found
+pub text-requires-then-is_empty : goal.text-requires-then-is_empty
+text-requires-then-is_empty c = has_text (codes "get") (codes "NAME") _ refl c.requires.found

@@ -10,6 +10,6 @@ returns c =
     let one = with_argument _ _ _ (new_app c.args.name.now) (flag_rule (codes "system")) c.in_ok-command.ensures c.flag.ensures.rule c.flag.ensures.local (c.titled.ensures.app, c.titled.ensures.local) in
     let two = with_image _ _ _ c.in_ok-with_target.ensures.app c.in_ok-with_target.ensures.local one in
     record {
-      app = IfOk-weaker c.arg.result _ _ (λ new adds. (with_argument _ new _ _ (paths_rule (codes "NAME")) adds c.names.ensures.rule c.names.ensures.local two).0) c.arg.ensures;
-      local = IfOk-weaker c.arg.result _ _ (λ new adds. (with_argument _ new _ _ (paths_rule (codes "NAME")) adds c.names.ensures.rule c.names.ensures.local two).1) c.arg.ensures;
+      app = IfOk-weaker c.arg-2.result _ _ (λ new adds. (with_argument _ new _ _ (paths_rule (codes "NAME")) adds c.names.ensures.rule c.names.ensures.local two).0) c.arg-2.ensures;
+      local = IfOk-weaker c.arg-2.result _ _ (λ new adds. (with_argument _ new _ _ (paths_rule (codes "NAME")) adds c.names.ensures.rule c.names.ensures.local two).1) c.arg-2.ensures;
     }

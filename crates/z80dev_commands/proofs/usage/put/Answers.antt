@@ -1,7 +1,7 @@
 use Rattle.std.proofs.Common.{codes}
 use Rattle.std.proofs.lemmas.Result.{IfOk-weaker}
 use Rattle.clap.specs.Words.{new_app}
-use Rattle.z80dev_commands.specs.Commands.{flag_rule, path_rule, paths_rule, words_rule}
+use Rattle.z80dev_commands.specs.Commands.{flag_rule, path_rule, words_rule}
 use Rattle.z80dev_commands.proofs.Builders.{with_argument, with_image}
 use Rattle.z80dev_commands.proofs.usage.put.Goals as goal
 
@@ -13,6 +13,6 @@ returns c =
     let four = with_image _ _ _ c.in_ok-with_target.ensures.app c.in_ok-with_target.ensures.local three in
     let five = with_argument _ _ _ _ (path_rule (codes "FILE")) c.in_ok-arg-3.ensures c.path.ensures.rule c.path.ensures.local four in
     record {
-      app = IfOk-weaker c.arg-4.result _ _ (λ new adds. (with_argument _ new _ _ (words_rule (codes "NAME")) adds c.words.ensures.rule c.words.ensures.local five).0) c.arg-4.ensures;
-      local = IfOk-weaker c.arg-4.result _ _ (λ new adds. (with_argument _ new _ _ (words_rule (codes "NAME")) adds c.words.ensures.rule c.words.ensures.local five).1) c.arg-4.ensures;
+      app = IfOk-weaker c.arg-5.result _ _ (λ new adds. (with_argument _ new _ _ (words_rule (codes "NAME")) adds c.words.ensures.rule c.words.ensures.local five).0) c.arg-5.ensures;
+      local = IfOk-weaker c.arg-5.result _ _ (λ new adds. (with_argument _ new _ _ (words_rule (codes "NAME")) adds c.words.ensures.rule c.words.ensures.local five).1) c.arg-5.ensures;
     }
