@@ -95,8 +95,8 @@ time one may undo what the other did.
 
 If nothing changes, IMG is not written. If IMG is write-protected, it is not
 replaced. It keeps its permissions, and its owner if the system allows it. If
-IMG is a symbolic link, the link stays and the file behind it is replaced. Other
-hard links keep the old contents.
+IMG is a symbolic link, the link stays and the file that it points to is
+replaced. Other hard links keep the old contents.
 
 Example: z80dev put a.img game.com GAME.COM
 
