@@ -22,6 +22,12 @@ _z80dev_any_file() {
     mapfile -t COMPREPLY < <(compgen -f -- "$word")
 }
 
+# Folders.
+_z80dev_folder() {
+    compopt -o filenames 2>/dev/null
+    mapfile -t COMPREPLY < <(compgen -d -- "$word")
+}
+
 # Folders, and the paths of source files without their endings: what a BASE usually is.
 _z80dev_bases() {
     local paths path
@@ -66,11 +72,12 @@ _z80dev_offer() {
     esac
 }
 
-# The files of user 0 on a disk image whose names `get` takes.
+# The files on a disk image whose names `get` takes: those of the user that --user names, or of user 0.
 _z80dev_names() {
-    local LC_ALL=C line REPLY
+    local LC_ALL=C line REPLY number=0
     local letter='[^][:cntrl:][:space:][:lower:]<>.,;:=?*[]'
-    local form="^0 ($letter{1,8}\\.$letter{0,3}) [0-9]+( RO)?( SYS)?\$"
+    [[ ! "$user" =~ ^[0-9]{1,3}$ ]] || number=$((10#$user))
+    local form="^$number ($letter{1,8}\\.$letter{0,3}) [0-9]+( RO)?( SYS)?\$"
     _z80dev_plain "$1"
     # To open a pipe or a device could wait for ever.
     [[ -f "$REPLY" ]] || return 0
@@ -81,7 +88,7 @@ _z80dev_names() {
 }
 
 _z80dev() {
-    local word=${COMP_WORDS[COMP_CWORD]} command='' option='' options='' disk='' each at REPLY operands=()
+    local word=${COMP_WORDS[COMP_CWORD]} command='' option='' options='' disk='' user='' several='' each at REPLY operands=()
     COMPREPLY=()
     for ((at = 1; at < COMP_CWORD; at++)); do
         each=${COMP_WORDS[at]}
@@ -89,10 +96,13 @@ _z80dev() {
             # bash takes `--out=BASE` apart, at the equals sign.
             if [[ "$each" != = ]]; then
                 [[ "$option" != --disk ]] || disk=$each
+                [[ "$option" != --user ]] || user=$each
                 option=''
             fi
-        elif [[ "$each" == --out || "$each" == --disk || "$each" == --steps ]]; then
+        elif [[ "$each" == --out || "$each" == --disk || "$each" == --steps || "$each" == --user ]]; then
             option=$each
+        elif [[ "$each" == --to || "$each" == --all ]]; then
+            several=$each
         elif [[ "$each" != -* ]]; then
             if [[ -z "$command" ]]; then
                 command=$each
@@ -110,37 +120,40 @@ _z80dev() {
     [[ -z "$option" ]] || return
 
     case $command in
-    '') options='asm link build check dir put get blank run -h --help -V --version' ;;
+    '') options='asm link build check dir put get erase rename protect unprotect check-disk blank run -h --help -V --version' ;;
     asm) options='--out --grow -h --help' ;;
     link) options='--out -h --help' ;;
     build) options='--out --grow --list -v --verbose -h --help' ;;
-    check) options='-h --help' ;;
-    dir) options='-h --help' ;;
-    put) options='-h --help' ;;
-    get) options='-h --help' ;;
-    blank) options='--mega -h --help' ;;
-    run) options='--disk --steps -h --help' ;;
+    check | check-disk) options='-h --help' ;;
+    dir) options='--user --long -h --help' ;;
+    put) options='--to --replace --text --user --no-lock -h --help' ;;
+    get) options='--all --text --user -h --help' ;;
+    erase | rename) options='--user --no-lock -h --help' ;;
+    protect | unprotect) options='--system --user --no-lock -h --help' ;;
+    blank) options='--mega --keep --no-lock -h --help' ;;
+    run) options='--disk --no-lock --steps -h --help' ;;
     esac
     if [[ "$word" == -* || -z "$command" ]]; then
         mapfile -t COMPREPLY < <(compgen -W "$options" -- "$word")
         return
     fi
 
-    case $command:${#operands[@]} in
+    case $command$several:${#operands[@]} in
     asm:0 | build:*) _z80dev_files asm mac z80 ;;
     link:*) _z80dev_files zmo ;;
     check:0) _z80dev_files siz ;;
     check:1) _z80dev_files crt ;;
-    dir:0 | put:0 | get:0 | blank:0) _z80dev_files img dsk cpm ;;
-    put:1 | get:2) _z80dev_any_file ;;
+    run:0) _z80dev_files com ;;
+    run:*) [[ -z "$disk" ]] || _z80dev_names "$disk" ;;
+    *:0) _z80dev_files img dsk cpm ;;
+    put:1 | put--to:* | get:2) _z80dev_any_file ;;
     put:2)
         _z80dev_plain "${operands[1]}"
         each=${REPLY##*/}
         _z80dev_offer "${each^^}"
         ;;
-    get:1) _z80dev_names "${operands[0]}" ;;
-    run:0) _z80dev_files com ;;
-    run:*) [[ -z "$disk" ]] || _z80dev_names "$disk" ;;
+    get--all:1) _z80dev_folder ;;
+    dir:1 | get:1 | erase:* | rename:1 | protect:* | unprotect:*) _z80dev_names "${operands[0]}" ;;
     esac
 }
 

@@ -15,12 +15,17 @@ function __z80dev_operands
     for word in (commandline -opc)[3..]
         if test $is_value = yes
             set is_value no
-        else if contains -- $word --out --disk --steps
+        else if contains -- $word --out --disk --steps --user
             set is_value yes
         else if not string match -q -- '-*' $word
             echo $word
         end
     end
+end
+
+# Whether an option stands before the cursor.
+function __z80dev_has
+    contains -- $argv[1] (commandline -opc)
 end
 
 # Folders, and the files with one of the endings that are given, in upper or lower case.
@@ -39,14 +44,17 @@ function __z80dev_bases
     __z80dev_files asm mac z80 | string replace -ri '\.(asm|mac|z80)$' ''
 end
 
-# The files of user 0 on a disk image whose names `get` takes. A name that begins with a dash would be an option.
+# The files on a disk image whose names `get` takes: those of the user that --user names, or of user 0. A name that begins with a
+# dash would be an option.
 function __z80dev_names
     set -l letter '(?![a-z<>.,;:=?*[\\]])[!-~]'
     set -l image (string replace -r '^~/' $HOME/ -- $argv[1])
+    set -l user (commandline -opc | string join ' ' | string match -r -- '--user[= ]0*([0-9]+)(?: |$)')
+    set -q user[2]; or set user '' 0
     # To open a pipe or a device could wait for ever.
     test -f "$image"; or return 1
     z80dev dir "$image" 2>/dev/null </dev/null |
-        string replace -rf "^0 (?!-)((?:$letter){1,8}\.(?:$letter){0,3}) [0-9]+( RO)?( SYS)?\$" '$1'
+        string replace -rf "^$user[2] (?!-)((?:$letter){1,8}\.(?:$letter){0,3}) [0-9]+( RO)?( SYS)?\$" '$1'
 end
 
 # The image that --disk names.
@@ -62,8 +70,13 @@ complete -c z80dev -n __fish_use_subcommand -a link -d 'Link objects to a progra
 complete -c z80dev -n __fish_use_subcommand -a build -d 'Assemble and link source files to a program'
 complete -c z80dev -n __fish_use_subcommand -a check -d 'Check the certificate of a program'
 complete -c z80dev -n __fish_use_subcommand -a dir -d 'List the files on a disk image'
-complete -c z80dev -n __fish_use_subcommand -a put -d 'Copy a file to a disk image'
-complete -c z80dev -n __fish_use_subcommand -a get -d 'Copy a file from a disk image'
+complete -c z80dev -n __fish_use_subcommand -a put -d 'Copy files to a disk image'
+complete -c z80dev -n __fish_use_subcommand -a get -d 'Copy files from a disk image'
+complete -c z80dev -n __fish_use_subcommand -a erase -d 'Erase files on a disk image'
+complete -c z80dev -n __fish_use_subcommand -a rename -d 'Rename a file on a disk image'
+complete -c z80dev -n __fish_use_subcommand -a protect -d 'Make files on a disk image read-only'
+complete -c z80dev -n __fish_use_subcommand -a unprotect -d 'Make files on a disk image writable'
+complete -c z80dev -n __fish_use_subcommand -a check-disk -d 'Check the directory of a disk image'
 complete -c z80dev -n __fish_use_subcommand -a blank -d 'Make an empty disk image'
 complete -c z80dev -n __fish_use_subcommand -a run -d 'Run a CP/M program'
 
@@ -88,24 +101,69 @@ complete -c z80dev -n '__z80dev_at check 0' -a '(__z80dev_files siz)' -d Sizes
 complete -c z80dev -n '__z80dev_at check 1' -a '(__z80dev_files crt)' -d Certificate
 
 complete -c z80dev -n '__z80dev_at dir' -s h -l help -d 'Print help'
+complete -c z80dev -n '__z80dev_at dir' -l user -x -d 'List the files of this user only'
+complete -c z80dev -n '__z80dev_at dir' -l long -d 'Print the room that each file takes too'
 complete -c z80dev -n '__z80dev_at dir 0' -a '(__z80dev_files img dsk cpm)' -d 'Disk image'
+complete -c z80dev -n '__z80dev_at dir 1' -a '(__z80dev_names (__z80dev_operands)[1])' -d 'Name on the disk'
 
 complete -c z80dev -n '__z80dev_at put' -s h -l help -d 'Print help'
+complete -c z80dev -n '__z80dev_at put' -l to -d 'Put each file under its own name'
+complete -c z80dev -n '__z80dev_at put' -l replace -d 'Replace a file that has the name'
+complete -c z80dev -n '__z80dev_at put' -l text -d 'Change the ends of lines to those of CP/M'
+complete -c z80dev -n '__z80dev_at put' -l user -x -d 'The user whose files they are'
+complete -c z80dev -n '__z80dev_at put' -l no-lock -d 'Do not lock the image'
 complete -c z80dev -n '__z80dev_at put 0' -a '(__z80dev_files img dsk cpm)' -d 'Disk image'
 complete -c z80dev -n '__z80dev_at put 1' -F
-complete -c z80dev -n '__z80dev_at put 2' -a '(string upper -- (path basename -- (__z80dev_operands)[2]))' -d 'Name on the disk'
+complete -c z80dev -n '__z80dev_at put 2; and not __z80dev_has --to' -a '(string upper -- (path basename -- (__z80dev_operands)[2]))' -d 'Name on the disk'
+complete -c z80dev -n '__z80dev_at put; and __z80dev_has --to; and not __z80dev_at put 0' -F
 
 complete -c z80dev -n '__z80dev_at get' -s h -l help -d 'Print help'
+complete -c z80dev -n '__z80dev_at get' -l all -d 'Get every file of the user'
+complete -c z80dev -n '__z80dev_at get' -l text -d 'Change the ends of lines from those of CP/M'
+complete -c z80dev -n '__z80dev_at get' -l user -x -d 'The user whose files they are'
 complete -c z80dev -n '__z80dev_at get 0' -a '(__z80dev_files img dsk cpm)' -d 'Disk image'
-complete -c z80dev -n '__z80dev_at get 1' -a '(__z80dev_names (__z80dev_operands)[1])' -d 'Name on the disk'
-complete -c z80dev -n '__z80dev_at get 2' -F
+complete -c z80dev -n '__z80dev_at get 1; and not __z80dev_has --all' -a '(__z80dev_names (__z80dev_operands)[1])' -d 'Name on the disk'
+complete -c z80dev -n '__z80dev_at get 1; and __z80dev_has --all' -a '(__fish_complete_directories)' -d Folder
+complete -c z80dev -n '__z80dev_at get 2; and not __z80dev_has --all' -F
+
+complete -c z80dev -n '__z80dev_at erase' -s h -l help -d 'Print help'
+complete -c z80dev -n '__z80dev_at erase' -l user -x -d 'The user whose files they are'
+complete -c z80dev -n '__z80dev_at erase' -l no-lock -d 'Do not lock the image'
+complete -c z80dev -n '__z80dev_at erase 0' -a '(__z80dev_files img dsk cpm)' -d 'Disk image'
+complete -c z80dev -n '__z80dev_at erase; and not __z80dev_at erase 0' -a '(__z80dev_names (__z80dev_operands)[1])' -d 'Name on the disk'
+
+complete -c z80dev -n '__z80dev_at rename' -s h -l help -d 'Print help'
+complete -c z80dev -n '__z80dev_at rename' -l user -x -d 'The user whose file it is'
+complete -c z80dev -n '__z80dev_at rename' -l no-lock -d 'Do not lock the image'
+complete -c z80dev -n '__z80dev_at rename 0' -a '(__z80dev_files img dsk cpm)' -d 'Disk image'
+complete -c z80dev -n '__z80dev_at rename 1' -a '(__z80dev_names (__z80dev_operands)[1])' -d 'Name on the disk'
+
+complete -c z80dev -n '__z80dev_at protect' -s h -l help -d 'Print help'
+complete -c z80dev -n '__z80dev_at protect' -l system -d 'Mark the files as system files instead'
+complete -c z80dev -n '__z80dev_at protect' -l user -x -d 'The user whose files they are'
+complete -c z80dev -n '__z80dev_at protect' -l no-lock -d 'Do not lock the image'
+complete -c z80dev -n '__z80dev_at protect 0' -a '(__z80dev_files img dsk cpm)' -d 'Disk image'
+complete -c z80dev -n '__z80dev_at protect; and not __z80dev_at protect 0' -a '(__z80dev_names (__z80dev_operands)[1])' -d 'Name on the disk'
+
+complete -c z80dev -n '__z80dev_at unprotect' -s h -l help -d 'Print help'
+complete -c z80dev -n '__z80dev_at unprotect' -l system -d 'Take the mark of system files away instead'
+complete -c z80dev -n '__z80dev_at unprotect' -l user -x -d 'The user whose files they are'
+complete -c z80dev -n '__z80dev_at unprotect' -l no-lock -d 'Do not lock the image'
+complete -c z80dev -n '__z80dev_at unprotect 0' -a '(__z80dev_files img dsk cpm)' -d 'Disk image'
+complete -c z80dev -n '__z80dev_at unprotect; and not __z80dev_at unprotect 0' -a '(__z80dev_names (__z80dev_operands)[1])' -d 'Name on the disk'
+
+complete -c z80dev -n '__z80dev_at check-disk' -s h -l help -d 'Print help'
+complete -c z80dev -n '__z80dev_at check-disk 0' -a '(__z80dev_files img dsk cpm)' -d 'Disk image'
 
 complete -c z80dev -n '__z80dev_at blank' -s h -l help -d 'Print help'
 complete -c z80dev -n '__z80dev_at blank' -l mega -d 'Make an image of 1,048,576 bytes'
+complete -c z80dev -n '__z80dev_at blank' -l keep -d 'Refuse if the image exists'
+complete -c z80dev -n '__z80dev_at blank' -l no-lock -d 'Do not lock the image'
 complete -c z80dev -n '__z80dev_at blank 0' -a '(__z80dev_files img dsk cpm)' -d 'Disk image'
 
 complete -c z80dev -n '__z80dev_at run' -s h -l help -d 'Print help'
 complete -c z80dev -n '__z80dev_at run' -l disk -x -a '(__z80dev_files img dsk cpm)' -d 'Image of drive A'
+complete -c z80dev -n '__z80dev_at run' -l no-lock -d 'Do not lock the image'
 complete -c z80dev -n '__z80dev_at run' -l steps -x -d 'The most steps that are run'
 complete -c z80dev -n '__z80dev_at run 0' -a '(__z80dev_files com)' -d 'Program'
 complete -c z80dev -n '__z80dev_at run; and not __z80dev_at run 0' -a '(set -l disk (__z80dev_disk); and __z80dev_names $disk[-1])' -d 'Name on the disk'

@@ -6,7 +6,7 @@ use Rattle.clap.specs.Words.{AddsArg, AddsSubcommand, App, Rule, Shape, app_of, 
 use Rattle.clap.specs.declared.builder.arg.Arg.{Arg}
 use Rattle.clap.specs.declared.builder.command.Command.{Command}
 use Rattle.clap.specs.declared.builder.command.Command.TheViews.{out-Command}
-use Rattle.z80dev_commands.specs.Private.{alone}
+use Rattle.z80dev_commands.specs.Private.{alone, with_target}
 
 -- the command is this one, and has no global argument
 abbrev pub IsMade : Command → App → Type 0
@@ -14,6 +14,10 @@ IsMade c a = (app_of c ≡ a) × ((out-Command c).has_globals ≡ false)
 
 pub with_argument : (old new : Command) (arg : Arg) (a : App) (r : Rule) → AddsArg old arg new → rule_of arg ≡ r → arg.global ≡ false → IsMade old a → IsMade new (with_rule a r)
 with_argument old new arg a r adds is local made = (adds.shape local ∙ ap₂ with_rule made.0 is, adds.globals ∙ ap₂ (λ x y. x || y) made.1 local)
+
+-- .. with the image that it changes
+pub with_image : (old new : Command) (a : App) → app_of new ≡ with_target (app_of old) → (out-Command new).has_globals ≡ false → IsMade old a → IsMade new (with_target a)
+with_image old new a is local made = (is ∙ ap with_target made.0, local)
 
 pub with_command : (old sub new : Command) (a : App) (s : Shape) → AddsSubcommand old sub new → (out-Command sub).has_globals ≡ false → app_of old ≡ a → app_of sub ≡ alone s
     → app_of new ≡ with_subcommand a s

@@ -1,3 +1,4 @@
 pub mod Builders
+pub mod Ends
 pub mod Rows
 pub mod Values

@@ -1,5 +1,5 @@
 -- What a parse that succeeds found for a command.
-use Rattle.std.proofs.Common.{◌≡◌, ◌∙◌, ◌⊎◌, inl, inr, ℕ, Bool, true, false, List, [], Option, None, Some, is_some, codes, refl, sym, ap, subst}
+use Rattle.std.proofs.Common.{◌≡◌, ◌∙◌, ◌<◌, ◌≤◌, ◌^◌, ◌⊎◌, arith, inl, inr, ℕ, Bool, true, false, List, [], Option, None, Some, is_some, codes, refl, sym, ap, subst}
 use Rattle.std.specs.Prelude.{Err, IfSome, Ok, Result, option_and_then, slice_get}
 use Rattle.std.specs.Option.{option_map, option_map_or}
 use Rattle.std.specs.Prelude.{find}
@@ -12,8 +12,8 @@ use Rattle.clap.specs.declared.parser.matches.ArgMatches.{ArgMatches}
 use Rattle.clap.specs.declared.parser.matches.ArgMatches.TheViews.{out-ArgMatches, out-SubCommand}
 use Rattle.clap.specs.declared.parser.matches.SubCommand.{SubCommand}
 use Rattle.z80dev_commands.specs.Commands.{FindsNumber, IsParsed, ReadsAs, is_on, z80dev}
-use Rattle.z80dev_commands.specs.Private.{AreFound, IsFlag, IsNumber}
-use Rattle.z80dev_commands.proofs.Values.{each_named, flag_value, has_parser, is_bool, is_unsigned, number_value, required_value, requires}
+use Rattle.z80dev_commands.specs.Private.{AreFound, HasTarget, IsFlag, IsNumber}
+use Rattle.z80dev_commands.proofs.Values.{each_named, flag_value, has_parser, is_bool, is_up_to, number_value, required_value, requires}
 
 -- a parse of the words succeeds, and finds these rows for the command of this name
 abbrev pub IsMet : List Text → Text → List Row → Type 0
@@ -59,28 +59,33 @@ has_texts name id rows is met = go (find (λ r. bytes_eq r.id id) rows) (has_tex
 pub reads_flag : (name id : Text) (rows : List Row) → each_named name (has_parser is_bool id) (built z80dev).subs ≡ true → AreFound name rows → IsFlag id rows
 reads_flag name id rows is met = flag_value z80dev met.0 name id rows is met.2 met.1
 
-pub reads_number : (name id : Text) (rows : List Row) → each_named name (has_parser is_unsigned id) (built z80dev).subs ≡ true → AreFound name rows → IsNumber id rows
-reads_number name id rows is met = number_value z80dev met.0 name id rows is met.2 met.1
+pub reads_number : (most : ℕ) (name id : Text) (rows : List Row) → each_named name (has_parser (is_up_to most) id) (built z80dev).subs ≡ true → AreFound name rows → IsNumber id most rows
+reads_number most name id rows is met = number_value most z80dev met.0 name id rows is met.2 met.1
 
--- what `get_one` answers of a number, where it reads (`G`) as `u64` does
-module _ (E : Type 0) (G : Text → Result ℕ E → Type 0) (reads : (t : Text) (r : Result ℕ E) → G t r → ParsesUnsigned 64 10 t r) where
-  pub number_is : (id : Text) (rows : List Row) (read : Option Text) (answer : Option ℕ) → one_of id rows ≡ read → IsNumber id rows → (read ≡ None → answer ≡ None)
-      → ((t : Text) → read ≡ Some t → ReadsOne G t answer) → FindsNumber id answer rows
+pub has_target : (name : Text) (rows : List Row) → each_named name (requires (codes "IMG")) (built z80dev).subs ≡ true → each_named name (has_parser (is_up_to 31) (codes "N")) (built z80dev).subs ≡ true
+    → each_named name (has_parser is_bool (codes "no-lock")) (built z80dev).subs ≡ true → AreFound name rows → HasTarget rows
+has_target name rows image user lock met = (has_text name (codes "IMG") rows image met, reads_number 31 name (codes "N") rows user met, reads_flag name (codes "no-lock") rows lock met)
+
+-- what `get_one` answers of a number, where it reads (`G`) as a type of so many bits does, which holds the most that it may be
+module _ (E : Type 0) (G : Text → Result ℕ E → Type 0) (bits most : ℕ) (fits : most < 2 ^ bits) (reads : (t : Text) (r : Result ℕ E) → G t r → ParsesUnsigned bits 10 t r) where
+  pub number_is : (id : Text) (rows : List Row) (read : Option Text) (answer : Option ℕ) → one_of id rows ≡ read → IsNumber id most rows → (read ≡ None → answer ≡ None)
+      → ((t : Text) → read ≡ Some t → ReadsOne G t answer) → FindsNumber id answer rows × IfSome answer (λ n. n ≤ most)
   number_is id rows read answer is number none value =
       let first = sym number.0 ∙ is in
-      go read answer first (subst (λ o. IfSome o (λ text. (n : ℕ) × ReadsAs text n)) first number.1) none value
+      go read answer first (subst (λ o. IfSome o (λ text. (n : ℕ) × ReadsAs text n × (n ≤ most))) first number.1) none value
     where
-      parsed : (n : ℕ) (t : Text) → ParsesUnsigned {E = E} 64 10 t (Ok n) → ReadsAs t n
-      parsed n t p = (p.0.0, sym p.1, rw p.1 p.0.1)
-
-      go : (o : Option Text) (answer : Option ℕ) → first_of id rows ≡ o → IfSome o (λ text. (n : ℕ) × ReadsAs text n) → (o ≡ None → answer ≡ None)
-          → ((t : Text) → o ≡ Some t → ReadsOne G t answer) → FindsNumber id answer rows
-      go None None first number none value = first
+      go : (o : Option Text) (answer : Option ℕ) → first_of id rows ≡ o → IfSome o (λ text. (n : ℕ) × ReadsAs text n × (n ≤ most)) → (o ≡ None → answer ≡ None)
+          → ((t : Text) → o ≡ Some t → ReadsOne G t answer) → FindsNumber id answer rows × IfSome answer (λ n. n ≤ most)
+      go None None first number none value = (first, tt)
       go None (Some n) first number none value = absurd (cc (none refl))
-      go (Some t) (Some n) first number none value = (t, first, parsed n t (reads t (Ok n) (value t refl)))
+      go (Some t) (Some n) first number none value =
+          let p = reads t (Ok n) (value t refl) in
+          let same : n ≡ number.0 = p.1 ∙ number.1.1 in
+          ((t, first, (number.1.0, sym p.1, rw same number.1.2)), rw same number.2)
       go (Some t) None first number none value =
           let fails = value t refl in
-          absurd (reads t (Err fails.0) fails.1 (number.1.0, rw number.1.1 number.1.2))
+          let below : number.0 < 2 ^ bits = omega arith in
+          absurd (reads t (Err fails.0) fails.1 (number.1.0, rw number.1.1 below))
 
 -- what `get_flag` answers
 pub flag_is : (id : Text) (rows : List Row) (read : Option Text) (answer : Bool) → one_of id rows ≡ read → IsFlag id rows → (read ≡ None → answer ≡ false) → (read ≡ Some (codes "true") → answer ≡ true)

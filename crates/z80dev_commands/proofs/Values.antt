@@ -1,7 +1,7 @@
 -- Where a parse has no fault, an argument that has to be given has a value, and each value is one that its argument takes.
 use Rattle.std.proofs.lemmas.Bool.Decides.{nat_tests}
-use Rattle.std.proofs.Common.{◌≡◌, ◌∙◌, ◌<◌, ◌&&◌, ◌||◌, ℕ, Bool, cond, true, false, not, zero, suc, refl, sym, ap, subst, arith, List, [], ◌∷◌, ◌++◌, length, drop, Option, Some, None, is_some, true≢false, nat_lt, codes, ◌⊎◌, inl, inr}
-use Rattle.std.specs.Prelude.{IfSome, encode_utf8, find, option_and_then, slice_get}
+use Rattle.std.proofs.Common.{◌≡◌, ◌∙◌, ◌<◌, ◌≤◌, leb-true, le_trans, ◌&&◌, ◌||◌, ℕ, Bool, cond, true, false, not, zero, suc, refl, sym, ap, subst, arith, List, [], ◌∷◌, ◌++◌, length, drop, Option, Some, None, is_some, true≢false, nat_lt, codes, ◌⊎◌, inl, inr}
+use Rattle.std.specs.Prelude.{IfSome, encode_utf8, find, nat_le, option_and_then, slice_get}
 use Rattle.std.specs.List.{AllByRecursion, fold, list_all, list_any}
 use Rattle.std.specs.Option.{option_map, option_map_or}
 use Rattle.std.specs.Str.{bytes_eq, chars}
@@ -469,9 +469,10 @@ abbrev pub is_bool : ValueParser → Bool
 is_bool parser.Bool = true
 is_bool _ = false
 
-abbrev pub is_unsigned : ValueParser → Bool
-is_unsigned (parser.Unsigned low high) = true
-is_unsigned _ = false
+-- numbers of `u64`, this one at most
+abbrev pub is_up_to : ℕ → ValueParser → Bool
+is_up_to most (parser.Unsigned low high) = nat_le high most
+is_up_to most _ = false
 
 -- each argument of this id has such a parser
 abbrev pub have_parser : (ValueParser → Bool) → List Rule → Text → Bool
@@ -485,11 +486,12 @@ bool_text_of parser.Bool ignore_case v is e = go (bytes_eq v (codes "true")) ref
     go false is e = inr ((bytes_eq-Decides v (codes "false")).0 e)
 bool_text_of _ ignore_case v is e = absurd (true≢false (sym is))
 
-number_of : (p : ValueParser) (ignore_case : Bool) (v : Text) → is_unsigned p ≡ true → accepts ignore_case p v ≡ true → (n : ℕ) × ReadsAs v n
-number_of (parser.Unsigned low high) ignore_case v is e =
+number_of : (most : ℕ) (p : ValueParser) (ignore_case : Bool) (v : Text) → is_up_to most p ≡ true → accepts ignore_case p v ≡ true → (n : ℕ) × ReadsAs v n × (n ≤ most)
+number_of most (parser.Unsigned low high) ignore_case v is e =
     let in_bounds = accepts-Accepts ignore_case (parser.Unsigned low high) v e in
-    (digits_value 10 (without_leading_plus v), (in_bounds.0, refl, in_bounds.1))
-number_of _ ignore_case v is e = absurd (true≢false (sym is))
+    let below : high ≤ most = leb-true high most is in
+    (digits_value 10 (without_leading_plus v), (in_bounds.0, refl, in_bounds.1), le_trans in_bounds.3 below)
+number_of most _ ignore_case v is e = absurd (true≢false (sym is))
 
 -- what holds of the texts that such a parser takes holds of each value that is taken
 module _ (p : ValueParser → Bool) (Q : Text → Type 0) (each : (q : ValueParser) (ignore_case : Bool) (v : Text) → p q ≡ true → accepts ignore_case q v ≡ true → Q v) where
@@ -605,6 +607,6 @@ flag_value a words name id rows is met e =
     subst (λ o. IfSome o (λ v. (v ≡ codes "true") ⊎ (v ≡ codes "false"))) (sym read.0) read.1
 
 -- and a number as one
-pub number_value : (a : App) (words : List Text) (name id : Text) (rows : List Row) → each_named name (has_parser is_unsigned id) (built a).subs ≡ true
-    → subcommand_of a words ≡ Some (name, rows) → fault_of a words ≡ [] → IsNumber id rows
-number_value = read_value is_unsigned (λ v. (n : ℕ) × ReadsAs v n) number_of
+pub number_value : (most : ℕ) (a : App) (words : List Text) (name id : Text) (rows : List Row) → each_named name (has_parser (is_up_to most) id) (built a).subs ≡ true
+    → subcommand_of a words ≡ Some (name, rows) → fault_of a words ≡ [] → IsNumber id most rows
+number_value most = read_value (is_up_to most) (λ v. (n : ℕ) × ReadsAs v n × (n ≤ most)) (number_of most)

@@ -1,5 +1,5 @@
 -- The words that the command takes, and which job they ask for.
-use Rattle.std.specs.Prelude.{◌≡◌, ◌<◌, ◌^◌, ℕ, Bool, true, false, List, [], ◌∷◌, Option, None, Some, codes, map, option_map, unwrap_or}
+use Rattle.std.specs.Prelude.{◌≡◌, ◌<◌, ◌^◌, ◌⊎◌, ℕ, Bool, true, false, not, if◌then◌else◌, IfSome, List, [], ◌∷◌, ◌++◌, Option, None, Some, codes, length, map, option_map, unwrap_or}
 use Rattle.std.specs.Borrow.{Bor}
 use Rattle.std.specs.Option.{option_map_or}
 use Rattle.std.specs.Str.{bytes_eq}
@@ -9,14 +9,24 @@ use Rattle.clap.specs.Words.{App, Row, Rule, Shape, Text, all_of, fault_of, firs
 use Rattle.clap.specs.Simple.{new_shape}
 use Rattle.clap.specs.declared.builder.action.ArgAction.TheVariants.{Append, Set, SetTrue}
 use Rattle.clap.specs.declared.builder.value_parser.ValueParser.TheVariants.{Unsigned}
+use Rattle.clap.specs.declared.error.kind.ErrorKind.{ErrorKind}
+use Rattle.clap.specs.declared.error.kind.ErrorKind.TheVariants.{MissingRequiredArgument, TooManyValues}
+use Rattle.z80dev_commands.specs.declared.Attribute.{Attribute}
+use Rattle.z80dev_commands.specs.declared.Attribute.TheVariants.{ReadOnly, System}
 use Rattle.z80dev_commands.specs.declared.Job.{Job}
-use Rattle.z80dev_commands.specs.declared.Job.TheVariants.{Pipe, Asm, Link, Build, Check, Dir, Put, Get, Blank, Run}
+use Rattle.z80dev_commands.specs.declared.Job.TheVariants.{Pipe, Asm, Link, Build, Check, Dir, Put, PutAll, Get, GetAll, Erase, Rename, Protect, CheckDisk, Blank, Run}
+use Rattle.z80dev_commands.specs.declared.Manner.{Manner}
+use Rattle.z80dev_commands.specs.declared.Target.{Target}
 
 -- ---- arguments
 
 -- a path that has to be given
 abbrev pub path_rule : Text → Rule
 path_rule name = record (new_rule name) { required = true; action = Some Set }
+
+-- a name that may be left out
+abbrev pub name_rule : Text → Rule
+name_rule name = record (path_rule name) { required = false }
 
 -- one path or more
 abbrev pub paths_rule : Text → Rule
@@ -26,6 +36,10 @@ paths_rule name = record (new_rule name) {
   range = Some (record { start_inclusive = 1; end_inclusive = usize_max });
 }
 
+-- words, none or more
+abbrev pub words_rule : Text → Rule
+words_rule name = record (paths_rule name) { required = false }
+
 -- `--out BASE`, which has to be given
 abbrev pub out_rule : Rule
 out_rule = record (path_rule (codes "BASE")) { long = Some (codes "out") }
@@ -34,13 +48,17 @@ out_rule = record (path_rule (codes "BASE")) { long = Some (codes "out") }
 abbrev pub option_rule : Text → Text → Rule
 option_rule name id = record (new_rule id) { long = Some name; action = Some Set }
 
--- .. whose value is a number of `u64`
-abbrev pub number_rule : Text → Text → Rule
-number_rule name id = record (option_rule name id) { parser = Some (Unsigned 0 18446744073709551615) }
+-- .. whose value is a number, this one at most
+abbrev pub number_rule : Text → Text → ℕ → Rule
+number_rule name id most = record (option_rule name id) { parser = Some (Unsigned 0 most) }
 
--- words, none or more
-abbrev pub words_rule : Text → Rule
-words_rule name = record (paths_rule name) { required = false }
+-- `--steps N`, any number of `u64`
+abbrev pub steps_rule : Rule
+steps_rule = number_rule (codes "steps") (codes "N") 18446744073709551615
+
+-- `--user N`, one of 32 users
+abbrev pub user_rule : Rule
+user_rule = number_rule (codes "user") (codes "N") 31
 
 -- `--NAME`
 abbrev pub flag_rule : Text → Rule
@@ -49,6 +67,10 @@ flag_rule name = record (new_rule name) { long = Some name; action = Some SetTru
 -- `--verbose`, or `-v`
 abbrev pub verbose_rule : Rule
 verbose_rule = record (flag_rule (codes "verbose")) { short = Some 118 }
+
+-- the image that a command changes, and how: `[--user N] [--no-lock] IMG`
+abbrev pub target_rules : List Rule
+target_rules = user_rule ∷ flag_rule (codes "no-lock") ∷ path_rule (codes "IMG") ∷ []
 
 -- ---- commands
 
@@ -72,26 +94,44 @@ build_shape = with_rules (codes "build") (out_rule ∷ flag_rule (codes "grow") 
 abbrev pub check_shape : Shape
 check_shape = with_rules (codes "check") (path_rule (codes "SIZES") ∷ path_rule (codes "CERT") ∷ [])
 
--- `dir IMG`
+-- `dir [--user N] [--long] IMG [NAME]`
 abbrev pub dir_shape : Shape
-dir_shape = with_rules (codes "dir") (path_rule (codes "IMG") ∷ [])
+dir_shape = with_rules (codes "dir") (user_rule ∷ flag_rule (codes "long") ∷ path_rule (codes "IMG") ∷ name_rule (codes "NAME") ∷ [])
 
--- `put IMG FILE NAME`
+-- `put [--to] [--replace] [--text] [--user N] [--no-lock] IMG FILE [NAME..]`
 abbrev pub put_shape : Shape
-put_shape = with_rules (codes "put") (path_rule (codes "IMG") ∷ path_rule (codes "FILE") ∷ path_rule (codes "NAME") ∷ [])
+put_shape = with_rules (codes "put")
+    (flag_rule (codes "to") ∷ flag_rule (codes "replace") ∷ flag_rule (codes "text") ∷ (target_rules ++ (path_rule (codes "FILE") ∷ words_rule (codes "NAME") ∷ [])))
 
--- `get IMG NAME FILE`
+-- `get [--all] [--text] [--user N] IMG NAME [FILE..]`
 abbrev pub get_shape : Shape
-get_shape = with_rules (codes "get") (path_rule (codes "IMG") ∷ path_rule (codes "NAME") ∷ path_rule (codes "FILE") ∷ [])
+get_shape = with_rules (codes "get")
+    (flag_rule (codes "all") ∷ flag_rule (codes "text") ∷ user_rule ∷ path_rule (codes "IMG") ∷ path_rule (codes "NAME") ∷ words_rule (codes "FILE") ∷ [])
 
--- `blank [--mega] IMG`
+-- `erase [--user N] [--no-lock] IMG NAME..`
+abbrev pub erase_shape : Shape
+erase_shape = with_rules (codes "erase") (target_rules ++ (paths_rule (codes "NAME") ∷ []))
+
+-- `rename [--user N] [--no-lock] IMG OLD NEW`
+abbrev pub rename_shape : Shape
+rename_shape = with_rules (codes "rename") (target_rules ++ (path_rule (codes "OLD") ∷ path_rule (codes "NEW") ∷ []))
+
+-- `protect [--system] [--user N] [--no-lock] IMG NAME..`, and `unprotect` with the same words
+abbrev pub protect_shape : Text → Shape
+protect_shape name = with_rules name (flag_rule (codes "system") ∷ (target_rules ++ (paths_rule (codes "NAME") ∷ [])))
+
+-- `check-disk IMG`
+abbrev pub check_disk_shape : Shape
+check_disk_shape = with_rules (codes "check-disk") (path_rule (codes "IMG") ∷ [])
+
+-- `blank [--mega] [--keep] [--no-lock] IMG`
 abbrev pub blank_shape : Shape
-blank_shape = with_rules (codes "blank") (flag_rule (codes "mega") ∷ path_rule (codes "IMG") ∷ [])
+blank_shape = with_rules (codes "blank") (flag_rule (codes "mega") ∷ flag_rule (codes "keep") ∷ flag_rule (codes "no-lock") ∷ path_rule (codes "IMG") ∷ [])
 
--- `run [--disk IMG] [--steps N] COM [WORD..]`
+-- `run [--disk IMG] [--no-lock] [--steps N] COM [WORD..]`
 abbrev pub run_shape : Shape
 run_shape = with_rules (codes "run")
-    (option_rule (codes "disk") (codes "IMG") ∷ number_rule (codes "steps") (codes "N") ∷ path_rule (codes "COM") ∷ words_rule (codes "WORD") ∷ [])
+    (option_rule (codes "disk") (codes "IMG") ∷ flag_rule (codes "no-lock") ∷ steps_rule ∷ path_rule (codes "COM") ∷ words_rule (codes "WORD") ∷ [])
 
 -- the command's own words: its help and its version
 abbrev pub bare : App
@@ -101,9 +141,14 @@ bare = record { top = record (new_shape (codes "z80dev")) { disable_help_subcomm
 abbrev pub programs : App
 programs = with_subcommand (with_subcommand (with_subcommand (with_subcommand bare asm_shape) link_shape) build_shape) check_shape
 
--- .. with those on disks, and with the one that runs a program
+-- .. with those that list, copy and erase the files of a disk
+abbrev pub with_files : App
+with_files = with_subcommand (with_subcommand (with_subcommand (with_subcommand (with_subcommand programs dir_shape) put_shape) get_shape) erase_shape) rename_shape
+
+-- .. with the others on disks, and with the one that runs a program
 abbrev pub z80dev : App
-z80dev = with_subcommand (with_subcommand (with_subcommand (with_subcommand (with_subcommand programs dir_shape) put_shape) get_shape) blank_shape) run_shape
+z80dev = with_subcommand (with_subcommand (with_subcommand (with_subcommand (with_subcommand with_files (protect_shape (codes "protect"))) (protect_shape (codes "unprotect"))) check_disk_shape)
+    blank_shape) run_shape
 
 -- ---- jobs
 
@@ -119,13 +164,25 @@ Finds id value rows = first_of id rows ≡ Some value.now
 abbrev pub FindsAll : Text → List (Bor Text) → List Row → Type 0
 FindsAll id values rows = all_of id rows ≡ Some (map (λ value. value.now) values)
 
+-- its only value is this text
+abbrev pub FindsOnly : Text → Bor Text → List Row → Type 0
+FindsOnly id value rows = all_of id rows ≡ Some (value.now ∷ [])
+
 -- the argument's value is this text, where it has one
 abbrev pub FindsIfGiven : Text → Option (Bor Text) → List Row → Type 0
 FindsIfGiven id value rows = first_of id rows ≡ option_map (λ text. text.now) value
 
+-- all values of an argument, none where it is not given
+abbrev pub values_of : Text → List Row → List Text
+values_of id rows = unwrap_or (all_of id rows) []
+
 -- its values are these texts, in this order, and none where it has none
 abbrev pub FindsAny : Text → List (Bor Text) → List Row → Type 0
-FindsAny id values rows = unwrap_or (all_of id rows) [] ≡ map (λ value. value.now) values
+FindsAny id values rows = values_of id rows ≡ map (λ value. value.now) values
+
+-- the value of one argument and all those of another are these texts, in this order
+abbrev pub FindsJoined : Text → Text → List (Bor Text) → List Row → Type 0
+FindsJoined one more values rows = (text : Text) × (first_of one rows ≡ Some text) × (text ∷ values_of more rows ≡ map (λ value. value.now) values)
 
 -- `u64` reads the text as this number: its decimal digits, a plus before them or none
 abbrev pub ReadsAs : Text → ℕ → Type 0
@@ -140,6 +197,35 @@ FindsNumber id (Some n) rows = (text : Text) × (first_of id rows ≡ Some text)
 abbrev pub is_on : Text → List Row → Bool
 is_on id rows = option_map_or (λ text. bytes_eq text (codes "true")) (one_of id rows) false
 
+-- `--user` gives this user, where it is given; there are 32 users
+abbrev pub FindsUser : Option ℕ → List Row → Type 0
+FindsUser user rows = FindsNumber (codes "N") user rows × IfSome user (λ n. n < 32)
+
+-- .. and it is user 0 where `--user` is not given
+abbrev pub FindsUserOrZero : ℕ → List Row → Type 0
+FindsUserOrZero user rows = (user < 32) × (given : Option ℕ) × FindsNumber (codes "N") given rows × (unwrap_or given 0 ≡ user)
+
+-- an image is locked, unless `--no-lock` is given
+abbrev pub FindsLock : Bool → List Row → Type 0
+FindsLock lock rows = is_on (codes "no-lock") rows ≡ not lock
+
+-- the image that a command changes
+abbrev pub FindsTarget : Target → List Row → Type 0
+FindsTarget target rows = Finds (codes "IMG") target.image rows × FindsUserOrZero target.user rows × FindsLock target.lock rows
+
+-- how files are put
+abbrev pub FindsManner : Manner → List Row → Type 0
+FindsManner manner rows = (is_on (codes "replace") rows ≡ manner.replace) × (is_on (codes "text") rows ≡ manner.text)
+
+-- the command that sets an attribute of files, and the one that takes it away
+abbrev pub protect_name : Bool → Text
+protect_name on = if on then codes "protect" else codes "unprotect"
+
+-- the attribute is the one that `--system` names
+abbrev pub is_system : Attribute → Bool
+is_system ReadOnly = false
+is_system System = true
+
 -- the parse met the command of this name, and of the rows that it found this holds
 abbrev pub Meets : Option (Text × List Row) → Text → (List Row → Type 0) → Type 0
 Meets met name Holds = (rows : List Row) × (met ≡ Some (name, rows)) × Holds rows
@@ -153,13 +239,46 @@ IsJobOf met (Link out objects) = Meets met (codes "link") (λ rows. Finds (codes
 IsJobOf met (Build out grow list verbose sources) = Meets met (codes "build") (λ rows. Finds (codes "BASE") out rows
     × (is_on (codes "grow") rows ≡ grow) × (is_on (codes "list") rows ≡ list) × (is_on (codes "verbose") rows ≡ verbose) × FindsAll (codes "SRC") sources.items rows)
 IsJobOf met (Check sizes cert) = Meets met (codes "check") (λ rows. Finds (codes "SIZES") sizes rows × Finds (codes "CERT") cert rows)
-IsJobOf met (Dir image) = Meets met (codes "dir") (λ rows. Finds (codes "IMG") image rows)
-IsJobOf met (Put image file name) = Meets met (codes "put") (λ rows. Finds (codes "IMG") image rows × Finds (codes "FILE") file rows × Finds (codes "NAME") name rows)
-IsJobOf met (Get image name file) = Meets met (codes "get") (λ rows. Finds (codes "IMG") image rows × Finds (codes "NAME") name rows × Finds (codes "FILE") file rows)
-IsJobOf met (Blank mega image) = Meets met (codes "blank") (λ rows. (is_on (codes "mega") rows ≡ mega) × Finds (codes "IMG") image rows)
-IsJobOf met (Run disk steps program words) = Meets met (codes "run") (λ rows. FindsIfGiven (codes "IMG") disk rows
-    × FindsNumber (codes "N") steps rows × Finds (codes "COM") program rows × FindsAny (codes "WORD") words.items rows)
+IsJobOf met (Dir image user long name) = Meets met (codes "dir") (λ rows. Finds (codes "IMG") image rows
+    × FindsUser user rows × (is_on (codes "long") rows ≡ long) × FindsIfGiven (codes "NAME") name rows)
+IsJobOf met (Put target manner file name) = Meets met (codes "put") (λ rows. (is_on (codes "to") rows ≡ false)
+    × FindsTarget target rows × FindsManner manner rows × Finds (codes "FILE") file rows × FindsOnly (codes "NAME") name rows)
+IsJobOf met (PutAll target manner files) = Meets met (codes "put") (λ rows. (is_on (codes "to") rows ≡ true)
+    × FindsTarget target rows × FindsManner manner rows × FindsJoined (codes "FILE") (codes "NAME") files.items rows)
+IsJobOf met (Get image user text name file) = Meets met (codes "get") (λ rows. (is_on (codes "all") rows ≡ false)
+    × Finds (codes "IMG") image rows × FindsUserOrZero user rows × (is_on (codes "text") rows ≡ text) × Finds (codes "NAME") name rows × FindsOnly (codes "FILE") file rows)
+IsJobOf met (GetAll image user text folder) = Meets met (codes "get") (λ rows. (is_on (codes "all") rows ≡ true)
+    × Finds (codes "IMG") image rows × FindsUserOrZero user rows × (is_on (codes "text") rows ≡ text) × Finds (codes "NAME") folder rows × FindsAny (codes "FILE") [] rows)
+IsJobOf met (Erase target names) = Meets met (codes "erase") (λ rows. FindsTarget target rows × FindsAll (codes "NAME") names.items rows)
+IsJobOf met (Rename target old new) = Meets met (codes "rename") (λ rows. FindsTarget target rows × Finds (codes "OLD") old rows × Finds (codes "NEW") new rows)
+IsJobOf met (Protect target attribute on names) = Meets met (protect_name on) (λ rows. FindsTarget target rows
+    × (is_on (codes "system") rows ≡ is_system attribute) × FindsAll (codes "NAME") names.items rows)
+IsJobOf met (CheckDisk image) = Meets met (codes "check-disk") (λ rows. Finds (codes "IMG") image rows)
+IsJobOf met (Blank mega keep lock image) = Meets met (codes "blank") (λ rows. (is_on (codes "mega") rows ≡ mega)
+    × (is_on (codes "keep") rows ≡ keep) × FindsLock lock rows × Finds (codes "IMG") image rows)
+IsJobOf met (Run disk lock steps program words) = Meets met (codes "run") (λ rows. FindsIfGiven (codes "IMG") disk rows
+    × FindsLock lock rows × FindsNumber (codes "N") steps rows × Finds (codes "COM") program rows × FindsAny (codes "WORD") words.items rows)
 
 -- The parse succeeds, and the job is that of the command which the words name, with the values that the parse finds.
 abbrev pub IsJob : List Text → Job → Type 0
 IsJob words job = IsParsed words × IsJobOf (subcommand_of z80dev words) job
+
+-- ---- a wrong number of paths
+
+-- How many paths there are, and how many there have to be: some are missing, or there are too many.
+abbrev pub Miscounts : ℕ → ℕ → ErrorKind → Type 0
+Miscounts there wanted kind = ((there < wanted) × (kind ≡ MissingRequiredArgument)) ⊎ ((wanted < there) × (kind ≡ TooManyValues))
+
+-- `put` without `--to` has to have one NAME. `get` has to have one FILE, and none with `--all`.
+abbrev pub IsMiscountedOf : Option (Text × List Row) → ErrorKind → Type 0
+IsMiscountedOf met kind =
+    Meets met (codes "put") (λ rows. (is_on (codes "to") rows ≡ false) × Miscounts (length (values_of (codes "NAME") rows)) 1 kind)
+    ⊎ Meets met (codes "get") (λ rows. Miscounts (length (values_of (codes "FILE") rows)) (if is_on (codes "all") rows then 0 else 1) kind)
+
+-- The parse succeeds, and the command which the words name has too few or too many paths, as the kind says.
+abbrev pub IsMiscounted : List Text → ErrorKind → Type 0
+IsMiscounted words kind = IsParsed words × IsMiscountedOf (subcommand_of z80dev words) kind
+
+-- The words are not refused for the number of their paths.
+abbrev pub IsCounted : List Text → Type 0
+IsCounted words = (kind : ErrorKind) → IsMiscounted words kind → ⊥

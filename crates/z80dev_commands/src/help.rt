@@ -60,29 +60,120 @@ prints a line such as best 260.";
 pub(crate) const DIR: &str =
     r"Reads IMG and prints a line for each file: its user, its name, its length in
 records of 128 bytes, then RO if it is read-only and SYS if it is a system file.
-Writes nothing.
+With --long, also prints its bytes, directory entries and blocks, and at the end
+what is free. Writes nothing.
+
+With NAME, prints only the files that match: ? stands for any character, and *
+for the rest of the name or of the type.
 
 Example: z80dev dir a.img
-prints lines such as 0 GAME.COM 3.";
+prints lines such as 0 GAME.COM 3.
+
+Example: z80dev dir --user 3 a.img '*.COM'
+prints the lines of user 3's programs.";
+
+/// The two forms of `put`.
+pub(crate) const PUT_FORMS: &str = r"z80dev put [OPTIONS] <IMG> <FILE> <NAME>
+       z80dev put [OPTIONS] --to <IMG> <FILE>...";
 
 pub(crate) const PUT: &str =
-    r"Reads IMG and FILE, and writes IMG with FILE added under NAME for user 0. The
-last record is filled up with 1AH. NAME is in upper case, as GAME.COM. A file of
-that name on the disk is never replaced. Prints nothing.
+    r"Reads IMG and FILE, and writes IMG with FILE added under NAME, which is in upper
+case, as GAME.COM. The last record is filled up with 1AH. Prints nothing.
 
-Example: z80dev put a.img game.com GAME.COM";
+With --to, adds several files, each under its own name: the last part of its
+path, in upper case. Either all of them are added or none.
+
+A file of that name on the disk is replaced only with --replace. It is replaced
+in one step: IMG has the old file or the new one.
+
+With --text, each LF becomes CR LF, and 1AH is added at the end.
+
+IMG is locked from before it is read until it is replaced. A second command that
+needs the lock waits up to a second, then ends with `error: file IMG`, status 3.
+With --no-lock, nothing waits, and of two commands that change IMG at the same
+time one may undo what the other did.
+
+If nothing changes, IMG is not written. If IMG is write-protected, it is not
+replaced. It keeps its permissions, and its owner if the system allows it. If
+IMG is a symbolic link, the link stays and the file that it points to is
+replaced. Other hard links keep the old contents.
+
+Example: z80dev put a.img game.com GAME.COM
+
+Example: z80dev put --to --replace a.img game.com notes.txt
+adds or replaces GAME.COM and NOTES.TXT.";
+
+/// The two forms of `get`.
+pub(crate) const GET_FORMS: &str = r"z80dev get [OPTIONS] <IMG> <NAME> <FILE>
+       z80dev get [OPTIONS] --all <IMG> <FOLDER>";
 
 pub(crate) const GET: &str =
-    r"Reads IMG and writes user 0's file NAME to FILE, in whole records of 128 bytes.
-NAME is in upper case, as GAME.COM. If FILE exists, it is replaced without a
-warning. Prints nothing, and leaves IMG as it is.
+    r"Reads IMG and writes the user's file NAME to FILE, in whole records of 128
+bytes. NAME is in upper case, as GAME.COM. If FILE exists, it is replaced
+without a warning. Prints nothing, and leaves IMG as it is.
 
-Example: z80dev get a.img GAME.COM game.com";
+In NAME, ? stands for any character, and * for the rest of the name or of the
+type. Each file that matches is then written into the folder FILE under its own
+name. With --all, every file of the user is written into FOLDER.
+
+With --text, a file ends at its first 1AH, and each CR LF becomes LF.
+
+Example: z80dev get a.img GAME.COM game.com
+
+Example: z80dev get --text a.img '*.ASM' sources
+writes the files of type ASM into the folder sources.";
+
+pub(crate) const ERASE: &str =
+    r"Reads IMG and writes it without the files NAME. Each NAME is in upper case, as
+GAME.COM; in it, ? stands for any character, and * for the rest of the name or
+of the type. If one of the files is read-only, nothing is erased, and there is a
+line such as `error: ReadOnly(GAME.COM)`. Prints nothing.
+
+IMG is locked and replaced as `z80dev put --help` explains.
+
+Example: z80dev erase a.img NOTES.TXT '*.BAK'";
+
+pub(crate) const RENAME: &str =
+    r"Reads IMG and writes it with the file OLD under the name NEW. Both names are in
+upper case, as GAME.COM. Prints nothing.
+
+IMG is locked and replaced as `z80dev put --help` explains.
+
+Example: z80dev rename a.img GAME.COM CHESS.COM";
+
+pub(crate) const PROTECT: &str =
+    r"Reads IMG and writes it with the files NAME made read-only, or with --system
+marked as system files. Each NAME is in upper case, as GAME.COM; in it, ? stands
+for any character, and * for the rest of the name or of the type. Prints
+nothing.
+
+IMG is locked and replaced as `z80dev put --help` explains.
+
+Example: z80dev protect a.img '*.COM'";
+
+pub(crate) const UNPROTECT: &str =
+    r"Reads IMG and writes it with the files NAME made writable, or with --system no
+longer marked as system files. Each NAME is in upper case, as GAME.COM; in it, ?
+stands for any character, and * for the rest of the name or of the type. Prints
+nothing.
+
+IMG is locked and replaced as `z80dev put --help` explains.
+
+Example: z80dev unprotect a.img '*.COM'";
+
+pub(crate) const CHECK_DISK: &str =
+    r"Reads IMG and prints a line for each directory entry that breaks a rule: its
+number, its user, its name and the rule. Writes nothing.
+
+Example: z80dev check-disk a.img";
 
 pub(crate) const BLANK: &str =
     r"Writes IMG: an eight inch disk, single density, of 256,256 bytes, or with --mega
-one of 1,048,576 bytes. If IMG exists, it is replaced without a warning, even if
-it is write-protected, and the files on it are lost. Prints nothing.
+one of 1,048,576 bytes. If IMG exists, it is replaced without a warning, and the
+files on it are lost. With --keep, an IMG that exists stays as it is, and there
+is a line `error: Exists`. Prints nothing.
+
+IMG is locked and replaced as `z80dev put --help` explains.
 
 Example: z80dev blank a.img";
 
@@ -92,12 +183,16 @@ typed input, and only then starts the program. At a terminal, press Ctrl-D to
 end the input; if the program reads nothing, give it </dev/null.
 
 Prints what the program prints. Writes IMG when the program ends, however it
-ends, over anything that another command has written to IMG since the run began.
-If run itself is killed, for example by Ctrl-C, IMG stays as it was.
+ends, unless the program left the disk as it was. If run itself is killed, for
+example by Ctrl-C, IMG stays as it was.
+
+IMG is locked from before it is read until the end of the run, and replaced as
+`z80dev put --help` explains, so no other command changes it meanwhile. With
+--no-lock, what another command writes to IMG during the run may be lost.
 
 The status is 0 if the program ends by itself, and 1 if something stops it; then
 standard error has a line `stopped: WHY at PPPP`. If the program cannot start,
 there is a line `error: ..` instead: the status is 1 if IMG is not an image of a
-disk, and 3 if a file cannot be read or IMG cannot be written.
+disk, and 3 if a file cannot be read or IMG cannot be locked or written.
 
 Example: z80dev run --disk a.img game.com FILE.TXT";

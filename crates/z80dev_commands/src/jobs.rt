@@ -1,13 +1,23 @@
 //! The job of the command that a parse met, with the values that it found.
 
-ghost use Rattle.std.specs.Prelude.{◌≡◌, true, IfOk, Some, codes, is_some, map};
-ghost use Rattle.clap.specs.Words.{all_of, first_of, found_of, rows_of};
-ghost use Rattle.z80dev_commands.specs.Commands.{Finds, FindsAll, FindsAny, FindsIfGiven, FindsNumber, IsJobOf, is_on};
-ghost use Rattle.z80dev_commands.specs.Private.{AreFound, IsFlag, IsNumber};
+ghost use Rattle.std.specs.Prelude.{◌≡◌, ◌∷◌, [], true, IfOk, MatchResult, Some, codes, is_some, length, map};
+ghost use Rattle.clap.specs.Words.{all_of, first_of, found_of, kind_of, rows_of};
+ghost use Rattle.z80dev_commands.specs.Commands.{Finds, FindsAll, FindsAny, FindsIfGiven, FindsLock, FindsManner, FindsNumber, FindsTarget, FindsUser, FindsUserOrZero, IsJobOf, Miscounts, is_on, is_system, protect_name};
+ghost use Rattle.z80dev_commands.specs.Private.{AreFound, HasTarget, IsFlag, IsNumber, IsRefused};
 
-use crate::Job;
-use clap::ArgMatches;
+use crate::{Attribute, Job, Manner, Target, usage};
+use clap::error::ErrorKind;
+use clap::{ArgMatches, Command, Error};
 use std::alloc::{AllocError, Global};
+
+/// The form of `put` without `--to`.
+const ONE_NAME: &str = "without --to, put takes IMG, one FILE and one NAME";
+
+/// The form of `get` without `--all`.
+const ONE_FILE: &str = "without --all, get takes IMG, one NAME and one FILE";
+
+/// The form of `get` with `--all`.
+const NO_FILE: &str = "with --all, get takes IMG and one FOLDER";
 
 /// The value of an argument that has one.
 fn text<'a>(found: &ArgMatches<'a>, id: &str) -> &'a str
@@ -48,10 +58,26 @@ fn texts_if_given<'a>(
 
 /// The number of an option that may be given.
 fn number(found: &ArgMatches, id: &str) -> Option<u64>
-    requires { IsNumber id.now (rows_of (found_of found.now)) }
+    requires { IsNumber id.now 18446744073709551615 (rows_of (found_of found.now)) }
     ensures { FindsNumber id.now result (rows_of (found_of found.now)) }
 {
     found.get_one(id)
+}
+
+/// The user of an option that may be given.
+fn user(found: &ArgMatches) -> Option<u8>
+    requires { IsNumber (codes "N") 31 (rows_of (found_of found.now)) }
+    ensures { FindsUser result (rows_of (found_of found.now)) }
+{
+    found.get_one("N")
+}
+
+/// The user of an option that stands for user 0 where it is not given.
+fn user_or_zero(found: &ArgMatches) -> u8
+    requires { IsNumber (codes "N") 31 (rows_of (found_of found.now)) }
+    ensures { FindsUserOrZero result (rows_of (found_of found.now)) }
+{
+    user(found).unwrap_or(0)
 }
 
 /// Whether a flag is given.
@@ -60,6 +86,53 @@ fn flag(found: &ArgMatches, id: &str) -> bool
     ensures { is_on id.now (rows_of (found_of found.now)) ≡ result }
 {
     found.get_flag(id)
+}
+
+/// Whether the image is locked.
+fn lock(found: &ArgMatches) -> bool
+    requires { IsFlag (codes "no-lock") (rows_of (found_of found.now)) }
+    ensures { FindsLock result (rows_of (found_of found.now)) }
+{
+    !flag(found, "no-lock")
+}
+
+/// The image that a command changes.
+fn target<'a>(found: &ArgMatches<'a>) -> Target<'a>
+    requires { HasTarget (rows_of (found_of found.now)) }
+    ensures { FindsTarget result (rows_of (found_of found.now)) }
+{
+    Target {
+        image: text(found, "IMG"),
+        user: user_or_zero(found),
+        lock: lock(found),
+    }
+}
+
+/// The only one of some paths.
+///
+/// # Errors
+///
+/// There is none, or there are more.
+fn only<'a>(texts: &[&'a str]) -> Result<&'a str, ErrorKind>
+    ensures { MatchResult result (λ text. texts.now ≡ text ∷ []) (Miscounts (length texts.now) 1) }
+{
+    match texts {
+        [text] => Ok(*text),
+        [] => Err(ErrorKind::MissingRequiredArgument),
+        _ => Err(ErrorKind::TooManyValues),
+    }
+}
+
+/// The error of a command that has too few or too many paths, with the form that it has to have and with its usage.
+fn miscounted(
+    command: Result<Command<'_>, AllocError>,
+    kind: ErrorKind,
+    form: &str,
+) -> Result<Error, AllocError>
+    ensures { IfOk result (λ e. kind_of e ≡ kind) }
+{
+    let mut command = command?;
+    command.error(kind, form)
 }
 
 fn asm<'a>(found: &ArgMatches<'a>) -> Job<'a>
@@ -112,28 +185,141 @@ fn dir<'a>(found: &ArgMatches<'a>) -> Job<'a>
 {
     Job::Dir {
         image: text(found, "IMG"),
+        user: user(found),
+        long: flag(found, "long"),
+        name: text_if_given(found, "NAME"),
     }
 }
 
-fn put<'a>(found: &ArgMatches<'a>) -> Job<'a>
+/// How `put` puts files.
+fn manner(found: &ArgMatches) -> Manner
     requires { AreFound (codes "put") (rows_of (found_of found.now)) }
-    ensures { IsJobOf (Some (codes "put", rows_of (found_of found.now))) result }
+    ensures { FindsManner result (rows_of (found_of found.now)) }
 {
-    Job::Put {
-        image: text(found, "IMG"),
-        file: text(found, "FILE"),
-        name: text(found, "NAME"),
+    Manner {
+        replace: flag(found, "replace"),
+        text: flag(found, "text"),
     }
 }
 
-fn get<'a>(found: &ArgMatches<'a>) -> Job<'a>
-    requires { AreFound (codes "get") (rows_of (found_of found.now)) }
-    ensures { IsJobOf (Some (codes "get", rows_of (found_of found.now))) result }
+fn put<'a>(alloc: Global, found: &ArgMatches<'a>) -> Result<Job<'a>, Error>
+    requires { AreFound (codes "put") (rows_of (found_of found.now)) }
+    ensures { MatchResult result (IsJobOf (Some (codes "put", rows_of (found_of found.now)))) (IsRefused (Some (codes "put", rows_of (found_of found.now)))) }
 {
-    Job::Get {
+    let target = target(found);
+    let manner = manner(found);
+    let file = text(found, "FILE");
+    let mut names = texts_if_given(alloc, found, "NAME")?;
+    if flag(found, "to") {
+        names.insert(0, file)?;
+        return Ok(Job::PutAll {
+            target,
+            manner,
+            files: names,
+        });
+    }
+    match only(&names) {
+        Ok(name) => Ok(Job::Put {
+            target,
+            manner,
+            file,
+            name,
+        }),
+        Err(kind) => Err(miscounted(usage::put(alloc), kind, ONE_NAME)?),
+    }
+}
+
+/// `get --all`, with the values of its list.
+fn get_all<'a>(alloc: Global, found: &ArgMatches<'a>, files: &[&'a str]) -> Result<Job<'a>, Error>
+    requires found { AreFound (codes "get") (rows_of (found_of found.now)) }
+    requires all { is_on (codes "all") (rows_of (found_of found.now)) ≡ true }
+    requires files { FindsAny (codes "FILE") files.now (rows_of (found_of found.now)) }
+    ensures { MatchResult result (IsJobOf (Some (codes "get", rows_of (found_of found.now)))) (IsRefused (Some (codes "get", rows_of (found_of found.now)))) }
+{
+    if files.is_empty() {
+        Ok(Job::GetAll {
+            image: text(found, "IMG"),
+            user: user_or_zero(found),
+            text: flag(found, "text"),
+            folder: text(found, "NAME"),
+        })
+    } else {
+        Err(miscounted(usage::get(alloc), ErrorKind::TooManyValues, NO_FILE)?)
+    }
+}
+
+fn get<'a>(alloc: Global, found: &ArgMatches<'a>) -> Result<Job<'a>, Error>
+    requires { AreFound (codes "get") (rows_of (found_of found.now)) }
+    ensures { MatchResult result (IsJobOf (Some (codes "get", rows_of (found_of found.now)))) (IsRefused (Some (codes "get", rows_of (found_of found.now)))) }
+{
+    let files = texts_if_given(alloc, found, "FILE")?;
+    if flag(found, "all") {
+        return get_all(alloc, found, &files);
+    }
+    match only(&files) {
+        Ok(file) => Ok(Job::Get {
+            image: text(found, "IMG"),
+            user: user_or_zero(found),
+            text: flag(found, "text"),
+            name: text(found, "NAME"),
+            file,
+        }),
+        Err(kind) => Err(miscounted(usage::get(alloc), kind, ONE_FILE)?),
+    }
+}
+
+fn erase<'a>(alloc: Global, found: &ArgMatches<'a>) -> Result<Job<'a>, AllocError>
+    requires { AreFound (codes "erase") (rows_of (found_of found.now)) }
+    ensures { IfOk result (IsJobOf (Some (codes "erase", rows_of (found_of found.now)))) }
+{
+    Ok(Job::Erase {
+        target: target(found),
+        names: texts(alloc, found, "NAME")?,
+    })
+}
+
+fn rename<'a>(found: &ArgMatches<'a>) -> Job<'a>
+    requires { AreFound (codes "rename") (rows_of (found_of found.now)) }
+    ensures { IsJobOf (Some (codes "rename", rows_of (found_of found.now))) result }
+{
+    Job::Rename {
+        target: target(found),
+        old: text(found, "OLD"),
+        new: text(found, "NEW"),
+    }
+}
+
+/// The attribute that `protect` sets and `unprotect` takes away.
+fn attribute(found: &ArgMatches) -> Attribute
+    requires { IsFlag (codes "system") (rows_of (found_of found.now)) }
+    ensures { is_on (codes "system") (rows_of (found_of found.now)) ≡ is_system result }
+{
+    if flag(found, "system") {
+        Attribute::System
+    } else {
+        Attribute::ReadOnly
+    }
+}
+
+/// `protect`, and `unprotect` where `on` is false.
+fn protect<'a>(alloc: Global, on: bool, found: &ArgMatches<'a>) -> Result<Job<'a>, AllocError>
+    requires { AreFound (protect_name on) (rows_of (found_of found.now)) }
+    ensures { IfOk result (IsJobOf (Some (protect_name on, rows_of (found_of found.now)))) }
+{
+    Ok(Job::Protect {
+        target: target(found),
+        attribute: attribute(found),
+        on,
+        names: texts(alloc, found, "NAME")?,
+    })
+}
+
+fn check_disk<'a>(found: &ArgMatches<'a>) -> Job<'a>
+    requires { AreFound (codes "check-disk") (rows_of (found_of found.now)) }
+    ensures { IsJobOf (Some (codes "check-disk", rows_of (found_of found.now))) result }
+{
+    Job::CheckDisk {
         image: text(found, "IMG"),
-        name: text(found, "NAME"),
-        file: text(found, "FILE"),
     }
 }
 
@@ -143,6 +329,8 @@ fn blank<'a>(found: &ArgMatches<'a>) -> Job<'a>
 {
     Job::Blank {
         mega: flag(found, "mega"),
+        keep: flag(found, "keep"),
+        lock: lock(found),
         image: text(found, "IMG"),
     }
 }
@@ -153,6 +341,7 @@ fn run<'a>(alloc: Global, found: &ArgMatches<'a>) -> Result<Job<'a>, AllocError>
 {
     Ok(Job::Run {
         disk: text_if_given(found, "IMG"),
+        lock: lock(found),
         steps: number(found, "N"),
         program: text(found, "COM"),
         words: texts_if_given(alloc, found, "WORD")?,
@@ -160,24 +349,25 @@ fn run<'a>(alloc: Global, found: &ArgMatches<'a>) -> Result<Job<'a>, AllocError>
 }
 
 /// The job of the command of this name.
-pub(crate) fn job<'a>(
-    alloc: Global,
-    name: &str,
-    found: &ArgMatches<'a>,
-) -> Result<Job<'a>, AllocError>
+pub(crate) fn job<'a>(alloc: Global, name: &str, found: &ArgMatches<'a>) -> Result<Job<'a>, Error>
     requires { AreFound name.now (rows_of (found_of found.now)) }
-    ensures { IfOk result (IsJobOf (Some (name.now, rows_of (found_of found.now)))) }
+    ensures { MatchResult result (IsJobOf (Some (name.now, rows_of (found_of found.now)))) (IsRefused (Some (name.now, rows_of (found_of found.now)))) }
 {
     match name {
         "asm" => Ok(asm(found)),
-        "link" => link(alloc, found),
-        "build" => build(alloc, found),
+        "link" => Ok(link(alloc, found)?),
+        "build" => Ok(build(alloc, found)?),
         "check" => Ok(check(found)),
         "dir" => Ok(dir(found)),
-        "put" => Ok(put(found)),
-        "get" => Ok(get(found)),
+        "put" => put(alloc, found),
+        "get" => get(alloc, found),
+        "erase" => Ok(erase(alloc, found)?),
+        "rename" => Ok(rename(found)),
+        "protect" => Ok(protect(alloc, true, found)?),
+        "unprotect" => Ok(protect(alloc, false, found)?),
+        "check-disk" => Ok(check_disk(found)),
         "blank" => Ok(blank(found)),
-        "run" => run(alloc, found),
+        "run" => Ok(run(alloc, found)?),
         _ => unreachable!(),
     }
 }

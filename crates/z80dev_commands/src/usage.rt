@@ -3,10 +3,11 @@
 ghost use Rattle.std.specs.Prelude.{◌≡◌, IfOk, Ok, false, codes};
 ghost use Rattle.clap.specs.Words.{AddsSubcommand, app_of, new_app, rule_of};
 ghost use Rattle.clap.specs.declared.builder.command.Command.TheViews.{out-Command};
-ghost use Rattle.z80dev_commands.specs.Commands.{asm_shape, bare, blank_shape, build_shape, check_shape, dir_shape, flag_rule, get_shape, link_shape, number_rule, option_rule, out_rule, path_rule, paths_rule, programs, put_shape, run_shape, verbose_rule, words_rule, z80dev};
-ghost use Rattle.z80dev_commands.specs.Private.{alone};
+ghost use Rattle.z80dev_commands.specs.Commands.{asm_shape, bare, blank_shape, build_shape, check_disk_shape, check_shape, dir_shape, erase_shape, flag_rule, get_shape, link_shape, name_rule, option_rule, out_rule, path_rule, paths_rule, programs, protect_shape, put_shape, rename_shape, run_shape, steps_rule, user_rule, verbose_rule, with_files, words_rule, z80dev};
+ghost use Rattle.z80dev_commands.specs.Private.{alone, with_target};
 
 use crate::help;
+use clap::builder::ValueParser;
 use clap::{Arg, ArgAction, Command, value_parser};
 use std::alloc::{AllocError, Global};
 
@@ -36,6 +37,14 @@ fn paths<'a>(alloc: Global, name: &'a str, help: &'a str) -> Arg<'a>
         .help(help)
 }
 
+/// None or more.
+fn words<'a>(alloc: Global, name: &'a str, help: &'a str) -> Arg<'a>
+    ensures rule { rule_of result ≡ words_rule name.now }
+    ensures local { result.global ≡ false }
+{
+    paths(alloc, name, help).required(false)
+}
+
 /// `--out BASE`.
 fn out<'a>(alloc: Global) -> Arg<'a>
     ensures rule { rule_of result ≡ out_rule }
@@ -62,7 +71,7 @@ fn option<'a>(alloc: Global, name: &'a str, id: &'a str, help: &'a str) -> Arg<'
 
 /// `--steps N`.
 fn steps<'a>(alloc: Global) -> Arg<'a>
-    ensures rule { rule_of result ≡ number_rule (codes "steps") (codes "N") }
+    ensures rule { rule_of result ≡ steps_rule }
     ensures local { result.global ≡ false }
 {
     option(
@@ -72,6 +81,14 @@ fn steps<'a>(alloc: Global) -> Arg<'a>
         "The most steps (instructions, repetitions, system calls) [default: 100000000]",
     )
     .value_parser(value_parser!(u64))
+}
+
+/// `--user N`.
+fn user<'a>(alloc: Global, help: &'a str) -> Arg<'a>
+    ensures rule { rule_of result ≡ user_rule }
+    ensures local { result.global ≡ false }
+{
+    option(alloc, "user", "N", help).value_parser(ValueParser::unsigned(0, 31))
 }
 
 /// A flag of this name.
@@ -209,43 +226,218 @@ fn image<'a>(alloc: Global) -> Arg<'a>
     path(alloc, "IMG", "The path of the disk image")
 }
 
-/// The name of a file on a disk.
-fn name<'a>(alloc: Global) -> Arg<'a>
-    ensures rule { rule_of result ≡ path_rule (codes "NAME") }
+/// `--no-lock`.
+fn no_lock<'a>(alloc: Global) -> Arg<'a>
+    ensures rule { rule_of result ≡ flag_rule (codes "no-lock") }
+    ensures local { result.global ≡ false }
+{
+    flag(alloc, "no-lock", "Does not lock IMG")
+}
+
+/// `--user N`, where user 0 is meant without it.
+fn user_or_zero<'a>(alloc: Global) -> Arg<'a>
+    ensures rule { rule_of result ≡ user_rule }
+    ensures local { result.global ≡ false }
+{
+    user(alloc, "The user whose files they are, 0 to 31 [default: 0]")
+}
+
+/// A command with the image that it changes: whose files, whether it is locked, and its path.
+fn with_target<'a>(alloc: Global, command: Command<'a>) -> Result<Command<'a>, AllocError>
+    requires { (out-Command command).has_globals ≡ false }
+    ensures app { IfOk result (λ c. app_of c ≡ with_target (app_of command.entry)) }
+    ensures local { IfOk result (λ c. (out-Command c).has_globals ≡ false) }
+{
+    command
+        .arg(user_or_zero(alloc))?
+        .arg(no_lock(alloc))?
+        .arg(image(alloc))
+}
+
+/// A name of files to list, which may be left out.
+fn name_if_given<'a>(alloc: Global) -> Arg<'a>
+    ensures rule { rule_of result ≡ name_rule (codes "NAME") }
     ensures local { result.global ≡ false }
 {
     path(
         alloc,
         "NAME",
-        "The file's name on the disk, such as BIG.DAT",
+        "Lists the files of this name only, such as '*.COM'",
     )
+    .required(false)
 }
 
 fn dir<'a>(alloc: Global) -> Result<Command<'a>, AllocError>
     ensures app { IfOk result (λ c. app_of c ≡ alone dir_shape) }
     ensures local { IfOk result (λ c. (out-Command c).has_globals ≡ false) }
 {
-    titled(alloc, "dir", "Lists the files of a disk", help::DIR).arg(image(alloc))
+    titled(alloc, "dir", "Lists the files of a disk", help::DIR)
+        .arg(user(alloc, "Lists the files of this user only, 0 to 31"))?
+        .arg(flag(
+            alloc,
+            "long",
+            "Also prints the room that each file takes, and what is free",
+        ))?
+        .arg(image(alloc))?
+        .arg(name_if_given(alloc))
 }
 
-fn put<'a>(alloc: Global) -> Result<Command<'a>, AllocError>
+/// A command of two forms, whose usage is said in words, since `clap` knows of one.
+fn of_two_forms<'a>(
+    alloc: Global,
+    name: &'a str,
+    about: &'a str,
+    below: &'a str,
+    forms: &'a str,
+) -> Command<'a>
+    ensures app { app_of result ≡ new_app name.now }
+    ensures local { (out-Command result).has_globals ≡ false }
+{
+    titled(alloc, name, about, below).override_usage(forms)
+}
+
+/// `put`, by itself: an error of it has its usage.
+pub(crate) fn put<'a>(alloc: Global) -> Result<Command<'a>, AllocError>
     ensures app { IfOk result (λ c. app_of c ≡ alone put_shape) }
     ensures local { IfOk result (λ c. (out-Command c).has_globals ≡ false) }
 {
-    titled(alloc, "put", "Puts a file on a disk", help::PUT)
-        .arg(image(alloc))?
+    let command = of_two_forms(
+        alloc,
+        "put",
+        "Puts files on a disk",
+        help::PUT,
+        help::PUT_FORMS,
+    )
+    .arg(flag(alloc, "to", "Puts each file under its own name"))?
+    .arg(flag(
+        alloc,
+        "replace",
+        "Replaces a file that has the name already",
+    ))?
+    .arg(flag(
+        alloc,
+        "text",
+        "Turns each LF into CR LF, and adds 1AH at the end",
+    ))?;
+    with_target(alloc, command)?
         .arg(path(alloc, "FILE", "The path of the file to put on the disk"))?
-        .arg(name(alloc))
+        .arg(words(
+            alloc,
+            "NAME",
+            "The file's name on the disk, such as BIG.DAT; with --to, more files",
+        ))
 }
 
-fn get<'a>(alloc: Global) -> Result<Command<'a>, AllocError>
+/// `get`, by itself: an error of it has its usage.
+pub(crate) fn get<'a>(alloc: Global) -> Result<Command<'a>, AllocError>
     ensures app { IfOk result (λ c. app_of c ≡ alone get_shape) }
     ensures local { IfOk result (λ c. (out-Command c).has_globals ≡ false) }
 {
-    titled(alloc, "get", "Gets a file from a disk", help::GET)
-        .arg(image(alloc))?
-        .arg(name(alloc))?
-        .arg(path(alloc, "FILE", "The path of the file to write"))
+    of_two_forms(
+        alloc,
+        "get",
+        "Gets files from a disk",
+        help::GET,
+        help::GET_FORMS,
+    )
+    .arg(flag(alloc, "all", "Gets every file of the user"))?
+    .arg(flag(
+        alloc,
+        "text",
+        "Ends a file at its first 1AH, and turns each CR LF into LF",
+    ))?
+    .arg(user_or_zero(alloc))?
+    .arg(image(alloc))?
+    .arg(path(
+        alloc,
+        "NAME",
+        "The file's name on the disk, such as BIG.DAT; with --all, the folder to write into",
+    ))?
+    .arg(words(alloc, "FILE", "The path of the file to write"))
+}
+
+/// The names of one file or more on a disk.
+fn names<'a>(alloc: Global) -> Arg<'a>
+    ensures rule { rule_of result ≡ paths_rule (codes "NAME") }
+    ensures local { result.global ≡ false }
+{
+    paths(
+        alloc,
+        "NAME",
+        "The files' names on the disk, such as BIG.DAT or '*.BAK'",
+    )
+}
+
+fn erase<'a>(alloc: Global) -> Result<Command<'a>, AllocError>
+    ensures app { IfOk result (λ c. app_of c ≡ alone erase_shape) }
+    ensures local { IfOk result (λ c. (out-Command c).has_globals ≡ false) }
+{
+    let command = titled(alloc, "erase", "Erases files of a disk", help::ERASE);
+    with_target(alloc, command)?.arg(names(alloc))
+}
+
+fn rename<'a>(alloc: Global) -> Result<Command<'a>, AllocError>
+    ensures app { IfOk result (λ c. app_of c ≡ alone rename_shape) }
+    ensures local { IfOk result (λ c. (out-Command c).has_globals ≡ false) }
+{
+    let command = titled(alloc, "rename", "Renames a file of a disk", help::RENAME);
+    with_target(alloc, command)?
+        .arg(path(alloc, "OLD", "The file's name on the disk, such as BIG.DAT"))?
+        .arg(path(alloc, "NEW", "The name that it gets"))
+}
+
+/// `protect` and `unprotect`, which have the same arguments.
+fn protecting<'a>(
+    alloc: Global,
+    name: &'a str,
+    about: &'a str,
+    below: &'a str,
+    system: &'a str,
+) -> Result<Command<'a>, AllocError>
+    ensures app { IfOk result (λ c. app_of c ≡ alone (protect_shape name.now)) }
+    ensures local { IfOk result (λ c. (out-Command c).has_globals ≡ false) }
+{
+    let command = titled(alloc, name, about, below).arg(flag(alloc, "system", system))?;
+    with_target(alloc, command)?.arg(names(alloc))
+}
+
+fn protect<'a>(alloc: Global) -> Result<Command<'a>, AllocError>
+    ensures app { IfOk result (λ c. app_of c ≡ alone (protect_shape (codes "protect"))) }
+    ensures local { IfOk result (λ c. (out-Command c).has_globals ≡ false) }
+{
+    protecting(
+        alloc,
+        "protect",
+        "Makes files of a disk read-only",
+        help::PROTECT,
+        "Marks them as system files instead",
+    )
+}
+
+fn unprotect<'a>(alloc: Global) -> Result<Command<'a>, AllocError>
+    ensures app { IfOk result (λ c. app_of c ≡ alone (protect_shape (codes "unprotect"))) }
+    ensures local { IfOk result (λ c. (out-Command c).has_globals ≡ false) }
+{
+    protecting(
+        alloc,
+        "unprotect",
+        "Makes files of a disk writable again",
+        help::UNPROTECT,
+        "Takes the mark of a system file away instead",
+    )
+}
+
+fn check_disk<'a>(alloc: Global) -> Result<Command<'a>, AllocError>
+    ensures app { IfOk result (λ c. app_of c ≡ alone check_disk_shape) }
+    ensures local { IfOk result (λ c. (out-Command c).has_globals ≡ false) }
+{
+    titled(
+        alloc,
+        "check-disk",
+        "Checks the directory of a disk",
+        help::CHECK_DISK,
+    )
+    .arg(image(alloc))
 }
 
 fn blank<'a>(alloc: Global) -> Result<Command<'a>, AllocError>
@@ -263,15 +455,9 @@ fn blank<'a>(alloc: Global) -> Result<Command<'a>, AllocError>
         "mega",
         "Makes an image of 1,048,576 bytes instead of 256,256",
     ))?
+    .arg(flag(alloc, "keep", "Refuses if IMG exists"))?
+    .arg(no_lock(alloc))?
     .arg(image(alloc))
-}
-
-/// The words of the command line of a program that runs.
-fn words<'a>(alloc: Global) -> Arg<'a>
-    ensures rule { rule_of result ≡ words_rule (codes "WORD") }
-    ensures local { result.global ≡ false }
-{
-    paths(alloc, "WORD", "The words of its command line").required(false)
 }
 
 fn run<'a>(alloc: Global) -> Result<Command<'a>, AllocError>
@@ -285,9 +471,10 @@ fn run<'a>(alloc: Global) -> Result<Command<'a>, AllocError>
             "IMG",
             "The path of the image of drive A [default: a blank disk, which is not kept]",
         ))?
+        .arg(no_lock(alloc))?
         .arg(steps(alloc))?
         .arg(path(alloc, "COM", "The path of the program"))?
-        .arg(words(alloc))
+        .arg(words(alloc, "WORD", "The words of its command line"))
 }
 
 /// A command with one more, where memory lasted for both.
@@ -310,13 +497,24 @@ fn programs<'a>(alloc: Global) -> Result<Command<'a>, AllocError>
     with_command(command, check(alloc))
 }
 
-/// The command with all its commands.
-pub(crate) fn z80dev<'a>(alloc: Global) -> Result<Command<'a>, AllocError>
-    ensures app { IfOk result (λ c. app_of c ≡ z80dev) }
+/// .. and with those that list, copy, erase and rename the files of a disk.
+fn with_files<'a>(alloc: Global) -> Result<Command<'a>, AllocError>
+    ensures app { IfOk result (λ c. app_of c ≡ with_files) }
 {
     let command = with_command(programs(alloc), dir(alloc));
     let command = with_command(command, put(alloc));
     let command = with_command(command, get(alloc));
+    let command = with_command(command, erase(alloc));
+    with_command(command, rename(alloc))
+}
+
+/// The command with all its commands.
+pub(crate) fn z80dev<'a>(alloc: Global) -> Result<Command<'a>, AllocError>
+    ensures app { IfOk result (λ c. app_of c ≡ z80dev) }
+{
+    let command = with_command(with_files(alloc), protect(alloc));
+    let command = with_command(command, unprotect(alloc));
+    let command = with_command(command, check_disk(alloc));
     let command = with_command(command, blank(alloc));
     with_command(command, run(alloc))
 }

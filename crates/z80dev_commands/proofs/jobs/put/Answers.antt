@@ -1,12 +1,12 @@
 use Rattle.std.proofs.Common.{codes, refl}
-use Rattle.z80dev_commands.proofs.Rows.{has_text}
+use Rattle.z80dev_commands.proofs.Rows.{has_target, has_text, reads_flag}
 use Rattle.z80dev_commands.proofs.jobs.put.Goals as goal
 
-pub text-requires : goal.text-requires
-text-requires c = has_text (codes "put") (codes "IMG") _ refl c.requires
+pub target-target-requires : goal.target-target-requires
+target-target-requires c = has_target (codes "put") _ refl refl refl c.requires
 
-pub text-requires-2 : goal.text-requires-2
-text-requires-2 c = has_text (codes "put") (codes "FILE") _ refl c.requires
+pub text-file-requires : goal.text-file-requires
+text-file-requires c = has_text (codes "put") (codes "FILE") _ refl c.requires
 
-pub text-requires-3 : goal.text-requires-3
-text-requires-3 c = has_text (codes "put") (codes "NAME") _ refl c.requires
+pub flag-requires : goal.flag-requires
+flag-requires c = reads_flag (codes "put") (codes "to") _ refl c.requires
