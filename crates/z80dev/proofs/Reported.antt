@@ -22,6 +22,7 @@ reported text Cut old new status before after fault.File (end.File path ending) 
     (Err fault.File, same, ends, subst (λ p. IsPut before after (error_line (codes "file " ++ p))) is told)
 reported text Cut old new status before after fault.File end.Done ends is same told = absurd is
 reported text Cut old new status before after fault.File (end.Refused said) ends is same told = absurd is
+reported text Cut old new status before after fault.File (end.Path path) ends is same told = absurd is
 reported text Cut old new status before after fault.File end.Stream ends is same told = absurd is
 reported text Cut old new status before after fault.File end.NoMemory ends is same told = absurd is
 reported text Cut old new status before after (fault.Build refusal) (end.Refused said) ends is same told =
@@ -30,4 +31,5 @@ reported text Cut old new status before after (fault.Build refusal) end.NoMemory
     (Err (fault.Build (build.Link link.NoMemory)), same, (tt, ends.1), told)
 reported text Cut old new status before after (fault.Build refusal) end.Done ends is same told = absurd is
 reported text Cut old new status before after (fault.Build refusal) (end.File path ending) ends is same told = absurd is
+reported text Cut old new status before after (fault.Build refusal) (end.Path path) ends is same told = absurd is
 reported text Cut old new status before after (fault.Build refusal) end.Stream ends is same told = absurd is

@@ -32,3 +32,4 @@ VerdictEnds sizes cert old new (end.Refused text) = IsRefusedBy sizes cert (stri
 VerdictEnds sizes cert old new end.Stream = WithVerdict sizes cert (PutsFront old new)
 VerdictEnds sizes cert old new end.NoMemory = new ≡ old
 VerdictEnds sizes cert old new (end.File path ending) = ⊥
+VerdictEnds sizes cert old new (end.Path path) = ⊥

@@ -1,6 +1,6 @@
 //! From a source text to the hexadecimal digits of its file.
 
-ghost use Rattle.std.specs.Prelude.{◌≡◌, ◌≤◌, ◌⊎◌, false, Result};
+ghost use Rattle.std.specs.Prelude.{◌≡◌, ◌≤◌, ◌⊎◌, false, true, Result, Err};
 ghost use Rattle.z80dev.specs.Pipe.{Ends, said_at, status_at};
 ghost use Rattle.z80dev.specs.Reading.{IsCutShort, OfText};
 ghost use Rattle.z80dev.specs.Private.Steps.{Reports, Writes};
@@ -44,6 +44,7 @@ pub fn print_file<I: Input, W: Sink>(
     requires calm { I.interruptions input.old ≡ 0 }
     ensures ends { OfText (I.remaining input.old) (λ text.
         Ends text (IsCutShort (I.failed input.new) (I.reads input.new) (I.interruptions input.new)) (W.stream output.old) (W.stream output.new) result) }
+    ensures failed { I.failed input.new ≡ true → result ≡ Err Fault.File }
     ensures reads { I.reads input.new ≤ MOST_READS }
 {
     let text = read_text(alloc, input)?;
@@ -96,6 +97,9 @@ pub fn pipe<I: Input, W: Sink, E: Sink>(
         (end : Result Unit Fault) × (result ≡ status_at end)
         × Ends text (IsCutShort (I.failed input.new) (I.reads input.new) (I.interruptions input.new)) (W.stream output.old) (W.stream output.new) end
         × TellsOf (said_at end) (E.stream errors.old) (E.stream errors.new)) }
+
+    // An input that failed is reported as that, and not as want of memory.
+    ensures failed { I.failed input.new ≡ true → result ≡ 3 }
 
     // Whatever the input, it is asked for a bounded number of times.
     ensures reads { I.reads input.new ≤ MOST_READS }

@@ -31,6 +31,7 @@ pub fn read_text<I: Input>(alloc: Global, input: &mut I) -> Result<Vec<u8>, Faul
     ensures limit { IfOk result (λ text. IsWithin text.items) }
     ensures text { IfOk result (λ text. Consumes (I.remaining input.old) (I.remaining input.new) text.items) }
     ensures end { OnOk result (IsAtEnd (I.remaining input.new)) }
+    ensures whole { OnOk result (I.failed input.new ≡ false) }
     ensures err { IfErr result (IsUnread (I.remaining input.old) (I.failed input.new) (I.reads input.new) (I.interruptions input.new)) }
     ensures reads { I.reads input.new ≤ MOST_READS }
 {

@@ -10,6 +10,7 @@ abbrev pub end_status : End → ℕ
 end_status end.Done = 0
 end_status (end.Refused text) = 1
 end_status (end.File path ending) = 3
+end_status (end.Path path) = 3
 end_status end.Stream = 3
 end_status end.NoMemory = 1
 
@@ -18,6 +19,7 @@ abbrev pub end_text : End → Option (List ℕ)
 end_text end.Done = None
 end_text (end.Refused text) = Some (string_bytes text)
 end_text (end.File path ending) = Some (codes "file " ++ path.now ++ ending.now)
+end_text (end.Path path) = Some (codes "file " ++ string_bytes path)
 end_text end.Stream = Some (codes "file -")
 end_text end.NoMemory = Some (codes "NoMemory")
 

@@ -42,5 +42,6 @@ Finishes text base a old new before after end.Done =
 Finishes text base a old new before after (end.Refused said) =
     AllWritten base (map file_of a.files.items) old new × PutsAll before after a.printed.items × IsWhy text a.refusal (string_bytes said)
 Finishes text base a old new before after (end.File path last) = IsUnwritten base (map file_of a.files.items) old new path.now last.now × (after ≡ before)
+Finishes text base a old new before after (end.Path path) = ⊥
 Finishes text base a old new before after end.Stream = AllWritten base (map file_of a.files.items) old new × PutsFront before after a.printed.items
 Finishes text base a old new before after end.NoMemory = ((new ≡ old) ⊎ IsBrokenOff base (map file_of a.files.items) old new) × (after ≡ before)

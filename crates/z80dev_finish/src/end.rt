@@ -31,6 +31,8 @@ pub enum End<'a> {
     Refused(String),
     /// A file cannot be read or written. Its path is in two parts, so that no memory is needed to name it.
     File { path: &'a str, ending: &'static str },
+    /// A file of this path, which the command made up, cannot be written.
+    Path(String),
     /// Standard input or output failed, or standard input is too long.
     Stream,
     /// Memory ran out.
@@ -53,7 +55,7 @@ impl End<'_> {
         match self {
             End::Done => DONE,
             End::Refused(_) | End::NoMemory => REFUSED,
-            End::File { .. } | End::Stream => FILE_FAULT,
+            End::File { .. } | End::Path(_) | End::Stream => FILE_FAULT,
         }
     }
 }
@@ -77,6 +79,7 @@ fn tell_end<E: Sink>(end: &End<'_>, errors: &mut E) -> Result<(), WriteFailed>
         End::Done => Ok(()),
         End::Refused(text) => tell(errors, text.as_bytes()),
         End::File { path, ending } => tell_file(errors, path.as_bytes(), ending.as_bytes()),
+        End::Path(path) => tell_file(errors, path.as_bytes(), b""),
         End::Stream => tell(errors, b"file -"),
         End::NoMemory => tell(errors, b"NoMemory"),
     }

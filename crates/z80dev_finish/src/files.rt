@@ -1,6 +1,7 @@
 //! Files by their paths.
 
-ghost use Rattle.z80dev_finish.specs.Files.{Folder, Reads, Stores};
+ghost use Rattle.std.specs.Prelude.{◌≡◌, Some};
+ghost use Rattle.z80dev_finish.specs.Files.{Claims, Folder, HasLock, IsReady, Locks, Part, PutsInPlace, Reads, Replaces, Stores, Syncs, WritesBeside};
 
 use std::alloc::Global;
 use streams::WriteFailed;
@@ -14,7 +15,30 @@ pub enum Unread {
     NoMemory,
 }
 
+/// A file that was read under its lock.
+#[derive(Debug, Drop)]
+pub struct Claimed {
+    /// The bytes of the file.
+    pub bytes: Vec<u8>,
+    /// Whether the lock is held. It is not if it was not asked for, or if the file system has no locks.
+    pub is_locked: bool,
+}
+
+/// What came of putting a file in its place.
+#[derive(Clone, Copy, Debug, PartialEq, Eq)]
+pub enum Placed {
+    /// It is in its place.
+    Done,
+    /// There is a file, which was to be kept.
+    Exists,
+}
+
 /// Files by their paths, with a count of the calls that failed.
+///
+/// Files that can be made again are written by [`write`](Files::write). One that holds a user's work, as the image of a disk does, is
+/// replaced in four calls: it is [claimed](Files::claim), [written beside](Files::write_beside) itself, [synced](Files::sync) and
+/// [put in place](Files::put_in_place). No other order meets what these calls require, so two programs cannot both change a file and
+/// lose one of the changes, and after a power cut the file is the old one or the new one.
 pub trait Files {
     /// The files, where they are known, and how often a call failed.
     ghost folder: { Self → Folder };
@@ -34,4 +58,67 @@ pub trait Files {
     /// If it cannot be written. Then there is the file that was there before, or the new one.
     fn write(&mut self, path: &str, bytes: &[u8]) -> Result<(), WriteFailed>
         ensures { Stores (folder self.old) (folder self.new) (path.now, bytes.now) result };
+
+    /// Takes the lock of a path for as long as the program runs, whether or not there is a file. The answer says whether the lock is held:
+    /// it is not if `is_wanted` is false, or if the file system has no locks.
+    ///
+    /// # Errors
+    ///
+    /// Those of [`Unread`]; [`Unread::File`] too if another program holds the lock and keeps it.
+    fn lock(&mut self, alloc: Global, path: &str, is_wanted: bool) -> Result<bool, Unread>
+        ensures { Locks (folder self.old) (folder self.new) path.now is_wanted result };
+
+    /// Takes the lock of a file as [`lock`](Files::lock) does, and then reads the file whole.
+    ///
+    /// # Errors
+    ///
+    /// Those of [`Unread`]; [`Unread::File`] too if another program holds the lock and keeps it.
+    fn claim(&mut self, alloc: Global, path: &str, is_wanted: bool) -> Result<Claimed, Unread>
+        ensures { Claims (folder self.old) (folder self.new) path.now is_wanted result };
+
+    /// Writes bytes to a new file beside that of a path whose lock is held.
+    ///
+    /// # Errors
+    ///
+    /// If it cannot be written, or if the file of the path is write-protected.
+    fn write_beside(&mut self, path: &str, bytes: &[u8]) -> Result<(), WriteFailed>
+        requires locked { HasLock (folder self.old) path.now }
+        ensures { WritesBeside (folder self.old) (folder self.new) path.now bytes.now result };
+
+    /// Waits until the bytes of the file that was written beside another have reached the device.
+    ///
+    /// # Errors
+    ///
+    /// If they do not.
+    fn sync(&mut self) -> Result<(), WriteFailed>
+        requires written { (p : Part) × ((folder self.old).part ≡ Some p) }
+        ensures { (p : Part) → (folder self.old).part ≡ Some p → Syncs (folder self.old) (folder self.new) p result };
+
+    /// Puts the file that was written beside another in its place, in one step; with `keep`, only if there is no file.
+    ///
+    /// # Errors
+    ///
+    /// If this fails. Then there is the file that was there before, or the new one.
+    fn put_in_place(&mut self, keep: bool) -> Result<Placed, WriteFailed>
+        requires ready { (p : Part) × IsReady (folder self.old) p }
+        ensures { (p : Part) → (folder self.old).part ≡ Some p → PutsInPlace (folder self.old) (folder self.new) p keep result };
+}
+
+/// Replaces the file of a path whose lock is held; with `keep`, only if there is none.
+///
+/// # Errors
+///
+/// If a call fails. Then there is the file that was there before, or the new one.
+pub fn replace<F: Files>(
+    files: &mut F,
+    path: &str,
+    bytes: &[u8],
+    keep: bool,
+) -> Result<Placed, WriteFailed>
+    requires locked { HasLock (F.folder files.old) path.now }
+    ensures { Replaces (F.folder files.old) (F.folder files.new) (path.now, bytes.now) keep result }
+{
+    files.write_beside(path, bytes)?;
+    files.sync()?;
+    files.put_in_place(keep)
 }

@@ -13,4 +13,4 @@ mod files;
 pub use answer::{Answer, Kind, NewFile};
 pub use end::{DONE, End, FILE_FAULT, REFUSED, USAGE, report};
 pub use ending::finish;
-pub use files::{Files, Unread};
+pub use files::{Claimed, Files, Placed, Unread, replace};
