@@ -1,5 +1,6 @@
 -- Bytes as a disk, and answers about it.
-use Rattle.std.specs.Prelude.{◌≡◌, ◌⊎◌, ℕ, false, List, [], ◌∷◌, None, Result, Ok, Err, length, ⊤}
+use Rattle.std.specs.Prelude.{◌≡◌, ◌⊎◌, ℕ, false, List, [], ◌∷◌, None, Result, Ok, Err, Vec, length, ⊤}
+use Rattle.std.specs.Global.{Global}
 use Rattle.std.specs.List.{concat}
 use Rattle.cpm_image.specs.Image.{IsImageOf}
 use Rattle.cpm_image.specs.Kind.{sector_count}
@@ -57,3 +58,8 @@ abbrev pub OfDisk : List ℕ → (DiskKind → Image → finish.Answer → Type 
 OfDisk bytes Says answer =
     ((kind : DiskKind) × (image : Image) × IsDisk bytes kind image × Says kind image answer)
     ⊎ ((why : Refusal) × IsNoDisk bytes why × (answer ≡ refused why))
+
+-- A change of the disk that the bytes are: the image that it leaves, sector after sector; or why it is refused, and no image; or memory ran out.
+abbrev pub Edited : List ℕ → (DiskKind → Image → Image → Type 0) → (DiskKind → Image → Refusal → Type 0) → Result (Vec ℕ Global) Refusal → Type 0
+Edited bytes Does Stops (Ok made) = (kind : DiskKind) × (old new : Image) × IsDisk bytes kind old × Does kind old new × (made.items ≡ concat new)
+Edited bytes Does Stops (Err why) = UnlessMemory (λ w. IsNoDisk bytes w ⊎ ((kind : DiskKind) × (old : Image) × IsDisk bytes kind old × Stops kind old w)) why
