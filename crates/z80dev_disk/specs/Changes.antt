@@ -4,13 +4,13 @@ use Rattle.std.specs.Global.{Global}
 use Rattle.cpm_image.specs.declared.kind.DiskKind.{DiskKind}
 use Rattle.cpm_directory.specs.Entries.{is_match, is_read_only}
 use Rattle.cpm_directory.specs.Letters.{letters, name_matches}
-use Rattle.cpm_directory.specs.declared.entry.Attribute.{Attribute}
+use Rattle.cpm_directory.specs.declared.attribute.Attribute.{Attribute}
 use Rattle.cpm_directory.specs.declared.entry.Entry.{Entry}
 use Rattle.cpm_directory.specs.declared.fault.DiskFault.{DiskFault}
 use Rattle.cpm_directory.specs.declared.fault.DiskFault.TheVariants as fault
 use Rattle.cpm_operations.specs.Steps.{after_erasure, after_marking, after_renaming, erasure, marking, renaming}
 use Rattle.cpm_disk.specs.Calls.{Changed}
-use Rattle.cpm_disk.specs.Files.{IsEither, IsMatched, IsMoved, IsNoFile, OthersAreSame}
+use Rattle.cpm_disk.specs.Files.{IsEither, IsMarkedFile, IsMatched, IsMoved, IsNoFile, OthersAreSame}
 use Rattle.cpm_disk.specs.Image.{Image, directory}
 use Rattle.z80dev_disk.specs.Along.{Along, IsRefusedAlong}
 use Rattle.z80dev_disk.specs.Disks.{Edited}
@@ -67,17 +67,22 @@ IsRenamed bytes user from to result = Edited bytes (λ kind. Renames kind user f
 
 -- ---- attributes
 
--- An attribute of the files of a user that match a pattern is set or taken away, and every other file is as before.
+-- An attribute of the files of a user that match a pattern is set or taken away; the rest of them, and every other file, is as before.
 pub record Marks (kind : DiskKind) (user : ℕ) (attribute : Attribute) (on : Bool) (pattern : List ℕ) (old new : Image) : Type 0 where
   pub count : ℕ
   pub may : marking user pattern (directory kind old) ≡ Ok count
   pub changed : Changed kind old new (after_marking user pattern attribute on (directory kind old))
+  pub marked : (name : List ℕ) → name_matches pattern name ≡ true → IsMarkedFile kind old new user name attribute on
   pub others : OthersAreSame kind old new (IsMatched user pattern)
 
 abbrev pub StopsMarking : DiskKind → ℕ → List ℕ → Image → DiskFault → Type 0
 StopsMarking kind user pattern old why = marking user pattern (directory kind old) ≡ Err why
 
+-- the pattern itself
+abbrev pub pattern_itself : List ℕ → Image → DiskFault → List ℕ
+pattern_itself pattern image why = pattern
+
 -- `protect` and `unprotect`: the files that match each pattern in turn are marked; or none is.
 abbrev pub IsMarked : List ℕ → ℕ → Attribute → Bool → List (List ℕ) → Result (Vec ℕ Global) Refusal → Type 0
 IsMarked bytes user attribute on patterns result =
-    Edited bytes (λ kind. Along (Marks kind user attribute on) patterns) (λ kind. IsRefusedAlong (Marks kind user attribute on) (StopsMarking kind user) (λ pattern image why. pattern) patterns) result
+    Edited bytes (λ kind. Along (Marks kind user attribute on) patterns) (λ kind. IsRefusedAlong (Marks kind user attribute on) (StopsMarking kind user) pattern_itself patterns) result

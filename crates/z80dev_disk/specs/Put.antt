@@ -65,6 +65,10 @@ File = List ℕ × List ℕ
 abbrev pub file_of : PutFile → File
 file_of f = (f.name, f.bytes.now)
 
+-- the name that goes with a refusal
+abbrev pub name_of_file : File → Image → DiskFault → List ℕ
+name_of_file file image why = file.0
+
 -- whether a file is erased before one of its name is put
 abbrev pub is_replaced : ℕ → Bool → List ℕ → List Entry → Bool
 is_replaced user replaces name entries = replaces && is_file user name entries
@@ -93,4 +97,4 @@ StopsOne kind user replaces file old why =
 -- Files are put in their order: the image with all of them; or the first that is refused, by its name, and no image.
 abbrev pub IsPut : List ℕ → ℕ → Bool → List File → Result (Vec ℕ Global) Refusal → Type 0
 IsPut bytes user replaces files result =
-    Edited bytes (λ kind. Along (PutsOne kind user replaces) files) (λ kind. IsRefusedAlong (PutsOne kind user replaces) (StopsOne kind user replaces) (λ file image why. file.0) files) result
+    Edited bytes (λ kind. Along (PutsOne kind user replaces) files) (λ kind. IsRefusedAlong (PutsOne kind user replaces) (StopsOne kind user replaces) name_of_file files) result
