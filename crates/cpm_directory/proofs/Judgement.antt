@@ -35,14 +35,14 @@ keeps_of_sound kind entries s k second = (
       omega arith,
 )
 
-no_fault : (kind : DiskKind) (before : List Entry) (e : Entry) (f : DiskFault) → KeepsRules kind before e → IsFaultOf kind before e f → ⊥
+pub no_fault : (kind : DiskKind) (before : List Entry) (e : Entry) (f : DiskFault) → KeepsRules kind before e → IsFaultOf kind before e f → ⊥
 no_fault kind before e fault.BadEntry keeps broken = broken keeps.0
 no_fault kind before e fault.BlockRange keeps broken = broken.1 keeps.1
 no_fault kind before e fault.BlockTwice keeps broken = broken.2 keeps.2
 no_fault kind before e fault.NameTwice keeps broken = broken.3 keeps.3
 no_fault kind before e _ keeps broken = broken
 
-one_fault : (kind : DiskKind) (before : List Entry) (e : Entry) (f g : DiskFault) → IsFaultOf kind before e f → IsFaultOf kind before e g → f ≡ g
+pub one_fault : (kind : DiskKind) (before : List Entry) (e : Entry) (f g : DiskFault) → IsFaultOf kind before e f → IsFaultOf kind before e g → f ≡ g
 one_fault kind before e fault.BadEntry fault.BadEntry p q = refl
 one_fault kind before e fault.BadEntry fault.BlockRange p q = absurd (p q.0)
 one_fault kind before e fault.BadEntry fault.BlockTwice p q = absurd (p q.0)
@@ -65,7 +65,7 @@ one_fault kind before e fault.NameTwice fault.NameTwice p q = refl
 one_fault kind before e fault.NameTwice _ p q = absurd q
 one_fault kind before e _ g p q = absurd p
 
-sound_or_not : (kind : DiskKind) (entries : List Entry) (f : DiskFault) → IsSound kind entries → IsFirstFault kind entries f → ⊥
+pub sound_or_not : (kind : DiskKind) (entries : List Entry) (f : DiskFault) → IsSound kind entries → IsFirstFault kind entries f → ⊥
 sound_or_not kind entries f sound first =
     no_fault kind (take first.number entries) (at entries first.number) f (keeps_of_sound kind entries sound first.number first.extent) first.fault_of
 

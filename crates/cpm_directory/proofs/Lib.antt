@@ -8,5 +8,8 @@ pub mod TakenBlocks
 pub mod OwnBlocks
 pub mod FirstFault
 pub mod Judgement
+pub mod AllFaults
+pub mod OneList
+pub mod Counts
 pub mod Order
 pub mod FileList

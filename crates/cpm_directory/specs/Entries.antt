@@ -1,12 +1,13 @@
 -- An entry of a CP/M 2.2 directory: 32 bytes, the user, eleven bytes of name and type, EX, S1, S2, RC and sixteen bytes of blocks.
 -- (CP/M 2.2 Interface Guide, file control blocks; Alteration Guide, the directory.)
-use Rattle.std.specs.Prelude.{ℕ, ◌+◌, ◌*◌, ◌/◌, ◌%◌, ◌==◌, Bool, ◌&&◌, ◌||◌, not, List, [], ◌∷◌, ◌++◌, take, drop, replicate, slice_index, slice_index_or, slice_set, nat_lt, nat_le, max}
+use Rattle.std.specs.Prelude.{ℕ, ◌+◌, ◌*◌, ◌/◌, ◌%◌, ◌==◌, Bool, ◌&&◌, ◌||◌, not, List, [], ◌∷◌, ◌++◌, take, drop, replicate, slice_index, slice_index_or, slice_set, nat_lt, nat_le, max, if◌then◌else◌, count_by}
 use Rattle.std.specs.Str.{bytes_eq}
+use Rattle.cpm_directory.specs.declared.attribute.Attribute.TheVariants.{ReadOnly, System}
 use Rattle.cpm_directory.specs.declared.entry.TheConstants.{USERS}
 use Rattle.cpm_image.specs.declared.kind.DiskKind.{DiskKind}
 use Rattle.cpm_image.specs.declared.kind.DiskKind.TheVariants.{EightInch, Megabyte}
 use Rattle.cpm_image.specs.Kind.{block_records}
-use Rattle.cpm_directory.specs.Types.{Entry, Pattern}
+use Rattle.cpm_directory.specs.Types.{Attribute, Entry, Pattern}
 use Rattle.cpm_directory.specs.Letters.{letters, name_matches, with_letters}
 
 -- the 32 bytes
@@ -58,6 +59,11 @@ is_read_only e = nat_le 128 (slice_index e.name 8)
 abbrev pub is_system : Entry → Bool
 is_system e = nat_le 128 (slice_index e.name 9)
 
+-- the byte of the name that has an attribute
+abbrev pub attribute_byte : Attribute → ℕ
+attribute_byte ReadOnly = 8
+attribute_byte System = 9
+
 -- whether an entry is of a user and its name matches a pattern's
 abbrev pub is_match : ℕ → List ℕ → Entry → Bool
 is_match user pattern e = (e.user == user) && name_matches pattern e.name
@@ -86,6 +92,10 @@ blocks_of kind e = block_numbers kind e.blocks
 -- the block of a group of records, as many as a block has, 0 for none
 abbrev pub block : DiskKind → Entry → ℕ → ℕ
 block kind e group = slice_index (blocks_of kind e) group
+
+-- how many blocks an entry holds: its block numbers but 0
+abbrev pub held_blocks : DiskKind → Entry → ℕ
+held_blocks kind e = count_by (λ b. not (b == 0)) (blocks_of kind e)
 
 -- whether record i of the extent is there
 abbrev pub has_record : DiskKind → Entry → ℕ → Bool
@@ -123,3 +133,11 @@ erased e = record e { user = 0xE5 }
 -- renamed: the name's letters change alone
 abbrev pub renamed : List ℕ → Entry → Entry
 renamed name e = record e { name = with_letters e.name name }
+
+-- a byte with its high bit set or cleared
+abbrev pub with_high : Bool → ℕ → ℕ
+with_high on b = if on then b % 128 + 128 else b % 128
+
+-- marked with an attribute, or cleared of it: the high bit of one byte of the name changes alone
+abbrev pub marked : Attribute → Bool → Entry → Entry
+marked attribute on e = record e { name = slice_set e.name (attribute_byte attribute) (with_high on (slice_index e.name (attribute_byte attribute))) }

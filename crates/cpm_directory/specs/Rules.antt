@@ -1,7 +1,7 @@
 -- The rules that a directory keeps, and the first fault of one that does not.
-use Rattle.std.specs.Prelude.{◌≡◌, ◌<◌, ◌≤◌, ◌⊎◌, ℕ, ◌%◌, true, List, length, take, Result, Ok, Err, ⊤}
+use Rattle.std.specs.Prelude.{◌≡◌, ◌<◌, ◌≤◌, ◌⊎◌, ℕ, ◌%◌, true, List, length, take, Result, Ok, Err, ⊤, All, AllPairs, Any}
 use Rattle.cpm_directory.specs.declared.rules.TheConstants.{LAST_EXTENT, MOST_RECORDS}
-use Rattle.cpm_directory.specs.Types.{Entry, DiskFault}
+use Rattle.cpm_directory.specs.Types.{Broken, Entry, DiskFault}
 use Rattle.cpm_image.specs.Kind.{block_count, first_block, last_high}
 use Rattle.cpm_image.specs.declared.kind.DiskKind.{DiskKind}
 use Rattle.cpm_directory.specs.declared.fault.DiskFault.TheVariants as fault
@@ -76,3 +76,17 @@ pub record IsFirstFault (kind : DiskKind) (entries : List Entry) (fault : DiskFa
 abbrev pub IsJudged : DiskKind → List Entry → Result ⊤ DiskFault → Type 0
 IsJudged kind entries (Ok _) = IsSound kind entries
 IsJudged kind entries (Err f) = IsFirstFault kind entries f
+
+-- an entry that breaks a rule after those before it, with the first rule that it breaks
+pub record IsBroken (kind : DiskKind) (entries : List Entry) (broken : Broken) : Type 0 where
+  pub within : broken.number < length entries
+  pub entry : broken.entry ≡ at entries broken.number
+  pub extent : is_extent broken.entry ≡ true
+  pub fault_of : IsFaultOf kind (take broken.number entries) broken.entry broken.fault
+
+-- All entries that break a rule, in their order. Those that break one stand before the later ones all the same.
+pub record AreBroken (kind : DiskKind) (entries : List Entry) (broken : List Broken) : Type 0 where
+  pub each : All (IsBroken kind entries) broken
+  -- every other entry of users 0 to 31 keeps the rules
+  pub every : (k : ℕ) → is_extent (at entries k) ≡ true → KeepsRules kind (take k entries) (at entries k) ⊎ Any (λ b. b.number ≡ k) broken
+  pub ordered : AllPairs (λ a b. a.number < b.number) broken

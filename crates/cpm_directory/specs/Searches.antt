@@ -1,5 +1,5 @@
 -- What is looked for in a directory.
-use Rattle.std.specs.Prelude.{◌≡◌, ◌<◌, ℕ, ◌+◌, ◌-◌, Bool, true, ◌&&◌, not, List, Option, Some, None, map, filter, drop, max, fold, find, position, length, if◌then◌else◌, option_map, slice_index_or, nat_eq, unwrap_or, ◌⊎◌, All, Any}
+use Rattle.std.specs.Prelude.{◌≡◌, ◌<◌, ℕ, ◌+◌, ◌-◌, Bool, true, ◌&&◌, not, List, Option, Some, None, map, filter, drop, max, fold, find, position, length, if◌then◌else◌, option_map, slice_index_or, nat_eq, unwrap_or, ◌⊎◌, All, Any, count_by, sum_by}
 use Rattle.std.specs.List.{list_any, range_with_len}
 use Rattle.std.specs.Cmp.Lexicographic.{slice_cmp}
 use Rattle.std.specs.Ordering.{nat_cmp}
@@ -7,8 +7,8 @@ use Rattle.std.specs.declared.cmp.Ordering.TheVariants.{Less}
 use Rattle.cpm_directory.specs.declared.entry.TheConstants.{USERS}
 use Rattle.cpm_image.specs.Kind.{block_count, first_block}
 use Rattle.cpm_image.specs.declared.kind.DiskKind.{DiskKind}
-use Rattle.cpm_directory.specs.Types.{Entry, Pattern, Listed}
-use Rattle.cpm_directory.specs.Entries.{at, blocks_of, is_extent, is_free, is_of, is_exact_match, is_read_only, is_system, record_end}
+use Rattle.cpm_directory.specs.Types.{Entry, Pattern, Listed, Space, Usage}
+use Rattle.cpm_directory.specs.Entries.{at, blocks_of, held_blocks, is_extent, is_free, is_of, is_exact_match, is_read_only, is_system, record_end}
 use Rattle.cpm_directory.specs.Letters.{letters}
 
 -- whether a user has a file of a name
@@ -43,6 +43,30 @@ abbrev pub size : ℕ → List ℕ → List Entry → Option ℕ
 size user name entries = if is_file user name entries
     then Some (fold max 0 (map record_end (filter (is_of user name) entries)))
     else None
+
+-- how many entries a file has, and how many blocks these hold
+abbrev pub usage_of : DiskKind → ℕ → List ℕ → List Entry → Usage
+usage_of kind user name entries = record {
+  entries = count_by (is_of user name) entries;
+  blocks = sum_by (held_blocks kind) (filter (is_of user name) entries);
+}
+
+abbrev pub no_usage : Usage
+no_usage = record { entries = 0; blocks = 0 }
+
+-- how many blocks of files are in no entry of users 0 to 31
+unfoldable pub free_blocks : DiskKind → List Entry → ℕ
+free_blocks kind entries = count_by (λ b. not (is_taken kind entries b)) (range_with_len (first_block kind) (block_count kind - first_block kind))
+
+-- how many entries and blocks are free
+abbrev pub space_of : DiskKind → List Entry → Space
+space_of kind entries = record {
+  entries = count_by is_free entries;
+  blocks = free_blocks kind entries;
+}
+
+abbrev pub no_space : Space
+no_space = record { entries = 0; blocks = 0 }
 
 -- what a listing says of one file
 abbrev pub listed_of : ℕ → List ℕ → List Entry → Listed

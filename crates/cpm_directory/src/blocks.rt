@@ -1,12 +1,12 @@
 //! Which blocks the entries of a directory hold.
 
-ghost use Rattle.std.specs.Prelude.{◌≡◌, ◌||◌, ◌==◌, false, not, true, ◌<◌, IfSome, MatchBool, slice_index_or, slice_set};
+ghost use Rattle.std.specs.Prelude.{◌≡◌, ◌||◌, ◌==◌, false, not, true, ◌<◌, ◌≤◌, IfSome, MatchBool, length, slice_index_or, slice_set};
 ghost use Rattle.cpm_image.specs.Kind.{number_limit};
 ghost use Rattle.cpm_directory.specs.Entries.{blocks_of};
 ghost use Rattle.cpm_directory.specs.Private.Marks.{AddsMarks, AreMarks, AreOwn, AreSmall};
-ghost use Rattle.cpm_directory.specs.Searches.{free_block};
+ghost use Rattle.cpm_directory.specs.Searches.{free_block, free_blocks, space_of};
 
-use crate::Entry;
+use crate::{Entry, Space};
 use cpm_image::DiskKind;
 
 /// A flag for each block that a disk can have. Numbers above are not marked.
@@ -58,4 +58,25 @@ pub fn free_block(kind: DiskKind, entries: &[Entry]) -> Option<u16>
 {
     let marks = taken(kind, entries);
     (kind.first_block()..kind.block_count()).find(|block| !marks[usize::from(*block)])
+}
+
+/// How many blocks of files no entry of users 0 to 31 holds.
+fn free_blocks(kind: DiskKind, entries: &[Entry]) -> u16
+    ensures { result ≡ free_blocks kind entries.now }
+{
+    let marks = taken(kind, entries);
+    (kind.first_block()..kind.block_count())
+        .filter(|block| !marks[usize::from(*block)])
+        .count() as u16
+}
+
+/// How many entries are free, and how many blocks of files no entry of users 0 to 31 holds.
+pub fn space_of(kind: DiskKind, entries: &[Entry]) -> Space
+    requires { length entries.now ≤ 65535 }
+    ensures { result ≡ space_of kind entries.now }
+{
+    Space {
+        entries: entries.iter().filter(|entry| entry.is_free()).count() as u16,
+        blocks: free_blocks(kind, entries),
+    }
 }

@@ -2,10 +2,11 @@
 
 ghost use Rattle.std.specs.Prelude.{◌≡◌, ◌<◌};
 ghost use Rattle.cpm_image.specs.Kind.{entry_blocks, number_limit};
-ghost use Rattle.cpm_directory.specs.Entries.{is_asked, with_block};
+ghost use Rattle.cpm_directory.specs.Entries.{is_asked, with_block, with_high};
 ghost use Rattle.cpm_directory.specs.Letters.{byte_matches, letters, name_matches, with_letters};
 
-use crate::{Name, Pattern};
+use crate::attribute::byte_of;
+use crate::{Attribute, Name, Pattern};
 use cpm_image::DiskKind;
 
 /// An entry of a directory: 32 bytes. Of users 0 to 31 it is an extent of a file, of user E5H it is free, and with any
@@ -72,6 +73,13 @@ fn with_letters(old: &[u8; 11], mut name: [u8; 11]) -> [u8; 11]
     name
 }
 
+/// A byte with its high bit set or cleared.
+fn with_high(byte: u8, on: bool) -> u8
+    ensures { result ≡ with_high on byte }
+{
+    if on { byte % 128 + 128 } else { byte % 128 }
+}
+
 /// The block numbers of an entry with the block of a group.
 fn with_block(blocks: &[u8; 16], kind: DiskKind, group: u8, block: u16) -> [u8; 16]
     requires group { group < entry_blocks kind }
@@ -91,9 +99,9 @@ fn with_block(blocks: &[u8; 16], kind: DiskKind, group: u8, block: u16) -> [u8; 
 }
 
 impl Entry {
-    ghost use Rattle.std.specs.Prelude.{◌≡◌, ◌<◌, ◌/◌, length, slice_index};
+    ghost use Rattle.std.specs.Prelude.{◌≡◌, ◌<◌, ◌≤◌, ◌/◌, length, slice_index};
     ghost use Rattle.cpm_image.specs.Kind.{block_records, entry_blocks, number_limit};
-    ghost use Rattle.cpm_directory.specs.Entries.{block, blocks_of, bytes_of, extent_number, entry_of, erased, has_record, is_exact_match, is_extent, is_extent_of, is_free, is_match, is_of, is_read_only, is_system, new_extent, place_on_disk, record_end, renamed, with_record};
+    ghost use Rattle.cpm_directory.specs.Entries.{block, blocks_of, bytes_of, extent_number, entry_of, erased, has_record, held_blocks, is_exact_match, is_extent, is_extent_of, is_free, is_match, is_of, is_read_only, is_system, marked, new_extent, place_on_disk, record_end, renamed, with_record};
 
     /// The entry that 32 bytes spell.
     pub fn from_bytes(bytes: &[u8; 32]) -> Entry
@@ -212,6 +220,20 @@ impl Entry {
         kind.entry_blocks()
     }
 
+    /// How many blocks the entry holds: its block numbers but 0.
+    pub(crate) fn held_blocks(&self, kind: DiskKind) -> u8
+        ensures held { result ≡ held_blocks kind self.now }
+        ensures most { result ≤ 16 }
+    {
+        let mut held = 0;
+        for group in 0..self.block_total(kind) {
+            if self.block(kind, group) != 0 {
+                held += 1;
+            }
+        }
+        held
+    }
+
     /// The block of a group of records, as many as a block has; 0 for none.
     pub fn block(&self, kind: DiskKind, group: u8) -> u16
         requires { group < entry_blocks kind }
@@ -262,6 +284,16 @@ impl Entry {
             name: with_letters(&self.name, name.bytes()),
             ..*self
         }
+    }
+
+    /// The entry marked with an attribute, or cleared of it: the high bit of one byte of its name changes alone.
+    pub fn marked(&self, attribute: Attribute, on: bool) -> Entry
+        ensures { result ≡ marked attribute on self.now }
+    {
+        let byte = byte_of(attribute);
+        let mut name = self.name;
+        name[byte] = with_high(name[byte], on);
+        Entry { name, ..*self }
     }
 
     /// The entry once its record `i` is written to a block.

@@ -1,13 +1,13 @@
 //! Laws of directories, as functions that do nothing.
 
-ghost use Rattle.std.specs.Prelude.{◌≡◌, List, ℕ, Result, length, ⊤};
+ghost use Rattle.std.specs.Prelude.{◌≡◌, ◌↔◌, ◌∷◌, [], All, List, ℕ, Result, length, ⊤};
 ghost use Rattle.cpm_image.specs.declared.kind.DiskKind.{DiskKind};
-ghost use Rattle.cpm_directory.specs.Types.{DiskFault, Entry};
+ghost use Rattle.cpm_directory.specs.Types.{Broken, DiskFault, Entry};
 ghost use Rattle.cpm_directory.specs.Entries.{bytes_of, entry_of};
 ghost use Rattle.cpm_directory.specs.Letters.{letters};
-ghost use Rattle.cpm_directory.specs.Rules.{IsJudged};
+ghost use Rattle.cpm_directory.specs.Rules.{AreBroken, IsFirstFault, IsJudged, IsSound};
 
-use crate::Name;
+use crate::{Entry, Name};
 
 /// Thirty-two bytes are those of the entry that they spell. So an entry that nothing changes is kept byte for byte.
 pub fn same_bytes()
@@ -22,7 +22,20 @@ pub fn is_name(name: &Name)
     let _bytes = name.bytes();
 }
 
+/// The name of each entry has eleven bytes. (It is asked of entries and not of any lists, so it takes them.)
+pub fn are_entries(entries: &[Entry])
+    ensures { All (λ e. length e.name ≡ 11) entries.now }
+{}
+
 /// A directory of a kind of disk is judged in one way: it keeps its rules, or it has one first fault.
 pub fn one_judgement()
     ensures { (kind : DiskKind) (entries : List Entry) (a b : Result ⊤ DiskFault) → IsJudged kind entries a → IsJudged kind entries b → a ≡ b }
+{}
+
+/// A directory has one list of the entries that break a rule. It is empty exactly where the directory keeps its rules, and
+/// the fault of its first entry is the directory's first.
+pub fn one_list_of_broken()
+    ensures one { (kind : DiskKind) (entries : List Entry) (a b : List Broken) → AreBroken kind entries a → AreBroken kind entries b → a ≡ b }
+    ensures none { (kind : DiskKind) (entries : List Entry) (broken : List Broken) → AreBroken kind entries broken → ((broken ≡ []) ↔ IsSound kind entries) }
+    ensures first { (kind : DiskKind) (entries : List Entry) (broken : Broken) (rest : List Broken) → AreBroken kind entries (broken ∷ rest) → IsFirstFault kind entries broken.fault }
 {}

@@ -1,13 +1,14 @@
 //! The rules that a directory keeps.
 
-ghost use Rattle.std.specs.Prelude.{◌≡◌, ◌↔◌, IfErr, IfOk, IsTrue, MatchBool, true};
+ghost use Rattle.std.specs.Prelude.{◌≡◌, ◌≤◌, ◌↔◌, IfErr, IfOk, IsTrue, MatchBool, length, true};
 ghost use Rattle.cpm_directory.specs.Entries.{blocks_of, is_extent};
 ghost use Rattle.cpm_directory.specs.Private.Marks.{AddsMarks, AreMarks};
-ghost use Rattle.cpm_directory.specs.Rules.{AreBlocks, HasOwnName, IsBlock, IsEntryJudged, IsGood, IsJudged, IsRuleFault};
+ghost use Rattle.cpm_directory.specs.Rules.{AreBlocks, AreBroken, HasOwnName, IsBlock, IsEntryJudged, IsGood, IsJudged, IsRuleFault};
 
 use crate::blocks::{Marks, mark};
-use crate::{DiskFault, Entry, Name};
+use crate::{Broken, DiskFault, Entry, Name};
 use cpm_image::DiskKind;
+use std::alloc::Global;
 
 /// The most records of an extent.
 pub const MOST_RECORDS: u8 = 128;
@@ -56,7 +57,7 @@ fn has_own_name(before: &[Entry], entry: &Entry) -> bool
         .any(|other| other.is_extent_of(entry.user, &name, number))
 }
 
-/// Judges an entry after those before it, and marks its blocks.
+/// Judges an entry after those before it, and marks its blocks, whatever the answer.
 fn judge_entry(
     marks: &mut Marks,
     kind: DiskKind,
@@ -67,15 +68,17 @@ fn judge_entry(
     requires extent { is_extent entry.now ≡ true }
     ensures judged { IsEntryJudged kind before.now entry.now result }
     ensures refusals { IfErr result IsRuleFault }
-    ensures marked { IfOk result (λ _. AddsMarks marks.old marks.new (blocks_of kind entry.now)) }
+    ensures marked { AddsMarks marks.old marks.new (blocks_of kind entry.now) }
 {
+    // A later entry may not have these blocks either where this one breaks a rule.
+    let own = mark(marks, kind, entry);
     if !is_good(kind, entry) {
         return Err(DiskFault::BadEntry);
     }
     if !are_blocks(kind, entry) {
         return Err(DiskFault::BlockRange);
     }
-    if !mark(marks, kind, entry) {
+    if !own {
         return Err(DiskFault::BlockTwice);
     }
     if !has_own_name(before, entry) {
@@ -101,4 +104,31 @@ pub fn judge(kind: DiskKind, entries: &[Entry]) -> Result<(), DiskFault>
         }
     }
     Ok(())
+}
+
+/// The entries of users 0 to 31 that break a rule, in their order, each with the first rule that it breaks. An entry is
+/// judged after all before it, those that break a rule included.
+///
+/// # Errors
+///
+/// [`DiskFault::NoMemory`] and no other.
+pub fn faults(alloc: Global, kind: DiskKind, entries: &[Entry]) -> Result<Vec<Broken>, DiskFault>
+    requires { length entries.now ≤ 65536 }
+    ensures broken { IfOk result (λ broken. AreBroken kind entries.now broken.items) }
+    ensures memory { IfErr result (λ fault. fault ≡ DiskFault.NoMemory) }
+{
+    let mut marks = [false; 512];
+    let mut broken = Vec::new(alloc);
+    for (number, entry) in entries.iter().enumerate() {
+        if entry.is_extent() {
+            if let Err(fault) = judge_entry(&mut marks, kind, &entries[..number], entry) {
+                broken.push(Broken {
+                    number: number as u16,
+                    entry: *entry,
+                    fault,
+                })?;
+            }
+        }
+    }
+    Ok(broken)
 }

@@ -1,14 +1,15 @@
 //! What is looked for in a directory.
 
-ghost use Rattle.std.specs.Prelude.{◌≡◌, ◌<◌, ◌≤◌, IfSome, length, position};
+ghost use Rattle.std.specs.Prelude.{◌≡◌, ◌<◌, ◌≤◌, IfSome, count_by, length, position};
 ghost use Rattle.cpm_directory.specs.declared.entry.TheConstants.{USERS};
 ghost use Rattle.cpm_image.specs.Kind.{file_records};
 ghost use Rattle.cpm_image.specs.declared.kind.DiskKind.{DiskKind};
-ghost use Rattle.cpm_directory.specs.Entries.{is_exact_match, is_extent_of};
+ghost use Rattle.cpm_directory.specs.Entries.{is_exact_match, is_extent_of, is_of};
 ghost use Rattle.cpm_directory.specs.Rules.{IsSound};
-ghost use Rattle.cpm_directory.specs.Searches.{file_is_read_only, file_is_system, found_from, free_entry, is_file, size};
+ghost use Rattle.cpm_directory.specs.Searches.{file_is_read_only, file_is_system, found_from, free_entry, is_file, size, usage_of};
 
-use crate::{Entry, Name, Pattern};
+use crate::{Entry, Name, Pattern, Usage};
+use cpm_image::DiskKind;
 
 /// Whether a user has a file of a name.
 pub fn is_file(entries: &[Entry], user: u8, name: &Name) -> bool
@@ -101,4 +102,33 @@ pub fn size(entries: &[Entry], user: u8, name: &Name) -> Option<u32>
         .filter(|entry| entry.is_of(user, name))
         .map(|entry| entry.record_end())
         .max()
+}
+
+/// How many entries a file has.
+fn entries_of(entries: &[Entry], user: u8, name: &Name) -> u16
+    requires { length entries.now ≤ 65535 }
+    ensures { result ≡ count_by (is_of user name.now) entries.now }
+{
+    entries
+        .iter()
+        .filter(|entry| entry.is_of(user, name))
+        .count() as u16
+}
+
+/// How many entries a file has, and how many blocks these hold: their block numbers but 0, added up. Both are 0 where
+/// there is no such file.
+pub fn usage_of(kind: DiskKind, entries: &[Entry], user: u8, name: &Name) -> Usage
+    requires { length entries.now < 4096 }
+    ensures { result ≡ usage_of kind user name.now entries.now }
+{
+    let mut blocks = 0;
+    for entry in entries {
+        if entry.is_of(user, name) {
+            blocks += u16::from(entry.held_blocks(kind));
+        }
+    }
+    Usage {
+        entries: entries_of(entries, user, name),
+        blocks,
+    }
 }

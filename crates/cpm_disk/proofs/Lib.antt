@@ -11,6 +11,7 @@ pub mod Files
 pub mod Attributes
 pub mod Others
 pub mod Maps
+pub mod Marking
 pub mod Written
 pub mod Stopped
 pub mod Remembered

@@ -1,13 +1,15 @@
 -- The files of an image, as a map from user and name: of each extent the count of its records and the bytes of those in its blocks, and
 -- two attributes. Record i of an extent is there where i is below the count and its block is. (CP/M 2.2 Alteration Guide, the directory.)
-use Rattle.std.specs.Prelude.{◌≡◌, ◌≢◌, ◌<◌, ◌⊎◌, ◌+◌, ◌/◌, ◌%◌, ◌==◌, max, replicate, unwrap_or, ℕ, true, false, List, Option, Some, None, find, if◌then◌else◌, option_and_then, option_map}
+use Rattle.std.specs.Prelude.{◌≡◌, ◌≢◌, ◌<◌, ◌⊎◌, ◌+◌, ◌/◌, ◌%◌, ◌==◌, max, replicate, unwrap_or, ℕ, true, false, List, Option, Some, None, find, if◌then◌else◌, option_and_then, option_map, Bool}
+use Rattle.cpm_directory.specs.declared.attribute.Attribute.{Attribute}
+use Rattle.cpm_directory.specs.declared.attribute.Attribute.TheVariants as attribute
 use Rattle.cpm_directory.specs.declared.entry.TheConstants.{USERS}
 use Rattle.cpm_image.specs.Kind.{block_records}
 use Rattle.cpm_image.specs.declared.kind.DiskKind.{DiskKind}
 use Rattle.cpm_directory.specs.declared.entry.Entry.{Entry}
 use Rattle.cpm_directory.specs.Entries.{block, has_record, is_extent_of, place_on_disk}
 use Rattle.cpm_directory.specs.Letters.{name_matches}
-use Rattle.cpm_directory.specs.Searches.{file_is_read_only, file_is_system}
+use Rattle.cpm_directory.specs.Searches.{file_is_read_only, file_is_system, is_file}
 use Rattle.cpm_disk.specs.Image.{Image, directory, disk_record}
 
 -- the count of the records of a file's extent
@@ -68,6 +70,22 @@ pub record IsMoved (kind : DiskKind) (old new : Image) (user : ℕ) (from to : L
   pub read_only : file_is_read_only user to (directory kind new) ≡ file_is_read_only user from (directory kind old)
   pub system : file_is_system user to (directory kind new) ≡ file_is_system user from (directory kind old)
   pub gone : IsNoFile kind new user from
+
+-- whether a file has an attribute
+abbrev pub file_has : Attribute → DiskKind → Image → ℕ → List ℕ → Bool
+file_has attribute.ReadOnly kind image user name = file_is_read_only user name (directory kind image)
+file_has attribute.System kind image user name = file_is_system user name (directory kind image)
+
+abbrev pub other_attribute : Attribute → Attribute
+other_attribute attribute.ReadOnly = attribute.System
+other_attribute attribute.System = attribute.ReadOnly
+
+-- a file that was marked with an attribute, or cleared of it: its extents, their counts and records, and its other attribute are as before
+pub record IsMarkedFile (kind : DiskKind) (old new : Image) (user : ℕ) (name : List ℕ) (which : Attribute) (on : Bool) : Type 0 where
+  pub counts : (number : ℕ) → count_of kind new user name number ≡ count_of kind old user name number
+  pub records : (number i : ℕ) → i < 128 → block_record kind new user name number i ≡ block_record kind old user name number i
+  pub marked : is_file user name (directory kind old) ≡ true → file_has which kind new user name ≡ on
+  pub other : file_has (other_attribute which) kind new user name ≡ file_has (other_attribute which) kind old user name
 
 -- A record of a file was written. The other records of its block are as before, or zeros where the block is new; the rest of the file
 -- is as before.

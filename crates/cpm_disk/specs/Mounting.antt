@@ -3,10 +3,11 @@ use Rattle.std.specs.Prelude.{◌≡◌, ℕ, length, true, false, List, Result,
 use Rattle.cpm_image.specs.Device.{HasRisen}
 use Rattle.cpm_image.specs.Kind.{IsDiskSize, sector_count}
 use Rattle.cpm_image.specs.declared.kind.DiskKind.{DiskKind}
+use Rattle.cpm_directory.specs.declared.broken.Broken.{Broken}
 use Rattle.cpm_directory.specs.declared.fault.DiskFault.{DiskFault}
 use Rattle.cpm_directory.specs.declared.fault.DiskFault.TheVariants as fault
 use Rattle.cpm_directory.specs.declared.listing.Listed.{Listed}
-use Rattle.cpm_directory.specs.Rules.{IsFirstFault, IsRuleFault, IsSound}
+use Rattle.cpm_directory.specs.Rules.{AreBroken, IsFirstFault, IsRuleFault, IsSound}
 use Rattle.cpm_directory.specs.Searches.{IsListing}
 use Rattle.cpm_disk.specs.Calls.{Mounted}
 use Rattle.cpm_disk.specs.Image.{Image, directory}
@@ -38,3 +39,12 @@ IsListedBy sectors items disk (Ok listed) = (disk.failed ≡ false) × IsListing
 IsListedBy sectors items disk (Err fault.Failed) = disk.failed ≡ true
 IsListedBy sectors items disk (Err fault.NoMemory) = disk.failed ≡ false
 IsListedBy sectors items disk (Err _) = ⊥
+
+-- The entries that break a rule are answered where the device has the size of a disk, did not fail and no growth was refused; else why a
+-- device like it is not mounted. The numbers are the device's counts of faults.
+abbrev pub AreFaultsOf : {A : Type 0} → (A → List Broken) → Image → ℕ → ℕ → Result A DiskFault → Type 0
+AreFaultsOf items image before now (Ok broken) = (now ≡ before) × ((kind : DiskKind) × (length image ≡ sector_count kind) × AreBroken kind (directory kind image) (items broken))
+AreFaultsOf items image before now (Err fault.WrongSize) = IsMountFault image before now fault.WrongSize
+AreFaultsOf items image before now (Err fault.Fault) = IsMountFault image before now fault.Fault
+AreFaultsOf items image before now (Err fault.NoMemory) = IsMountFault image before now fault.NoMemory
+AreFaultsOf items image before now (Err _) = ⊥

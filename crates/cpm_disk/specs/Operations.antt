@@ -1,8 +1,9 @@
 -- Each call of a mounted disk that changes or reads records: what it answers and what it leaves.
-use Rattle.std.specs.Prelude.{◌≡◌, ◌%◌, ℕ, List, Result, slice_set}
+use Rattle.std.specs.Prelude.{◌≡◌, ◌%◌, ℕ, Bool, List, Result, slice_set}
 use Rattle.cpm_image.specs.Kind.{block_records}
+use Rattle.cpm_directory.specs.declared.attribute.Attribute.{Attribute}
 use Rattle.cpm_directory.specs.declared.fault.DiskFault.{DiskFault}
-use Rattle.cpm_operations.specs.Steps.{after_erasure, after_renaming, creation, erasure, reading, renaming, writing}
+use Rattle.cpm_operations.specs.Steps.{after_erasure, after_marking, after_renaming, creation, erasure, marking, reading, renaming, writing}
 use Rattle.cpm_disk.specs.Calls.{Changed, Mounted, Outcome, PartlyChanged, PartlyWritten, Written}
 use Rattle.cpm_disk.specs.Image.{Image, directory, disk_record}
 
@@ -24,6 +25,16 @@ IsErased sectors faults old new user pattern result =
     Outcome faults old new (erasure user pattern (directory old.kind before))
     (λ count number. (number ≡ count) × Changed old.kind before now (after_erasure user pattern (directory old.kind before)))
     (λ count. PartlyChanged old.kind before now (after_erasure user pattern (directory old.kind before)))
+    result
+
+-- the entries that match are marked with an attribute, or cleared of it, and their count answered
+abbrev pub IsMarked : {S : Type 0} → (S → Image) → (S → ℕ) → Mounted S → Mounted S → ℕ → List ℕ → Attribute → Bool → Result ℕ DiskFault → Type 0
+IsMarked sectors faults old new user pattern attribute on result =
+    let before = sectors old.device in
+    let now = sectors new.device in
+    Outcome faults old new (marking user pattern (directory old.kind before))
+    (λ count number. (number ≡ count) × Changed old.kind before now (after_marking user pattern attribute on (directory old.kind before)))
+    (λ count. PartlyChanged old.kind before now (after_marking user pattern attribute on (directory old.kind before)))
     result
 
 -- the entries of a file are renamed

@@ -8,16 +8,30 @@ ghost use Rattle.cpm_disk.specs.Calls.{Changed, PartlyChanged};
 ghost use Rattle.cpm_disk.specs.Private.Changes.{after};
 
 use crate::records::store;
-use cpm_directory::{Entry, Name};
+use cpm_directory::{Attribute, Entry, Name};
 use cpm_image::{DeviceFault, DiskKind, Sectors};
 
 /// What is done to entries.
 #[derive(Clone, Copy, Debug, PartialEq, Eq)]
 pub(crate) enum Change {
     /// Those of a user that match a pattern are erased.
-    Erase { user: u8, pattern: [u8; 11] },
+    Erase {
+        user: u8,
+        pattern: [u8; 11],
+    },
+    /// Those of a user that match a pattern are marked with an attribute, or cleared of it.
+    Mark {
+        user: u8,
+        pattern: [u8; 11],
+        attribute: Attribute,
+        on: bool,
+    },
     /// Those of a user's file are renamed.
-    Rename { user: u8, old: Name, new: Name },
+    Rename {
+        user: u8,
+        old: Name,
+        new: Name,
+    },
 }
 
 impl Change {
@@ -32,6 +46,16 @@ impl Change {
             Change::Erase { user, pattern } => {
                 if entry.is_match(*user, pattern) {
                     return Some(entry.erased());
+                }
+            }
+            Change::Mark {
+                user,
+                pattern,
+                attribute,
+                on,
+            } => {
+                if entry.is_match(*user, pattern) {
+                    return Some(entry.marked(*attribute, *on));
                 }
             }
             Change::Rename { user, old, new } => {

@@ -10,12 +10,13 @@ use crate::change::{Change, change_all};
 use crate::reader::read_entries;
 use crate::records::{read_record, store};
 use crate::writable::{Writable, is_known};
-use cpm_directory::laws::is_name;
+use cpm_directory::laws::{are_entries, is_name};
 use cpm_directory::{
-    DiskFault, Entry, Listed, Name, Pattern, find, judge, list, position_of, size,
+    Attribute, DiskFault, Entry, Listed, Name, Pattern, Space, Usage, find, judge, list,
+    position_of, size, space_of, usage_of,
 };
 use cpm_image::{DiskKind, Sectors};
-use cpm_operations::{creation, erasure, extent_near, reading_at, renaming, writing_at};
+use cpm_operations::{creation, erasure, extent_near, marking, reading_at, renaming, writing_at};
 use std::alloc::Global;
 use std::marker::Model;
 
@@ -52,13 +53,13 @@ impl<S: Sectors> Disk<S> {
     ghost use Rattle.cpm_directory.specs.Entries.{at, bytes_of, is_extent_of};
     ghost use Rattle.cpm_directory.specs.Letters.{name_matches};
     ghost use Rattle.cpm_directory.specs.Rules.{IsSound};
-    ghost use Rattle.cpm_directory.specs.Searches.{found_from, size};
-    ghost use Rattle.cpm_operations.specs.Refusals.{RefusesCreation, RefusesErasure, RefusesReading, RefusesRenaming, RefusesWriting};
+    ghost use Rattle.cpm_directory.specs.Searches.{found_from, no_space, no_usage, size, space_of, usage_of};
+    ghost use Rattle.cpm_operations.specs.Refusals.{RefusesCreation, RefusesErasure, RefusesMarking, RefusesReading, RefusesRenaming, RefusesWriting};
     ghost use Rattle.cpm_disk.specs.Calls.{FailsOr};
-    ghost use Rattle.cpm_disk.specs.Files.{HasRecord, HasSameRecords, IsEither, IsFile, IsMatched, IsMoved, IsNewFile, IsNoFile, OthersAreSame, file_record};
+    ghost use Rattle.cpm_disk.specs.Files.{HasRecord, HasSameRecords, IsEither, IsFile, IsMarkedFile, IsMatched, IsMoved, IsNewFile, IsNoFile, OthersAreSame, file_record};
     ghost use Rattle.cpm_disk.specs.Image.{directory};
     ghost use Rattle.cpm_disk.specs.Mounting.{IsListedBy, IsMountedFrom, RefusesMount};
-    ghost use Rattle.cpm_disk.specs.Operations.{IsCreated, IsErased, IsRead, IsRenamed, IsWritten};
+    ghost use Rattle.cpm_disk.specs.Operations.{IsCreated, IsErased, IsMarked, IsRead, IsRenamed, IsWritten};
 
     /// Mounts a device of 2,002 sectors as an eight inch disk, one of 8,192 as a Megabyte disk.
     ///
@@ -159,6 +160,35 @@ impl<S: Sectors> Disk<S> {
         size(&self.entries, user, name)
     }
 
+    /// How many entries of the directory a file has, and how many blocks these hold. Both are 0 where there is no such file,
+    /// and after a failure.
+    pub fn usage(&self, user: u8, name: &Name) -> Usage
+        ensures usage { result ≡ (if self.now.failed then no_usage else usage_of self.now.kind user name.now (directory self.now.kind (S.sectors self.now.device))) }
+        ensures sound { IsSound self.now.kind (directory self.now.kind (S.sectors self.now.device)) }
+    {
+        if self.failed {
+            return Usage {
+                entries: 0,
+                blocks: 0,
+            };
+        }
+        usage_of(self.kind, &self.entries, user, name)
+    }
+
+    /// How many entries of the directory are free, and how many blocks of files are in no entry. Both are 0 after a failure.
+    pub fn space(&self) -> Space
+        ensures space { result ≡ (if self.now.failed then no_space else space_of self.now.kind (directory self.now.kind (S.sectors self.now.device))) }
+        ensures sound { IsSound self.now.kind (directory self.now.kind (S.sectors self.now.device)) }
+    {
+        if self.failed {
+            return Space {
+                entries: 0,
+                blocks: 0,
+            };
+        }
+        space_of(self.kind, &self.entries)
+    }
+
     /// Makes a file without records, and answers the number of its entry, the lowest free one.
     ///
     /// # Errors
@@ -217,6 +247,48 @@ impl<S: Sectors> Disk<S> {
         let change = Change::Erase {
             user,
             pattern: pattern.name,
+        };
+        match change_all(&mut self.device, self.kind, &mut self.entries, &change) {
+            Ok(()) => Ok(count),
+            Err(_) => {
+                self.failed = true;
+                Err(DiskFault::Fault)
+            }
+        }
+    }
+
+    /// Marks the entries of a user that match a pattern with an attribute, or clears them of it, whatever their extents, and
+    /// answers how many they were. A read-only file is marked too, or it could never be cleared.
+    ///
+    /// # Errors
+    ///
+    /// In this order: [`DiskFault::Failed`], [`DiskFault::NotFound`], [`DiskFault::Fault`].
+    pub fn mark(
+        &mut self,
+        user: u8,
+        pattern: &Pattern,
+        attribute: Attribute,
+        on: bool,
+    ) -> Result<u16, DiskFault>
+        requires { user < USERS }
+        ensures done { IsMarked S.sectors S.faults self.old self.new user pattern.now.name attribute on result }
+        ensures refusals { IfErr result (FailsOr RefusesMarking) }
+        ensures marked { OnOk result ((name : List ℕ) → name_matches pattern.now.name name ≡ true → IsMarkedFile self.old.kind (S.sectors self.old.device) (S.sectors self.new.device) user name attribute on) }
+        ensures others { OthersAreSame self.old.kind (S.sectors self.old.device) (S.sectors self.new.device) (IsMatched user pattern.now.name) }
+        ensures sound { IsSound self.new.kind (directory self.new.kind (S.sectors self.new.device)) }
+    {
+        if self.failed {
+            return Err(DiskFault::Failed);
+        }
+        let count = marking(&self.entries, user, &pattern.name)?;
+        // A law: the names of entries have the bytes of their type.
+        are_entries(&self.entries);
+        self.writable = None;
+        let change = Change::Mark {
+            user,
+            pattern: pattern.name,
+            attribute,
+            on,
         };
         match change_all(&mut self.device, self.kind, &mut self.entries, &change) {
             Ok(()) => Ok(count),

@@ -4,10 +4,12 @@
 mod block;
 mod change;
 mod disk;
+mod faults;
 mod reader;
 mod records;
 mod writable;
 
-pub use cpm_directory::{DiskFault, Listed, Name, Pattern};
+pub use cpm_directory::{Attribute, Broken, DiskFault, Listed, Name, Pattern, Space, Usage};
 pub use cpm_image::DiskKind;
 pub use disk::Disk;
+pub use faults::faults_of;

@@ -1,21 +1,23 @@
 -- Each step keeps the rules of a directory, also where a failing device stops it.
-use Rattle.std.proofs.Common.{◌≡◌, ◌≢◌, ◌⊎◌, ◌<◌, ◌*◌, ◌%◌, ℕ, true, false, List, [], length, refl, sym, ap, subst, ◌∙◌, inl, inr, arith, slice_set, get_or-set_same, get_or-set_other, Some, true≢false, if◌then◌else◌}
+use Rattle.std.proofs.Common.{◌≡◌, ◌≢◌, ◌⊎◌, ◌<◌, ◌*◌, ◌%◌, ℕ, Bool, true, false, List, [], length, refl, sym, ap, subst, ◌∙◌, inl, inr, arith, slice_set, get_or-set_same, get_or-set_other, Some, true≢false, if◌then◌else◌}
 use Rattle.std.proofs.lemmas.Bool.{cases_Bool, cases_eq}
 use Rattle.std.proofs.lemmas.List.Quantifiers.{position-Some}
 use Rattle.std.proofs.lemmas.List.{length-map}
+use Rattle.cpm_directory.specs.declared.attribute.Attribute.{Attribute}
 use Rattle.cpm_directory.specs.declared.entry.TheConstants.{USERS}
 use Rattle.cpm_image.specs.Kind.{file_records}
 use Rattle.cpm_image.specs.declared.kind.DiskKind.{DiskKind}
 use Rattle.cpm_image.specs.declared.kind.DiskKind.TheVariants.{EightInch, Megabyte}
 use Rattle.cpm_directory.proofs.Words.{new_block}
 use Rattle.cpm_directory.specs.declared.entry.Entry.{Entry}
-use Rattle.cpm_directory.specs.Entries.{at, blank, block, erased, extent_number, is_extent, is_free, is_match, is_of, new_extent, renamed}
+use Rattle.cpm_directory.specs.Entries.{at, blank, block, erased, extent_number, is_extent, is_free, is_match, is_of, marked, new_extent, renamed}
 use Rattle.cpm_directory.specs.Letters.{letters}
 use Rattle.cpm_directory.specs.Rules.{AreBlocks, AreSameExtent, IsGood, IsSound}
 use Rattle.cpm_directory.specs.Searches.{free_entry, is_file}
 use Rattle.cpm_operations.specs.Kept.{IsBetween, StaysSound}
-use Rattle.cpm_operations.specs.Steps.{after_erasure, after_renaming, erased_by, renamed_by}
+use Rattle.cpm_operations.specs.Steps.{after_erasure, after_marking, after_renaming, erased_by, marked_by, renamed_by}
 use Rattle.cpm_operations.proofs.Entries.{at_map, blank_is_not_of, is_of_file, letters_with, none_at, of_file, blank_is_no_match}
+use Rattle.cpm_operations.proofs.HighBits.{letters_marked}
 use Rattle.cpm_operations.proofs.Sound.{FitsAt, Stands, fewer, one_more}
 
 -- what a failing device leaves of one put entry
@@ -91,7 +93,7 @@ renamed_at user old new entries mixed low between k = elim (between k) as (λ _.
 ]
 
 -- all of an entry but its name
-abbrev nameless : Entry → Entry
+abbrev pub nameless : Entry → Entry
 nameless e = record e { name = [] }
 
 same_but_name : (user : ℕ) (old new : List ℕ) (e m : Entry) → IsRenamed user old new e m → nameless m ≡ nameless e
@@ -141,3 +143,43 @@ renaming_keeps kind user old new entries low same_length seven sound new_file mi
             | inr new_k ↦ sound.named j k (was j ej) (was k ek) (users, (of_file user old (at entries j) new_j.0).1 ∙ sym (of_file user old (at entries k) new_k.0).1, numbers)
           ]
         ]
+
+pub at_marking : (user : ℕ) (pattern : List ℕ) (attribute : Attribute) (on : Bool) (entries : List Entry) (k : ℕ) → user < USERS → at (after_marking user pattern attribute on entries) k ≡ marked_by user pattern attribute on (at entries k)
+at_marking user pattern attribute on entries k low = at_map (marked_by user pattern attribute on) entries k (rw (blank_is_no_match user pattern low) refl)
+
+-- all of an entry but the high bits of its name
+pub record IsSameButHigh (e m : Entry) : Type 0 where
+  pub rest : nameless m ≡ nameless e
+  pub name : letters m.name ≡ letters e.name
+
+pub same_but_high : (user : ℕ) (pattern : List ℕ) (attribute : Attribute) (on : Bool) (e : Entry) → IsSameButHigh e (marked_by user pattern attribute on e)
+same_but_high user pattern attribute on e = elim (cases_Bool (is_match user pattern e)) as (λ _. IsSameButHigh e (marked_by user pattern attribute on e)) [
+  | inl matches ↦ rw matches record { rest = refl; name = letters_marked attribute on e }
+  | inr other ↦ rw other record { rest = refl; name = refl }
+]
+
+pub marking_keeps : (kind : DiskKind) (user : ℕ) (pattern : List ℕ) (attribute : Attribute) (on : Bool) (entries : List Entry) → user < USERS → IsSound kind entries → StaysSound kind entries (after_marking user pattern attribute on entries)
+marking_keeps kind user pattern attribute on entries low sound mixed between = record {
+  good = λ k ext. subst (IsGood kind) (sym (rest k)) (sound.good k (was k ext));
+  blocks = λ k ext. subst (AreBlocks kind) (sym (rest k)) (sound.blocks k (was k ext));
+  once = λ j k a b ej ek some equal. sound.once j k a b (was j ej) (was k ek) (subst (λ x. 0 < block kind x a) (rest j) some)
+      (sym (ap (λ x. block kind x a) (rest j)) ∙ equal ∙ ap (λ x. block kind x b) (rest k));
+  named = λ j k ej ek (users, names, numbers). sound.named j k (was j ej) (was k ek) (
+    ap (λ x. x.user) (sym (rest j)) ∙ users ∙ ap (λ x. x.user) (rest k),
+    sym (same j).name ∙ names ∙ (same k).name,
+    ap extent_number (sym (rest j)) ∙ numbers ∙ ap extent_number (rest k),
+  );
+}
+  where
+    same : (k : ℕ) → IsSameButHigh (at entries k) (at mixed k)
+    same k = elim (between k) as (λ _. IsSameButHigh (at entries k) (at mixed k)) [
+      | inl kept ↦ record { rest = ap nameless kept; name = ap (λ x. letters x.name) kept }
+      | inr after ↦ (let changed = after ∙ at_marking user pattern attribute on entries k low in
+          subst (IsSameButHigh (at entries k)) (sym changed) (same_but_high user pattern attribute on (at entries k)))
+    ]
+
+    rest : (k : ℕ) → nameless (at mixed k) ≡ nameless (at entries k)
+    rest k = (same k).rest
+
+    was : (k : ℕ) → is_extent (at mixed k) ≡ true → is_extent (at entries k) ≡ true
+    was k ext = subst (λ x. is_extent x ≡ true) (rest k) ext

@@ -1,4 +1,5 @@
 pub mod Entries
+pub mod HighBits
 pub mod Results
 pub mod Sound
 pub mod Kept

@@ -13,6 +13,10 @@ RefusesErasure fault.NotFound = ⊤
 RefusesErasure fault.ReadOnly = ⊤
 RefusesErasure _ = ⊥
 
+abbrev pub RefusesMarking : DiskFault → Type 0
+RefusesMarking fault.NotFound = ⊤
+RefusesMarking _ = ⊥
+
 abbrev pub RefusesRenaming : DiskFault → Type 0
 RefusesRenaming fault.NotFound = ⊤
 RefusesRenaming fault.Exists = ⊤

@@ -3,11 +3,12 @@ use Rattle.std.specs.Prelude.{ℕ, ◌/◌, ◌%◌, ◌==◌, Bool, true, false
 use Rattle.std.specs.List.{list_any}
 use Rattle.cpm_image.specs.Kind.{block_records, file_records}
 use Rattle.cpm_image.specs.declared.kind.DiskKind.{DiskKind}
+use Rattle.cpm_directory.specs.declared.attribute.Attribute.{Attribute}
 use Rattle.cpm_directory.specs.declared.entry.Entry.{Entry}
 use Rattle.cpm_directory.specs.declared.fault.DiskFault.{DiskFault}
 use Rattle.cpm_operations.specs.declared.placement.Placement.{Placement}
 use Rattle.cpm_directory.specs.declared.fault.DiskFault.TheVariants as fault
-use Rattle.cpm_directory.specs.Entries.{at, block, erased, has_record, is_extent_of, is_match, is_of, is_read_only, new_extent, place_on_disk, renamed, with_record}
+use Rattle.cpm_directory.specs.Entries.{at, block, erased, has_record, is_extent_of, is_match, is_of, is_read_only, marked, new_extent, place_on_disk, renamed, with_record}
 use Rattle.cpm_directory.specs.Searches.{file_is_read_only, free_block, free_entry, is_file}
 pub use Rattle.results.specs.Results.{◌>>=◌}
 
@@ -40,6 +41,19 @@ erased_by user pattern e = if is_match user pattern e then erased e else e
 
 abbrev pub after_erasure : ℕ → List ℕ → List Entry → List Entry
 after_erasure user pattern entries = map (erased_by user pattern) entries
+
+-- how many entries are marked: all that match, those of a read-only file too
+abbrev pub marking : ℕ → List ℕ → List Entry → Result ℕ DiskFault
+marking user pattern entries =
+    unless (not (list_any (is_match user pattern) entries)) fault.NotFound
+    (Ok (count_by (is_match user pattern) entries))
+
+-- what marking makes of an entry, and of all
+abbrev pub marked_by : ℕ → List ℕ → Attribute → Bool → Entry → Entry
+marked_by user pattern attribute on e = if is_match user pattern e then marked attribute on e else e
+
+abbrev pub after_marking : ℕ → List ℕ → Attribute → Bool → List Entry → List Entry
+after_marking user pattern attribute on entries = map (marked_by user pattern attribute on) entries
 
 -- whether a file may be renamed
 abbrev pub renaming : ℕ → List ℕ → List ℕ → List Entry → Result ⊤ DiskFault

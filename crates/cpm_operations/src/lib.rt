@@ -9,5 +9,5 @@ mod operations;
 mod placement;
 
 pub use nearby::{extent_near, reading_at, writing_at};
-pub use operations::{creation, erasure, reading, renaming, writing};
+pub use operations::{creation, erasure, marking, reading, renaming, writing};
 pub use placement::Placement;

@@ -1,15 +1,16 @@
 //! What each operation makes of a directory.
 
-ghost use Rattle.std.specs.Prelude.{◌≡◌, ◌<◌, ◌≤◌, ◌/◌, ◌%◌, ◌&&◌, IfErr, IfOk, OnOk, count_by, find, length};
+ghost use Rattle.std.specs.Prelude.{◌≡◌, ◌<◌, ◌≤◌, ◌/◌, ◌%◌, ◌&&◌, Bool, IfErr, IfOk, OnOk, count_by, find, length};
 ghost use Rattle.std.specs.List.{list_any};
+ghost use Rattle.cpm_directory.specs.declared.attribute.Attribute.{Attribute};
 ghost use Rattle.cpm_directory.specs.declared.entry.TheConstants.{USERS};
 ghost use Rattle.cpm_directory.specs.Entries.{block, is_extent_of, is_match, is_of, is_read_only};
 ghost use Rattle.cpm_directory.specs.Rules.{IsSound};
 ghost use Rattle.cpm_image.specs.Kind.{block_records, directory_records, entry_blocks, file_records, number_limit, record_count};
 ghost use Rattle.cpm_image.specs.declared.kind.DiskKind.{DiskKind};
 ghost use Rattle.cpm_operations.specs.Kept.{IsKeptBy, IsPut, StaysSound};
-ghost use Rattle.cpm_operations.specs.Refusals.{RefusesCreation, RefusesErasure, RefusesReading, RefusesRenaming, RefusesWriting};
-ghost use Rattle.cpm_operations.specs.Steps.{after_erasure, after_renaming, block_place, creation, erasure, extent_place, placing, placing_in, reading, renaming, writing, written_place};
+ghost use Rattle.cpm_operations.specs.Refusals.{RefusesCreation, RefusesErasure, RefusesMarking, RefusesReading, RefusesRenaming, RefusesWriting};
+ghost use Rattle.cpm_operations.specs.Steps.{after_erasure, after_marking, after_renaming, block_place, creation, erasure, extent_place, marking, placing, placing_in, reading, renaming, writing, written_place};
 
 use crate::Placement;
 use cpm_directory::laws::is_name;
@@ -67,6 +68,18 @@ fn may_erase(entries: &[Entry], user: u8, pattern: &[u8; 11]) -> Result<u16, Dis
     }
     if any_read_only(entries, user, pattern) {
         return Err(DiskFault::ReadOnly);
+    }
+    Ok(match_count(entries, user, pattern))
+}
+
+/// How many entries are marked.
+fn may_mark(entries: &[Entry], user: u8, pattern: &[u8; 11]) -> Result<u16, DiskFault>
+    requires { length entries.now ≤ 65535 }
+    ensures step { result ≡ marking user pattern.now entries.now }
+    ensures refusals { IfErr result RefusesMarking }
+{
+    if !any_matches(entries, user, pattern) {
+        return Err(DiskFault::NotFound);
     }
     Ok(match_count(entries, user, pattern))
 }
@@ -266,6 +279,22 @@ pub fn erasure(entries: &[Entry], user: u8, pattern: &[u8; 11]) -> Result<u16, D
     ensures kept { (kind : DiskKind) → IsSound kind entries.now → StaysSound kind entries.now (after_erasure user pattern.now entries.now) }
 {
     may_erase(entries, user, pattern)
+}
+
+/// How many entries are marked with an attribute, or cleared of it: all of the user that match a pattern, whatever their
+/// extents and attributes.
+///
+/// # Errors
+///
+/// [`DiskFault::NotFound`] where none matches.
+pub fn marking(entries: &[Entry], user: u8, pattern: &[u8; 11]) -> Result<u16, DiskFault>
+    requires user { user < USERS }
+    requires size { length entries.now ≤ 65535 }
+    ensures step { result ≡ marking user pattern.now entries.now }
+    ensures refusals { IfErr result RefusesMarking }
+    ensures kept { (kind : DiskKind) (attribute : Attribute) (on : Bool) → IsSound kind entries.now → StaysSound kind entries.now (after_marking user pattern.now attribute on entries.now) }
+{
+    may_mark(entries, user, pattern)
 }
 
 /// The number of the entry that a new file takes, the lowest free one, and that entry.

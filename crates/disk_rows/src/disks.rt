@@ -3,11 +3,11 @@
 ghost use Rattle.std.specs.Prelude.{◌<◌};
 
 use crate::shown::{
-    byte, decimal, first_of, name_of, short, show_answer, show_bytes, show_done, show_number,
-    user_of,
+    attribute_of, byte, decimal, first_of, name_of, short, show_answer, show_bytes, show_counts,
+    show_done, show_number, switch_of, user_of,
 };
 use anyhow::{Context, anyhow};
-use cpm_disk::{Disk, DiskFault, Listed, Name, Pattern};
+use cpm_disk::{Attribute, Disk, DiskFault, Listed, Name, Pattern};
 use cpm_image::{FailedWrite, Failing, MemoryImage};
 use std::alloc::Global;
 use std::io::Write;
@@ -48,9 +48,18 @@ fn pattern_of(alloc: Global, row: &str) -> Result<Pattern, anyhow::Error> {
 pub(crate) enum Change {
     Create(Name),
     Erase(Pattern),
+    Mark(Pattern, Attribute, bool),
     Rename(Name, Name),
     Read(Name, u32),
     Write(Name, u32, u8),
+}
+
+/// Which attribute is set or cleared, and of what: the attribute, `on` or `off`, and a pattern.
+fn mark_of(alloc: Global, row: &str) -> Result<Change, anyhow::Error> {
+    let (attribute, row) = first_of(row)?;
+    let (switch, row) = first_of(row)?;
+    let pattern = pattern_of(alloc, row)?;
+    Ok(Change::Mark(pattern, attribute_of(attribute)?, switch_of(switch)?))
 }
 
 /// The change that a row names.
@@ -58,6 +67,7 @@ pub(crate) fn change_of(alloc: Global, call: &str, row: &str) -> Result<Change, 
     match call.as_bytes() {
         b"create" => Ok(Change::Create(Name::new(name_of(alloc, row)?))),
         b"erase" => Ok(Change::Erase(pattern_of(alloc, row)?)),
+        b"mark" => mark_of(alloc, row),
         b"rename" => {
             let (old, new) = row.split_once('/').context("no new name")?;
             let old = Name::new(name_of(alloc, old)?);
@@ -89,6 +99,10 @@ pub(crate) fn make(change: Change, user: u8, disk: &mut Disk<Failing>) -> Result
             disk.erase(user, &pattern)?;
             Ok(())
         }
+        Change::Mark(pattern, attribute, on) => {
+            disk.mark(user, &pattern, attribute, on)?;
+            Ok(())
+        }
         Change::Rename(old, new) => disk.rename(user, &old, &new),
         Change::Read(name, number) => {
             disk.read_block_of(user, &name, number)?;
@@ -112,6 +126,9 @@ fn show_change<W: Write>(
     match change {
         Change::Create(name) => show_answer(out, disk.create(user, &name)),
         Change::Erase(pattern) => show_answer(out, disk.erase(user, &pattern)),
+        Change::Mark(pattern, attribute, on) => {
+            show_answer(out, disk.mark(user, &pattern, attribute, on))
+        }
         Change::Read(name, number) => match disk.read_block_of(user, &name, number) {
             Ok(bytes) => show_bytes(out, &bytes),
             Err(fault) => Ok(write!(out, " {fault:?}")?),
@@ -254,6 +271,27 @@ pub(crate) fn report_size<W: Write>(
         Some(size) => Ok(write!(out, " {size}")?),
         None => Ok(write!(out, " none")?),
     }
+}
+
+/// How many entries and blocks a file has.
+pub(crate) fn report_usage<W: Write>(
+    alloc: Global,
+    out: &mut W,
+    row: &str,
+    disk: &Disk<Failing>,
+) -> Result<(), anyhow::Error> {
+    let (user, name) = first_of(row)?;
+    let usage = disk.usage(user_of(user)?, &Name::new(name_of(alloc, name)?));
+    show_counts(out, usage.entries, usage.blocks)
+}
+
+/// How many entries and blocks of a disk are free.
+pub(crate) fn report_space<W: Write>(
+    out: &mut W,
+    disk: &Disk<Failing>,
+) -> Result<(), anyhow::Error> {
+    let space = disk.space();
+    show_counts(out, space.entries, space.blocks)
 }
 
 /// Prints a file of a list: user, name, how many records, and its attributes.

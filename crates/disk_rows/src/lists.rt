@@ -2,12 +2,13 @@
 
 use crate::disks::show_list;
 use crate::shown::{
-    byte, decimal, first_of, kind_of, name_of, padded, short, show_bytes, show_number, user_of,
+    attribute_of, byte, decimal, first_of, kind_of, name_of, padded, short, show_bytes,
+    show_counts, show_faults, show_number, switch_of, user_of,
 };
 use anyhow::{Context, anyhow};
 use cpm_directory::{
-    DiskFault, Entry, Name, Pattern, file_is_read_only, file_is_system, find, free_block,
-    free_entry, is_file, judge, list, position_of, size,
+    DiskFault, Entry, Name, Pattern, faults, file_is_read_only, file_is_system, find, free_block,
+    free_entry, is_file, judge, list, position_of, size, space_of, usage_of,
 };
 use cpm_disk::DiskKind;
 use std::alloc::Global;
@@ -75,6 +76,13 @@ fn add_record(row: &str, list: &mut List) -> Result<(), anyhow::Error> {
     Ok(list.entries.push(entry)?)
 }
 
+/// Marks the last entry with an attribute, or clears it of it.
+fn mark_last(row: &str, list: &mut List) -> Result<(), anyhow::Error> {
+    let (attribute, switch) = first_of(row)?;
+    let entry = last_of(list)?.marked(attribute_of(attribute)?, switch_of(switch)?);
+    Ok(list.entries.push(entry)?)
+}
+
 /// The calls that make or change the last entry of a list.
 pub(crate) fn change_list(
     alloc: Global,
@@ -86,6 +94,7 @@ pub(crate) fn change_list(
         b"add" => add_extent(alloc, row, list),
         b"add-bytes" => Ok(list.entries.push(Entry::from_bytes(&padded(alloc, row)?))?),
         b"with" => add_record(row, list),
+        b"marked" => mark_last(row, list),
         b"erased" => {
             let entry = last_of(list)?.erased();
             Ok(list.entries.push(entry)?)
@@ -268,6 +277,39 @@ fn report_found<W: Write>(
     show_number(out, find(entries, user_of(user)?, &pattern, short(from)?))
 }
 
+/// How many entries and blocks a file of a list has.
+fn report_usage<W: Write>(
+    alloc: Global,
+    out: &mut W,
+    row: &str,
+    list: &List,
+) -> Result<(), anyhow::Error> {
+    let (user, name) = first_of(row)?;
+    let name = Name::new(name_of(alloc, name)?);
+    if list.entries.len() > 256 {
+        return Err(anyhow!("too many entries"));
+    }
+    let usage = usage_of(list.kind, &list.entries, user_of(user)?, &name);
+    show_counts(out, usage.entries, usage.blocks)
+}
+
+/// How many entries and blocks of a list are free.
+fn report_space<W: Write>(out: &mut W, list: &List) -> Result<(), anyhow::Error> {
+    if list.entries.len() > 256 {
+        return Err(anyhow!("too many entries"));
+    }
+    let space = space_of(list.kind, &list.entries);
+    show_counts(out, space.entries, space.blocks)
+}
+
+/// The entries of a list that break a rule.
+fn report_faults<W: Write>(alloc: Global, out: &mut W, list: &List) -> Result<(), anyhow::Error> {
+    if list.entries.len() > 256 {
+        return Err(anyhow!("too many entries"));
+    }
+    show_faults(out, faults(alloc, list.kind, &list.entries))
+}
+
 /// All files of a list.
 fn report_files<W: Write>(
     alloc: Global,
@@ -296,6 +338,9 @@ pub(crate) fn report_on_list<W: Write>(
         b"position" => report_position(alloc, out, row, &list.entries),
         b"match" => report_found(alloc, out, row, &list.entries),
         b"files" => report_files(alloc, out, &list.entries),
+        b"usage-of" => report_usage(alloc, out, row, list),
+        b"space-of" => report_space(out, list),
+        b"faults" => report_faults(alloc, out, list),
         _ => Err(anyhow!("no such call")),
     }
 }

@@ -11,7 +11,7 @@ mod shown;
 mod stops;
 
 use anyhow::{Context, anyhow};
-use cpm_disk::{Disk, DiskFault};
+use cpm_disk::{Disk, DiskFault, faults_of};
 use cpm_image::{Failing, MemoryImage};
 use lists::List;
 use std::alloc::Global;
@@ -48,6 +48,19 @@ fn report_mounted<W: Write>(
     }
 }
 
+/// The faults of the directory of the image.
+fn report_faults<W: Write>(
+    alloc: Global,
+    out: &mut W,
+    row: &str,
+    state: &mut State,
+) -> Result<(), anyhow::Error> {
+    let mut device = disks::device_of(row, state.image.take().context("no image")?)?;
+    let answer = faults_of(alloc, &mut device);
+    state.image = Some(device.into_image());
+    shown::show_faults(out, answer)
+}
+
 /// The calls that make an image, or make a disk of it and an image of that.
 fn report_on_state<W: Write>(
     alloc: Global,
@@ -63,6 +76,7 @@ fn report_on_state<W: Write>(
             Ok(())
         }
         b"mount" => report_mounted(alloc, out, row, state),
+        b"faults-of" => report_faults(alloc, out, row, state),
         b"unmount" => {
             let disk = state.disk.take().context("no disk")?;
             state.image = Some(disk.unmount().into_image());
@@ -111,6 +125,8 @@ fn report_on_disk<W: Write>(
         b"find" => disks::report_found(alloc, out, row, disk),
         b"extent" => disks::report_extent(alloc, out, row, disk),
         b"size" => disks::report_size(alloc, out, row, disk),
+        b"usage" => disks::report_usage(alloc, out, row, disk),
+        b"space" => disks::report_space(out, disk),
         b"list" => disks::report_list(alloc, out, disk),
         _ => disks::report_change(alloc, out, call, row, disk),
     }
@@ -130,6 +146,7 @@ fn report_alone<W: Write>(
         b"tracks" => images::report_track(out, row),
         b"texts" => images::report_texts(out),
         b"short" => short::report_short(alloc, out),
+        b"short-faults" => short::report_short_faults(alloc, out),
         _ => Err(anyhow!("no such call")),
     }
 }
@@ -143,7 +160,7 @@ fn report<W: Write>(
     state: &mut State,
 ) -> Result<(), anyhow::Error> {
     match call.as_bytes() {
-        b"disk" | b"mount" | b"unmount" | b"changed" | b"entries" => {
+        b"disk" | b"mount" | b"faults-of" | b"unmount" | b"changed" | b"entries" => {
             report_on_state(alloc, out, call, row, state)
         }
         b"put" | b"sector" | b"sectors" | b"records" | b"stops" => {
@@ -152,6 +169,7 @@ fn report<W: Write>(
         }
         b"create"
         | b"erase"
+        | b"mark"
         | b"rename"
         | b"read"
         | b"write"
@@ -161,19 +179,27 @@ fn report<W: Write>(
         | b"find"
         | b"extent"
         | b"size"
+        | b"usage"
+        | b"space"
         | b"list" => {
             let disk = state.disk.as_mut().context("no disk")?;
             report_on_disk(alloc, out, call, row, disk)
         }
-        b"add" | b"add-bytes" | b"with" | b"erased" | b"renamed" => {
+        b"add" | b"add-bytes" | b"with" | b"marked" | b"erased" | b"renamed" => {
             lists::change_list(alloc, call, row, &mut state.list)
         }
         b"shape" | b"record-of" | b"block-of" | b"is-of" | b"matches" => {
             lists::report_on_last(alloc, out, call, row, &state.list)
         }
-        b"judge" | b"file" | b"free" | b"position" | b"match" | b"files" => {
-            lists::report_on_list(alloc, out, call, row, &state.list)
-        }
+        b"judge"
+        | b"file"
+        | b"free"
+        | b"position"
+        | b"match"
+        | b"files"
+        | b"usage-of"
+        | b"space-of"
+        | b"faults" => { lists::report_on_list(alloc, out, call, row, &state.list) }
         _ => report_alone(alloc, out, call, row),
     }
 }

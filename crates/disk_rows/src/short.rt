@@ -1,7 +1,8 @@
 //! A device of 100 sectors, which has the size of no disk.
 
+use crate::shown::show_faults;
 use anyhow::anyhow;
-use cpm_disk::Disk;
+use cpm_disk::{Disk, faults_of};
 use cpm_image::{DeviceFault, Sectors};
 use std::alloc::Global;
 use std::io::Write;
@@ -40,4 +41,14 @@ pub(crate) fn report_short<W: Write>(alloc: Global, out: &mut W) -> Result<(), a
         Ok(_) => Err(anyhow!("a disk of 100 sectors")),
         Err((fault, device)) => Ok(write!(out, " {fault:?}, {} calls", device.calls)?),
     }
+}
+
+/// Why the faults of the device's directory are not known, and how often it was called.
+pub(crate) fn report_short_faults<W: Write>(
+    alloc: Global,
+    out: &mut W,
+) -> Result<(), anyhow::Error> {
+    let mut device = Short { calls: 0 };
+    show_faults(out, faults_of(alloc, &mut device))?;
+    Ok(write!(out, ", {} calls", device.calls)?)
 }

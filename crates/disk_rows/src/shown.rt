@@ -1,7 +1,7 @@
 //! Bytes, numbers and names of rows.
 
 use anyhow::{Context, anyhow};
-use cpm_disk::{DiskFault, DiskKind};
+use cpm_disk::{Attribute, Broken, DiskFault, DiskKind};
 use row_text::{show_runs, written_out};
 use std::alloc::Global;
 use std::io::Write;
@@ -42,6 +42,24 @@ pub(crate) fn kind_of(word: &str) -> Result<DiskKind, anyhow::Error> {
     }
 }
 
+/// The attribute that a word names.
+pub(crate) fn attribute_of(word: &str) -> Result<Attribute, anyhow::Error> {
+    match word.as_bytes() {
+        b"read-only" => Ok(Attribute::ReadOnly),
+        b"system" => Ok(Attribute::System),
+        _ => Err(anyhow!("no such attribute")),
+    }
+}
+
+/// Whether an attribute is set: `on` or `off`.
+pub(crate) fn switch_of(word: &str) -> Result<bool, anyhow::Error> {
+    match word.as_bytes() {
+        b"on" => Ok(true),
+        b"off" => Ok(false),
+        _ => Err(anyhow!("neither on nor off")),
+    }
+}
+
 /// A text of that many bytes; where it is shorter, zeros follow.
 pub(crate) fn padded<const N: usize>(alloc: Global, text: &str) -> Result<[u8; N], anyhow::Error> {
     let bytes = written_out(alloc, text)?;
@@ -68,6 +86,37 @@ pub(crate) fn show_number<W: Write>(out: &mut W, number: Option<u16>) -> Result<
     match number {
         Some(number) => Ok(write!(out, " {number}")?),
         None => Ok(write!(out, " none")?),
+    }
+}
+
+/// Prints a count of entries and one of blocks.
+pub(crate) fn show_counts<W: Write>(
+    out: &mut W,
+    entries: u16,
+    blocks: u16,
+) -> Result<(), anyhow::Error> {
+    Ok(write!(out, " {entries} entries, {blocks} blocks")?)
+}
+
+/// Prints how many entries break a rule, and of each its number, the first rule that it breaks, and its bytes.
+fn show_broken<W: Write>(out: &mut W, broken: &[Broken]) -> Result<(), anyhow::Error> {
+    write!(out, " {} broken", broken.len())?;
+    for entry in broken {
+        write!(out, ", {} {:?}", entry.number, entry.fault)?;
+        show_bytes(out, &entry.entry.to_bytes())?;
+    }
+    Ok(())
+}
+
+/// Prints the entries that break a rule, or why they are not known.
+pub(crate) fn show_faults<W: Write>(
+    out: &mut W,
+    answer: Result<Vec<Broken>, DiskFault>,
+) -> Result<(), anyhow::Error> {
+    match answer {
+        Ok(broken) => show_broken(out, &broken),
+        Err(DiskFault::NoMemory) => Err(DiskFault::NoMemory.into()),
+        Err(fault) => Ok(write!(out, " {fault:?}")?),
     }
 }
 

@@ -5,7 +5,7 @@ ghost use Rattle.std.specs.Prelude.{◌<◌};
 use crate::disks::{Change, change_of, device_of, make};
 use crate::shown::{first_of, user_of};
 use anyhow::anyhow;
-use cpm_disk::{Disk, DiskFault, Name, Pattern};
+use cpm_disk::{Attribute, Disk, DiskFault, Name, Pattern, Space, Usage};
 use cpm_image::{FailedWrite, Failing, MemoryImage};
 use std::alloc::Global;
 use std::io::Write;
@@ -92,7 +92,16 @@ fn is_unseen(alloc: Global, disk: &Disk<Failing>, name: &Name) -> bool {
     let is_no_file = disk.find(0, &any, 0).is_none()
         && disk.find_extent(0, name, 0).is_none()
         && disk.size(0, name).is_none();
-    is_no_file && matches!(disk.list(alloc), Err(DiskFault::Failed)) && has_no_entries(disk)
+    is_no_file
+        && matches!(disk.list(alloc), Err(DiskFault::Failed))
+        && counts_nothing(disk, name)
+        && has_no_entries(disk)
+}
+
+/// Whether a disk shows no entries and no blocks, of a file and of what is free.
+fn counts_nothing(disk: &Disk<Failing>, name: &Name) -> bool {
+    let (entries, blocks) = (0, 0);
+    disk.usage(0, name) == Usage { entries, blocks } && disk.space() == Space { entries, blocks }
 }
 
 /// Whether all entries of a disk are E5H.
@@ -117,6 +126,7 @@ fn fails_all(disk: &mut Disk<Failing>, name: Name) -> bool {
         Change::Create(fresh),
         Change::Create(name),
         Change::Erase(pattern),
+        Change::Mark(pattern, Attribute::ReadOnly, true),
         Change::Rename(name, fresh),
         Change::Read(name, 0),
         Change::Read(name, 5_000),
