@@ -1,5 +1,5 @@
 -- What is put is gotten.
-use Rattle.std.proofs.Common.{◌≡◌, ◌≢◌, ◌<◌, ◌≤◌, ◌+◌, ◌-◌, ◌*◌, ◌/◌, ◌%◌, ◌⊎◌, ℕ, zero, suc, List, [], ◌∷◌, ◌++◌, Some, None, drop, length, replicate, take, unwrap_or, refl, sym, ap, ap₂, ◌∙◌, inl, inr, arith, if◌then◌else◌, lt-ltb}
+use Rattle.std.proofs.Common.{◌≡◌, ◌≢◌, ◌<◌, ◌≤◌, ◌+◌, ◌-◌, ◌*◌, ◌/◌, ◌%◌, ◌⊎◌, ℕ, zero, suc, false, List, [], ◌∷◌, ◌++◌, Some, None, drop, length, replicate, take, unwrap_or, refl, sym, ap, ap₂, ◌∙◌, inl, inr, arith, if◌then◌else◌, lt-ltb}
 use Rattle.std.specs.List.{flat_map, range_with_len}
 use Rattle.std.proofs.Math.Seq.{take-add}
 use Rattle.std.proofs.lemmas.Bool.{cases_eq}
@@ -8,7 +8,7 @@ use Rattle.cpm_image.specs.declared.kind.DiskKind.{DiskKind}
 use Rattle.cpm_directory.specs.Searches.{size}
 use Rattle.cpm_disk.specs.Image.{Image, directory}
 use Rattle.z80dev_disk.specs.Disks.{one_file}
-use Rattle.z80dev_disk.specs.Get.{copied, got}
+use Rattle.z80dev_disk.specs.Get.{copied, copied_below, got}
 use Rattle.z80dev_disk.specs.Put.{HasFile, filled, record_at, record_count}
 use Rattle.z80dev_disk.proofs.Lists.{one_more}
 
@@ -60,9 +60,14 @@ same_below f g (suc n) same =
     ap (λ m. flat_map f (range_with_len 0 m)) next ∙ one_more f n ∙ ap₂ (λ xs ys. xs ++ ys) (same_below f g n (λ k below. same k (omega (arith, below)))) (same n (omega arith))
     ∙ sym (one_more g n) ∙ ap (λ m. flat_map g (range_with_len 0 m)) (sym next)
 
-pub put_is_gotten : (kind : DiskKind) (old new : Image) (name file : List ℕ) → HasFile kind old new name file
-    → got kind new name (size 0 name (directory kind new)) ≡ one_file (file ++ replicate (128 * record_count file - length file) 0x1A)
-put_is_gotten kind old new name file has =
-    let each : (k : ℕ) → k < record_count file → copied kind new name k ≡ record_at file k =
+-- the records below the size
+pub copied_whole : (kind : DiskKind) (old new : Image) (user : ℕ) (name file : List ℕ) → HasFile kind old new user name file
+    → copied_below kind new user name (record_count file) ≡ file ++ replicate (128 * record_count file - length file) 0x1A
+copied_whole kind old new user name file has =
+    let each : (k : ℕ) → k < record_count file → copied kind new user name k ≡ record_at file k =
     λ k below. ap (λ o. unwrap_or o (replicate 128 0)) (has.records k ∙ ap (λ b. if b then Some (record_at file k) else None) (lt-ltb k (record_count file) below)) in
-    ap (got kind new name) has.size_is ∙ ap one_file (same_below (copied kind new name) (record_at file) (record_count file) each ∙ all_records file)
+    same_below (copied kind new user name) (record_at file) (record_count file) each ∙ all_records file
+
+pub put_is_gotten : (kind : DiskKind) (old new : Image) (user : ℕ) (name file : List ℕ) → HasFile kind old new user name file
+    → got kind new user name false (size user name (directory kind new)) ≡ one_file (file ++ replicate (128 * record_count file - length file) 0x1A)
+put_is_gotten kind old new user name file has = ap (got kind new user name false) has.size_is ∙ ap one_file (copied_whole kind old new user name file has)

@@ -1,7 +1,13 @@
 pub mod Lists
 pub mod Trims
 pub mod Letters
+pub mod Spelled
+pub mod Texts
 pub mod Refused
+pub mod Memory
+pub mod Entry_bytes
+pub mod Alongs
+pub mod Others
 pub mod Records
 pub mod Sizes
 pub mod On_the_way
