@@ -1,11 +1,11 @@
 -- The entry that the 32 bytes of a directory's entry spell.
-use Rattle.std.proofs.Common.{◌≡◌, ◌<◌, ◌≤◌, ◌+◌, ◌-◌, ◌*◌, ◌/◌, ◌%◌, ℕ, List, [], ◌∷◌, ◌++◌, drop, length, take, sym, ap, ◌∙◌, arith}
-use Rattle.std.proofs.lemmas.List.{length-append, length-drop, length-take}
+use Rattle.std.proofs.Common.{◌≡◌, ◌<◌, ◌≤◌, ◌+◌, ◌-◌, ◌*◌, ◌/◌, ◌%◌, ℕ, Bool, true, List, [], ◌∷◌, ◌++◌, Some, drop, find, if◌then◌else◌, length, take, sym, ap, ◌∙◌, arith}
+use Rattle.std.proofs.lemmas.List.{drop_more, length-append, length-drop, length-take}
 use Rattle.cpm_image.specs.Kind.{entry_count}
 use Rattle.cpm_image.specs.declared.kind.DiskKind.{DiskKind}
 use Rattle.cpm_directory.proofs.Bytes.{entry_of-bytes}
 use Rattle.cpm_directory.specs.declared.entry.Entry.{Entry}
-use Rattle.cpm_directory.specs.Entries.{at, bytes_of, entry_of}
+use Rattle.cpm_directory.specs.Entries.{at, blank, bytes_of, entry_of}
 use Rattle.cpm_disk.proofs.Places.{at_directory}
 use Rattle.cpm_disk.specs.Image.{Image, directory, disk_record}
 
@@ -13,7 +13,7 @@ module _ (kind : DiskKind) (image : Image) (k : ℕ) (bytes : List ℕ) (below :
   abbrev pub e : Entry
   e = at (directory kind image) k
 
-  source : List ℕ
+  abbrev source : List ℕ
   source = take 32 (drop (32 * (k % 4)) (disk_record kind image (k / 4)))
 
   -- The name has eleven bytes: it and the blocks have no more than their places, and together with the rest they are 32.
@@ -28,3 +28,8 @@ module _ (kind : DiskKind) (image : Image) (k : ℕ) (bytes : List ℕ) (below :
   -- So they spell it.
   pub spelled : entry_of bytes ≡ e
   spelled = ap entry_of are ∙ entry_of-bytes e.name named
+
+-- what a test finds, where no entry before a number passes and its own does
+pub found_here : (p : Entry → Bool) (entries : List Entry) (k : ℕ) (e : Entry) → k < length entries → at entries k ≡ e → p e ≡ true → find p entries ≡ find p (drop k entries) → find p entries ≡ Some e
+found_here p entries k e below is passes so_far =
+    so_far ∙ ap (find p) (drop_more entries k blank below ∙ ap (λ x. x ∷ drop (k + 1) entries) is) ∙ ap (λ b. if b then Some e else find p (drop (k + 1) entries)) passes

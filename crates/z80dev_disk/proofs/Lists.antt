@@ -37,9 +37,9 @@ cut_off rest m is = elim (cases_lt (length rest) 128) as (λ _. (length (take m 
 ]
 
 -- the pieces of a line
-pub line_is : (user name kind records only system : List ℕ) (u n k r o s : List ℕ) → u ≡ user → n ≡ name → k ≡ kind → r ≡ records → o ≡ only → s ≡ system
-    → concat (u ∷ n ∷ codes "." ∷ k ∷ r ∷ o ∷ s ∷ (10 ∷ []) ∷ []) ≡ concat (user ∷ name ∷ codes "." ∷ kind ∷ records ∷ only ∷ system ∷ (10 ∷ []) ∷ [])
-line_is user name kind records only system u n k r o s a b c d e f = rw (a, b, c, d, e, f) refl
+pub line_is : (user name kind records usage only system : List ℕ) (u n k r t o s : List ℕ) → u ≡ user → n ≡ name → k ≡ kind → r ≡ records → t ≡ usage → o ≡ only → s ≡ system
+    → concat (u ∷ n ∷ codes "." ∷ k ∷ r ∷ t ∷ o ∷ s ∷ (10 ∷ []) ∷ []) ≡ concat (user ∷ name ∷ codes "." ∷ kind ∷ records ∷ usage ∷ only ∷ system ∷ (10 ∷ []) ∷ [])
+line_is user name kind records usage only system u n k r t o s a b c d e f g = rw (a, b, c, d, e, f, g) refl
 
 -- the type of a name
 pub last_three : (name : List ℕ) → length name ≡ 11 → mid_of 8 3 name ≡ drop 8 name

@@ -20,6 +20,6 @@ never_risen (inr (most, still)) = omega (arith, most)
 -- A refusal is that of the operation, and changes nothing.
 pub refused_by : {X : Type 0} (old new : Mounted Image) (expected : Result X DiskFault) (stopped : X → Type 0) (why : DiskFault) → old.failed ≡ false
     → Outcome {Y = Unit {0}} never old new expected (λ x y. Unit {0}) stopped (Err why) → (expected ≡ Err why) × (new ≡ old)
-refused_by old new expected stopped fault.Fault sound done = let (was, failed, same, risen, rest) = done in absurd (never_risen risen)
+refused_by old new expected stopped fault.Fault sound done = let (was, failed, same, risen, x, asked, left) = done in absurd (never_risen risen)
 refused_by old new expected stopped fault.Failed sound done = absurd (true≢false (sym done.0 ∙ sound))
 refused_by old new expected stopped why sound done = (done.1, done.2)

@@ -7,6 +7,7 @@ use Rattle.cpm_image.specs.Kind.{block_records, file_records}
 use Rattle.cpm_image.specs.declared.kind.DiskKind.{DiskKind}
 use Rattle.cpm_image.specs.declared.kind.DiskKind.TheVariants.{EightInch, Megabyte}
 use Rattle.cpm_directory.specs.declared.entry.Entry.{Entry}
+use Rattle.cpm_directory.specs.declared.entry.TheConstants.{USERS}
 use Rattle.cpm_directory.specs.declared.fault.DiskFault.{DiskFault}
 use Rattle.cpm_directory.specs.declared.fault.DiskFault.TheVariants as fault
 use Rattle.cpm_directory.specs.Entries.{block, is_extent_of, is_of, new_extent, with_record}
@@ -113,7 +114,7 @@ pub record Putting (start : Mounted Image) (user : ℕ) (name file : List ℕ) (
   pub near : 128 * number < length file + 128
   pub most : number ≤ 65536
 
-module _ (start : Mounted Image) (user : ℕ) (name file : List ℕ) where
+module _ (start : Mounted Image) (user : ℕ) (name file : List ℕ) (low : user < USERS) where
   -- the file is made
   pub begun : (disk : Mounted Image) (number : ℕ) → IsCreated itself never start disk user name (Ok number) → IsNewFile disk.kind disk.device user name → OthersAreSame start.kind start.device disk.device (IsFile user name)
       → IsSound disk.kind (directory disk.kind disk.device) → Putting start user name file disk 0 file
@@ -139,7 +140,7 @@ module _ (start : Mounted Image) (user : ℕ) (name file : List ℕ) where
 
   module _ (disk : Mounted Image) (number : ℕ) (rest : List ℕ) (so_far : Putting start user name file disk number rest) where
     is_there : is_file user name (directory start.kind disk.device) ≡ true
-    is_there = there start.kind disk.device user name file number so_far.sound so_far.holds
+    is_there = there start.kind disk.device user name file number low so_far.sound so_far.holds
 
     below_most : (kind : DiskKind) (n : ℕ) → n < file_records kind → n + 1 ≤ 65536
     below_most EightInch n less = omega (arith, less)
@@ -194,7 +195,7 @@ module _ (start : Mounted Image) (user : ℕ) (name file : List ℕ) where
           subst (λ n. Puts start.kind start.device user name file n disk.device) all so_far.puts,
           record {
             records = λ k. all_records start.kind disk.device user name file number so_far.holds k ∙ ap (λ n. if nat_lt k n then Some (record_at file k) else None) all;
-            size_is = size_is start.kind disk.device user name file number so_far.sound so_far.holds ∙ ap Some all;
+            size_is = size_is start.kind disk.device user name file number low so_far.sound so_far.holds ∙ ap Some all;
             read_only = so_far.holds.read_only;
             system = so_far.holds.system;
             others = so_far.others;

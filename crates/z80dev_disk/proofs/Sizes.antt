@@ -5,6 +5,7 @@ use Rattle.std.proofs.lemmas.Bool.{and_parts, and_from, cases_eq, cases_lt}
 use Rattle.std.proofs.lemmas.List.Folds.{list_any_at}
 use Rattle.cpm_image.specs.declared.kind.DiskKind.{DiskKind}
 use Rattle.cpm_directory.specs.declared.entry.Entry.{Entry}
+use Rattle.cpm_directory.specs.declared.entry.TheConstants.{USERS}
 use Rattle.cpm_directory.specs.Entries.{at, blank, extent_number, is_extent_of, is_of, record_end}
 use Rattle.cpm_directory.specs.Rules.{IsSound}
 use Rattle.cpm_directory.specs.Searches.{is_file, size}
@@ -44,7 +45,7 @@ no_more p f (x ∷ xs) a n start each = kept (p x) (each 0 (omega arith)) (λ c 
     kept true first rest = rest (max a (f x)) (let h = first refl in omega (arith, h, start))
     kept false first rest = rest a start
 
-module _ (kind : DiskKind) (image : Image) (user : ℕ) (name file : List ℕ) (n : ℕ) (sound : IsSound kind (directory kind image)) (holds : HoldsFirst kind image user name file n) where
+module _ (kind : DiskKind) (image : Image) (user : ℕ) (name file : List ℕ) (n : ℕ) (low : user < USERS) (sound : IsSound kind (directory kind image)) (holds : HoldsFirst kind image user name file n) where
   abbrev pub entries : List Entry
   entries = directory kind image
 
@@ -65,7 +66,7 @@ module _ (kind : DiskKind) (image : Image) (user : ℕ) (name file : List ℕ) (
   within k below of = go (extent_number (at entries k)) refl
     where
       counted : (x : ℕ) → extent_number (at entries k) ≡ x → count_of kind image user name x ≡ Some (at entries k).records
-      counted x is = ap (option_map (λ e. e.records)) (extent_found kind entries user name x k (omega arith) sound below (and_from (is_of user name (at entries k)) (extent_number (at entries k) == x) of (eq-eqb (extent_number (at entries k)) x is)))
+      counted x is = ap (option_map (λ e. e.records)) (extent_found kind entries user name x k low sound below (and_from (is_of user name (at entries k)) (extent_number (at entries k) == x) of (eq-eqb (extent_number (at entries k)) x is)))
 
       full : (x : ℕ) → extent_number (at entries k) ≡ x → (x ≡ 0) ⊎ (128 * x < n) → record_end (at entries k) ≤ n
       full x is which =

@@ -1,5 +1,5 @@
 -- Texts, as CP/M keeps them and as the host does.
-use Rattle.std.proofs.Common.{◌≡◌, ◌+◌, ◌==◌, ℕ, Bool, true, false, ◌&&◌, ◌||◌, not, List, [], ◌∷◌, ◌++◌, flat_map, if◌then◌else◌, replicate, take, take_while, refl, sym, ap, ap₂, ◌∙◌, inl, inr, append_assoc, one-add, eqb-true}
+use Rattle.std.proofs.Common.{◌≡◌, ◌<◌, ◌+◌, ◌==◌, ℕ, Bool, arith, drop, length, slice_index, true, false, ◌&&◌, ◌||◌, not, List, [], ◌∷◌, ◌++◌, flat_map, if◌then◌else◌, replicate, take, take_while, refl, sym, ap, ap₂, ◌∙◌, inl, inr, append_assoc, one-add, eqb-true}
 use Rattle.std.specs.List.{list_any, prefix_len}
 use Rattle.std.proofs.lemmas.Bool.{cases_Bool, or_from, or_parts}
 use Rattle.std.proofs.lemmas.List.Folds.{list_any-append}
@@ -16,11 +16,20 @@ no_line (b ∷ text) = elim (cases_Bool (b == 10)) as (λ _. begins_line (flat_m
 -- a CR that no LF follows stays, and so does any other byte
 pub stays : (b : ℕ) (rest : List ℕ) → ((b == 13) && begins_line rest) ≡ false → without_cr (b ∷ rest) ≡ b ∷ without_cr rest
 unfolding without_cr
-stays b rest no = ap (λ t. if t then without_cr rest else b ∷ without_cr rest) no
+stays b rest not_so = ap (λ t. if t then without_cr rest else b ∷ without_cr rest) not_so
 
 pub goes : (b : ℕ) (rest : List ℕ) → ((b == 13) && begins_line rest) ≡ true → without_cr (b ∷ rest) ≡ without_cr rest
 unfolding without_cr
-goes b rest yes = ap (λ t. if t then without_cr rest else b ∷ without_cr rest) yes
+goes b rest so = ap (λ t. if t then without_cr rest else b ∷ without_cr rest) so
+
+-- .. of the first byte
+pub first_stays : (text : List ℕ) → 0 < length text → ((slice_index text 0 == 13) && begins_line (drop 1 text)) ≡ false → without_cr text ≡ take 1 text ++ without_cr (drop 1 text)
+first_stays [] some not_so = absurd (omega (arith, some))
+first_stays (b ∷ rest) some not_so = stays b rest not_so
+
+pub first_goes : (text : List ℕ) → 0 < length text → ((slice_index text 0 == 13) && begins_line (drop 1 text)) ≡ true → without_cr text ≡ without_cr (drop 1 text)
+first_goes [] some so = absurd (omega (arith, some))
+first_goes (b ∷ rest) some so = goes b rest so
 
 pub none_left : without_cr [] ≡ []
 unfolding without_cr

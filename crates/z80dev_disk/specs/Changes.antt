@@ -1,5 +1,5 @@
 -- What erasing, renaming and marking files does to a disk, and when it is refused.
-use Rattle.std.specs.Prelude.{◌≡◌, ℕ, Bool, true, ◌&&◌, List, Option, None, Some, Result, Ok, Err, Vec, find}
+use Rattle.std.specs.Prelude.{◌≡◌, ℕ, Bool, true, ◌&&◌, List, Result, Ok, Err, Vec, find, option_map, unwrap_or}
 use Rattle.std.specs.Global.{Global}
 use Rattle.cpm_image.specs.declared.kind.DiskKind.{DiskKind}
 use Rattle.cpm_directory.specs.Entries.{is_match, is_read_only}
@@ -32,11 +32,7 @@ StopsErasing kind user pattern old why = erasure user pattern (directory kind ol
 
 -- the letters of the first entry that has a property, or else these
 abbrev pub first_name : (Entry → Bool) → List Entry → List ℕ → List ℕ
-first_name p entries otherwise = name_in (find p entries)
-  where
-    name_in : Option Entry → List ℕ
-    name_in (Some e) = letters e.name
-    name_in None = otherwise
+first_name p entries otherwise = unwrap_or (option_map (λ e. letters e.name) (find p entries)) otherwise
 
 -- Which name goes with a refusal: that of the first entry that is read-only, or else the pattern itself.
 abbrev pub named_by : DiskKind → ℕ → List ℕ → Image → DiskFault → List ℕ

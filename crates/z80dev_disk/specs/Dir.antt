@@ -31,23 +31,19 @@ is_asked user pattern file = is_users user file && is_named pattern file
 
 -- ---- lines
 
--- ` NUMBER`
-abbrev pub after_blank : ℕ → List ℕ
-after_blank n = codes " " ++ decimal n
-
 -- ` BYTES ENTRIES BLOCKS`, the bytes of all records below the file's size
 abbrev pub usage_text : Listed → Usage → List ℕ
-usage_text file usage = after_blank (128 * file.records) ++ after_blank usage.entries ++ after_blank usage.blocks
+usage_text file usage = codes " " ++ (decimal (128 * file.records) ++ (codes " " ++ (decimal usage.entries ++ (codes " " ++ decimal usage.blocks))))
 
 -- `USER NAME.TYP RECORDS`, in a long listing the three numbers, then ` RO` and ` SYS` where they are set
 abbrev pub line_of : Bool → DiskKind → Image → Listed → List ℕ
-line_of long kind image file = concat ((decimal file.user ++ codes " ") ∷ trimmed (take 8 file.name) ∷ codes "." ∷ trimmed (drop 8 file.name) ∷ after_blank file.records
+line_of long kind image file = concat ((decimal file.user ++ codes " ") ∷ trimmed (take 8 file.name) ∷ codes "." ∷ trimmed (drop 8 file.name) ∷ (codes " " ++ decimal file.records)
     ∷ when long (usage_text file (usage_of kind file.user file.name (directory kind image)))
     ∷ when file.read_only (codes " RO") ∷ when file.system (codes " SYS") ∷ (10 ∷ []) ∷ [])
 
 -- what is left of the disk: the last line of a long listing
 abbrev pub space_line : Space → List ℕ
-space_line space = codes "free: " ++ decimal space.blocks ++ codes " blocks, " ++ decimal space.entries ++ codes " entries" ++ 10 ∷ []
+space_line space = concat (codes "free: " ∷ decimal space.blocks ∷ codes " blocks, " ∷ decimal space.entries ∷ codes " entries" ∷ (10 ∷ []) ∷ [])
 
 -- ---- the answer
 

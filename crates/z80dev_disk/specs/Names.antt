@@ -13,7 +13,7 @@ when so word = if so then word else []
 
 -- the name on the host: a point stands only before a type
 abbrev pub host_name : List ℕ → List ℕ
-host_name name = trimmed (take 8 name) ++ when (not (length (trimmed (drop 8 name)) == 0)) (codes ".") ++ trimmed (drop 8 name)
+host_name name = trimmed (take 8 name) ++ (when (not (length (trimmed (drop 8 name)) == 0)) (codes ".") ++ trimmed (drop 8 name))
 
 -- a byte that such a name may have: printable, or a blank; no `/`, and no point within a part
 abbrev pub is_host_byte : ℕ → Bool

@@ -44,7 +44,7 @@ disk_name fault.WrongSize = codes "WrongSize"
 
 -- `RULE(NAME.TYP)`, by the low seven bits of each byte of the name
 abbrev pub with_name : List ℕ → List ℕ → List ℕ
-with_name rule name = rule ++ codes "(" ++ host_name (letters name) ++ codes ")"
+with_name rule name = rule ++ (codes "(" ++ (host_name (letters name) ++ codes ")"))
 
 abbrev pub refusal_text : Refusal → List ℕ
 refusal_text refusal.BadName = codes "BadName"

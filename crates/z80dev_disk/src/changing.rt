@@ -16,6 +16,22 @@ use cpm_disk::Disk;
 use cpm_image::MemoryImage;
 use std::alloc::Global;
 
+/// The name that goes with a refusal: that of the first entry that matches and is read-only, or else the pattern.
+fn named_by(
+    disk: &Disk<MemoryImage>,
+    user: u8,
+    pattern: &[u8; 11],
+    why: DiskFault,
+) -> [u8; 11]
+    requires { disk.now.failed ≡ false }
+    ensures { result ≡ named_by disk.now.kind user pattern.now disk.now.device why }
+{
+    match why {
+        DiskFault::ReadOnly => read_only_name(disk, user, pattern),
+        _ => *pattern,
+    }
+}
+
 /// Erases the files that match a pattern.
 fn erase_one(
     disk: &mut Disk<MemoryImage>,
@@ -32,11 +48,7 @@ fn erase_one(
 {
     match disk.erase(user, &of_any_extent(pattern)) {
         Ok(_) => Ok(()),
-        Err(DiskFault::ReadOnly) => Err(Refusal::Named(
-            DiskFault::ReadOnly,
-            read_only_name(disk, user, pattern),
-        )),
-        Err(why) => Err(Refusal::Named(why, *pattern)),
+        Err(why) => Err(Refusal::Named(why, named_by(disk, user, pattern, why))),
     }
 }
 

@@ -1,6 +1,6 @@
 //! Files that are copied from a disk.
 
-ghost use Rattle.std.specs.Prelude.{◌≡◌, ◌<◌, ◌≤◌, All, IfErr, IfOk, IfSome, false, map, unwrap_or};
+ghost use Rattle.std.specs.Prelude.{◌≡◌, ◌<◌, ◌≤◌, All, IfErr, IfOk, IfSome, false, find, map, not, option_map, unwrap_or};
 ghost use Rattle.cpm_image.specs.Kind.{file_records};
 ghost use Rattle.cpm_directory.specs.declared.entry.TheConstants.{USERS};
 ghost use Rattle.cpm_directory.specs.Searches.{size};
@@ -8,8 +8,10 @@ ghost use Rattle.cpm_disk.specs.Image.{directory};
 ghost use Rattle.z80dev_finish.specs.Answers.{MemoryAside};
 ghost use Rattle.z80dev_disk.specs.Disks.{answer_of};
 ghost use Rattle.z80dev_disk.specs.Get.{IsGet, IsGetAll, as_asked, copied, copied_below, gotten, host_file, refusal_of};
+ghost use Rattle.z80dev_disk.specs.Names.{is_host_name};
 ghost use Rattle.z80dev_disk.specs.Private.{IsAnswered};
 ghost use Rattle.z80dev_disk.specs.Refusals.{IsNotFound, Refuses, RefusesGetAll, WithoutName};
+ghost use Rattle.z80dev_disk.specs.declared.refusal.Refusal.TheVariants as refusal;
 
 use crate::image::{answered, disk_of, one_file};
 use crate::listing::asked_for;
@@ -107,6 +109,19 @@ pub fn get(alloc: Global, image: &[u8], user: u8, name: &Name, text: bool) -> An
     answered(alloc, got(alloc, image, user, name, text))
 }
 
+/// The first file whose name the host cannot take.
+fn bad_file(files: &[Listed]) -> Option<Refusal>
+    ensures { result ≡ option_map (λ f. refusal.BadFile f.name) (find (λ f. not (is_host_name f.name)) files.now) }
+{
+    for file in files {
+        let name = file.name.bytes();
+        if !is_host_name(&name) {
+            return Some(Refusal::BadFile(name));
+        }
+    }
+    None
+}
+
 /// Why files are not gotten.
 fn refusal_of(pattern: &[u8; 11], files: &[Listed]) -> Option<Refusal>
     ensures reason { result ≡ refusal_of pattern.now files.now }
@@ -115,14 +130,11 @@ fn refusal_of(pattern: &[u8; 11], files: &[Listed]) -> Option<Refusal>
     if files.is_empty() {
         return Some(Refusal::Named(DiskFault::NotFound, *pattern));
     }
-    let bad = files
-        .iter()
-        .find(|file| !is_host_name(&file.name.bytes()))?;
-    Some(Refusal::BadFile(bad.name.bytes()))
+    bad_file(files)
 }
 
 /// A file with its name for the host.
-fn gotten(
+fn file_for_host(
     alloc: Global,
     disk: &mut Disk<MemoryImage>,
     text: bool,
@@ -146,7 +158,7 @@ fn gotten(
 }
 
 /// Files with their names for the host.
-fn gotten_all(
+fn files_for_host(
     alloc: Global,
     disk: &mut Disk<MemoryImage>,
     text: bool,
@@ -158,7 +170,7 @@ fn gotten_all(
 {
     let mut made = Vec::new(alloc);
     for file in files {
-        made.push(gotten(alloc, disk, text, file)?)?;
+        made.push(file_for_host(alloc, disk, text, file)?)?;
     }
     Ok(made)
 }
@@ -186,5 +198,5 @@ pub fn get_all(
     if let Some(why) = refusal_of(pattern, &files) {
         return Err(why);
     }
-    Ok(gotten_all(alloc, &mut disk, text, &files)?)
+    Ok(files_for_host(alloc, &mut disk, text, &files)?)
 }

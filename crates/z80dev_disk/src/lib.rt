@@ -6,6 +6,7 @@
 
 mod changing;
 mod checking;
+mod entries;
 mod getting;
 mod image;
 pub mod laws;

@@ -1,6 +1,6 @@
 //! The command `dir`.
 
-ghost use Rattle.std.specs.Prelude.{◌≡◌, IfErr, IfOk, IfSome, false, string_bytes};
+ghost use Rattle.std.specs.Prelude.{◌≡◌, IfErr, IfOk, IfSome, false, filter, string_bytes};
 ghost use Rattle.std.specs.List.{flat_map};
 ghost use Rattle.cpm_directory.specs.Letters.{name_matches};
 ghost use Rattle.cpm_directory.specs.declared.fault.DiskFault.TheVariants as fault;
@@ -59,6 +59,24 @@ fn is_asked(user: Option<u8>, pattern: Option<[u8; 11]>, file: &Listed) -> bool
     is_users(user, file) && is_named(pattern, file)
 }
 
+/// The files among these that are asked for.
+fn chosen(
+    alloc: Global,
+    files: &[Listed],
+    user: Option<u8>,
+    pattern: Option<[u8; 11]>,
+) -> Result<Vec<Listed>, AllocError>
+    ensures { IfOk result (λ chosen. chosen.items ≡ filter (is_asked user pattern) files.now) }
+{
+    let mut chosen = Vec::new(alloc);
+    for file in files {
+        if is_asked(user, pattern, file) {
+            chosen.push(*file)?;
+        }
+    }
+    Ok(chosen)
+}
+
 /// The files of a disk that are asked for, by user and then by name.
 pub(crate) fn asked_for(
     alloc: Global,
@@ -71,11 +89,7 @@ pub(crate) fn asked_for(
     ensures memory { IfErr result (λ why. why ≡ fault.NoMemory) }
 {
     let files = disk.list(alloc)?;
-    Ok(files
-        .iter()
-        .filter(|file| is_asked(user, pattern, file))
-        .map(|file| *file)
-        .collect(alloc)?)
+    Ok(chosen(alloc, &files, user, pattern)?)
 }
 
 /// What a file takes of the disk: ` BYTES ENTRIES BLOCKS`.

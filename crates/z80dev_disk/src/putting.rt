@@ -80,6 +80,14 @@ fn store(
     Ok(())
 }
 
+/// Whether a file is erased before one of its name is put.
+fn is_replaced(disk: &Disk<MemoryImage>, user: u8, replace: bool, name: &Name) -> bool
+    requires { disk.now.failed ≡ false }
+    ensures { result ≡ is_replaced user replace name.now (directory disk.now.kind disk.now.device) }
+{
+    replace && disk.size(user, name).is_some()
+}
+
 /// Makes room for a file: one of its name is erased, where it is to be replaced.
 fn make_room(
     disk: &mut Disk<MemoryImage>,
@@ -97,11 +105,12 @@ fn make_room(
     ensures gone { OnOk result (replace ≡ true → is_file user name.now (directory disk.old.kind disk.new.device) ≡ false) }
     ensures lacks { IfErr result (LacksRoom (is_replaced user replace name.now (directory disk.old.kind disk.old.device)) disk.old.kind user name.now disk.old.device) }
 {
-    if replace && disk.size(user, name).is_some() {
-        // A law: a pattern of eleven bytes without `?` matches no other name of eleven bytes.
-        has_names(disk);
-        disk.erase(user, &of_any_extent(&name.bytes()))?;
+    if !is_replaced(disk, user, replace, name) {
+        return Ok(());
     }
+    // A law: a name without `?` matches no other name, since all have eleven bytes.
+    has_names(disk);
+    disk.erase(user, &of_any_extent(&name.bytes()))?;
     Ok(())
 }
 

@@ -1,8 +1,8 @@
 //! Names of files as they are shown, and as the host has them.
 
-ghost use Rattle.std.specs.Prelude.{◌≡◌, IfOk, IsAscii};
-ghost use Rattle.std.specs.List.{flat_map};
-ghost use Rattle.z80dev_disk.specs.Names.{is_host_byte, is_host_name, trimmed, when};
+ghost use Rattle.std.specs.Prelude.{◌≡◌, ◌==◌, IfOk, IsAscii, codes, length, not};
+ghost use Rattle.std.specs.List.{flat_map, list_all};
+ghost use Rattle.z80dev_disk.specs.Names.{host_name, is_host_byte, is_host_name, trimmed, when};
 
 use cpm_directory::Name;
 use std::alloc::{AllocError, Global};
@@ -48,12 +48,25 @@ fn is_host_byte(byte: u8) -> bool
     0x20 <= byte && byte <= 0x7E && byte != b'/' && byte != b'.'
 }
 
+/// Whether the host can take all these bytes.
+fn are_host_bytes(name: &[u8]) -> bool
+    ensures { result ≡ list_all is_host_byte name.now }
+{
+    name.iter().all(|byte| is_host_byte(*byte))
+}
+
+/// Whether a name is blank.
+fn is_blank(name: &[u8; 11]) -> bool
+    ensures { result ≡ (length (host_name name.now) == 0) }
+{
+    trimmed(&name[..8]).is_empty() && trimmed(&name[8..]).is_empty()
+}
+
 /// Whether the host can take a name.
 pub(crate) fn is_host_name(name: &[u8; 11]) -> bool
     ensures { result ≡ is_host_name name.now }
 {
-    let blank = trimmed(&name[..8]).is_empty() && trimmed(&name[8..]).is_empty();
-    !blank && name.iter().all(|byte| is_host_byte(*byte))
+    !is_blank(name) && are_host_bytes(name)
 }
 
 /// Bytes that are a text.
@@ -65,6 +78,13 @@ fn text_of(bytes: &[u8]) -> &str
         Ok(text) => text,
         Err(_) => unreachable!(),
     }
+}
+
+/// The point before a type.
+fn point_before(kind: &str) -> &'static str
+    ensures { result.now ≡ when (not (length kind.now == 0)) (codes ".") }
+{
+    if kind.is_empty() { "" } else { "." }
 }
 
 /// A name as it is shown, and as the host has it, by the low seven bits of its bytes.
@@ -84,7 +104,6 @@ impl fmt::Display for HostName {
         let bytes = Name::new(self.name).bytes();
         let name = text_of(trimmed(&bytes[..8]));
         let kind = text_of(trimmed(&bytes[8..]));
-        let point = if kind.is_empty() { "" } else { "." };
-        write!(f, "{name}{point}{kind}")
+        write!(f, "{}{}{}", name, point_before(kind), kind)
     }
 }

@@ -1,6 +1,6 @@
 -- What is put is gotten.
-use Rattle.std.proofs.Common.{◌≡◌, ◌≢◌, ◌<◌, ◌≤◌, ◌+◌, ◌-◌, ◌*◌, ◌/◌, ◌%◌, ◌⊎◌, ℕ, zero, suc, false, List, [], ◌∷◌, ◌++◌, Some, None, drop, length, replicate, take, unwrap_or, refl, sym, ap, ap₂, ◌∙◌, inl, inr, arith, if◌then◌else◌, lt-ltb}
-use Rattle.std.specs.List.{flat_map, range_with_len}
+use Rattle.std.proofs.Common.{◌≡◌, ◌≢◌, ◌<◌, ◌≤◌, ◌+◌, ◌-◌, ◌*◌, ◌/◌, ◌%◌, ◌⊎◌, ℕ, zero, suc, ◌==◌, true, false, List, [], ◌∷◌, ◌++◌, Some, None, drop, length, replicate, take, unwrap_or, refl, sym, ap, ap₂, ◌∙◌, inl, inr, arith, if◌then◌else◌, lt-ltb}
+use Rattle.std.specs.List.{flat_map, list_any, range_with_len}
 use Rattle.std.proofs.Math.Seq.{take-add}
 use Rattle.std.proofs.lemmas.Bool.{cases_eq}
 use Rattle.std.proofs.lemmas.List.{append_assoc, append-nil, length-drop, length-take-le, take-append-drop, take_all}
@@ -10,7 +10,9 @@ use Rattle.cpm_disk.specs.Image.{Image, directory}
 use Rattle.z80dev_disk.specs.Disks.{one_file}
 use Rattle.z80dev_disk.specs.Get.{copied, copied_below, got}
 use Rattle.z80dev_disk.specs.Put.{HasFile, filled, record_at, record_count}
+use Rattle.z80dev_disk.specs.Text.{cpm_text, host_text}
 use Rattle.z80dev_disk.proofs.Lists.{one_more}
+use Rattle.z80dev_disk.proofs.Texts.{text_comes_back}
 
 none_taken : (xs : List ℕ) → take 0 xs ≡ []
 none_taken [] = refl
@@ -71,3 +73,11 @@ copied_whole kind old new user name file has =
 pub put_is_gotten : (kind : DiskKind) (old new : Image) (user : ℕ) (name file : List ℕ) → HasFile kind old new user name file
     → got kind new user name false (size user name (directory kind new)) ≡ one_file (file ++ replicate (128 * record_count file - length file) 0x1A)
 put_is_gotten kind old new user name file has = ap (got kind new user name false) has.size_is ∙ ap one_file (copied_whole kind old new user name file has)
+
+-- .. and a text as a text
+pub text_is_gotten : (kind : DiskKind) (old new : Image) (user : ℕ) (name text : List ℕ) → list_any (λ b. b == 0x1A) text ≡ false → HasFile kind old new user name (cpm_text text)
+    → got kind new user name true (size user name (directory kind new)) ≡ one_file text
+text_is_gotten kind old new user name text none has =
+    ap (got kind new user name true) has.size_is
+    ∙ ap (λ bytes. one_file (host_text bytes)) (copied_whole kind old new user name (cpm_text text) has)
+    ∙ ap one_file (text_comes_back text (128 * record_count (cpm_text text) - length (cpm_text text)) none)
