@@ -1,5 +1,5 @@
 -- Work that is done along a list, element by element.
-use Rattle.std.proofs.Common.{◌≡◌, ◌<◌, ◌≤◌, ◌+◌, ℕ, zero, suc, List, [], ◌∷◌, ◌++◌, Some, length, map, slice_get, take, refl, subst, sym, ◌∙◌, ap, arith}
+use Rattle.std.proofs.Common.{◌≡◌, ◌<◌, ◌≤◌, ◌+◌, ℕ, zero, suc, List, [], ◌∷◌, ◌++◌, Some, get_or, length, map, slice_get, take, refl, subst, sym, ◌∙◌, ap, arith}
 use Rattle.std.proofs.lemmas.List.{take_all}
 use Rattle.cpm_directory.specs.declared.fault.DiskFault.{DiskFault}
 use Rattle.cpm_disk.specs.Image.{Image}
@@ -15,6 +15,17 @@ taken_more (y ∷ ys) zero x at = let same : y ≡ x = cc in ap (λ z. z ∷ [])
 taken_more (y ∷ ys) (suc n) x at =
     let next : suc n + 1 ≡ suc (n + 1) = omega arith in
     ap (λ m. take m (y ∷ ys)) next ∙ ap (λ zs. y ∷ zs) (taken_more ys n x at)
+
+-- the element that a loop has come to, of a list and of its images
+pub got_at : {X : Type 0} (xs : List X) (n : ℕ) (d : X) → n < length xs → slice_get xs n ≡ Some (get_or xs n d)
+got_at [] n d below = absurd (omega (arith, below))
+got_at (y ∷ ys) zero d below = refl
+got_at (y ∷ ys) (suc n) d below = got_at ys n d (omega (arith, below))
+
+pub image_at : {X Y : Type 0} (f : X → Y) (xs : List X) (n : ℕ) (x : X) → n < length xs → x ≡ get_or xs n x → slice_get (map f xs) n ≡ Some (f x)
+image_at f [] n x below is = absurd (omega (arith, below))
+image_at f (y ∷ ys) zero x below is = ap (λ z. Some (f z)) (sym is)
+image_at f (y ∷ ys) (suc n) x below is = image_at f ys n x (omega (arith, below)) is
 
 -- one element more at the end
 along_more : {X : Type 0} (Does : X → Image → Image → Type 0) (xs : List X) (x : X) (old mid new : Image) → Along Does xs old mid → Does x mid new → Along Does (xs ++ x ∷ []) old new

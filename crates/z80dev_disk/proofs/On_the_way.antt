@@ -20,7 +20,7 @@ use Rattle.cpm_disk.specs.Calls.{Mounted, Written}
 use Rattle.cpm_disk.specs.Files.{HasRecord, IsFile, IsNewFile, OthersAreSame}
 use Rattle.cpm_disk.specs.Image.{Image, directory}
 use Rattle.cpm_disk.specs.Operations.{IsCreated, IsWritten}
-use Rattle.z80dev_disk.specs.Put.{IsStopped, IsStored, Puts, filled, record_at, record_count}
+use Rattle.z80dev_disk.specs.Put.{File, IsStopped, IsStored, MakesRoom, Puts, PutsOne, filled, is_replaced, record_at, record_count}
 use Rattle.z80dev_disk.specs.Put.Puts.{made, more}
 use Rattle.z80dev_disk.specs.Refusals.{RefusesStore}
 use Rattle.z80dev_disk.proofs.Memory.{itself, never, refused_by}
@@ -202,3 +202,10 @@ module _ (start : Mounted Image) (user : ℕ) (name file : List ℕ) (low : user
             sound = so_far.sound;
           },
         )
+
+-- a file that is put, once room is made for it
+pub put_done : (kind same : DiskKind) (user : ℕ) (replaces : Bool) (file : File) (old mid new : Image) → same ≡ kind → MakesRoom (is_replaced user replaces file.0 (directory kind old)) kind user file.0 old mid
+    → OthersAreSame kind old mid (IsFile user file.0) → IsStored same mid new user file.0 file.1 → PutsOne kind user replaces file old new
+put_done kind same user replaces file old mid new is room others stored =
+    let done = subst (λ k. IsStored k mid new user file.0 file.1) is stored in
+    (mid, room, done, both kind old mid new (IsFile user file.0) others done.1.others)

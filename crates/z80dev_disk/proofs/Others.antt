@@ -1,7 +1,7 @@
 -- Files that a call does not name are as before.
 use Rattle.std.proofs.Common.{◌≡◌, ◌<◌, ◌%◌, ◌==◌, ℕ, Bool, true, false, ◌&&◌, ◌||◌, not, List, [], ◌∷◌, Option, Some, None, All, find, get_or, length, option_and_then, option_map, refl, sym, ap, ap₂, subst, ◌∙◌, true≢false, inl, inr, arith, if◌then◌else◌, eqb-true, eq-eqb}
 use Rattle.std.specs.List.{list_any}
-use Rattle.std.proofs.lemmas.Bool.{and_parts, cases_Bool, cases_eq, false_from_ne_true, or_cases, or_parts}
+use Rattle.std.proofs.lemmas.Bool.{and_from, and_parts, cases_Bool, cases_eq, false_from_ne_true, or_cases, or_left, or_parts, or_right}
 use Rattle.std.proofs.lemmas.List.{get_or_default, length-map}
 use Rattle.std.proofs.lemmas.List.Folds.{list_any_none}
 use Rattle.cpm_image.specs.Kind.{entry_count}
@@ -9,7 +9,7 @@ use Rattle.cpm_image.specs.declared.kind.DiskKind.{DiskKind}
 use Rattle.cpm_directory.proofs.Bytes.{letters-letters}
 use Rattle.cpm_directory.specs.declared.entry.Entry.{Entry}
 use Rattle.cpm_directory.specs.declared.entry.TheConstants.{USERS}
-use Rattle.cpm_directory.specs.Entries.{at, blank, extent_number, has_record, is_extent_of, is_of, is_read_only, is_system}
+use Rattle.cpm_directory.specs.Entries.{at, blank, extent_number, has_record, is_extent_of, is_match, is_of, is_read_only, is_system}
 use Rattle.cpm_directory.specs.Letters.{byte_matches, letters, name_matches}
 use Rattle.cpm_directory.specs.Searches.{is_file}
 use Rattle.cpm_operations.proofs.Entries.{of_file}
@@ -89,6 +89,28 @@ same_name (a ∷ name) (b ∷ other) plain low low_too long matches =
     let name_low : letters name ≡ name = cc in
     let other_low : letters other ≡ other = cc in
     ap₂ (λ x xs. x ∷ xs) (same_byte a b first a_low b_low here) (same_name name other rest name_low other_low (omega (arith, long)) there)
+
+-- A name matches itself, and a pattern of letters every name of these letters.
+pub itself_matches : (name : List ℕ) → name_matches name name ≡ true
+itself_matches [] = refl
+itself_matches (b ∷ name) = and_from (byte_matches b b) (name_matches name name) (or_right (b == 0x3F) (b % 128 == b % 128) (eq-eqb (b % 128) (b % 128) refl)) (itself_matches name)
+
+letters_match : (name : List ℕ) → name_matches (letters name) name ≡ true
+letters_match [] = refl
+letters_match (b ∷ name) =
+    let low : b % 128 % 128 ≡ b % 128 = omega arith in
+    and_from (byte_matches (b % 128) b) (name_matches (letters name) name) (or_right (b % 128 == 0x3F) (b % 128 % 128 == b % 128) (eq-eqb (b % 128 % 128) (b % 128) low)) (letters_match name)
+
+-- So a file is matched by its name.
+pub file_matches : (user : ℕ) (name : List ℕ) (entries : List Entry) → is_file user name entries ≡ true → list_any (is_match user name) entries ≡ true
+file_matches user name [] some = absurd (true≢false (sym some))
+file_matches user name (x ∷ xs) some = elim (or_cases (is_of user name x) (is_file user name xs) some) as (λ _. list_any (is_match user name) (x ∷ xs) ≡ true) [
+  | inl of ↦ (
+      let (user_is, name_is) = of_file user name x of in
+      let named : name_matches name x.name ≡ true = ap (λ n. name_matches n x.name) (sym name_is) ∙ letters_match x.name in
+      or_left (is_match user name x) (list_any (is_match user name) xs) (and_from (x.user == user) (name_matches name x.name) (eq-eqb x.user user user_is) named))
+  | inr later ↦ or_right (is_match user name x) (list_any (is_match user name) xs) (file_matches user name xs later)
+]
 
 -- A file of another name that a name matches as a pattern is none.
 not_there : (kind : DiskKind) (image : Image) (user : ℕ) (name other : List ℕ) → is_wild name ≡ false → letters name ≡ name → length name ≡ 11 → HaveNames kind image

@@ -17,12 +17,7 @@ use cpm_image::MemoryImage;
 use std::alloc::Global;
 
 /// The name that goes with a refusal: that of the first entry that matches and is read-only, or else the pattern.
-fn named_by(
-    disk: &Disk<MemoryImage>,
-    user: u8,
-    pattern: &[u8; 11],
-    why: DiskFault,
-) -> [u8; 11]
+fn named_by(disk: &Disk<MemoryImage>, user: u8, pattern: &[u8; 11], why: DiskFault) -> [u8; 11]
     requires { disk.now.failed ≡ false }
     ensures { result ≡ named_by disk.now.kind user pattern.now disk.now.device why }
 {
@@ -33,11 +28,7 @@ fn named_by(
 }
 
 /// Erases the files that match a pattern.
-fn erase_one(
-    disk: &mut Disk<MemoryImage>,
-    user: u8,
-    pattern: &[u8; 11],
-) -> Result<(), Refusal>
+fn erase_one(disk: &mut Disk<MemoryImage>, user: u8, pattern: &[u8; 11]) -> Result<(), Refusal>
     requires sound { disk.old.failed ≡ false }
     requires user { user < USERS }
     ensures kind { disk.new.kind ≡ disk.old.kind }
@@ -53,11 +44,7 @@ fn erase_one(
 }
 
 /// Erases the files that match each pattern in turn.
-fn erase_all(
-    disk: &mut Disk<MemoryImage>,
-    user: u8,
-    patterns: &[[u8; 11]],
-) -> Result<(), Refusal>
+fn erase_all(disk: &mut Disk<MemoryImage>, user: u8, patterns: &[[u8; 11]]) -> Result<(), Refusal>
     requires sound { disk.old.failed ≡ false }
     requires user { user < USERS }
     ensures erased { OnOk result (Along (Erases disk.old.kind user) patterns.now disk.old.device disk.new.device) }

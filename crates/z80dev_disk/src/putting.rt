@@ -55,12 +55,7 @@ fn cut(rest: &[u8]) -> Option<(&[u8], &[u8])>
 }
 
 /// Makes a file and writes its records, one after the other.
-fn store(
-    disk: &mut Disk<MemoryImage>,
-    user: u8,
-    name: &Name,
-    file: &[u8],
-) -> Result<(), DiskFault>
+fn store(disk: &mut Disk<MemoryImage>, user: u8, name: &Name, file: &[u8]) -> Result<(), DiskFault>
     requires sound { disk.old.failed ≡ false }
     requires user { user < USERS }
     ensures kind { disk.new.kind ≡ disk.old.kind }

@@ -6,8 +6,7 @@ ghost use Rattle.z80dev_disk.specs.Names.{host_name, is_host_byte, is_host_name,
 
 use cpm_directory::Name;
 use std::alloc::{AllocError, Global};
-use std::fmt;
-use std::str;
+use std::{fmt, str};
 
 /// A part of a name without the blanks at its end.
 pub(crate) fn trimmed(part: &[u8]) -> &[u8]
