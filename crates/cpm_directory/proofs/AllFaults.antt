@@ -5,7 +5,7 @@ use Rattle.std.proofs.lemmas.List.{get_or_append_left, get_or_at, get_or_default
 use Rattle.std.proofs.lemmas.List.Elements.{All-nil, All-push, All-weaker}
 use Rattle.std.specs.List.{All, AllPairs, Any, list_any}
 use Rattle.cpm_image.specs.declared.kind.DiskKind.{DiskKind}
-use Rattle.cpm_directory.specs.Types.{Broken, DiskFault, Entry}
+use Rattle.cpm_directory.specs.Types.{Broken, Entry}
 use Rattle.cpm_directory.specs.Entries.{at, blank, blocks_of, is_extent}
 use Rattle.cpm_directory.specs.Private.Marks.{AreMarks}
 use Rattle.cpm_directory.specs.Rules.{AreBroken, IsBroken, IsFaultOf, KeepsRules}

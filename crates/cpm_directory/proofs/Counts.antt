@@ -1,5 +1,5 @@
 -- Entries and blocks that are counted.
-use Rattle.std.proofs.Common.{◌≡◌, ◌<◌, ◌≤◌, ℕ, zero, suc, ◌+◌, ◌*◌, List, [], ◌∷◌, ◌++◌, Bool, true, false, cond, not, take, length, get_or, refl, sym, ◌∙◌, ap, arith}
+use Rattle.std.proofs.Common.{◌≡◌, ◌<◌, ◌≤◌, ℕ, zero, suc, ◌+◌, ◌-◌, List, [], ◌∷◌, Bool, true, false, cond, not, take, length, get_or, refl, sym, ◌∙◌, ap, arith}
 use Rattle.std.specs.List.{count_by, filter, range_with_len, sum_by}
 use Rattle.std.proofs.lemmas.List.Elements.{filter_more}
 use Rattle.std.proofs.lemmas.List.Sums.{sum_by-append, sum_by-cons}
@@ -8,13 +8,14 @@ use Rattle.cpm_image.specs.declared.kind.DiskKind.{DiskKind}
 use Rattle.cpm_image.specs.declared.kind.DiskKind.TheVariants.{EightInch, Megabyte}
 use Rattle.cpm_directory.specs.Types.{Entry}
 use Rattle.cpm_directory.specs.Searches.{free_blocks, is_taken}
+use Rattle.cpm_directory.proofs.TakenBlocks.{marked_below}
 
 pub groups_most : (kind : DiskKind) → entry_blocks kind ≤ 16
 groups_most EightInch = omega arith
 groups_most Megabyte = omega arith
 
 picked : (f : Entry → ℕ) (x : Entry) (b : Bool) → sum_by f (cond b (x ∷ []) []) ≡ cond b (f x) 0
-picked f x true = sum_by-cons f x []
+picked f x true = omega arith
 picked f x false = refl
 
 -- one entry more, of those that a test picks
@@ -31,3 +32,8 @@ count_by-same f g a (suc n) same =
     let rest = count_by-same f g (a + 1) n (λ k least most. same k (omega arith) (omega arith)) in
     sum_by-cons (λ x. cond (f x) 1 0) a (range_with_len (a + 1) n) ∙ ap (λ b. cond b 1 0 + count_by f (range_with_len (a + 1) n)) here
     ∙ ap (λ m. cond (g a) 1 0 + m) rest ∙ sym (sum_by-cons (λ x. cond (g x) 1 0) a (range_with_len (a + 1) n))
+
+-- the blocks that are not marked are the free ones
+pub free_counted : (kind : DiskKind) (marks : List Bool) (entries : List Entry) → ((b : ℕ) → b < 512 → get_or marks b false ≡ is_taken kind entries b) → count_by (λ b. not (get_or marks b false)) (range_with_len (first_block kind) (block_count kind - first_block kind)) ≡ free_blocks kind entries
+unfolding free_blocks
+free_counted kind marks entries taken = count_by-same (λ b. not (get_or marks b false)) (λ b. not (is_taken kind entries b)) (first_block kind) (block_count kind - first_block kind) (λ k _ most. ap not (taken k (marked_below kind k most)))

@@ -1,7 +1,5 @@
 -- A directory has one list of the entries that break a rule.
-use Rattle.std.proofs.Common.{◌≡◌, ◌⊎◌, ◌<◌, ◌≤◌, ◌↔◌, ℕ, zero, suc, List, [], ◌∷◌, true, take, length, get_or, refl, arith, sym, ◌∙◌, ap, subst, inl, inr}
-use Rattle.std.proofs.lemmas.Bool.{cases_order}
-use Rattle.std.proofs.lemmas.List.{get_or_default}
+use Rattle.std.proofs.Common.{◌≡◌, ◌⊎◌, ◌<◌, ◌≤◌, ◌↔◌, ℕ, zero, suc, List, [], ◌∷◌, true, take, get_or, refl, arith, sym, ◌∙◌, ap, subst, inl, inr}
 use Rattle.std.proofs.lemmas.List.Elements.{All-head, All-tail}
 use Rattle.std.specs.List.{All, AllPairs, Any}
 use Rattle.cpm_image.specs.declared.kind.DiskKind.{DiskKind}
@@ -63,13 +61,16 @@ listed_too kind entries low b broken is above are = elim (are.every b.number abo
 nothing : (P : Broken → Type 0) → Any P [] → ⊥
 nothing P (k, x, low, is, holds) = omega (arith, low)
 
+abbrev made : ℕ → Entry → DiskFault → Broken
+made number entry fault = record { number = number; entry = entry; fault = fault }
+
 -- with one number two are one
 same_broken : (kind : DiskKind) (entries : List Entry) (a b : Broken) → IsBroken kind entries a → IsBroken kind entries b → a.number ≡ b.number → a ≡ b
 same_broken kind entries a b is_a is_b same =
     let entry_is : a.entry ≡ b.entry = is_a.entry ∙ ap (at entries) same ∙ sym is_b.entry in
     let fault_is : a.fault ≡ b.fault = one_fault kind (take a.number entries) a.entry a.fault b.fault is_a.fault_of
     (subst (λ k. IsFaultOf kind (take k entries) a.entry b.fault) (sym same) (subst (λ e. IsFaultOf kind (take b.number entries) e b.fault) (sym entry_is) is_b.fault_of)) in
-    cc
+    ap (λ n. made n a.entry a.fault) same ∙ ap (λ e. made b.number e a.fault) entry_is ∙ ap (made b.number b.entry) fault_is
 
 -- the first numbers of two lists are one
 same_first : (kind : DiskKind) (entries : List Entry) (low : ℕ) (a b : Broken) (xs ys : List Broken) → AreBrokenFrom kind entries low (a ∷ xs) → AreBrokenFrom kind entries low (b ∷ ys) → b.number ≤ a.number

@@ -45,7 +45,7 @@ find-same f g a (suc n) same =
     rw (same a (omega arith) (omega arith)) (ap (cond (g a) (Some a)) rest)
 
 -- every block has a mark
-marked_below : (kind : DiskKind) (k : ℕ) → k < first_block kind + (block_count kind - first_block kind) → k < 512
+pub marked_below : (kind : DiskKind) (k : ℕ) → k < first_block kind + (block_count kind - first_block kind) → k < 512
 marked_below EightInch k most = omega arith
 marked_below Megabyte k most = omega arith
 

@@ -22,10 +22,21 @@ pub fn is_name(name: &Name)
     let _bytes = name.bytes();
 }
 
+/// The name of an entry has eleven bytes.
+fn is_entry(entry: &Entry)
+    ensures { length entry.now.name ≡ 11 }
+{
+    let _value = *entry;
+}
+
 /// The name of each entry has eleven bytes. (It is asked of entries and not of any lists, so it takes them.)
 pub fn are_entries(entries: &[Entry])
     ensures { All (λ e. length e.name ≡ 11) entries.now }
-{}
+{
+    for entry in entries {
+        is_entry(entry);
+    }
+}
 
 /// A directory of a kind of disk is judged in one way: it keeps its rules, or it has one first fault.
 pub fn one_judgement()

@@ -121,12 +121,13 @@ pub fn faults(alloc: Global, kind: DiskKind, entries: &[Entry]) -> Result<Vec<Br
     let mut broken = Vec::new(alloc);
     for (number, entry) in entries.iter().enumerate() {
         if entry.is_extent() {
-            if let Err(fault) = judge_entry(&mut marks, kind, &entries[..number], entry) {
-                broken.push(Broken {
+            match judge_entry(&mut marks, kind, &entries[..number], entry) {
+                Ok(()) => {}
+                Err(fault) => broken.push(Broken {
                     number: number as u16,
                     entry: *entry,
                     fault,
-                })?;
+                })?,
             }
         }
     }

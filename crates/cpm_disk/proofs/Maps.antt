@@ -118,7 +118,7 @@ high_bit (x ∷ old) (y ∷ new) zero same seven =
     ]
 
 -- a search in changed entries finds what another found before
-find_changed : (p q : Entry → Bool) (f : Entry → Entry) (xs : List Entry) → ((j : ℕ) → j < length xs → p (f (at xs j)) ≡ q (at xs j)) → find p (map f xs) ≡ option_map f (find q xs)
+pub find_changed : (p q : Entry → Bool) (f : Entry → Entry) (xs : List Entry) → ((j : ℕ) → j < length xs → p (f (at xs j)) ≡ q (at xs j)) → find p (map f xs) ≡ option_map f (find q xs)
 find_changed p q f [] same = refl
 find_changed p q f (x ∷ xs) same =
     let rest = find_changed p q f xs (λ j low. same (suc j) (omega arith)) in
@@ -127,7 +127,7 @@ find_changed p q f (x ∷ xs) same =
       | inr fails ↦ ap (λ b. if b then Some (f x) else find p (map f xs)) (same 0 (omega arith) ∙ fails) ∙ rest ∙ sym (ap (λ b. option_map f (if b then Some x else find q xs)) fails)
     ]
 
-any_changed : (p q : Entry → Bool) (f : Entry → Entry) (xs : List Entry) → ((j : ℕ) → j < length xs → p (f (at xs j)) ≡ q (at xs j)) → list_any p (map f xs) ≡ list_any q xs
+pub any_changed : (p q : Entry → Bool) (f : Entry → Entry) (xs : List Entry) → ((j : ℕ) → j < length xs → p (f (at xs j)) ≡ q (at xs j)) → list_any p (map f xs) ≡ list_any q xs
 any_changed p q f [] same = refl
 any_changed p q f (x ∷ xs) same = ap (λ b. b || list_any p (map f xs)) (same 0 (omega arith)) ∙ ap (λ b. q x || b) (any_changed p q f xs (λ j low. same (suc j) (omega arith)))
 

@@ -1,5 +1,5 @@
 -- Files whose entries are marked with an attribute, or cleared of it.
-use Rattle.std.proofs.Common.{◌≡◌, ◌<◌, ◌/◌, ◌==◌, ℕ, Bool, true, false, ◌&&◌, ◌||◌, All, List, [], ◌∷◌, bytes_eq, length, find, nat_eq, nat_le, slice_index, get_or-set_other, Option, Some, None, option_map, option_and_then, refl, sym, ap, subst, ◌∙◌, inl, inr, arith, if◌then◌else◌, true≢false, eqb-true, eq-eqb}
+use Rattle.std.proofs.Common.{◌≡◌, ◌<◌, ◌/◌, ◌==◌, ℕ, Bool, true, false, ◌&&◌, ◌||◌, All, List, [], ◌∷◌, bytes_eq, length, find, nat_eq, nat_le, slice_index, get_or-set_other, Option, Some, None, option_map, option_and_then, refl, sym, ap, ◌∙◌, inl, inr, arith, if◌then◌else◌, eqb-true, eq-eqb}
 use Rattle.std.proofs.lemmas.Bool.{and_from, and_parts, cases_Bool}
 use Rattle.std.specs.List.{list_any}
 use Rattle.cpm_image.specs.Kind.{block_records}
@@ -11,7 +11,6 @@ use Rattle.cpm_directory.specs.declared.entry.Entry.{Entry}
 use Rattle.cpm_directory.specs.Entries.{at, blank, block, block_numbers, extent_number, is_extent_of, is_match, is_of, is_read_only, is_system, marked, place_in_block, place_on_disk}
 use Rattle.cpm_directory.specs.Letters.{letters, name_matches}
 use Rattle.cpm_directory.specs.Rules.{IsSound}
-use Rattle.cpm_directory.specs.Searches.{is_file}
 use Rattle.cpm_operations.proofs.Entries.{found_at, of_file}
 use Rattle.cpm_operations.proofs.HighBits.{high_set}
 use Rattle.cpm_operations.proofs.Kept.{IsSameButHigh, at_marking, same_but_high}
@@ -113,7 +112,7 @@ marked_file kind old new user pattern attribute on name low matches sound long m
   other = file_has_is (other_attribute attribute) kind new user name ∙ ap (any_has (other_attribute attribute) user name) made.entries_are
       ∙ any_changed (λ e. is_of user name e && has (other_attribute attribute) e) (λ e. is_of user name e && has (other_attribute attribute) e) by (directory kind old) (λ j _.
       ap (λ b. b && has (other_attribute attribute) (by (at (directory kind old) j))) (same_file_of user name (at (directory kind old) j) (by (at (directory kind old) j)) (same (at (directory kind old) j)))
-          ∙ ap (λ b. is_of user name (at (directory kind old) j) && b) (has_other_by user pattern attribute on (at (directory kind old) j)))
+      ∙ ap (λ b. is_of user name (at (directory kind old) j) && b) (has_other_by user pattern attribute on (at (directory kind old) j)))
       ∙ sym (file_has_is (other_attribute attribute) kind old user name);
 }
   where

@@ -63,3 +63,7 @@ number_below Megabyte number low = omega arith
 
 pub outside_directory : (kind : DiskKind) (n : ℕ) → directory_records kind ≤ n → IsOfDirectory kind n → ⊥
 outside_directory kind n from low = omega arith
+
+pub few_entries : (kind : DiskKind) → entry_count kind ≤ 256
+few_entries EightInch = omega arith
+few_entries Megabyte = omega arith

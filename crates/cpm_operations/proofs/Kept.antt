@@ -10,7 +10,7 @@ use Rattle.cpm_image.specs.declared.kind.DiskKind.{DiskKind}
 use Rattle.cpm_image.specs.declared.kind.DiskKind.TheVariants.{EightInch, Megabyte}
 use Rattle.cpm_directory.proofs.Words.{new_block}
 use Rattle.cpm_directory.specs.declared.entry.Entry.{Entry}
-use Rattle.cpm_directory.specs.Entries.{at, blank, block, erased, extent_number, is_extent, is_free, is_match, is_of, marked, new_extent, renamed}
+use Rattle.cpm_directory.specs.Entries.{at, blank, block, erased, extent_number, is_extent, is_free, is_match, is_of, new_extent, renamed}
 use Rattle.cpm_directory.specs.Letters.{letters}
 use Rattle.cpm_directory.specs.Rules.{AreBlocks, AreSameExtent, IsGood, IsSound}
 use Rattle.cpm_directory.specs.Searches.{free_entry, is_file}

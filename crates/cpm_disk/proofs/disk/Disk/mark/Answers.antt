@@ -8,7 +8,7 @@ use Rattle.cpm_disk.specs.Calls.{Changed, PartlyChanged}
 use Rattle.cpm_disk.specs.Files.{IsMarkedFile, IsMatched, OthersAreSame}
 use Rattle.cpm_disk.specs.Image.{directory}
 use Rattle.cpm_disk.specs.Operations.{IsMarked}
-use Rattle.cpm_disk.proofs.StillMounted.{mounted_changed, whole}
+use Rattle.cpm_disk.proofs.StillMounted.{mounted_changed, mounted_partly, whole}
 use Rattle.cpm_disk.proofs.Marking.{mark_others, marked_file}
 use Rattle.cpm_disk.proofs.Others.{whole_change}
 use Rattle.cpm_disk.proofs.disk.Disk.mark.Goals as goal
@@ -22,6 +22,16 @@ invariant_of-self g c =
     mounted_changed c.self.inside.kind _ _ c.self.inside.entries.items (after_marking c.args.user c.args.pattern.now.name c.args.attribute c.args.on (directory c.self.inside.kind (g.S.Sectors.sectors c.self.inside.device))) _ c.self.inside.failed _ c.self.invariant kept
     (subst (Changed c.self.inside.kind (g.S.Sectors.sectors c.self.inside.device) (g.S.Sectors.sectors c.change_all.new.device)) now c.in-Ok.ensures.changed)
     (whole _ c.change_all.new.entries c.self.inside.entries.items (c.in-Ok.ensures.size ∙ sym c.self.invariant.size ∙ ap length (sym c.deref_mut.ensures.value) ∙ c.deref_mut.ensures.len) ∙ now) (ap length (sym now) ∙ c.in-Ok.ensures.size)
+
+pub invariant_of-self-in-Err : goal.invariant_of-self-in-Err
+invariant_of-self-in-Err g c =
+    let entries = c.deref_mut.ensures.value ∙ c.self.invariant.entries_are c.if-self.false in
+    let asked = c.deref.ensures.value ∙ c.self.invariant.entries_are c.if-self.false in
+    let kept = subst (λ es. IsSound c.self.inside.kind es → StaysSound c.self.inside.kind es (after_marking c.args.user c.args.pattern.now.name c.args.attribute c.args.on es)) asked (c.marking.ensures.kept c.self.inside.kind c.args.attribute c.args.on) c.self.invariant.sound in
+    let all = whole _ c.change_all.new.entries c.self.inside.entries.items (c.in-Err.ensures.size ∙ sym c.self.invariant.size ∙ ap length (sym c.deref_mut.ensures.value) ∙ c.deref_mut.ensures.len) in
+    mounted_partly c.self.inside.kind _ _ c.self.inside.entries.items (after_marking c.args.user c.args.pattern.now.name c.args.attribute c.args.on (directory c.self.inside.kind (g.S.Sectors.sectors c.self.inside.device))) _ c.self.inside.failed _ _ c.self.invariant kept
+    (subst (λ es. PartlyChanged c.self.inside.kind (g.S.Sectors.sectors c.self.inside.device) (g.S.Sectors.sectors c.change_all.new.device) (after_marking c.args.user c.args.pattern.now.name c.args.attribute c.args.on es)) entries c.in-Err.ensures.stopped)
+    (ap length all ∙ c.in-Err.ensures.size)
 
 pub returns-in-Ok-clause-sound : goal.returns-in-Ok-clause-sound
 returns-in-Ok-clause-sound g c =
