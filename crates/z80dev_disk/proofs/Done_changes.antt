@@ -3,6 +3,7 @@ use Rattle.std.proofs.Common.{◌≡◌, ℕ, Bool, true, false, ◌&&◌, not, 
 use Rattle.std.specs.List.{list_any}
 use Rattle.std.proofs.lemmas.Bool.{and_parts}
 use Rattle.cpm_image.specs.declared.kind.DiskKind.{DiskKind}
+use Rattle.cpm_directory.specs.declared.attribute.Attribute.{Attribute}
 use Rattle.cpm_directory.specs.declared.entry.Entry.{Entry}
 use Rattle.cpm_directory.specs.declared.fault.DiskFault.{DiskFault}
 use Rattle.cpm_directory.specs.declared.fault.DiskFault.TheVariants as fault
@@ -11,10 +12,10 @@ use Rattle.cpm_directory.specs.Letters.{name_matches}
 use Rattle.cpm_directory.specs.Searches.{is_file}
 use Rattle.cpm_operations.specs.Steps.{erasure, unless}
 use Rattle.cpm_disk.specs.Calls.{Mounted}
-use Rattle.cpm_disk.specs.Files.{IsMatched, IsNoFile, OthersAreSame}
+use Rattle.cpm_disk.specs.Files.{IsMarkedFile, IsMatched, IsNoFile, OthersAreSame}
 use Rattle.cpm_disk.specs.Image.{Image, directory}
 use Rattle.cpm_disk.specs.Operations as disk
-use Rattle.z80dev_disk.specs.Changes.{Erases}
+use Rattle.z80dev_disk.specs.Changes.{Erases, Marks}
 use Rattle.z80dev_disk.specs.Put.{is_replaced}
 use Rattle.z80dev_disk.proofs.Memory.{itself, never, refused_by}
 use Rattle.z80dev_disk.proofs.Others.{file_matches}
@@ -28,6 +29,18 @@ erased old new user asked pattern number is (was, sound, same, calm, count, may,
   may = may;
   changed = changed;
   gone = λ name matches. subst (λ k. IsNoFile k new.device user name) same (gone name matches);
+  others = others;
+})
+
+-- .. or marked
+pub marked : (old new : Mounted Image) (user : ℕ) (attribute : Attribute) (on : Bool) (asked pattern : List ℕ) (number : ℕ) → asked ≡ pattern → disk.IsMarked itself never old new user asked attribute on (Ok number)
+    → ((name : List ℕ) → name_matches asked name ≡ true → IsMarkedFile old.kind old.device new.device user name attribute on) → OthersAreSame old.kind old.device new.device (IsMatched user asked)
+    → Marks old.kind user attribute on pattern old.device new.device
+marked old new user attribute on asked pattern number is (was, sound, same, calm, count, may, (number_is, changed)) each others = subst (λ p. Marks old.kind user attribute on p old.device new.device) is (record {
+  count = count;
+  may = may;
+  changed = changed;
+  marked = each;
   others = others;
 })
 

@@ -16,4 +16,5 @@ pub mod Records
 pub mod Sizes
 pub mod On_the_way
 pub mod Unread
+pub mod Checked
 pub mod Put_is_gotten

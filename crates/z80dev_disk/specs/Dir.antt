@@ -4,7 +4,8 @@ use Rattle.std.specs.List.{concat, flat_map}
 use Rattle.cpm_image.specs.declared.kind.DiskKind.{DiskKind}
 use Rattle.cpm_directory.specs.Letters.{name_matches}
 use Rattle.cpm_directory.specs.Searches.{IsListing, space_of, usage_of}
-use Rattle.cpm_directory.specs.Types.{Space, Usage}
+use Rattle.cpm_directory.specs.declared.count.Space.{Space}
+use Rattle.cpm_directory.specs.declared.count.Usage.{Usage}
 use Rattle.cpm_directory.specs.declared.fault.DiskFault.TheVariants as fault
 use Rattle.cpm_directory.specs.declared.listing.Listed.{Listed}
 use Rattle.cpm_disk.specs.Image.{Image, directory}

@@ -3,7 +3,7 @@
 ghost use Rattle.std.specs.Prelude.{◌≡◌, IfOk, IfSome};
 ghost use Rattle.std.specs.List.{flat_map};
 ghost use Rattle.z80dev_finish.specs.Answers.{MemoryAside};
-ghost use Rattle.z80dev_disk.specs.Check.{IsCheck, broken_line, checked};
+ghost use Rattle.z80dev_disk.specs.Check.{IsCheck, broken_line, checked, first_fault};
 ghost use Rattle.z80dev_disk.specs.Disks.{answer_of};
 ghost use Rattle.z80dev_disk.specs.Private.{IsAnswered};
 ghost use Rattle.z80dev_disk.specs.Refusals.{Refuses, RefusesNone};
@@ -54,7 +54,8 @@ fn broken_lines(alloc: Global, broken: &[Broken]) -> Result<Vec<u8>, AllocError>
 
 /// The answer about entries that break a rule.
 fn checked(alloc: Global, broken: &[Broken]) -> Result<Answer<Refusal>, AllocError>
-    ensures { IfOk result (λ answer. answer_of answer ≡ checked broken.now) }
+    ensures answer { IfOk result (λ answer. answer_of answer ≡ checked broken.now) }
+    ensures refusal { IfOk result (λ answer. answer.refusal ≡ first_fault broken.now) }
 {
     Ok(Answer {
         files: Vec::new(alloc),
