@@ -1,5 +1,5 @@
 -- Entries of a directory that break a rule.
-use Rattle.std.proofs.Common.{◌≡◌, ◌<◌, ℕ, List, [], ◌∷◌, IfSome, length, take, inl, arith}
+use Rattle.std.proofs.Common.{List, [], ◌∷◌, IfSome, take, inl, arith}
 use Rattle.cpm_image.specs.declared.kind.DiskKind.{DiskKind}
 use Rattle.cpm_directory.specs.Rules.{AreBroken, IsFaultOf, IsRuleFault}
 use Rattle.cpm_directory.specs.declared.broken.Broken.{Broken}

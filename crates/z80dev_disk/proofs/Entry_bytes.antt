@@ -1,5 +1,5 @@
 -- The entry that the 32 bytes of a directory's entry spell.
-use Rattle.std.proofs.Common.{◌≡◌, ◌<◌, ◌≤◌, ◌+◌, ◌-◌, ◌*◌, ◌/◌, ◌%◌, ℕ, Bool, true, List, [], ◌∷◌, ◌++◌, Some, drop, find, if◌then◌else◌, length, take, sym, ap, ◌∙◌, arith}
+use Rattle.std.proofs.Common.{◌≡◌, ◌<◌, ◌+◌, ◌*◌, ◌/◌, ◌%◌, ℕ, Bool, true, List, ◌∷◌, Some, drop, find, if◌then◌else◌, length, take, ap, ◌∙◌, arith}
 use Rattle.std.proofs.lemmas.List.{drop_more, length-append, length-drop, length-take}
 use Rattle.cpm_image.specs.Kind.{entry_count}
 use Rattle.cpm_image.specs.declared.kind.DiskKind.{DiskKind}

@@ -1,5 +1,5 @@
 -- Calls of a disk in memory, whose device never fails.
-use Rattle.std.proofs.Common.{◌≡◌, ℕ, true, false, Result, Ok, Err, sym, ◌∙◌, inl, inr, arith, true≢false}
+use Rattle.std.proofs.Common.{◌≡◌, ℕ, false, Result, Err, sym, ◌∙◌, inl, inr, arith, true≢false}
 use Rattle.cpm_image.specs.Device.{HasRisen}
 use Rattle.cpm_directory.specs.declared.fault.DiskFault.{DiskFault}
 use Rattle.cpm_directory.specs.declared.fault.DiskFault.TheVariants as fault

@@ -1,5 +1,5 @@
 -- Files that a call does not name are as before.
-use Rattle.std.proofs.Common.{◌≡◌, ◌<◌, ◌%◌, ◌==◌, ℕ, Bool, true, false, ◌&&◌, ◌||◌, not, List, [], ◌∷◌, Option, Some, None, All, find, get_or, length, option_and_then, option_map, refl, sym, ap, ap₂, subst, ◌∙◌, true≢false, inl, inr, arith, if◌then◌else◌, eqb-true, eq-eqb}
+use Rattle.std.proofs.Common.{◌≡◌, ◌<◌, ◌%◌, ◌==◌, ℕ, true, false, ◌&&◌, ◌||◌, List, [], ◌∷◌, Some, None, find, get_or, length, option_and_then, option_map, refl, sym, ap, ap₂, subst, ◌∙◌, true≢false, inl, inr, arith, if◌then◌else◌, eqb-true, eq-eqb}
 use Rattle.std.specs.List.{list_any}
 use Rattle.std.proofs.lemmas.Bool.{and_from, and_parts, cases_Bool, cases_eq, false_from_ne_true, or_cases, or_left, or_parts, or_right}
 use Rattle.std.proofs.lemmas.List.{get_or_default, length-map}
@@ -8,8 +8,7 @@ use Rattle.cpm_image.specs.Kind.{entry_count}
 use Rattle.cpm_image.specs.declared.kind.DiskKind.{DiskKind}
 use Rattle.cpm_directory.proofs.Bytes.{letters-letters}
 use Rattle.cpm_directory.specs.declared.entry.Entry.{Entry}
-use Rattle.cpm_directory.specs.declared.entry.TheConstants.{USERS}
-use Rattle.cpm_directory.specs.Entries.{at, blank, extent_number, has_record, is_extent_of, is_match, is_of, is_read_only, is_system}
+use Rattle.cpm_directory.specs.Entries.{at, blank, extent_number, is_extent_of, is_match, is_of, is_read_only, is_system}
 use Rattle.cpm_directory.specs.Letters.{byte_matches, letters, name_matches}
 use Rattle.cpm_directory.specs.Searches.{is_file}
 use Rattle.cpm_operations.proofs.Entries.{of_file}

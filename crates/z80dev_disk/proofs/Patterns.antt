@@ -1,5 +1,5 @@
 -- The eleven bytes of a pattern that a word spells.
-use Rattle.std.proofs.Common.{◌≡◌, ◌≤◌, ◌+◌, ◌-◌, ◌==◌, ℕ, true, Bool, not, ◌&&◌, List, [], ◌∷◌, ◌++◌, Some, None, drop, if◌then◌else◌, length, replicate, take, refl, sym, ap, ap₂, ◌∙◌, arith, leb-true}
+use Rattle.std.proofs.Common.{◌≡◌, ◌≤◌, ◌+◌, ◌-◌, ◌==◌, ℕ, true, not, ◌&&◌, List, [], ◌∷◌, ◌++◌, Some, None, drop, if◌then◌else◌, length, replicate, take, sym, ap, ap₂, ◌∙◌, arith, leb-true}
 use Rattle.std.proofs.lemmas.Bool.{and_parts}
 use Rattle.std.proofs.lemmas.List.{append-nil, drop_all, length-append, length-drop, length-replicate, length-take, take_at}
 use borrow.Rule.Slice.PartMut.{post_of}

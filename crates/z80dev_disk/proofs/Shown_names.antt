@@ -1,5 +1,5 @@
 -- Names of files as they are shown.
-use Rattle.std.proofs.Common.{◌≡◌, ◌<◌, ◌+◌, ◌-◌, ◌%◌, ◌==◌, ◌&&◌, ℕ, zero, suc, Bool, true, false, not, IsAscii, List, [], ◌∷◌, ◌++◌, codes, drop, get_or, length, take, refl, sym, ap, subst, ◌∙◌, inl, inr, arith, ne_eqb}
+use Rattle.std.proofs.Common.{◌≡◌, ◌<◌, ◌+◌, ◌==◌, ◌&&◌, ℕ, suc, false, not, IsAscii, List, [], ◌∷◌, ◌++◌, codes, drop, get_or, length, take, refl, sym, ap, subst, ◌∙◌, inl, inr, arith, ne_eqb}
 use Rattle.std.proofs.lemmas.Bool.{cases_lt}
 use Rattle.std.proofs.lemmas.List.{get_or-drop, get_or-take, get_or_past, length-take}
 use Rattle.cpm_directory.specs.Letters.{letters}

@@ -1,13 +1,12 @@
 -- A record that is not read is not there.
-use Rattle.std.proofs.Common.{◌≡◌, ◌<◌, ◌/◌, ◌%◌, ◌==◌, ℕ, true, false, ◌&&◌, not, List, [], ◌∷◌, Option, Some, None, Ok, Err, find, nat_lt, option_and_then, refl, sym, ap, ◌∙◌, true≢false, inl, inr, if◌then◌else◌, lt-ltb}
-use Rattle.std.specs.List.{list_any}
+use Rattle.std.proofs.Common.{◌≡◌, ◌<◌, ◌/◌, ◌%◌, ℕ, true, false, not, List, Option, Some, None, Ok, Err, find, nat_lt, option_and_then, refl, sym, ap, ◌∙◌, inl, inr, if◌then◌else◌, lt-ltb}
 use Rattle.std.proofs.lemmas.Bool.{cases_Bool}
 use Rattle.cpm_image.specs.Kind.{file_records}
 use Rattle.cpm_image.specs.declared.kind.DiskKind.{DiskKind}
 use Rattle.cpm_directory.specs.declared.entry.Entry.{Entry}
 use Rattle.cpm_directory.specs.declared.fault.DiskFault.{DiskFault}
 use Rattle.cpm_directory.specs.declared.fault.DiskFault.TheVariants as fault
-use Rattle.cpm_directory.specs.Entries.{extent_number, has_record, is_extent_of, is_of, place_on_disk}
+use Rattle.cpm_directory.specs.Entries.{has_record, is_extent_of, place_on_disk}
 use Rattle.cpm_directory.specs.Searches.{is_file}
 use Rattle.cpm_operations.specs.Steps.{◌>>=◌, given, reading, unless, written_place}
 use Rattle.cpm_disk.specs.Calls.{Mounted}

@@ -4,6 +4,7 @@ use Rattle.std.specs.Global.{Global}
 use Rattle.cpm_image.specs.declared.kind.DiskKind.{DiskKind}
 use Rattle.cpm_directory.specs.Entries.{is_match, is_read_only}
 use Rattle.cpm_directory.specs.Letters.{letters, name_matches}
+use Rattle.cpm_directory.specs.Rules.{IsSound}
 use Rattle.cpm_directory.specs.declared.attribute.Attribute.{Attribute}
 use Rattle.cpm_directory.specs.declared.entry.Entry.{Entry}
 use Rattle.cpm_directory.specs.declared.fault.DiskFault.{DiskFault}
@@ -19,13 +20,15 @@ use Rattle.z80dev_disk.specs.declared.refusal.Refusal.TheVariants as refusal
 
 -- ---- erasing
 
--- The files of a user that match a pattern are erased: their entries are free, no such file is left, and every other file is as before.
+-- The files of a user that match a pattern are erased: their entries are free, no such file is left, every other file is as before, and the
+-- directory keeps its rules.
 pub record Erases (kind : DiskKind) (user : ℕ) (pattern : List ℕ) (old new : Image) : Type 0 where
   pub count : ℕ
   pub may : erasure user pattern (directory kind old) ≡ Ok count
   pub changed : Changed kind old new (after_erasure user pattern (directory kind old))
   pub gone : (name : List ℕ) → name_matches pattern name ≡ true → IsNoFile kind new user name
   pub others : OthersAreSame kind old new (IsMatched user pattern)
+  pub sound : IsSound kind (directory kind new)
 
 abbrev pub StopsErasing : DiskKind → ℕ → List ℕ → Image → DiskFault → Type 0
 StopsErasing kind user pattern old why = erasure user pattern (directory kind old) ≡ Err why
@@ -46,12 +49,13 @@ IsErased bytes user patterns result =
 
 -- ---- renaming
 
--- A file gets another name, and every other file is as before.
+-- A file gets another name, every other file is as before, and the directory keeps its rules.
 pub record Renames (kind : DiskKind) (user : ℕ) (from to : List ℕ) (old new : Image) : Type 0 where
   pub may : renaming user from to (directory kind old) ≡ Ok tt
   pub changed : Changed kind old new (after_renaming user from to (directory kind old))
   pub moved : IsMoved kind old new user from to
   pub others : OthersAreSame kind old new (IsEither user from to)
+  pub sound : IsSound kind (directory kind new)
 
 abbrev pub StopsRenaming : DiskKind → ℕ → List ℕ → List ℕ → Image → Refusal → Type 0
 StopsRenaming kind user from to old (refusal.Disk why) = renaming user from to (directory kind old) ≡ Err why
@@ -63,13 +67,15 @@ IsRenamed bytes user from to result = Edited bytes (λ kind. Renames kind user f
 
 -- ---- attributes
 
--- An attribute of the files of a user that match a pattern is set or taken away; the rest of them, and every other file, is as before.
+-- An attribute of the files of a user that match a pattern is set or cleared. The rest of these files and every other file are as before,
+-- and the directory keeps its rules.
 pub record Marks (kind : DiskKind) (user : ℕ) (attribute : Attribute) (on : Bool) (pattern : List ℕ) (old new : Image) : Type 0 where
   pub count : ℕ
   pub may : marking user pattern (directory kind old) ≡ Ok count
   pub changed : Changed kind old new (after_marking user pattern attribute on (directory kind old))
   pub marked : (name : List ℕ) → name_matches pattern name ≡ true → IsMarkedFile kind old new user name attribute on
   pub others : OthersAreSame kind old new (IsMatched user pattern)
+  pub sound : IsSound kind (directory kind new)
 
 abbrev pub StopsMarking : DiskKind → ℕ → List ℕ → Image → DiskFault → Type 0
 StopsMarking kind user pattern old why = marking user pattern (directory kind old) ≡ Err why

@@ -7,12 +7,12 @@ use Rattle.cpm_directory.specs.Rules.{IsSound}
 use Rattle.cpm_directory.specs.Searches.{file_is_read_only, file_is_system, is_file, size}
 use Rattle.cpm_directory.specs.declared.entry.Entry.{Entry}
 use Rattle.cpm_directory.specs.declared.fault.DiskFault.{DiskFault}
+use Rattle.cpm_directory.specs.declared.fault.DiskFault.TheVariants as fault
 use Rattle.cpm_operations.specs.Steps.{creation, erasure, writing}
 use Rattle.cpm_operations.specs.declared.placement.Placement.{Placement}
 use Rattle.cpm_disk.specs.Calls.{Changed, Written}
 use Rattle.cpm_disk.specs.Files.{IsFile, OthersAreSame, file_record}
 use Rattle.cpm_disk.specs.Image.{Image, directory}
-use Rattle.cpm_directory.specs.declared.fault.DiskFault.TheVariants as fault
 use Rattle.z80dev_disk.specs.Along.{Along, IsRefusedAlong}
 use Rattle.z80dev_disk.specs.Changes.{Erases}
 use Rattle.z80dev_disk.specs.Disks.{Edited}

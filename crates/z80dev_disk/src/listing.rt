@@ -2,7 +2,6 @@
 
 ghost use Rattle.std.specs.Prelude.{◌≡◌, IfErr, IfOk, IfSome, false, filter, string_bytes};
 ghost use Rattle.std.specs.List.{flat_map};
-ghost use Rattle.cpm_directory.specs.Letters.{name_matches};
 ghost use Rattle.cpm_directory.specs.declared.fault.DiskFault.TheVariants as fault;
 ghost use Rattle.z80dev_finish.specs.Answers.{MemoryAside};
 ghost use Rattle.z80dev_disk.specs.Dir.{IsDir, is_asked, is_named, is_users, line_of, listing, space_line, usage_text};

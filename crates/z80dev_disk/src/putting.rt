@@ -1,6 +1,6 @@
 //! Files that are put on a disk.
 
-ghost use Rattle.std.specs.Prelude.{◌≡◌, ◌<◌, ◌≤◌, All, IfErr, IfOk, MatchOption, OnOk, drop, false, length, map, take, true};
+ghost use Rattle.std.specs.Prelude.{◌≡◌, ◌<◌, ◌≤◌, All, IfErr, MatchOption, OnOk, drop, false, length, map, take, true};
 ghost use Rattle.cpm_directory.specs.declared.entry.TheConstants.{USERS};
 ghost use Rattle.cpm_disk.specs.Files.{IsFile, OthersAreSame};
 ghost use Rattle.cpm_disk.specs.Image.{directory};

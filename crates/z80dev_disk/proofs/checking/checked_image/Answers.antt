@@ -1,5 +1,4 @@
 use Rattle.std.proofs.Common.{IfSome, ◌∙◌, ap, inl, subst, sym}
-use Rattle.cpm_directory.specs.Rules.{AreBroken}
 use Rattle.cpm_disk.specs.Image.{directory}
 use Rattle.z80dev_disk.specs.Check.{checked, first_fault}
 use Rattle.z80dev_disk.specs.Refusals.{Refuses, RefusesNone}

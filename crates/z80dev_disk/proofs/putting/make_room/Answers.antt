@@ -1,4 +1,4 @@
-use Rattle.std.proofs.Common.{◌∙◌, ap, subst, sym}
+use Rattle.std.proofs.Common.{◌∙◌, subst, sym}
 use Rattle.std.proofs.lemmas.Result.{err_from_is_err_and}
 use Rattle.cpm_disk.specs.Image.{directory}
 use Rattle.z80dev_disk.specs.Put.{LacksRoom, MakesRoom}
@@ -17,14 +17,14 @@ pub returns-clause-made : goal.returns-clause-made
 returns-clause-made c =
     let is_so = sym c.is_replaced.ensures ∙ c.if-not-is_replaced.false in
     subst (λ b. MakesRoom b c.args.disk.now.kind c.args.user c.args.name.now c.args.disk.now.device c.erase.new.self.device) (sym is_so)
-    (erased c.args.disk.now c.erase.new.self c.args.user c.of_any_extent.result.name c.args.name.now c.in_ok-erase.field-0 (c.of_any_extent.ensures ∙ c.bytes.ensures.value) c.in_ok-erase.ensures.done c.in_ok-erase.ensures.gone c.in_ok-erase.ensures.others)
+    (erased c.args.disk.now c.erase.new.self c.args.user c.of_any_extent.result.name c.args.name.now c.in_ok-erase.field-0 (c.of_any_extent.ensures ∙ c.bytes.ensures.value) c.in_ok-erase.ensures.done c.in_ok-erase.ensures.gone c.in_ok-erase.ensures.others c.in_ok-erase.ensures.sound)
 
 pub returns-clause-others : goal.returns-clause-others
 returns-clause-others c =
-    let e = erased c.args.disk.now c.erase.new.self c.args.user c.of_any_extent.result.name c.args.name.now c.in_ok-erase.field-0 (c.of_any_extent.ensures ∙ c.bytes.ensures.value) c.in_ok-erase.ensures.done c.in_ok-erase.ensures.gone c.in_ok-erase.ensures.others in
+    let e = erased c.args.disk.now c.erase.new.self c.args.user c.of_any_extent.result.name c.args.name.now c.in_ok-erase.field-0 (c.of_any_extent.ensures ∙ c.bytes.ensures.value) c.in_ok-erase.ensures.done c.in_ok-erase.ensures.gone c.in_ok-erase.ensures.others c.in_ok-erase.ensures.sound in
     erased_alone c.args.disk.now.kind c.args.disk.now.device c.erase.new.self.device c.args.user c.args.name.now c.requires.plain c.bytes.ensures.seven c.bytes.ensures.eleven c.has_names.ensures e.gone e.others
 
 pub returns-clause-gone : goal.returns-clause-gone
 returns-clause-gone c =
-    let e = erased c.args.disk.now c.erase.new.self c.args.user c.of_any_extent.result.name c.args.name.now c.in_ok-erase.field-0 (c.of_any_extent.ensures ∙ c.bytes.ensures.value) c.in_ok-erase.ensures.done c.in_ok-erase.ensures.gone c.in_ok-erase.ensures.others in
+    let e = erased c.args.disk.now c.erase.new.self c.args.user c.of_any_extent.result.name c.args.name.now c.in_ok-erase.field-0 (c.of_any_extent.ensures ∙ c.bytes.ensures.value) c.in_ok-erase.ensures.done c.in_ok-erase.ensures.gone c.in_ok-erase.ensures.others c.in_ok-erase.ensures.sound in
     λ _. no_file c.args.user c.args.name.now (directory c.args.disk.now.kind c.erase.new.self.device) (e.gone c.args.name.now (itself_matches c.args.name.now))
