@@ -4,7 +4,10 @@ use crate::show;
 use anyhow::{Context, anyhow};
 use std::alloc::Global;
 use std::io::Write;
-use z80dev_disk::{Answer, DiskKind, Kind, Name, Refusal, blank, dir, file_name, get, put};
+use z80dev_disk::{
+    Answer, Asked, Attribute, DiskKind, Name, PutFile, Refusal, blank, check_disk, cpm_text, dir,
+    erase, file_name, get, get_all, mark, own_name, pattern_of, put, rename,
+};
 
 /// Where the directory of an eight inch disk begins: after two tracks of 26 sectors.
 const DIRECTORY: usize = 6_656;
@@ -12,6 +15,20 @@ const DIRECTORY: usize = 6_656;
 /// The name that a word is.
 fn name_of(word: &str) -> Result<Name, anyhow::Error> {
     file_name(word).context("no name")
+}
+
+/// The pattern that a word is.
+fn pattern(word: &str) -> Result<[u8; 11], anyhow::Error> {
+    pattern_of(word).context("no pattern")
+}
+
+/// The patterns that words are.
+fn patterns(alloc: Global, words: &str) -> Result<Vec<[u8; 11]>, anyhow::Error> {
+    let mut found = Vec::new(alloc);
+    for word in words.split(' ') {
+        found.push(pattern(word)?)?;
+    }
+    Ok(found)
 }
 
 /// Reports the name that a word is, with its blanks.
@@ -27,6 +44,41 @@ pub(crate) fn report_name<W: Write>(
     }
 }
 
+/// Reports the name that the last part of a path is, with its blanks.
+pub(crate) fn report_own_name<W: Write>(
+    alloc: Global,
+    out: &mut W,
+    row: &str,
+) -> Result<(), anyhow::Error> {
+    let path = String::from_utf8(row_text::written_out(alloc, row)?)?;
+    match own_name(path.as_str()) {
+        Some(name) => show(out, &name.bytes()),
+        None => Ok(write!(out, " none")?),
+    }
+}
+
+/// Reports the pattern that a word is, with its blanks, and whether it has a `?`.
+pub(crate) fn report_pattern<W: Write>(
+    alloc: Global,
+    out: &mut W,
+    row: &str,
+) -> Result<(), anyhow::Error> {
+    let word = String::from_utf8(row_text::written_out(alloc, row)?)?;
+    match pattern_of(word.as_str()) {
+        Some(pattern) if is_wild(&pattern) => {
+            show(out, &pattern)?;
+            Ok(write!(out, " wild")?)
+        }
+        Some(pattern) => show(out, &pattern),
+        None => Ok(write!(out, " none")?),
+    }
+}
+
+/// Prints why a call is refused.
+fn show_refusal<W: Write>(out: &mut W, refusal: Refusal) -> Result<(), anyhow::Error> {
+    Ok(write!(out, " error: {refusal}")?)
+}
+
 /// Prints an answer: what it prints, its files, and its refusal.
 fn show_answer<W: Write>(out: &mut W, answer: &Answer<Refusal>) -> Result<(), anyhow::Error> {
     show(out, &answer.printed)?;
@@ -35,25 +87,23 @@ fn show_answer<W: Write>(out: &mut W, answer: &Answer<Refusal>) -> Result<(), an
         show(out, &file.bytes)?;
     }
     match answer.refusal {
-        Some(refusal) => Ok(write!(out, " {refusal:?}")?),
+        Some(refusal) => show_refusal(out, refusal),
         None => Ok(()),
     }
 }
 
-/// The bytes of an answer's one file, which stands where its path says.
-fn file_of(answer: Answer<Refusal>) -> Result<Vec<u8>, anyhow::Error> {
-    let Answer {
-        mut files,
-        printed,
-        refusal,
-    } = answer;
-    match files.pop() {
-        Some(file)
-            if file.kind == Kind::Given
-                && files.is_empty()
-                && printed.is_empty()
-                && refusal.is_none() => { Ok(file.bytes) }
-        _ => Err(anyhow!("not one file alone")),
+/// Takes a changed image in the place of the one before. A refusal is printed, and leaves the image.
+fn take_image<W: Write>(
+    out: &mut W,
+    image: &mut Vec<u8>,
+    made: Result<Vec<u8>, Refusal>,
+) -> Result<(), anyhow::Error> {
+    match made {
+        Ok(made) => {
+            *image = made;
+            Ok(write!(out, " done")?)
+        }
+        Err(refusal) => show_refusal(out, refusal),
     }
 }
 
@@ -72,92 +122,31 @@ fn image_of(alloc: Global, entries: &str) -> Result<Vec<u8>, anyhow::Error> {
 /// The image that a step begins with, if it is one that makes an image.
 fn made_image(alloc: Global, step: &str, rest: &str) -> Result<Option<Vec<u8>>, anyhow::Error> {
     match step.as_bytes() {
-        b"eight" => Ok(Some(file_of(blank(alloc, DiskKind::EightInch))?)),
-        b"mega" => Ok(Some(file_of(blank(alloc, DiskKind::Megabyte))?)),
+        b"eight" => Ok(Some(blank(alloc, DiskKind::EightInch)?)),
+        b"mega" => Ok(Some(blank(alloc, DiskKind::Megabyte)?)),
         b"bytes" => Ok(Some(vec![in alloc; 0xE5; count_of(rest)?]?)),
         b"entries" => Ok(Some(image_of(alloc, rest)?)),
         _ => Ok(None),
     }
 }
 
-/// Puts a file of the given number of bytes 21H. A refusal is printed, and leaves the image.
-fn put_file<W: Write>(
-    alloc: Global,
-    out: &mut W,
-    image: &mut Vec<u8>,
-    rest: &str,
-) -> Result<(), anyhow::Error> {
-    let (word, count) = rest.split_once(' ').context("no count")?;
-    let file = vec![in alloc; 0x21; count_of(count)?]?;
-    let answer = put(alloc, image, &file, &name_of(word)?);
-    if answer.refusal.is_some() {
-        return show_answer(out, &answer);
-    }
-    *image = file_of(answer)?;
-    Ok(write!(out, " put")?)
+/// The image that the steps of a row have made, and the user whose files they change.
+struct Drive {
+    image: Vec<u8>,
+    user: u8,
 }
 
-/// Puts that many empty files F0, F1 and so on.
-fn put_many<W: Write>(
-    alloc: Global,
-    out: &mut W,
-    image: &mut Vec<u8>,
-    rest: &str,
-) -> Result<(), anyhow::Error> {
-    for number in 0..u32::from_str_radix(rest, 10)? {
-        let word = format!(in alloc; "F{number}")?;
-        *image = file_of(put(alloc, image, &[], &name_of(word.as_str())?))?;
-    }
-    Ok(write!(out, " put")?)
-}
+/// A file of a row: its name, and its bytes.
+type RowFile = (Name, Vec<u8>);
 
-/// Prints that many bytes of an image, from one on.
-fn show_part<W: Write>(out: &mut W, image: &[u8], rest: &str) -> Result<(), anyhow::Error> {
-    let (from, count) = rest.split_once(' ').context("no count")?;
-    let rest = image.get(count_of(from)?..).context("no such byte")?;
-    let part = rest.get(..count_of(count)?).context("too few bytes")?;
-    show(out, part)
-}
-
-/// Carries out a step that asks something of an image.
-fn report_step<W: Write>(
-    alloc: Global,
-    out: &mut W,
-    image: &mut Vec<u8>,
-    step: &str,
-    rest: &str,
-) -> Result<(), anyhow::Error> {
-    match step.as_bytes() {
-        b"put" => put_file(alloc, out, image, rest),
-        b"put-empty" => put_many(alloc, out, image, rest),
-        b"get" => show_answer(out, &get(alloc, image, &name_of(rest)?)),
-        b"dir" => show_answer(out, &dir(alloc, image)),
-        b"whole" => show(out, image),
-        b"size" => Ok(write!(out, " {} bytes", image.len())?),
-        b"at" => show_part(out, image, rest),
-        _ => Err(anyhow!("no such step")),
+/// The files of a row `NAME N NAME N ..`, each of so many bytes 21H.
+fn files_of(alloc: Global, rest: &str) -> Result<Vec<RowFile>, anyhow::Error> {
+    let mut files = Vec::new(alloc);
+    let mut words = rest.split(' ');
+    while let Some(word) = words.next() {
+        let count = words.next().context("no count")?;
+        let bytes = vec![in alloc; 0x21; count_of(count)?]?;
+        files.push((name_of(word)?, bytes))?;
     }
-}
-
-/// Reports the steps of a row, each on the image that the steps before it leave.
-pub(crate) fn report_disk<W: Write>(
-    alloc: Global,
-    out: &mut W,
-    row: &str,
-) -> Result<(), anyhow::Error> {
-    let mut image = Vec::new(alloc);
-    for (number, part) in row.split(" & ").enumerate() {
-        if number != 0 {
-            write!(out, ";")?;
-        }
-        let (step, rest) = part.split_once(' ').unwrap_or((part, ""));
-        match made_image(alloc, step, rest)? {
-            Some(made) => {
-                image = made;
-                write!(out, " {} bytes", image.len())?;
-            }
-            None => report_step(alloc, out, &mut image, step, rest)?,
-        }
-    }
-    Ok(())
+    Ok(files)
 }

@@ -1,8 +1,8 @@
 -- Lists that are joined piece by piece.
-use Rattle.std.proofs.Common.{◌≡◌, ◌≤◌, ℕ, zero, suc, ◌+◌, min, length, take, drop, codes, inl, inr, List, [], ◌∷◌, ◌++◌, refl, sym, ap, ◌∙◌, arith}
+use Rattle.std.proofs.Common.{◌≡◌, ◌<◌, ◌≤◌, ℕ, zero, suc, ◌+◌, min, get_or, length, take, drop, codes, inl, inr, List, [], ◌∷◌, ◌++◌, refl, sym, ap, ◌∙◌, arith}
 use Rattle.std.proofs.lemmas.Bool.{cases_lt}
 use Rattle.std.specs.List.{concat, flat_map, range_with_len}
-use Rattle.std.proofs.lemmas.List.{append_assoc, append-nil, drop_all, length-drop, length-take, take_all}
+use Rattle.std.proofs.lemmas.List.{append_assoc, append-nil, drop_all, flat_map_more, length-drop, length-take, take_all, take_more}
 use borrow.Rule.Slice.PartMut.{mid_of}
 use Rattle.std.proofs.lemmas.List.Concat.{flat_map-cons}
 
@@ -25,6 +25,10 @@ one_more f n =
     let here : 0 + n ≡ n = omega arith in
     ap (λ m. flat_map f (range_with_len 0 m)) next ∙ one_next f 0 n ∙ ap (λ m. flat_map f (range_with_len 0 n) ++ f m) here
 
+-- what a loop makes of the elements that it has taken, and of one more
+pub flat_step : {X : Type 0} (f : X → List ℕ) (xs : List X) (n : ℕ) (x : X) → n < length xs → x ≡ get_or xs n x → flat_map f (take (n + 1) xs) ≡ flat_map f (take n xs) ++ f x
+flat_step f xs n x below is = ap (flat_map f) (take_more xs n x below ∙ ap (λ y. take n xs ++ y ∷ []) (sym is)) ∙ sym (flat_map_more f [] (take n xs) x)
+
 -- what is cut off at the front of what is left
 pub cut_off : (rest : List ℕ) (m : ℕ) → m ≡ min (length rest) 128 → (length (take m rest) ≤ 128) × (take m rest ≡ take 128 rest) × (drop m rest ≡ drop 128 rest)
 cut_off rest m is = elim (cases_lt (length rest) 128) as (λ _. (length (take m rest) ≤ 128) × (take m rest ≡ take 128 rest) × (drop m rest ≡ drop 128 rest)) [
@@ -37,9 +41,14 @@ cut_off rest m is = elim (cases_lt (length rest) 128) as (λ _. (length (take m 
 ]
 
 -- the pieces of a line
-pub line_is : (user name kind records only system : List ℕ) (u n k r o s : List ℕ) → u ≡ user → n ≡ name → k ≡ kind → r ≡ records → o ≡ only → s ≡ system
-    → concat (u ∷ n ∷ codes "." ∷ k ∷ r ∷ o ∷ s ∷ (10 ∷ []) ∷ []) ≡ concat (user ∷ name ∷ codes "." ∷ kind ∷ records ∷ only ∷ system ∷ (10 ∷ []) ∷ [])
-line_is user name kind records only system u n k r o s a b c d e f = rw (a, b, c, d, e, f) refl
+pub line_is : (user name kind records usage only system : List ℕ) (u n k r t o s : List ℕ) → u ≡ user → n ≡ name → k ≡ kind → r ≡ records → t ≡ usage → o ≡ only → s ≡ system
+    → concat (u ∷ n ∷ codes "." ∷ k ∷ r ∷ t ∷ o ∷ s ∷ (10 ∷ []) ∷ []) ≡ concat (user ∷ name ∷ codes "." ∷ kind ∷ records ∷ usage ∷ only ∷ system ∷ (10 ∷ []) ∷ [])
+line_is user name kind records usage only system u n k r t o s a b c d e f g = rw (a, b, c, d, e, f, g) refl
+
+-- .. and of one about an entry
+pub broken_is : (number user name kind rule : List ℕ) (n u a k r : List ℕ) → n ≡ number → u ≡ user → a ≡ name → k ≡ kind → r ≡ rule
+    → concat (n ∷ u ∷ a ∷ codes "." ∷ k ∷ codes " " ∷ r ∷ (10 ∷ []) ∷ []) ≡ concat (number ∷ user ∷ name ∷ codes "." ∷ kind ∷ codes " " ∷ rule ∷ (10 ∷ []) ∷ [])
+broken_is number user name kind rule n u a k r b c d e f = rw (b, c, d, e, f) refl
 
 -- the type of a name
 pub last_three : (name : List ℕ) → length name ≡ 11 → mid_of 8 3 name ≡ drop 8 name

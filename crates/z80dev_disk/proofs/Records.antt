@@ -11,18 +11,18 @@ use Rattle.cpm_disk.specs.Image.{Image, directory, disk_record}
 use Rattle.z80dev_disk.specs.Put.{record_at}
 
 -- The extents of the first n records are full but for the last, and there are no others.
-pub record HoldsFirst (kind : DiskKind) (image : Image) (name file : List ℕ) (n : ℕ) : Type 0 where
-  pub counts : (extent : ℕ) → (extent ≡ 0) ⊎ (128 * extent < n) → count_of kind image 0 name extent ≡ Some (min 128 (n - 128 * extent))
-  pub none : (extent : ℕ) → 0 < extent → n ≤ 128 * extent → count_of kind image 0 name extent ≡ None
-  pub records : (k : ℕ) → k < n → block_record kind image 0 name (k / 128) (k % 128) ≡ Some (record_at file k)
-  pub read_only : file_is_read_only 0 name (directory kind image) ≡ false
-  pub system : file_is_system 0 name (directory kind image) ≡ false
+pub record HoldsFirst (kind : DiskKind) (image : Image) (user : ℕ) (name file : List ℕ) (n : ℕ) : Type 0 where
+  pub counts : (extent : ℕ) → (extent ≡ 0) ⊎ (128 * extent < n) → count_of kind image user name extent ≡ Some (min 128 (n - 128 * extent))
+  pub none : (extent : ℕ) → 0 < extent → n ≤ 128 * extent → count_of kind image user name extent ≡ None
+  pub records : (k : ℕ) → k < n → block_record kind image user name (k / 128) (k % 128) ≡ Some (record_at file k)
+  pub read_only : file_is_read_only user name (directory kind image) ≡ false
+  pub system : file_is_system user name (directory kind image) ≡ false
 
 -- a new file
-pub begins : (kind : DiskKind) (image : Image) (name file : List ℕ) → IsNewFile kind image 0 name → HoldsFirst kind image name file 0
-begins kind image name file new = record {
-  counts = λ extent which. elim which as (λ _. count_of kind image 0 name extent ≡ Some (min 128 (0 - 128 * extent))) [
-    | inl first ↦ (let zero_is : 0 ≡ min 128 (0 - 128 * extent) = omega arith in subst (λ x. count_of kind image 0 name x ≡ Some (min 128 (0 - 128 * extent))) (sym first) (new.first ∙ ap Some zero_is))
+pub begins : (kind : DiskKind) (image : Image) (user : ℕ) (name file : List ℕ) → IsNewFile kind image user name → HoldsFirst kind image user name file 0
+begins kind image user name file new = record {
+  counts = λ extent which. elim which as (λ _. count_of kind image user name extent ≡ Some (min 128 (0 - 128 * extent))) [
+    | inl first ↦ (let zero_is : 0 ≡ min 128 (0 - 128 * extent) = omega arith in subst (λ x. count_of kind image user name x ≡ Some (min 128 (0 - 128 * extent))) (sym first) (new.first ∙ ap Some zero_is))
     | inr less ↦ absurd (omega (arith, less))
   ];
   none = λ extent some _. new.others extent some;
@@ -31,30 +31,30 @@ begins kind image name file new = record {
   system = new.system;
 }
 
-module _ (kind : DiskKind) (old new : Image) (name file : List ℕ) (n : ℕ) (was : HoldsFirst kind old name file n) (has : HasRecord kind old new 0 name n (record_at file n)) where
+module _ (kind : DiskKind) (old new : Image) (user : ℕ) (name file : List ℕ) (n : ℕ) (was : HoldsFirst kind old user name file n) (has : HasRecord kind old new user name n (record_at file n)) where
   -- how many records the extent had
-  before : unwrap_or (count_of kind old 0 name (n / 128)) 0 ≡ n % 128
-  before = elim (cases_lt (128 * (n / 128)) n) as (λ _. unwrap_or (count_of kind old 0 name (n / 128)) 0 ≡ n % 128) [
+  before : unwrap_or (count_of kind old user name (n / 128)) 0 ≡ n % 128
+  before = elim (cases_lt (128 * (n / 128)) n) as (λ _. unwrap_or (count_of kind old user name (n / 128)) 0 ≡ n % 128) [
     | inl less ↦ (let left : min 128 (n - 128 * (n / 128)) ≡ n % 128 = omega arith in ap (λ o. unwrap_or o 0) (was.counts (n / 128) (inr less)) ∙ left)
     | inr full ↦ at_end (cases_eq (n / 128) 0) full
   ]
     where
-      at_end : (n / 128 ≡ 0) ⊎ (n / 128 ≡ 0 → ⊥) → n ≤ 128 * (n / 128) → unwrap_or (count_of kind old 0 name (n / 128)) 0 ≡ n % 128
+      at_end : (n / 128 ≡ 0) ⊎ (n / 128 ≡ 0 → ⊥) → n ≤ 128 * (n / 128) → unwrap_or (count_of kind old user name (n / 128)) 0 ≡ n % 128
       at_end (inl first) full = let left : min 128 (n - 128 * (n / 128)) ≡ n % 128 = omega (arith, first, full) in ap (λ o. unwrap_or o 0) (was.counts (n / 128) (inl first)) ∙ left
       at_end (inr later) full =
           let some : 0 < n / 128 = elim (cases_lt 0 (n / 128)) [ inl less ↦ less | inr none ↦ absurd (later (omega (arith, none))) ] in
           let ends : 0 ≡ n % 128 = omega (arith, full) in
           ap (λ o. unwrap_or o 0) (was.none (n / 128) some full) ∙ ends
 
-  counts_after : (extent : ℕ) → (extent ≡ 0) ⊎ (128 * extent < n + 1) → count_of kind new 0 name extent ≡ Some (min 128 (n + 1 - 128 * extent))
-  counts_after extent which = elim (cases_eq extent (n / 128)) as (λ _. count_of kind new 0 name extent ≡ Some (min 128 (n + 1 - 128 * extent))) [
+  counts_after : (extent : ℕ) → (extent ≡ 0) ⊎ (128 * extent < n + 1) → count_of kind new user name extent ≡ Some (min 128 (n + 1 - 128 * extent))
+  counts_after extent which = elim (cases_eq extent (n / 128)) as (λ _. count_of kind new user name extent ≡ Some (min 128 (n + 1 - 128 * extent))) [
     | inl this ↦ (
-        let grown : max (unwrap_or (count_of kind old 0 name (n / 128)) 0) (n % 128 + 1) ≡ min 128 (n + 1 - 128 * (n / 128)) = omega (arith, before) in
-        subst (λ x. count_of kind new 0 name x ≡ Some (min 128 (n + 1 - 128 * x))) (sym this) (has.count ∙ ap Some grown))
+        let grown : max (unwrap_or (count_of kind old user name (n / 128)) 0) (n % 128 + 1) ≡ min 128 (n + 1 - 128 * (n / 128)) = omega (arith, before) in
+        subst (λ x. count_of kind new user name x ≡ Some (min 128 (n + 1 - 128 * x))) (sym this) (has.count ∙ ap Some grown))
     | inr other ↦ has.counts extent other ∙ kept which other
   ]
     where
-      kept : (extent ≡ 0) ⊎ (128 * extent < n + 1) → (extent ≡ n / 128 → ⊥) → count_of kind old 0 name extent ≡ Some (min 128 (n + 1 - 128 * extent))
+      kept : (extent ≡ 0) ⊎ (128 * extent < n + 1) → (extent ≡ n / 128 → ⊥) → count_of kind old user name extent ≡ Some (min 128 (n + 1 - 128 * extent))
       kept (inl first) other =
           let long : 128 ≤ n = elim (cases_lt n 128) [ inl short ↦ absurd (other (omega (arith, first, short))) | inr long ↦ long ] in
           let same : min 128 (n - 128 * extent) ≡ min 128 (n + 1 - 128 * extent) = omega (arith, first, long) in
@@ -64,28 +64,28 @@ module _ (kind : DiskKind) (old new : Image) (name file : List ℕ) (n : ℕ) (w
           let same : min 128 (n - 128 * extent) ≡ min 128 (n + 1 - 128 * extent) = omega (arith, within) in
           was.counts extent (inr (omega (arith, within))) ∙ ap Some same
 
-  records_after : (k : ℕ) → k < n + 1 → block_record kind new 0 name (k / 128) (k % 128) ≡ Some (record_at file k)
-  records_after k below = elim (cases_eq k n) as (λ _. block_record kind new 0 name (k / 128) (k % 128) ≡ Some (record_at file k)) [
-    | inl this ↦ subst (λ x. block_record kind new 0 name (x / 128) (x % 128) ≡ Some (record_at file x)) (sym this) has.here
+  records_after : (k : ℕ) → k < n + 1 → block_record kind new user name (k / 128) (k % 128) ≡ Some (record_at file k)
+  records_after k below = elim (cases_eq k n) as (λ _. block_record kind new user name (k / 128) (k % 128) ≡ Some (record_at file k)) [
+    | inl this ↦ subst (λ x. block_record kind new user name (x / 128) (x % 128) ≡ Some (record_at file x)) (sym this) has.here
     | inr other ↦ (
         let less : k < n = elim (cases_lt k n) [ inl less ↦ less | inr more ↦ absurd (other (omega (arith, below, more))) ] in
         beside less other (was.records k less) (cases_eq (k / 128) (n / 128)) (cases_eq (k % 128 / block_records kind) (n % 128 / block_records kind)))
   ]
     where
-      beside : k < n → (k ≡ n → ⊥) → block_record kind old 0 name (k / 128) (k % 128) ≡ Some (record_at file k) → (k / 128 ≡ n / 128) ⊎ (k / 128 ≡ n / 128 → ⊥)
+      beside : k < n → (k ≡ n → ⊥) → block_record kind old user name (k / 128) (k % 128) ≡ Some (record_at file k) → (k / 128 ≡ n / 128) ⊎ (k / 128 ≡ n / 128 → ⊥)
           → (k % 128 / block_records kind ≡ n % 128 / block_records kind) ⊎ (k % 128 / block_records kind ≡ n % 128 / block_records kind → ⊥)
-          → block_record kind new 0 name (k / 128) (k % 128) ≡ Some (record_at file k)
+          → block_record kind new user name (k / 128) (k % 128) ≡ Some (record_at file k)
       beside less other held (inl extent) (inl group) =
-          let here : block_record kind old 0 name (n / 128) (k % 128) ≡ Some (record_at file k) = subst (λ x. block_record kind old 0 name x (k % 128) ≡ Some (record_at file k)) extent held in
+          let here : block_record kind old user name (n / 128) (k % 128) ≡ Some (record_at file k) = subst (λ x. block_record kind old user name x (k % 128) ≡ Some (record_at file k)) extent held in
           let apart : k % 128 ≡ n % 128 → ⊥ = λ same. other (omega (arith, extent, same)) in
-          subst (λ x. block_record kind new 0 name x (k % 128) ≡ Some (record_at file k)) (sym extent) (has.block (k % 128) (omega arith) apart group ∙ ap (λ o. Some (unwrap_or o (replicate 128 0))) here)
+          subst (λ x. block_record kind new user name x (k % 128) ≡ Some (record_at file k)) (sym extent) (has.block (k % 128) (omega arith) apart group ∙ ap (λ o. Some (unwrap_or o (replicate 128 0))) here)
       beside less other held (inl extent) (inr group) =
-          let here : block_record kind old 0 name (n / 128) (k % 128) ≡ Some (record_at file k) = subst (λ x. block_record kind old 0 name x (k % 128) ≡ Some (record_at file k)) extent held in
-          subst (λ x. block_record kind new 0 name x (k % 128) ≡ Some (record_at file k)) (sym extent) (has.extent (k % 128) (omega arith) group ∙ here)
+          let here : block_record kind old user name (n / 128) (k % 128) ≡ Some (record_at file k) = subst (λ x. block_record kind old user name x (k % 128) ≡ Some (record_at file k)) extent held in
+          subst (λ x. block_record kind new user name x (k % 128) ≡ Some (record_at file k)) (sym extent) (has.extent (k % 128) (omega arith) group ∙ here)
       beside less other held (inr extent) group = has.records (k / 128) (k % 128) extent (omega arith) ∙ held
 
   -- one record more
-  pub goes_on : HoldsFirst kind new name file (n + 1)
+  pub goes_on : HoldsFirst kind new user name file (n + 1)
   goes_on = record {
     counts = counts_after;
     none = λ extent some past. has.counts extent (λ same. let h = same in absurd (omega (arith, past, h))) ∙ was.none extent some (omega (arith, past));
@@ -114,25 +114,25 @@ not_there f None e = refl
 not_there f (Some e) is = absurd cc
 
 -- the records that are there
-pub all_records : (kind : DiskKind) (image : Image) (name file : List ℕ) (n : ℕ) → HoldsFirst kind image name file n → (k : ℕ) → file_record kind image 0 name k ≡ (if nat_lt k n then Some (record_at file k) else None)
-all_records kind image name file n holds k = elim (cases_lt k n) as (λ _. file_record kind image 0 name k ≡ (if nat_lt k n then Some (record_at file k) else None)) [
+pub all_records : (kind : DiskKind) (image : Image) (user : ℕ) (name file : List ℕ) (n : ℕ) → HoldsFirst kind image user name file n → (k : ℕ) → file_record kind image user name k ≡ (if nat_lt k n then Some (record_at file k) else None)
+all_records kind image user name file n holds k = elim (cases_lt k n) as (λ _. file_record kind image user name k ≡ (if nat_lt k n then Some (record_at file k) else None)) [
   | inl less ↦ (
       let within : k % 128 < min 128 (n - 128 * (k / 128)) = omega (arith, less) in
       there kind image (k % 128) (min 128 (n - 128 * (k / 128))) found (holds.counts (k / 128) (inr (omega (arith, less))))
-      ∙ ap (λ b. if b then block_record kind image 0 name (k / 128) (k % 128) else None) (lt-ltb (k % 128) (min 128 (n - 128 * (k / 128))) within)
+      ∙ ap (λ b. if b then block_record kind image user name (k / 128) (k % 128) else None) (lt-ltb (k % 128) (min 128 (n - 128 * (k / 128))) within)
       ∙ holds.records k less ∙ ap (λ b. if b then Some (record_at file k) else None) (sym (lt-ltb k n less)))
   | inr past ↦ beyond past (cases_eq (k / 128) 0) (cases_lt (128 * (k / 128)) n) ∙ ap (λ b. if b then Some (record_at file k) else None) (sym (le-ltb k n past))
 ]
   where
     found : Option Entry
-    found = find (is_extent_of 0 name (k / 128)) (directory kind image)
+    found = find (is_extent_of user name (k / 128)) (directory kind image)
 
-    short : n ≤ k → count_of kind image 0 name (k / 128) ≡ Some (min 128 (n - 128 * (k / 128))) → file_record kind image 0 name k ≡ None
+    short : n ≤ k → count_of kind image user name (k / 128) ≡ Some (min 128 (n - 128 * (k / 128))) → file_record kind image user name k ≡ None
     short past count =
         there kind image (k % 128) (min 128 (n - 128 * (k / 128))) found count
-        ∙ ap (λ b. if b then block_record kind image 0 name (k / 128) (k % 128) else None) (le-ltb (k % 128) (min 128 (n - 128 * (k / 128))) (omega (arith, past)))
+        ∙ ap (λ b. if b then block_record kind image user name (k / 128) (k % 128) else None) (le-ltb (k % 128) (min 128 (n - 128 * (k / 128))) (omega (arith, past)))
 
-    beyond : n ≤ k → (k / 128 ≡ 0) ⊎ (k / 128 ≡ 0 → ⊥) → (128 * (k / 128) < n) ⊎ (n ≤ 128 * (k / 128)) → file_record kind image 0 name k ≡ None
+    beyond : n ≤ k → (k / 128 ≡ 0) ⊎ (k / 128 ≡ 0 → ⊥) → (128 * (k / 128) < n) ⊎ (n ≤ 128 * (k / 128)) → file_record kind image user name k ≡ None
     beyond past (inl first) which = short past (holds.counts (k / 128) (inl first))
     beyond past (inr later) (inl less) = short past (holds.counts (k / 128) (inr less))
     beyond past (inr later) (inr full) =

@@ -1,5 +1,5 @@
 -- Why a command is refused.
-use Rattle.std.proofs.Common.{◌≡◌, ℕ, List, Result, Ok, Err, IfSome, length, refl, sym, subst, inl, inr, arith}
+use Rattle.std.proofs.Common.{◌≡◌, ◌⊎◌, ℕ, List, Result, Ok, Err, IfSome, length, refl, inl, inr, arith}
 use Rattle.cpm_image.specs.Image.{IsImageOf}
 use Rattle.cpm_image.specs.Kind.{IsDiskSize, sector_count}
 use Rattle.cpm_image.specs.declared.fault.ImageFault.{ImageFault}
@@ -12,15 +12,14 @@ use Rattle.cpm_disk.specs.Image.{Image}
 use Rattle.cpm_disk.specs.Mounting.{IsMountFault, RefusesMount}
 use Rattle.z80dev_finish.specs.Answers as finish
 use Rattle.z80dev_finish.specs.declared.answer.Answer as made
-use Rattle.z80dev_disk.specs.Disks.{UnlessMemory, IsDisk, IsNoDisk, OfDisk, refused}
+use Rattle.z80dev_disk.specs.Disks.{Edited, IsDisk, IsNoDisk, OfDisk, UnlessMemory, refused}
 use Rattle.z80dev_disk.specs.Private.{IsAnswered, answer_at, refusal_at}
-use Rattle.z80dev_disk.specs.Put.{IsPut, IsStopped}
-use Rattle.z80dev_disk.specs.Refusals.{Refuses, RefusesDir, RefusesPut, of_disk, of_image}
+use Rattle.z80dev_disk.specs.Refusals.{Refuses, RefusesNone, WithName, of_disk, of_image}
 use Rattle.z80dev_disk.specs.declared.refusal.Refusal.{Refusal}
 use Rattle.z80dev_disk.specs.declared.refusal.Refusal.TheVariants as refusal
 
 -- bytes that are no image
-pub no_image : (stored : List ℕ) (why : ImageFault) → IsImageOf stored (Err why) → Refuses RefusesDir (of_image why) × UnlessMemory (IsNoDisk stored) (of_image why)
+pub no_image : (stored : List ℕ) (why : ImageFault) → IsImageOf stored (Err why) → Refuses RefusesNone (of_image why) × UnlessMemory (IsNoDisk stored) (of_image why)
 no_image stored bytes.NoMemory is = (tt, tt)
 no_image stored bytes.NotSectors is = (tt, is)
 no_image stored bytes.TooLong is = (tt, is)
@@ -30,7 +29,7 @@ size_of EightInch n is = inl is
 size_of Megabyte n is = inr is
 
 -- an image that is not mounted
-pub no_disk : (stored : List ℕ) (image : Image) (why : DiskFault) → IsImageOf stored (Ok image) → IsMountFault image 0 0 why → RefusesMount why → Refuses RefusesDir (of_disk why) × UnlessMemory (IsNoDisk stored) (of_disk why)
+pub no_disk : (stored : List ℕ) (image : Image) (why : DiskFault) → IsImageOf stored (Ok image) → IsMountFault image 0 0 why → RefusesMount why → Refuses RefusesNone (of_disk why) × UnlessMemory (IsNoDisk stored) (of_disk why)
 no_disk stored image fault.BadEntry is (same, (kind, count, first)) rule = (inl tt, (kind, image, is, count, first))
 no_disk stored image fault.BlockRange is (same, (kind, count, first)) rule = (inl tt, (kind, image, is, count, first))
 no_disk stored image fault.BlockTwice is (same, (kind, count, first)) rule = (inl tt, (kind, image, is, count, first))
@@ -49,27 +48,57 @@ no_disk stored image fault.NoExtent is first rule = absurd rule
 no_disk stored image fault.Failed is first rule = absurd rule
 no_disk stored image fault.TooFar is first rule = absurd rule
 
+-- This holds of a refusal, also where memory may have run out.
+pub unless_memory : (Holds : Refusal → Type 0) (why : Refusal) → Holds why → UnlessMemory Holds why
+unless_memory Holds refusal.BadName is = is
+unless_memory Holds (refusal.BadFile name) is = is
+unless_memory Holds (refusal.Image why) is = is
+unless_memory Holds (refusal.Disk why) is = is
+unless_memory Holds (refusal.Named why name) is = is
+unless_memory Holds refusal.NoMemory is = tt
+
 -- What refuses bytes refuses each command on them.
-pub of_bytes : (Of : DiskFault → Type 0) (Says : _) (stored : List ℕ) (why : Refusal) → Refuses RefusesDir why × UnlessMemory (IsNoDisk stored) why → Refuses Of why × UnlessMemory (λ w. OfDisk stored Says (refused w)) why
-of_bytes Of Says stored refusal.BadName (refuses, is) = absurd refuses
-of_bytes Of Says stored (refusal.Image why) (refuses, is) = (tt, inr (refusal.Image why, is, refl))
-of_bytes Of Says stored (refusal.Disk why) (inl rule, is) = (inl rule, inr (refusal.Disk why, is, refl))
-of_bytes Of Says stored (refusal.Disk why) (inr none, is) = absurd none
-of_bytes Of Says stored refusal.NoMemory (refuses, is) = (tt, tt)
+pub of_bytes : (Own : Refusal → Type 0) (Says : _) (stored : List ℕ) (why : Refusal) → Refuses RefusesNone why × UnlessMemory (IsNoDisk stored) why → Refuses Own why × UnlessMemory (λ w. OfDisk stored Says (refused w)) why
+of_bytes Own Says stored refusal.BadName (refuses, is) = absurd refuses
+of_bytes Own Says stored (refusal.BadFile name) (refuses, is) = absurd refuses
+of_bytes Own Says stored (refusal.Image why) (refuses, is) = (tt, inr (refusal.Image why, is, refl))
+of_bytes Own Says stored (refusal.Disk why) (inl rule, is) = (inl rule, inr (refusal.Disk why, is, refl))
+of_bytes Own Says stored (refusal.Disk why) (inr none, is) = absurd none
+of_bytes Own Says stored (refusal.Named why name) (refuses, is) = absurd refuses
+of_bytes Own Says stored refusal.NoMemory (refuses, is) = (tt, tt)
 
 -- how a command ends, as an answer
-pub answers : (Of : DiskFault → Type 0) (Is : finish.Answer → Type 0) (r : Result (made.Answer Refusal) Refusal) → IsAnswered Of Is r → finish.MemoryAside Is (answer_at r) × IfSome (refusal_at r) (Refuses Of)
-answers Of Is (Ok answer) (none, is) = (inr is, subst (λ o. IfSome o (Refuses Of)) (sym none) tt)
-answers Of Is (Err refusal.BadName) (refuses, is) = absurd refuses
-answers Of Is (Err (refusal.Image why)) (refuses, is) = (inr is, refuses)
-answers Of Is (Err (refusal.Disk why)) (refuses, is) = (inr is, refuses)
-answers Of Is (Err refusal.NoMemory) (refuses, is) = (inl refl, refuses)
+pub answers : (Own : Refusal → Type 0) (Is : finish.Answer → Type 0) (r : Result (made.Answer Refusal) Refusal) → IsAnswered Own Is r → finish.MemoryAside Is (answer_at r) × IfSome (refusal_at r) (Refuses Own)
+answers Own Is (Ok answer) (refuses, is) = (inr is, refuses)
+answers Own Is (Err refusal.BadName) (refuses, is) = (inr is, refuses)
+answers Own Is (Err (refusal.BadFile name)) (refuses, is) = (inr is, refuses)
+answers Own Is (Err (refusal.Image why)) (refuses, is) = (inr is, refuses)
+answers Own Is (Err (refusal.Disk why)) (refuses, is) = (inr is, refuses)
+answers Own Is (Err (refusal.Named why name)) (refuses, is) = (inr is, refuses)
+answers Own Is (Err refusal.NoMemory) (refuses, is) = (inl refl, refuses)
 
--- a file that is not put
-pub not_put : (stored file name : List ℕ) (kind : DiskKind) (old : Image) (why : DiskFault) → IsDisk stored kind old → IsStopped kind old name file why
-    → Refuses RefusesPut (of_disk why) × UnlessMemory (λ w. IsPut stored file name (refused w)) (of_disk why)
-not_put stored file name kind old fault.Exists disk is = (inr tt, inl (kind, old, disk, inr (fault.Exists, is, refl)))
-not_put stored file name kind old fault.DirectoryFull disk is = (inr tt, inl (kind, old, disk, inr (fault.DirectoryFull, is, refl)))
-not_put stored file name kind old fault.DiskFull disk is = (inr tt, inl (kind, old, disk, inr (fault.DiskFull, is, refl)))
-not_put stored file name kind old fault.TooFar disk is = (inr tt, inl (kind, old, disk, inr (fault.TooFar, is, refl)))
-not_put stored file name kind old _ disk is = absurd is.0
+-- ---- changes
+
+-- .. and each change of them.
+pub no_edit : (Own : Refusal → Type 0) (Does : DiskKind → Image → Image → Type 0) (Stops : DiskKind → Image → Refusal → Type 0) (stored : List ℕ) (why : Refusal)
+    → Refuses RefusesNone why × UnlessMemory (IsNoDisk stored) why → Refuses Own why × Edited stored Does Stops (Err why)
+no_edit Own Does Stops stored refusal.BadName (refuses, is) = absurd refuses
+no_edit Own Does Stops stored (refusal.BadFile name) (refuses, is) = absurd refuses
+no_edit Own Does Stops stored (refusal.Image why) (refuses, is) = (tt, inl is)
+no_edit Own Does Stops stored (refusal.Disk why) (inl rule, is) = (inl rule, inl is)
+no_edit Own Does Stops stored (refusal.Disk why) (inr none, is) = absurd none
+no_edit Own Does Stops stored (refusal.Named why name) (refuses, is) = absurd refuses
+no_edit Own Does Stops stored refusal.NoMemory (refuses, is) = (tt, tt)
+
+-- a change that is refused by the disk
+pub stopped_edit : (Does : DiskKind → Image → Image → Type 0) (Stops : DiskKind → Image → Refusal → Type 0) (stored : List ℕ) (kind : DiskKind) (old : Image) (why : Refusal) → IsDisk stored kind old → Stops kind old why → Edited stored Does Stops (Err why)
+stopped_edit Does Stops stored kind old why disk stops = unless_memory (λ w. IsNoDisk stored w ⊎ ((k : DiskKind) × (image : Image) × IsDisk stored k image × Stops k image w)) why (inr (kind, old, disk, stops))
+
+-- what is refused by name
+pub by_name : (Of : DiskFault → Type 0) (why : Refusal) → WithName Of why → Refuses (WithName Of) why
+by_name Of refusal.BadName is = is
+by_name Of (refusal.BadFile name) is = is
+by_name Of (refusal.Image why) is = absurd is
+by_name Of (refusal.Disk why) is = absurd is
+by_name Of (refusal.Named why name) is = is
+by_name Of refusal.NoMemory is = absurd is

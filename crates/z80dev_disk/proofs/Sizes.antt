@@ -5,6 +5,7 @@ use Rattle.std.proofs.lemmas.Bool.{and_parts, and_from, cases_eq, cases_lt}
 use Rattle.std.proofs.lemmas.List.Folds.{list_any_at}
 use Rattle.cpm_image.specs.declared.kind.DiskKind.{DiskKind}
 use Rattle.cpm_directory.specs.declared.entry.Entry.{Entry}
+use Rattle.cpm_directory.specs.declared.entry.TheConstants.{USERS}
 use Rattle.cpm_directory.specs.Entries.{at, blank, extent_number, is_extent_of, is_of, record_end}
 use Rattle.cpm_directory.specs.Rules.{IsSound}
 use Rattle.cpm_directory.specs.Searches.{is_file, size}
@@ -44,28 +45,28 @@ no_more p f (x ∷ xs) a n start each = kept (p x) (each 0 (omega arith)) (λ c 
     kept true first rest = rest (max a (f x)) (let h = first refl in omega (arith, h, start))
     kept false first rest = rest a start
 
-module _ (kind : DiskKind) (image : Image) (name file : List ℕ) (n : ℕ) (sound : IsSound kind (directory kind image)) (holds : HoldsFirst kind image name file n) where
+module _ (kind : DiskKind) (image : Image) (user : ℕ) (name file : List ℕ) (n : ℕ) (low : user < USERS) (sound : IsSound kind (directory kind image)) (holds : HoldsFirst kind image user name file n) where
   abbrev pub entries : List Entry
   entries = directory kind image
 
   -- the entry of an extent that is there
-  entry_at : (extent c : ℕ) (o : Option Entry) → o ≡ find (is_extent_of 0 name extent) entries → option_map (λ e. e.records) o ≡ Some c
-      → (k : ℕ) × (k < length entries) × (is_of 0 name (at entries k) ≡ true) × (record_end (at entries k) ≡ 128 * extent + c)
+  entry_at : (extent c : ℕ) (o : Option Entry) → o ≡ find (is_extent_of user name extent) entries → option_map (λ e. e.records) o ≡ Some c
+      → (k : ℕ) × (k < length entries) × (is_of user name (at entries k) ≡ true) × (record_end (at entries k) ≡ 128 * extent + c)
   entry_at extent c None found is = absurd cc
   entry_at extent c (Some e) found is =
       let count : e.records ≡ c = cc in
-      let (k, below, is_at, passes) = found_at (is_extent_of 0 name extent) entries e (sym found) in
-      let parts = and_parts (is_of 0 name e) (extent_number e == extent) passes in
+      let (k, below, is_at, passes) = found_at (is_extent_of user name extent) entries e (sym found) in
+      let parts = and_parts (is_of user name e) (extent_number e == extent) passes in
       let number : extent_number e ≡ extent = eqb-true (extent_number e) extent parts.1 in
       let ends : record_end e ≡ 128 * extent + c = omega (arith, number, count) in
-      (k, below, subst (λ x. is_of 0 name x ≡ true) is_at parts.0, subst (λ x. record_end x ≡ 128 * extent + c) is_at ends)
+      (k, below, subst (λ x. is_of user name x ≡ true) is_at parts.0, subst (λ x. record_end x ≡ 128 * extent + c) is_at ends)
 
   -- no entry goes beyond
-  within : (k : ℕ) → k < length entries → is_of 0 name (at entries k) ≡ true → record_end (at entries k) ≤ n
+  within : (k : ℕ) → k < length entries → is_of user name (at entries k) ≡ true → record_end (at entries k) ≤ n
   within k below of = go (extent_number (at entries k)) refl
     where
-      counted : (x : ℕ) → extent_number (at entries k) ≡ x → count_of kind image 0 name x ≡ Some (at entries k).records
-      counted x is = ap (option_map (λ e. e.records)) (extent_found kind entries 0 name x k (omega arith) sound below (and_from (is_of 0 name (at entries k)) (extent_number (at entries k) == x) of (eq-eqb (extent_number (at entries k)) x is)))
+      counted : (x : ℕ) → extent_number (at entries k) ≡ x → count_of kind image user name x ≡ Some (at entries k).records
+      counted x is = ap (option_map (λ e. e.records)) (extent_found kind entries user name x k low sound below (and_from (is_of user name (at entries k)) (extent_number (at entries k) == x) of (eq-eqb (extent_number (at entries k)) x is)))
 
       full : (x : ℕ) → extent_number (at entries k) ≡ x → (x ≡ 0) ⊎ (128 * x < n) → record_end (at entries k) ≤ n
       full x is which =
@@ -85,24 +86,24 @@ module _ (kind : DiskKind) (image : Image) (name file : List ℕ) (n : ℕ) (sou
         ]
       ]
 
-  pub there : is_file 0 name entries ≡ true
-  there = let (k, below, of, ends) = entry_at 0 _ _ refl (holds.counts 0 (inl refl)) in list_any_at (is_of 0 name) entries k blank below of
+  pub there : is_file user name entries ≡ true
+  there = let (k, below, of, ends) = entry_at 0 _ _ refl (holds.counts 0 (inl refl)) in list_any_at (is_of user name) entries k blank below of
 
-  reached : n ≤ fold max 0 (map record_end (filter (is_of 0 name) entries))
+  reached : n ≤ fold max 0 (map record_end (filter (is_of user name) entries))
   reached = elim (cases_lt 0 n) [
     | inl some ↦ (
         let last = (n - 1) / 128 in
         let less : 128 * last < n = omega (arith, some) in
         let (k, below, of, ends) = entry_at last _ _ refl (holds.counts last (inr less)) in
-        let most = each_counts (is_of 0 name) record_end entries 0 k below of in
+        let most = each_counts (is_of user name) record_end entries 0 k below of in
         let all : 128 * last + min 128 (n - 128 * last) ≡ n = omega (arith, some) in
         omega (arith, most, ends, all))
     | inr none ↦ omega (arith, none)
   ]
 
   -- the size is the count of the records
-  pub size_is : size 0 name entries ≡ Some n
+  pub size_is : size user name entries ≡ Some n
   size_is =
-      let most = no_more (is_of 0 name) record_end entries 0 n (omega arith) within in
-      let exact : fold max 0 (map record_end (filter (is_of 0 name) entries)) ≡ n = omega (arith, most, reached) in
-      ap (λ b. if b then Some (fold max 0 (map record_end (filter (is_of 0 name) entries))) else None) there ∙ ap Some exact
+      let most = no_more (is_of user name) record_end entries 0 n (omega arith) within in
+      let exact : fold max 0 (map record_end (filter (is_of user name) entries)) ≡ n = omega (arith, most, reached) in
+      ap (λ b. if b then Some (fold max 0 (map record_end (filter (is_of user name) entries))) else None) there ∙ ap Some exact

@@ -2,7 +2,7 @@
 use Rattle.std.proofs.Common.{◌≡◌, ℕ, ◌+◌, ◌-◌, ◌==◌, ◌<◌, true, false, List, [], ◌∷◌, ◌++◌, cond, length, take, reverse, get_or, sym, ap, ◌∙◌, arith}
 use Rattle.std.specs.List.{prefix_len}
 use Rattle.std.proofs.lemmas.List.{length-append, reverse-append, take-append-le, take_all, take_more}
-use Rattle.z80dev_disk.specs.Dir.{trimmed}
+use Rattle.z80dev_disk.specs.Names.{trimmed}
 
 -- how many blanks stand at the end of a part with one byte more
 behind : (xs : List ℕ) (b : ℕ) → prefix_len (λ c. c == 0x20) (reverse (xs ++ b ∷ [])) ≡ cond (b == 0x20) (1 + prefix_len (λ c. c == 0x20) (reverse xs)) 0

@@ -1,32 +1,22 @@
 -- A record that is not read is not there.
-use Rattle.std.proofs.Common.{◌≡◌, ◌<◌, ◌/◌, ◌%◌, ◌==◌, ℕ, true, false, ◌&&◌, not, List, [], ◌∷◌, Option, Some, None, Ok, Err, find, nat_lt, option_and_then, refl, sym, ap, ◌∙◌, true≢false, inl, inr, if◌then◌else◌, lt-ltb}
-use Rattle.std.specs.List.{list_any}
+use Rattle.std.proofs.Common.{◌≡◌, ◌<◌, ◌/◌, ◌%◌, ℕ, true, false, not, List, Option, Some, None, Ok, Err, find, nat_lt, option_and_then, refl, sym, ap, ◌∙◌, inl, inr, if◌then◌else◌, lt-ltb}
 use Rattle.std.proofs.lemmas.Bool.{cases_Bool}
 use Rattle.cpm_image.specs.Kind.{file_records}
 use Rattle.cpm_image.specs.declared.kind.DiskKind.{DiskKind}
 use Rattle.cpm_directory.specs.declared.entry.Entry.{Entry}
 use Rattle.cpm_directory.specs.declared.fault.DiskFault.{DiskFault}
 use Rattle.cpm_directory.specs.declared.fault.DiskFault.TheVariants as fault
-use Rattle.cpm_directory.specs.Entries.{extent_number, has_record, is_extent_of, is_of, place_on_disk}
+use Rattle.cpm_directory.specs.Entries.{has_record, is_extent_of, place_on_disk}
 use Rattle.cpm_directory.specs.Searches.{is_file}
 use Rattle.cpm_operations.specs.Steps.{◌>>=◌, given, reading, unless, written_place}
 use Rattle.cpm_disk.specs.Calls.{Mounted}
 use Rattle.cpm_disk.specs.Files.{file_record, in_block}
 use Rattle.cpm_disk.specs.Image.{Image, directory}
 use Rattle.cpm_disk.specs.Operations.{IsRead}
-use Rattle.z80dev_disk.proofs.On_the_way.{itself, never, never_risen}
+use Rattle.z80dev_disk.proofs.Memory.{itself, never, refused_by}
+use Rattle.z80dev_disk.proofs.Others.{no_extent}
 
--- without an entry of the file there is no extent of it
-no_extent : (user : ℕ) (name : List ℕ) (number : ℕ) (xs : List Entry) → list_any (is_of user name) xs ≡ false → find (is_extent_of user name number) xs ≡ None
-no_extent user name number [] none = refl
-no_extent user name number (x ∷ xs) none = elim (cases_Bool (is_of user name x)) as (λ _. find (is_extent_of user name number) (x ∷ xs) ≡ None) [
-  | inl is ↦ (let any = rw is at none in absurd cc)
-  | inr other ↦ (
-      let rest : list_any (is_of user name) xs ≡ false = rw other at none in
-      ap (λ b. if b && (extent_number x == number) then Some x else find (is_extent_of user name number) xs) other ∙ no_extent user name number xs rest)
-]
-
-module _ (kind : DiskKind) (image : Image) (name : List ℕ) (number : ℕ) where
+module _ (kind : DiskKind) (image : Image) (user : ℕ) (name : List ℕ) (number : ℕ) where
   of_extent : (o : Option Entry) (why : DiskFault) → (given o fault.NoExtent >>= written_place kind (number % 128)) ≡ Err why → option_and_then (λ e. if has_record kind e (number % 128) then in_block kind image (number % 128) e else None) o ≡ None
   of_extent None why is = refl
   of_extent (Some e) why is = elim (cases_Bool (has_record kind e (number % 128))) as (λ _. (if has_record kind e (number % 128) then in_block kind image (number % 128) e else None) ≡ None) [
@@ -34,18 +24,16 @@ module _ (kind : DiskKind) (image : Image) (name : List ℕ) (number : ℕ) wher
     | inr without ↦ ap (λ b. if b then in_block kind image (number % 128) e else None) without
   ]
 
-  unread : (why : DiskFault) → number < file_records kind → reading kind 0 name number (directory kind image) ≡ Err why → file_record kind image 0 name number ≡ None
-  unread why within is = elim (cases_Bool (is_file 0 name (directory kind image))) as (λ _. file_record kind image 0 name number ≡ None) [
+  unread : (why : DiskFault) → number < file_records kind → reading kind user name number (directory kind image) ≡ Err why → file_record kind image user name number ≡ None
+  unread why within is = elim (cases_Bool (is_file user name (directory kind image))) as (λ _. file_record kind image user name number ≡ None) [
     | inl some ↦ (
-        let extent = given (find (is_extent_of 0 name (number / 128)) (directory kind image)) fault.NoExtent >>= written_place kind (number % 128) in
+        let extent = given (find (is_extent_of user name (number / 128)) (directory kind image)) fault.NoExtent >>= written_place kind (number % 128) in
         let low : nat_lt number (file_records kind) ≡ true = lt-ltb number (file_records kind) within in
         let rest : extent ≡ Err why = sym (ap (λ b. unless (not b) fault.NotFound (unless (not (nat_lt number (file_records kind))) fault.TooFar extent)) some ∙ ap (λ b. unless (not b) fault.TooFar extent) low) ∙ is in
-        of_extent (find (is_extent_of 0 name (number / 128)) (directory kind image)) why rest)
-    | inr none ↦ ap (λ o. option_and_then (λ e. if has_record kind e (number % 128) then in_block kind image (number % 128) e else None) o) (no_extent 0 name (number / 128) (directory kind image) none)
+        of_extent (find (is_extent_of user name (number / 128)) (directory kind image)) why rest)
+    | inr none ↦ ap (λ o. option_and_then (λ e. if has_record kind e (number % 128) then in_block kind image (number % 128) e else None) o) (no_extent user name (number / 128) (directory kind image) none)
   ]
 
-pub not_read : (disk new : Mounted Image) (name : List ℕ) (number : ℕ) (why : DiskFault) → disk.failed ≡ false → number < file_records disk.kind → IsRead itself never disk new 0 name number (Err why)
-    → file_record disk.kind disk.device 0 name number ≡ None
-not_read disk new name number fault.Fault open_is within done = let (was, failed, same, risen, place, asked, kept) = done in absurd (never_risen risen)
-not_read disk new name number fault.Failed open_is within done = let (failed, same) = done in absurd (true≢false (sym failed ∙ open_is))
-not_read disk new name number why open_is within done = let (was, asked, same) = done in unread disk.kind disk.device name number why within asked
+pub not_read : (disk new : Mounted Image) (user : ℕ) (name : List ℕ) (number : ℕ) (why : DiskFault) → disk.failed ≡ false → number < file_records disk.kind → IsRead itself never disk new user name number (Err why)
+    → file_record disk.kind disk.device user name number ≡ None
+not_read disk new user name number why sound within done = unread disk.kind disk.device user name number why within (refused_by disk new _ _ why sound done).0

@@ -1,5 +1,6 @@
 -- Bytes as a disk, and answers about it.
-use Rattle.std.specs.Prelude.{◌≡◌, ◌⊎◌, ℕ, false, List, [], ◌∷◌, None, Result, Ok, Err, length, ⊤}
+use Rattle.std.specs.Prelude.{◌≡◌, ◌⊎◌, ℕ, false, List, [], ◌∷◌, None, Result, Ok, Err, Vec, length, ⊤}
+use Rattle.std.specs.Global.{Global}
 use Rattle.std.specs.List.{concat}
 use Rattle.cpm_image.specs.Image.{IsImageOf}
 use Rattle.cpm_image.specs.Kind.{sector_count}
@@ -10,7 +11,7 @@ use Rattle.cpm_disk.specs.Image.{Image, directory}
 use Rattle.z80dev_finish.specs.Answers as finish
 use Rattle.z80dev_finish.specs.declared.answer.Answer as made
 use Rattle.z80dev_finish.specs.declared.answer.Kind.TheVariants as kind
-use Rattle.z80dev_disk.specs.Refusals.{RefusesDir, Refuses, refusal_text}
+use Rattle.z80dev_disk.specs.Refusals.{Refuses, RefusesNone, refusal_text}
 use Rattle.z80dev_disk.specs.declared.refusal.Refusal.{Refusal}
 use Rattle.z80dev_disk.specs.declared.refusal.Refusal.TheVariants as refusal
 
@@ -34,7 +35,7 @@ UnlessMemory Holds why = Holds why
 -- the disk that bytes are, mounted, or why they are none
 abbrev pub IsMounted : List ℕ → Result (Mounted Image) Refusal → Type 0
 IsMounted bytes (Ok disk) = (disk.failed ≡ false) × IsDisk bytes disk.kind disk.device
-IsMounted bytes (Err why) = Refuses RefusesDir why × UnlessMemory (IsNoDisk bytes) why
+IsMounted bytes (Err why) = Refuses RefusesNone why × UnlessMemory (IsNoDisk bytes) why
 
 -- what the code's types hold
 abbrev pub answer_of : made.Answer Refusal → finish.Answer
@@ -48,12 +49,14 @@ refused why = finish.nothing (refusal_text why)
 abbrev pub one_file : List ℕ → finish.Answer
 one_file bytes = record { files = (kind.Given, bytes) ∷ []; printed = []; said = None }
 
--- .. an image, sector after sector
-abbrev pub image_file : Image → finish.Answer
-image_file image = one_file (concat image)
-
 -- The bytes are a disk, of which the answer speaks; or they are none, and that is said.
 abbrev pub OfDisk : List ℕ → (DiskKind → Image → finish.Answer → Type 0) → finish.Answer → Type 0
 OfDisk bytes Says answer =
     ((kind : DiskKind) × (image : Image) × IsDisk bytes kind image × Says kind image answer)
     ⊎ ((why : Refusal) × IsNoDisk bytes why × (answer ≡ refused why))
+
+-- A change of the disk that the bytes are: the image that it leaves, sector after sector; or why it is refused, and no image; or memory
+-- ran out.
+abbrev pub Edited : List ℕ → (DiskKind → Image → Image → Type 0) → (DiskKind → Image → Refusal → Type 0) → Result (Vec ℕ Global) Refusal → Type 0
+Edited bytes Does Stops (Ok made) = (kind : DiskKind) × (old new : Image) × IsDisk bytes kind old × Does kind old new × (made.items ≡ concat new)
+Edited bytes Does Stops (Err why) = UnlessMemory (λ w. IsNoDisk bytes w ⊎ ((kind : DiskKind) × (old : Image) × IsDisk bytes kind old × Stops kind old w)) why

@@ -1,7 +1,12 @@
 pub mod Words
+pub mod Names
+pub mod Text
 pub mod Refusals
 pub mod Disks
-pub mod Dir
+pub mod Along
+pub mod Changes
 pub mod Put
+pub mod Dir
 pub mod Get
+pub mod Check
 pub mod Private

@@ -1,19 +1,24 @@
 -- What private contracts alone cite: no reviewer need believe it.
-use Rattle.std.specs.Prelude.{◌≡◌, false, List, ℕ, Option, None, Some, Result, Ok, Err, ⊤}
+use Rattle.std.specs.Prelude.{◌≡◌, ◌<◌, IfSome, ℕ, List, Option, Some, Result, Ok, Err, filter, length}
+use Rattle.cpm_image.specs.Kind.{entry_count}
+use Rattle.cpm_image.specs.declared.kind.DiskKind.{DiskKind}
+use Rattle.cpm_directory.specs.Entries.{at}
+use Rattle.cpm_directory.specs.Searches.{IsListing}
 use Rattle.cpm_directory.specs.declared.fault.DiskFault.{DiskFault}
-use Rattle.cpm_disk.specs.Calls.{Mounted}
-use Rattle.cpm_disk.specs.Image.{Image}
+use Rattle.cpm_directory.specs.declared.listing.Listed.{Listed}
+use Rattle.cpm_disk.specs.Image.{Image, directory}
 use Rattle.z80dev_finish.specs.Answers as finish
 use Rattle.z80dev_finish.specs.declared.answer.Answer as made
 use Rattle.z80dev_disk.specs.declared.refusal.Refusal.{Refusal}
 use Rattle.z80dev_disk.specs.declared.refusal.Refusal.TheVariants as refusal
+use Rattle.z80dev_disk.specs.Dir.{is_asked}
 use Rattle.z80dev_disk.specs.Disks.{UnlessMemory, answer_of, refused}
 use Rattle.z80dev_disk.specs.Refusals.{Refuses}
 
 -- how a command ends: with its answer, or refused
-abbrev pub IsAnswered : (DiskFault → Type 0) → (finish.Answer → Type 0) → Result (made.Answer Refusal) Refusal → Type 0
-IsAnswered Of Is (Ok answer) = (answer.refusal ≡ None) × Is (answer_of answer)
-IsAnswered Of Is (Err why) = Refuses Of why × UnlessMemory (λ w. Is (refused w)) why
+abbrev pub IsAnswered : (Refusal → Type 0) → (finish.Answer → Type 0) → Result (made.Answer Refusal) Refusal → Type 0
+IsAnswered Own Is (Ok answer) = IfSome answer.refusal (Refuses Own) × Is (answer_of answer)
+IsAnswered Own Is (Err why) = Refuses Own why × UnlessMemory (λ w. Is (refused w)) why
 
 abbrev pub answer_at : Result (made.Answer Refusal) Refusal → finish.Answer
 answer_at (Ok answer) = answer_of answer
@@ -22,3 +27,16 @@ answer_at (Err why) = refused why
 abbrev pub refusal_at : Result (made.Answer Refusal) Refusal → Option Refusal
 refusal_at (Ok answer) = answer.refusal
 refusal_at (Err why) = Some why
+
+-- an element's work is refused, by the name that goes with it
+abbrev pub IsRefusedAt : {X : Type 0} → (X → Image → DiskFault → Type 0) → (X → Image → DiskFault → List ℕ) → X → Image → Refusal → Type 0
+IsRefusedAt Stops named x image (refusal.Named why name) = Stops x image why × (name ≡ named x image why)
+IsRefusedAt Stops named x image _ = ⊥
+
+-- each entry's name has eleven bytes
+abbrev pub HaveNames : DiskKind → Image → Type 0
+HaveNames kind image = (k : ℕ) → k < entry_count kind → length (at (directory kind image) k).name ≡ 11
+
+-- the files of a listing that are asked for
+abbrev pub AreAsked : DiskKind → Image → Option ℕ → Option (List ℕ) → List Listed → Type 0
+AreAsked kind image user pattern found = (files : List Listed) × IsListing (directory kind image) files × (found ≡ filter (is_asked user pattern) files)

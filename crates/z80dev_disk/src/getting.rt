@@ -1,74 +1,202 @@
-//! The command `get`.
+//! Files that are copied from a disk.
 
-ghost use Rattle.std.specs.Prelude.{◌≡◌, ◌<◌, ◌≤◌, IfOk, IfSome, false};
+ghost use Rattle.std.specs.Prelude.{◌≡◌, ◌<◌, ◌≤◌, All, IfErr, IfOk, IfSome, false, find, map, not, option_map, unwrap_or};
 ghost use Rattle.cpm_image.specs.Kind.{file_records};
+ghost use Rattle.cpm_directory.specs.declared.entry.TheConstants.{USERS};
 ghost use Rattle.cpm_directory.specs.Searches.{size};
 ghost use Rattle.cpm_disk.specs.Image.{directory};
 ghost use Rattle.z80dev_finish.specs.Answers.{MemoryAside};
 ghost use Rattle.z80dev_disk.specs.Disks.{answer_of};
-ghost use Rattle.z80dev_disk.specs.Get.{IsGet, copied, copied_below};
+ghost use Rattle.z80dev_disk.specs.Get.{IsGet, IsGetAll, as_asked, copied, copied_below, gotten, host_file, refusal_of};
+ghost use Rattle.z80dev_disk.specs.Names.{is_host_name};
 ghost use Rattle.z80dev_disk.specs.Private.{IsAnswered};
-ghost use Rattle.z80dev_disk.specs.Refusals.{Refuses, RefusesGet};
+ghost use Rattle.z80dev_disk.specs.Refusals.{IsNotFound, Refuses, RefusesGetAll, WithoutName};
+ghost use Rattle.z80dev_disk.specs.declared.refusal.Refusal.TheVariants as refusal;
 
 use crate::image::{answered, disk_of, one_file};
+use crate::listing::asked_for;
 use crate::refusal::Refusal;
-use cpm_directory::{DiskFault, Name};
+use crate::shown::{HostName, is_host_name};
+use crate::text::host_text;
+use cpm_directory::{DiskFault, Listed, Name};
 use cpm_disk::Disk;
 use cpm_image::MemoryImage;
 use std::alloc::{AllocError, Global};
 use z80dev_finish::Answer;
 
-/// A record of a file of user 0, zeros where it is not there.
-fn copied(disk: &mut Disk<MemoryImage>, name: &Name, number: u32) -> [u8; 128]
+/// A file of a disk as the host takes it.
+#[derive(Debug, Drop)]
+pub struct Gotten {
+    /// Its name on the host: `NAME`, or `NAME.TYP`.
+    pub name: String,
+    pub bytes: Vec<u8>,
+}
+
+/// A record of a user's file, zeros where it is not there.
+fn copied(disk: &mut Disk<MemoryImage>, user: u8, name: &Name, number: u32) -> [u8; 128]
     requires sound { disk.old.failed ≡ false }
+    requires user { user < USERS }
     requires within { number < file_records disk.old.kind }
-    ensures bytes { result ≡ copied disk.old.kind disk.old.device name.now number }
+    ensures bytes { result ≡ copied disk.old.kind disk.old.device user name.now number }
     ensures same { disk.new ≡ disk.old }
 {
-    match disk.read_block_of(0, name, number) {
+    match disk.read_block_of(user, name, number) {
         Ok(bytes) => bytes,
         Err(_) => [0; 128],
     }
 }
 
-/// The first records of a file of user 0.
+/// The first records of a user's file.
 fn copied_below(
     alloc: Global,
     disk: &mut Disk<MemoryImage>,
+    user: u8,
     name: &Name,
     count: u32,
 ) -> Result<Vec<u8>, AllocError>
     requires sound { disk.old.failed ≡ false }
+    requires user { user < USERS }
     requires within { count ≤ file_records disk.old.kind }
-    ensures { IfOk result (λ bytes. bytes.items ≡ copied_below disk.old.kind disk.old.device name.now count) }
+    ensures bytes { IfOk result (λ bytes. bytes.items ≡ copied_below disk.old.kind disk.old.device user name.now count) }
+    ensures same { disk.new ≡ disk.old }
 {
     let mut bytes = Vec::new(alloc);
     for number in 0..count {
-        bytes.extend_from_slice(&copied(disk, name, number))?;
+        bytes.extend_from_slice(&copied(disk, user, name, number))?;
+    }
+    Ok(bytes)
+}
+
+/// Bytes, or the text that they are.
+fn as_asked(alloc: Global, text: bool, bytes: Vec<u8>) -> Result<Vec<u8>, AllocError>
+    ensures { IfOk result (λ made. made.items ≡ as_asked text bytes.items) }
+{
+    if text {
+        return host_text(alloc, &bytes);
     }
     Ok(bytes)
 }
 
 /// The file of an image.
-fn got(alloc: Global, image: &[u8], name: &Name) -> Result<Answer<Refusal>, Refusal>
-    ensures { IsAnswered RefusesGet (IsGet image.now name.now) result }
+fn got(
+    alloc: Global,
+    image: &[u8],
+    user: u8,
+    name: &Name,
+    text: bool,
+) -> Result<Answer<Refusal>, Refusal>
+    requires { user < USERS }
+    ensures { IsAnswered (WithoutName IsNotFound) (IsGet image.now user name.now text) result }
 {
     let mut disk = disk_of(alloc, image)?;
-    let Some(count) = disk.size(0, name) else {
+    let Some(count) = disk.size(user, name) else {
         return Err(Refusal::Disk(DiskFault::NotFound));
     };
-    let bytes = copied_below(alloc, &mut disk, name, count)?;
-    Ok(one_file(alloc, bytes)?)
+    let bytes = copied_below(alloc, &mut disk, user, name, count)?;
+    Ok(one_file(alloc, as_asked(alloc, text, bytes)?)?)
 }
 
-/// Answers the file of user 0 that has this name on the disk whose image bytes are: all records below its size, zeros for one that was
-/// not written.
+/// Answers the file of a user that has this name on the disk whose image bytes are: all records below its size, zeros for one that was
+/// not written; or, where it is to be a text, what comes before the first 1AH of these, without the CR before each LF.
 ///
 /// Refused in this order: [`ImageFault`](crate::ImageFault) where the bytes are no image; the first fault of the directory;
 /// [`DiskFault::NotFound`].
-pub fn get(alloc: Global, image: &[u8], name: &Name) -> Answer<Refusal>
-    ensures answer { MemoryAside (IsGet image.now name.now) (answer_of result) }
-    ensures refusals { IfSome result.refusal (Refuses RefusesGet) }
+pub fn get(alloc: Global, image: &[u8], user: u8, name: &Name, text: bool) -> Answer<Refusal>
+    requires { user < USERS }
+    ensures answer { MemoryAside (IsGet image.now user name.now text) (answer_of result) }
+    ensures refusals { IfSome result.refusal (Refuses (WithoutName IsNotFound)) }
 {
-    answered(alloc, got(alloc, image, name))
+    answered(alloc, got(alloc, image, user, name, text))
+}
+
+/// The first file whose name the host cannot take.
+fn bad_file(files: &[Listed]) -> Option<Refusal>
+    ensures { result ≡ option_map (λ f. refusal.BadFile f.name) (find (λ f. not (is_host_name f.name)) files.now) }
+{
+    for file in files {
+        let name = file.name.bytes();
+        if !is_host_name(&name) {
+            return Some(Refusal::BadFile(name));
+        }
+    }
+    None
+}
+
+/// Why files are not gotten.
+fn refusal_of(pattern: &[u8; 11], files: &[Listed]) -> Option<Refusal>
+    ensures reason { result ≡ refusal_of pattern.now files.now }
+    ensures refusals { IfSome result (RefusesGetAll pattern.now) }
+{
+    if files.is_empty() {
+        return Some(Refusal::Named(DiskFault::NotFound, *pattern));
+    }
+    bad_file(files)
+}
+
+/// A file with its name for the host.
+fn file_for_host(
+    alloc: Global,
+    disk: &mut Disk<MemoryImage>,
+    text: bool,
+    file: &Listed,
+) -> Result<Gotten, AllocError>
+    requires sound { disk.old.failed ≡ false }
+    requires user { file.now.user < USERS }
+    requires records { file.now.records ≡ unwrap_or (size file.now.user file.now.name (directory disk.old.kind disk.old.device)) 0 }
+    ensures file { IfOk result (λ made. host_file made ≡ gotten text disk.old.kind disk.old.device file.now) }
+    ensures same { disk.new ≡ disk.old }
+{
+    let count = disk.size(file.user, &file.name).unwrap_or(0);
+    let bytes = copied_below(alloc, disk, file.user, &file.name, count)?;
+    let shown = HostName {
+        name: file.name.bytes(),
+    };
+    Ok(Gotten {
+        name: format!(in alloc; "{shown}")?,
+        bytes: as_asked(alloc, text, bytes)?,
+    })
+}
+
+/// Files with their names for the host.
+fn files_for_host(
+    alloc: Global,
+    disk: &mut Disk<MemoryImage>,
+    text: bool,
+    files: &[Listed],
+) -> Result<Vec<Gotten>, AllocError>
+    requires sound { disk.old.failed ≡ false }
+    requires listed { All (λ file. (file.user < USERS) × (file.records ≡ unwrap_or (size file.user file.name (directory disk.old.kind disk.old.device)) 0)) files.now }
+    ensures { IfOk result (λ made. map host_file made.items ≡ map (gotten text disk.old.kind disk.old.device) files.now) }
+{
+    let mut made = Vec::new(alloc);
+    for file in files {
+        made.push(file_for_host(alloc, disk, text, file)?)?;
+    }
+    Ok(made)
+}
+
+/// Every file of a user that matches a pattern, on the disk whose image bytes are, in the order of their names, each with its name for
+/// the host. A byte `?` of the pattern matches whatever stands there. The bytes are those that [`get`] answers.
+///
+/// # Errors
+///
+/// In this order: [`ImageFault`](crate::ImageFault) where the bytes are no image; the first fault of the directory;
+/// [`DiskFault::NotFound`], with the pattern, where no file matches; [`Refusal::BadFile`] with the first name that the host cannot take:
+/// one that is blank, or has a byte outside 20H to 7EH, a `/` or a point. [`Refusal::NoMemory`].
+pub fn get_all(
+    alloc: Global,
+    image: &[u8],
+    user: u8,
+    pattern: &[u8; 11],
+    text: bool,
+) -> Result<Vec<Gotten>, Refusal>
+    ensures answer { IsGetAll image.now user pattern.now text result }
+    ensures refusals { IfErr result (Refuses (RefusesGetAll pattern.now)) }
+{
+    let mut disk = disk_of(alloc, image)?;
+    let files = asked_for(alloc, &disk, Some(user), Some(*pattern))?;
+    if let Some(why) = refusal_of(pattern, &files) {
+        return Err(why);
+    }
+    Ok(files_for_host(alloc, &mut disk, text, &files)?)
 }

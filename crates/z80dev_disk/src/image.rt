@@ -1,10 +1,10 @@
 //! Bytes as a disk, and disks as bytes.
 
-ghost use Rattle.std.specs.Prelude.{◌≡◌, IfOk, false};
+ghost use Rattle.std.specs.Prelude.{◌≡◌, IfOk};
+ghost use Rattle.std.specs.List.{concat};
 ghost use Rattle.cpm_image.specs.Image.{blank_image};
-ghost use Rattle.z80dev_finish.specs.Answers.{MemoryAside};
-ghost use Rattle.z80dev_disk.specs.Disks.{IsMounted, answer_of, image_file, one_file};
-ghost use Rattle.z80dev_disk.specs.Private.{IsAnswered, answer_at, refusal_at};
+ghost use Rattle.z80dev_disk.specs.Disks.{IsMounted, answer_of, one_file};
+ghost use Rattle.z80dev_disk.specs.Private.{answer_at, refusal_at};
 
 use crate::refusal::Refusal;
 use cpm_disk::Disk;
@@ -39,13 +39,11 @@ pub fn one_file(alloc: Global, bytes: Vec<u8>) -> Result<Answer<Refusal>, AllocE
     Ok(Answer::done(files, Vec::new(alloc)))
 }
 
-/// The answer that an image is to be written.
-pub(crate) fn image_file(alloc: Global, image: &MemoryImage) -> Result<Answer<Refusal>, AllocError>
-    ensures { IfOk result (λ answer. answer_of answer ≡ image_file image.now) }
+/// The bytes of an image, sector after sector.
+pub(crate) fn image_bytes(alloc: Global, image: &MemoryImage) -> Result<Vec<u8>, AllocError>
+    ensures { IfOk result (λ bytes. bytes.items ≡ concat image.now) }
 {
-    let mut bytes = Vec::new(alloc);
-    bytes.extend_from_slice(image.sectors().as_flattened())?;
-    one_file(alloc, bytes)
+    Vec::from_slice(alloc, image.sectors().as_flattened())
 }
 
 /// The answer of a command, or that it is refused.
@@ -59,20 +57,12 @@ pub(crate) fn answered(alloc: Global, answer: Result<Answer<Refusal>, Refusal>) 
     }
 }
 
-/// The image of a disk that was never written.
-fn blank_file(alloc: Global, kind: DiskKind) -> Result<Answer<Refusal>, Refusal>
-    ensures { IfOk result (λ answer. answer_of answer ≡ image_file (blank_image kind)) }
+/// The bytes of the image of a disk that was never written: 256,256 or 1,048,576 bytes E5H.
+pub fn blank(alloc: Global, kind: DiskKind) -> Result<Vec<u8>, AllocError>
+    ensures { IfOk result (λ bytes. bytes.items ≡ concat (blank_image kind)) }
 {
-    let image = MemoryImage::blank(alloc, kind)?;
-    Ok(image_file(alloc, &image)?)
-}
-
-/// Answers the image of a disk that was never written, whose bytes are E5H.
-pub fn blank(alloc: Global, kind: DiskKind) -> Answer<Refusal>
-    ensures { MemoryAside (λ answer. answer ≡ image_file (blank_image kind)) (answer_of result) }
-{
-    match blank_file(alloc, kind) {
-        Ok(answer) => answer,
-        Err(_) => Answer::refused(alloc, Refusal::NoMemory),
+    match MemoryImage::blank(alloc, kind) {
+        Ok(image) => image_bytes(alloc, &image),
+        Err(_) => Err(AllocError),
     }
 }

@@ -1,23 +1,33 @@
-//! What the commands `dir`, `put`, `get` and `blank` do with the bytes of an image of a disk.
+//! What the commands on disks do with the bytes of an image of a disk.
 //!
-//! Each call takes what stands in the files that its command reads, touches nothing, and answers which file is to be written, what is
-//! printed, or why the command is refused.
+//! Each call takes what stands in the files that its command reads, touches nothing, and answers the bytes that are to be written, what
+//! is printed, or why the command is refused.
 #![tactic(auto)]
 
+mod changing;
+mod checking;
+mod entries;
 mod getting;
 mod image;
 pub mod laws;
 mod listing;
 mod name;
+mod pattern;
 mod putting;
 mod refusal;
+mod shown;
+mod text;
 
-pub use cpm_directory::{DiskFault, Name};
+pub use changing::{erase, mark, rename};
+pub use checking::check_disk;
+pub use cpm_directory::{Attribute, DiskFault, Name};
 pub use cpm_image::{DiskKind, ImageFault};
-pub use getting::get;
+pub use getting::{Gotten, get, get_all};
 pub use image::{blank, disk_of, one_file};
-pub use listing::dir;
-pub use name::file_name;
-pub use putting::put;
+pub use listing::{Asked, dir};
+pub use name::{file_name, own_name};
+pub use pattern::{is_wild, pattern_of};
+pub use putting::{PutFile, put};
 pub use refusal::Refusal;
+pub use text::cpm_text;
 pub use z80dev_finish::{Answer, Kind, NewFile};

@@ -1,61 +1,122 @@
 //! The command `dir`.
 
-ghost use Rattle.std.specs.Prelude.{◌≡◌, IfOk, IfSome, ◌++◌, codes};
+ghost use Rattle.std.specs.Prelude.{◌≡◌, IfErr, IfOk, IfSome, false, filter, string_bytes};
 ghost use Rattle.std.specs.List.{flat_map};
-ghost use Rattle.cpm_disk.specs.Mounting.{IsListedBy};
+ghost use Rattle.cpm_directory.specs.declared.fault.DiskFault.TheVariants as fault;
 ghost use Rattle.z80dev_finish.specs.Answers.{MemoryAside};
-ghost use Rattle.z80dev_disk.specs.Dir.{IsDir, line_of, trimmed, when};
+ghost use Rattle.z80dev_disk.specs.Dir.{IsDir, is_asked, is_named, is_users, line_of, listing, space_line, usage_text};
 ghost use Rattle.z80dev_disk.specs.Disks.{answer_of};
-ghost use Rattle.z80dev_disk.specs.Private.{IsAnswered};
+ghost use Rattle.z80dev_disk.specs.Private.{AreAsked, IsAnswered};
 ghost use Rattle.z80dev_disk.specs.Refusals.{Refuses, RefusesDir};
 
 use crate::image::{answered, disk_of};
 use crate::refusal::Refusal;
-use cpm_directory::Listed;
+use crate::shown::{joined, trimmed, when};
+use cpm_directory::{DiskFault, Entry, Listed, Space, Usage};
+use cpm_disk::Disk;
+use cpm_image::MemoryImage;
 use std::alloc::{AllocError, Global};
 use z80dev_finish::Answer;
 
-/// A part of a name without the blanks at its end.
-fn trimmed(part: &[u8]) -> &[u8]
-    ensures { result.now ≡ trimmed part.now }
+/// Which files are listed, and how.
+#[derive(Clone, Copy, Debug)]
+pub struct Asked {
+    /// Those of this user, or of all.
+    pub user: Option<u8>,
+    /// Those whose names match this pattern, or all. A byte `?` matches whatever stands there.
+    pub pattern: Option<[u8; 11]>,
+    /// Whether a line says too how many bytes, entries of the directory and blocks a file takes, and a last line what is left.
+    pub long: bool,
+}
+
+/// Whether a file is of the user that is asked for.
+fn is_users(user: Option<u8>, file: &Listed) -> bool
+    ensures { result ≡ is_users user file.now }
 {
-    let mut end = part.len();
-    while end > 0 {
-        if part[end - 1] != b' ' {
-            return &part[..end];
+    match user {
+        Some(user) => file.user == user,
+        None => true,
+    }
+}
+
+/// Whether a file's name matches the pattern that is asked for.
+fn is_named(pattern: Option<[u8; 11]>, file: &Listed) -> bool
+    ensures { result ≡ is_named pattern file.now }
+{
+    match pattern {
+        Some(pattern) => {
+            Entry::new_extent(file.user, file.name.bytes(), 0).is_match(file.user, &pattern)
         }
-        end -= 1;
+        None => true,
     }
-    &[]
 }
 
-/// A word where it is so.
-fn when(so: bool, word: &'static [u8]) -> &'static [u8]
-    ensures { result.now ≡ when so word.now }
+/// Whether a file is asked for.
+fn is_asked(user: Option<u8>, pattern: Option<[u8; 11]>, file: &Listed) -> bool
+    ensures { result ≡ is_asked user pattern file.now }
 {
-    if so { word } else { &[] }
+    is_users(user, file) && is_named(pattern, file)
 }
 
-/// Bytes one after the other.
-fn joined(alloc: Global, pieces: &[&[u8]]) -> Result<Vec<u8>, AllocError>
-    ensures { IfOk result (λ bytes. bytes.items ≡ flat_map (λ piece. piece.now) pieces.now) }
+/// The files among these that are asked for.
+fn chosen(
+    alloc: Global,
+    files: &[Listed],
+    user: Option<u8>,
+    pattern: Option<[u8; 11]>,
+) -> Result<Vec<Listed>, AllocError>
+    ensures { IfOk result (λ chosen. chosen.items ≡ filter (is_asked user pattern) files.now) }
 {
-    let mut bytes = Vec::new(alloc);
-    for piece in pieces {
-        bytes.extend_from_slice(piece)?;
+    let mut chosen = Vec::new(alloc);
+    for file in files {
+        if is_asked(user, pattern, file) {
+            chosen.push(*file)?;
+        }
     }
-    Ok(bytes)
+    Ok(chosen)
 }
 
-/// The line of a file: `USER NAME.TYP RECORDS`, then ` RO` and ` SYS` where they are set.
-fn line_of(alloc: Global, file: &Listed) -> Result<Vec<u8>, AllocError>
-    ensures { IfOk result (λ line. line.items ≡ line_of file.now) }
+/// The files of a disk that are asked for, by user and then by name.
+pub(crate) fn asked_for(
+    alloc: Global,
+    disk: &Disk<MemoryImage>,
+    user: Option<u8>,
+    pattern: Option<[u8; 11]>,
+) -> Result<Vec<Listed>, DiskFault>
+    requires { disk.now.failed ≡ false }
+    ensures files { IfOk result (λ files. AreAsked disk.now.kind disk.now.device user pattern files.items) }
+    ensures memory { IfErr result (λ why. why ≡ fault.NoMemory) }
+{
+    let files = disk.list(alloc)?;
+    Ok(chosen(alloc, &files, user, pattern)?)
+}
+
+/// What a file takes of the disk: ` BYTES ENTRIES BLOCKS`.
+fn usage_text(alloc: Global, file: &Listed, usage: Usage) -> Result<String, AllocError>
+    ensures { IfOk result (λ text. string_bytes text ≡ usage_text file.now usage) }
+{
+    let bytes = 128 * u64::from(file.records);
+    let entries = usage.entries;
+    let blocks = usage.blocks;
+    format!(in alloc; " {bytes} {entries} {blocks}")
+}
+
+/// The line of a file: `USER NAME.TYP RECORDS`, in a long listing what it takes of the disk, then ` RO` and ` SYS` where they are set.
+fn line_of(
+    alloc: Global,
+    disk: &Disk<MemoryImage>,
+    long: bool,
+    file: &Listed,
+) -> Result<Vec<u8>, AllocError>
+    requires { disk.now.failed ≡ false }
+    ensures { IfOk result (λ line. line.items ≡ line_of long disk.now.kind disk.now.device file.now) }
 {
     let name = file.name.bytes();
     let number = file.user;
     let user = format!(in alloc; "{number} ")?;
     let count = file.records;
     let records = format!(in alloc; " {count}")?;
+    let usage = usage_text(alloc, file, disk.usage(file.user, &file.name))?;
     joined(
         alloc,
         &[
@@ -64,6 +125,7 @@ fn line_of(alloc: Global, file: &Listed) -> Result<Vec<u8>, AllocError>
             b".",
             trimmed(&name[8..]),
             records.as_bytes(),
+            when(long, usage.as_bytes()),
             when(file.read_only, b" RO"),
             when(file.system, b" SYS"),
             b"\n",
@@ -71,34 +133,72 @@ fn line_of(alloc: Global, file: &Listed) -> Result<Vec<u8>, AllocError>
     )
 }
 
+/// What is left of a disk: `free: BLOCKS blocks, ENTRIES entries`.
+fn space_line(alloc: Global, space: Space) -> Result<String, AllocError>
+    ensures { IfOk result (λ line. string_bytes line ≡ space_line space) }
+{
+    let blocks = space.blocks;
+    let entries = space.entries;
+    format!(in alloc; "free: {blocks} blocks, {entries} entries\n")
+}
+
 /// The lines of files.
-fn lines_of(alloc: Global, files: &[Listed]) -> Result<Vec<u8>, AllocError>
-    ensures { IfOk result (λ lines. lines.items ≡ flat_map line_of files.now) }
+fn lines_of(
+    alloc: Global,
+    disk: &Disk<MemoryImage>,
+    long: bool,
+    files: &[Listed],
+) -> Result<Vec<u8>, AllocError>
+    requires { disk.now.failed ≡ false }
+    ensures { IfOk result (λ lines. lines.items ≡ flat_map (line_of long disk.now.kind disk.now.device) files.now) }
 {
     let mut lines = Vec::new(alloc);
     for file in files {
-        lines.extend_from_slice(&line_of(alloc, file)?)?;
+        lines.extend_from_slice(&line_of(alloc, disk, long, file)?)?;
     }
     Ok(lines)
 }
 
-/// The lines of the files of an image.
-fn listed(alloc: Global, image: &[u8]) -> Result<Answer<Refusal>, Refusal>
-    ensures { IsAnswered RefusesDir (IsDir image.now) result }
+/// The lines of files, and in a long listing the last.
+fn listing(
+    alloc: Global,
+    disk: &Disk<MemoryImage>,
+    long: bool,
+    files: &[Listed],
+) -> Result<Vec<u8>, AllocError>
+    requires { disk.now.failed ≡ false }
+    ensures { IfOk result (λ lines. lines.items ≡ listing long disk.now.kind disk.now.device files.now) }
+{
+    let mut lines = lines_of(alloc, disk, long, files)?;
+    let last = space_line(alloc, disk.space())?;
+    lines.extend_from_slice(when(long, last.as_bytes()))?;
+    Ok(lines)
+}
+
+/// The lines of the files of an image that are asked for.
+fn listed(alloc: Global, image: &[u8], asked: &Asked) -> Result<Answer<Refusal>, Refusal>
+    ensures { IsAnswered (RefusesDir asked.now.pattern) (IsDir image.now asked.now) result }
 {
     let disk = disk_of(alloc, image)?;
-    let files = disk.list(alloc)?;
-    let lines = lines_of(alloc, &files)?;
+    let files = asked_for(alloc, &disk, asked.user, asked.pattern)?;
+    if let Some(pattern) = asked.pattern
+        && files.is_empty()
+    {
+        return Err(Refusal::Named(DiskFault::NotFound, pattern));
+    }
+    let lines = listing(alloc, &disk, asked.long, &files)?;
     Ok(Answer::done(Vec::new(alloc), lines))
 }
 
-/// Answers a line for each file of the disk whose image bytes are, by user and then by name: `USER NAME.TYP RECORDS`, where blanks at
-/// the end of both parts are cut and the point stays, then ` RO` where it is read-only and ` SYS` where it is a file of the system.
+/// Answers a line for each file that is asked for of the disk whose image bytes are, by user and then by name: `USER NAME.TYP RECORDS`,
+/// where blanks at the end of both parts are cut and the point stays, then ` RO` where it is read-only and ` SYS` where it is a file of
+/// the system. In a long listing ` BYTES ENTRIES BLOCKS` follows the records, and the last line is `free: BLOCKS blocks, ENTRIES entries`.
 ///
-/// Refused in this order: [`ImageFault`](crate::ImageFault) where the bytes are no image; the first fault of the directory.
-pub fn dir(alloc: Global, image: &[u8]) -> Answer<Refusal>
-    ensures answer { MemoryAside (IsDir image.now) (answer_of result) }
-    ensures refusals { IfSome result.refusal (Refuses RefusesDir) }
+/// Refused in this order: [`ImageFault`](crate::ImageFault) where the bytes are no image; the first fault of the directory;
+/// [`DiskFault::NotFound`], with the pattern, where one is given and no file matches.
+pub fn dir(alloc: Global, image: &[u8], asked: &Asked) -> Answer<Refusal>
+    ensures answer { MemoryAside (IsDir image.now asked.now) (answer_of result) }
+    ensures refusals { IfSome result.refusal (Refuses (RefusesDir asked.now.pattern)) }
 {
-    answered(alloc, listed(alloc, image))
+    answered(alloc, listed(alloc, image, asked))
 }

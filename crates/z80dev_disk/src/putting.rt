@@ -1,25 +1,38 @@
-//! The command `put`.
+//! Files that are put on a disk.
 
-ghost use Rattle.std.specs.Prelude.{◌≡◌, ◌<◌, ◌≤◌, IfErr, IfSome, MatchOption, OnOk, drop, false, length, take};
-ghost use Rattle.z80dev_finish.specs.Answers.{MemoryAside};
-ghost use Rattle.z80dev_disk.specs.Disks.{answer_of};
-ghost use Rattle.z80dev_disk.specs.Private.{IsAnswered};
-ghost use Rattle.z80dev_disk.specs.Put.{IsPut, IsStopped, IsStored, filled};
-ghost use Rattle.z80dev_disk.specs.Refusals.{Refuses, RefusesPut};
+ghost use Rattle.std.specs.Prelude.{◌≡◌, ◌<◌, ◌≤◌, All, IfErr, MatchOption, OnOk, drop, false, length, map, take, true};
+ghost use Rattle.cpm_directory.specs.declared.entry.TheConstants.{USERS};
+ghost use Rattle.cpm_disk.specs.Files.{IsFile, OthersAreSame};
+ghost use Rattle.cpm_disk.specs.Image.{directory};
+ghost use Rattle.cpm_directory.specs.Searches.{is_file};
+ghost use Rattle.cpm_directory.specs.declared.fault.DiskFault.TheVariants as fault;
+ghost use Rattle.z80dev_disk.specs.Along.{Along, IsRefusedAlong};
+ghost use Rattle.z80dev_disk.specs.Private.{IsRefusedAt};
+ghost use Rattle.z80dev_disk.specs.Put.{IsPut, IsStopped, IsStored, LacksRoom, MakesRoom, PutsOne, StopsOne, file_of, filled, is_replaced, name_of_file};
+ghost use Rattle.z80dev_disk.specs.Refusals.{Refuses, RefusesPut, WithName};
+ghost use Rattle.z80dev_disk.specs.Words.{is_wild};
 
-use crate::image::{answered, disk_of, image_file};
+use crate::entries::{has_names, of_any_extent};
+use crate::image::{disk_of, image_bytes};
 use crate::refusal::Refusal;
 use cpm_directory::{DiskFault, Name};
 use cpm_disk::Disk;
 use cpm_image::MemoryImage;
 use std::alloc::Global;
-use z80dev_finish::Answer;
 
 /// The bytes of a record.
 const RECORD: usize = 128;
 
 /// What a file's last record is filled up with: the end of a text.
 const FILL: u8 = 0x1A;
+
+/// A file that is put.
+#[derive(Clone, Copy, Debug)]
+pub struct PutFile<'a> {
+    /// The name that it gets.
+    pub name: Name,
+    pub bytes: &'a [u8],
+}
 
 /// The bytes of a record, filled up.
 fn filled(piece: &[u8]) -> [u8; 128]
@@ -41,43 +54,145 @@ fn cut(rest: &[u8]) -> Option<(&[u8], &[u8])>
     Some(rest.split_at(rest.len().min(RECORD)))
 }
 
-/// Makes a file of user 0 and writes its records, one after the other.
-fn store(disk: &mut Disk<MemoryImage>, name: &Name, file: &[u8]) -> Result<(), DiskFault>
-    requires { disk.old.failed ≡ false }
+/// Makes a file and writes its records, one after the other.
+fn store(disk: &mut Disk<MemoryImage>, user: u8, name: &Name, file: &[u8]) -> Result<(), DiskFault>
+    requires sound { disk.old.failed ≡ false }
+    requires user { user < USERS }
     ensures kind { disk.new.kind ≡ disk.old.kind }
-    ensures stored { OnOk result (IsStored disk.old.kind disk.old.device disk.new.device name.now file.now) }
-    ensures stopped { IfErr result (IsStopped disk.old.kind disk.old.device name.now file.now) }
+    ensures sound { OnOk result (disk.new.failed ≡ false) }
+    ensures stored { OnOk result (IsStored disk.old.kind disk.old.device disk.new.device user name.now file.now) }
+    ensures stopped { IfErr result (IsStopped disk.old.kind disk.old.device user name.now file.now) }
+    ensures exists { IfErr result (λ why. why ≡ fault.Exists → is_file user name.now (directory disk.old.kind disk.old.device) ≡ true) }
 {
-    disk.create(0, name)?;
+    disk.create(user, name)?;
     let mut number = 0;
     let mut rest = file;
     while let Some((piece, behind)) = cut(rest) {
-        disk.write_block_of(0, name, number, &filled(piece))?;
+        disk.write_block_of(user, name, number, &filled(piece))?;
         number += 1;
         rest = behind;
     }
     Ok(())
 }
 
-/// The image with the file.
-fn stored(alloc: Global, image: &[u8], file: &[u8], name: &Name) -> Result<Answer<Refusal>, Refusal>
-    ensures { IsAnswered RefusesPut (IsPut image.now file.now name.now) result }
+/// Whether a file is erased before one of its name is put.
+fn is_replaced(disk: &Disk<MemoryImage>, user: u8, replace: bool, name: &Name) -> bool
+    requires { disk.now.failed ≡ false }
+    ensures { result ≡ is_replaced user replace name.now (directory disk.now.kind disk.now.device) }
 {
-    let mut disk = disk_of(alloc, image)?;
-    store(&mut disk, name, file)?;
-    let image = disk.unmount();
-    Ok(image_file(alloc, &image)?)
+    replace && disk.size(user, name).is_some()
 }
 
-/// Answers the image of the disk whose image bytes are, with a file of user 0 more: its records are those of `file`, the last filled up
-/// with 1AH.
-///
-/// Refused in this order: [`ImageFault`](crate::ImageFault) where the bytes are no image; the first fault of the directory;
-/// [`DiskFault::Exists`], [`DiskFault::DirectoryFull`]; then of each record in turn [`DiskFault::TooFar`],
-/// [`DiskFault::DirectoryFull`], [`DiskFault::DiskFull`]. Nothing is to be written then.
-pub fn put(alloc: Global, image: &[u8], file: &[u8], name: &Name) -> Answer<Refusal>
-    ensures answer { MemoryAside (IsPut image.now file.now name.now) (answer_of result) }
-    ensures refusals { IfSome result.refusal (Refuses RefusesPut) }
+/// Makes room for a file: one of its name is erased, where it is to be replaced.
+fn make_room(
+    disk: &mut Disk<MemoryImage>,
+    user: u8,
+    replace: bool,
+    name: &Name,
+) -> Result<(), DiskFault>
+    requires sound { disk.old.failed ≡ false }
+    requires user { user < USERS }
+    requires plain { is_wild name.now ≡ false }
+    ensures kind { disk.new.kind ≡ disk.old.kind }
+    ensures sound { OnOk result (disk.new.failed ≡ false) }
+    ensures made { OnOk result (MakesRoom (is_replaced user replace name.now (directory disk.old.kind disk.old.device)) disk.old.kind user name.now disk.old.device disk.new.device) }
+    ensures others { OnOk result (OthersAreSame disk.old.kind disk.old.device disk.new.device (IsFile user name.now)) }
+    ensures gone { OnOk result (replace ≡ true → is_file user name.now (directory disk.old.kind disk.new.device) ≡ false) }
+    ensures lacks { IfErr result (LacksRoom (is_replaced user replace name.now (directory disk.old.kind disk.old.device)) disk.old.kind user name.now disk.old.device) }
 {
-    answered(alloc, stored(alloc, image, file, name))
+    if !is_replaced(disk, user, replace, name) {
+        return Ok(());
+    }
+    // A law: a name without `?` matches no other name, since all have eleven bytes.
+    has_names(disk);
+    disk.erase(user, &of_any_extent(&name.bytes()))?;
+    Ok(())
+}
+
+/// Puts a file.
+fn put_file(
+    disk: &mut Disk<MemoryImage>,
+    user: u8,
+    replace: bool,
+    file: &PutFile<'_>,
+) -> Result<(), DiskFault>
+    requires sound { disk.old.failed ≡ false }
+    requires user { user < USERS }
+    requires plain { is_wild file.now.name ≡ false }
+    ensures kind { disk.new.kind ≡ disk.old.kind }
+    ensures sound { OnOk result (disk.new.failed ≡ false) }
+    ensures put { OnOk result (PutsOne disk.old.kind user replace (file_of file.now) disk.old.device disk.new.device) }
+    ensures stopped { IfErr result (StopsOne disk.old.kind user replace (file_of file.now) disk.old.device) }
+    ensures refusals { IfErr result (RefusesPut replace) }
+{
+    make_room(disk, user, replace, &file.name)?;
+    store(disk, user, &file.name, file.bytes)
+}
+
+/// Puts a file, whose name goes with a refusal.
+fn put_one(
+    disk: &mut Disk<MemoryImage>,
+    user: u8,
+    replace: bool,
+    file: &PutFile<'_>,
+) -> Result<(), Refusal>
+    requires sound { disk.old.failed ≡ false }
+    requires user { user < USERS }
+    requires plain { is_wild file.now.name ≡ false }
+    ensures kind { disk.new.kind ≡ disk.old.kind }
+    ensures sound { OnOk result (disk.new.failed ≡ false) }
+    ensures put { OnOk result (PutsOne disk.old.kind user replace (file_of file.now) disk.old.device disk.new.device) }
+    ensures stopped { IfErr result (IsRefusedAt (StopsOne disk.old.kind user replace) name_of_file (file_of file.now) disk.old.device) }
+    ensures refusals { IfErr result (WithName (RefusesPut replace)) }
+{
+    match put_file(disk, user, replace, file) {
+        Ok(()) => Ok(()),
+        Err(why) => Err(Refusal::Named(why, file.name.bytes())),
+    }
+}
+
+/// Puts files, one after the other.
+fn put_all(
+    disk: &mut Disk<MemoryImage>,
+    user: u8,
+    replace: bool,
+    files: &[PutFile<'_>],
+) -> Result<(), Refusal>
+    requires sound { disk.old.failed ≡ false }
+    requires user { user < USERS }
+    requires plain { All (λ f. is_wild f.name ≡ false) files.now }
+    ensures put { OnOk result (Along (PutsOne disk.old.kind user replace) (map file_of files.now) disk.old.device disk.new.device) }
+    ensures stopped { IfErr result (IsRefusedAlong (PutsOne disk.old.kind user replace) (StopsOne disk.old.kind user replace) name_of_file (map file_of files.now) disk.old.device) }
+    ensures refusals { IfErr result (WithName (RefusesPut replace)) }
+{
+    for file in files {
+        put_one(disk, user, replace, file)?;
+    }
+    Ok(())
+}
+
+/// The image of the disk whose image bytes are, with these files of a user more, put in their order: a file's records are those of its
+/// bytes, the last filled up with 1AH. A file that is there is erased before one of its name is put, where `replace` says so.
+///
+/// # Errors
+///
+/// In this order: [`ImageFault`](crate::ImageFault) where the bytes are no image; the first fault of the directory; of each file in turn,
+/// with its name, [`DiskFault::ReadOnly`] where it is to be replaced and is read-only, [`DiskFault::Exists`] where it is not to be
+/// replaced, [`DiskFault::DirectoryFull`]; then of each of its records [`DiskFault::TooFar`], [`DiskFault::DirectoryFull`],
+/// [`DiskFault::DiskFull`]. [`Refusal::NoMemory`].
+pub fn put(
+    alloc: Global,
+    image: &[u8],
+    user: u8,
+    replace: bool,
+    files: &[PutFile<'_>],
+) -> Result<Vec<u8>, Refusal>
+    requires user { user < USERS }
+    requires names { All (λ f. is_wild f.name ≡ false) files.now }
+    ensures answer { IsPut image.now user replace (map file_of files.now) result }
+    ensures refusals { IfErr result (Refuses (WithName (RefusesPut replace))) }
+{
+    let mut disk = disk_of(alloc, image)?;
+    put_all(&mut disk, user, replace, files)?;
+    Ok(image_bytes(alloc, &disk.unmount())?)
 }

@@ -4,6 +4,7 @@ ghost use Rattle.std.specs.Prelude.{◌≡◌};
 ghost use Rattle.z80dev_disk.specs.Refusals.{disk_name, image_name, of_disk, of_image};
 ghost use Rattle.z80dev_disk.specs.declared.refusal.Refusal.TheVariants as refusal;
 
+use crate::shown::HostName;
 use cpm_directory::DiskFault;
 use cpm_image::ImageFault;
 use std::alloc::{AllocError, AllocFailed};
@@ -14,12 +15,31 @@ use std::fmt;
 pub enum Refusal {
     /// A word is no name of a file.
     BadName,
+    /// The host cannot take the name of this file of the disk.
+    BadFile([u8; 11]),
     /// The bytes are no image.
     Image(ImageFault),
     /// The disk refuses.
     Disk(DiskFault),
+    /// The disk refuses this file, or this pattern of names.
+    Named(DiskFault, [u8; 11]),
     /// Memory ran out.
     NoMemory,
+}
+
+impl Refusal {
+    ghost use Rattle.z80dev_disk.specs.Refusals.{unnamed};
+
+    /// The refusal without the name of its file.
+    pub fn unnamed(self) -> Refusal
+        ensures { result ≡ unnamed self }
+    {
+        match self {
+            Refusal::BadFile(_) => Refusal::BadName,
+            Refusal::Named(why, _) => Refusal::Disk(why),
+            _ => self,
+        }
+    }
 }
 
 impl From<ImageFault> for Refusal {
@@ -70,7 +90,8 @@ fn image_name(fault: ImageFault) -> &'static str
     }
 }
 
-fn disk_name(fault: DiskFault) -> &'static str
+/// A fault by its name.
+pub(crate) fn disk_name(fault: DiskFault) -> &'static str
     ensures { result.now ≡ disk_name fault }
 {
     match fault {
@@ -93,7 +114,7 @@ fn disk_name(fault: DiskFault) -> &'static str
     }
 }
 
-/// What is printed after `error: `: the name of the innermost variant.
+/// What is printed after `error: `: the name of the innermost variant, with the name of a file in parentheses.
 impl fmt::Display for Refusal {
     ghost use Rattle.std.specs.Prelude.{Some};
     ghost use Rattle.z80dev_disk.specs.Refusals.{refusal_text};
@@ -103,8 +124,12 @@ impl fmt::Display for Refusal {
     fn fmt<W: fmt::Write>(&self, f: &mut fmt::Formatter<W>) -> fmt::Result {
         match self {
             Refusal::BadName => f.write_str("BadName"),
+            Refusal::BadFile(name) => write!(f, "BadName({})", HostName { name: *name }),
             Refusal::Image(fault) => f.write_str(image_name(*fault)),
             Refusal::Disk(fault) => f.write_str(disk_name(*fault)),
+            Refusal::Named(fault, name) => {
+                write!(f, "{}({})", disk_name(*fault), HostName { name: *name })
+            }
             Refusal::NoMemory => f.write_str("NoMemory"),
         }
     }

@@ -1,10 +1,10 @@
 use Rattle.std.proofs.lemmas.Result.{err_from_is_err_and}
 use Rattle.z80dev_disk.specs.Get.{GetOf}
-use Rattle.z80dev_disk.specs.Refusals.{RefusesGet}
+use Rattle.z80dev_disk.specs.Refusals.{IsNotFound, WithoutName}
 use Rattle.z80dev_disk.proofs.Refused.{of_bytes}
 use Rattle.z80dev_disk.proofs.getting.got.Goals as goal
 
 pub returns-in_err-disk : goal.returns-in_err-disk
 returns-in_err-disk c =
     let p = err_from_is_err_and c.from_residual.result c.from_residual.ensures.1 in
-    rw (p.1, p.2) (of_bytes RefusesGet (GetOf c.args.name.now) c.args.image.now c.in_err-disk.field-0.0 c.in_err-disk.ensures)
+    rw (p.1, p.2) (of_bytes (WithoutName IsNotFound) (GetOf c.args.user c.args.name.now c.args.text) c.args.image.now c.in_err-disk.field-0.0 c.in_err-disk.ensures)

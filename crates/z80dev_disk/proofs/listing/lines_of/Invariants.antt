@@ -4,4 +4,4 @@ use Rattle.z80dev_disk.specs.Dir.{line_of}
 use Rattle.z80dev_disk.proofs.listing.lines_of.Given as goal
 
 abbrev pub invariant-loop-file : goal.invariant-loop-file
-invariant-loop-file l = l.lines.items ≡ flat_map line_of (take l.file-index l.files)
+invariant-loop-file l = l.lines.items ≡ flat_map (line_of l.long l.disk.kind l.disk.device) (take l.file-index l.files)

@@ -1,0 +1,7 @@
+use Rattle.std.proofs.Common.{◌≡◌, false, take}
+use Rattle.z80dev_disk.specs.Along.{Along}
+use Rattle.z80dev_disk.specs.Changes.{Erases}
+use Rattle.z80dev_disk.proofs.changing.erase_all.Given as goal
+
+abbrev pub invariant-loop-pattern : goal.invariant-loop-pattern
+invariant-loop-pattern l = (l.disk.kind ≡ l.initial.disk.kind) × (l.disk.failed ≡ false) × Along (Erases l.initial.disk.kind l.user) (take l.pattern-index l.patterns) l.initial.disk.device l.disk.device

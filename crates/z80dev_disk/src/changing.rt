@@ -1,0 +1,170 @@
+//! Files that are erased, renamed and marked.
+
+ghost use Rattle.std.specs.Prelude.{◌≡◌, ◌<◌, IfErr, OnOk, false};
+ghost use Rattle.cpm_directory.specs.declared.entry.TheConstants.{USERS};
+ghost use Rattle.cpm_operations.specs.Refusals.{RefusesErasure, RefusesMarking, RefusesRenaming};
+ghost use Rattle.z80dev_disk.specs.Along.{Along, IsRefusedAlong};
+ghost use Rattle.z80dev_disk.specs.Changes.{Erases, IsErased, IsMarked, IsRenamed, Marks, StopsErasing, StopsMarking, named_by, pattern_itself};
+ghost use Rattle.z80dev_disk.specs.Private.{IsRefusedAt};
+ghost use Rattle.z80dev_disk.specs.Refusals.{Refuses, WithName, WithoutName};
+
+use crate::entries::{of_any_extent, read_only_name};
+use crate::image::{disk_of, image_bytes};
+use crate::refusal::Refusal;
+use cpm_directory::{Attribute, DiskFault, Name};
+use cpm_disk::Disk;
+use cpm_image::MemoryImage;
+use std::alloc::Global;
+
+/// The name that goes with a refusal: that of the first entry that matches and is read-only, or else the pattern.
+fn named_by(disk: &Disk<MemoryImage>, user: u8, pattern: &[u8; 11], why: DiskFault) -> [u8; 11]
+    requires { disk.now.failed ≡ false }
+    ensures { result ≡ named_by disk.now.kind user pattern.now disk.now.device why }
+{
+    match why {
+        DiskFault::ReadOnly => read_only_name(disk, user, pattern),
+        _ => *pattern,
+    }
+}
+
+/// Erases the files that match a pattern.
+fn erase_one(disk: &mut Disk<MemoryImage>, user: u8, pattern: &[u8; 11]) -> Result<(), Refusal>
+    requires sound { disk.old.failed ≡ false }
+    requires user { user < USERS }
+    ensures kind { disk.new.kind ≡ disk.old.kind }
+    ensures sound { OnOk result (disk.new.failed ≡ false) }
+    ensures erased { OnOk result (Erases disk.old.kind user pattern.now disk.old.device disk.new.device) }
+    ensures stopped { IfErr result (IsRefusedAt (StopsErasing disk.old.kind user) (named_by disk.old.kind user) pattern.now disk.old.device) }
+    ensures refusals { IfErr result (WithName RefusesErasure) }
+{
+    match disk.erase(user, &of_any_extent(pattern)) {
+        Ok(_) => Ok(()),
+        Err(why) => Err(Refusal::Named(why, named_by(disk, user, pattern, why))),
+    }
+}
+
+/// Erases the files that match each pattern in turn.
+fn erase_all(disk: &mut Disk<MemoryImage>, user: u8, patterns: &[[u8; 11]]) -> Result<(), Refusal>
+    requires sound { disk.old.failed ≡ false }
+    requires user { user < USERS }
+    ensures erased { OnOk result (Along (Erases disk.old.kind user) patterns.now disk.old.device disk.new.device) }
+    ensures stopped { IfErr result (IsRefusedAlong (Erases disk.old.kind user) (StopsErasing disk.old.kind user) (named_by disk.old.kind user) patterns.now disk.old.device) }
+    ensures refusals { IfErr result (WithName RefusesErasure) }
+{
+    for pattern in patterns {
+        erase_one(disk, user, pattern)?;
+    }
+    Ok(())
+}
+
+/// The image of the disk whose image bytes are, without the files of a user that match each pattern in turn. A byte `?` of a pattern
+/// matches whatever stands there.
+///
+/// # Errors
+///
+/// In this order: [`ImageFault`](crate::ImageFault) where the bytes are no image; the first fault of the directory; of each pattern in
+/// turn [`DiskFault::NotFound`], with the pattern, where no file matches that those before it left, and [`DiskFault::ReadOnly`], with the
+/// name of the file whose entry is the first that is read-only. [`Refusal::NoMemory`].
+pub fn erase(
+    alloc: Global,
+    image: &[u8],
+    user: u8,
+    patterns: &[[u8; 11]],
+) -> Result<Vec<u8>, Refusal>
+    requires { user < USERS }
+    ensures answer { IsErased image.now user patterns.now result }
+    ensures refusals { IfErr result (Refuses (WithName RefusesErasure)) }
+{
+    let mut disk = disk_of(alloc, image)?;
+    erase_all(&mut disk, user, patterns)?;
+    Ok(image_bytes(alloc, &disk.unmount())?)
+}
+
+/// The image of the disk whose image bytes are, with a file of a user under another name.
+///
+/// # Errors
+///
+/// In this order: [`ImageFault`](crate::ImageFault) where the bytes are no image; the first fault of the directory;
+/// [`DiskFault::NotFound`], [`DiskFault::Exists`] where the user has a file of the new name, [`DiskFault::ReadOnly`], each without a
+/// name. [`Refusal::NoMemory`].
+pub fn rename(
+    alloc: Global,
+    image: &[u8],
+    user: u8,
+    old: &Name,
+    new: &Name,
+) -> Result<Vec<u8>, Refusal>
+    requires { user < USERS }
+    ensures answer { IsRenamed image.now user old.now new.now result }
+    ensures refusals { IfErr result (Refuses (WithoutName RefusesRenaming)) }
+{
+    let mut disk = disk_of(alloc, image)?;
+    disk.rename(user, old, new)?;
+    Ok(image_bytes(alloc, &disk.unmount())?)
+}
+
+/// Marks the files that match a pattern.
+fn mark_one(
+    disk: &mut Disk<MemoryImage>,
+    user: u8,
+    attribute: Attribute,
+    on: bool,
+    pattern: &[u8; 11],
+) -> Result<(), Refusal>
+    requires sound { disk.old.failed ≡ false }
+    requires user { user < USERS }
+    ensures kind { disk.new.kind ≡ disk.old.kind }
+    ensures sound { OnOk result (disk.new.failed ≡ false) }
+    ensures marked { OnOk result (Marks disk.old.kind user attribute on pattern.now disk.old.device disk.new.device) }
+    ensures stopped { IfErr result (IsRefusedAt (StopsMarking disk.old.kind user) pattern_itself pattern.now disk.old.device) }
+    ensures refusals { IfErr result (WithName RefusesMarking) }
+{
+    match disk.mark(user, &of_any_extent(pattern), attribute, on) {
+        Ok(_) => Ok(()),
+        Err(why) => Err(Refusal::Named(why, *pattern)),
+    }
+}
+
+/// Marks the files that match each pattern in turn.
+fn mark_all(
+    disk: &mut Disk<MemoryImage>,
+    user: u8,
+    attribute: Attribute,
+    on: bool,
+    patterns: &[[u8; 11]],
+) -> Result<(), Refusal>
+    requires sound { disk.old.failed ≡ false }
+    requires user { user < USERS }
+    ensures marked { OnOk result (Along (Marks disk.old.kind user attribute on) patterns.now disk.old.device disk.new.device) }
+    ensures stopped { IfErr result (IsRefusedAlong (Marks disk.old.kind user attribute on) (StopsMarking disk.old.kind user) pattern_itself patterns.now disk.old.device) }
+    ensures refusals { IfErr result (WithName RefusesMarking) }
+{
+    for pattern in patterns {
+        mark_one(disk, user, attribute, on, pattern)?;
+    }
+    Ok(())
+}
+
+/// The image of the disk whose image bytes are, with an attribute of the files of a user that match each pattern in turn set, or, where
+/// `on` is false, taken away. A read-only file may be marked too.
+///
+/// # Errors
+///
+/// In this order: [`ImageFault`](crate::ImageFault) where the bytes are no image; the first fault of the directory; of each pattern in
+/// turn [`DiskFault::NotFound`], with the pattern, where no file matches. [`Refusal::NoMemory`].
+pub fn mark(
+    alloc: Global,
+    image: &[u8],
+    user: u8,
+    attribute: Attribute,
+    on: bool,
+    patterns: &[[u8; 11]],
+) -> Result<Vec<u8>, Refusal>
+    requires { user < USERS }
+    ensures answer { IsMarked image.now user attribute on patterns.now result }
+    ensures refusals { IfErr result (Refuses (WithName RefusesMarking)) }
+{
+    let mut disk = disk_of(alloc, image)?;
+    mark_all(&mut disk, user, attribute, on, patterns)?;
+    Ok(image_bytes(alloc, &disk.unmount())?)
+}

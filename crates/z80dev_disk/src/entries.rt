@@ -1,0 +1,56 @@
+//! Entries of a disk's directory.
+
+ghost use Rattle.std.specs.Prelude.{◌≡◌, ◌&&◌, ◌<◌, false};
+ghost use Rattle.cpm_image.specs.Kind.{entry_count};
+ghost use Rattle.cpm_directory.specs.Entries.{at, is_match, is_read_only};
+ghost use Rattle.cpm_disk.specs.Image.{directory};
+ghost use Rattle.z80dev_disk.specs.Changes.{first_name};
+ghost use Rattle.z80dev_disk.specs.Private.{HaveNames};
+
+use cpm_directory::{Entry, Name, Pattern};
+use cpm_disk::Disk;
+use cpm_image::MemoryImage;
+
+/// The pattern of names, for the entries of all extents.
+pub(crate) fn of_any_extent(name: &[u8; 11]) -> Pattern
+    ensures { result.name ≡ name.now }
+{
+    Pattern {
+        name: *name,
+        extent: b'?',
+        high: b'?',
+    }
+}
+
+/// An entry of the directory.
+fn entry_at(disk: &Disk<MemoryImage>, number: u16) -> Entry
+    requires sound { disk.now.failed ≡ false }
+    requires within { number < entry_count disk.now.kind }
+    ensures { result ≡ at (directory disk.now.kind disk.now.device) number }
+{
+    Entry::from_bytes(&disk.entry(number))
+}
+
+/// A law: the names of a directory's entries have eleven bytes.
+pub(crate) fn has_names(disk: &Disk<MemoryImage>)
+    requires { disk.now.failed ≡ false }
+    ensures { HaveNames disk.now.kind disk.now.device }
+{
+    for number in 0..disk.kind().entry_count() {
+        let _name = entry_at(disk, number).name;
+    }
+}
+
+/// The name of the first entry of a user that matches a pattern and is read-only, or else the pattern.
+pub(crate) fn read_only_name(disk: &Disk<MemoryImage>, user: u8, pattern: &[u8; 11]) -> [u8; 11]
+    requires { disk.now.failed ≡ false }
+    ensures { result ≡ first_name (λ e. is_match user pattern.now e && is_read_only e) (directory disk.now.kind disk.now.device) pattern.now }
+{
+    for number in 0..disk.kind().entry_count() {
+        let entry = entry_at(disk, number);
+        if entry.is_match(user, pattern) && entry.is_read_only() {
+            return Name::new(entry.name).bytes();
+        }
+    }
+    *pattern
+}
