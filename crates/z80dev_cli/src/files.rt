@@ -1,39 +1,48 @@
 //! Files of the machine that the program runs on.
 
-use arrayvec::ArrayString;
-use std::alloc::Global;
-use std::fmt::{self, Write};
-use std::fs::{self, File, OpenOptions};
-use std::io::ErrorKind;
+mod lock;
+mod part;
+
+ghost use Rattle.std.specs.Prelude.{None, option_map, string_bytes};
+ghost use Rattle.z80dev_cli.specs.Host.{lock_in, part_in};
+
+use lock::{HeldLock, take_lock};
+use part::{Part, write_part};
+use std::alloc::{AllocError, Global};
+use std::fs::{self, OpenOptions};
 use streams::{Watched, WatchedSink, WriteFailed, put};
-use z80dev::{Fault, Files, Unread, read_text};
-
-/// How many parts may lie beside a file, left by runs that were killed or of runs that have not ended.
-const PARTS: u32 = 100;
-
-/// How many bytes the name of a file may have, and its part's name before `.part` and two digits.
-const NAME_LIMIT: usize = 248;
-
-/// A path of any length that the system takes, for which no memory is asked.
-type PartPath = ArrayString<4096>;
+use z80dev::{Fault, read_text};
+use z80dev_finish::{Claimed, Files, Placed, Unread};
 
 /// The files of the system, and how often a call failed.
 #[derive(Drop)]
 pub(crate) struct HostFiles<'a> {
     rt: &'a HostRuntime,
     failures: u64,
+    lock: Option<HeldLock>,
+    claimed: Option<String>,
+    part: Option<Part>,
 }
 
 impl<'a> HostFiles<'a> {
     pub(crate) fn new(rt: &'a HostRuntime) -> HostFiles<'a> {
-        HostFiles { rt, failures: 0 }
+        HostFiles {
+            rt,
+            failures: 0,
+            lock: None,
+            claimed: None,
+            part: None,
+        }
+    }
+
+    /// Counts a call that failed.
+    fn fail(&mut self) {
+        self.failures = self.failures.saturating_add(1);
     }
 }
 
 impl Files for HostFiles<'_> {
-    ghost use Rattle.std.specs.Prelude.{None};
-
-    ghost folder = { λ files. record { files = None; failures = files.failures } };
+    ghost folder = { λ h. record { files = None; failures = h.failures; locked = option_map lock_in h.lock; claimed = option_map string_bytes h.claimed; part = option_map part_in h.part } };
 
     fn read(&mut self, alloc: Global, path: &str) -> Result<Vec<u8>, Unread> {
         let read = match fs::open(self.rt, path) {
@@ -43,7 +52,7 @@ impl Files for HostFiles<'_> {
         match read {
             Ok(bytes) => Ok(bytes),
             Err(Fault::File) => {
-                self.failures = self.failures.saturating_add(1);
+                self.fail();
                 Err(Unread::File)
             }
             Err(Fault::Build(_)) => Err(Unread::NoMemory),
@@ -53,9 +62,77 @@ impl Files for HostFiles<'_> {
     fn write(&mut self, path: &str, bytes: &[u8]) -> Result<(), WriteFailed> {
         let answer = write(self.rt, path, bytes);
         if answer.is_err() {
-            self.failures = self.failures.saturating_add(1);
+            self.fail();
         }
         answer
+    }
+
+    fn lock(&mut self, alloc: Global, path: &str, is_wanted: bool) -> Result<bool, Unread> {
+        match take_lock(self.rt, alloc, path, is_wanted) {
+            Ok(lock) => {
+                let is_held = lock.is_held;
+                self.lock = Some(lock);
+                Ok(is_held)
+            }
+            Err(Unread::File) => {
+                self.fail();
+                Err(Unread::File)
+            }
+            Err(Unread::NoMemory) => Err(Unread::NoMemory),
+        }
+    }
+
+    fn claim(&mut self, alloc: Global, path: &str, is_wanted: bool) -> Result<Claimed, Unread> {
+        let claimed = match String::from_str(alloc, path) {
+            Ok(copy) => copy,
+            Err(AllocError) => return Err(Unread::NoMemory),
+        };
+        let is_locked = self.lock(alloc, path, is_wanted)?;
+        let bytes = self.read(alloc, path)?;
+        self.claimed = Some(claimed);
+        Ok(Claimed { bytes, is_locked })
+    }
+
+    fn write_beside(&mut self, path: &str, bytes: &[u8]) -> Result<(), WriteFailed> {
+        let Some(lock) = &mut self.lock else {
+            unreachable!();
+        };
+        match write_part(self.rt, lock, bytes) {
+            Ok(part) => {
+                self.part = Some(part);
+                Ok(())
+            }
+            Err(WriteFailed) => {
+                self.fail();
+                Err(WriteFailed)
+            }
+        }
+    }
+
+    fn sync(&mut self) -> Result<(), WriteFailed> {
+        let Some(part) = &mut self.part else {
+            unreachable!();
+        };
+        match part.sync() {
+            Ok(()) => Ok(()),
+            Err(WriteFailed) => {
+                self.fail();
+                Err(WriteFailed)
+            }
+        }
+    }
+
+    fn put_in_place(&mut self, keep: bool) -> Result<Placed, WriteFailed> {
+        let Some(part) = self.part.take() else {
+            unreachable!();
+        };
+        match part.put_in_place(self.rt, keep) {
+            Ok(placed) => Ok(placed),
+            Err(WriteFailed) => {
+                self.fail();
+                Err(WriteFailed)
+            }
+        }
     }
 }
 
@@ -63,7 +140,7 @@ impl Files for HostFiles<'_> {
 fn write(rt: &HostRuntime, path: &str, bytes: &[u8]) -> Result<(), WriteFailed> {
     match fs::metadata(rt, path) {
         Ok(found) if !found.is_file() && !found.is_dir() => write_to(rt, path, bytes),
-        _ => replace(rt, path, bytes),
+        _ => part::replace(rt, path, bytes),
     }
 }
 
@@ -73,55 +150,4 @@ fn write_to(rt: &HostRuntime, path: &str, bytes: &[u8]) -> Result<(), WriteFaile
         Ok(file) => put(&mut WatchedSink::new(file), bytes),
         Err(_) => Err(WriteFailed),
     }
-}
-
-/// Writes the bytes beside the file, and gives them its name when all are written.
-fn replace(rt: &HostRuntime, path: &str, bytes: &[u8]) -> Result<(), WriteFailed> {
-    let (part, file) = new_part(rt, path)?;
-    let answer = put(&mut WatchedSink::new(file), bytes);
-    if answer.is_ok() && fs::rename(rt, part.as_str(), path).is_ok() {
-        return Ok(());
-    }
-    let _ = fs::remove_file(rt, part.as_str());
-    Err(WriteFailed)
-}
-
-/// A new file beside that of the path, and its own path.
-fn new_part(rt: &HostRuntime, path: &str) -> Result<(PartPath, File), WriteFailed> {
-    for number in 0..PARTS {
-        let Ok(part) = part_of(path, number) else {
-            return Err(WriteFailed);
-        };
-        match File::create_new(rt, part.as_str()) {
-            Ok(file) => return Ok((part, file)),
-            Err(error) if error.kind() == ErrorKind::AlreadyExists => {}
-            Err(_) => return Err(WriteFailed),
-        }
-    }
-    Err(WriteFailed)
-}
-
-/// The path of a part: the file's, its name cut where it is too long, then `.part`, and a number unless that is 0.
-///
-/// # Errors
-///
-/// Where it is longer than a path may be.
-fn part_of(path: &str, number: u32) -> Result<PartPath, fmt::Error> {
-    let mut part = PartPath::new();
-    part.write_str(front_of(path))?;
-    part.write_str(".part")?;
-    if number > 0 {
-        write!(part, "{number}")?;
-    }
-    Ok(part)
-}
-
-/// As much of a path that no name in it is too long with the ending of a part.
-fn front_of(path: &str) -> &str {
-    let name = match path.rfind('/') {
-        Some(slash) => slash.saturating_add(1),
-        None => 0,
-    };
-    let end = path.floor_char_boundary(name.saturating_add(NAME_LIMIT));
-    path.get(..end).unwrap_or(path)
 }

@@ -27,6 +27,7 @@ finished : {R : Type 0} (text : R → List ℕ) (base : List ℕ) (a : made.Answ
 finished text base a old new before after end.Done does = (does.0, does.1, ap (option_map text) does.2)
 finished text base a old new before after (end.Refused said) does = (does.0, does.1, why_said text a.refusal (string_bytes said) does.2)
 finished text base a old new before after (end.File path last) does = does
+finished text base a old new before after (end.Path path) does = absurd does
 finished text base a old new before after end.Stream does = does
 finished text base a old new before after end.NoMemory does = does
 
@@ -50,6 +51,7 @@ pub no_line : (e : End) (wanted : Option (List ℕ)) → (e ≡ end.Done → ⊥
 no_line end.Done wanted not = absurd (not refl)
 no_line (end.Refused said) wanted not = refl
 no_line (end.File path last) wanted not = refl
+no_line (end.Path path) wanted not = refl
 no_line end.Stream wanted not = refl
 no_line end.NoMemory wanted not = refl
 
@@ -57,6 +59,7 @@ pub tells_alone : (e : End) (old new : Stream) → Tells e old new → TellsWith
 tells_alone end.Done old new tells = tells
 tells_alone (end.Refused said) old new tells = tells
 tells_alone (end.File path last) old new tells = tells
+tells_alone (end.Path path) old new tells = tells
 tells_alone end.Stream old new tells = tells
 tells_alone end.NoMemory old new tells = tells
 

@@ -1,5 +1,5 @@
 -- Files that are read one after the other.
-use Rattle.std.proofs.Common.{◌≡◌, ℕ, ◌<◌, Bor, List, [], Option, None, Some, Result, Ok, Err, Vec, length, get_or, map, take, sym, subst, ◌∙◌, inl, ap}
+use Rattle.std.proofs.Common.{◌≡◌, ℕ, ◌<◌, List, [], Some, Result, Ok, Err, Vec, length, get_or, map, take, sym, subst, ◌∙◌, inl, ap}
 use Rattle.std.specs.Global.{Global}
 use Rattle.std.specs.List.{AllZip}
 use Rattle.std.specs.Result.{IsErrAnd}
@@ -7,9 +7,7 @@ use Rattle.std.proofs.lemmas.List.{get_or-map}
 use Rattle.std.proofs.lemmas.Option.{slice_get-get_or}
 use Rattle.z80dev_finish.specs.Files.{Folder}
 use Rattle.z80dev_finish.specs.declared.end.End.{End}
-use Rattle.z80dev_jobs.specs.Reading.{IsNotRead, IsRead, Reader, ReadsAll, ReadsIfGiven}
-use Rattle.z80dev_jobs.specs.Running.{ReadsInputs}
-use Rattle.z80dev_jobs.specs.declared.running.Inputs.{Inputs}
+use Rattle.z80dev_jobs.specs.Reading.{IsNotRead, IsRead, ReadsAll}
 
 -- those before one of the files are read, and it is not
 pub one_unread : (old mid new : Folder) (paths texts : List (List ℕ)) (k : ℕ) (path : List ℕ) (e : End) (result : Result (Vec (Vec ℕ Global) Global) End) → mid ≡ old → k < length paths
@@ -17,22 +15,6 @@ pub one_unread : (old mid new : Folder) (paths texts : List (List ℕ)) (k : ℕ
 one_unread old mid new paths texts k path e (Ok _) same lt at so_far this is = absurd is
 one_unread old mid new paths texts k path e (Err f) same lt at so_far this is =
     inl (k, path, texts, slice_get-get_or paths k [] lt ∙ ap Some (sym at), so_far, subst (IsNotRead old new path) (sym is) (subst (λ x. IsNotRead x new path e) same this))
-
--- a file that is read if its path is given changes none
-pub given_same : (old mid : Folder) (disk : Option (Bor (List ℕ))) (bytes : Vec ℕ Global) → ReadsIfGiven old mid disk (Ok bytes) → mid ≡ old
-given_same old mid None bytes read = read.0
-given_same old mid (Some path) bytes read = read.0
-
-pub given_again : (old mid : Folder) (disk : Option (Bor (List ℕ))) (bytes : Vec ℕ Global) → ReadsIfGiven old mid disk (Ok bytes) → ReadsIfGiven old old disk (Ok bytes)
-given_again old mid disk bytes read = subst (λ f. ReadsIfGiven old f disk (Ok bytes)) (given_same old mid disk bytes read) read
-
--- reading what `run` needs changes no file
-pub inputs_same : (old new : Folder) (disk : Option (Bor (List ℕ))) (path : List ℕ) (before after : Reader) (inputs : Inputs) → ReadsInputs disk path old new before after (Ok inputs) → new ≡ old
-inputs_same old new disk path before after inputs reads = given_same old new disk inputs.image reads.0
-
-pub inputs_again : (old new : Folder) (disk : Option (Bor (List ℕ))) (path : List ℕ) (before after : Reader) (inputs : Inputs) → ReadsInputs disk path old new before after (Ok inputs)
-    → ReadsInputs disk path old old before after (Ok inputs)
-inputs_again old new disk path before after inputs reads = (given_again old new disk inputs.image reads.0, reads.1, reads.2)
 
 -- the bytes of a text, by its number
 pub text_at : (texts : List (Vec ℕ Global)) (text : Vec ℕ Global) (n k : ℕ) (d : Vec ℕ Global) → text ≡ get_or texts n d → n ≡ k → k < length texts → text.items ≡ get_or (map (λ t. t.items) texts) k []

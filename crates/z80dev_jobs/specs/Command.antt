@@ -1,5 +1,5 @@
 -- What the command `z80dev` does, whatever its words.
-use Rattle.std.specs.Prelude.{◌≡◌, ◌≢◌, ◌⊎◌, ℕ, true, List, ◌++◌, Option, None, Some, Result, codes, decimal, map, unwrap_or}
+use Rattle.std.specs.Prelude.{◌≡◌, ◌≢◌, ◌⊎◌, ℕ, true, List, ◌++◌, Option, Result, codes, decimal, map, unwrap_or}
 use Rattle.clap.specs.Words.{IsAmong, fault_of, takes}
 use Rattle.clap.specs.declared.error.kind.ErrorKind.{ErrorKind}
 use Rattle.clap.specs.declared.error.kind.ErrorKind.TheVariants as kind
@@ -8,13 +8,13 @@ use Rattle.streams.specs.Writing.{PutsAll, PutsFront, error_line}
 use Rattle.z80dev.specs.Pipe.{Ends, said_at, status_at}
 use Rattle.z80dev.specs.Reading.{IsCutShort, OfText}
 use Rattle.z80dev.specs.declared.fault.Fault.{Fault}
-use Rattle.z80dev_commands.specs.Commands.{IsJob, z80dev}
+use Rattle.z80dev_commands.specs.Commands.{IsJob, IsMiscounted, z80dev}
 use Rattle.z80dev_commands.specs.declared.Job.{Job}
-use Rattle.z80dev_commands.specs.declared.Job.TheVariants.{Pipe, Asm, Link, Build, Check, Dir, Put, Get, Blank, Run}
+use Rattle.z80dev_commands.specs.declared.Job.TheVariants.{Pipe, Asm, Link, Build, Check, Dir, Put, PutAll, Get, GetAll, Erase, Rename, Protect, CheckDisk, Blank, Run}
 use Rattle.z80dev_finish.specs.End.{IsPut, Tells, TellsOf, end_status}
 use Rattle.z80dev_finish.specs.declared.end.End.{End}
 use Rattle.z80dev_finish.specs.declared.end.End.TheVariants as end
-use Rattle.z80dev_jobs.specs.Disks.{BlankEnds, DirEnds, GetEnds, PutEnds}
+use Rattle.z80dev_jobs.specs.Disks.{BlankEnds, CheckDiskEnds, DirEnds, EraseEnds, GetAllEnds, GetEnds, ProtectEnds, PutAllEnds, PutEnds, RenameEnds, TellsLine}
 use Rattle.z80dev_jobs.specs.Making.{AsmEnds, BuildEnds, CheckEnds, Effect, LinkEnds, effect_of}
 use Rattle.z80dev_jobs.specs.Running.{RunEnds}
 use Rattle.z80dev_jobs.specs.Words.{AreTexts, IsNotText}
@@ -27,11 +27,7 @@ effect old new = effect_of old.folder new.folder old.output new.output
 abbrev pub Reports : (Effect → End → Type 0) → World → World → ℕ → Type 0
 Reports Ends old new status = (e : End) × Ends (effect old new) e × (status ≡ end_status e) × Tells e old.errors new.errors × (new.input ≡ old.input)
 
--- A job that counts its jumps may put a line on standard error when all is done.
-abbrev pub TellsLine : Option (List ℕ) → Stream → Stream → Type 0
-TellsLine None old new = new ≡ old
-TellsLine (Some line) old new = IsPut old new line
-
+-- the line of an end; or the lines of a job at which all is done: how many jumps are short and long, or warnings
 abbrev pub TellsWith : Option (List ℕ) → End → Stream → Stream → Type 0
 TellsWith line end.Done old new = TellsLine line old new
 TellsWith line e old new = Tells e old new
@@ -56,11 +52,17 @@ JobEnds (Asm out grow source) old new status = Reports (AsmEnds out.now grow sou
 JobEnds (Link out objects) old new status = Reports (LinkEnds out.now (map (λ path. path.now) objects.items)) old new status
 JobEnds (Build out grow list verbose sources) old new status = ReportsLine (BuildEnds out.now grow list verbose (map (λ path. path.now) sources.items)) old new status
 JobEnds (Check sizes cert) old new status = Reports (CheckEnds sizes.now cert.now) old new status
-JobEnds (Dir image) old new status = Reports (DirEnds image.now) old new status
-JobEnds (Put image file name) old new status = Reports (PutEnds image.now file.now name.now) old new status
-JobEnds (Get image name file) old new status = Reports (GetEnds image.now name.now file.now) old new status
-JobEnds (Blank mega image) old new status = Reports (BlankEnds mega image.now) old new status
-JobEnds (Run disk steps program words) old new status = RunEnds disk (unwrap_or steps default_steps) program.now (map (λ word. word.now) words.items) old new status
+JobEnds (Dir image user long name) old new status = ReportsLine (DirEnds image.now user long name) old new status
+JobEnds (Put target manner file name) old new status = ReportsLine (PutEnds target manner file.now name.now) old new status
+JobEnds (PutAll target manner files) old new status = ReportsLine (PutAllEnds target manner (map (λ path. path.now) files.items)) old new status
+JobEnds (Get image user text name file) old new status = ReportsLine (GetEnds image.now user text name.now file.now) old new status
+JobEnds (GetAll image user text folder) old new status = ReportsLine (GetAllEnds image.now user text folder.now) old new status
+JobEnds (Erase target names) old new status = ReportsLine (EraseEnds target (map (λ word. word.now) names.items)) old new status
+JobEnds (Rename target from to) old new status = ReportsLine (RenameEnds target from.now to.now) old new status
+JobEnds (Protect target attribute on names) old new status = ReportsLine (ProtectEnds target attribute on (map (λ word. word.now) names.items)) old new status
+JobEnds (CheckDisk image) old new status = ReportsLine (CheckDiskEnds image.now) old new status
+JobEnds (Blank mega keep lock image) old new status = ReportsLine (BlankEnds mega keep lock image.now) old new status
+JobEnds (Run disk lock steps program words) old new status = RunEnds disk lock (unwrap_or steps default_steps) program.now (map (λ word. word.now) words.items) old new status
 
 -- No file is touched, and standard input is not read
 pub record Untouched (old new : World) : Type 0 where
@@ -93,12 +95,16 @@ abbrev pub RefusesWords : ErrorKind → Stream → Stream → Stream → Stream 
 RefusesWords k before after old new status = (AsksToShow k × Shows before after old new status)
     ⊎ ((AsksToShow k → ⊥) × (k ≢ kind.OutOfMemory) × RefusesUsage before after old new status)
 
+-- why words ask for no job: their parse fails for this; or it does not, but there are too few or too many paths
+abbrev pub IsUsageFault : List (List ℕ) → ErrorKind → Type 0
+IsUsageFault texts k = (IsAmong k (fault_of z80dev texts) × (takes z80dev texts ≡ true → ⊥)) ⊎ IsMiscounted texts k
+
 -- The command with its words, as bytes: the words ask for a job, which is done; or they ask for none, for the help, or for the version; or a word
 -- is not UTF-8; or memory ran out before it was known what they ask for.
 abbrev pub CommandEnds : List (List ℕ) → World → World → ℕ → Type 0
 CommandEnds words old new status =
     ((texts : List (List ℕ)) × (job : Job) × AreTexts words texts × IsJob texts job × JobEnds job old new status)
     ⊎ (Untouched old new
-    × (((texts : List (List ℕ)) × (k : ErrorKind) × AreTexts words texts × IsAmong k (fault_of z80dev texts) × (takes z80dev texts ≡ true → ⊥) × RefusesWords k old.output new.output old.errors new.errors status)
+    × (((texts : List (List ℕ)) × (k : ErrorKind) × AreTexts words texts × IsUsageFault texts k × RefusesWords k old.output new.output old.errors new.errors status)
     ⊎ (((n : ℕ) × IsNotText words n × RefusesWord n old.output new.output old.errors new.errors status)
     ⊎ LacksMemory old.output new.output old.errors new.errors status)))

@@ -1,50 +1,236 @@
 -- How the commands on images of disks end.
-use Rattle.std.specs.Prelude.{◌≡◌, ℕ, Bool, true, false, List, Option, None, Some, codes, string_bytes}
-use Rattle.cpm_image.specs.Image.{blank_image}
+use Rattle.std.specs.Prelude.{◌≡◌, ◌≢◌, ◌⊎◌, ℕ, ◌+◌, ◌==◌, Bool, true, false, ◌&&◌, not, List, [], ◌∷◌, ◌++◌, Option, None, Some, Result, Ok, Err, Vec, codes, decimal, if◌then◌else◌, length, map, slice_get, string_bytes, take}
+use Rattle.std.specs.Borrow.{Bor}
+use Rattle.std.specs.Global.{Global}
+use Rattle.std.specs.List.{AllZip, concat}
+use Rattle.streams.specs.Stream.{Stream, counted}
+use Rattle.cpm_directory.specs.declared.entry.Attribute.{Attribute}
+use Rattle.cpm_image.specs.Image.{blank_image, byte_count}
 use Rattle.cpm_image.specs.declared.kind.DiskKind.{DiskKind}
 use Rattle.cpm_image.specs.declared.kind.DiskKind.TheVariants.{EightInch, Megabyte}
+use Rattle.z80dev_commands.specs.declared.Attribute as word
+use Rattle.z80dev_commands.specs.declared.Attribute.TheVariants as words
+use Rattle.z80dev_commands.specs.declared.Manner.{Manner}
+use Rattle.z80dev_commands.specs.declared.Target.{Target}
+use Rattle.z80dev_disk.specs.Changes.{IsErased, IsMarked, IsRenamed}
+use Rattle.z80dev_disk.specs.Check.{IsCheck}
 use Rattle.z80dev_disk.specs.Dir.{IsDir}
-use Rattle.z80dev_disk.specs.Disks.{image_file}
-use Rattle.z80dev_disk.specs.Get.{IsGet}
-use Rattle.z80dev_disk.specs.Put.{IsPut}
-use Rattle.z80dev_disk.specs.Words.{name_of}
+use Rattle.z80dev_disk.specs.Get.{IsGet, IsGetAll}
+use Rattle.z80dev_disk.specs.Put.{IsPut as IsPutOn}
+use Rattle.z80dev_disk.specs.Refusals.{refusal_text, unnamed}
+use Rattle.z80dev_disk.specs.Text.{cpm_text}
+use Rattle.z80dev_disk.specs.Words.{name_of, own_name, pattern_of}
+use Rattle.z80dev_disk.specs.declared.getting.Gotten.{Gotten}
+use Rattle.z80dev_disk.specs.declared.refusal.Refusal.{Refusal}
+use Rattle.z80dev_disk.specs.declared.refusal.Refusal.TheVariants as refusal
 use Rattle.z80dev_finish.specs.Answers.{MemoryAside}
+use Rattle.z80dev_finish.specs.End.{IsPut}
+use Rattle.z80dev_finish.specs.Files.{Adds, FailsSo, File, Folder, IsAbsent, IsLockWanted, IsThere, IsUnreadable, IsUntouched, claimed_by, lock_of}
 use Rattle.z80dev_finish.specs.declared.end.End.{End}
 use Rattle.z80dev_finish.specs.declared.end.End.TheVariants as end
-use Rattle.z80dev_jobs.specs.Making.{CarriesOut, Effect, With}
-
--- A word that is no name of a file on a disk is refused, before any file is read.
-abbrev pub IsBadName : End → Type 0
-IsBadName (end.Refused said) = string_bytes said ≡ codes "BadName"
-IsBadName end.NoMemory = Unit {0}
-IsBadName _ = ⊥
+use Rattle.z80dev_jobs.specs.Making.{CarriesOut, Effect, LineAt, With, WithAll}
+use Rattle.z80dev_jobs.specs.Reading.{IsRead}
 
 -- nothing is written, and nothing is printed
 abbrev pub NothingDone : Effect → Type 0
-NothingDone x = (x.new ≡ x.old) × (x.after ≡ x.before)
+NothingDone x = IsUntouched x.old x.new × (x.after ≡ x.before)
 
--- If the word is the name of a file, the command goes on with that name; if not, this is the end.
+-- This text is the refusal, and nothing is done; or memory ran out for it.
+abbrev pub Refuses : List ℕ → Effect → End → Type 0
+Refuses why x (end.Refused said) = (string_bytes said ≡ why) × NothingDone x
+Refuses why x end.NoMemory = NothingDone x
+Refuses why x _ = ⊥
+
+-- ---- warnings
+
+-- Bytes are filled up to an image if they are some, and not as many as a disk of either kind has.
+abbrev pub is_filled_up : ℕ → Bool
+is_filled_up count = not (count == 0) && (not (count == byte_count EightInch) && not (count == byte_count Megabyte))
+
+abbrev pub unlocked_line : List ℕ → List ℕ
+unlocked_line path = codes "warning: " ++ path ++ codes " cannot be locked here: do not let another command change it meanwhile\n"
+
+abbrev pub filled_up_line : List ℕ → ℕ → List ℕ
+filled_up_line path count = (codes "warning: " ++ path ++ codes " has ") ++ (decimal count ++ codes " bytes and was filled up: an image of another system can look empty\n")
+
+-- The lines that warn of an image of so many bytes, and of a lock that was wanted and is not held. There may be none.
+abbrev pub warning_lines : List ℕ → ℕ → Bool → List ℕ
+warning_lines path count is_unlocked = (if is_unlocked then unlocked_line path else []) ++ (if is_filled_up count then filled_up_line path count else [])
+
+abbrev pub line_if_any : List ℕ → Option (List ℕ)
+line_if_any [] = None
+line_if_any (b ∷ rest) = Some (b ∷ rest)
+
+abbrev pub warnings : List ℕ → ℕ → Bool → Option (List ℕ)
+warnings path count is_unlocked = line_if_any (warning_lines path count is_unlocked)
+
+-- lines are put on standard error, if there are some
+abbrev pub TellsLine : Option (List ℕ) → Stream → Stream → Type 0
+TellsLine None old new = new ≡ old
+TellsLine (Some line) old new = IsPut old new line
+
+-- A command ends, with its warnings on standard error if all is done.
+abbrev pub Warns : (Option (List ℕ) → End → Type 0) → Option (List ℕ) → End → Type 0
+Warns Ends line e = (wanted : Option (List ℕ)) × LineAt e line wanted × Ends wanted e
+
+-- ---- words that name files on a disk
+
+-- `error: BadName(WORD)`, of a word among several
+abbrev pub bad_name : List ℕ → List ℕ
+bad_name word = codes "BadName(" ++ word ++ codes ")"
+
+-- If the word is the name of a file, the command continues with that name; if not, it refuses it, before any file is read.
 abbrev pub Named : Option (List ℕ) → (List ℕ → Type 0) → Effect → End → Type 0
 Named (Some name) Does x e = Does name
-Named None Does x e = IsBadName e × NothingDone x
+Named None Does x e = Refuses (codes "BadName") x e
 
--- `dir`: the image is read, and its files are listed.
-abbrev pub DirEnds : List ℕ → Effect → End → Type 0
-DirEnds image x e = With image (λ bytes. CarriesOut image (MemoryAside (IsDir bytes)) x e) x e
+-- .. and each of several words; the first that is none is refused by itself
+abbrev pub NamedAll : (List ℕ → Option (List ℕ)) → List (List ℕ) → (List (List ℕ) → Type 0) → Effect → End → Type 0
+NamedAll name_in words Does x e =
+    ((names : List (List ℕ)) × AllZip (λ word name. name_in word ≡ Some name) words names × Does names)
+    ⊎ ((n : ℕ) × (word : List ℕ) × (names : List (List ℕ)) × (slice_get words n ≡ Some word) × AllZip (λ w name. name_in w ≡ Some name) (take n words) names × (name_in word ≡ None) × Refuses (bad_name word) x e)
+    ⊎ ((e ≡ end.NoMemory) × NothingDone x)
 
--- `put`: the image and the file are read, and the image is written with the file in it.
-abbrev pub PutEnds : List ℕ → List ℕ → List ℕ → Effect → End → Type 0
-PutEnds image path word x e = Named (name_of word)
-    (λ name. With image (λ bytes. With path (λ file. CarriesOut image (MemoryAside (IsPut bytes file name)) x e) x e) x e) x e
+-- ---- an image that is claimed
 
--- `get`: the image is read, and the file that is in it is written.
-abbrev pub GetEnds : List ℕ → List ℕ → List ℕ → Effect → End → Type 0
-GetEnds image word path x e = Named (name_of word) (λ name. With image (λ bytes. CarriesOut path (MemoryAside (IsGet bytes name)) x e) x e) x e
+abbrev pub IsNotClaimed : Folder → Folder → List ℕ → End → Type 0
+IsNotClaimed old new path (end.File at last) = (at.now ≡ path) × (last.now ≡ []) × ((IsUntouched old new × IsUnreadable old.files path) ⊎ FailsSo old new)
+IsNotClaimed old new path end.NoMemory = IsUntouched old new
+IsNotClaimed old new path _ = ⊥
+
+-- The image is locked and then read, and the command continues with its bytes and with whether the lock is held, on the files as they are then;
+-- or it is not, which is the end.
+abbrev pub Claiming : List ℕ → Bool → (List ℕ → Bool → Effect → Type 0) → Effect → End → Type 0
+Claiming path wanted Does x e =
+    ((bytes : List ℕ) × (is_held : Bool) × IsRead x.old path bytes × IsLockWanted wanted is_held × Does bytes is_held (record x { old = claimed_by x.old path is_held }))
+    ⊎ (IsNotClaimed x.old x.new path e × (x.after ≡ x.before))
+
+-- A claimed file is replaced by these bytes, unless it has them already: then it is not touched, and keeps its time.
+abbrev pub KeepsFile : List ℕ → List ℕ → List ℕ → Folder → Folder → Result Unit End → Type 0
+KeepsFile path bytes made old new (Ok _) = ((made ≡ bytes) × (new ≡ old)) ⊎ ((made ≢ bytes) × Adds old new ((path, made) ∷ []) × (new.failures ≡ old.failures))
+KeepsFile path bytes made old new (Err (end.File at last)) = (at.now ≡ path) × (last.now ≡ []) × (made ≢ bytes)
+    × (Adds old new [] ⊎ Adds old new ((path, made) ∷ [])) × (new.failures ≡ counted old.failures)
+KeepsFile path bytes made old new (Err _) = ⊥
+
+-- .. as a command ends that does no more
+abbrev pub KeepsImage : List ℕ → List ℕ → List ℕ → Effect → End → Type 0
+KeepsImage path bytes made x end.Done = (x.after ≡ x.before) × KeepsFile path bytes made x.old x.new (Ok tt)
+KeepsImage path bytes made x (end.File at last) = (x.after ≡ x.before) × KeepsFile path bytes made x.old x.new (Err (end.File at last))
+KeepsImage path bytes made x end.NoMemory = NothingDone x
+KeepsImage path bytes made x _ = ⊥
+
+-- An image is changed, or the change is refused and the image is as before.
+abbrev pub IsChanged : List ℕ → List ℕ → Result (Vec ℕ Global) Refusal → Effect → End → Type 0
+IsChanged path bytes (Ok made) x e = KeepsImage path bytes made.items x e
+IsChanged path bytes (Err why) x e = Refuses (refusal_text why) x e
+
+abbrev pub Changes : List ℕ → List ℕ → (Result (Vec ℕ Global) Refusal → Type 0) → Effect → End → Type 0
+Changes path bytes Is x e = ((result : Result (Vec ℕ Global) Refusal) × Is result × IsChanged path bytes result x e) ⊎ ((e ≡ end.NoMemory) × NothingDone x)
+
+-- A claimed image is changed, with warnings.
+abbrev pub ChangesImage : Target → (List ℕ → Result (Vec ℕ Global) Refusal → Type 0) → Effect → Option (List ℕ) → End → Type 0
+ChangesImage t Is x wanted e = Claiming t.image.now t.lock
+    (λ bytes is_held y. (wanted ≡ warnings t.image.now (length bytes) (t.lock && not is_held)) × Changes t.image.now bytes (Is bytes) y e) x e
+
+-- ---- the commands
+
+-- `put`: the image is claimed, the file is read, and the image is replaced by one with the file in it.
+abbrev pub as_put : Bool → List ℕ → List ℕ
+as_put true file = cpm_text file
+as_put false file = file
+
+-- one file alone is refused without its name
+abbrev pub without_name : Result (Vec ℕ Global) Refusal → Result (Vec ℕ Global) Refusal
+without_name (Ok made) = Ok made
+without_name (Err why) = Err (unnamed why)
+
+abbrev pub PutEnds : Target → Manner → List ℕ → List ℕ → Effect → Option (List ℕ) → End → Type 0
+PutEnds t m path word x line e = Warns (λ wanted e. Named (name_of word) (λ name.
+    Claiming t.image.now t.lock (λ bytes is_held y. (wanted ≡ warnings t.image.now (length bytes) (t.lock && not is_held))
+    × With path (λ file. Changes t.image.now bytes (λ r. (s : Result (Vec ℕ Global) Refusal) × IsPutOn bytes t.user m.replace ((name, as_put m.text file) ∷ []) s × (r ≡ without_name s)) y e) y e) x e) x e) line e
+
+-- `put --to`: the same of several files, each under its own name, all of them or none.
+abbrev pub PutAllEnds : Target → Manner → List (List ℕ) → Effect → Option (List ℕ) → End → Type 0
+PutAllEnds t m paths x line e = Warns (λ wanted e. NamedAll own_name paths (λ names.
+    Claiming t.image.now t.lock (λ bytes is_held y. (wanted ≡ warnings t.image.now (length bytes) (t.lock && not is_held))
+    × WithAll paths (λ files. (puts : List (List ℕ × List ℕ)) × (map (λ p. p.0) puts ≡ names) × (map (λ p. p.1) puts ≡ map (as_put m.text) files)
+    × Changes t.image.now bytes (IsPutOn bytes t.user m.replace puts) y e) y e) x e) x e) line e
+
+-- `erase`, `rename`, `protect` and `unprotect`
+abbrev pub EraseEnds : Target → List (List ℕ) → Effect → Option (List ℕ) → End → Type 0
+EraseEnds t words x line e = Warns (λ wanted e. NamedAll pattern_of words (λ patterns. ChangesImage t (λ bytes. IsErased bytes t.user patterns) x wanted e) x e) line e
+
+abbrev pub RenameEnds : Target → List ℕ → List ℕ → Effect → Option (List ℕ) → End → Type 0
+RenameEnds t old new x line e = Warns (λ wanted e. Named (name_of old) (λ from. Named (name_of new) (λ to. ChangesImage t (λ bytes. IsRenamed bytes t.user from to) x wanted e) x e) x e) line e
+
+abbrev pub attribute_of : word.Attribute → Attribute
+attribute_of words.ReadOnly = Attribute.ReadOnly
+attribute_of words.System = Attribute.System
+
+abbrev pub ProtectEnds : Target → word.Attribute → Bool → List (List ℕ) → Effect → Option (List ℕ) → End → Type 0
+ProtectEnds t attribute on words x line e = Warns (λ wanted e. NamedAll pattern_of words (λ patterns. ChangesImage t (λ bytes. IsMarked bytes t.user (attribute_of attribute) on patterns) x wanted e) x e) line e
+
+-- An image is read that the command does not change, with warnings.
+abbrev pub ReadsImage : List ℕ → (List ℕ → Type 0) → Effect → Option (List ℕ) → End → Type 0
+ReadsImage image Does x wanted e = With image (λ bytes. (wanted ≡ warnings image (length bytes) false) × Does bytes) x e
+
+-- `dir`: the files are listed, those of a name if one is given.
+abbrev pub NamedIfGiven : Option (Bor (List ℕ)) → (Option (List ℕ) → Type 0) → Effect → End → Type 0
+NamedIfGiven None Does x e = Does None
+NamedIfGiven (Some word) Does x e = Named (pattern_of word.now) (λ pattern. Does (Some pattern)) x e
+
+abbrev pub DirEnds : List ℕ → Option ℕ → Bool → Option (Bor (List ℕ)) → Effect → Option (List ℕ) → End → Type 0
+DirEnds image user long name x line e = Warns (λ wanted e. NamedIfGiven name (λ pattern.
+    ReadsImage image (λ bytes. CarriesOut image (MemoryAside (IsDir bytes (record { user = user; pattern = pattern; long = long }))) x e) x wanted e) x e) line e
+
+-- `check-disk`
+abbrev pub CheckDiskEnds : List ℕ → Effect → Option (List ℕ) → End → Type 0
+CheckDiskEnds image x line e = Warns (λ wanted e. ReadsImage image (λ bytes. CarriesOut image (MemoryAside (IsCheck bytes)) x e) x wanted e) line e
+
+-- Files are written into a folder, each under its own name, in their order. The first that cannot be written is the end.
+abbrev pub path_in : List ℕ → Gotten → File
+path_in folder g = (folder ++ 47 ∷ string_bytes g.name, g.bytes.items)
+
+abbrev pub WritesInto : List ℕ → List Gotten → Effect → End → Type 0
+WritesInto folder files x end.Done = Adds x.old x.new (map (path_in folder) files) × (x.new.failures ≡ x.old.failures) × (x.after ≡ x.before)
+WritesInto folder files x (end.Path path) = (n : ℕ) × (g : Gotten) × (slice_get files n ≡ Some g) × (string_bytes path ≡ (path_in folder g).0)
+    × (Adds x.old x.new (map (path_in folder) (take n files)) ⊎ Adds x.old x.new (map (path_in folder) (take (n + 1) files))) × (x.new.failures ≡ counted x.old.failures) × (x.after ≡ x.before)
+WritesInto folder files x end.NoMemory = NothingDone x
+WritesInto folder files x _ = ⊥
+
+abbrev pub IsWrittenInto : List ℕ → Result (Vec Gotten Global) Refusal → Effect → End → Type 0
+IsWrittenInto folder (Ok files) x e = WritesInto folder files.items x e
+IsWrittenInto folder (Err why) x e = Refuses (refusal_text why) x e
+
+-- `get` of all files that match a pattern
+abbrev pub GetsInto : List ℕ → ℕ → Bool → List ℕ → List ℕ → Effect → Option (List ℕ) → End → Type 0
+GetsInto image user text pattern folder x wanted e = ReadsImage image (λ bytes. (r : Result (Vec Gotten Global) Refusal) × IsGetAll bytes user pattern text r × IsWrittenInto folder r x e) x wanted e
+
+-- `get --all`
+abbrev pub GetAllEnds : List ℕ → ℕ → Bool → List ℕ → Effect → Option (List ℕ) → End → Type 0
+GetAllEnds image user text folder x line e = Warns (λ wanted e. GetsInto image user text (codes "???????????") folder x wanted e) line e
+
+-- `get`: the file of a name; or into a folder all that match, if the word has `?` or `*`
+abbrev pub GetsNamed : Option (List ℕ) → List ℕ → ℕ → Bool → List ℕ → List ℕ → Effect → Option (List ℕ) → End → Type 0
+GetsNamed (Some name) image user text word path x wanted e = ReadsImage image (λ bytes. CarriesOut path (MemoryAside (IsGet bytes user name text)) x e) x wanted e
+GetsNamed None image user text word path x wanted e = Named (pattern_of word) (λ pattern. GetsInto image user text pattern path x wanted e) x e
+
+abbrev pub GetEnds : List ℕ → ℕ → Bool → List ℕ → List ℕ → Effect → Option (List ℕ) → End → Type 0
+GetEnds image user text word path x line e = Warns (λ wanted e. GetsNamed (name_of word) image user text word path x wanted e) line e
 
 abbrev pub kind_of : Bool → DiskKind
 kind_of true = Megabyte
 kind_of false = EightInch
 
--- `blank`: the image of a blank disk is written.
-abbrev pub BlankEnds : Bool → List ℕ → Effect → End → Type 0
-BlankEnds mega image x e = CarriesOut image (MemoryAside (λ a. a ≡ image_file (blank_image (kind_of mega)))) x e
+-- A blank image is written under the lock of its path, synced before it takes its place; with keep only if there is no file.
+abbrev pub BlankIsMade : List ℕ → Bool → List ℕ → Effect → End → Type 0
+BlankIsMade image keep made x end.Done = (x.after ≡ x.before) × Adds x.old x.new ((image, made) ∷ []) × (x.new.failures ≡ x.old.failures) × (keep ≡ true → IsAbsent x.old.files image)
+BlankIsMade image keep made x (end.Refused said) = (string_bytes said ≡ codes "Exists") × NothingDone x × (keep ≡ true) × IsThere x.old.files image
+BlankIsMade image keep made x (end.File at last) = (x.after ≡ x.before) × (at.now ≡ image) × (last.now ≡ []) × (Adds x.old x.new [] ⊎ Adds x.old x.new ((image, made) ∷ [])) × (x.new.failures ≡ counted x.old.failures)
+BlankIsMade image keep made x end.NoMemory = NothingDone x
+BlankIsMade image keep made x _ = ⊥
+
+-- `blank`
+abbrev pub BlankEnds : Bool → Bool → Bool → List ℕ → Effect → Option (List ℕ) → End → Type 0
+BlankEnds mega keep lock image x line e = Warns (λ wanted e. (is_held : Bool) × IsLockWanted lock is_held × (wanted ≡ warnings image 0 (lock && not is_held))
+    × BlankIsMade image keep (concat (blank_image (kind_of mega))) x e) line e

@@ -43,6 +43,7 @@ abbrev pub IsCarriedOut : List ℕ → Answer → Effect → End → Type 0
 IsCarriedOut base a x end.Done = AllWritten base a.files x.old x.new × PutsAll x.before x.after a.printed × (a.said ≡ None)
 IsCarriedOut base a x (end.Refused said) = AllWritten base a.files x.old x.new × PutsAll x.before x.after a.printed × SaysWhy a.said (string_bytes said)
 IsCarriedOut base a x (end.File path last) = IsUnwritten base a.files x.old x.new path.now last.now × (x.after ≡ x.before)
+IsCarriedOut base a x (end.Path path) = ⊥
 IsCarriedOut base a x end.Stream = AllWritten base a.files x.old x.new × PutsFront x.before x.after a.printed
 IsCarriedOut base a x end.NoMemory = ((x.new ≡ x.old) ⊎ IsBrokenOff base a.files x.old x.new) × (x.after ≡ x.before)
 

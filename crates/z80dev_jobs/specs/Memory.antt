@@ -1,9 +1,11 @@
 -- Files in memory.
-use Rattle.std.specs.Prelude.{◌≢◌, ℕ, ◌+◌, ◌-◌, ◌^◌, All, Bool, ◌||◌, ◌&&◌, nat_eq, nat_lt, List, Option, None, Some, map, min}
+use Rattle.std.specs.Prelude.{◌≢◌, ℕ, ◌+◌, ◌-◌, ◌^◌, All, Bool, ◌||◌, ◌&&◌, nat_eq, nat_lt, List, Option, None, Some, map, min, option_map}
 use Rattle.std.specs.Borrow.{Bor}
-use Rattle.z80dev_finish.specs.Files.{File, Folder, IsAt}
+use Rattle.z80dev_finish.specs.Files.{File, Folder, IsAt, Lock, Part, lock_of}
 use Rattle.z80dev_jobs.specs.declared.failing.Failure.{Failure}
+use Rattle.z80dev_jobs.specs.declared.memory.Lock as memory
 use Rattle.z80dev_jobs.specs.declared.memory.MemoryFiles.{MemoryFiles}
+use Rattle.z80dev_jobs.specs.declared.memory.Part as beside
 use Rattle.z80dev_jobs.specs.declared.memory.Written.{Written}
 
 -- a file that was written, by its path
@@ -14,9 +16,22 @@ file_of w = (w.path.items, w.bytes.items)
 abbrev pub files_of : MemoryFiles → List File
 files_of m = map file_of m.written.items
 
+-- the lock that was taken, and the file that is written beside another
+abbrev pub lock_in : memory.Lock → Lock
+lock_in l = lock_of l.path.items l.is_held
+
+abbrev pub part_in : beside.Part → Part
+part_in p = record { path = p.file.path.items; bytes = Some p.file.bytes.items; synced = p.is_synced }
+
 -- A host that tells its files: what is promised of the bytes of files is about these.
 abbrev pub folder_of : MemoryFiles → Folder
-folder_of m = record { files = Some (files_of m); failures = m.failures }
+folder_of m = record {
+  files = Some (files_of m);
+  failures = m.failures;
+  locked = option_map lock_in m.locked;
+  claimed = option_map (λ path. path.items) m.claimed;
+  part = option_map part_in m.part;
+}
 
 -- The newest file of a path has these bytes; or there is none.
 abbrev pub Finds : List File → List ℕ → Option (Bor (List ℕ)) → Type 0
@@ -29,7 +44,7 @@ together own theirs = min (own + theirs) (2 ^ 64 - 1)
 
 -- the files of a folder, with failures besides its own
 abbrev pub with_failures : ℕ → Folder → Folder
-with_failures own folder = record { files = folder.files; failures = together own folder.failures }
+with_failures own folder = record folder { failures = together own folder.failures }
 
 -- whether the call of this number, from 1 on, is one that fails
 abbrev pub is_failing : Failure → ℕ → Bool

@@ -1,3 +1,5 @@
 -- What private contracts alone cite: no reviewer need believe it.
 pub mod Steps
 pub mod Kept
+pub mod Names
+pub mod Images

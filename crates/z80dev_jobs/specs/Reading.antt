@@ -1,6 +1,5 @@
 -- What a command reads: files by their paths, and standard input.
-use Rattle.std.specs.Prelude.{◌≡◌, ◌⊎◌, ℕ, ◌<◌, ◌≤◌, Bool, false, IfSome, List, [], Option, None, Some, Result, Ok, Err, Vec, length, map, slice_get, take}
-use Rattle.std.specs.Borrow.{Bor}
+use Rattle.std.specs.Prelude.{◌≡◌, ◌⊎◌, ℕ, ◌<◌, ◌≤◌, Bool, false, IfSome, List, [], Option, Some, Result, Ok, Err, Vec, length, map, slice_get, take}
 use Rattle.std.specs.Global.{Global}
 use Rattle.std.specs.List.{AllZip}
 use Rattle.limits.specs.declared.TheConstants.{LONGEST_TEXT}
@@ -22,12 +21,6 @@ IsNotRead old new path _ = ⊥
 abbrev pub ReadsFile : Folder → Folder → List ℕ → Result (Vec ℕ Global) End → Type 0
 ReadsFile old new path (Ok bytes) = (new ≡ old) × IsRead old path bytes.items
 ReadsFile old new path (Err e) = IsNotRead old new path e
-
--- the bytes of a file, and none if no path is given
-abbrev pub ReadsIfGiven : Folder → Folder → Option (Bor (List ℕ)) → Result (Vec ℕ Global) End → Type 0
-ReadsIfGiven old new (Some path) result = ReadsFile old new path.now result
-ReadsIfGiven old new None (Ok bytes) = (new ≡ old) × (bytes.items ≡ [])
-ReadsIfGiven old new None (Err e) = ⊥
 
 -- One of the files is not read, and those before it are; or memory ran out.
 abbrev pub IsOneNotRead : Folder → Folder → List (List ℕ) → End → Type 0

@@ -4,14 +4,17 @@ ghost use Rattle.std.specs.Prelude.{◌≡◌, ◌≤◌, false, map};
 ghost use Rattle.z80dev.specs.declared.text.TheConstants.{MOST_READS};
 ghost use Rattle.clap.specs.Words.{kind_of};
 ghost use Rattle.z80dev_finish.specs.End.{Tells, end_status};
-ghost use Rattle.z80dev_jobs.specs.Command.{CommandEnds, JobEnds};
-ghost use Rattle.z80dev_jobs.specs.Making.{effect_of, ended};
-ghost use Rattle.z80dev_jobs.specs.Private.Steps.{EndsBuild, RefusesError, RefusesFault};
+ghost use Rattle.z80dev_jobs.specs.Command.{CommandEnds, JobEnds, TellsWith};
+ghost use Rattle.z80dev_jobs.specs.Making.{ended};
+ghost use Rattle.z80dev_jobs.specs.Private.Steps.{HasUser, RefusesError, RefusesFault, end_in, line_in};
 ghost use Rattle.z80dev_jobs.specs.Running.{RunEnds};
 ghost use Rattle.z80dev_jobs.specs.Reading.{reader_of};
 ghost use Rattle.z80dev_jobs.specs.World.{world_of};
 
-use crate::disks::{blank_image, dir_image, get_file, put_file};
+use crate::disks::{
+    blank_image, check_image, dir_image, erase_files, get_every, get_file, protect_files, put_file,
+    put_files, rename_file,
+};
 use crate::host::{Ended, Host};
 use crate::making::{Wanted, asm_file, build_files, check_files, link_files};
 use crate::running::{STEPS, end_run, inputs_of, ready_of};
@@ -76,18 +79,12 @@ fn refuse_words<W: Sink, E: Sink>(
     }
 }
 
-/// Builds a program, says how many jumps are short and long if it is wanted, and gives the exit status.
-fn build_job<'a, F: Files, W: Sink, E: Sink>(
-    alloc: Global,
-    wanted: Wanted<'a>,
-    sources: &[&'a str],
-    files: &mut F,
-    output: &mut W,
-    errors: &mut E,
-) -> u8
-    ensures { EndsBuild wanted.entry.out.now wanted.entry.grow wanted.entry.list wanted.entry.verbose (map (λ path. path.now) sources.now) (effect_of (F.folder files.old) (F.folder files.new) (W.stream output.old) (W.stream output.new)) (E.stream errors.old) (E.stream errors.new) result }
+/// Reports how a command ended; if all is done, writes its line on standard error, if it has one. Gives the exit status.
+fn report_line<E: Sink>(ended: Result<Option<String>, End<'_>>, errors: &mut E) -> u8
+    ensures status { result ≡ end_status (end_in ended.entry) }
+    ensures told { TellsWith (line_in ended.entry) (end_in ended.entry) (E.stream errors.old) (E.stream errors.new) }
 {
-    match build_files(alloc, wanted, sources, files, output) {
+    match ended {
         Ok(Some(line)) => {
             let _ = put(errors, line.as_bytes());
             DONE
@@ -101,6 +98,7 @@ fn build_job<'a, F: Files, W: Sink, E: Sink>(
 fn run_job<'a, F: Files, I: Input, W: Sink + Drop, E: Sink>(
     alloc: Global,
     disk: Option<&'a str>,
+    lock: bool,
     steps: u64,
     path: &'a str,
     words: &[&'a str],
@@ -109,10 +107,10 @@ fn run_job<'a, F: Files, I: Input, W: Sink + Drop, E: Sink>(
     requires sound { I.failed host.input ≡ false }
     requires unread { I.reads host.input ≡ 0 }
     requires calm { I.interruptions host.input ≡ 0 }
-    ensures ends { RunEnds disk.entry steps path.now (map (λ word. word.now) words.now) (world_of (F.folder host.files) (reader_of (I.remaining host.input) (I.failed host.input) (I.reads host.input) (I.interruptions host.input)) (W.stream host.output) (E.stream host.errors)) (world_of (F.folder result.host.files) (reader_of (I.remaining result.host.input) (I.failed result.host.input) (I.reads result.host.input) (I.interruptions result.host.input)) (W.stream result.host.output) (E.stream result.host.errors)) result.status }
+    ensures ends { RunEnds disk.entry lock steps path.now (map (λ word. word.now) words.now) (world_of (F.folder host.files) (reader_of (I.remaining host.input) (I.failed host.input) (I.reads host.input) (I.interruptions host.input)) (W.stream host.output) (E.stream host.errors)) (world_of (F.folder result.host.files) (reader_of (I.remaining result.host.input) (I.failed result.host.input) (I.reads result.host.input) (I.interruptions result.host.input)) (W.stream result.host.output) (E.stream result.host.errors)) result.status }
     ensures reads { I.reads result.host.input ≤ MOST_READS }
 {
-    let inputs = match inputs_of(alloc, disk, path, &mut host.files, &mut host.input) {
+    let inputs = match inputs_of(alloc, disk, lock, path, &mut host.files, &mut host.input) {
         Ok(inputs) => inputs,
         Err(end) => {
             let status = report(&end, &mut host.errors);
@@ -133,7 +131,7 @@ fn run_job<'a, F: Files, I: Input, W: Sink + Drop, E: Sink>(
         mut errors,
     } = host;
     let mut ran = ready.run(alloc, output, steps);
-    let status = end_run(alloc, disk, &mut ran, &mut files, &mut errors);
+    let status = end_run(alloc, disk, &inputs, &mut ran, &mut files, &mut errors);
     let Ran { output, .. } = ran;
     let host = Host {
         files,
@@ -153,6 +151,7 @@ fn work<F: Files, I: Input, W: Sink + Drop, E: Sink>(
     requires sound { I.failed host.input ≡ false }
     requires unread { I.reads host.input ≡ 0 }
     requires calm { I.interruptions host.input ≡ 0 }
+    requires user { HasUser job }
     ensures ends { JobEnds job.entry (world_of (F.folder host.files) (reader_of (I.remaining host.input) (I.failed host.input) (I.reads host.input) (I.interruptions host.input)) (W.stream host.output) (E.stream host.errors)) (world_of (F.folder result.host.files) (reader_of (I.remaining result.host.input) (I.failed result.host.input) (I.reads result.host.input) (I.interruptions result.host.input)) (W.stream result.host.output) (E.stream result.host.errors)) result.status }
     ensures reads { I.reads result.host.input ≤ MOST_READS }
 {
@@ -179,41 +178,122 @@ fn work<F: Files, I: Input, W: Sink + Drop, E: Sink>(
                 list,
                 verbose,
             };
-            build_job(
-                alloc,
-                wanted,
-                &sources,
-                &mut host.files,
-                &mut host.output,
-                &mut host.errors,
-            )
+            let ended = build_files(alloc, wanted, &sources, &mut host.files, &mut host.output);
+            report_line(ended, &mut host.errors)
         }
         Job::Check { sizes, cert } => {
             let end = check_files(alloc, sizes, cert, &mut host.files, &mut host.output);
             report_any(end, &mut host.errors)
         }
-        Job::Dir { image } => {
-            let end = dir_image(alloc, image, &mut host.files, &mut host.output);
-            report_any(end, &mut host.errors)
+        Job::Dir {
+            image,
+            user,
+            long,
+            name,
+        } => {
+            let ended = dir_image(
+                alloc,
+                image,
+                user,
+                long,
+                name,
+                &mut host.files,
+                &mut host.output,
+            );
+            report_line(ended, &mut host.errors)
         }
-        Job::Put { image, file, name } => {
-            let end = put_file(alloc, image, file, name, &mut host.files, &mut host.output);
-            report_any(end, &mut host.errors)
+        Job::Put {
+            target,
+            manner,
+            file,
+            name,
+        } => {
+            let ended = put_file(alloc, target, manner, file, name, &mut host.files);
+            report_line(ended, &mut host.errors)
         }
-        Job::Get { image, name, file } => {
-            let end = get_file(alloc, image, name, file, &mut host.files, &mut host.output);
-            report_any(end, &mut host.errors)
+        Job::PutAll {
+            target,
+            manner,
+            files,
+        } => {
+            let ended = put_files(alloc, target, manner, &files, &mut host.files);
+            report_line(ended, &mut host.errors)
         }
-        Job::Blank { mega, image } => {
-            let end = blank_image(alloc, mega, image, &mut host.files, &mut host.output);
-            report(&end, &mut host.errors)
+        Job::Get {
+            image,
+            user,
+            text,
+            name,
+            file,
+        } => {
+            let ended = get_file(
+                alloc,
+                image,
+                user,
+                text,
+                name,
+                file,
+                &mut host.files,
+                &mut host.output,
+            );
+            report_line(ended, &mut host.errors)
+        }
+        Job::GetAll {
+            image,
+            user,
+            text,
+            folder,
+        } => {
+            let ended = get_every(alloc, image, user, text, folder, &mut host.files);
+            report_line(ended, &mut host.errors)
+        }
+        Job::Erase { target, names } => {
+            let ended = erase_files(alloc, target, &names, &mut host.files);
+            report_line(ended, &mut host.errors)
+        }
+        Job::Rename { target, old, new } => {
+            let ended = rename_file(alloc, target, old, new, &mut host.files);
+            report_line(ended, &mut host.errors)
+        }
+        Job::Protect {
+            target,
+            attribute,
+            on,
+            names,
+        } => {
+            let ended = protect_files(alloc, target, attribute, on, &names, &mut host.files);
+            report_line(ended, &mut host.errors)
+        }
+        Job::CheckDisk { image } => {
+            let ended = check_image(alloc, image, &mut host.files, &mut host.output);
+            report_line(ended, &mut host.errors)
+        }
+        Job::Blank {
+            mega,
+            keep,
+            lock,
+            image,
+        } => {
+            let ended = blank_image(alloc, mega, keep, lock, image, &mut host.files);
+            report_line(ended, &mut host.errors)
         }
         Job::Run {
             disk,
+            lock,
             steps,
             program,
             words,
-        } => return run_job(alloc, disk, steps.unwrap_or(STEPS), program, &words, host),
+        } => {
+            return run_job(
+                alloc,
+                disk,
+                lock,
+                steps.unwrap_or(STEPS),
+                program,
+                &words,
+                host,
+            );
+        }
     };
     Ended { status, host }
 }

@@ -6,16 +6,16 @@ ghost use Rattle.z80dev_jobs.specs.Memory.{is_failing, with_failures};
 
 use std::alloc::Global;
 use streams::WriteFailed;
-use z80dev::{Files, Unread};
+use z80dev_finish::{Claimed, Files, Placed, Unread};
 
-/// Which calls of the files fail, and what a write leaves then.
+/// Which calls of the files fail, and what a write or a replacement leaves then.
 #[derive(Clone, Copy, Debug)]
 pub struct Failure {
     /// The number of the first that fails; the first call of all is 1.
     pub call: u64,
     /// Whether all after it fail too.
     pub lasting: bool,
-    /// Whether a write that fails leaves the new file; if not, it leaves the old one.
+    /// Whether a write or a replacement that fails leaves the new file; if not, it leaves the old one.
     pub leaves_new: bool,
 }
 
@@ -90,6 +90,50 @@ impl<F: Files> Files for FailingFiles<F> {
         if self.failure.leaves_new {
             // If this fails, the files count it, so that no call counts as two failures.
             self.files.write(path, bytes)?;
+        }
+        self.count();
+        Err(WriteFailed)
+    }
+
+    fn lock(&mut self, alloc: Global, path: &str, is_wanted: bool) -> Result<bool, Unread> {
+        if self.is_failing() {
+            self.count();
+            return Err(Unread::File);
+        }
+        self.files.lock(alloc, path, is_wanted)
+    }
+
+    fn claim(&mut self, alloc: Global, path: &str, is_wanted: bool) -> Result<Claimed, Unread> {
+        if self.is_failing() {
+            self.count();
+            return Err(Unread::File);
+        }
+        self.files.claim(alloc, path, is_wanted)
+    }
+
+    fn write_beside(&mut self, path: &str, bytes: &[u8]) -> Result<(), WriteFailed> {
+        if self.is_failing() {
+            self.count();
+            return Err(WriteFailed);
+        }
+        self.files.write_beside(path, bytes)
+    }
+
+    fn sync(&mut self) -> Result<(), WriteFailed> {
+        if self.is_failing() {
+            self.count();
+            return Err(WriteFailed);
+        }
+        self.files.sync()
+    }
+
+    fn put_in_place(&mut self, keep: bool) -> Result<Placed, WriteFailed> {
+        if !self.is_failing() {
+            return self.files.put_in_place(keep);
+        }
+        if self.failure.leaves_new {
+            // As in a write: if this fails, the files count it. A file that is to be kept stays.
+            self.files.put_in_place(keep)?;
         }
         self.count();
         Err(WriteFailed)

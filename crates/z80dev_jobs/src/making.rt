@@ -4,6 +4,7 @@ ghost use Rattle.std.specs.Prelude.{◌≡◌, IfOk, length, map, option_map, st
 ghost use Rattle.z80dev_jobs.specs.Making.{AreFiles, AsmEnds, BuildEnds, CheckEnds, LinkEnds, effect_of, ended, told};
 ghost use Rattle.z80dev_jobs.specs.Private.Steps.{BuildsTexts, EndsWith};
 
+use crate::disks::done_with;
 use crate::reading::{read, read_all};
 use std::alloc::{AllocError, Global};
 use z80dev::{End, Files, Jumps, Made, Sink, SourceFile, asm, build, check_texts, finish, link};
@@ -90,10 +91,7 @@ fn build_texts<'a, F: Files, W: Sink>(
     let Made { answer, jumps } = build(alloc, &sources, wanted.grow, wanted.list);
     // Made first: once a file is written, it is too late to run out of memory.
     let line = line_of(alloc, wanted.verbose, jumps)?;
-    match finish(alloc, wanted.out, &answer, files, output) {
-        End::Done => Ok(line),
-        end => Err(end),
-    }
+    done_with(finish(alloc, wanted.out, &answer, files, output), line)
 }
 
 /// Builds the program of sources. If all is done, the result is the line of its jumps, if it is wanted.

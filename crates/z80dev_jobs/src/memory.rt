@@ -1,13 +1,14 @@
 //! Files in memory: what tests of the whole command work on. Unlike those of the system, they tell a contract their bytes.
 
-ghost use Rattle.std.specs.Prelude.{◌≡◌, [], Some, map};
+ghost use Rattle.std.specs.Prelude.{◌≡◌, [], None, Some, map};
+ghost use Rattle.streams.specs.Stream.{counted};
 ghost use Rattle.z80dev_jobs.specs.Memory.{Finds, file_of, files_of, folder_of};
-ghost use Rattle.z80dev_jobs.specs.Private.Kept.{Keeps};
+ghost use Rattle.z80dev_jobs.specs.Private.Kept.{Copies, Keeps, KeepsPart, TakesLock};
 
 use limits::LONGEST_TEXT;
 use std::alloc::{AllocError, Global};
 use streams::WriteFailed;
-use z80dev::{Files, Unread};
+use z80dev_finish::{Claimed, Files, Placed, Unread};
 
 /// A file that was written.
 #[derive(Debug, Drop)]
@@ -16,23 +17,43 @@ pub struct Written {
     pub bytes: Vec<u8>,
 }
 
+/// The lock that was taken.
+#[derive(Debug, Drop)]
+struct Lock {
+    path: Vec<u8>,
+    is_held: bool,
+}
+
+/// A file that is written beside another.
+#[derive(Debug, Drop)]
+struct Part {
+    file: Written,
+    is_synced: bool,
+}
+
 /// Files that are kept in memory, each as it was written, the oldest first. Of those with one path the newest is the one that is there.
 #[derive(Debug, Drop)]
 pub struct MemoryFiles {
     alloc: Global,
     written: Vec<Written>,
     failures: u64,
+    locked: Option<Lock>,
+    claimed: Option<Vec<u8>>,
+    part: Option<Part>,
 }
 
 impl MemoryFiles {
     /// None yet.
     pub fn new(alloc: Global) -> MemoryFiles
-        ensures { folder_of result ≡ record { files = Some []; failures = 0 } }
+        ensures { folder_of result ≡ record { files = Some []; failures = 0; locked = None; claimed = None; part = None } }
     {
         MemoryFiles {
             alloc,
             written: Vec::new(alloc),
             failures: 0,
+            locked: None,
+            claimed: None,
+            part: None,
         }
     }
 
@@ -51,26 +72,63 @@ impl MemoryFiles {
     }
 
     /// The bytes of the newest file that has the path.
-    pub fn find(&self, path: &str) -> Option<&[u8]>
+    pub fn find(&self, path: &[u8]) -> Option<&[u8]>
         ensures { Finds (files_of self.now) path.now result }
     {
         for number in (0..self.written.len()).rev() {
             let file = &self.written[number];
-            if file.path.as_slice() == path.as_bytes() {
+            if file.path.as_slice() == path {
                 return Some(file.bytes.as_slice());
             }
         }
         None
     }
 
+    /// A copy of a file.
+    fn copy(&self, path: &str, bytes: &[u8]) -> Result<Written, AllocError>
+        ensures { Copies (path.now, bytes.now) result }
+    {
+        let path = Vec::from_slice(self.alloc, path.as_bytes())?;
+        let bytes = Vec::from_slice(self.alloc, bytes)?;
+        Ok(Written { path, bytes })
+    }
+
     /// Keeps a copy of a file.
     fn keep(&mut self, path: &str, bytes: &[u8]) -> Result<(), AllocError>
         ensures { Keeps self.old self.new (path.now, bytes.now) result }
     {
-        let path = Vec::from_slice(self.alloc, path.as_bytes())?;
-        let bytes = Vec::from_slice(self.alloc, bytes)?;
-        self.written.push(Written { path, bytes })?;
+        let file = self.copy(path, bytes)?;
+        self.written.push(file)?;
         Ok(())
+    }
+
+    /// Takes the lock of a path.
+    fn take_lock(&mut self, path: &str, is_held: bool) -> Result<(), AllocError>
+        ensures { TakesLock self.old self.new path.now is_held result }
+    {
+        let path = Vec::from_slice(self.alloc, path.as_bytes())?;
+        self.locked = Some(Lock { path, is_held });
+        Ok(())
+    }
+
+    /// Keeps a copy of a file beside the one whose place it is to take.
+    fn keep_part(&mut self, path: &str, bytes: &[u8]) -> Result<(), AllocError>
+        ensures { KeepsPart self.old self.new (path.now, bytes.now) result }
+    {
+        let file = self.copy(path, bytes)?;
+        self.part = Some(Part {
+            file,
+            is_synced: false,
+        });
+        Ok(())
+    }
+
+    /// Counts a call that failed.
+    fn fail(&mut self) -> WriteFailed
+        ensures { folder_of self.new ≡ record (folder_of self.old) { failures = counted self.old.failures } }
+    {
+        self.failures = self.failures.saturating_add(1);
+        WriteFailed
     }
 }
 
@@ -78,7 +136,7 @@ impl Files for MemoryFiles {
     ghost folder = { folder_of };
 
     fn read(&mut self, alloc: Global, path: &str) -> Result<Vec<u8>, Unread> {
-        match self.find(path) {
+        match self.find(path.as_bytes()) {
             Some(bytes) if bytes.len() <= LONGEST_TEXT => match Vec::from_slice(alloc, bytes) {
                 Ok(copy) => Ok(copy),
                 Err(_) => Err(Unread::NoMemory),
@@ -88,10 +146,54 @@ impl Files for MemoryFiles {
     }
 
     fn write(&mut self, path: &str, bytes: &[u8]) -> Result<(), WriteFailed> {
-        if self.keep(path, bytes).is_err() {
-            self.failures = self.failures.saturating_add(1);
-            return Err(WriteFailed);
+        match self.keep(path, bytes) {
+            Ok(()) => Ok(()),
+            Err(_) => Err(self.fail()),
+        }
+    }
+
+    fn lock(&mut self, _: Global, path: &str, is_wanted: bool) -> Result<bool, Unread> {
+        match self.take_lock(path, is_wanted) {
+            Ok(()) => Ok(is_wanted),
+            Err(_) => Err(Unread::NoMemory),
+        }
+    }
+
+    fn claim(&mut self, alloc: Global, path: &str, is_wanted: bool) -> Result<Claimed, Unread> {
+        let Ok(claimed) = Vec::from_slice(self.alloc, path.as_bytes()) else {
+            return Err(Unread::NoMemory);
+        };
+        let is_locked = self.lock(alloc, path, is_wanted)?;
+        let bytes = self.read(alloc, path)?;
+        self.claimed = Some(claimed);
+        Ok(Claimed { bytes, is_locked })
+    }
+
+    fn write_beside(&mut self, path: &str, bytes: &[u8]) -> Result<(), WriteFailed> {
+        match self.keep_part(path, bytes) {
+            Ok(()) => Ok(()),
+            Err(_) => Err(self.fail()),
+        }
+    }
+
+    fn sync(&mut self) -> Result<(), WriteFailed> {
+        if let Some(part) = &mut self.part {
+            part.is_synced = true;
         }
         Ok(())
+    }
+
+    fn put_in_place(&mut self, keep: bool) -> Result<Placed, WriteFailed> {
+        let Some(part) = self.part.take() else {
+            unreachable!();
+        };
+        // A part whose place is taken is dropped: whoever wants to write the file after all begins again.
+        if keep && self.find(&part.file.path).is_some() {
+            return Ok(Placed::Exists);
+        }
+        match self.written.push(part.file) {
+            Ok(()) => Ok(Placed::Done),
+            Err(_) => Err(self.fail()),
+        }
     }
 }

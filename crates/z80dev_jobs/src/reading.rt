@@ -2,7 +2,7 @@
 
 ghost use Rattle.std.specs.Prelude.{◌≡◌, ◌≤◌, false, map};
 ghost use Rattle.z80dev.specs.declared.text.TheConstants.{MOST_READS};
-ghost use Rattle.z80dev_jobs.specs.Reading.{ReadsAll, ReadsFile, ReadsIfGiven, ReadsInput, reader_of};
+ghost use Rattle.z80dev_jobs.specs.Reading.{ReadsAll, ReadsFile, ReadsInput, reader_of};
 
 use std::alloc::Global;
 use z80dev::{End, Fault, Files, Input, Unread, read_text};
@@ -19,20 +19,6 @@ pub(crate) fn read<'a, F: Files>(
         Ok(bytes) => Ok(bytes),
         Err(Unread::File) => Err(End::File { path, ending: "" }),
         Err(Unread::NoMemory) => Err(End::NoMemory),
-    }
-}
-
-/// The bytes of a file, and none if no path is given.
-pub(crate) fn read_if_given<'a, F: Files>(
-    alloc: Global,
-    path: Option<&'a str>,
-    files: &mut F,
-) -> Result<Vec<u8>, End<'a>>
-    ensures { ReadsIfGiven (F.folder files.old) (F.folder files.new) path.entry result }
-{
-    match path {
-        Some(path) => read(alloc, path, files),
-        None => Ok(Vec::new(alloc)),
     }
 }
 

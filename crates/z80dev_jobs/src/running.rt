@@ -1,34 +1,56 @@
 //! The command `run`.
 
-ghost use Rattle.std.specs.Prelude.{◌≡◌, ◌≤◌, false, map};
+ghost use Rattle.std.specs.Prelude.{◌≡◌, ◌≤◌, false, map, option_map, string_bytes};
 ghost use Rattle.std.specs.List.{concat};
 ghost use Rattle.z80dev.specs.declared.text.TheConstants.{MOST_READS};
 ghost use Rattle.z80dev_jobs.specs.Private.Steps.{MakesReady};
 ghost use Rattle.z80dev_jobs.specs.Reading.{reader_of};
-ghost use Rattle.z80dev_jobs.specs.Running.{EndsRun, IsKept, ReadsInputs, ReportsRun, why_at};
+ghost use Rattle.z80dev_jobs.specs.Private.Images.{ClaimsDiskImage, HasLockOf};
+ghost use Rattle.z80dev_jobs.specs.Running.{EndsRun, IsKept, ReadsInputs, ReportsRun, WarnsAfter, lines_in, why_at};
 
-use crate::reading::{read, read_if_given, read_input};
+use crate::disks::{Image, claim, keep};
+use crate::reading::{read, read_input};
 use std::alloc::Global;
-use streams::flush;
-use z80dev::{End, Files, Input, Sink, WriteFailed, report};
+use streams::{WriteFailed, flush, put};
+use z80dev::{DONE, End, Files, Input, Sink, report};
 use z80dev_disk::Refusal;
 use z80dev_run::{Ran, Ready, Stop, Why, conclude, ready};
 
 /// The instructions of a run that names no number.
 pub(crate) const STEPS: u64 = 100_000_000;
 
-/// What `run` reads: the image of the disk, nothing if no disk is named; the program; and standard input.
+/// What `run` reads: the image of the disk, nothing if no disk is named, and the lines that warn of it; the program; and standard input.
 #[derive(Drop)]
 pub(crate) struct Inputs {
     pub(crate) image: Vec<u8>,
+    pub(crate) warnings: Option<String>,
     pub(crate) program: Vec<u8>,
     pub(crate) typed: Vec<u8>,
 }
 
-/// Reads what `run` needs, in this order.
+/// Claims the image of a disk; without a disk, the image is empty.
+fn claim_disk<'a, F: Files>(
+    alloc: Global,
+    disk: Option<&'a str>,
+    lock: bool,
+    files: &mut F,
+) -> Result<Image, End<'a>>
+    ensures { ClaimsDiskImage disk.entry lock (F.folder files.old) (F.folder files.new) result }
+{
+    match disk {
+        Some(path) => claim(alloc, path, lock, files),
+        None => Ok(Image {
+            bytes: Vec::new(alloc),
+            warnings: None,
+        }),
+    }
+}
+
+/// Claims the image and reads what else `run` needs, in this order.
 pub(crate) fn inputs_of<'a, F: Files, I: Input>(
     alloc: Global,
     disk: Option<&'a str>,
+    lock: bool,
     path: &'a str,
     files: &mut F,
     input: &mut I,
@@ -36,14 +58,15 @@ pub(crate) fn inputs_of<'a, F: Files, I: Input>(
     requires sound { I.failed input.old ≡ false }
     requires unread { I.reads input.old ≡ 0 }
     requires calm { I.interruptions input.old ≡ 0 }
-    ensures inputs { ReadsInputs disk.entry path.now (F.folder files.old) (F.folder files.new) (reader_of (I.remaining input.old) (I.failed input.old) (I.reads input.old) (I.interruptions input.old)) (reader_of (I.remaining input.new) (I.failed input.new) (I.reads input.new) (I.interruptions input.new)) result }
+    ensures inputs { ReadsInputs disk.entry lock path.now (F.folder files.old) (F.folder files.new) (reader_of (I.remaining input.old) (I.failed input.old) (I.reads input.old) (I.interruptions input.old)) (reader_of (I.remaining input.new) (I.failed input.new) (I.reads input.new) (I.interruptions input.new)) result }
     ensures reads { I.reads input.new ≤ MOST_READS }
 {
-    let image = read_if_given(alloc, disk, files)?;
+    let Image { bytes, warnings } = claim_disk(alloc, disk, lock, files)?;
     let program = read(alloc, path, files)?;
     let typed = read_input(alloc, input)?;
     Ok(Inputs {
-        image,
+        image: bytes,
+        warnings,
         program,
         typed,
     })
@@ -64,16 +87,18 @@ pub(crate) fn ready_of<'p, 'w>(
     }
 }
 
-/// Writes the image that a run leaves, if it has a disk of its own. This needs no memory, so that no change of the disk is lost for want of it.
-fn keep_disk<F: Files, W>(
-    disk: Option<&str>,
+/// Keeps the image that a run leaves, if it has a disk of its own. This needs no memory, so that no change of the disk is lost for want of it.
+fn keep_disk<'a, F: Files, W>(
+    disk: Option<&'a str>,
+    bytes: &[u8],
     ran: &Ran<W>,
     files: &mut F,
-) -> Result<(), WriteFailed>
-    ensures { IsKept disk.entry (concat ran.now.image) (F.folder files.old) (F.folder files.new) result }
+) -> Result<(), End<'a>>
+    requires locked { HasLockOf disk (F.folder files.old) }
+    ensures { IsKept disk.entry bytes.now (concat ran.now.image) (F.folder files.old) (F.folder files.new) result }
 {
     match disk {
-        Some(path) => files.write(path, ran.image_bytes()),
+        Some(path) => keep(path, bytes, ran.image_bytes(), files),
         None => Ok(()),
     }
 }
@@ -88,34 +113,53 @@ fn why_at(why: Why, flushed: Result<(), WriteFailed>) -> Why
     }
 }
 
+/// Writes lines that warn, if there are some, after a run whose program ended by itself.
+fn warn_after<E: Sink>(lines: &Option<String>, status: u8, errors: &mut E)
+    ensures { WarnsAfter (option_map string_bytes lines.now) (E.stream errors.old) (E.stream errors.new) status }
+{
+    if status != DONE {
+        return;
+    }
+    if let Some(lines) = lines {
+        let _ = put(errors, lines.as_bytes());
+    }
+}
+
 /// Reports that the image could not be written, or why the run ended, and gives the exit status.
 fn report_run<E: Sink>(
     alloc: Global,
-    disk: Option<&str>,
-    kept: Result<(), WriteFailed>,
+    lines: &Option<String>,
+    kept: Result<(), End<'_>>,
     why: Why,
     pc: u16,
     errors: &mut E,
 ) -> u8
-    ensures { ReportsRun disk.entry kept why pc (E.stream errors.old) (E.stream errors.new) result }
+    ensures { ReportsRun (option_map string_bytes lines.now) kept.entry why pc (E.stream errors.old) (E.stream errors.new) result }
 {
-    match (disk, kept) {
-        (Some(path), Err(_)) => report(&End::File { path, ending: "" }, errors),
-        _ => conclude(alloc, why, pc, errors),
+    match kept {
+        Ok(()) => {
+            let status = conclude(alloc, why, pc, errors);
+            warn_after(lines, status, errors);
+            status
+        }
+        Err(end) => report(&end, errors),
     }
 }
 
-/// Hands on what the program printed, writes the image, reports why the run ended, and gives the exit status.
+/// Hands on what the program printed, keeps the image, reports why the run ended, and gives the exit status.
 pub(crate) fn end_run<F: Files, W: Sink, E: Sink>(
     alloc: Global,
     disk: Option<&str>,
+    inputs: &Inputs,
     ran: &mut Ran<W>,
     files: &mut F,
     errors: &mut E,
 ) -> u8
-    ensures { EndsRun disk.entry ran.old.why ran.old.pc (concat ran.old.image) (W.stream ran.old.output) (W.stream ran.new.output) (F.folder files.old) (F.folder files.new) (E.stream errors.old) (E.stream errors.new) result }
+    requires locked { HasLockOf disk (F.folder files.old) }
+    ensures { EndsRun disk.entry inputs.now.image.items (lines_in inputs.now) ran.old.why ran.old.pc (concat ran.old.image) (W.stream ran.old.output) (W.stream ran.new.output) (F.folder files.old) (F.folder files.new) (E.stream errors.old) (E.stream errors.new) result }
 {
     let flushed = flush(&mut ran.output);
-    let kept = keep_disk(disk, ran, files);
-    report_run(alloc, disk, kept, why_at(ran.why, flushed), ran.pc, errors)
+    let kept = keep_disk(disk, &inputs.image, ran, files);
+    let why = why_at(ran.why, flushed);
+    report_run(alloc, &inputs.warnings, kept, why, ran.pc, errors)
 }

@@ -1,10 +1,12 @@
-use Rattle.std.proofs.Common.{inl, inr, refl, subst}
+use Rattle.std.proofs.Common.{inl, inr, map, refl, subst, sym}
 use Rattle.std.proofs.lemmas.Result.{err_from_is_err_and}
 use Rattle.z80dev_finish.specs.Answers.{answer_by}
-use Rattle.z80dev_finish.specs.declared.end.End.TheVariants as end
 use Rattle.z80dev_make.specs.Answers.{told_text}
 use Rattle.z80dev_make.specs.Build.{IsMade}
-use Rattle.z80dev_jobs.proofs.Carried.{carried, no_line}
+use Rattle.z80dev_jobs.specs.Making.{IsCarriedOut, LineAt, effect_of}
+use Rattle.z80dev_jobs.specs.Private.Steps.{BuildsTexts, end_in, line_in}
+use Rattle.z80dev_jobs.proofs.Carried.{carried}
+use Rattle.z80dev_jobs.proofs.Images.{ends, with_line}
 use Rattle.z80dev_jobs.proofs.making.build_texts.Goals as goal
 
 pub returns-in_err-sources : goal.returns-in_err-sources
@@ -21,26 +23,20 @@ pub returns : goal.returns
 returns g c =
     let made = c.build-answer.result in
     let answer = answer_by told_text made.answer in
-    inl (
+    let w = c.args.wanted in
+    let paths = map (λ path. path.now) c.args.paths.now in
+    let texts = map (λ text. text.items) c.args.texts.now in
+    let x = effect_of (g.F.Files.folder c.args.files.now) (g.F.Files.folder c.finish.new.files) (g.W.Sink.stream c.args.output.now) (g.W.Sink.stream c.finish.new.output) in
+    let done = with_line c.finish.result c.in_ok-line.line c.done_with.result c.done_with.ensures in
+    let line = subst (LineAt (end_in c.done_with.result) (line_in c.done_with.result)) c.in_ok-line.ensures done.1 in
+    let carries = carried told_text w.out.now made.answer x.old x.old x.new x.before x.after c.finish.result refl c.finish.ensures in
+    ends (BuildsTexts w.out.now w.grow w.list w.verbose paths texts x) c.done_with.result
+    (inl (
       made.jumps,
-      no_line c.finish.result _ c.in_default.not-Done,
+      line,
       (
         answer,
-        (c.in_ok-sources.sources.items, c.in_ok-sources.ensures, subst (λ files. IsMade files c.args.wanted.grow c.args.wanted.list answer made.jumps) c.deref.ensures.value c.build-answer.ensures),
-        carried told_text c.args.wanted.out.now made.answer (g.F.Files.folder c.args.files.now) (g.F.Files.folder c.args.files.now) (g.F.Files.folder c.finish.new.files) (g.W.Sink.stream c.args.output.now) (g.W.Sink.stream c.finish.new.output) c.finish.result refl c.finish.ensures,
+        (c.in_ok-sources.sources.items, c.in_ok-sources.ensures, subst (λ files. IsMade files w.grow w.list answer made.jumps) c.deref.ensures.value c.build-answer.ensures),
+        subst (IsCarriedOut w.out.now answer x) (sym done.0) carries,
       ),
-    )
-
-pub returns-in-Done : goal.returns-in-Done
-returns-in-Done g c =
-    let made = c.build-answer.result in
-    let answer = answer_by told_text made.answer in
-    inl (
-      made.jumps,
-      c.in_ok-line.ensures,
-      (
-        answer,
-        (c.in_ok-sources.sources.items, c.in_ok-sources.ensures, subst (λ files. IsMade files c.args.wanted.grow c.args.wanted.list answer made.jumps) c.deref.ensures.value c.build-answer.ensures),
-        carried told_text c.args.wanted.out.now made.answer (g.F.Files.folder c.args.files.now) (g.F.Files.folder c.args.files.now) (g.F.Files.folder c.finish.new.files) (g.W.Sink.stream c.args.output.now) (g.W.Sink.stream c.finish.new.output) end.Done refl c.in-Done.ensures,
-      ),
-    )
+    ))

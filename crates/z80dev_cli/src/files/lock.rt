@@ -1,0 +1,152 @@
+//! The lock of a file that a command changes.
+
+ghost use Rattle.std.specs.Prelude.{◌≡◌, IfOk, IfSome, string_bytes};
+ghost use Rattle.z80dev_finish.specs.Files.{IsLockWanted};
+ghost use Rattle.z80dev_cli.specs.Host.{IsLockOf};
+
+use std::alloc::Global;
+use std::fs::{self, File, TryLockError};
+use std::io::ErrorKind;
+use std::os::unix::fs::MetadataExt;
+use std::thread::sleep;
+use std::time::Duration;
+use z80dev_finish::Unread;
+
+/// How often the lock is asked for before the command gives up, and how many milliseconds it waits in between: a second together.
+const ATTEMPTS: u32 = 100;
+const PAUSE: u64 = 10;
+
+/// The names of a file that is to be replaced. They are made when memory can still be refused without harm.
+#[derive(Drop)]
+pub(crate) struct Names {
+    /// The path that was given.
+    pub(crate) path: String,
+    /// The path of the file behind symbolic links. That file is replaced, not the link.
+    pub(crate) target: String,
+}
+
+/// The lock that a command took.
+#[derive(Drop)]
+pub(crate) struct HeldLock {
+    /// The path that it was asked for.
+    pub(crate) path: String,
+    /// What the file that is written beside this one takes.
+    pub(crate) names: Option<Names>,
+    /// The file on which the lock is, which keeps it. None if there is no file, or no lock.
+    pub(crate) file: Option<File>,
+    pub(crate) is_held: bool,
+    ghost same_path: { IfSome names (λ n. string_bytes n.path ≡ string_bytes path) },
+}
+
+/// What came of asking for the lock once.
+enum Attempt {
+    /// It is held, on this file.
+    Held(File),
+    /// There is no file yet.
+    Nothing,
+    /// This file system has no locks.
+    Unavailable,
+    /// Another program holds it, or replaced the file meanwhile.
+    Busy,
+    /// The file cannot be opened.
+    Failed,
+}
+
+/// A copy of a path.
+fn copy_of(alloc: Global, path: &str) -> Result<String, Unread>
+    ensures { IfOk result (λ copy. string_bytes copy ≡ path.now) }
+{
+    match String::from_str(alloc, path) {
+        Ok(copy) => Ok(copy),
+        Err(_) => Err(Unread::NoMemory),
+    }
+}
+
+/// The path of the file behind symbolic links, or the path itself if it is no link. A link whose file is not there is an error: to replace the
+/// link would be wrong.
+fn target_of(rt: &HostRuntime, alloc: Global, path: &str) -> Result<String, Unread> {
+    match fs::symlink_metadata(rt, path) {
+        Ok(found) if found.is_symlink() => match fs::canonicalize(rt, path) {
+            Ok(target) => Ok(target.into_string()),
+            Err(error) if error.kind() == ErrorKind::OutOfMemory => Err(Unread::NoMemory),
+            Err(_) => Err(Unread::File),
+        },
+        _ => copy_of(alloc, path),
+    }
+}
+
+/// Whether the path still names the file that was opened. Whoever replaces a file gives its path to another one.
+fn is_same(rt: &HostRuntime, file: &File, path: &str) -> bool {
+    match (file.metadata(), fs::metadata(rt, path)) {
+        (Ok(held), Ok(found)) => held.dev() == found.dev() && held.ino() == found.ino(),
+        _ => false,
+    }
+}
+
+/// Asks for the lock once, without waiting.
+fn ask_once(rt: &HostRuntime, target: &str) -> Attempt {
+    let file = match fs::open(rt, target) {
+        Ok(file) => file,
+        Err(error) if error.kind() == ErrorKind::NotFound => return Attempt::Nothing,
+        Err(_) => return Attempt::Failed,
+    };
+    match file.try_lock() {
+        Ok(()) if is_same(rt, &file, target) => Attempt::Held(file),
+        Ok(()) | Err(TryLockError::WouldBlock) => Attempt::Busy,
+        Err(TryLockError::Error(_)) => Attempt::Unavailable,
+    }
+}
+
+/// Asks for the lock until it is held, for a second at most. The answer is the file on which it is, and whether a lock can be had at all.
+fn wait_for_lock(rt: &HostRuntime, target: &str) -> Result<(Option<File>, bool), Unread> {
+    for _ in 0..ATTEMPTS {
+        match ask_once(rt, target) {
+            Attempt::Held(file) => return Ok((Some(file), true)),
+            Attempt::Nothing => return Ok((None, true)),
+            Attempt::Unavailable => return Ok((None, false)),
+            Attempt::Failed => return Err(Unread::File),
+            Attempt::Busy => sleep(rt, Duration::from_millis(PAUSE)),
+        }
+    }
+    Err(Unread::File)
+}
+
+/// The lock of a regular file that is wanted; a device or a pipe has none.
+fn lock_target(rt: &HostRuntime, target: &str, is_wanted: bool) -> Result<(Option<File>, bool), Unread>
+    ensures { IfOk result (λ r. IsLockWanted is_wanted r.1) }
+{
+    if !is_wanted {
+        return Ok((None, false));
+    }
+    match fs::metadata(rt, target) {
+        Ok(found) if !found.is_file() => Ok((None, true)),
+        _ => wait_for_lock(rt, target),
+    }
+}
+
+/// Takes the lock of a path, if it is wanted.
+///
+/// # Errors
+///
+/// [`Unread::File`] if another program keeps it for a second, or the file cannot be opened; [`Unread::NoMemory`].
+pub(crate) fn take_lock(
+    rt: &HostRuntime,
+    alloc: Global,
+    path: &str,
+    is_wanted: bool,
+) -> Result<HeldLock, Unread>
+    ensures { IfOk result (λ l. IsLockOf path.now is_wanted l) }
+{
+    let copy = copy_of(alloc, path)?;
+    let names = Names {
+        path: copy_of(alloc, path)?,
+        target: target_of(rt, alloc, path)?,
+    };
+    let (file, is_held) = lock_target(rt, &names.target, is_wanted)?;
+    Ok(HeldLock {
+        path: copy,
+        names: Some(names),
+        file,
+        is_held,
+    })
+}

@@ -1,0 +1,419 @@
+-- How commands end that read, claim and change images.
+use Rattle.std.proofs.Common.{◌≡◌, ◌≢◌, ◌∙◌, ◌+◌, ◌<◌, ◌++◌, ◌&&◌, ap, arith, false, get_or, map, not, take, ℕ, Bool, Bor, List, [], ◌∷◌, length, String, Vec, Option, None, Some, Result, Ok, Err, codes, inl, inr, refl, subst, sym, string_bytes}
+use Rattle.std.specs.Global.{Global}
+use Rattle.std.specs.Option.{option_map}
+use Rattle.std.specs.Result.{IsErrAnd}
+use Rattle.streams.specs.Stream.{Stream}
+use Rattle.z80dev_commands.specs.declared.Target.{Target}
+use Rattle.z80dev_disk.specs.Refusals.{refusal_text}
+use Rattle.z80dev_disk.specs.declared.refusal.Refusal.{Refusal}
+use Rattle.std.specs.List.{AllZip, concat}
+use Rattle.std.specs.Prelude.{◌⊎◌}
+use Rattle.std.proofs.lemmas.List.{get_or-map, length-map, map-append, take_more}
+use Rattle.cpm_image.specs.Image.{blank_image}
+use Rattle.streams.specs.Stream.{counted}
+use Rattle.streams.specs.declared.writing.WriteFailed.{WriteFailed}
+use Rattle.z80dev_disk.specs.declared.getting.Gotten.{Gotten}
+use Rattle.z80dev_finish.proofs.Stored.{grows_none, grows_trans, none_more}
+use Rattle.z80dev_finish.specs.Files.{Adds, File, Folder, IsUntouched, Stores}
+use Rattle.z80dev_finish.specs.declared.end.End.{End}
+use Rattle.z80dev_finish.specs.declared.end.End.TheVariants as end
+use Rattle.z80dev_disk.specs.Put.{IsPut as IsPutOn}
+use Rattle.z80dev_disk.specs.Words.{name_of, own_name, pattern_of}
+use Rattle.z80dev_commands.specs.declared.Manner.{Manner}
+use Rattle.z80dev_jobs.specs.Disks.{BlankEnds, BlankIsMade, Changes, ChangesImage, Claiming, IsChanged, Named, NamedAll, NothingDone, PutEnds, Refuses, Warns, GetsInto, IsWrittenInto, NamedIfGiven, PutAllEnds, ReadsImage, WritesInto, as_put, bad_name, kind_of, path_in, warnings, without_name}
+use Rattle.z80dev_jobs.specs.Reading.{IsNotRead, IsOneNotRead, IsRead}
+use Rattle.z80dev_finish.specs.Answers.{Answer, answer_by}
+use Rattle.z80dev_finish.specs.Finishing.{Finishes}
+use Rattle.z80dev_finish.specs.declared.answer.Answer as made
+use Rattle.z80dev_disk.specs.Get.{IsGetAll}
+use Rattle.z80dev_jobs.specs.Making.{CarriesOut, Effect, IsCarriedOut, LineAt, With, WithAll, effect_of}
+use Rattle.z80dev_jobs.specs.Private.Images.{AreInto, ChangesInto, ClaimsImage, LocksPath, ReadsImageFile, WritesAll, lines_of}
+use Rattle.z80dev_jobs.specs.Private.Names.{AreNamed, AreNames, IsPatternIfGiven, IsRefusal, IsWord, Says}
+use Rattle.z80dev_jobs.specs.Private.Steps.{DoneWith, EndsWith, end_in, line_in}
+use Rattle.z80dev_jobs.specs.declared.disks.image.Image.{Image}
+use Rattle.z80dev_jobs.proofs.Carried.{carried, no_line}
+
+-- how a command ends, from its end and its line
+pub ends : (Is : Option (List ℕ) → End → Type 0) (result : Result (Option (String Global)) End) → Is (line_in result) (end_in result) → EndsWith Is result
+ends Is (Ok line) is = is
+ends Is (Err e) is = is
+
+pub no_line_at : (e : End) → LineAt e None None
+no_line_at end.Done = refl
+no_line_at (end.Refused said) = refl
+no_line_at (end.File path last) = refl
+no_line_at (end.Path path) = refl
+no_line_at end.Stream = refl
+no_line_at end.NoMemory = refl
+
+-- a line that goes with the end at which all is done
+pub with_line : (e : End) (line : Option (String Global)) (result : Result (Option (String Global)) End) → DoneWith e line result
+    → (end_in result ≡ e) × LineAt (end_in result) (line_in result) (option_map string_bytes line)
+with_line end.Done line result is = rw is (refl, refl)
+with_line (end.Refused said) line result is = rw is (refl, refl)
+with_line (end.File path last) line result is = rw is (refl, refl)
+with_line (end.Path path) line result is = rw is (refl, refl)
+with_line end.Stream line result is = rw is (refl, refl)
+with_line end.NoMemory line result is = rw is (refl, refl)
+
+-- an end at which not all is done
+pub otherwise : (e : End) (line : Option (String Global)) → (e ≡ end.Done → ⊥) → DoneWith e line (Err e)
+otherwise end.Done line not = absurd (not refl)
+otherwise (end.Refused said) line not = refl
+otherwise (end.File path last) line not = refl
+otherwise (end.Path path) line not = refl
+otherwise end.Stream line not = refl
+otherwise end.NoMemory line not = refl
+
+-- what has no line, since not all is done
+pub unwarned : (Ends : Option (List ℕ) → End → Type 0) (e : End) → Ends None e → Warns Ends None e
+unwarned Ends e is = (None, no_line_at e, is)
+
+pub untouched : (f : Folder) → IsUntouched f f
+untouched f = (grows_none f.files, refl)
+
+-- a text that is said where nothing is done
+pub refuses : (why : List ℕ) (x : Effect) (e : End) → Says why e → NothingDone x → Refuses why x e
+refuses why x (end.Refused said) says nothing = (says, nothing)
+refuses why x end.NoMemory says nothing = nothing
+refuses why x end.Done says nothing = absurd says
+refuses why x (end.File path last) says nothing = absurd says
+refuses why x (end.Path path) says nothing = absurd says
+refuses why x end.Stream says nothing = absurd says
+
+-- a claimed image is changed
+pub changed : (t : Target) (Is : List ℕ → Result (Vec ℕ Global) Refusal → Type 0) (old mid new : Folder) (o : Stream) (image : Image) (made : Result (Vec ℕ Global) Refusal) (result : Result (Option (String Global)) End)
+    → ClaimsImage old mid t.image.now t.lock (Ok image) → Is image.bytes.items made → ChangesInto t.image.now image made mid new result
+    → Warns (ChangesImage t Is (effect_of old new o o)) (line_in result) (end_in result)
+changed t Is old mid new o image made (Ok line) (is_held, mid_is, wanted, read, lines) is (line_is, changes) =
+    (lines_of image, line_is, inl (image.bytes.items, is_held, read, wanted, (lines, inl (made, is, subst (λ f. IsChanged t.image.now image.bytes.items made (effect_of f new o o) end.Done) mid_is (changes o)))))
+changed t Is old mid new o image made (Err e) (is_held, mid_is, wanted, read, lines) is (not_done, changes) =
+    (lines_of image, no_line e (lines_of image) not_done, inl (image.bytes.items, is_held, read, wanted, (lines, inl (made, is, subst (λ f. IsChanged t.image.now image.bytes.items made (effect_of f new o o) e) mid_is (changes o)))))
+
+-- why names are not known, where nothing is done
+pub unnamed_word : (name_in : List ℕ → Option (List ℕ)) (word : List ℕ) (Does : List ℕ → Type 0) (x : Effect) (e : End) → IsWord name_in word (Err e) → NothingDone x → Named (name_in word) Does x e
+unnamed_word name_in word Does x e (none, says) nothing = subst (λ o. Named o Does x e) (sym none) (refuses (codes "BadName") x e says nothing)
+
+pub named_word : (name_in : List ℕ → Option (List ℕ)) (word name : List ℕ) (Does : List ℕ → Type 0) (x : Effect) (e : End) → name_in word ≡ Some name → Does name → Named (name_in word) Does x e
+named_word name_in word name Does x e is does = subst (λ o. Named o Does x e) (sym is) does
+
+pub unnamed_all : (name_in : List ℕ → Option (List ℕ)) (words : List (List ℕ)) (Does : List (List ℕ) → Type 0) (x : Effect) (e : End)
+    → AreNames name_in words (Err e) → NothingDone x → NamedAll name_in words Does x e
+unnamed_all name_in words Does x e (inl (n, word, names, at, before, none, says)) nothing = inr (inl (n, word, names, at, before, none, refuses (bad_name word) x e says nothing))
+unnamed_all name_in words Does x e (inr out) nothing = inr (inr (out, nothing))
+
+pub nothing_done : (f : Folder) (o : Stream) → NothingDone (effect_of f f o o)
+nothing_done f o = (untouched f, refl)
+
+-- ---- ends that a `?` hands on
+
+passed_on : (Is : Option (List ℕ) → End → Type 0) (e : End) (result : Result (Option (String Global)) End) → IsErrAnd result (λ f. f ≡ e) → Is None e → EndsWith Is result
+passed_on Is e (Ok line) same is = absurd same
+passed_on Is e (Err f) same is = subst (Is None) (sym same) is
+
+pub not_claimed : (t : Target) (Is : List ℕ → Result (Vec ℕ Global) Refusal → Type 0) (old new : Folder) (o : Stream) (e : End) → ClaimsImage old new t.image.now t.lock (Err e)
+    → ChangesImage t Is (effect_of old new o o) None e
+not_claimed t Is old new o e claims = inr (claims, refl)
+
+-- ---- commands over several words
+
+abbrev pub Several : (List ℕ → Option (List ℕ)) → List (List ℕ) → Target → (List (List ℕ) → List ℕ → Result (Vec ℕ Global) Refusal → Type 0) → Effect → Option (List ℕ) → End → Type 0
+Several name_in words t Is x line e = Warns (λ wanted e. NamedAll name_in words (λ names. ChangesImage t (Is names) x wanted e) x e) line e
+
+pub several_unnamed : (name_in : List ℕ → Option (List ℕ)) (words : List (List ℕ)) (t : Target) (Is : List (List ℕ) → List ℕ → Result (Vec ℕ Global) Refusal → Type 0) (f : Folder) (o : Stream) (e : End)
+    (result : Result (Option (String Global)) End) → AreNames name_in words (Err e) → IsErrAnd result (λ g. g ≡ e) → EndsWith (Several name_in words t Is (effect_of f f o o)) result
+several_unnamed name_in words t Is f o e result unnamed same =
+    passed_on (Several name_in words t Is (effect_of f f o o)) e result same
+    (None, no_line_at e, unnamed_all name_in words (λ names. ChangesImage t (Is names) (effect_of f f o o) None e) (effect_of f f o o) e unnamed (nothing_done f o))
+
+pub several_unclaimed : (name_in : List ℕ → Option (List ℕ)) (words names : List (List ℕ)) (t : Target) (Is : List (List ℕ) → List ℕ → Result (Vec ℕ Global) Refusal → Type 0) (old new : Folder) (o : Stream) (e : End)
+    (result : Result (Option (String Global)) End) → AreNamed name_in words names → ClaimsImage old new t.image.now t.lock (Err e) → IsErrAnd result (λ g. g ≡ e) → EndsWith (Several name_in words t Is (effect_of old new o o)) result
+several_unclaimed name_in words names t Is old new o e result named claims same =
+    passed_on (Several name_in words t Is (effect_of old new o o)) e result same (None, no_line_at e, inl (names, named, not_claimed t (Is names) old new o e claims))
+
+pub several_changed : (name_in : List ℕ → Option (List ℕ)) (words names : List (List ℕ)) (t : Target) (Is : List (List ℕ) → List ℕ → Result (Vec ℕ Global) Refusal → Type 0) (old mid new : Folder) (o : Stream) (image : Image)
+    (made : Result (Vec ℕ Global) Refusal) (result : Result (Option (String Global)) End) → AreNamed name_in words names → ClaimsImage old mid t.image.now t.lock (Ok image) → Is names image.bytes.items made
+    → ChangesInto t.image.now image made mid new result → EndsWith (Several name_in words t Is (effect_of old new o o)) result
+several_changed name_in words names t Is old mid new o image made result named claims is into =
+    let (wanted, line, does) = changed t (Is names) old mid new o image made result claims is into in
+    ends (Several name_in words t Is (effect_of old new o o)) result (wanted, line, inl (names, named, does))
+
+-- ---- a command over two words
+
+abbrev pub Two : (List ℕ → Option (List ℕ)) → List ℕ → List ℕ → Target → (List ℕ → List ℕ → List ℕ → Result (Vec ℕ Global) Refusal → Type 0) → Effect → Option (List ℕ) → End → Type 0
+Two name_in one two t Is x line e = Warns (λ wanted e. Named (name_in one) (λ from. Named (name_in two) (λ to. ChangesImage t (Is from to) x wanted e) x e) x e) line e
+
+module _ (name_in : List ℕ → Option (List ℕ)) (one two : List ℕ) (t : Target) (Is : List ℕ → List ℕ → List ℕ → Result (Vec ℕ Global) Refusal → Type 0) where
+  pub two_first : (f : Folder) (o : Stream) (e : End) (result : Result (Option (String Global)) End) → IsWord name_in one (Err e) → IsErrAnd result (λ g. g ≡ e) → EndsWith (Two name_in one two t Is (effect_of f f o o)) result
+  two_first f o e result unnamed same =
+      let x = effect_of f f o o in
+      passed_on (Two name_in one two t Is x) e result same
+      (None, no_line_at e, unnamed_word name_in one (λ from. Named (name_in two) (λ to. ChangesImage t (Is from to) x None e) x e) x e unnamed (nothing_done f o))
+
+  pub two_second : (f : Folder) (o : Stream) (from : List ℕ) (e : End) (result : Result (Option (String Global)) End) → name_in one ≡ Some from → IsWord name_in two (Err e) → IsErrAnd result (λ g. g ≡ e)
+      → EndsWith (Two name_in one two t Is (effect_of f f o o)) result
+  two_second f o from e result named unnamed same =
+      let x = effect_of f f o o in
+      passed_on (Two name_in one two t Is x) e result same
+      (None, no_line_at e, named_word name_in one from (λ from. Named (name_in two) (λ to. ChangesImage t (Is from to) x None e) x e) x e named
+      (unnamed_word name_in two (λ to. ChangesImage t (Is from to) x None e) x e unnamed (nothing_done f o)))
+
+  both_named : (x : Effect) (from to : List ℕ) (wanted : Option (List ℕ)) (e : End) → name_in one ≡ Some from → name_in two ≡ Some to → ChangesImage t (Is from to) x wanted e
+      → Named (name_in one) (λ from. Named (name_in two) (λ to. ChangesImage t (Is from to) x wanted e) x e) x e
+  both_named x from to wanted e first second does =
+      named_word name_in one from (λ from. Named (name_in two) (λ to. ChangesImage t (Is from to) x wanted e) x e) x e first
+      (named_word name_in two to (λ to. ChangesImage t (Is from to) x wanted e) x e second does)
+
+  pub two_unclaimed : (old new : Folder) (o : Stream) (from to : List ℕ) (e : End) (result : Result (Option (String Global)) End) → name_in one ≡ Some from → name_in two ≡ Some to
+      → ClaimsImage old new t.image.now t.lock (Err e) → IsErrAnd result (λ g. g ≡ e) → EndsWith (Two name_in one two t Is (effect_of old new o o)) result
+  two_unclaimed old new o from to e result first second claims same =
+      let x = effect_of old new o o in
+      passed_on (Two name_in one two t Is x) e result same (None, no_line_at e, both_named x from to None e first second (not_claimed t (Is from to) old new o e claims))
+
+  pub two_changed : (old mid new : Folder) (o : Stream) (from to : List ℕ) (image : Image) (made : Result (Vec ℕ Global) Refusal) (result : Result (Option (String Global)) End) → name_in one ≡ Some from → name_in two ≡ Some to
+      → ClaimsImage old mid t.image.now t.lock (Ok image) → Is from to image.bytes.items made → ChangesInto t.image.now image made mid new result → EndsWith (Two name_in one two t Is (effect_of old new o o)) result
+  two_changed old mid new o from to image made result first second claims is into =
+      let x = effect_of old new o o in
+      let (wanted, line, does) = changed t (Is from to) old mid new o image made result claims is into in
+      ends (Two name_in one two t Is x) result (wanted, line, both_named x from to wanted (end_in result) first second does)
+
+-- ---- an image that is claimed, and what is read after it
+
+abbrev pub AfterClaim : Target → (List ℕ → Effect → End → Type 0) → Effect → Option (List ℕ) → End → Type 0
+AfterClaim t Rest x wanted e = Claiming t.image.now t.lock (λ bytes is_held y. (wanted ≡ warnings t.image.now (length bytes) (t.lock && not is_held)) × Rest bytes y e) x e
+
+pub claimed_then : (t : Target) (Rest : List ℕ → Effect → End → Type 0) (old mid new : Folder) (o : Stream) (image : Image) (e : End) → ClaimsImage old mid t.image.now t.lock (Ok image)
+    → Rest image.bytes.items (effect_of mid new o o) e → AfterClaim t Rest (effect_of old new o o) (lines_of image) e
+claimed_then t Rest old mid new o image e (is_held, mid_is, wanted, read, lines) rest =
+    inl (image.bytes.items, is_held, read, wanted, (lines, subst (λ f. Rest image.bytes.items (effect_of f new o o) e) mid_is rest))
+
+pub not_read : (old new : Folder) (path : List ℕ) (e : End) → IsNotRead old new path e → e ≢ end.Done
+not_read old new path end.Done is same = is
+not_read old new path (end.Refused said) is same = absurd cc
+not_read old new path (end.File at last) is same = absurd cc
+not_read old new path (end.Path at) is same = absurd cc
+not_read old new path end.Stream is same = absurd cc
+not_read old new path end.NoMemory is same = absurd cc
+
+no_memory : end.NoMemory ≢ end.Done
+no_memory same = absurd cc
+
+-- how a change that is made of what was read ends
+pub changes_into : (path : List ℕ) (Is : Result (Vec ℕ Global) Refusal → Type 0) (mid new : Folder) (o : Stream) (image : Image) (made : Result (Vec ℕ Global) Refusal) (result : Result (Option (String Global)) End)
+    → Is made → ChangesInto path image made mid new result → Changes path image.bytes.items Is (effect_of mid new o o) (end_in result)
+changes_into path Is mid new o image made (Ok line) is (line_is, changes) = inl (made, is, changes o)
+changes_into path Is mid new o image made (Err e) is (not_done, changes) = inl (made, is, changes o)
+
+pub line_into : (path : List ℕ) (mid new : Folder) (image : Image) (made : Result (Vec ℕ Global) Refusal) (result : Result (Option (String Global)) End) → ChangesInto path image made mid new result
+    → LineAt (end_in result) (line_in result) (lines_of image)
+line_into path mid new image made (Ok line) (line_is, changes) = line_is
+line_into path mid new image made (Err e) (not_done, changes) = no_line e (lines_of image) not_done
+
+module _ (t : Target) (m : Manner) (path word name : List ℕ) (named : name_of word ≡ Some name) where
+  abbrev Rest : List ℕ → Effect → End → Type 0
+  Rest bytes y e = With path (λ file. Changes t.image.now bytes (λ r. (s : Result (Vec ℕ Global) Refusal) × IsPutOn bytes t.user m.replace ((name, as_put m.text file) ∷ []) s × (r ≡ without_name s)) y e) y e
+
+  abbrev Does : Effect → Option (List ℕ) → End → List ℕ → Type 0
+  Does x wanted e name = Claiming t.image.now t.lock (λ bytes is_held y. (wanted ≡ warnings t.image.now (length bytes) (t.lock && not is_held))
+      × With path (λ file. Changes t.image.now bytes (λ r. (s : Result (Vec ℕ Global) Refusal) × IsPutOn bytes t.user m.replace ((name, as_put m.text file) ∷ []) s × (r ≡ without_name s)) y e) y e) x e
+
+  pub put_unclaimed : (old new : Folder) (o : Stream) (e : End) (result : Result (Option (String Global)) End) → ClaimsImage old new t.image.now t.lock (Err e) → IsErrAnd result (λ g. g ≡ e)
+      → EndsWith (PutEnds t m path word (effect_of old new o o)) result
+  put_unclaimed old new o e result claims same =
+      let x = effect_of old new o o in
+      passed_on (PutEnds t m path word x) e result same (None, no_line_at e, named_word name_of word name (Does x None e) x e named (inr (claims, refl)))
+
+  pub put_unread : (old mid new : Folder) (o : Stream) (image : Image) (e : End) (result : Result (Option (String Global)) End) → ClaimsImage old mid t.image.now t.lock (Ok image) → IsNotRead mid new path e
+      → IsErrAnd result (λ g. g ≡ e) → EndsWith (PutEnds t m path word (effect_of old new o o)) result
+  put_unread old mid new o image e result claims unread same =
+      let x = effect_of old new o o in
+      passed_on (PutEnds t m path word x) e result same
+      (lines_of image, no_line e (lines_of image) (not_read mid new path e unread), named_word name_of word name (Does x (lines_of image) e) x e named (claimed_then t Rest old mid new o image e claims (inr (unread, refl))))
+
+  pub put_without_memory : (old mid new : Folder) (o : Stream) (image : Image) (file : List ℕ) (e : End) (result : Result (Option (String Global)) End) → ClaimsImage old mid t.image.now t.lock (Ok image) → new ≡ mid
+      → IsRead mid path file → e ≡ end.NoMemory → IsErrAnd result (λ g. g ≡ e) → EndsWith (PutEnds t m path word (effect_of old new o o)) result
+  put_without_memory old mid new o image file e result claims kept read out same =
+      let x = effect_of old new o o in
+      let nothing : NothingDone (effect_of mid new o o) = subst (λ f. NothingDone (effect_of mid f o o)) (sym kept) (nothing_done mid o) in
+      passed_on (PutEnds t m path word x) e result same
+      (lines_of image, no_line e (lines_of image) (λ done. no_memory (sym out ∙ done)), named_word name_of word name (Does x (lines_of image) e) x e named (claimed_then t Rest old mid new o image e claims (inl (file, read, inr (out, nothing)))))
+
+  pub put_changed : (old mid after new : Folder) (o : Stream) (image : Image) (file : List ℕ) (put made : Result (Vec ℕ Global) Refusal) (result : Result (Option (String Global)) End)
+      → ClaimsImage old mid t.image.now t.lock (Ok image) → after ≡ mid → IsRead mid path file → IsPutOn image.bytes.items t.user m.replace ((name, as_put m.text file) ∷ []) put → made ≡ without_name put
+      → ChangesInto t.image.now image made after new result → EndsWith (PutEnds t m path word (effect_of old new o o)) result
+  put_changed old mid after new o image file put made result claims kept read is made_is into =
+      let x = effect_of old new o o in
+      let now = subst (λ f. ChangesInto t.image.now image made f new result) kept into in
+      let does = changes_into t.image.now (λ r. (s : Result (Vec ℕ Global) Refusal) × IsPutOn image.bytes.items t.user m.replace ((name, as_put m.text file) ∷ []) s × (r ≡ without_name s)) mid new o image made result (put, is, made_is) now in
+      ends (PutEnds t m path word x) result
+      (lines_of image, line_into t.image.now mid new image made result now, named_word name_of word name (Does x (lines_of image) (end_in result)) x (end_in result) named
+      (claimed_then t Rest old mid new o image (end_in result) claims (inl (file, read, does))))
+
+-- ---- files that are written into a folder
+
+-- one more is written
+pub into_more : (folder : List ℕ) (gotten : List Gotten) (k : ℕ) (d : Gotten) (old mid new : Folder) (file : File) → k < length gotten → file ≡ path_in folder (get_or gotten k d) → AreInto folder (take k gotten) old mid
+    → Stores mid new file (Ok tt) → AreInto folder (take (k + 1) gotten) old new
+into_more folder gotten k d old mid new file lt is so_far stored =
+    (subst (λ fs. Adds old new (map (path_in folder) fs)) (sym (take_more gotten k d lt))
+    (subst (Adds old new) (sym (map-append (path_in folder) (take k gotten) (get_or gotten k d ∷ [])))
+    (grows_trans old.files mid.files new.files (map (path_in folder) (take k gotten)) (path_in folder (get_or gotten k d) ∷ []) so_far.0 (subst (λ f. Adds mid new (f ∷ [])) is stored.0))), stored.1 ∙ so_far.1)
+
+-- one is not written, or is and the call failed
+pub into_stopped : (folder : List ℕ) (gotten : List Gotten) (k : ℕ) (d : Gotten) (old mid new : Folder) (file : File) (failed : WriteFailed) → k < length gotten → file ≡ path_in folder (get_or gotten k d) → AreInto folder (take k gotten) old mid
+    → Stores mid new file (Err failed) → (Adds old new (map (path_in folder) (take k gotten)) ⊎ Adds old new (map (path_in folder) (take (k + 1) gotten))) × (new.failures ≡ counted old.failures)
+into_stopped folder gotten k d old mid new file failed lt is so_far (inl none, failures) =
+    (inl (none_more old mid new (map (path_in folder) (take k gotten)) so_far.0 none), failures ∙ ap counted so_far.1)
+into_stopped folder gotten k d old mid new file failed lt is so_far (inr this, failures) =
+    (inr (subst (λ fs. Adds old new (map (path_in folder) fs)) (sym (take_more gotten k d lt))
+    (subst (Adds old new) (sym (map-append (path_in folder) (take k gotten) (get_or gotten k d ∷ [])))
+    (grows_trans old.files mid.files new.files (map (path_in folder) (take k gotten)) (path_in folder (get_or gotten k d) ∷ []) so_far.0 (subst (λ f. Adds mid new (f ∷ [])) is this)))), failures ∙ ap counted so_far.1)
+
+-- ---- blank images
+
+pub blank_out : (mega keep lock : Bool) (image : List ℕ) (f : Folder) (o : Stream) (e : End) (result : Result (Option (String Global)) End) → e ≡ end.NoMemory → IsErrAnd result (λ g. g ≡ e)
+    → EndsWith (BlankEnds mega keep lock image (effect_of f f o o)) result
+blank_out mega keep lock image f o e result out same =
+    let x = effect_of f f o o in
+    passed_on (BlankEnds mega keep lock image x) e result same
+    (warnings image 0 (lock && not false), no_line e (warnings image 0 (lock && not false)) (λ done. no_memory (sym out ∙ done)), (false, (λ _. refl), refl,
+    subst (BlankIsMade image keep (concat (blank_image (kind_of mega))) x) (sym out) (nothing_done f o)))
+
+pub blank_unlocked : (mega keep lock : Bool) (image : List ℕ) (old new : Folder) (o : Stream) (e : End) (result : Result (Option (String Global)) End) → LocksPath old new image lock (Err e) → IsErrAnd result (λ g. g ≡ e)
+    → EndsWith (BlankEnds mega keep lock image (effect_of old new o o)) result
+blank_unlocked mega keep lock image old new o (end.File at last) result (path, no_ending, (adds, failures)) same =
+    let x = effect_of old new o o in
+    passed_on (BlankEnds mega keep lock image x) (end.File at last) result same
+    (warnings image 0 (lock && not false), refl, (false, (λ _. refl), refl, (refl, path, no_ending, inl adds, failures)))
+blank_unlocked mega keep lock image old new o end.NoMemory result nothing same =
+    let x = effect_of old new o o in
+    passed_on (BlankEnds mega keep lock image x) end.NoMemory result same
+    (warnings image 0 (lock && not false), refl, (false, (λ _. refl), refl, (nothing, refl)))
+blank_unlocked mega keep lock image old new o end.Done result none same = absurd none
+blank_unlocked mega keep lock image old new o (end.Refused said) result none same = absurd none
+blank_unlocked mega keep lock image old new o (end.Path path) result none same = absurd none
+blank_unlocked mega keep lock image old new o end.Stream result none same = absurd none
+
+-- ---- images that are read and not changed
+
+pub says_not_done : (why : List ℕ) (e : End) → Says why e → e ≢ end.Done
+says_not_done why (end.Refused said) says same = absurd cc
+says_not_done why end.NoMemory says same = absurd cc
+says_not_done why end.Done says same = says
+says_not_done why (end.File path last) says same = absurd cc
+says_not_done why (end.Path path) says same = absurd cc
+says_not_done why end.Stream says same = absurd cc
+
+pub read_then : (path : List ℕ) (Does : List ℕ → Type 0) (mid : Folder) (x : Effect) (image : Image) (e : End) → ReadsImageFile x.old mid path (Ok image) → Does image.bytes.items → ReadsImage path Does x (lines_of image) e
+read_then path Does mid x image e (same, read, lines) does = inl (image.bytes.items, read, (lines, does))
+
+-- an answer about an image is carried out, with warnings
+pub about : {R : Type 0} (text : R → List ℕ) (path base : List ℕ) (Is : List ℕ → Answer → Type 0) (old mid new : Folder) (before after : Stream) (image : Image) (a : made.Answer R) (e : End) (result : Result (Option (String Global)) End)
+    → ReadsImageFile old mid path (Ok image) → Is image.bytes.items (answer_by text a) → Finishes (λ r. Some (text r)) base a mid new before after e → DoneWith e image.warnings result
+    → Warns (λ wanted f. ReadsImage path (λ bytes. CarriesOut base (Is bytes) (effect_of old new before after) f) (effect_of old new before after) wanted f) (line_in result) (end_in result)
+about text path base Is old mid new before after image a e result read is finishes done =
+    let x = effect_of old new before after in
+    let (same, line) = with_line e image.warnings result done in
+    let carries = carried text base a old mid new before after e read.0 finishes in
+    (lines_of image, line, read_then path (λ bytes. CarriesOut base (Is bytes) x (end_in result)) mid x image (end_in result) read (answer_by text a, is, subst (IsCarriedOut base (answer_by text a) x) (sym same) carries))
+
+pub if_given : (name : Option (Bor (List ℕ))) (pattern : Option (List ℕ)) (Does : Option (List ℕ) → Type 0) (x : Effect) (e : End) → IsPatternIfGiven name (Ok pattern) → Does pattern → NamedIfGiven name Does x e
+if_given None pattern Does x e is does = subst Does is does
+if_given (Some word) pattern Does x e (found, is, named) does = named_word pattern_of word.now found (λ p. Does (Some p)) x e named (subst Does is does)
+
+-- ---- files that are gotten into a folder
+
+module _ (image : List ℕ) (user : ℕ) (text : Bool) (pattern folder : List ℕ) where
+  pub gets_refused : (old mid : Folder) (o : Stream) (read : Image) (why : Refusal) (e : End) → ReadsImageFile old mid image (Ok read) → IsGetAll read.bytes.items user pattern text (Err why) → IsRefusal why e
+      → Warns (GetsInto image user text pattern folder (effect_of old mid o o)) None e
+  gets_refused old mid o read why e reads is says =
+      let x = effect_of old mid o o in
+      let nothing : NothingDone x = subst (λ f. NothingDone (effect_of old f o o)) (sym reads.0) (nothing_done old o) in
+      (lines_of read, no_line e (lines_of read) (says_not_done (refusal_text why) e says), read_then image (λ bytes. (r : Result (Vec Gotten Global) Refusal) × IsGetAll bytes user pattern text r × IsWrittenInto folder r x e) mid x read e reads
+      (Err why, is, refuses (refusal_text why) x e says nothing))
+
+  pub gets_out : (old mid : Folder) (o : Stream) (read : Image) (files : Vec Gotten Global) (e : End) → ReadsImageFile old mid image (Ok read) → IsGetAll read.bytes.items user pattern text (Ok files) → e ≡ end.NoMemory
+      → Warns (GetsInto image user text pattern folder (effect_of old mid o o)) None e
+  gets_out old mid o read files e reads is out =
+      let x = effect_of old mid o o in
+      let nothing : NothingDone x = subst (λ f. NothingDone (effect_of old f o o)) (sym reads.0) (nothing_done old o) in
+      (lines_of read, no_line e (lines_of read) (λ done. no_memory (sym out ∙ done)), read_then image (λ bytes. (r : Result (Vec Gotten Global) Refusal) × IsGetAll bytes user pattern text r × IsWrittenInto folder r x e) mid x read e reads
+      (Ok files, is, subst (WritesInto folder files.items x) (sym out) nothing))
+
+  pub gets_stopped : (old mid new : Folder) (o : Stream) (read : Image) (files : Vec Gotten Global) (e : End) → ReadsImageFile old mid image (Ok read) → IsGetAll read.bytes.items user pattern text (Ok files)
+      → WritesAll folder files.items mid new (Err e) → Warns (GetsInto image user text pattern folder (effect_of old new o o)) None e
+  gets_stopped old mid new o read files (end.Path path) reads is writes =
+      let x = effect_of old new o o in
+      let from = subst (λ f. WritesAll folder files.items f new (Err (end.Path path))) reads.0 writes in
+      (lines_of read, refl, read_then image (λ bytes. (r : Result (Vec Gotten Global) Refusal) × IsGetAll bytes user pattern text r × IsWrittenInto folder r x (end.Path path)) mid x read (end.Path path) reads
+      (Ok files, is, (from.0, from.1, from.2, from.3, from.4, from.5, refl)))
+  gets_stopped old mid new o read files end.Done reads is writes = absurd writes
+  gets_stopped old mid new o read files (end.Refused said) reads is writes = absurd writes
+  gets_stopped old mid new o read files (end.File at last) reads is writes = absurd writes
+  gets_stopped old mid new o read files end.Stream reads is writes = absurd writes
+  gets_stopped old mid new o read files end.NoMemory reads is writes = absurd writes
+
+  pub gets_all : (old mid new : Folder) (o : Stream) (read : Image) (files : Vec Gotten Global) (line : Option (String Global)) → ReadsImageFile old mid image (Ok read) → IsGetAll read.bytes.items user pattern text (Ok files)
+      → AreInto folder files.items mid new → line ≡ read.warnings → Warns (GetsInto image user text pattern folder (effect_of old new o o)) (option_map string_bytes line) end.Done
+  gets_all old mid new o read files line reads is into same =
+      let x = effect_of old new o o in
+      let from = subst (λ f. AreInto folder files.items f new) reads.0 into in
+      (lines_of read, ap (option_map string_bytes) same, read_then image (λ bytes. (r : Result (Vec Gotten Global) Refusal) × IsGetAll bytes user pattern text r × IsWrittenInto folder r x end.Done) mid x read end.Done reads
+      (Ok files, is, (from.0, from.1, refl)))
+
+-- the path of a file that is written into a folder, by its number
+pub path_at : (folder : List ℕ) (paths : List (String Global)) (gotten : List Gotten) (k : ℕ) (p : String Global) (d : Gotten) → map string_bytes paths ≡ map (λ g. (path_in folder g).0) gotten → k < length gotten
+    → string_bytes (get_or paths k p) ≡ (path_in folder (get_or gotten k d)).0
+path_at folder paths gotten k p d same lt =
+    let lengths : length paths ≡ length gotten = sym (length-map paths string_bytes) ∙ ap length same ∙ length-map gotten (λ g. (path_in folder g).0) in
+    sym (get_or-map string_bytes paths k p [] (omega (arith, lt, lengths))) ∙ ap (λ l. get_or l k []) same ∙ get_or-map (λ g. (path_in folder g).0) gotten k d [] lt
+
+-- ---- files that are put under their own names
+
+same_length : {A B : Type 0} (K : A → B → Type 0) (xs : List A) (ys : List B) → AllZip K xs ys → length ys ≡ length xs
+same_length K [] [] zipped = refl
+same_length K [] (y ∷ ys) zipped = absurd zipped
+same_length K (x ∷ xs) [] zipped = absurd zipped
+same_length K (x ∷ xs) (y ∷ ys) zipped = let e = same_length K xs ys zipped.1 in omega (arith, e)
+
+-- as many names as files
+pub as_many : (name_in : List ℕ → Option (List ℕ)) (f : Folder) (text : Bool) (paths names : List (List ℕ)) (texts files : List (Vec ℕ Global)) → AreNamed name_in paths names
+    → AllZip (IsRead f) paths (map (λ t. t.items) texts) → map (λ t. t.items) files ≡ map (λ t. as_put text t.items) texts → length names ≡ length files
+as_many name_in f text paths names texts files named read put =
+    same_length (λ w n. name_in w ≡ Some n) paths names named
+    ∙ sym (same_length (IsRead f) paths (map (λ t. t.items) texts) read)
+    ∙ length-map texts (λ t. t.items) ∙ sym (length-map texts (λ t. as_put text t.items)) ∙ ap length (sym put) ∙ length-map files (λ t. t.items)
+
+pub one_not_done : (old new : Folder) (paths : List (List ℕ)) (e : End) → IsOneNotRead old new paths e → e ≢ end.Done
+one_not_done old new paths e (inl (n, path, texts, at, before, unread)) same = not_read old new path e unread same
+one_not_done old new paths e (inr (out, kept)) same = no_memory (sym out ∙ same)
+
+module _ (t : Target) (m : Manner) (paths names : List (List ℕ)) (named : AreNamed own_name paths names) where
+  abbrev RestAll : List ℕ → Effect → End → Type 0
+  RestAll bytes y e = WithAll paths (λ files. (puts : List (List ℕ × List ℕ)) × (map (λ p. p.0) puts ≡ names) × (map (λ p. p.1) puts ≡ map (as_put m.text) files)
+      × Changes t.image.now bytes (IsPutOn bytes t.user m.replace puts) y e) y e
+
+  pub put_all_unread : (old mid new : Folder) (o : Stream) (image : Image) (e : End) (result : Result (Option (String Global)) End) → ClaimsImage old mid t.image.now t.lock (Ok image) → IsOneNotRead mid new paths e
+      → IsErrAnd result (λ g. g ≡ e) → EndsWith (PutAllEnds t m paths (effect_of old new o o)) result
+  put_all_unread old mid new o image e result claims unread same =
+      passed_on (PutAllEnds t m paths (effect_of old new o o)) e result same
+      (lines_of image, no_line e (lines_of image) (one_not_done mid new paths e unread), inl (names, named, claimed_then t RestAll old mid new o image e claims (inr (unread, refl))))
+
+  pub put_all_changed : (old mid after new : Folder) (o : Stream) (image : Image) (texts : List (List ℕ)) (puts : List (List ℕ × List ℕ)) (made : Result (Vec ℕ Global) Refusal) (result : Result (Option (String Global)) End)
+      → ClaimsImage old mid t.image.now t.lock (Ok image) → after ≡ mid → AllZip (IsRead mid) paths texts → map (λ p. p.0) puts ≡ names → map (λ p. p.1) puts ≡ map (as_put m.text) texts
+      → IsPutOn image.bytes.items t.user m.replace puts made → ChangesInto t.image.now image made after new result → EndsWith (PutAllEnds t m paths (effect_of old new o o)) result
+  put_all_changed old mid after new o image texts puts made result claims kept read names_are files_are is into =
+      let x = effect_of old new o o in
+      let now = subst (λ f. ChangesInto t.image.now image made f new result) kept into in
+      let does = changes_into t.image.now (IsPutOn image.bytes.items t.user m.replace puts) mid new o image made result is now in
+      ends (PutAllEnds t m paths x) result
+      (lines_of image, line_into t.image.now mid new image made result now, inl (names, named, claimed_then t RestAll old mid new o image (end_in result) claims (inl (texts, read, (puts, names_are, files_are, does)))))
+
+pub put_all_unnamed : (t : Target) (m : Manner) (paths : List (List ℕ)) (f : Folder) (o : Stream) (e : End) (result : Result (Option (String Global)) End) → AreNames own_name paths (Err e) → IsErrAnd result (λ g. g ≡ e)
+    → EndsWith (PutAllEnds t m paths (effect_of f f o o)) result
+put_all_unnamed t m paths f o e result unnamed same =
+    let x = effect_of f f o o in
+    passed_on (PutAllEnds t m paths x) e result same
+    (None, no_line_at e, unnamed_all own_name paths (λ names. AfterClaim t (λ bytes y e. WithAll paths (λ files. (puts : List (List ℕ × List ℕ)) × (map (λ p. p.0) puts ≡ names) × (map (λ p. p.1) puts ≡ map (as_put m.text) files)
+    × Changes t.image.now bytes (IsPutOn bytes t.user m.replace puts) y e) y e) x None e) x e unnamed (nothing_done f o))

@@ -1,0 +1,92 @@
+//! Images that are read, and those that are claimed, changed and kept.
+
+ghost use Rattle.std.specs.Prelude.{◌≡◌, IfOk, option_map, string_bytes};
+ghost use Rattle.z80dev_finish.specs.Files.{HasLock};
+ghost use Rattle.z80dev_jobs.specs.Disks.{KeepsFile};
+ghost use Rattle.z80dev_jobs.specs.Private.Images.{ChangesInto, ClaimsImage, ReadsImageFile};
+
+use crate::disks::names::refusal_end;
+use crate::disks::warning::warnings;
+use crate::reading::read;
+use std::alloc::Global;
+use z80dev_finish::{Claimed, End, Files, Unread, replace};
+use z80dev_disk::Refusal;
+
+/// An image that was read.
+#[derive(Drop)]
+pub(crate) struct Image {
+    pub(crate) bytes: Vec<u8>,
+    /// The lines that the command writes on standard error if all is done.
+    pub(crate) warnings: Option<String>,
+}
+
+/// Reads an image that the command does not change.
+pub(crate) fn read_image<'a, F: Files>(
+    alloc: Global,
+    path: &'a str,
+    files: &mut F,
+) -> Result<Image, End<'a>>
+    ensures { ReadsImageFile (F.folder files.old) (F.folder files.new) path.now result }
+{
+    let bytes = read(alloc, path, files)?;
+    let warnings = warnings(alloc, path, bytes.len(), false)?;
+    Ok(Image { bytes, warnings })
+}
+
+/// Locks an image, if it is wanted, and then reads it.
+pub(crate) fn claim<'a, F: Files>(
+    alloc: Global,
+    path: &'a str,
+    lock: bool,
+    files: &mut F,
+) -> Result<Image, End<'a>>
+    ensures { ClaimsImage (F.folder files.old) (F.folder files.new) path.now lock result }
+{
+    match files.claim(alloc, path, lock) {
+        Ok(Claimed { bytes, is_locked }) => {
+            let warnings = warnings(alloc, path, bytes.len(), lock && !is_locked)?;
+            Ok(Image { bytes, warnings })
+        }
+        Err(Unread::File) => Err(End::File { path, ending: "" }),
+        Err(Unread::NoMemory) => Err(End::NoMemory),
+    }
+}
+
+/// Replaces a claimed image, unless its bytes are these already. Then its file keeps its time, too.
+pub(crate) fn keep<'a, F: Files>(
+    path: &'a str,
+    bytes: &[u8],
+    made: &[u8],
+    files: &mut F,
+) -> Result<(), End<'a>>
+    requires locked { HasLock (F.folder files.old) path.now }
+    ensures { KeepsFile path.now bytes.now made.now (F.folder files.old) (F.folder files.new) result }
+{
+    if made == bytes {
+        return Ok(());
+    }
+    match replace(files, path, made, false) {
+        Ok(_) => Ok(()),
+        Err(_) => Err(End::File { path, ending: "" }),
+    }
+}
+
+/// Ends a command that changes a claimed image. If all is done, the result is its warnings.
+pub(crate) fn change<'a, F: Files>(
+    alloc: Global,
+    path: &'a str,
+    image: Image,
+    made: Result<Vec<u8>, Refusal>,
+    files: &mut F,
+) -> Result<Option<String>, End<'a>>
+    requires locked { HasLock (F.folder files.old) path.now }
+    ensures { ChangesInto path.now image made (F.folder files.old) (F.folder files.new) result }
+{
+    match made {
+        Ok(made) => {
+            keep(path, &image.bytes, &made, files)?;
+            Ok(image.warnings)
+        }
+        Err(why) => Err(refusal_end(alloc, why)),
+    }
+}
