@@ -10,6 +10,7 @@ use z80dev::{
     Answer, Files, MemorySink, SourceFile, Told, Unread, WriteFailed, asm, build, finish, link,
     report,
 };
+use z80dev_finish::{Claimed, Placed};
 
 /// Files in memory: only some of them can be written. It counts the writes that failed.
 #[derive(Drop)]
@@ -45,7 +46,7 @@ impl Shelf {
 impl Files for Shelf {
     ghost use Rattle.std.specs.Prelude.{None};
 
-    ghost folder = { λ shelf. record { files = None; failures = shelf.failures } };
+    ghost folder = { λ shelf. record { files = None; failures = shelf.failures; locked = None; claimed = None; part = None } };
 
     /// No call of a row reads a file, so this fails.
     fn read(&mut self, _: Global, _: &str) -> Result<Vec<u8>, Unread> {
@@ -61,6 +62,33 @@ impl Files for Shelf {
                 Err(fault)
             }
         }
+    }
+
+    // No call of a row replaces a file, so these fail.
+
+    fn lock(&mut self, _: Global, _: &str, _: bool) -> Result<bool, Unread> {
+        self.failures = self.failures.saturating_add(1);
+        Err(Unread::File)
+    }
+
+    fn claim(&mut self, _: Global, _: &str, _: bool) -> Result<Claimed, Unread> {
+        self.failures = self.failures.saturating_add(1);
+        Err(Unread::File)
+    }
+
+    fn write_beside(&mut self, _: &str, _: &[u8]) -> Result<(), WriteFailed> {
+        self.failures = self.failures.saturating_add(1);
+        Err(WriteFailed)
+    }
+
+    fn sync(&mut self) -> Result<(), WriteFailed> {
+        self.failures = self.failures.saturating_add(1);
+        Err(WriteFailed)
+    }
+
+    fn put_in_place(&mut self, _: bool) -> Result<Placed, WriteFailed> {
+        self.failures = self.failures.saturating_add(1);
+        Err(WriteFailed)
     }
 }
 
