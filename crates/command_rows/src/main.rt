@@ -5,6 +5,7 @@
 
 mod disks;
 mod making;
+mod names;
 mod pipes;
 mod scripted;
 mod words;
@@ -41,7 +42,9 @@ fn report_words<W: Write>(
 ) -> Result<(), anyhow::Error> {
     match call.as_bytes() {
         b"disk" => disks::report_disk(alloc, out, row),
-        b"name" => disks::report_name(alloc, out, row),
+        b"name" => names::report_name(alloc, out, row),
+        b"own-name" => names::report_own_name(alloc, out, row),
+        b"pattern" => names::report_pattern(alloc, out, row),
         b"words" => words::report_job(alloc, out, row),
         b"says" => words::report_part(alloc, out, row),
         _ => Err(anyhow!("no such call")),
