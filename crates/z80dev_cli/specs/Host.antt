@@ -1,6 +1,6 @@
 -- The files of the system as a promise sees them: what they hold is not known.
-use Rattle.std.specs.Prelude.{◌≡◌, ℕ, Bool, List, None, string_bytes}
-use Rattle.z80dev_finish.specs.Files.{IsLockWanted, Lock, Part, lock_of}
+use Rattle.std.specs.Prelude.{None, string_bytes}
+use Rattle.z80dev_finish.specs.Files.{Lock, Part, lock_of}
 use Rattle.z80dev_cli.specs.declared.files.lock.HeldLock.{HeldLock}
 use Rattle.z80dev_cli.specs.declared.files.part.Part as part
 
@@ -9,7 +9,3 @@ lock_in l = lock_of (string_bytes l.path) l.is_held
 
 abbrev pub part_in : part.Part → Part
 part_in p = record { path = string_bytes p.names.path; bytes = None; synced = p.is_synced }
-
--- what taking the lock of a path gives
-abbrev pub IsLockOf : List ℕ → Bool → HeldLock → Type 0
-IsLockOf path is_wanted l = (string_bytes l.path ≡ path) × IsLockWanted is_wanted l.is_held

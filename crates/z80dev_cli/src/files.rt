@@ -3,7 +3,8 @@
 mod lock;
 mod part;
 
-ghost use Rattle.std.specs.Prelude.{None, option_map, string_bytes};
+ghost use Rattle.std.specs.Prelude.{◌≡◌, None, option_map, string_bytes};
+ghost use Rattle.streams.specs.Stream.{counted};
 ghost use Rattle.z80dev_cli.specs.Host.{lock_in, part_in};
 
 use lock::{HeldLock, take_lock};
@@ -36,7 +37,9 @@ impl<'a> HostFiles<'a> {
     }
 
     /// Counts a call that failed.
-    fn fail(&mut self) {
+    fn fail(&mut self)
+        ensures { self.new.failures ≡ counted self.old.failures }
+    {
         self.failures = self.failures.saturating_add(1);
     }
 }

@@ -39,6 +39,11 @@ pub ends : (Is : Option (List ℕ) → End → Type 0) (result : Result (Option 
 ends Is (Ok line) is = is
 ends Is (Err e) is = is
 
+-- .. in one way, and so in another
+pub ends_as : (Is Was : Option (List ℕ) → End → Type 0) (result : Result (Option (String Global)) End) → ((line : Option (List ℕ)) (e : End) → Is line e → Was line e) → EndsWith Is result → EndsWith Was result
+ends_as Is Was (Ok line) so is = so (option_map string_bytes line) end.Done is
+ends_as Is Was (Err e) so is = so None e is
+
 pub no_line_at : (e : End) → LineAt e None None
 no_line_at end.Done = refl
 no_line_at (end.Refused said) = refl
@@ -108,7 +113,7 @@ nothing_done f o = (untouched f, refl)
 
 -- ---- ends that a `?` hands on
 
-passed_on : (Is : Option (List ℕ) → End → Type 0) (e : End) (result : Result (Option (String Global)) End) → IsErrAnd result (λ f. f ≡ e) → Is None e → EndsWith Is result
+pub passed_on : (Is : Option (List ℕ) → End → Type 0) (e : End) (result : Result (Option (String Global)) End) → IsErrAnd result (λ f. f ≡ e) → Is None e → EndsWith Is result
 passed_on Is e (Ok line) same is = absurd same
 passed_on Is e (Err f) same is = subst (Is None) (sym same) is
 
@@ -155,9 +160,12 @@ module _ (name_in : List ℕ → Option (List ℕ)) (one two : List ℕ) (t : Ta
       → EndsWith (Two name_in one two t Is (effect_of f f o o)) result
   two_second f o from e result named unnamed same =
       let x = effect_of f f o o in
-      passed_on (Two name_in one two t Is x) e result same
-      (None, no_line_at e, named_word name_in one from (λ from. Named (name_in two) (λ to. ChangesImage t (Is from to) x None e) x e) x e named
-      (unnamed_word name_in two (λ to. ChangesImage t (Is from to) x None e) x e unnamed (nothing_done f o)))
+      passed_on (Two name_in one two t Is x) e result same (
+        None,
+        no_line_at e,
+        named_word name_in one from (λ from. Named (name_in two) (λ to. ChangesImage t (Is from to) x None e) x e) x e named
+            (unnamed_word name_in two (λ to. ChangesImage t (Is from to) x None e) x e unnamed (nothing_done f o)),
+      )
 
   both_named : (x : Effect) (from to : List ℕ) (wanted : Option (List ℕ)) (e : End) → name_in one ≡ Some from → name_in two ≡ Some to → ChangesImage t (Is from to) x wanted e
       → Named (name_in one) (λ from. Named (name_in two) (λ to. ChangesImage t (Is from to) x wanted e) x e) x e
@@ -246,29 +254,36 @@ module _ (t : Target) (m : Manner) (path word name : List ℕ) (named : name_of 
       let x = effect_of old new o o in
       let now = subst (λ f. ChangesInto t.image.now image made f new result) kept into in
       let does = changes_into t.image.now (λ r. (s : Result (Vec ℕ Global) Refusal) × IsPutOn image.bytes.items t.user m.replace ((name, as_put m.text file) ∷ []) s × (r ≡ without_name s)) mid new o image made result (put, is, made_is) now in
-      ends (PutEnds t m path word x) result
-      (lines_of image, line_into t.image.now mid new image made result now, named_word name_of word name (Does x (lines_of image) (end_in result)) x (end_in result) named
-      (claimed_then t Rest old mid new o image (end_in result) claims (inl (file, read, does))))
+      ends (PutEnds t m path word x) result (
+        lines_of image,
+        line_into t.image.now mid new image made result now,
+        named_word name_of word name (Does x (lines_of image) (end_in result)) x (end_in result) named
+            (claimed_then t Rest old mid new o image (end_in result) claims (inl (file, read, does))),
+      )
 
 -- ---- files that are written into a folder
 
 -- one more is written
 pub into_more : (folder : List ℕ) (gotten : List Gotten) (k : ℕ) (d : Gotten) (old mid new : Folder) (file : File) → k < length gotten → file ≡ path_in folder (get_or gotten k d) → AreInto folder (take k gotten) old mid
     → Stores mid new file (Ok tt) → AreInto folder (take (k + 1) gotten) old new
-into_more folder gotten k d old mid new file lt is so_far stored =
-    (subst (λ fs. Adds old new (map (path_in folder) fs)) (sym (take_more gotten k d lt))
-    (subst (Adds old new) (sym (map-append (path_in folder) (take k gotten) (get_or gotten k d ∷ [])))
-    (grows_trans old.files mid.files new.files (map (path_in folder) (take k gotten)) (path_in folder (get_or gotten k d) ∷ []) so_far.0 (subst (λ f. Adds mid new (f ∷ [])) is stored.0))), stored.1 ∙ so_far.1)
+into_more folder gotten k d old mid new file lt is so_far stored = (
+  subst (λ fs. Adds old new (map (path_in folder) fs)) (sym (take_more gotten k d lt))
+      (subst (Adds old new) (sym (map-append (path_in folder) (take k gotten) (get_or gotten k d ∷ [])))
+      (grows_trans old.files mid.files new.files (map (path_in folder) (take k gotten)) (path_in folder (get_or gotten k d) ∷ []) so_far.0 (subst (λ f. Adds mid new (f ∷ [])) is stored.0))),
+  stored.1 ∙ so_far.1,
+)
 
 -- one is not written, or is and the call failed
 pub into_stopped : (folder : List ℕ) (gotten : List Gotten) (k : ℕ) (d : Gotten) (old mid new : Folder) (file : File) (failed : WriteFailed) → k < length gotten → file ≡ path_in folder (get_or gotten k d) → AreInto folder (take k gotten) old mid
     → Stores mid new file (Err failed) → (Adds old new (map (path_in folder) (take k gotten)) ⊎ Adds old new (map (path_in folder) (take (k + 1) gotten))) × (new.failures ≡ counted old.failures)
 into_stopped folder gotten k d old mid new file failed lt is so_far (inl none, failures) =
     (inl (none_more old mid new (map (path_in folder) (take k gotten)) so_far.0 none), failures ∙ ap counted so_far.1)
-into_stopped folder gotten k d old mid new file failed lt is so_far (inr this, failures) =
-    (inr (subst (λ fs. Adds old new (map (path_in folder) fs)) (sym (take_more gotten k d lt))
-    (subst (Adds old new) (sym (map-append (path_in folder) (take k gotten) (get_or gotten k d ∷ [])))
-    (grows_trans old.files mid.files new.files (map (path_in folder) (take k gotten)) (path_in folder (get_or gotten k d) ∷ []) so_far.0 (subst (λ f. Adds mid new (f ∷ [])) is this)))), failures ∙ ap counted so_far.1)
+into_stopped folder gotten k d old mid new file failed lt is so_far (inr this, failures) = (
+  inr (subst (λ fs. Adds old new (map (path_in folder) fs)) (sym (take_more gotten k d lt))
+      (subst (Adds old new) (sym (map-append (path_in folder) (take k gotten) (get_or gotten k d ∷ [])))
+      (grows_trans old.files mid.files new.files (map (path_in folder) (take k gotten)) (path_in folder (get_or gotten k d) ∷ []) so_far.0 (subst (λ f. Adds mid new (f ∷ [])) is this)))),
+  failures ∙ ap counted so_far.1,
+)
 
 -- ---- blank images
 
@@ -276,9 +291,16 @@ pub blank_out : (mega keep lock : Bool) (image : List ℕ) (f : Folder) (o : Str
     → EndsWith (BlankEnds mega keep lock image (effect_of f f o o)) result
 blank_out mega keep lock image f o e result out same =
     let x = effect_of f f o o in
-    passed_on (BlankEnds mega keep lock image x) e result same
-    (warnings image 0 (lock && not false), no_line e (warnings image 0 (lock && not false)) (λ done. no_memory (sym out ∙ done)), (false, (λ _. refl), refl,
-    subst (BlankIsMade image keep (concat (blank_image (kind_of mega))) x) (sym out) (nothing_done f o)))
+    passed_on (BlankEnds mega keep lock image x) e result same (
+      warnings image 0 (lock && not false),
+      no_line e (warnings image 0 (lock && not false)) (λ done. no_memory (sym out ∙ done)),
+      (
+        false,
+        (λ _. refl),
+        refl,
+        subst (BlankIsMade image keep (concat (blank_image (kind_of mega))) x) (sym out) (nothing_done f o),
+      ),
+    )
 
 pub blank_unlocked : (mega keep lock : Bool) (image : List ℕ) (old new : Folder) (o : Stream) (e : End) (result : Result (Option (String Global)) End) → LocksPath old new image lock (Err e) → IsErrAnd result (λ g. g ≡ e)
     → EndsWith (BlankEnds mega keep lock image (effect_of old new o o)) result
@@ -329,25 +351,34 @@ module _ (image : List ℕ) (user : ℕ) (text : Bool) (pattern folder : List �
       → Warns (GetsInto image user text pattern folder (effect_of old mid o o)) None e
   gets_refused old mid o read why e reads is says =
       let x = effect_of old mid o o in
-      let nothing : NothingDone x = subst (λ f. NothingDone (effect_of old f o o)) (sym reads.0) (nothing_done old o) in
-      (lines_of read, no_line e (lines_of read) (says_not_done (refusal_text why) e says), read_then image (λ bytes. (r : Result (Vec Gotten Global) Refusal) × IsGetAll bytes user pattern text r × IsWrittenInto folder r x e) mid x read e reads
-      (Err why, is, refuses (refusal_text why) x e says nothing))
+      let nothing : NothingDone x = subst (λ f. NothingDone (effect_of old f o o)) (sym reads.0) (nothing_done old o) in (
+        lines_of read,
+        no_line e (lines_of read) (says_not_done (refusal_text why) e says),
+        read_then image (λ bytes. (r : Result (Vec Gotten Global) Refusal) × IsGetAll bytes user pattern text r × IsWrittenInto folder r x e) mid x read e reads
+            (Err why, is, refuses (refusal_text why) x e says nothing),
+      )
 
   pub gets_out : (old mid : Folder) (o : Stream) (read : Image) (files : Vec Gotten Global) (e : End) → ReadsImageFile old mid image (Ok read) → IsGetAll read.bytes.items user pattern text (Ok files) → e ≡ end.NoMemory
       → Warns (GetsInto image user text pattern folder (effect_of old mid o o)) None e
   gets_out old mid o read files e reads is out =
       let x = effect_of old mid o o in
-      let nothing : NothingDone x = subst (λ f. NothingDone (effect_of old f o o)) (sym reads.0) (nothing_done old o) in
-      (lines_of read, no_line e (lines_of read) (λ done. no_memory (sym out ∙ done)), read_then image (λ bytes. (r : Result (Vec Gotten Global) Refusal) × IsGetAll bytes user pattern text r × IsWrittenInto folder r x e) mid x read e reads
-      (Ok files, is, subst (WritesInto folder files.items x) (sym out) nothing))
+      let nothing : NothingDone x = subst (λ f. NothingDone (effect_of old f o o)) (sym reads.0) (nothing_done old o) in (
+        lines_of read,
+        no_line e (lines_of read) (λ done. no_memory (sym out ∙ done)),
+        read_then image (λ bytes. (r : Result (Vec Gotten Global) Refusal) × IsGetAll bytes user pattern text r × IsWrittenInto folder r x e) mid x read e reads
+            (Ok files, is, subst (WritesInto folder files.items x) (sym out) nothing),
+      )
 
   pub gets_stopped : (old mid new : Folder) (o : Stream) (read : Image) (files : Vec Gotten Global) (e : End) → ReadsImageFile old mid image (Ok read) → IsGetAll read.bytes.items user pattern text (Ok files)
       → WritesAll folder files.items mid new (Err e) → Warns (GetsInto image user text pattern folder (effect_of old new o o)) None e
   gets_stopped old mid new o read files (end.Path path) reads is writes =
       let x = effect_of old new o o in
-      let from = subst (λ f. WritesAll folder files.items f new (Err (end.Path path))) reads.0 writes in
-      (lines_of read, refl, read_then image (λ bytes. (r : Result (Vec Gotten Global) Refusal) × IsGetAll bytes user pattern text r × IsWrittenInto folder r x (end.Path path)) mid x read (end.Path path) reads
-      (Ok files, is, (from.0, from.1, from.2, from.3, from.4, from.5, refl)))
+      let from = subst (λ f. WritesAll folder files.items f new (Err (end.Path path))) reads.0 writes in (
+        lines_of read,
+        refl,
+        read_then image (λ bytes. (r : Result (Vec Gotten Global) Refusal) × IsGetAll bytes user pattern text r × IsWrittenInto folder r x (end.Path path)) mid x read (end.Path path) reads
+            (Ok files, is, (from.0, from.1, from.2, from.3, from.4, from.5, refl)),
+      )
   gets_stopped old mid new o read files end.Done reads is writes = absurd writes
   gets_stopped old mid new o read files (end.Refused said) reads is writes = absurd writes
   gets_stopped old mid new o read files (end.File at last) reads is writes = absurd writes
@@ -358,9 +389,12 @@ module _ (image : List ℕ) (user : ℕ) (text : Bool) (pattern folder : List �
       → AreInto folder files.items mid new → line ≡ read.warnings → Warns (GetsInto image user text pattern folder (effect_of old new o o)) (option_map string_bytes line) end.Done
   gets_all old mid new o read files line reads is into same =
       let x = effect_of old new o o in
-      let from = subst (λ f. AreInto folder files.items f new) reads.0 into in
-      (lines_of read, ap (option_map string_bytes) same, read_then image (λ bytes. (r : Result (Vec Gotten Global) Refusal) × IsGetAll bytes user pattern text r × IsWrittenInto folder r x end.Done) mid x read end.Done reads
-      (Ok files, is, (from.0, from.1, refl)))
+      let from = subst (λ f. AreInto folder files.items f new) reads.0 into in (
+        lines_of read,
+        ap (option_map string_bytes) same,
+        read_then image (λ bytes. (r : Result (Vec Gotten Global) Refusal) × IsGetAll bytes user pattern text r × IsWrittenInto folder r x end.Done) mid x read end.Done reads
+            (Ok files, is, (from.0, from.1, refl)),
+      )
 
 -- the path of a file that is written into a folder, by its number
 pub path_at : (folder : List ℕ) (paths : List (String Global)) (gotten : List Gotten) (k : ℕ) (p : String Global) (d : Gotten) → map string_bytes paths ≡ map (λ g. (path_in folder g).0) gotten → k < length gotten
@@ -414,6 +448,9 @@ pub put_all_unnamed : (t : Target) (m : Manner) (paths : List (List ℕ)) (f : F
     → EndsWith (PutAllEnds t m paths (effect_of f f o o)) result
 put_all_unnamed t m paths f o e result unnamed same =
     let x = effect_of f f o o in
-    passed_on (PutAllEnds t m paths x) e result same
-    (None, no_line_at e, unnamed_all own_name paths (λ names. AfterClaim t (λ bytes y e. WithAll paths (λ files. (puts : List (List ℕ × List ℕ)) × (map (λ p. p.0) puts ≡ names) × (map (λ p. p.1) puts ≡ map (as_put m.text) files)
-    × Changes t.image.now bytes (IsPutOn bytes t.user m.replace puts) y e) y e) x None e) x e unnamed (nothing_done f o))
+    passed_on (PutAllEnds t m paths x) e result same (
+      None,
+      no_line_at e,
+      unnamed_all own_name paths (λ names. AfterClaim t (λ bytes y e. WithAll paths (λ files. (puts : List (List ℕ × List ℕ)) × (map (λ p. p.0) puts ≡ names) × (map (λ p. p.1) puts ≡ map (as_put m.text) files)
+          × Changes t.image.now bytes (IsPutOn bytes t.user m.replace puts) y e) y e) x None e) x e unnamed (nothing_done f o),
+    )

@@ -4,7 +4,7 @@ use Rattle.std.specs.Borrow.{Bor}
 use Rattle.std.specs.Global.{Global}
 use Rattle.std.specs.List.{AllZip, concat}
 use Rattle.streams.specs.Stream.{Stream, counted}
-use Rattle.cpm_directory.specs.declared.entry.Attribute.{Attribute}
+use Rattle.cpm_directory.specs.declared.attribute.Attribute.{Attribute}
 use Rattle.cpm_image.specs.Image.{blank_image, byte_count}
 use Rattle.cpm_image.specs.declared.kind.DiskKind.{DiskKind}
 use Rattle.cpm_image.specs.declared.kind.DiskKind.TheVariants.{EightInch, Megabyte}

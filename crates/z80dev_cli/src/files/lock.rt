@@ -1,8 +1,8 @@
 //! The lock of a file that a command changes.
 
 ghost use Rattle.std.specs.Prelude.{◌≡◌, IfOk, IfSome, string_bytes};
+ghost use Rattle.std.proofs.Props.{props};
 ghost use Rattle.z80dev_finish.specs.Files.{IsLockWanted};
-ghost use Rattle.z80dev_cli.specs.Host.{IsLockOf};
 
 use std::alloc::Global;
 use std::fs::{self, File, TryLockError};
@@ -14,6 +14,7 @@ use z80dev_finish::Unread;
 
 /// How often the lock is asked for before the command gives up, and how many milliseconds it waits in between: a second together.
 const ATTEMPTS: u32 = 100;
+
 const PAUSE: u64 = 10;
 
 /// The names of a file that is to be replaced. They are made when memory can still be refused without harm.
@@ -35,7 +36,7 @@ pub(crate) struct HeldLock {
     /// The file on which the lock is, which keeps it. None if there is no file, or no lock.
     pub(crate) file: Option<File>,
     pub(crate) is_held: bool,
-    ghost same_path: { IfSome names (λ n. string_bytes n.path ≡ string_bytes path) },
+    ghost same_path: { IfSome names (λ n. string_bytes n.path ≡ string_bytes path) } by { Prim.hlevel props },
 }
 
 /// What came of asking for the lock once.
@@ -112,7 +113,11 @@ fn wait_for_lock(rt: &HostRuntime, target: &str) -> Result<(Option<File>, bool),
 }
 
 /// The lock of a regular file that is wanted; a device or a pipe has none.
-fn lock_target(rt: &HostRuntime, target: &str, is_wanted: bool) -> Result<(Option<File>, bool), Unread>
+fn lock_target(
+    rt: &HostRuntime,
+    target: &str,
+    is_wanted: bool,
+) -> Result<(Option<File>, bool), Unread>
     ensures { IfOk result (λ r. IsLockWanted is_wanted r.1) }
 {
     if !is_wanted {
@@ -135,7 +140,7 @@ pub(crate) fn take_lock(
     path: &str,
     is_wanted: bool,
 ) -> Result<HeldLock, Unread>
-    ensures { IfOk result (λ l. IsLockOf path.now is_wanted l) }
+    ensures { IfOk result (λ l. (string_bytes l.path ≡ path.now) × IsLockWanted is_wanted l.is_held) }
 {
     let copy = copy_of(alloc, path)?;
     let names = Names {

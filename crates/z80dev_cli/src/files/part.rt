@@ -1,6 +1,7 @@
 //! A file that is written beside the one whose place it is to take.
 
 ghost use Rattle.std.specs.Prelude.{◌≡◌, IfOk, OnOk, false, true, string_bytes};
+ghost use Rattle.z80dev_finish.specs.declared.files.Placed.TheVariants.{Done};
 ghost use Rattle.z80dev_cli.specs.Host.{lock_in};
 
 use crate::files::lock::{HeldLock, Names};
@@ -41,7 +42,8 @@ pub(crate) struct Part {
 }
 
 impl Part {
-    ghost use Rattle.std.specs.Prelude.{◌≡◌, OnOk, true};
+    ghost use Rattle.std.specs.Prelude.{◌≡◌, IfOk, OnOk, true};
+    ghost use Rattle.z80dev_finish.specs.declared.files.Placed.TheVariants.{Exists};
 
     /// Waits until the bytes have reached the device.
     pub(crate) fn sync(&mut self) -> Result<(), WriteFailed>
@@ -60,7 +62,7 @@ impl Part {
 
     /// Gives the bytes the path of the target; with `keep`, only if there is no file.
     pub(crate) fn put_in_place(self, rt: &HostRuntime, keep: bool) -> Result<Placed, WriteFailed>
-        ensures { IfOk result (λ placed. placed ≡ placed.Exists → keep ≡ true) }
+        ensures { IfOk result (λ p. p ≡ Exists → keep ≡ true) }
     {
         let Part { names, place, .. } = self;
         let Place::Beside(part) = place else {
@@ -80,7 +82,9 @@ impl Part {
 }
 
 /// Gives a part the path of its target, in place of a file that is there.
-fn rename_part(rt: &HostRuntime, part: &str, target: &str) -> Result<Placed, WriteFailed> {
+fn rename_part(rt: &HostRuntime, part: &str, target: &str) -> Result<Placed, WriteFailed>
+    ensures { IfOk result (λ p. p ≡ Done) }
+{
     if fs::rename(rt, part, target).is_ok() {
         return Ok(Placed::Done);
     }
@@ -225,11 +229,7 @@ pub(crate) fn replace(rt: &HostRuntime, path: &str, bytes: &[u8]) -> Result<(), 
 
 /// A new file beside that of the path, and its own path. Who holds the lock of the path may take the place of a part that a command left
 /// which was killed.
-fn new_part(
-    rt: &HostRuntime,
-    path: &str,
-    has_lock: bool,
-) -> Result<(PartPath, File), WriteFailed> {
+fn new_part(rt: &HostRuntime, path: &str, has_lock: bool) -> Result<(PartPath, File), WriteFailed> {
     if has_lock {
         if let Ok(left) = part_of(path, 0) {
             let _ = fs::remove_file(rt, left.as_str());

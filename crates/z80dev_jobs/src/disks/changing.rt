@@ -15,10 +15,10 @@ use crate::disks::warning::warnings;
 use crate::reading::{read, read_all};
 use std::alloc::{AllocError, Global};
 use z80dev_commands::{Attribute, Manner, Target};
-use z80dev_finish::{End, Files, Placed, Unread, replace};
 use z80dev_disk::{
     DiskFault, DiskKind, Name, PutFile, Refusal, blank, cpm_text, erase, mark, put, rename,
 };
+use z80dev_finish::{End, Files, Placed, Unread, replace};
 
 /// The bytes that are put for a file's: with `text`, as CP/M keeps a text.
 fn as_put(alloc: Global, text: bool, file: Vec<u8>) -> Result<Vec<u8>, AllocError>

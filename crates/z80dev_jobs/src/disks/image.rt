@@ -9,8 +9,8 @@ use crate::disks::names::refusal_end;
 use crate::disks::warning::warnings;
 use crate::reading::read;
 use std::alloc::Global;
-use z80dev_finish::{Claimed, End, Files, Unread, replace};
 use z80dev_disk::Refusal;
+use z80dev_finish::{Claimed, End, Files, Unread, replace};
 
 /// An image that was read.
 #[derive(Drop)]

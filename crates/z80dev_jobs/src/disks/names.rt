@@ -33,7 +33,8 @@ fn bad_name(alloc: Global, word: &str) -> End<'static>
 
 /// The name that a word gives.
 pub(crate) fn name_of(alloc: Global, word: &str) -> Result<Name, End<'static>>
-    ensures { IsName word.now result }
+    ensures name { IsName word.now result }
+    ensures plain { IfOk result (λ name. is_wild name ≡ false) }
 {
     match file_name(word) {
         Some(name) => Ok(name),

@@ -30,7 +30,9 @@ fn is_filled_up(count: usize) -> bool
 fn unlocked_line(alloc: Global, path: &str) -> Result<String, AllocError>
     ensures { IfOk result (λ line. string_bytes line ≡ unlocked_line path.now) }
 {
-    format!(in alloc; "warning: {path} cannot be locked here: do not let another command change it meanwhile\n")
+    format!(in alloc;
+        "warning: {path} cannot be locked here: do not let another command change it meanwhile\n"
+    )
 }
 
 /// The line that warns of an image that was filled up.
@@ -38,7 +40,9 @@ fn filled_up_line(alloc: Global, path: &str, count: usize) -> Result<String, All
     ensures { IfOk result (λ line. string_bytes line ≡ filled_up_line path.now count) }
 {
     let mut line = format!(in alloc; "warning: {path} has ")?;
-    let rest = format!(in alloc; "{count} bytes and was filled up: an image of another system can look empty\n")?;
+    let rest = format!(in alloc;
+        "{count} bytes and was filled up: an image of another system can look empty\n"
+    )?;
     line.push_str(&rest)?;
     Ok(line)
 }

@@ -21,6 +21,9 @@ returns g c =
     let w = about refusal_text path path (λ bytes. MemoryAside (IsDir bytes (record { user = c.args.user; pattern = pattern; long = c.args.long }))) old (g.F.Files.folder c.read_image.new.files) new before after c.in_ok-read.read answer
     c.finish-end.result c.done_with.result c.in_ok-read.ensures
     (subst (λ bytes. MemoryAside (IsDir bytes (record { user = c.args.user; pattern = pattern; long = c.args.long })) (answer_by refusal_text answer)) c.deref.ensures.value c.dir-answer.ensures.answer) c.finish-end.ensures c.done_with.ensures in
-    ends (DirEnds path c.args.user c.args.long c.args.word x) c.done_with.result
-    (w.0, w.1, if_given c.args.word pattern (λ p. ReadsImage path (λ bytes. CarriesOut path (MemoryAside (IsDir bytes (record { user = c.args.user; pattern = p; long = c.args.long }))) x (end_in c.done_with.result)) x w.0 (end_in c.done_with.result)) x
-    (end_in c.done_with.result) c.in_ok-pattern.ensures w.2)
+    ends (DirEnds path c.args.user c.args.long c.args.word x) c.done_with.result (
+      w.0,
+      w.1,
+      if_given c.args.word pattern (λ p. ReadsImage path (λ bytes. CarriesOut path (MemoryAside (IsDir bytes (record { user = c.args.user; pattern = p; long = c.args.long }))) x (end_in c.done_with.result)) x w.0 (end_in c.done_with.result)) x
+          (end_in c.done_with.result) c.in_ok-pattern.ensures w.2,
+    )

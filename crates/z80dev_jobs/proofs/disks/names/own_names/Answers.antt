@@ -13,8 +13,15 @@ returns-in-None-clause-names c =
     let k = c.loop-path.path-index in
     let lt : k < length words = omega (arith, c.loop-path-test.true, length-map c.args.paths.now (λ w. w.now)) in
     let at = get_or-map (λ w. w.now) c.args.paths.now k _ [] c.loop-path-test.true in
-    inl (k, get_or words k [], c.loop-path.names.items, slice_get-get_or words k [] lt, c.loop-path.invariant.0,
-    subst (λ w. own_name w ≡ None) (sym at) (sym c.in-None.ensures.name), subst (λ w. IsBadName w c.bad_name.result) (sym at) c.bad_name.ensures)
+    inl (
+      k,
+      get_or words k [],
+      c.loop-path.names.items,
+      slice_get-get_or words k [] lt,
+      c.loop-path.invariant.0,
+      subst (λ w. own_name w ≡ None) (sym at) (sym c.in-None.ensures.name),
+      subst (λ w. IsBadName w c.bad_name.result) (sym at) c.bad_name.ensures,
+    )
 
 pub loop-path-preserved : goal.loop-path-preserved
 loop-path-preserved c =

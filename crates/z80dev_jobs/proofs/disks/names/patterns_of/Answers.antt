@@ -13,8 +13,15 @@ returns-in-None c =
     let k = c.loop-word.word-index in
     let lt : k < length words = omega (arith, c.loop-word-test.true, length-map c.args.words.now (λ w. w.now)) in
     let at = get_or-map (λ w. w.now) c.args.words.now k _ [] c.loop-word-test.true in
-    inl (k, get_or words k [], c.loop-word.patterns.items, slice_get-get_or words k [] lt, c.loop-word.invariant,
-    subst (λ w. pattern_of w ≡ None) (sym at) (sym c.in-None.ensures), subst (λ w. IsBadName w c.bad_name.result) (sym at) c.bad_name.ensures)
+    inl (
+      k,
+      get_or words k [],
+      c.loop-word.patterns.items,
+      slice_get-get_or words k [] lt,
+      c.loop-word.invariant,
+      subst (λ w. pattern_of w ≡ None) (sym at) (sym c.in-None.ensures),
+      subst (λ w. IsBadName w c.bad_name.result) (sym at) c.bad_name.ensures,
+    )
 
 pub loop-word-preserved : goal.loop-word-preserved
 loop-word-preserved c =
