@@ -1,5 +1,5 @@
 -- How commands end that read, claim and change images.
-use Rattle.std.proofs.Common.{◌≡◌, ◌≢◌, ◌∙◌, ◌+◌, ◌<◌, ◌++◌, ◌&&◌, ap, arith, false, get_or, map, not, take, ℕ, Bool, Bor, List, [], ◌∷◌, length, String, Vec, Option, None, Some, Result, Ok, Err, codes, inl, inr, refl, subst, sym, string_bytes}
+use Rattle.std.proofs.Common.{◌≡◌, ◌≢◌, ◌∙◌, ◌+◌, ◌<◌, ◌&&◌, ap, arith, false, get_or, map, not, take, ℕ, Bool, Bor, List, [], ◌∷◌, length, String, Vec, Option, None, Some, Result, Ok, Err, codes, inl, inr, refl, subst, sym, string_bytes}
 use Rattle.std.specs.Global.{Global}
 use Rattle.std.specs.Option.{option_map}
 use Rattle.std.specs.Result.{IsErrAnd}

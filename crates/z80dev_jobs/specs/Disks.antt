@@ -22,10 +22,9 @@ use Rattle.z80dev_disk.specs.Text.{cpm_text}
 use Rattle.z80dev_disk.specs.Words.{name_of, own_name, pattern_of}
 use Rattle.z80dev_disk.specs.declared.getting.Gotten.{Gotten}
 use Rattle.z80dev_disk.specs.declared.refusal.Refusal.{Refusal}
-use Rattle.z80dev_disk.specs.declared.refusal.Refusal.TheVariants as refusal
 use Rattle.z80dev_finish.specs.Answers.{MemoryAside}
 use Rattle.z80dev_finish.specs.End.{IsPut}
-use Rattle.z80dev_finish.specs.Files.{Adds, FailsSo, File, Folder, IsAbsent, IsLockWanted, IsThere, IsUnreadable, IsUntouched, claimed_by, lock_of}
+use Rattle.z80dev_finish.specs.Files.{Adds, FailsSo, File, Folder, IsAbsent, IsLockWanted, IsThere, IsUnreadable, IsUntouched, claimed_by}
 use Rattle.z80dev_finish.specs.declared.end.End.{End}
 use Rattle.z80dev_finish.specs.declared.end.End.TheVariants as end
 use Rattle.z80dev_jobs.specs.Making.{CarriesOut, Effect, LineAt, With, WithAll}

@@ -1,9 +1,8 @@
 -- How images are read, claimed and kept.
-use Rattle.std.specs.Prelude.{◌≡◌, ◌≢◌, ◌⊎◌, ℕ, Bool, ◌&&◌, not, false, List, [], ◌∷◌, Option, None, Some, Result, Ok, Err, String, Vec, length, map, option_map, slice_get, string_bytes, take, ◌+◌}
+use Rattle.std.specs.Prelude.{◌≡◌, ◌≢◌, ◌⊎◌, ℕ, Bool, ◌&&◌, not, false, List, [], Option, None, Some, Result, Ok, Err, String, Vec, length, map, option_map, slice_get, string_bytes, take, ◌+◌}
 use Rattle.std.specs.Borrow.{Bor}
 use Rattle.std.specs.Global.{Global}
 use Rattle.streams.specs.Stream.{Stream, counted}
-use Rattle.z80dev_disk.specs.Refusals.{refusal_text}
 use Rattle.z80dev_disk.specs.declared.getting.Gotten.{Gotten}
 use Rattle.z80dev_disk.specs.declared.putting.PutFile.{PutFile}
 use Rattle.z80dev_disk.specs.declared.refusal.Refusal.{Refusal}
@@ -12,7 +11,6 @@ use Rattle.z80dev_finish.specs.declared.end.End.{End}
 use Rattle.z80dev_finish.specs.declared.end.End.TheVariants as end
 use Rattle.z80dev_jobs.specs.Disks.{IsChanged, IsNotClaimed, path_in, warnings}
 use Rattle.z80dev_jobs.specs.Making.{effect_of}
-use Rattle.z80dev_jobs.specs.Private.Names.{Says}
 use Rattle.z80dev_jobs.specs.Reading.{IsNotRead, IsRead}
 use Rattle.z80dev_jobs.specs.Running.{ClaimsDisk, IsDiskNotClaimed}
 use Rattle.z80dev_jobs.specs.declared.disks.image.Image.{Image}

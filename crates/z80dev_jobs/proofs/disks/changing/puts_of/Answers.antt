@@ -1,5 +1,5 @@
 use Rattle.std.proofs.Common.{◌≡◌, ◌<◌, ◌+◌, ◌++◌, ◌∷◌, ◌∙◌, List, ℕ, [], All, false, length, map, sym, subst, ap, take, arith}
-use Rattle.std.proofs.lemmas.List.{get_or-map, length_push, length-map, map_push, take_more}
+use Rattle.std.proofs.lemmas.List.{length_push, length-map, map_push, take_more}
 use Rattle.std.proofs.lemmas.List.Elements.{All-get_or, All-push}
 use Rattle.z80dev_disk.specs.Words.{is_wild}
 use Rattle.z80dev_jobs.proofs.One_by_one.{text_at}

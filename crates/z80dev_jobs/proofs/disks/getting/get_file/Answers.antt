@@ -1,4 +1,4 @@
-use Rattle.std.proofs.Common.{None, Some, subst}
+use Rattle.std.proofs.Common.{None, subst}
 use Rattle.z80dev_disk.specs.Words.{pattern_of}
 use Rattle.z80dev_jobs.specs.Disks.{GetsInto, GetsNamed, Warns}
 use Rattle.z80dev_jobs.specs.Making.{effect_of}

@@ -1,6 +1,5 @@
-use Rattle.std.proofs.Common.{◌≡◌, ◌<◌, ◌∙◌, ap, ap₂, get_or, length, map, string_bytes, sym, take}
+use Rattle.std.proofs.Common.{◌≡◌, ◌<◌, ◌∙◌, ap, ap₂, get_or, length, string_bytes}
 use Rattle.std.proofs.lemmas.Option.{slice_get-get_or}
-use Rattle.z80dev_finish.specs.Files.{File}
 use Rattle.z80dev_jobs.specs.Disks.{path_in}
 use Rattle.z80dev_jobs.proofs.Images.{into_more, into_stopped, path_at}
 use Rattle.z80dev_jobs.proofs.disks.getting.write_into.Goals as goal

@@ -1,4 +1,4 @@
-use Rattle.std.proofs.Common.{◌≡◌, ◌<◌, ◌∙◌, ℕ, List, [], All, None, Some, ap, arith, false, get_or, inl, length, map, refl, subst, sym}
+use Rattle.std.proofs.Common.{◌≡◌, ◌<◌, ℕ, List, [], All, None, Some, arith, false, get_or, inl, length, map, subst, sym}
 use Rattle.std.proofs.lemmas.List.{get_or-map, length-map}
 use Rattle.std.proofs.lemmas.List.Elements.{All-push}
 use Rattle.std.proofs.lemmas.Option.{slice_get-get_or}

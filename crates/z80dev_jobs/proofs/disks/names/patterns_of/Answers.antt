@@ -1,8 +1,7 @@
-use Rattle.std.proofs.Common.{◌≡◌, ◌<◌, ◌∙◌, ℕ, List, [], All, None, Some, ap, arith, false, get_or, inl, length, map, refl, subst, sym}
+use Rattle.std.proofs.Common.{◌≡◌, ◌<◌, ℕ, List, [], None, Some, arith, get_or, inl, length, map, subst, sym}
 use Rattle.std.proofs.lemmas.List.{get_or-map, length-map}
-use Rattle.std.proofs.lemmas.List.Elements.{All-push}
 use Rattle.std.proofs.lemmas.Option.{slice_get-get_or}
-use Rattle.z80dev_disk.specs.Words.{pattern_of, is_wild}
+use Rattle.z80dev_disk.specs.Words.{pattern_of}
 use Rattle.z80dev_jobs.specs.Private.Names.{IsBadName}
 use Rattle.z80dev_make.proofs.In_order.{one_more}
 use Rattle.z80dev_jobs.proofs.disks.names.patterns_of.Goals as goal
