@@ -1,96 +1,11 @@
 //! What `asm`, `link` and `build` answer, and how `finish` does it.
 
-ghost use Rattle.std.specs.Prelude.{◌≡◌};
-
 use crate::{show, text_of};
 use anyhow::Context;
 use std::alloc::Global;
 use std::io::Write;
-use z80dev::{
-    Answer, Files, MemorySink, SourceFile, Told, Unread, WriteFailed, asm, build, finish, link,
-    report,
-};
-use z80dev_finish::{Claimed, Placed};
-
-/// Files in memory: only some of them can be written. It counts the writes that failed.
-#[derive(Drop)]
-struct Shelf {
-    alloc: Global,
-    room: usize,
-    files: Vec<(String, Vec<u8>)>,
-    failures: u64,
-}
-
-impl Shelf {
-    /// Puts the file after those before, if there is room.
-    fn add(&mut self, path: &str, bytes: &[u8]) -> Result<(), WriteFailed>
-        ensures { self.new.failures ≡ self.old.failures }
-    {
-        if self.files.len() == self.room {
-            return Err(WriteFailed);
-        }
-        let mut copy = Vec::new(self.alloc);
-        let Ok(()) = copy.extend_from_slice(bytes) else {
-            return Err(WriteFailed);
-        };
-        let Ok(path) = String::from_str(self.alloc, path) else {
-            return Err(WriteFailed);
-        };
-        let Ok(()) = self.files.push((path, copy)) else {
-            return Err(WriteFailed);
-        };
-        Ok(())
-    }
-}
-
-impl Files for Shelf {
-    ghost use Rattle.std.specs.Prelude.{None};
-
-    ghost folder = { λ shelf. record { files = None; failures = shelf.failures; locked = None; claimed = None; part = None } };
-
-    /// No call of a row reads a file, so this fails.
-    fn read(&mut self, _: Global, _: &str) -> Result<Vec<u8>, Unread> {
-        self.failures = self.failures.saturating_add(1);
-        Err(Unread::File)
-    }
-
-    fn write(&mut self, path: &str, bytes: &[u8]) -> Result<(), WriteFailed> {
-        match self.add(path, bytes) {
-            Ok(()) => Ok(()),
-            Err(fault) => {
-                self.failures = self.failures.saturating_add(1);
-                Err(fault)
-            }
-        }
-    }
-
-    // No call of a row replaces a file, so these fail.
-
-    fn lock(&mut self, _: Global, _: &str, _: bool) -> Result<bool, Unread> {
-        self.failures = self.failures.saturating_add(1);
-        Err(Unread::File)
-    }
-
-    fn claim(&mut self, _: Global, _: &str, _: bool) -> Result<Claimed, Unread> {
-        self.failures = self.failures.saturating_add(1);
-        Err(Unread::File)
-    }
-
-    fn write_beside(&mut self, _: &str, _: &[u8]) -> Result<(), WriteFailed> {
-        self.failures = self.failures.saturating_add(1);
-        Err(WriteFailed)
-    }
-
-    fn sync(&mut self) -> Result<(), WriteFailed> {
-        self.failures = self.failures.saturating_add(1);
-        Err(WriteFailed)
-    }
-
-    fn put_in_place(&mut self, _: bool) -> Result<Placed, WriteFailed> {
-        self.failures = self.failures.saturating_add(1);
-        Err(WriteFailed)
-    }
-}
+use z80dev::{Answer, MemorySink, SourceFile, Told, asm, build, finish, link, report};
+use z80dev_jobs::{FailingFiles, Failure, MemoryFiles};
 
 /// How `finish` ended: the status, what is printed and said, and the files.
 #[derive(Drop)]
@@ -98,26 +13,26 @@ struct Outcome {
     status: u8,
     output: Vec<u8>,
     errors: Vec<u8>,
-    files: Vec<(String, Vec<u8>)>,
+    files: MemoryFiles,
 }
 
-/// How `finish` ends for an answer, on a shelf with room for that many files.
-fn finished(alloc: Global, answer: &Answer<Told<'_>>, room: usize) -> Outcome {
-    let mut shelf = Shelf {
-        alloc,
-        room,
-        files: Vec::new(alloc),
-        failures: 0,
+/// How `finish` ends for an answer, if no more files can be written than that many.
+fn finished(alloc: Global, answer: &Answer<Told<'_>>, room: u64) -> Outcome {
+    let failure = Failure {
+        call: room.saturating_add(1),
+        lasting: true,
+        leaves_new: false,
     };
+    let mut files = FailingFiles::new(MemoryFiles::new(alloc), failure);
     let mut output = MemorySink::new(alloc);
     let mut errors = MemorySink::new(alloc);
-    let end = finish(alloc, "P", answer, &mut shelf, &mut output);
+    let end = finish(alloc, "P", answer, &mut files, &mut output);
     let status = report(&end, &mut errors);
     Outcome {
         status,
         output: output.into_bytes(),
         errors: errors.into_bytes(),
-        files: shelf.files,
+        files: files.into_files(),
     }
 }
 
@@ -126,9 +41,10 @@ fn show_finished<W: Write>(out: &mut W, finished: &Outcome) -> Result<(), anyhow
     write!(out, " {}", finished.status)?;
     show(out, &finished.output)?;
     show(out, &finished.errors)?;
-    for (path, bytes) in finished.files.iter() {
-        write!(out, " {path}")?;
-        show(out, bytes)?;
+    for file in finished.files.written() {
+        out.write_all(b" ")?;
+        out.write_all(&file.path)?;
+        show(out, &file.bytes)?;
     }
     Ok(())
 }
@@ -184,7 +100,7 @@ fn show_built<W: Write>(
     paths: &[&str],
     texts: &[Vec<u8>],
     grow: bool,
-    room: usize,
+    room: u64,
 ) -> Result<(), anyhow::Error> {
     let mut sources = Vec::with_capacity(alloc, paths.len())?;
     for (path, text) in paths.iter().zip(texts) {
@@ -206,7 +122,7 @@ pub(crate) fn report_build<W: Write>(
 ) -> Result<(), anyhow::Error> {
     let (grow, rest) = row.split_once(' ').context("no room")?;
     let (room, rest) = rest.split_once(' ').context("no files")?;
-    let room = usize::try_from(u64::from_str_radix(room, 10)?)?;
+    let room = u64::from_str_radix(room, 10)?;
     let (mut paths, mut texts) = (Vec::new(alloc), Vec::new(alloc));
     for part in rest.split(" & ") {
         let (path, text) = part.split_once('=').context("no text")?;
