@@ -3,8 +3,10 @@
 mod lock;
 mod part;
 
-ghost use Rattle.std.specs.Prelude.{◌≡◌, None, option_map, string_bytes};
+ghost use Rattle.std.specs.Prelude.{◌≡◌, ◌≤◌, IfOk, None, length, option_map, string_bytes};
+ghost use Rattle.limits.specs.declared.TheConstants.{LONGEST_TEXT};
 ghost use Rattle.streams.specs.Stream.{counted};
+ghost use Rattle.z80dev_finish.specs.Files.{IsLockWanted};
 ghost use Rattle.z80dev_cli.specs.Host.{lock_in, part_in};
 
 use lock::{HeldLock, take_lock};
@@ -48,17 +50,13 @@ impl Files for HostFiles<'_> {
     ghost folder = { λ h. record { files = None; failures = h.failures; locked = option_map lock_in h.lock; claimed = option_map string_bytes h.claimed; part = option_map part_in h.part } };
 
     fn read(&mut self, alloc: Global, path: &str) -> Result<Vec<u8>, Unread> {
-        let read = match fs::open(self.rt, path) {
-            Ok(file) => read_text(alloc, &mut Watched::new(file)),
-            Err(_) => Err(Fault::File),
-        };
-        match read {
+        match read_whole(self.rt, alloc, path) {
             Ok(bytes) => Ok(bytes),
-            Err(Fault::File) => {
+            Err(Unread::File) => {
                 self.fail();
                 Err(Unread::File)
             }
-            Err(Fault::Build(_)) => Err(Unread::NoMemory),
+            Err(Unread::NoMemory) => Err(Unread::NoMemory),
         }
     }
 
@@ -71,7 +69,7 @@ impl Files for HostFiles<'_> {
     }
 
     fn lock(&mut self, alloc: Global, path: &str, is_wanted: bool) -> Result<bool, Unread> {
-        match take_lock(self.rt, alloc, path, is_wanted) {
+        match take_lock(self.rt, alloc, path, is_wanted, false) {
             Ok(lock) => {
                 let is_held = lock.is_held;
                 self.lock = Some(lock);
@@ -90,10 +88,19 @@ impl Files for HostFiles<'_> {
             Ok(copy) => copy,
             Err(AllocError) => return Err(Unread::NoMemory),
         };
-        let is_locked = self.lock(alloc, path, is_wanted)?;
-        let bytes = self.read(alloc, path)?;
-        self.claimed = Some(claimed);
-        Ok(Claimed { bytes, is_locked })
+        match claim(self.rt, alloc, path, is_wanted) {
+            Ok((lock, bytes)) => {
+                let is_locked = lock.is_held;
+                self.lock = Some(lock);
+                self.claimed = Some(claimed);
+                Ok(Claimed { bytes, is_locked })
+            }
+            Err(Unread::File) => {
+                self.fail();
+                Err(Unread::File)
+            }
+            Err(Unread::NoMemory) => Err(Unread::NoMemory),
+        }
     }
 
     fn write_beside(&mut self, path: &str, bytes: &[u8]) -> Result<(), WriteFailed> {
@@ -113,12 +120,16 @@ impl Files for HostFiles<'_> {
     }
 
     fn sync(&mut self) -> Result<(), WriteFailed> {
-        let Some(part) = &mut self.part else {
+        let Some(mut part) = self.part.take() else {
             unreachable!();
         };
         match part.sync() {
-            Ok(()) => Ok(()),
+            Ok(()) => {
+                self.part = Some(part);
+                Ok(())
+            }
             Err(WriteFailed) => {
+                part.discard(self.rt);
                 self.fail();
                 Err(WriteFailed)
             }
@@ -139,7 +150,38 @@ impl Files for HostFiles<'_> {
     }
 }
 
-/// Writes the bytes to what has the path, if that is no regular file, as a pipe or a device; else as a file in its place.
+/// Reads a file whole.
+fn read_whole(rt: &HostRuntime, alloc: Global, path: &str) -> Result<Vec<u8>, Unread>
+    ensures { IfOk result (λ bytes. length bytes.items ≤ LONGEST_TEXT) }
+{
+    let Ok(file) = fs::open(rt, path) else {
+        return Err(Unread::File);
+    };
+    match read_text(alloc, &mut Watched::new(file)) {
+        Ok(bytes) => Ok(bytes),
+        Err(Fault::File) => Err(Unread::File),
+        Err(Fault::Build(_)) => Err(Unread::NoMemory),
+    }
+}
+
+/// Takes the lock of a path and reads the file on which it is, which is that behind symbolic links.
+fn claim(
+    rt: &HostRuntime,
+    alloc: Global,
+    path: &str,
+    is_wanted: bool,
+) -> Result<(HeldLock, Vec<u8>), Unread>
+    ensures { IfOk result (λ r. (string_bytes r.0.path ≡ path.now) × IsLockWanted is_wanted r.0.is_held × (length r.1.items ≤ LONGEST_TEXT)) }
+{
+    let lock = take_lock(rt, alloc, path, is_wanted, true)?;
+    let bytes = match &lock.names {
+        Some(names) => read_whole(rt, alloc, &names.target)?,
+        None => read_whole(rt, alloc, path)?,
+    };
+    Ok((lock, bytes))
+}
+
+/// Writes the bytes: to a pipe or a device directly, and else as a new file that takes the place of the path's.
 fn write(rt: &HostRuntime, path: &str, bytes: &[u8]) -> Result<(), WriteFailed> {
     match fs::metadata(rt, path) {
         Ok(found) if !found.is_file() && !found.is_dir() => write_to(rt, path, bytes),

@@ -5,8 +5,8 @@ ghost use Rattle.std.proofs.Props.{props};
 ghost use Rattle.z80dev_finish.specs.Files.{IsLockWanted};
 
 use std::alloc::Global;
-use std::fs::{self, File, TryLockError};
-use std::io::ErrorKind;
+use std::fs::{self, File, OpenOptions, TryLockError};
+use std::io::{self, ErrorKind};
 use std::os::unix::fs::MetadataExt;
 use std::thread::sleep;
 use std::time::Duration;
@@ -64,8 +64,11 @@ fn copy_of(alloc: Global, path: &str) -> Result<String, Unread>
 }
 
 /// The path of the file behind symbolic links, or the path itself if it is no link. A link whose file is not there is an error: to replace the
-/// link would be wrong.
+/// link would be wrong. A link to a pipe leads to no path, so what is no file keeps its own.
 fn target_of(rt: &HostRuntime, alloc: Global, path: &str) -> Result<String, Unread> {
+    if fs::metadata(rt, path).is_ok_and(|found| !found.is_file()) {
+        return copy_of(alloc, path);
+    }
     match fs::symlink_metadata(rt, path) {
         Ok(found) if found.is_symlink() => match fs::canonicalize(rt, path) {
             Ok(target) => Ok(target.into_string()),
@@ -77,16 +80,24 @@ fn target_of(rt: &HostRuntime, alloc: Global, path: &str) -> Result<String, Unre
 }
 
 /// Whether the path still names the file that was opened. Whoever replaces a file gives its path to another one.
-fn is_same(rt: &HostRuntime, file: &File, path: &str) -> bool {
+pub(crate) fn is_same(rt: &HostRuntime, file: &File, path: &str) -> bool {
     match (file.metadata(), fs::metadata(rt, path)) {
         (Ok(held), Ok(found)) => held.dev() == found.dev() && held.ino() == found.ino(),
         _ => false,
     }
 }
 
+/// Opens a file for its lock: for writing too where that is allowed, since network file systems give this lock to no reader.
+fn open(rt: &HostRuntime, target: &str) -> io::Result<File> {
+    match OpenOptions::new().read(true).write(true).open(rt, target) {
+        Err(error) if error.kind() != ErrorKind::NotFound => fs::open(rt, target),
+        opened => opened,
+    }
+}
+
 /// Asks for the lock once, without waiting.
 fn ask_once(rt: &HostRuntime, target: &str) -> Attempt {
-    let file = match fs::open(rt, target) {
+    let file = match open(rt, target) {
         Ok(file) => file,
         Err(error) if error.kind() == ErrorKind::NotFound => return Attempt::Nothing,
         Err(_) => return Attempt::Failed,
@@ -99,11 +110,17 @@ fn ask_once(rt: &HostRuntime, target: &str) -> Attempt {
 }
 
 /// Asks for the lock until it is held, for a second at most. The answer is the file on which it is, and whether a lock can be had at all.
-fn wait_for_lock(rt: &HostRuntime, target: &str) -> Result<(Option<File>, bool), Unread> {
+/// Where there is no file there is nothing to lock; a file that is to be read has to be there.
+fn wait_for_lock(
+    rt: &HostRuntime,
+    target: &str,
+    is_read: bool,
+) -> Result<(Option<File>, bool), Unread> {
     for _ in 0..ATTEMPTS {
         match ask_once(rt, target) {
             Attempt::Held(file) => return Ok((Some(file), true)),
-            Attempt::Nothing => return Ok((None, true)),
+            Attempt::Nothing if !is_read => return Ok((None, true)),
+            Attempt::Nothing => return Err(Unread::File),
             Attempt::Unavailable => return Ok((None, false)),
             Attempt::Failed => return Err(Unread::File),
             Attempt::Busy => sleep(rt, Duration::from_millis(PAUSE)),
@@ -117,6 +134,7 @@ fn lock_target(
     rt: &HostRuntime,
     target: &str,
     is_wanted: bool,
+    is_read: bool,
 ) -> Result<(Option<File>, bool), Unread>
     ensures { IfOk result (λ r. IsLockWanted is_wanted r.1) }
 {
@@ -125,11 +143,11 @@ fn lock_target(
     }
     match fs::metadata(rt, target) {
         Ok(found) if !found.is_file() => Ok((None, true)),
-        _ => wait_for_lock(rt, target),
+        _ => wait_for_lock(rt, target, is_read),
     }
 }
 
-/// Takes the lock of a path, if it is wanted.
+/// Takes the lock of a path, if it is wanted; `is_read` says that the file is to be read under it.
 ///
 /// # Errors
 ///
@@ -139,6 +157,7 @@ pub(crate) fn take_lock(
     alloc: Global,
     path: &str,
     is_wanted: bool,
+    is_read: bool,
 ) -> Result<HeldLock, Unread>
     ensures { IfOk result (λ l. (string_bytes l.path ≡ path.now) × IsLockWanted is_wanted l.is_held) }
 {
@@ -147,7 +166,7 @@ pub(crate) fn take_lock(
         path: copy_of(alloc, path)?,
         target: target_of(rt, alloc, path)?,
     };
-    let (file, is_held) = lock_target(rt, &names.target, is_wanted)?;
+    let (file, is_held) = lock_target(rt, &names.target, is_wanted, is_read)?;
     Ok(HeldLock {
         path: copy,
         names: Some(names),

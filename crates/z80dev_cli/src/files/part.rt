@@ -4,12 +4,12 @@ ghost use Rattle.std.specs.Prelude.{◌≡◌, IfOk, OnOk, false, true, string_b
 ghost use Rattle.z80dev_finish.specs.declared.files.Placed.TheVariants.{Done};
 ghost use Rattle.z80dev_cli.specs.Host.{lock_in};
 
-use crate::files::lock::{HeldLock, Names};
+use crate::files::lock::{HeldLock, Names, is_same};
 use arrayvec::ArrayString;
 use std::fmt::{self, Write};
 use std::fs::{self, File, Metadata, OpenOptions};
 use std::io::{self, ErrorKind};
-use std::os::unix::fs::{MetadataExt, chown};
+use std::os::unix::fs::{MetadataExt, OpenOptionsExt, fchown};
 use std::path::Path;
 use streams::{WatchedSink, WriteFailed, put};
 use z80dev_finish::Placed;
@@ -17,7 +17,12 @@ use z80dev_finish::Placed;
 /// How many parts may lie beside a file, left by commands that were killed or of commands that have not ended.
 const PARTS: u32 = 100;
 
-/// How many bytes the name of a file may have, and its part's name before `.part` and two digits.
+/// The permissions of a new file: what `umask` leaves of these; and of a part that takes the place of a file, until it has those of that file.
+const COMMON: u32 = 0o666;
+
+const PRIVATE: u32 = 0o600;
+
+/// How many bytes of the name of a file its part has before `.part` and two digits.
 const NAME_LIMIT: usize = 248;
 
 /// A path of any length that the system takes, for which no memory is asked.
@@ -49,26 +54,41 @@ impl Part {
     pub(crate) fn sync(&mut self) -> Result<(), WriteFailed>
         ensures { OnOk result (self.new ≡ record self.old { is_synced = true }) }
     {
-        let synced = match self.place {
-            Place::Beside(_) => self.file.sync_all().is_ok(),
-            Place::There => true,
-        };
-        if !synced {
-            return Err(WriteFailed);
+        match self.file.sync_all() {
+            Ok(()) => {}
+            // A pipe or a terminal has nothing to sync.
+            Err(error) if matches!(self.place, Place::There) && is_of_no_use(&error) => {}
+            Err(_) => return Err(WriteFailed),
         }
         self.is_synced = true;
         Ok(())
+    }
+
+    /// Gives the bytes up.
+    pub(crate) fn discard(self, rt: &HostRuntime) {
+        if let Place::Beside(part) = &self.place {
+            let _ = fs::remove_file(rt, part.as_str());
+        }
     }
 
     /// Gives the bytes the path of the target; with `keep`, only if there is no file.
     pub(crate) fn put_in_place(self, rt: &HostRuntime, keep: bool) -> Result<Placed, WriteFailed>
         ensures { IfOk result (λ p. p ≡ Exists → keep ≡ true) }
     {
-        let Part { names, place, .. } = self;
+        let Part {
+            names,
+            place,
+            file,
+            ..
+        } = self;
         let Place::Beside(part) = place else {
             return Ok(Placed::Done);
         };
         let part = part.as_str();
+        // Another program may have taken the name of the part meanwhile.
+        if !is_same(rt, &file, part) {
+            return Err(WriteFailed);
+        }
         let placed = if keep {
             link_part(rt, part, &names.target)
         } else {
@@ -153,16 +173,20 @@ pub(crate) fn write_part(
     let Some(names) = lock.names.take() else {
         return Err(WriteFailed);
     };
-    let has_lock = lock.file.is_some();
+    let has_lock = match &lock.file {
+        // Who writes without the lock may have put another file there.
+        Some(file) if !is_same(rt, file, &names.target) => return Err(WriteFailed),
+        Some(_) => true,
+        None => false,
+    };
     match fs::metadata(rt, &names.target) {
-        Ok(found) if found.is_file() => {
-            if found.permissions().readonly() {
-                return Err(WriteFailed);
-            }
-            write_beside(rt, names, bytes, Some(&found), has_lock)
-        }
+        Ok(found) if found.is_file() && found.permissions().readonly() => Err(WriteFailed),
+        Ok(found) if found.is_file() => write_beside(rt, names, bytes, Some(&found), has_lock),
         Ok(found) if !found.is_dir() => write_there(rt, names, bytes),
-        _ => write_beside(rt, names, bytes, None, has_lock),
+        Err(error) if error.kind() == ErrorKind::NotFound => {
+            write_beside(rt, names, bytes, None, has_lock)
+        }
+        _ => Err(WriteFailed),
     }
 }
 
@@ -192,9 +216,11 @@ fn write_beside(
 ) -> Result<Part, WriteFailed>
     ensures { IfOk result (λ p. (p.names ≡ names) × (p.is_synced ≡ false)) }
 {
-    let (part, file) = new_part(rt, &names.target, has_lock)?;
+    let first = first_number(rt, &names.target, has_lock);
+    let mode = if found.is_some() { PRIVATE } else { COMMON };
+    let (part, file) = new_part(rt, &names.target, mode, first)?;
     if let Some(found) = found {
-        keep_owner(rt, part.as_str(), &file, found);
+        keep_owner(&file, found);
     }
     if put(&mut WatchedSink::new(&file), bytes).is_err() {
         let _ = fs::remove_file(rt, part.as_str());
@@ -208,17 +234,18 @@ fn write_beside(
     })
 }
 
-/// Gives a part the owner, group and permissions of the file whose place it takes, as far as the system lets this user.
-fn keep_owner(rt: &HostRuntime, part: &str, file: &File, found: &Metadata) {
-    if chown(rt, part, Some(found.uid()), Some(found.gid())).is_err() {
-        let _ = chown(rt, part, None, Some(found.gid()));
+/// Gives a part the owner, group and permissions of the file whose place it takes, as far as the system lets this user. Until then, and where
+/// this fails, nobody else may read it.
+fn keep_owner(file: &File, found: &Metadata) {
+    if fchown(file, Some(found.uid()), Some(found.gid())).is_err() {
+        let _ = fchown(file, None, Some(found.gid()));
     }
     let _ = file.set_permissions(found.permissions());
 }
 
 /// Writes the bytes beside a file that can be made again, and gives them its name when all are written.
 pub(crate) fn replace(rt: &HostRuntime, path: &str, bytes: &[u8]) -> Result<(), WriteFailed> {
-    let (part, file) = new_part(rt, path, false)?;
+    let (part, file) = new_part(rt, path, COMMON, 0)?;
     let answer = put(&mut WatchedSink::new(file), bytes);
     if answer.is_ok() && fs::rename(rt, part.as_str(), path).is_ok() {
         return Ok(());
@@ -227,19 +254,35 @@ pub(crate) fn replace(rt: &HostRuntime, path: &str, bytes: &[u8]) -> Result<(), 
     Err(WriteFailed)
 }
 
-/// A new file beside that of the path, and its own path. Who holds the lock of the path may take the place of a part that a command left
-/// which was killed.
-fn new_part(rt: &HostRuntime, path: &str, has_lock: bool) -> Result<(PartPath, File), WriteFailed> {
-    if has_lock {
-        if let Ok(left) = part_of(path, 0) {
-            let _ = fs::remove_file(rt, left.as_str());
-        }
+/// The lowest number that the part of an image may have. Number 0 is for who holds the lock: a part with it was left by a command that was
+/// killed, and is removed. A name that is cut may be that of another image too.
+fn first_number(rt: &HostRuntime, target: &str, has_lock: bool) -> u32 {
+    if !has_lock || front_of(target).len() < target.len() {
+        return 1;
     }
-    for number in 0..PARTS {
+    if let Ok(left) = part_of(target, 0) {
+        let _ = fs::remove_file(rt, left.as_str());
+    }
+    0
+}
+
+/// A new file beside that of the path, and its own path; its number is the first that is free.
+fn new_part(
+    rt: &HostRuntime,
+    path: &str,
+    mode: u32,
+    first: u32,
+) -> Result<(PartPath, File), WriteFailed> {
+    for number in first..PARTS {
         let Ok(part) = part_of(path, number) else {
             return Err(WriteFailed);
         };
-        match File::create_new(rt, part.as_str()) {
+        match OpenOptions::new()
+            .write(true)
+            .create_new(true)
+            .mode(mode)
+            .open(rt, part.as_str())
+        {
             Ok(file) => return Ok((part, file)),
             Err(error) if error.kind() == ErrorKind::AlreadyExists => {}
             Err(_) => return Err(WriteFailed),
