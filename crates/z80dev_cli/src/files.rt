@@ -9,19 +9,23 @@ ghost use Rattle.streams.specs.Stream.{counted};
 ghost use Rattle.z80dev_finish.specs.Files.{IsLockWanted};
 ghost use Rattle.z80dev_cli.specs.Host.{lock_in, part_in};
 
-use lock::{HeldLock, take_lock};
+use lock::{HeldLock, is_one_file, take_lock};
 use part::{Part, write_part};
 use std::alloc::{AllocError, Global};
-use std::fs::{self, OpenOptions};
-use streams::{Watched, WatchedSink, WriteFailed, put};
+use std::fs::{self, Metadata};
+use streams::{Watched, WriteFailed};
 use z80dev::{Fault, read_text};
 use z80dev_finish::{Claimed, Files, Placed, Unread};
 
-/// The files of the system, and how often a call failed.
+/// Standard output and standard error, as paths.
+const STREAMS: [&str; 2] = ["/proc/self/fd/1", "/proc/self/fd/2"];
+
+/// The files of the system, how often a call failed, and how often a file took the place of another.
 #[derive(Drop)]
 pub(crate) struct HostFiles<'a> {
     rt: &'a HostRuntime,
     failures: u64,
+    replacements: u64,
     lock: Option<HeldLock>,
     claimed: Option<String>,
     part: Option<Part>,
@@ -32,6 +36,7 @@ impl<'a> HostFiles<'a> {
         HostFiles {
             rt,
             failures: 0,
+            replacements: 0,
             lock: None,
             claimed: None,
             part: None,
@@ -40,14 +45,21 @@ impl<'a> HostFiles<'a> {
 
     /// Counts a call that failed.
     fn fail(&mut self)
-        ensures { self.new.failures ≡ counted self.old.failures }
+        ensures { self.new ≡ record self.old { failures = counted self.old.failures } }
     {
         self.failures = self.failures.saturating_add(1);
+    }
+
+    /// Counts a file that took its place.
+    fn count_replacement(&mut self)
+        ensures { self.new ≡ record self.old { replacements = counted self.old.replacements } }
+    {
+        self.replacements = self.replacements.saturating_add(1);
     }
 }
 
 impl Files for HostFiles<'_> {
-    ghost folder = { λ h. record { files = None; failures = h.failures; locked = option_map lock_in h.lock; claimed = option_map string_bytes h.claimed; part = option_map part_in h.part } };
+    ghost folder = { λ h. record { files = None; failures = h.failures; replacements = h.replacements; locked = option_map lock_in h.lock; claimed = option_map string_bytes h.claimed; part = option_map part_in h.part } };
 
     fn read(&mut self, alloc: Global, path: &str) -> Result<Vec<u8>, Unread> {
         match read_whole(self.rt, alloc, path) {
@@ -141,7 +153,11 @@ impl Files for HostFiles<'_> {
             unreachable!();
         };
         match part.put_in_place(self.rt, keep) {
-            Ok(placed) => Ok(placed),
+            Ok(Placed::Done) => {
+                self.count_replacement();
+                Ok(Placed::Done)
+            }
+            Ok(Placed::Exists) => Ok(Placed::Exists),
             Err(WriteFailed) => {
                 self.fail();
                 Err(WriteFailed)
@@ -171,7 +187,7 @@ fn claim(
     path: &str,
     is_wanted: bool,
 ) -> Result<(HeldLock, Vec<u8>), Unread>
-    ensures { IfOk result (λ r. (string_bytes r.0.path ≡ path.now) × IsLockWanted is_wanted r.0.is_held × (length r.1.items ≤ LONGEST_TEXT)) }
+    ensures { IfOk result (λ r. (string_bytes r.0.path ≡ path.now) × IsLockWanted None is_wanted r.0.is_held × (length r.1.items ≤ LONGEST_TEXT)) }
 {
     let lock = take_lock(rt, alloc, path, is_wanted, true)?;
     let bytes = match &lock.names {
@@ -181,18 +197,32 @@ fn claim(
     Ok((lock, bytes))
 }
 
-/// Writes the bytes: to a pipe or a device directly, and else as a new file that takes the place of the path's.
+/// Writes the bytes: to a pipe or a device directly, to a stream of this program at its end, and else as a new file that takes the place of
+/// the path's.
 fn write(rt: &HostRuntime, path: &str, bytes: &[u8]) -> Result<(), WriteFailed> {
     match fs::metadata(rt, path) {
-        Ok(found) if !found.is_file() && !found.is_dir() => write_to(rt, path, bytes),
+        Ok(found) if !found.is_file() && !found.is_dir() => write_there(rt, path, bytes, false),
+        Ok(found) if leads_to_stream(rt, path, &found) => write_there(rt, path, bytes, true),
         _ => part::replace(rt, path, bytes),
     }
 }
 
 /// Writes the bytes to what is there.
-fn write_to(rt: &HostRuntime, path: &str, bytes: &[u8]) -> Result<(), WriteFailed> {
-    match OpenOptions::new().write(true).open(rt, path) {
-        Ok(file) => put(&mut WatchedSink::new(file), bytes),
-        Err(_) => Err(WriteFailed),
-    }
+fn write_there(
+    rt: &HostRuntime,
+    path: &str,
+    bytes: &[u8],
+    at_end: bool,
+) -> Result<(), WriteFailed> {
+    part::write_through(rt, path, bytes, at_end)?;
+    Ok(())
+}
+
+/// Whether a path is a link to the file of standard output or standard error, as `/dev/stdout` may be. To replace such a link would break it
+/// for every program of the system.
+fn leads_to_stream(rt: &HostRuntime, path: &str, found: &Metadata) -> bool {
+    fs::symlink_metadata(rt, path).is_ok_and(|link| link.is_symlink())
+        && STREAMS.iter().any(|stream| fs::metadata(rt, stream).is_ok_and(|file| is_one_file(
+            &file, found,
+        )))
 }

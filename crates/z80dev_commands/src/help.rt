@@ -91,7 +91,8 @@ With --text, each LF becomes CR LF, and 1AH is added at the end.
 IMG is locked from before it is read until it is replaced. A second command that
 needs the lock waits up to a second, then ends with `error: file IMG`, status 3.
 With --no-lock, nothing waits, and of two commands that change IMG at the same
-time one may undo what the other did.
+time one may undo what the other did. The error is the same if IMG is missing,
+is write-protected or is a symbolic link to nothing.
 
 If nothing changes, IMG is not written. If IMG is write-protected, it is not
 replaced. It keeps its permissions, and its owner if the system allows it. If
@@ -114,7 +115,8 @@ without a warning. Prints nothing, and leaves IMG as it is.
 
 In NAME, ? stands for any character, and * for the rest of the name or of the
 type. Each file that matches is then written into the folder FILE under its own
-name. With --all, every file of the user is written into FOLDER.
+name. With --all, every file of the user is written into FOLDER. The folder has
+to be there.
 
 With --text, a file ends at its first 1AH, and each CR LF becomes LF.
 
@@ -165,6 +167,10 @@ pub(crate) const CHECK_DISK: &str =
     r"Reads IMG and prints a line for each directory entry that breaks a rule: its
 number, its user, its name and the rule. Writes nothing.
 
+If no entry breaks a rule, the status is 0 and nothing is printed. If one does,
+the status is 1, and a line `error: ..` on standard error has the first of these
+rules.
+
 Example: z80dev check-disk a.img";
 
 pub(crate) const BLANK: &str =
@@ -175,7 +181,7 @@ is a line `error: Exists`. Prints nothing.
 
 IMG is locked and replaced as `z80dev put --help` explains.
 
-Example: z80dev blank a.img";
+Example: z80dev blank --keep a.img";
 
 pub(crate) const RUN: &str =
     r"Reads IMG, COM and all of standard input, which is what the program gets as its
@@ -190,9 +196,10 @@ IMG is locked from before it is read until the end of the run, and replaced as
 `z80dev put --help` explains, so no other command changes it meanwhile. With
 --no-lock, what another command writes to IMG during the run may be lost.
 
-The status is 0 if the program ends by itself, and 1 if something stops it; then
-standard error has a line `stopped: WHY at PPPP`. If the program cannot start,
-there is a line `error: ..` instead: the status is 1 if IMG is not an image of a
-disk, and 3 if a file cannot be read or IMG cannot be locked or written.
+The status is 0 if the program ends by itself, and 1 if something stops it or it
+is too long to be loaded; then standard error has a line `stopped: WHY at PPPP`.
+If a file is at fault, there is a line `error: ..` instead: the status is 1 if
+IMG is not an image of a disk, and 3 if a file cannot be read or IMG cannot be
+locked or written.
 
 Example: z80dev run --disk a.img game.com FILE.TXT";

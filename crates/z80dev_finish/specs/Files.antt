@@ -27,10 +27,12 @@ pub record Lock : Type 0 where
   pub is_held : Bool
 
 -- The files, where they are known, in the order in which they were written: of those with one path the last is the one that is there. How
--- often a call failed. The lock that was taken, and the path that was read under it. And the file that is written beside another.
+-- often a call failed, and how often a file that was written beside another took its place. The lock that was taken, and the path that was
+-- read under it. And the file that is written beside another.
 pub record Folder : Type 0 where
   pub files : Option (List File)
   pub failures : ℕ
+  pub replacements : ℕ
   pub locked : Option Lock
   pub claimed : Option (List ℕ)
   pub part : Option Part
@@ -88,13 +90,18 @@ lock_of path is_held = record { path = path; is_held = is_held }
 abbrev pub HasLock : Folder → List ℕ → Type 0
 HasLock f path = (is_held : Bool) × (f.locked ≡ Some (lock_of path is_held))
 
--- a lock that is not wanted is not held
-abbrev pub IsLockWanted : Bool → Bool → Type 0
-IsLockWanted is_wanted is_held = is_wanted ≡ false → is_held ≡ false
+-- A lock that is not wanted is not held. One that is wanted is held where files are known; a file system may have no locks.
+abbrev pub IsLockWanted : Option (List File) → Bool → Bool → Type 0
+IsLockWanted None is_wanted is_held = is_wanted ≡ false → is_held ≡ false
+IsLockWanted (Some files) is_wanted is_held = is_held ≡ is_wanted
+
+-- the lock stays, and the path that was read under it
+abbrev pub StaysLocked : Folder → Folder → Type 0
+StaysLocked old new = (new.locked ≡ old.locked) × (new.claimed ≡ old.claimed)
 
 -- A path is locked, whether or not it has a file: no other program that asks for the lock gets it, until this one ends.
 abbrev pub Locks : Folder → Folder → List ℕ → Bool → Result Bool Unread → Type 0
-Locks old new path is_wanted (Ok is_held) = (new ≡ record old { locked = Some (lock_of path is_held) }) × IsLockWanted is_wanted is_held
+Locks old new path is_wanted (Ok is_held) = (new ≡ record old { locked = Some (lock_of path is_held) }) × IsLockWanted old.files is_wanted is_held
 Locks old new path is_wanted (Err unread.File) = FailsSo old new
 Locks old new path is_wanted (Err unread.NoMemory) = IsUntouched old new
 
@@ -104,7 +111,7 @@ claimed_by old path is_held = record old { locked = Some (lock_of path is_held);
 
 -- A file is locked and then read: it stays as it was read until this program replaces it, or ends.
 abbrev pub Claims : Folder → Folder → List ℕ → Bool → Result Claimed Unread → Type 0
-Claims old new path is_wanted (Ok c) = (new ≡ claimed_by old path c.is_locked) × IsLockWanted is_wanted c.is_locked × (length c.bytes.items ≤ LONGEST_TEXT)
+Claims old new path is_wanted (Ok c) = (new ≡ claimed_by old path c.is_locked) × IsLockWanted old.files is_wanted c.is_locked × (length c.bytes.items ≤ LONGEST_TEXT)
     × IfSome old.files (λ files. IsAt files path c.bytes.items)
 Claims old new path is_wanted (Err unread.File) = (IsUntouched old new × IsUnreadable old.files path) ⊎ FailsSo old new
 Claims old new path is_wanted (Err unread.NoMemory) = IsUntouched old new
@@ -129,14 +136,22 @@ pub record IsReady (f : Folder) (p : Part) : Type 0 where
 abbrev pub AddsPart : Folder → Folder → Part → Type 0
 AddsPart old new p = IfSome p.bytes (λ bytes. Adds old new ((p.path, bytes) ∷ []))
 
+-- one file more took its place, and no call failed
+abbrev pub Replaced : Folder → Folder → Type 0
+Replaced old new = (new.replacements ≡ counted old.replacements) × (new.failures ≡ old.failures) × StaysLocked old new
+
+-- no file took its place, since there is one that is to be kept
+abbrev pub IsNotReplaced : Folder → Folder → List ℕ → Bool → Type 0
+IsNotReplaced old new path keep = IsUntouched old new × StaysLocked old new × (keep ≡ true) × IsThere old.files path
+
 -- The part takes its place, and with keep only where there is no file. If the call fails, the file is as before or as it should be.
 abbrev pub PutsInPlace : Folder → Folder → Part → Bool → Result Placed WriteFailed → Type 0
-PutsInPlace old new p keep (Ok placed.Done) = AddsPart old new p × (new.failures ≡ old.failures) × (keep ≡ true → IsAbsent old.files p.path)
-PutsInPlace old new p keep (Ok placed.Exists) = IsUntouched old new × (keep ≡ true) × IsThere old.files p.path
+PutsInPlace old new p keep (Ok placed.Done) = AddsPart old new p × Replaced old new × (keep ≡ true → IsAbsent old.files p.path)
+PutsInPlace old new p keep (Ok placed.Exists) = IsNotReplaced old new p.path keep
 PutsInPlace old new p keep (Err _) = (Adds old new [] ⊎ AddsPart old new p) × (new.failures ≡ counted old.failures)
 
 -- The file of a path is replaced by these bytes, and with keep only where there was none.
 abbrev pub Replaces : Folder → Folder → File → Bool → Result Placed WriteFailed → Type 0
-Replaces old new file keep (Ok placed.Done) = Adds old new (file ∷ []) × (new.failures ≡ old.failures) × (keep ≡ true → IsAbsent old.files file.0)
-Replaces old new file keep (Ok placed.Exists) = IsUntouched old new × (keep ≡ true) × IsThere old.files file.0
+Replaces old new file keep (Ok placed.Done) = Adds old new (file ∷ []) × Replaced old new × (keep ≡ true → IsAbsent old.files file.0)
+Replaces old new file keep (Ok placed.Exists) = IsNotReplaced old new file.0 keep
 Replaces old new file keep (Err _) = (Adds old new [] ⊎ Adds old new (file ∷ [])) × (new.failures ≡ counted old.failures)

@@ -35,10 +35,12 @@ pub enum Placed {
 
 /// Files by their paths, with a count of the calls that failed.
 ///
-/// Files that can be made again are written by [`write`](Files::write). One that holds a user's work, as the image of a disk does, is
+/// Files that can be made again are written by [`write`](Files::write). A file that holds a user's work, such as the image of a disk, is
 /// replaced in four calls: it is [claimed](Files::claim), [written beside](Files::write_beside) itself, [synced](Files::sync) and
-/// [put in place](Files::put_in_place). No other order meets what these calls require, so two programs cannot both change a file and
-/// lose one of the changes, and after a power cut the file is the old one or the new one.
+/// [put in place](Files::put_in_place). So two programs that hold the lock do not both change a file and lose one of the changes, and
+/// after a power cut the file is the old one or the new one. Each of the last three calls requires those before it, apart from the reading:
+/// a caller promises that by the ghost `claimed`. Only [`put_in_place`](Files::put_in_place) counts a replacement, so a contract that tells
+/// the count excludes [`write`](Files::write).
 pub trait Files {
     /// The files, where they are known, and how often a call failed.
     ghost folder: { Self → Folder };

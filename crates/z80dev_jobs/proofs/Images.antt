@@ -21,7 +21,7 @@ use Rattle.z80dev_finish.specs.declared.end.End.TheVariants as end
 use Rattle.z80dev_disk.specs.Put.{IsPut as IsPutOn}
 use Rattle.z80dev_disk.specs.Words.{name_of, own_name, pattern_of}
 use Rattle.z80dev_commands.specs.declared.Manner.{Manner}
-use Rattle.z80dev_jobs.specs.Disks.{BlankEnds, BlankIsMade, Changes, ChangesImage, Claiming, IsChanged, Named, NamedAll, NothingDone, PutEnds, Refuses, Warns, GetsInto, IsWrittenInto, NamedIfGiven, PutAllEnds, ReadsImage, WritesInto, as_put, bad_name, kind_of, path_in, warnings, without_name}
+use Rattle.z80dev_jobs.specs.Disks.{BlankEnds, BlankIsMade, Changes, ChangesImage, Claiming, IsChanged, Named, NamedAll, NothingDone, PutEnds, Refuses, Warns, GetsMatching, IsWrittenInto, NamedIfGiven, PutAllEnds, ReadsImage, WritesInto, as_put, bad_name, kind_of, path_in, warnings, without_name}
 use Rattle.z80dev_jobs.specs.Reading.{IsNotRead, IsOneNotRead, IsRead}
 use Rattle.z80dev_finish.specs.Answers.{Answer, answer_by}
 use Rattle.z80dev_finish.specs.Finishing.{Finishes}
@@ -348,7 +348,7 @@ if_given (Some word) pattern Does x e (found, is, named) does = named_word patte
 
 module _ (image : List ℕ) (user : ℕ) (text : Bool) (pattern folder : List ℕ) where
   pub gets_refused : (old mid : Folder) (o : Stream) (read : Image) (why : Refusal) (e : End) → ReadsImageFile old mid image (Ok read) → IsGetAll read.bytes.items user pattern text (Err why) → IsRefusal why e
-      → Warns (GetsInto image user text pattern folder (effect_of old mid o o)) None e
+      → Warns (GetsMatching image user text pattern folder (effect_of old mid o o)) None e
   gets_refused old mid o read why e reads is says =
       let x = effect_of old mid o o in
       let nothing : NothingDone x = subst (λ f. NothingDone (effect_of old f o o)) (sym reads.0) (nothing_done old o) in (
@@ -359,7 +359,7 @@ module _ (image : List ℕ) (user : ℕ) (text : Bool) (pattern folder : List �
       )
 
   pub gets_out : (old mid : Folder) (o : Stream) (read : Image) (files : Vec Gotten Global) (e : End) → ReadsImageFile old mid image (Ok read) → IsGetAll read.bytes.items user pattern text (Ok files) → e ≡ end.NoMemory
-      → Warns (GetsInto image user text pattern folder (effect_of old mid o o)) None e
+      → Warns (GetsMatching image user text pattern folder (effect_of old mid o o)) None e
   gets_out old mid o read files e reads is out =
       let x = effect_of old mid o o in
       let nothing : NothingDone x = subst (λ f. NothingDone (effect_of old f o o)) (sym reads.0) (nothing_done old o) in (
@@ -370,7 +370,7 @@ module _ (image : List ℕ) (user : ℕ) (text : Bool) (pattern folder : List �
       )
 
   pub gets_stopped : (old mid new : Folder) (o : Stream) (read : Image) (files : Vec Gotten Global) (e : End) → ReadsImageFile old mid image (Ok read) → IsGetAll read.bytes.items user pattern text (Ok files)
-      → WritesAll folder files.items mid new (Err e) → Warns (GetsInto image user text pattern folder (effect_of old new o o)) None e
+      → WritesAll folder files.items mid new (Err e) → Warns (GetsMatching image user text pattern folder (effect_of old new o o)) None e
   gets_stopped old mid new o read files (end.Path path) reads is writes =
       let x = effect_of old new o o in
       let from = subst (λ f. WritesAll folder files.items f new (Err (end.Path path))) reads.0 writes in (
@@ -386,7 +386,7 @@ module _ (image : List ℕ) (user : ℕ) (text : Bool) (pattern folder : List �
   gets_stopped old mid new o read files end.NoMemory reads is writes = absurd writes
 
   pub gets_all : (old mid new : Folder) (o : Stream) (read : Image) (files : Vec Gotten Global) (line : Option (String Global)) → ReadsImageFile old mid image (Ok read) → IsGetAll read.bytes.items user pattern text (Ok files)
-      → AreInto folder files.items mid new → line ≡ read.warnings → Warns (GetsInto image user text pattern folder (effect_of old new o o)) (option_map string_bytes line) end.Done
+      → AreInto folder files.items mid new → line ≡ read.warnings → Warns (GetsMatching image user text pattern folder (effect_of old new o o)) (option_map string_bytes line) end.Done
   gets_all old mid new o read files line reads is into same =
       let x = effect_of old new o o in
       let from = subst (λ f. AreInto folder files.items f new) reads.0 into in (

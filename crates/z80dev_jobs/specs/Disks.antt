@@ -24,7 +24,7 @@ use Rattle.z80dev_disk.specs.declared.getting.Gotten.{Gotten}
 use Rattle.z80dev_disk.specs.declared.refusal.Refusal.{Refusal}
 use Rattle.z80dev_finish.specs.Answers.{MemoryAside}
 use Rattle.z80dev_finish.specs.End.{IsPut}
-use Rattle.z80dev_finish.specs.Files.{Adds, FailsSo, File, Folder, IsAbsent, IsLockWanted, IsThere, IsUnreadable, IsUntouched, claimed_by}
+use Rattle.z80dev_finish.specs.Files.{Adds, FailsSo, File, Folder, IsAbsent, IsLockWanted, IsThere, IsUnreadable, IsUntouched, Replaced, claimed_by, lock_of}
 use Rattle.z80dev_finish.specs.declared.end.End.{End}
 use Rattle.z80dev_finish.specs.declared.end.End.TheVariants as end
 use Rattle.z80dev_jobs.specs.Making.{CarriesOut, Effect, LineAt, With, WithAll}
@@ -101,12 +101,12 @@ IsNotClaimed old new path _ = ⊥
 -- or it is not, which is the end.
 abbrev pub Claiming : List ℕ → Bool → (List ℕ → Bool → Effect → Type 0) → Effect → End → Type 0
 Claiming path wanted Does x e =
-    ((bytes : List ℕ) × (is_held : Bool) × IsRead x.old path bytes × IsLockWanted wanted is_held × Does bytes is_held (record x { old = claimed_by x.old path is_held }))
+    ((bytes : List ℕ) × (is_held : Bool) × IsRead x.old path bytes × IsLockWanted x.old.files wanted is_held × Does bytes is_held (record x { old = claimed_by x.old path is_held }))
     ⊎ (IsNotClaimed x.old x.new path e × (x.after ≡ x.before))
 
--- A claimed file is replaced by these bytes, unless it has them already: then it is not touched, and keeps its time.
+-- A claimed file is replaced by these bytes under its lock, unless it has them already: then it is not touched, and keeps its time.
 abbrev pub KeepsFile : List ℕ → List ℕ → List ℕ → Folder → Folder → Result Unit End → Type 0
-KeepsFile path bytes made old new (Ok _) = ((made ≡ bytes) × (new ≡ old)) ⊎ ((made ≢ bytes) × Adds old new ((path, made) ∷ []) × (new.failures ≡ old.failures))
+KeepsFile path bytes made old new (Ok _) = ((made ≡ bytes) × (new ≡ old)) ⊎ ((made ≢ bytes) × Adds old new ((path, made) ∷ []) × Replaced old new)
 KeepsFile path bytes made old new (Err (end.File at last)) = (at.now ≡ path) × (last.now ≡ []) × (made ≢ bytes)
     × (Adds old new [] ⊎ Adds old new ((path, made) ∷ [])) × (new.failures ≡ counted old.failures)
 KeepsFile path bytes made old new (Err _) = ⊥
@@ -201,9 +201,20 @@ abbrev pub IsWrittenInto : List ℕ → Result (Vec Gotten Global) Refusal → E
 IsWrittenInto folder (Ok files) x e = WritesInto folder files.items x e
 IsWrittenInto folder (Err why) x e = Refuses (refusal_text why) x e
 
+-- A folder has a path that is not empty: with an empty one, files would come into the root.
+abbrev pub IsNoFolder : Effect → End → Type 0
+IsNoFolder x (end.File at last) = (at.now ≡ []) × (last.now ≡ []) × NothingDone x
+IsNoFolder x _ = ⊥
+
+abbrev pub InFolder : List ℕ → Type 0 → Effect → End → Type 0
+InFolder folder Rest x e = ((folder ≢ []) × Rest) ⊎ ((folder ≡ []) × IsNoFolder x e)
+
 -- `get` of all files that match a pattern
+abbrev pub GetsMatching : List ℕ → ℕ → Bool → List ℕ → List ℕ → Effect → Option (List ℕ) → End → Type 0
+GetsMatching image user text pattern folder x wanted e = ReadsImage image (λ bytes. (r : Result (Vec Gotten Global) Refusal) × IsGetAll bytes user pattern text r × IsWrittenInto folder r x e) x wanted e
+
 abbrev pub GetsInto : List ℕ → ℕ → Bool → List ℕ → List ℕ → Effect → Option (List ℕ) → End → Type 0
-GetsInto image user text pattern folder x wanted e = ReadsImage image (λ bytes. (r : Result (Vec Gotten Global) Refusal) × IsGetAll bytes user pattern text r × IsWrittenInto folder r x e) x wanted e
+GetsInto image user text pattern folder x wanted e = InFolder folder (GetsMatching image user text pattern folder x wanted e) x e
 
 -- `get --all`
 abbrev pub GetAllEnds : List ℕ → ℕ → Bool → List ℕ → Effect → Option (List ℕ) → End → Type 0
@@ -221,15 +232,19 @@ abbrev pub kind_of : Bool → DiskKind
 kind_of true = Megabyte
 kind_of false = EightInch
 
--- A blank image is written under the lock of its path, synced before it takes its place; with keep only if there is no file.
+-- A blank image takes its place as a file that was written beside it and synced; with keep only if there is no file.
 abbrev pub BlankIsMade : List ℕ → Bool → List ℕ → Effect → End → Type 0
-BlankIsMade image keep made x end.Done = (x.after ≡ x.before) × Adds x.old x.new ((image, made) ∷ []) × (x.new.failures ≡ x.old.failures) × (keep ≡ true → IsAbsent x.old.files image)
+BlankIsMade image keep made x end.Done = (x.after ≡ x.before) × Adds x.old x.new ((image, made) ∷ []) × Replaced x.old x.new × (keep ≡ true → IsAbsent x.old.files image)
 BlankIsMade image keep made x (end.Refused said) = (string_bytes said ≡ codes "Exists") × NothingDone x × (keep ≡ true) × IsThere x.old.files image
 BlankIsMade image keep made x (end.File at last) = (x.after ≡ x.before) × (at.now ≡ image) × (last.now ≡ []) × (Adds x.old x.new [] ⊎ Adds x.old x.new ((image, made) ∷ [])) × (x.new.failures ≡ counted x.old.failures)
 BlankIsMade image keep made x end.NoMemory = NothingDone x
 BlankIsMade image keep made x _ = ⊥
 
--- `blank`
+-- the effect of what is done once the lock of a path was asked for
+abbrev pub locked_effect : List ℕ → Bool → Effect → Effect
+locked_effect path is_held x = record x { old = record x.old { locked = Some (lock_of path is_held) } }
+
+-- `blank`: the lock of the path is asked for, whether or not there is a file; then the image is made.
 abbrev pub BlankEnds : Bool → Bool → Bool → List ℕ → Effect → Option (List ℕ) → End → Type 0
-BlankEnds mega keep lock image x line e = Warns (λ wanted e. (is_held : Bool) × IsLockWanted lock is_held × (wanted ≡ warnings image 0 (lock && not is_held))
-    × BlankIsMade image keep (concat (blank_image (kind_of mega))) x e) line e
+BlankEnds mega keep lock image x line e = Warns (λ wanted e. (is_held : Bool) × IsLockWanted x.old.files lock is_held × (wanted ≡ warnings image 0 (lock && not is_held))
+    × BlankIsMade image keep (concat (blank_image (kind_of mega))) (locked_effect image is_held x) e) line e

@@ -28,6 +28,7 @@ abbrev pub folder_of : MemoryFiles → Folder
 folder_of m = record {
   files = Some (files_of m);
   failures = m.failures;
+  replacements = m.replacements;
   locked = option_map lock_in m.locked;
   claimed = option_map (λ path. path.items) m.claimed;
   part = option_map part_in m.part;

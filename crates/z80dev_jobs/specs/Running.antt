@@ -24,7 +24,7 @@ use Rattle.z80dev_run.specs.Program.{IsRan}
 -- The image of the disk is claimed, if there is one: these are its bytes and the lines that warn of it. No image is no bytes.
 abbrev pub ClaimsDisk : Option (Bor (List ℕ)) → Bool → Folder → Folder → List ℕ → Option (List ℕ) → Type 0
 ClaimsDisk None wanted old new bytes lines = (new ≡ old) × (bytes ≡ []) × (lines ≡ None)
-ClaimsDisk (Some path) wanted old new bytes lines = (is_held : Bool) × (new ≡ claimed_by old path.now is_held) × IsLockWanted wanted is_held × IsRead old path.now bytes
+ClaimsDisk (Some path) wanted old new bytes lines = (is_held : Bool) × (new ≡ claimed_by old path.now is_held) × IsLockWanted old.files wanted is_held × IsRead old path.now bytes
     × (lines ≡ warnings path.now (length bytes) (wanted && not is_held))
 
 abbrev pub IsDiskNotClaimed : Option (Bor (List ℕ)) → Folder → Folder → End → Type 0

@@ -37,6 +37,7 @@ pub struct MemoryFiles {
     alloc: Global,
     written: Vec<Written>,
     failures: u64,
+    replacements: u64,
     locked: Option<Lock>,
     claimed: Option<Vec<u8>>,
     part: Option<Part>,
@@ -45,12 +46,13 @@ pub struct MemoryFiles {
 impl MemoryFiles {
     /// None yet.
     pub fn new(alloc: Global) -> MemoryFiles
-        ensures { folder_of result ≡ record { files = Some []; failures = 0; locked = None; claimed = None; part = None } }
+        ensures { folder_of result ≡ record { files = Some []; failures = 0; replacements = 0; locked = None; claimed = None; part = None } }
     {
         MemoryFiles {
             alloc,
             written: Vec::new(alloc),
             failures: 0,
+            replacements: 0,
             locked: None,
             claimed: None,
             part: None,
@@ -192,7 +194,10 @@ impl Files for MemoryFiles {
             return Ok(Placed::Exists);
         }
         match self.written.push(part.file) {
-            Ok(()) => Ok(Placed::Done),
+            Ok(()) => {
+                self.replacements = self.replacements.saturating_add(1);
+                Ok(Placed::Done)
+            }
             Err(_) => Err(self.fail()),
         }
     }

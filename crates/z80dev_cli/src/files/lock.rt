@@ -1,20 +1,21 @@
 //! The lock of a file that a command changes.
 
-ghost use Rattle.std.specs.Prelude.{◌≡◌, IfOk, IfSome, string_bytes};
+ghost use Rattle.std.specs.Prelude.{◌≡◌, IfOk, IfSome, None, string_bytes};
 ghost use Rattle.std.proofs.Props.{props};
 ghost use Rattle.z80dev_finish.specs.Files.{IsLockWanted};
 
 use std::alloc::Global;
-use std::fs::{self, File, OpenOptions, TryLockError};
+use std::fs::{self, File, Metadata, OpenOptions, TryLockError};
 use std::io::{self, ErrorKind};
 use std::os::unix::fs::MetadataExt;
 use std::thread::sleep;
 use std::time::Duration;
 use z80dev_finish::Unread;
 
-/// How often the lock is asked for before the command gives up, and how many milliseconds it waits in between: a second together.
+/// How often the lock is asked for before the command gives up. With the pauses in between, that takes a second.
 const ATTEMPTS: u32 = 100;
 
+/// The milliseconds between two attempts.
 const PAUSE: u64 = 10;
 
 /// The names of a file that is to be replaced. They are made when memory can still be refused without harm.
@@ -82,9 +83,14 @@ fn target_of(rt: &HostRuntime, alloc: Global, path: &str) -> Result<String, Unre
 /// Whether the path still names the file that was opened. Whoever replaces a file gives its path to another one.
 pub(crate) fn is_same(rt: &HostRuntime, file: &File, path: &str) -> bool {
     match (file.metadata(), fs::metadata(rt, path)) {
-        (Ok(held), Ok(found)) => held.dev() == found.dev() && held.ino() == found.ino(),
+        (Ok(held), Ok(found)) => is_one_file(&held, &found),
         _ => false,
     }
+}
+
+/// Whether two paths or files are one file.
+pub(crate) fn is_one_file(one: &Metadata, other: &Metadata) -> bool {
+    one.dev() == other.dev() && one.ino() == other.ino()
 }
 
 /// Opens a file for its lock: for writing too where that is allowed, since network file systems give this lock to no reader.
@@ -136,7 +142,7 @@ fn lock_target(
     is_wanted: bool,
     is_read: bool,
 ) -> Result<(Option<File>, bool), Unread>
-    ensures { IfOk result (λ r. IsLockWanted is_wanted r.1) }
+    ensures { IfOk result (λ r. IsLockWanted None is_wanted r.1) }
 {
     if !is_wanted {
         return Ok((None, false));
@@ -159,7 +165,7 @@ pub(crate) fn take_lock(
     is_wanted: bool,
     is_read: bool,
 ) -> Result<HeldLock, Unread>
-    ensures { IfOk result (λ l. (string_bytes l.path ≡ path.now) × IsLockWanted is_wanted l.is_held) }
+    ensures { IfOk result (λ l. (string_bytes l.path ≡ path.now) × IsLockWanted None is_wanted l.is_held) }
 {
     let copy = copy_of(alloc, path)?;
     let names = Names {

@@ -57,7 +57,7 @@ impl Part {
         match self.file.sync_all() {
             Ok(()) => {}
             // A pipe or a terminal has nothing to sync.
-            Err(error) if matches!(self.place, Place::There) && is_of_no_use(&error) => {}
+            Err(error) if matches!(self.place, Place::There) && cannot_sync(&error) => {}
             Err(_) => return Err(WriteFailed),
         }
         self.is_synced = true;
@@ -132,7 +132,7 @@ fn link_part(rt: &HostRuntime, part: &str, target: &str) -> Result<Placed, Write
     }
 }
 
-/// Waits until a new name of a file in its folder has reached the device. Not every file system can say so for a folder.
+/// Waits until a new name of a file in its folder has reached the device. Some file systems cannot sync a folder; that is no error.
 fn sync_folder(rt: &HostRuntime, target: &str) -> Result<(), WriteFailed> {
     let folder = match Path::new(target).parent() {
         Some(folder) if !folder.as_str().is_empty() => folder.as_str(),
@@ -144,13 +144,13 @@ fn sync_folder(rt: &HostRuntime, target: &str) -> Result<(), WriteFailed> {
     };
     match synced {
         Ok(()) => Ok(()),
-        Err(error) if is_of_no_use(&error) => Ok(()),
+        Err(error) if cannot_sync(&error) => Ok(()),
         Err(_) => Err(WriteFailed),
     }
 }
 
-/// Whether a folder cannot be synced, or not be opened by this user, at all.
-fn is_of_no_use(error: &io::Error) -> bool {
+/// Whether a sync failed because this file or folder cannot be synced at all, or this user may not open it.
+fn cannot_sync(error: &io::Error) -> bool {
     matches!(
         error.kind(),
         ErrorKind::InvalidInput | ErrorKind::Unsupported | ErrorKind::PermissionDenied
@@ -190,14 +190,25 @@ pub(crate) fn write_part(
     }
 }
 
+/// Writes the bytes to the file itself, at its end or from its beginning on, and returns it.
+pub(crate) fn write_through(
+    rt: &HostRuntime,
+    path: &str,
+    bytes: &[u8],
+    at_end: bool,
+) -> Result<File, WriteFailed> {
+    let Ok(file) = OpenOptions::new().write(true).append(at_end).open(rt, path) else {
+        return Err(WriteFailed);
+    };
+    put(&mut WatchedSink::new(&file), bytes)?;
+    Ok(file)
+}
+
 /// Writes the bytes to a device or a pipe.
 fn write_there(rt: &HostRuntime, names: Names, bytes: &[u8]) -> Result<Part, WriteFailed>
     ensures { IfOk result (λ p. (p.names ≡ names) × (p.is_synced ≡ false)) }
 {
-    let Ok(file) = OpenOptions::new().write(true).open(rt, &names.target) else {
-        return Err(WriteFailed);
-    };
-    put(&mut WatchedSink::new(&file), bytes)?;
+    let file = write_through(rt, &names.target, bytes, false)?;
     Ok(Part {
         names,
         place: Place::There,

@@ -24,12 +24,12 @@ ReadsImageFile old new path (Ok image) = (new ≡ old) × IsRead old path image.
 ReadsImageFile old new path (Err e) = IsNotRead old new path e
 
 abbrev pub ClaimsImage : Folder → Folder → List ℕ → Bool → Result Image End → Type 0
-ClaimsImage old new path wanted (Ok image) = (is_held : Bool) × (new ≡ claimed_by old path is_held) × IsLockWanted wanted is_held × IsRead old path image.bytes.items
+ClaimsImage old new path wanted (Ok image) = (is_held : Bool) × (new ≡ claimed_by old path is_held) × IsLockWanted old.files wanted is_held × IsRead old path image.bytes.items
     × (lines_of image ≡ warnings path (length image.bytes.items) (wanted && not is_held))
 ClaimsImage old new path wanted (Err e) = IsNotClaimed old new path e
 
 abbrev pub LocksPath : Folder → Folder → List ℕ → Bool → Result Bool End → Type 0
-LocksPath old new path wanted (Ok is_held) = (new ≡ record old { locked = Some (lock_of path is_held) }) × IsLockWanted wanted is_held
+LocksPath old new path wanted (Ok is_held) = (new ≡ record old { locked = Some (lock_of path is_held) }) × IsLockWanted old.files wanted is_held
 LocksPath old new path wanted (Err (end.File at last)) = (at.now ≡ path) × (last.now ≡ []) × FailsSo old new
 LocksPath old new path wanted (Err end.NoMemory) = IsUntouched old new
 LocksPath old new path wanted (Err _) = ⊥

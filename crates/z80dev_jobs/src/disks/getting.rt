@@ -3,7 +3,7 @@
 ghost use Rattle.std.specs.Prelude.{◌≡◌, ◌<◌, IfOk, List, Some, length, map, ℕ, string_bytes};
 ghost use Rattle.cpm_directory.specs.declared.entry.TheConstants.{USERS};
 ghost use Rattle.streams.specs.Stream.{Stream};
-ghost use Rattle.z80dev_jobs.specs.Disks.{GetAllEnds, GetEnds, GetsInto, GetsNamed, path_in};
+ghost use Rattle.z80dev_jobs.specs.Disks.{GetAllEnds, GetEnds, GetsInto, GetsMatching, GetsNamed, path_in};
 ghost use Rattle.z80dev_jobs.specs.Making.{effect_of};
 ghost use Rattle.z80dev_jobs.specs.Private.Images.{WritesAll};
 ghost use Rattle.z80dev_jobs.specs.Private.Steps.{EndsWarned, EndsWith};
@@ -49,7 +49,31 @@ fn write_into<'a, F: Files>(
     Ok(())
 }
 
-/// Gets the files of a user that match a pattern into a folder.
+/// Gets the files of a user that match a pattern into a folder, whose path is not empty.
+fn get_matching<'a, F: Files>(
+    alloc: Global,
+    image: &'a str,
+    user: u8,
+    text: bool,
+    pattern: &[u8; 11],
+    folder: &str,
+    files: &mut F,
+) -> Result<Option<String>, End<'a>>
+    requires user { user < USERS }
+    ensures { (o : Stream) → EndsWarned (GetsMatching image.now user text pattern.now folder.now (effect_of (F.folder files.old) (F.folder files.new) o o)) result }
+{
+    let read = read_image(alloc, image, files)?;
+    match get_all(alloc, &read.bytes, user, pattern, text) {
+        Ok(gotten) => {
+            let paths = paths_in(alloc, folder, &gotten)?;
+            write_into(folder, paths, &gotten, files)?;
+            Ok(read.warnings)
+        }
+        Err(why) => Err(refusal_end(alloc, why)),
+    }
+}
+
+/// Gets the files of a user that match a pattern into a folder. An empty path names no folder: with it, the files would come into the root.
 fn get_into<'a, F: Files>(
     alloc: Global,
     image: &'a str,
@@ -62,15 +86,13 @@ fn get_into<'a, F: Files>(
     requires user { user < USERS }
     ensures { (o : Stream) → EndsWarned (GetsInto image.now user text pattern.now folder.now (effect_of (F.folder files.old) (F.folder files.new) o o)) result }
 {
-    let read = read_image(alloc, image, files)?;
-    match get_all(alloc, &read.bytes, user, pattern, text) {
-        Ok(gotten) => {
-            let paths = paths_in(alloc, folder, &gotten)?;
-            write_into(folder, paths, &gotten, files)?;
-            Ok(read.warnings)
-        }
-        Err(why) => Err(refusal_end(alloc, why)),
+    if folder.is_empty() {
+        return Err(End::File {
+            path: "",
+            ending: "",
+        });
     }
+    get_matching(alloc, image, user, text, pattern, folder, files)
 }
 
 /// Gets all files of a user into a folder.

@@ -1,10 +1,10 @@
 use Rattle.std.proofs.Common.{Err, Ok, subst}
 use Rattle.z80dev_disk.specs.Get.{IsGetAll}
-use Rattle.z80dev_jobs.specs.Disks.{GetsInto, Warns}
+use Rattle.z80dev_jobs.specs.Disks.{GetsMatching, Warns}
 use Rattle.z80dev_jobs.specs.Making.{effect_of}
 use Rattle.z80dev_jobs.specs.Private.Images.{WritesAll}
 use Rattle.z80dev_jobs.proofs.Images.{gets_refused, gets_stopped, passed_on}
-use Rattle.z80dev_jobs.proofs.disks.getting.get_into.Goals as goal
+use Rattle.z80dev_jobs.proofs.disks.getting.get_matching.Goals as goal
 
 pub returns : goal.returns
 returns g c = λ o.
@@ -15,7 +15,7 @@ pub returns-in_err-write_into-in-Ok : goal.returns-in_err-write_into-in-Ok
 returns-in_err-write_into-in-Ok g c = λ o.
     let e = c.in_err-write_into-in-Ok.field-0.0 in
     let x = effect_of (g.F.Files.folder c.args.files.now) (g.F.Files.folder c.write_into.new.files) o o in
-    passed_on (Warns (GetsInto c.args.image.now c.args.user c.args.text c.args.pattern.now c.args.folder.now x)) e c.from_residual-in_err-write_into-in-Ok.result c.from_residual-in_err-write_into-in-Ok.ensures.1
+    passed_on (Warns (GetsMatching c.args.image.now c.args.user c.args.text c.args.pattern.now c.args.folder.now x)) e c.from_residual-in_err-write_into-in-Ok.result c.from_residual-in_err-write_into-in-Ok.ensures.1
     (gets_stopped c.args.image.now c.args.user c.args.text c.args.pattern.now c.args.folder.now (g.F.Files.folder c.args.files.now) (g.F.Files.folder c.read_image.new.files) (g.F.Files.folder c.write_into.new.files) o c.in_ok-read.read c.in-Ok.gotten e
     c.in_ok-read.ensures (subst (λ b. IsGetAll b c.args.user c.args.pattern.now c.args.text (Ok c.in-Ok.gotten)) c.deref.ensures.value c.in-Ok.ensures.answer)
     (subst (λ l. WritesAll c.args.folder.now l (g.F.Files.folder c.read_image.new.files) (g.F.Files.folder c.write_into.new.files) (Err e)) c.deref-in-Ok-2.ensures.value c.in_err-write_into-in-Ok.ensures))
