@@ -63,8 +63,9 @@ records of 128 bytes, then RO if it is read-only and SYS if it is a system file.
 With --long, also prints its bytes, directory entries and blocks, and at the end
 what is free. Writes nothing.
 
-With NAME, prints only the files that match: ? stands for any character, and *
-for the rest of the name or of the type.
+With NAME, prints only the files that match: ? stands for any character, and
+for none at the end of the name or of the type; * stands for the rest of either.
+That no file matches is an error.
 
 Example: z80dev dir a.img
 prints lines such as 0 GAME.COM 3.
@@ -176,10 +177,11 @@ Example: z80dev check-disk a.img";
 pub(crate) const BLANK: &str =
     r"Writes IMG: an eight inch disk, single density, of 256,256 bytes, or with --mega
 one of 1,048,576 bytes. If IMG exists, it is replaced without a warning, and the
-files on it are lost. With --keep, an IMG that exists stays as it is, and there
-is a line `error: Exists`. Prints nothing.
+files on it are lost, read-only ones too. With --keep, an IMG that exists stays
+as it is, and there is a line `error: Exists`. Prints nothing.
 
-IMG is locked and replaced as `z80dev put --help` explains.
+IMG is locked and replaced as `z80dev put --help` explains, also if it is blank
+already.
 
 Example: z80dev blank --keep a.img";
 
