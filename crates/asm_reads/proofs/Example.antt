@@ -18,7 +18,7 @@ use Rattle.asm_piece.specs.Made as made
 use Rattle.asm_scan.specs.declared.token.Kind.{Kind}
 use Rattle.asm_scan.specs.declared.token.Mark.{Mark}
 use Rattle.asm_scan.specs.Tokens.{Lexeme}
-use Rattle.z80_words.specs.Named.{mnemonic_named, name_named}
+use Rattle.z80_form.specs.Named.{mnemonic_named, name_named}
 use Rattle.z80_form.specs.Spelling.{instruction_of}
 use Rattle.asm_reads.specs.Linked.{filled}
 use Rattle.asm_reads.specs.Spelled.{IsSpelled}

@@ -1,2 +1,2 @@
 pub mod Finite
-mod Lookup
+pub mod Lookup

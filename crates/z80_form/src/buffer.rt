@@ -14,7 +14,7 @@ pub(crate) struct Buffer {
 
 impl Model for Buffer {
     ghost use Rattle.std.specs.Prelude.{◌≤◌, List, ℕ, take};
-    ghost use Rattle.z80_words.specs.declared.buffer.TheConstants.{LONGEST};
+    ghost use Rattle.z80_form.specs.declared.buffer.TheConstants.{LONGEST};
 
     ghost Value = { List ℕ };
 
@@ -25,8 +25,8 @@ impl Model for Buffer {
 
 impl Buffer {
     ghost use Rattle.std.specs.Prelude.{◌≡◌, ◌≤◌, ◌<◌, IfSome, length, None, ◌↔◌, OnSome};
-    ghost use Rattle.z80_words.specs.Words.{upper};
-    ghost use Rattle.z80_words.specs.declared.buffer.TheConstants.{LONGEST};
+    ghost use Rattle.z80_form.specs.Words.{upper};
+    ghost use Rattle.z80_form.specs.declared.buffer.TheConstants.{LONGEST};
 
     /// The word in upper case; None where it is longer than any that is looked for.
     pub(crate) fn upper(word: &[u8]) -> Option<Buffer>

@@ -1,5 +1,5 @@
-use Rattle.z80_words.proofs.laws.named.Goals as goal
-use Rattle.z80_words.proofs.Lookup.{mnemonic_spelled, name_spelled}
+use Rattle.z80_form.proofs.laws.words.named.Goals as goal
+use Rattle.z80_form.proofs.Words.Lookup.{mnemonic_spelled, name_spelled}
 
 pub returns-clause-mnemonic : goal.returns-clause-mnemonic
 returns-clause-mnemonic c = mnemonic_spelled

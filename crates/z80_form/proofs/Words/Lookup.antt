@@ -6,11 +6,11 @@ use Rattle.std.proofs.lemmas.Slice.Eq.{bytes_eq-Decides}
 use Rattle.std.proofs.lemmas.Bool.{cases_Bool, leb-true}
 use Rattle.std.proofs.lemmas.List.{length-map}
 use Rattle.std.specs.Char.{to_ascii_uppercase}
-use Rattle.z80_words.specs.Types.{Name, Mnemonic}
-use Rattle.z80_words.specs.Words.{upper, word, operand_word}
-use Rattle.z80_words.specs.Named.{each_mnemonic, mnemonic_named, each_name, name_named}
-use Rattle.z80_words.specs.Private.Lists.{mnemonic_read, name_read}
-use Rattle.z80_words.proofs.Finite.{names, mnemonics}
+use Rattle.z80_form.specs.Types.{Name, Mnemonic}
+use Rattle.z80_form.specs.Words.{upper, word, operand_word}
+use Rattle.z80_form.specs.Named.{each_mnemonic, mnemonic_named, each_name, name_named}
+use Rattle.z80_form.specs.Private.Lists.{mnemonic_read, name_read}
+use Rattle.z80_form.proofs.Words.Finite.{names, mnemonics}
 
 -- What is found among some by its word has that word.
 word_of_found : {A : Type 0} (spell : A → List ℕ) (all : List A) (name : List ℕ) (a : A)

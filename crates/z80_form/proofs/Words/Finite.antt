@@ -1,7 +1,7 @@
 -- Tests over the words.
 use Rattle.std.proofs.Common.{◌≡◌, List, [], ◌∷◌, ap, get_or}
 use Rattle.z80_instr.proofs.Finite.{Finite, ◌⊗◌, operations, rotations, block_operations, block_steps}
-use Rattle.z80_words.specs.Types.{Name, Mnemonic}
+use Rattle.z80_form.specs.Types.{Name, Mnemonic}
 
 abbrev pub names_of : (X : Type 0) → (Name → X) → List X
 names_of X f = f Name.A ∷ f Name.B ∷ f Name.C ∷ f Name.D ∷ f Name.E ∷ f Name.H ∷ f Name.L ∷ f Name.I ∷ f Name.R ∷ f Name.Af ∷ f Name.OtherAf ∷ f Name.Bc ∷ f Name.De ∷ f Name.Hl ∷ f Name.Ix ∷ f Name.Iy ∷ f Name.Sp ∷ f Name.Nz ∷ f Name.Z ∷ f Name.Nc ∷ f Name.Po ∷ f Name.Pe ∷ f Name.P ∷ f Name.M ∷ []

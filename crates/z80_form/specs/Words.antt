@@ -7,7 +7,7 @@ use Rattle.z80_instr.specs.declared.AluOperation.{AluOperation}
 use Rattle.z80_instr.specs.declared.Rotation.{Rotation}
 use Rattle.z80_instr.specs.declared.BlockOperation.{BlockOperation}
 use Rattle.z80_instr.specs.declared.BlockStep.{BlockStep}
-use Rattle.z80_words.specs.Types.{Mnemonic, Name}
+use Rattle.z80_form.specs.Types.{Mnemonic, Name}
 
 -- a word's letters in upper case; other bytes stay
 abbrev pub upper : List ℕ → List ℕ

@@ -1,10 +1,10 @@
 //! The words that are operands.
 
 ghost use Rattle.std.specs.Prelude.{◌≡◌, ◌↔◌, Some};
-ghost use Rattle.z80_words.specs.Types.{Name};
-ghost use Rattle.z80_words.specs.Words.{upper, operand_word};
-ghost use Rattle.z80_words.specs.Named.{name_named};
-ghost use Rattle.z80_words.specs.Private.Lists.{name_read};
+ghost use Rattle.z80_form.specs.Types.{Name};
+ghost use Rattle.z80_form.specs.Words.{upper, operand_word};
+ghost use Rattle.z80_form.specs.Named.{name_named};
+ghost use Rattle.z80_form.specs.Private.Lists.{name_read};
 
 use crate::buffer::Buffer;
 

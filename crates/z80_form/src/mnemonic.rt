@@ -1,10 +1,10 @@
 //! The words that name operations.
 
 ghost use Rattle.std.specs.Prelude.{◌≡◌, ◌∷◌, ◌↔◌, Some};
-ghost use Rattle.z80_words.specs.Types.{Mnemonic};
-ghost use Rattle.z80_words.specs.Words.{upper, word};
-ghost use Rattle.z80_words.specs.Named.{mnemonic_named};
-ghost use Rattle.z80_words.specs.Private.Lists.{mnemonic_read};
+ghost use Rattle.z80_form.specs.Types.{Mnemonic};
+ghost use Rattle.z80_form.specs.Words.{upper, word};
+ghost use Rattle.z80_form.specs.Named.{mnemonic_named};
+ghost use Rattle.z80_form.specs.Private.Lists.{mnemonic_read};
 
 use crate::buffer::Buffer;
 use z80_instr::{AluOperation, BlockOperation, BlockStep, Rotation};

@@ -1,8 +1,8 @@
 use Rattle.std.proofs.Common.{◌≡◌, ◌∙◌, ap, sym, refl}
-use Rattle.z80_words.specs.Named.{name_named}
-use Rattle.z80_words.specs.Private.Lists.{name_read}
-use Rattle.z80_words.proofs.name.name_of.Goals as goal
-use Rattle.z80_words.proofs.Lookup.{name_named_is, name_spelled, long_name}
+use Rattle.z80_form.specs.Named.{name_named}
+use Rattle.z80_form.specs.Private.Lists.{name_read}
+use Rattle.z80_form.proofs.name.name_of.Goals as goal
+use Rattle.z80_form.proofs.Words.Lookup.{name_named_is, name_spelled, long_name}
 
 read : (c : goal.After-read) → c.read.result ≡ name_named c.args.word.now
 read c = c.read.ensures ∙ ap name_read (c.as_slice.ensures ∙ c.in_ok-buffer.ensures.short) ∙ sym (name_named_is c.args.word.now)

@@ -1,8 +1,8 @@
 use Rattle.std.proofs.Common.{◌≡◌, ◌∙◌, ap, sym, refl}
-use Rattle.z80_words.specs.Named.{mnemonic_named}
-use Rattle.z80_words.specs.Private.Lists.{mnemonic_read}
-use Rattle.z80_words.proofs.mnemonic.mnemonic_of.Goals as goal
-use Rattle.z80_words.proofs.Lookup.{mnemonic_named_is, mnemonic_spelled, long_mnemonic}
+use Rattle.z80_form.specs.Named.{mnemonic_named}
+use Rattle.z80_form.specs.Private.Lists.{mnemonic_read}
+use Rattle.z80_form.proofs.mnemonic.mnemonic_of.Goals as goal
+use Rattle.z80_form.proofs.Words.Lookup.{mnemonic_named_is, mnemonic_spelled, long_mnemonic}
 
 read : (c : goal.After-read) → c.read.result ≡ mnemonic_named c.args.name.now
 read c = c.read.ensures ∙ ap mnemonic_read (c.as_slice.ensures ∙ c.in_ok-buffer.ensures.short) ∙ sym (mnemonic_named_is c.args.name.now)

@@ -7,8 +7,8 @@ use Rattle.z80_instr.specs.declared.AluOperation.{AluOperation}
 use Rattle.z80_instr.specs.declared.Rotation.{Rotation}
 use Rattle.z80_instr.specs.declared.BlockOperation.{BlockOperation}
 use Rattle.z80_instr.specs.declared.BlockStep.{BlockStep}
-use Rattle.z80_words.specs.Types.{Name, Mnemonic}
-use Rattle.z80_words.specs.Words.{upper, word, operand_word}
+use Rattle.z80_form.specs.Types.{Name, Mnemonic}
+use Rattle.z80_form.specs.Words.{upper, word, operand_word}
 
 abbrev pub each_mnemonic : List Mnemonic
 each_mnemonic =
