@@ -1,7 +1,7 @@
 use Rattle.std.proofs.Common.{arith}
-use Rattle.asm_distance.specs.Private.Sums.{statements_of}
-use Rattle.asm_distance.proofs.Sums.{pushed, summed}
-use Rattle.asm_distance.proofs.layout.Layout.pass.Goals as goal
+use Rattle.asm_value.specs.Private.Sums.{statements_of}
+use Rattle.asm_value.proofs.Sums.{pushed, summed}
+use Rattle.asm_value.proofs.layout.Layout.pass.Goals as goal
 
 pub invariant_of-self-in-Sized : goal.invariant_of-self-in-Sized
 invariant_of-self-in-Sized c =

@@ -1,8 +1,8 @@
 -- How far apart statements lie.
 use Rattle.std.specs.Prelude.{◌≡◌, ℕ, suc, ◌+◌, ◌-◌, ◌%◌, ◌||◌, Bool, true, false, List, Some, if◌then◌else◌, length, take, drop, slice_get, nat_lt, nat_le}
 use Rattle.std.specs.List.{list_any, sum_by}
-use Rattle.asm_distance.specs.declared.statement.Statement.{Statement}
-use Rattle.asm_distance.specs.declared.worth.Worth.{Worth}
+use Rattle.asm_value.specs.declared.statement.Statement.{Statement}
+use Rattle.asm_value.specs.declared.worth.Worth.{Worth}
 use Rattle.asm_value.specs.Arithmetic.{modulus}
 
 abbrev pub is_relaxable : Statement → Bool

@@ -1,6 +1,6 @@
 use Rattle.std.proofs.Common.{◌∙◌}
-use Rattle.asm_distance.proofs.Sums.{gap_distance}
-use Rattle.asm_distance.proofs.layout.Layout.distance.Goals as goal
+use Rattle.asm_value.proofs.Sums.{gap_distance}
+use Rattle.asm_value.proofs.layout.Layout.distance.Goals as goal
 
 pub returns-in-Some-Some : goal.returns-in-Some-Some
 returns-in-Some-Some c =

@@ -6,12 +6,12 @@ use Rattle.std.proofs.Math.Seq.{take-length}
 use Rattle.std.proofs.lemmas.Option.{slice_get-get_or, slice_get_within, get_or_from_slice_get}
 use Rattle.std.proofs.lemmas.List.Sums.{sum_by-cons, sum_by_push, sum_by-take-drop}
 use Rattle.std.proofs.lemmas.Bool.{eq-eqb, cases_lt, eqb-true, le-ltb, leb-true, leb-false}
-use Rattle.asm_distance.specs.Types.{Statement, Worth}
-use Rattle.asm_distance.specs.declared.layout.Before.{Before}
-use Rattle.asm_distance.specs.declared.layout.Passed.{Passed}
+use Rattle.asm_value.specs.Types.{Statement, Worth}
+use Rattle.asm_value.specs.declared.layout.Before.{Before}
+use Rattle.asm_value.specs.declared.layout.Passed.{Passed}
 use Rattle.asm_value.specs.Arithmetic.{modulus}
-use Rattle.asm_distance.specs.Distances.{is_relaxable, is_unsized, bytes_of, between, bytes, backwards, distance}
-use Rattle.asm_distance.specs.Private.Sums.{IsBefore, AreSummed, statements_of, gap}
+use Rattle.asm_value.specs.Distances.{is_relaxable, is_unsized, bytes_of, between, bytes, backwards, distance}
+use Rattle.asm_value.specs.Private.Sums.{IsBefore, AreSummed, statements_of, gap}
 
 split : (f : Statement → ℕ) (s : List Statement) (low high : ℕ) → low ≤ high → sum_by f (take high s) ≡ sum_by f (take low s) + sum_by f (between s low high)
 split f s low high h =

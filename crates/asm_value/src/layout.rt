@@ -1,9 +1,9 @@
 //! Statements in order, and the distances between them.
 
 ghost use Rattle.std.specs.Prelude.{◌≡◌, ◌++◌, ◌∷◌, [], List, IfOk, OnOk, OnErr, MatchOption, ◌<◌, ◌≤◌, length, take};
-ghost use Rattle.asm_distance.specs.declared.statement.Statement.{Statement};
-ghost use Rattle.asm_distance.specs.Distances.{distance, some_distance};
-ghost use Rattle.asm_distance.specs.Private.Sums.{IsBefore, gap};
+ghost use Rattle.asm_value.specs.declared.statement.Statement.{Statement};
+ghost use Rattle.asm_value.specs.Distances.{distance, some_distance};
+ghost use Rattle.asm_value.specs.Private.Sums.{IsBefore, gap};
 
 use crate::statement::Statement;
 use crate::worth::Worth;
@@ -49,8 +49,8 @@ pub struct Layout {
 
 impl Model for Layout {
     ghost use Rattle.std.specs.Prelude.{List, map};
-    ghost use Rattle.asm_distance.specs.declared.statement.Statement.{Statement};
-    ghost use Rattle.asm_distance.specs.Private.Sums.{AreSummed};
+    ghost use Rattle.asm_value.specs.declared.statement.Statement.{Statement};
+    ghost use Rattle.asm_value.specs.Private.Sums.{AreSummed};
 
     ghost Value = { List Statement };
 

@@ -1,12 +1,12 @@
 -- What the code keeps of the statements that stand before a place.
 use Rattle.std.specs.Prelude.{◌≡◌, ℕ, ◌+◌, ◌-◌, ◌%◌, ◌==◌, List, Some, if◌then◌else◌, map, take, slice_get}
 use Rattle.std.specs.List.{count_by, sum_by}
-use Rattle.asm_distance.specs.declared.statement.Statement.{Statement}
-use Rattle.asm_distance.specs.declared.worth.Worth.{Worth}
-use Rattle.asm_distance.specs.declared.layout.Before.{Before}
-use Rattle.asm_distance.specs.declared.layout.Passed.{Passed}
+use Rattle.asm_value.specs.declared.statement.Statement.{Statement}
+use Rattle.asm_value.specs.declared.worth.Worth.{Worth}
+use Rattle.asm_value.specs.declared.layout.Before.{Before}
+use Rattle.asm_value.specs.declared.layout.Passed.{Passed}
 use Rattle.asm_value.specs.Arithmetic.{modulus}
-use Rattle.asm_distance.specs.Distances.{is_relaxable, is_unsized, bytes_of}
+use Rattle.asm_value.specs.Distances.{is_relaxable, is_unsized, bytes_of}
 
 pub record IsBefore (statements : List Statement) (before : Before) : Type 0 where
   pub bytes : before.bytes ≡ sum_by bytes_of statements % modulus
