@@ -8,7 +8,7 @@ use Rattle.asm_names.specs.Lines.{Taken}
 use Rattle.asm_rules.specs.Below as program
 use Rattle.asm_source.specs.Read.{taken}
 use Rattle.asm_source.specs.Source.{last_listed}
-use Rattle.asm_texts.specs.Lines.{Numbered}
+use Rattle.asm_text.specs.Lines.{Numbered}
 use Rattle.zmo_module.specs.Modules.{Module}
 use Rattle.asm_module.proofs.Once.{OfLines, equ_fault_same, lines_same, module_same, program_same, state_fault_same}
 use Rattle.asm_module.specs.Assembled.{Assembled, Assembles, HasCause, IsProgram, IsStated, TellsLines, answer, assembled}

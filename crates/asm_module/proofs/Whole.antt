@@ -25,7 +25,7 @@ use Rattle.asm_names.specs.Names.{names}
 use Rattle.asm_source.specs.declared.fault.LineFault.{LineFault}
 use Rattle.asm_source.specs.Read.{IsRead, taken, unread}
 use Rattle.asm_source.specs.Source.{IsSourceText, last_listed}
-use Rattle.asm_texts.specs.Lines.{Numbered}
+use Rattle.asm_text.specs.Lines.{Numbered}
 use Rattle.zmo_module.specs.Modules.{Module}
 use Rattle.asm_module.specs.Assembled.{Assembles, IsRefused, TellsLines, answer}
 use Rattle.asm_module.specs.declared.fault.AsmFault.{AsmFault}

@@ -10,7 +10,7 @@ use Rattle.asm_rules.specs.Below as stated
 use Rattle.asm_rules.specs.Program.{AreAt, program}
 use Rattle.asm_source.specs.Read.{taken}
 use Rattle.asm_source.specs.Source.{last_listed}
-use Rattle.asm_texts.specs.Lines.{Numbered}
+use Rattle.asm_text.specs.Lines.{Numbered}
 use Rattle.zmo_module.specs.declared.module.Module as whole
 use Rattle.zmo_module.specs.Modules.{Module, Statement, module_of}
 use Rattle.asm_module.specs.declared.assembling.Lines as listing

@@ -14,7 +14,7 @@ use Rattle.asm_names.specs.Names.{names}
 use Rattle.asm_source.specs.Read.{taken, unread}
 use Rattle.asm_states.specs.Stated as stated
 use Rattle.asm_states.specs.Stated.{numbered}
-use Rattle.asm_texts.specs.Lines.{Numbered}
+use Rattle.asm_text.specs.Lines.{Numbered}
 use Rattle.zmo_module.specs.Modules.{Module}
 use Rattle.asm_module.specs.declared.fault.AsmFault.{AsmFault}
 use Rattle.asm_module.specs.declared.fault.Why.{Why}

@@ -7,7 +7,7 @@ use Rattle.asm_scan.specs.Tokens.{Lexeme}
 use Rattle.asm_spell.specs.declared.fault.StmtFault.{StmtFault}
 use Rattle.asm_spell.specs.Line.{Line}
 use Rattle.asm_spell.specs.Spelling.{spelled}
-use Rattle.asm_texts.specs.Lines.{Numbered}
+use Rattle.asm_text.specs.Lines.{Numbered}
 use Rattle.asm_names.specs.Lines.{Taken}
 use Rattle.asm_source.specs.declared.fault.LineFault.{LineFault}
 use Rattle.asm_source.specs.Read.{IsRead, read_line, scanned_by, spelled_by, taken, unread, unread_or, with_line}

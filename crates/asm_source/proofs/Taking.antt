@@ -2,7 +2,7 @@
 use Rattle.std.proofs.Common.{◌≡◌, ◌∙◌, sym, ap, refl, ℕ, List, [], ◌∷◌, ◌++◌, Option, Some, None, Result, Ok, Err, append-nil, true, false, is_some}
 use Rattle.std.proofs.lemmas.List.{map-append}
 use Rattle.asm_spell.specs.Line.{Line, line_of}
-use Rattle.asm_texts.specs.Lines.{Numbered}
+use Rattle.asm_text.specs.Lines.{Numbered}
 use Rattle.asm_names.specs.Lines.{lines_of, taken_of}
 use Rattle.asm_names.specs.declared.kind.SourceLine.{SourceLine}
 use Rattle.asm_macro.specs.Ahead.{Ahead, Remains}

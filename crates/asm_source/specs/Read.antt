@@ -6,7 +6,7 @@ use Rattle.asm_scan.specs.Tokens.{Lexeme}
 use Rattle.asm_spell.specs.declared.fault.StmtFault.{StmtFault}
 use Rattle.asm_spell.specs.Line.{Line}
 use Rattle.asm_spell.specs.Spelling.{spelled}
-use Rattle.asm_texts.specs.Lines.{Numbered}
+use Rattle.asm_text.specs.Lines.{Numbered}
 use Rattle.asm_names.specs.Lines.{Taken}
 use Rattle.asm_source.specs.declared.fault.LineFault.{LineFault}
 

@@ -5,7 +5,7 @@ use Rattle.asm_spell.specs.Line.{Line}
 use Rattle.asm_macro.specs.declared.fault.MacroFault.{MacroFault}
 use Rattle.asm_macro.specs.Expands.{IsExpanded}
 use Rattle.asm_macro.specs.Texts.{source_lines}
-use Rattle.asm_texts.specs.Lines.{Numbered}
+use Rattle.asm_text.specs.Lines.{Numbered}
 use Rattle.asm_names.specs.Lines.{Taken, lines_of}
 use Rattle.asm_source.specs.declared.source.SourceText.{SourceText}
 use Rattle.asm_source.specs.Read.{taken, unread}

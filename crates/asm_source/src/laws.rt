@@ -1,7 +1,7 @@
 //! Laws of the lines of a text, as functions that do nothing: their calls bring the clauses.
 
 ghost use Rattle.std.specs.Prelude.{◌≡◌, ℕ, List, None, Some, map, slice_get};
-ghost use Rattle.asm_texts.specs.Lines.{Numbered};
+ghost use Rattle.asm_text.specs.Lines.{Numbered};
 ghost use Rattle.asm_names.specs.Lines.{Taken};
 ghost use Rattle.asm_source.specs.Read.{IsRead, taken, unread};
 

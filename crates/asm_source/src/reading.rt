@@ -5,7 +5,7 @@ ghost use Rattle.asm_macro.specs.Ahead.{seen};
 ghost use Rattle.asm_macro.specs.Kept.{AreOf};
 ghost use Rattle.asm_scan.specs.Tokens.{lexemes};
 ghost use Rattle.asm_spell.specs.Spelling.{spelled};
-ghost use Rattle.asm_texts.specs.Lines.{Numbered};
+ghost use Rattle.asm_text.specs.Lines.{Numbered};
 ghost use Rattle.asm_source.specs.Private.Steps.{IsReading, Reads, ReadsLine, is_memory};
 ghost use Rattle.asm_source.specs.Read as lines;
 

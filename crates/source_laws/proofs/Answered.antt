@@ -6,7 +6,7 @@ use Rattle.asm_expr.specs.Names.{Table}
 use Rattle.asm_spell.specs.declared.fault.StmtFault.{StmtFault}
 use Rattle.asm_spell.specs.Line.{Body, Line}
 use Rattle.asm_spell.specs.Line as line
-use Rattle.asm_texts.specs.Lines.{Numbered}
+use Rattle.asm_text.specs.Lines.{Numbered}
 use Rattle.asm_macro.specs.declared.fault.MacroFault.{MacroFault}
 use Rattle.asm_macro.specs.Expands.{End, Ended, IsExpanded, IsExpansion, Stopped, Whole}
 use Rattle.asm_macro.specs.Texts.{source_lines}

@@ -1,6 +1,6 @@
 -- Each list of sources is a list of programs, or has a first source that is faulty.
 use Rattle.std.proofs.Common.{◌≡◌, ◌⊎◌, inl, inr, refl, ℕ, suc, Bool, List, [], ◌∷◌, Option, Some, None, Result, Ok, Err}
-use Rattle.asm_texts.specs.Lines.{Numbered}
+use Rattle.asm_text.specs.Lines.{Numbered}
 use Rattle.asm_names.specs.Faults.{first}
 use Rattle.asm_source.specs.Read.{taken}
 use Rattle.asm_module.specs.declared.fault.AsmFault.{AsmFault}

@@ -5,7 +5,7 @@ use Rattle.asm_spell.specs.declared.fault.StmtFault.{StmtFault}
 use Rattle.asm_spell.specs.Line.{line_of}
 use Rattle.asm_spell.specs.Line as line
 use Rattle.asm_spell.specs.declared.line.Line as code
-use Rattle.asm_texts.specs.Lines.{Numbered}
+use Rattle.asm_text.specs.Lines.{Numbered}
 use Rattle.asm_names.specs.Lines.{lines_of}
 use Rattle.asm_macro.specs.declared.fault.MacroFault.{MacroFault}
 use Rattle.asm_macro.specs.Expands.{IsExpanded}
