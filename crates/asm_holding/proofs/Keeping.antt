@@ -13,8 +13,8 @@ use Rattle.asm_spell.specs.Spelling.{option_names}
 use Rattle.asm_names.specs.declared.kind.Kind.{Kind}
 use Rattle.asm_names.specs.Lines.{Taken}
 use Rattle.asm_names.specs.Names.{Names, declared, defines, kind_of, names, with_name, with_names}
-use Rattle.asm_equ.specs.Layout.{Layout, next_at}
-use Rattle.asm_equ.specs.Meanings.{externals}
+use Rattle.asm_names.specs.Layout.{Layout, next_at}
+use Rattle.asm_names.specs.Meanings.{externals}
 use Rattle.zmo_module.specs.Rules.{IsLabel, IsObjectName}
 use Rattle.asm_holding.specs.Holding.{labels}
 

@@ -8,7 +8,7 @@ use Rattle.asm_spell.specs.Line.{Line}
 use Rattle.asm_names.specs.declared.kind.Kind.{Kind}
 use Rattle.asm_names.specs.Lines.{Taken}
 use Rattle.asm_names.specs.Names.{Names}
-use Rattle.asm_equ.specs.Layout.{Layout, next_at}
+use Rattle.asm_names.specs.Layout.{Layout, next_at}
 use Rattle.zmo_module.specs.Modules.{Label}
 
 abbrev pub label_in : Layout → List ℕ × Kind → Option Label

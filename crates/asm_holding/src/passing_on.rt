@@ -6,15 +6,14 @@ ghost use Rattle.std.specs.Option.{option_map};
 ghost use Rattle.std.specs.Str.{bytes_eq};
 ghost use Rattle.limits.specs.declared.TheConstants.{MOST_NAMES};
 ghost use Rattle.asm_spell.specs.Line.{line_of, listed_of};
-ghost use Rattle.asm_equ.specs.Layout.{layout_of};
-ghost use Rattle.asm_equ.specs.Meanings.{external_in, externals};
+ghost use Rattle.asm_names.specs.Layout.{layout_of};
+ghost use Rattle.asm_names.specs.Meanings.{external_in, externals};
 ghost use Rattle.asm_names.specs.Lines.{lines_of};
 ghost use Rattle.zmo_module.specs.Modules.{label_of};
 ghost use Rattle.asm_holding.specs.Holding.{begins, entry, entry_name, is_origin, label_in, labels, listed, publics};
 
 use crate::listed::Listed;
-use asm_equ::Layout;
-use asm_names::{Kind, NameTable, SourceLine};
+use asm_names::{Kind, Layout, NameTable, SourceLine};
 use asm_spell::{Body, KeptName, Line};
 use name_key::{KeyMixer, NameKey};
 use std::alloc::{AllocError, Global};

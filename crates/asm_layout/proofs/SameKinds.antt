@@ -24,10 +24,10 @@ use Rattle.asm_names.specs.declared.kind.Kind.{Kind}
 use Rattle.asm_names.specs.Faults.{first, if_so}
 use Rattle.asm_names.specs.Lines.{Taken}
 use Rattle.asm_names.specs.Names.{Names}
-use Rattle.asm_equ.specs.declared.fault.EquFault.{EquFault}
-use Rattle.asm_equ.specs.Circles.{items_at}
-use Rattle.asm_equ.specs.Layout.{Layout}
-use Rattle.asm_equ.specs.Meanings.{Entries, after_rounds, circular, equ_meaning, meaning, meaning_by, table_at, undefined, value_by}
+use Rattle.asm_names.specs.declared.equ_fault.EquFault.{EquFault}
+use Rattle.asm_names.specs.Circles.{items_at}
+use Rattle.asm_names.specs.Layout.{Layout}
+use Rattle.asm_names.specs.Meanings.{Entries, after_rounds, circular, equ_meaning, meaning, meaning_by, table_at, undefined, value_by}
 use Rattle.asm_piece.specs.Sized as sized
 use Rattle.asm_piece.specs.Sized.{IsLike, kind}
 use Rattle.asm_piece.proofs.Likes.{agree_like, items_like, numbers_constant, of_numbers, whole_known}

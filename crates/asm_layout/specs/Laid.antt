@@ -11,7 +11,7 @@ use Rattle.asm_spell.specs.Line.{Body, Line}
 use Rattle.asm_names.specs.Lines.{Taken, placed}
 use Rattle.asm_piece.specs.Made.{ref_of}
 use Rattle.asm_piece.specs.Sized.{sized}
-use Rattle.asm_equ.specs.Layout.{Layout}
+use Rattle.asm_names.specs.Layout.{Layout}
 
 -- Where a JR may grow, one to a label or an external is a relaxable jump.
 abbrev pub may_grow : Bool → Table → Body → Statement → Statement

@@ -4,8 +4,8 @@ ghost use Rattle.std.specs.Prelude.{◌≡◌, ◌≤◌, ℕ, Bool, List, count
 ghost use Rattle.asm_expr.specs.Names.{Table};
 ghost use Rattle.asm_names.specs.Lines.{Taken, has_statement};
 ghost use Rattle.asm_names.specs.Names.{Names};
-ghost use Rattle.asm_equ.specs.Layout.{Layout};
-ghost use Rattle.asm_equ.specs.Meanings.{entries, table_at};
+ghost use Rattle.asm_names.specs.Layout.{Layout};
+ghost use Rattle.asm_names.specs.Meanings.{entries, table_at};
 ghost use Rattle.asm_piece.specs.Sized.{IsLike};
 ghost use Rattle.asm_layout.specs.Laid.{laid, statements};
 

@@ -7,12 +7,11 @@ ghost use Rattle.asm_expr.specs.Names.{found};
 ghost use Rattle.asm_spell.specs.Line.{body_of, line_of};
 ghost use Rattle.asm_piece.specs.Made.{ref_of};
 ghost use Rattle.asm_names.specs.Lines.{has_statement, lines_of};
-ghost use Rattle.asm_equ.specs.Layout.{layout_of};
+ghost use Rattle.asm_names.specs.Layout.{layout_of};
 ghost use Rattle.asm_layout.specs.Laid.{HasFew, IsFewIn, laid, line_sized, may_grow};
 
-use asm_equ::Layout;
 use asm_expr::{Meaning, Names, Statement};
-use asm_names::SourceLine;
+use asm_names::{Layout, SourceLine};
 use asm_piece::size_of;
 use asm_spell::{Body, Branch, Line};
 use std::alloc::{AllocError, Global};

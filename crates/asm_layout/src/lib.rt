@@ -6,5 +6,5 @@
 pub mod laws;
 mod laying;
 
-pub use asm_equ::Layout;
+pub use asm_names::Layout;
 pub use laying::lay;

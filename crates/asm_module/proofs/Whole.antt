@@ -13,7 +13,7 @@ use Rattle.asm_rules.specs.Fitting.{IsReadLine}
 use Rattle.asm_spell.specs.Names.{line_names}
 use Rattle.zmo_module.specs.Rules.{IsObjectName}
 use Rattle.asm_spell.specs.Spelling.{spelled}
-use Rattle.asm_equ.specs.Circles.{TellsCircles}
+use Rattle.asm_names.specs.Circles.{TellsCircles}
 use Rattle.asm_layout.specs.Laid.{HasFew, IsFewIn}
 use Rattle.asm_macro.specs.declared.fault.MacroFault.{MacroFault}
 use Rattle.asm_macro.specs.Expands.{End, IsExpanded, IsExpansion}

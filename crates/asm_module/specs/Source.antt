@@ -3,9 +3,9 @@ use Rattle.std.specs.Prelude.{ℕ, Bool, List, [], ◌∷◌, Option, map, take}
 use Rattle.std.specs.Option.{option_map}
 use Rattle.zmo_module.specs.declared.module.TheConstants.{LONGEST_NAME}
 use Rattle.asm_expr.specs.Names.{Table}
-use Rattle.asm_equ.specs.Layout.{Layout}
-use Rattle.asm_equ.specs.Meanings as equ
-use Rattle.asm_equ.specs.Meanings.{entries, externals, table_at}
+use Rattle.asm_names.specs.Layout.{Layout}
+use Rattle.asm_names.specs.Meanings as equ
+use Rattle.asm_names.specs.Meanings.{entries, externals, table_at}
 use Rattle.asm_layout.specs.Laid.{laid}
 use Rattle.asm_names.specs.Faults as defined
 use Rattle.asm_names.specs.Faults.{first}

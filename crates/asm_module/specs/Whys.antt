@@ -1,5 +1,5 @@
 -- The faults of the parts of a source as those of the whole.
-use Rattle.asm_equ.specs.declared.fault.EquFault.{EquFault}
+use Rattle.asm_names.specs.declared.equ_fault.EquFault.{EquFault}
 use Rattle.asm_macro.specs.declared.fault.MacroFault.{MacroFault}
 use Rattle.asm_names.specs.declared.fault.NameFault.{NameFault}
 use Rattle.asm_source.specs.declared.fault.LineFault.{LineFault}

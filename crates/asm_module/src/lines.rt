@@ -3,7 +3,7 @@
 ghost use Rattle.std.specs.Prelude.{◌≡◌, ◌<◌, ◌^◌, [], ℕ, All, Bool, List, None, IfOk, length, take};
 ghost use Rattle.zmo_module.specs.declared.module.TheConstants.{LONGEST_NAME};
 ghost use Rattle.asm_expr.specs.Names.{found};
-ghost use Rattle.asm_equ.specs.Layout.{layout_of};
+ghost use Rattle.asm_names.specs.Layout.{layout_of};
 ghost use Rattle.asm_layout.specs.Laid.{HasFew};
 ghost use Rattle.asm_names.specs.Faults.{first_fault};
 ghost use Rattle.asm_names.specs.Lines.{lines_of};
@@ -17,10 +17,9 @@ ghost use Rattle.asm_module.specs.Private.Steps.{AnswersLines, States, held};
 
 use crate::fault::{AsmFault, of_equ, of_state};
 use crate::placing::place;
-use asm_equ::{Layout, turns_of};
 use asm_expr::Names;
 use asm_holding::{begins, entry_of, externals_of, labels_of, publics_of};
-use asm_names::{NameTable, SourceLine};
+use asm_names::{Layout, NameTable, SourceLine, turns_of};
 use asm_rules::fit_words;
 use asm_states::{Stated, state_lines};
 use std::alloc::{AllocError, Global};
@@ -100,9 +99,9 @@ pub(crate) fn assemble_lines(
     ensures kept { IfOk result (λ r. IsModule (module_of r.0)) }
     ensures placed { IfOk result (λ r. StatesLines grow (lines_of lines.items) (module_of r.0).statements) }
 {
-    asm_equ::laws::told();
-    asm_equ::laws::valued();
-    asm_equ::laws::refs();
+    asm_names::laws::told();
+    asm_names::laws::valued();
+    asm_names::laws::refs();
     asm_layout::laws::like();
     asm_names::laws::few();
     asm_names::laws::distinct();

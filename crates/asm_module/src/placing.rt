@@ -1,9 +1,9 @@
 //! What names stand for, and where statements stand.
 
 ghost use Rattle.std.specs.Prelude.{◌≡◌, ◌≤◌, [], All, IfOk, None, length};
-ghost use Rattle.asm_order.specs.Order.{IsOrder};
-ghost use Rattle.asm_equ.specs.Circles.{lines_named};
-ghost use Rattle.asm_equ.specs.Layout.{layout_of};
+ghost use Rattle.asm_names.specs.Orders.Order.{IsOrder};
+ghost use Rattle.asm_names.specs.Circles.{lines_named};
+ghost use Rattle.asm_names.specs.Layout.{layout_of};
 ghost use Rattle.asm_layout.specs.Laid.{HasFew};
 ghost use Rattle.asm_names.specs.Faults.{first_fault};
 ghost use Rattle.asm_names.specs.Lines.{lines_of};
@@ -11,10 +11,8 @@ ghost use Rattle.asm_names.specs.Names.{names};
 ghost use Rattle.asm_module.specs.Private.Steps.{IsPlaced};
 ghost use Rattle.asm_module.specs.Source.{no_layout};
 
-use asm_equ::{Layout, SettledNames, settle_names};
 use asm_layout::lay;
-use asm_names::{NameTable, SourceLine};
-use asm_order::Turn;
+use asm_names::{Layout, NameTable, SettledNames, SourceLine, Turn, settle_names};
 use std::alloc::{AllocError, Global};
 
 /// Before anything is known of places.

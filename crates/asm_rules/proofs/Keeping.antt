@@ -11,7 +11,7 @@ use Rattle.asm_spell.specs.Few.{IsFew}
 use Rattle.asm_spell.specs.Line as line
 use Rattle.asm_spell.specs.Line.{Body, Line}
 use Rattle.asm_names.specs.Lines.{Taken, has_statement, is_statement}
-use Rattle.asm_equ.specs.Layout.{Layout, next_at}
+use Rattle.asm_names.specs.Layout.{Layout, next_at}
 use Rattle.asm_piece.specs.Made as made
 use Rattle.asm_piece.specs.Made.{Made, Nothing, Piece, Some_piece, Unknown, made}
 use Rattle.asm_piece.specs.Sized.{TakesFew}

@@ -3,7 +3,7 @@ use Rattle.std.specs.Prelude.{◌≡◌, ◌<◌, ℕ, Bool, List, Option, Some,
 use Rattle.std.specs.List.{AllZip, filter_map}
 use Rattle.asm_expr.specs.Distances.{Step}
 use Rattle.asm_expr.specs.Names.{Table}
-use Rattle.asm_equ.specs.Layout.{Layout}
+use Rattle.asm_names.specs.Layout.{Layout}
 use Rattle.asm_names.specs.Lines.{Taken, placed}
 use Rattle.asm_reads.specs.Linked.{IsLike, IsLinked}
 use Rattle.asm_reads.specs.Pieces.{IsPiece, sized_as, takes}

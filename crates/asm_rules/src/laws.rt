@@ -7,7 +7,7 @@ ghost use Rattle.asm_expr.specs.Names.{AreCounted, Table, found};
 ghost use Rattle.asm_expr.specs.Origins.{Brings, is_valued_name};
 ghost use Rattle.asm_expr.specs.declared.meaning.Meaning.{Meaning};
 ghost use Rattle.asm_names.specs.Lines.{Taken, has_statement};
-ghost use Rattle.asm_equ.specs.Layout.{Layout, next_at};
+ghost use Rattle.asm_names.specs.Layout.{Layout, next_at};
 ghost use Rattle.asm_names.specs.Names.{Names, kind_of};
 ghost use Rattle.asm_states.specs.Stated.{first_fault, numbered};
 ghost use Rattle.asm_stands.specs.Stands.{sizes};

@@ -13,7 +13,7 @@ use Rattle.asm_spell.specs.Line as line
 use Rattle.asm_spell.specs.Line.{Body, Line}
 use Rattle.asm_names.specs.Lines.{Taken}
 use Rattle.asm_names.specs.Names.{Names, kind_of}
-use Rattle.asm_equ.specs.Layout.{Layout}
+use Rattle.asm_names.specs.Layout.{Layout}
 use Rattle.asm_piece.specs.Made as made
 use Rattle.asm_piece.specs.Made.{Made, Piece, jump_by, long_jump, ref_of, short_by, value_cells, word_cells}
 use Rattle.asm_piece.specs.Sized.{IsLike, piece_sized, sized}

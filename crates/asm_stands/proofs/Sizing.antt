@@ -10,25 +10,22 @@ use Rattle.asm_parse.specs.Expression as expression
 use Rattle.asm_parse.specs.Expression.{postfix}
 use Rattle.asm_parse.specs.Source.{Operand, Number, Name, Here}
 use Rattle.asm_expr.specs.declared.answer.Settled.{Settled}
-use Rattle.asm_expr.specs.Below.{Atom}
+use Rattle.asm_expr.specs.Below.{Atom, only, run, source}
 use Rattle.asm_expr.specs.declared.meaning.Meaning.{Meaning}
 use Rattle.asm_expr.specs.Types.{Statement, Worth}
 use Rattle.asm_expr.specs.Distances.{is_unsized}
 use Rattle.asm_expr.specs.Names.{Table, found}
 use Rattle.asm_expr.specs.Origins.{is_number_item, is_number_name}
-use Rattle.asm_expr.specs.Below.{only, run, source}
 use Rattle.asm_expr.specs.Settling.{is_constant_item, is_constant_name, is_known, replaced, settled, worth}
-use Rattle.asm_expr.proofs.Below.{and_parts}
-use Rattle.asm_expr.proofs.Below.{run-one}
+use Rattle.asm_expr.proofs.Below.{and_parts, run-one}
 use Rattle.asm_spell.specs.Line as line
 use Rattle.asm_spell.specs.Line.{Body, Expression, Line}
 use Rattle.asm_names.specs.Lines.{Taken}
 use Rattle.asm_names.specs.Names.{Names, kind_of}
-use Rattle.asm_equ.specs.Layout.{Layout}
+use Rattle.asm_names.specs.Layout.{Layout}
 use Rattle.asm_piece.specs.Made.{AreDefined, Made, made, number_in, ref_of, space_size}
 use Rattle.asm_piece.specs.Sized.{IsLike, jump_sized, size_in, sized, space_sized}
 use Rattle.asm_piece.proofs.Making.{space_made, space_settled}
-use Rattle.std.specs.Prelude.{is_some}
 use Rattle.asm_layout.specs.Laid.{line_sized, may_grow, statements}
 use Rattle.asm_states.specs.Stated.{behind, first_fault, line_fault}
 use Rattle.asm_states.proofs.In_order.{fault_from}

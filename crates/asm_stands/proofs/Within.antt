@@ -6,7 +6,7 @@ use Rattle.std.proofs.lemmas.List.Elements.{filter_map-append}
 use Rattle.std.specs.Prelude.{drop}
 use Rattle.asm_expr.specs.Names.{Table}
 use Rattle.asm_names.specs.Lines.{Taken, placed}
-use Rattle.asm_equ.specs.Layout.{next_at}
+use Rattle.asm_names.specs.Layout.{next_at}
 use Rattle.asm_layout.specs.Laid.{laid, line_sized, statements}
 
 -- past the end stands 0

@@ -9,7 +9,7 @@ ghost use Rattle.asm_expr.specs.Settling.{is_constant_name};
 ghost use Rattle.asm_expr.specs.declared.meaning.Meaning.{Meaning};
 ghost use Rattle.asm_names.specs.Lines.{Taken};
 ghost use Rattle.asm_names.specs.Names.{Names, kind_of};
-ghost use Rattle.asm_equ.specs.Layout.{Layout, next_at};
+ghost use Rattle.asm_names.specs.Layout.{Layout, next_at};
 ghost use Rattle.asm_piece.specs.Sized.{IsLike};
 ghost use Rattle.asm_layout.specs.Laid.{laid, statements};
 ghost use Rattle.asm_states.specs.Stated.{first_fault, numbered};

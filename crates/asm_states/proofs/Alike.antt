@@ -7,7 +7,7 @@ use Rattle.asm_expr.specs.Names.{Table, found}
 use Rattle.asm_names.specs.Faults.{first}
 use Rattle.asm_names.specs.Lines.{Taken, placed}
 use Rattle.asm_names.specs.Names.{Names}
-use Rattle.asm_equ.specs.Layout.{Layout}
+use Rattle.asm_names.specs.Layout.{Layout}
 use Rattle.asm_piece.specs.Made.{made}
 use Rattle.asm_spell.specs.Line as line
 use Rattle.asm_spell.specs.Line.{Body, Line}

@@ -7,9 +7,9 @@ use Rattle.asm_expr.specs.Names.{found}
 use Rattle.asm_names.specs.declared.kind.Kind.{Kind}
 use Rattle.asm_names.specs.Lines.{Taken}
 use Rattle.asm_names.specs.Names.{Names, kind_of}
-use Rattle.asm_equ.specs.declared.settling.SettledNames.{SettledNames}
-use Rattle.asm_equ.specs.Layout.{Layout}
-use Rattle.asm_equ.specs.Settles.{Settles}
+use Rattle.asm_names.specs.declared.settling.SettledNames.{SettledNames}
+use Rattle.asm_names.specs.Layout.{Layout}
+use Rattle.asm_names.specs.Settles.{Settles}
 
 none_there : (p : List ℕ → Bool) (f : List ℕ × Kind → Meaning) (names : Names) → lookup p (map (λ d. (d.0, f d)) names) ≡ None → lookup p names ≡ None
 none_there p f [] is = refl

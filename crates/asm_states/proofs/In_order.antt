@@ -8,7 +8,7 @@ use Rattle.asm_names.specs.declared.kind.SourceLine.{SourceLine}
 use Rattle.asm_names.specs.Faults.{first}
 use Rattle.asm_names.specs.Lines.{Taken, lines_of, taken_of}
 use Rattle.asm_names.specs.Names.{Names}
-use Rattle.asm_equ.specs.Layout.{Layout, next_at}
+use Rattle.asm_names.specs.Layout.{Layout, next_at}
 use Rattle.zmo_module.specs.Modules.{Statement, statement_of}
 use Rattle.asm_states.specs.declared.fault.StateFault.{StateFault}
 use Rattle.asm_states.specs.declared.stating.Stated.{Stated}

@@ -14,7 +14,7 @@ use Rattle.asm_names.specs.Names.{Names, kind_of}
 use Rattle.asm_piece.specs.Made.{AreDefined}
 use Rattle.asm_piece.specs.Private.Defined.{fill_defined, is_defined, operands_defined, value_defined}
 use Rattle.asm_piece.proofs.Passing.{passes}
-use Rattle.asm_equ.specs.Circles.{names_in}
+use Rattle.asm_names.specs.Circles.{names_in}
 use Rattle.asm_states.specs.Faults.{used, value_names}
 use Rattle.asm_states.specs.Private.Missing.{fill_misses, is_missing, item_misses, tree_misses, value_misses}
 

@@ -9,7 +9,7 @@ use Rattle.asm_spell.specs.Line.{Body, Value}
 use Rattle.asm_names.specs.declared.kind.Kind.{Kind}
 use Rattle.asm_names.specs.Faults.{first, if_so}
 use Rattle.asm_names.specs.Names.{Names, kind_of}
-use Rattle.asm_equ.specs.Circles.{names_in}
+use Rattle.asm_names.specs.Circles.{names_in}
 use Rattle.asm_piece.specs.Made.{Made, made}
 use Rattle.asm_states.specs.declared.fault.StateFault.{StateFault}
 

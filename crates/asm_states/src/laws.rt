@@ -4,9 +4,9 @@ ghost use Rattle.std.specs.Prelude.{◌≡◌, ℕ, Bool, List, None};
 ghost use Rattle.asm_expr.specs.Names.{Table, found};
 ghost use Rattle.asm_names.specs.Lines.{Taken};
 ghost use Rattle.asm_names.specs.Names.{Names, kind_of};
-ghost use Rattle.asm_equ.specs.declared.settling.SettledNames.{SettledNames};
-ghost use Rattle.asm_equ.specs.Layout.{Layout};
-ghost use Rattle.asm_equ.specs.Settles.{Settles};
+ghost use Rattle.asm_names.specs.declared.settling.SettledNames.{SettledNames};
+ghost use Rattle.asm_names.specs.Layout.{Layout};
+ghost use Rattle.asm_names.specs.Settles.{Settles};
 ghost use Rattle.asm_states.specs.Stated.{first_fault, numbered};
 
 /// What lines state, and what they have against them, hangs on what names stand for and on the statements alone.

@@ -9,7 +9,7 @@ pub mod laws;
 mod missing;
 mod stating;
 
-pub use asm_equ::Layout;
+pub use asm_names::Layout;
 pub use fault::StateFault;
 pub use stating::{Stated, state_lines};
 pub use zmo_module::Statement;

@@ -4,14 +4,13 @@ ghost use Rattle.std.specs.Prelude.{◌≡◌, ℕ, List, None};
 ghost use Rattle.asm_expr.specs.Names.{found};
 ghost use Rattle.asm_names.specs.Lines.{lines_of};
 ghost use Rattle.asm_names.specs.Names.{kind_of};
-ghost use Rattle.asm_equ.specs.Layout.{layout_of};
+ghost use Rattle.asm_names.specs.Layout.{layout_of};
 ghost use Rattle.asm_states.specs.Stated.{IsStated};
 
 use crate::fault::StateFault;
 use crate::judging::judge;
-use asm_equ::Layout;
 use asm_expr::Names;
-use asm_names::{NameTable, SourceLine};
+use asm_names::{Layout, NameTable, SourceLine};
 use std::alloc::Global;
 use zmo_module::Statement;
 

@@ -15,9 +15,9 @@ use Rattle.asm_names.specs.Faults as defined
 use Rattle.asm_names.specs.Faults.{first, if_so}
 use Rattle.asm_names.specs.Lines.{Taken, placed}
 use Rattle.asm_names.specs.Names.{Names, names}
-use Rattle.asm_equ.specs.declared.fault.EquFault.{EquFault}
-use Rattle.asm_equ.specs.Circles.{TellsCircles, equ_items, line_named, lines_named}
-use Rattle.asm_equ.specs.Layout.{Layout}
+use Rattle.asm_names.specs.declared.equ_fault.EquFault.{EquFault}
+use Rattle.asm_names.specs.Circles.{TellsCircles, equ_items, line_named, lines_named}
+use Rattle.asm_names.specs.Layout.{Layout}
 use Rattle.asm_source.specs.declared.fault.LineFault.{LineFault}
 use Rattle.asm_source.specs.Read.{taken, unread}
 use Rattle.asm_states.specs.declared.fault.StateFault.{StateFault}

@@ -3,13 +3,13 @@ use Rattle.std.specs.Prelude.{◌≡◌, ℕ, Bool, List, [], ◌∷◌, Option,
 use Rattle.std.specs.Global.{Global}
 use Rattle.zmo_module.specs.declared.module.TheConstants.{LONGEST_NAME}
 use Rattle.asm_expr.specs.Names.{Table}
-use Rattle.asm_order.specs.declared.walk.Turn.{Turn}
-use Rattle.asm_equ.specs.Circles.{TellsCircles}
-use Rattle.asm_equ.specs.declared.layout.Layout as layout
-use Rattle.asm_equ.specs.declared.settling.SettledNames.{SettledNames}
-use Rattle.asm_equ.specs.Layout.{Layout, layout_of}
-use Rattle.asm_equ.specs.Meanings.{externals}
-use Rattle.asm_equ.specs.Settles.{Settles, told}
+use Rattle.asm_names.specs.declared.walk.Turn.{Turn}
+use Rattle.asm_names.specs.Circles.{TellsCircles}
+use Rattle.asm_names.specs.declared.layout.Layout as layout
+use Rattle.asm_names.specs.declared.settling.SettledNames.{SettledNames}
+use Rattle.asm_names.specs.Layout.{Layout, layout_of}
+use Rattle.asm_names.specs.Meanings.{externals}
+use Rattle.asm_names.specs.Settles.{Settles, told}
 use Rattle.asm_names.specs.Faults as defined
 use Rattle.asm_names.specs.Faults.{first}
 use Rattle.asm_names.specs.Lines.{Taken}

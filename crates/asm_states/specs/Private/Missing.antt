@@ -5,7 +5,7 @@ use Rattle.asm_parse.specs.declared.item.Item.{Item}
 use Rattle.asm_parse.specs.Source.{Operand, Name}
 use Rattle.asm_spell.specs.Line.{Expression, Value}
 use Rattle.asm_names.specs.Names.{Names, kind_of}
-use Rattle.asm_equ.specs.Circles.{names_in}
+use Rattle.asm_names.specs.Circles.{names_in}
 use Rattle.asm_states.specs.Faults.{is_label, value_names}
 
 abbrev pub is_missing : Names → List ℕ → Bool

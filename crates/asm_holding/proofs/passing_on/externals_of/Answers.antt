@@ -1,6 +1,6 @@
 use Rattle.std.proofs.Common.{rules, ◌≡◌, ◌<◌, ◌+◌, ◌∙◌, ℕ, Vec, length, map, take, ap}
 use Rattle.std.specs.Global.{Global}
-use Rattle.asm_equ.specs.Meanings.{external_in, externals}
+use Rattle.asm_names.specs.Meanings.{external_in, externals}
 use Rattle.asm_holding.proofs.Collected.{given_more, is_given}
 use Rattle.asm_holding.proofs.passing_on.externals_of.Goals as goal
 use Rattle.asm_holding.proofs.passing_on.externals_of.Goals.{in-Some+in_ok-one+in_ok-put, in_default}

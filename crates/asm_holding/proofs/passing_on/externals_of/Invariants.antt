@@ -1,5 +1,5 @@
 use Rattle.std.proofs.Common.{◌≡◌, map, take}
-use Rattle.asm_equ.specs.Meanings.{externals}
+use Rattle.asm_names.specs.Meanings.{externals}
 use Rattle.asm_holding.proofs.passing_on.externals_of.Given as goal
 
 abbrev pub invariant-loop-at : goal.invariant-loop-at

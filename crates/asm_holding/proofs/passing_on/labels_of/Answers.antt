@@ -1,5 +1,5 @@
 use Rattle.std.proofs.Common.{rules, ◌≡◌, ◌<◌, ◌+◌, ◌∙◌, length, map, take, ap}
-use Rattle.asm_equ.specs.Layout.{layout_of}
+use Rattle.asm_names.specs.Layout.{layout_of}
 use Rattle.zmo_module.specs.Modules.{label_of}
 use Rattle.asm_holding.specs.Holding.{label_in, labels}
 use Rattle.asm_holding.proofs.Collected.{given_more, is_given}

@@ -1,5 +1,5 @@
 use Rattle.std.proofs.Common.{◌≡◌, map, take}
-use Rattle.asm_equ.specs.Layout.{layout_of}
+use Rattle.asm_names.specs.Layout.{layout_of}
 use Rattle.zmo_module.specs.Modules.{label_of}
 use Rattle.asm_holding.specs.Holding.{labels}
 use Rattle.asm_holding.proofs.passing_on.labels_of.Given as goal

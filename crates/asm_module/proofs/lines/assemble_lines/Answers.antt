@@ -1,12 +1,12 @@
 use Rattle.std.proofs.Common.{◌≡◌, ◌∙◌, [], sym, ap, subst, All, None, length, map}
 use Rattle.std.proofs.lemmas.Result.{err_from_is_err_and}
-use Rattle.asm_order.specs.Order.{IsOrder}
-use Rattle.asm_equ.specs.Circles.{lines_named}
-use Rattle.asm_equ.specs.Layout.{layout_of}
+use Rattle.asm_names.specs.Orders.Order.{IsOrder}
+use Rattle.asm_names.specs.Circles.{lines_named}
+use Rattle.asm_names.specs.Layout.{layout_of}
 use Rattle.asm_names.specs.Lines.{lines_of}
 use Rattle.asm_names.specs.Names.{names}
 use Rattle.asm_states.specs.Stated.{first_fault}
-use Rattle.asm_equ.specs.Settles.{told}
+use Rattle.asm_names.specs.Settles.{told}
 use Rattle.asm_rules.specs.Fitting.{FitsWord}
 use Rattle.zmo_module.specs.Modules.{Module, statement_of}
 use Rattle.zmo_module.specs.Rules.{IsModule}

@@ -1,4 +1,4 @@
-use Rattle.asm_equ.specs.Layout.{layout_of}
+use Rattle.asm_names.specs.Layout.{layout_of}
 use Rattle.asm_module.proofs.Placed.{placed}
 use Rattle.asm_module.proofs.placing.place.Goals as goal
 use Rattle.asm_names.specs.Lines.{lines_of}

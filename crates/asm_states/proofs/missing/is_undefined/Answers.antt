@@ -2,7 +2,7 @@ use Rattle.std.proofs.Common.{map, sym, ap, ◌∙◌}
 use Rattle.std.specs.List.{list_any}
 use Rattle.asm_parse.specs.Few.{all}
 use Rattle.asm_spell.specs.Line.{value_of}
-use Rattle.asm_equ.specs.Circles.{names_in}
+use Rattle.asm_names.specs.Circles.{names_in}
 use Rattle.asm_states.specs.Faults.{value_names}
 use Rattle.asm_states.specs.Private.Missing.{is_missing, tree_misses, value_misses}
 use Rattle.asm_states.proofs.Missing_names.{any_flat_map, any_map}

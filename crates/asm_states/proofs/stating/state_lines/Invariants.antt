@@ -1,6 +1,6 @@
 use Rattle.std.proofs.Common.{◌≡◌, ◌+◌, drop, length}
 use Rattle.std.specs.Vec.Iter.{into_iter_items, into_iter_len}
-use Rattle.asm_equ.specs.Layout.{layout_of}
+use Rattle.asm_names.specs.Layout.{layout_of}
 use Rattle.asm_states.proofs.In_order.{Goes}
 use Rattle.asm_states.proofs.stating.state_lines.Given as goal
 
