@@ -5,7 +5,7 @@ use Rattle.asm_macro.specs.Expands.{End, Ended, IsExpanded, IsExpansion, Stopped
 use Rattle.asm_macro.specs.Texts.{source_lines}
 use Rattle.asm_names.specs.Faults.{first}
 use Rattle.asm_names.specs.Lines.{Taken}
-use Rattle.asm_rules.specs.Below as program
+use Rattle.asm_statements.specs.Program.Statement as program
 use Rattle.asm_source.specs.Read.{taken}
 use Rattle.asm_source.specs.Source.{last_listed}
 use Rattle.asm_text.specs.Lines.{Numbered}

@@ -13,8 +13,8 @@ use Rattle.asm_names.specs.Faults.{first}
 use Rattle.asm_names.specs.declared.kind.SourceLine.{SourceLine}
 use Rattle.asm_names.specs.Lines.{Taken, lines_of, taken_of}
 use Rattle.asm_names.specs.Names.{Names, names}
-use Rattle.asm_states.specs.Stated as stated
-use Rattle.asm_states.specs.Stated.{numbered}
+use Rattle.asm_statements.specs.Module.Stated as stated
+use Rattle.asm_statements.specs.Module.Stated.{numbered}
 use Rattle.zmo_module.specs.Modules.{Module, Statement}
 use Rattle.asm_module.specs.declared.fault.AsmFault.{AsmFault}
 use Rattle.asm_module.specs.declared.fault.Why.{Why}

@@ -9,12 +9,12 @@ use Rattle.asm_spell.specs.Few.{IsFew}
 use Rattle.asm_spell.specs.Line as line
 use Rattle.asm_spell.specs.Line.{Body, Line}
 use Rattle.asm_parse.specs.Names.{IsDefinable}
-use Rattle.asm_rules.specs.Fitting.{IsReadLine}
+use Rattle.asm_statements.specs.Rules.Fitting.{IsReadLine}
 use Rattle.asm_spell.specs.Names.{line_names}
 use Rattle.zmo_module.specs.Rules.{IsObjectName}
 use Rattle.asm_spell.specs.Spelling.{spelled}
 use Rattle.asm_names.specs.Circles.{TellsCircles}
-use Rattle.asm_layout.specs.Laid.{HasFew, IsFewIn}
+use Rattle.asm_statements.specs.Layouts.Laid.{HasFew, IsFewIn}
 use Rattle.asm_macro.specs.declared.fault.MacroFault.{MacroFault}
 use Rattle.asm_macro.specs.Expands.{End, IsExpanded, IsExpansion}
 use Rattle.asm_macro.specs.Texts.{source_lines}

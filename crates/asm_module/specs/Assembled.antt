@@ -6,8 +6,8 @@ use Rattle.asm_macro.specs.Expands.{IsExpanded}
 use Rattle.asm_macro.specs.Texts.{source_lines}
 use Rattle.asm_names.specs.Lines.{Taken}
 use Rattle.asm_names.specs.Names.{names}
-use Rattle.asm_rules.specs.Below as stated
-use Rattle.asm_rules.specs.Program.{AreAt, program}
+use Rattle.asm_statements.specs.Program.Statement as stated
+use Rattle.asm_statements.specs.Program.Lines.{AreAt, program}
 use Rattle.asm_source.specs.Read.{taken}
 use Rattle.asm_source.specs.Source.{last_listed}
 use Rattle.asm_text.specs.Lines.{Numbered}

@@ -7,7 +7,7 @@ use asm_macro::MacroFault;
 use asm_names::{EquFault, NameFault};
 use asm_source::LineFault;
 use asm_spell::StmtFault;
-use asm_states::StateFault;
+use asm_statements::StateFault;
 use std::alloc::AllocError;
 use thiserror::Error;
 

@@ -1,7 +1,7 @@
 //! Laws of sources, as functions that do nothing.
 
 ghost use Rattle.std.specs.Prelude.{◌≡◌, ℕ, Bool, List, Result};
-ghost use Rattle.asm_rules.specs.Below.{Statement};
+ghost use Rattle.asm_statements.specs.Program.Statement.{Statement};
 ghost use Rattle.asm_module.specs.declared.fault.AsmFault.{AsmFault};
 ghost use Rattle.asm_module.specs.Assembled.{Assembled, Assembles, HasCause, IsStated};
 

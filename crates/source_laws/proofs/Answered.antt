@@ -20,9 +20,9 @@ use Rattle.asm_names.specs.Circles.{TellsCircles, equ_items, line_named, lines_n
 use Rattle.asm_names.specs.Layout.{Layout}
 use Rattle.asm_source.specs.declared.fault.LineFault.{LineFault}
 use Rattle.asm_source.specs.Read.{taken, unread}
-use Rattle.asm_states.specs.declared.fault.StateFault.{StateFault}
-use Rattle.asm_states.specs.Faults.{body_fault, not_label, undefined, value_by, valueless}
-use Rattle.asm_states.specs.Stated as stated
+use Rattle.asm_statements.specs.declared.fault.StateFault.{StateFault}
+use Rattle.asm_statements.specs.Module.Faults.{body_fault, not_label, undefined, value_by, valueless}
+use Rattle.asm_statements.specs.Module.Stated as stated
 use Rattle.asm_piece.specs.Made.{Made, made}
 use Rattle.asm_module.specs.declared.fault.AsmFault.{AsmFault}
 use Rattle.asm_module.specs.declared.fault.Why.{Why}

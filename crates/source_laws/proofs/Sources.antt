@@ -6,7 +6,7 @@ use Rattle.asm_source.specs.Read.{taken}
 use Rattle.asm_module.specs.declared.fault.AsmFault.{AsmFault}
 use Rattle.asm_module.specs.Assembled.{Assembled, Assembles, HasCause, IsStated, answer}
 use Rattle.asm_module.specs.Source.{equ_fault, first_pass, layout, state_fault}
-use Rattle.asm_reads.specs.Statement.{Statement}
+use Rattle.asm_statements.specs.Program.Statement.{Statement}
 use Rattle.zlink.specs.declared.source.Source.{Source}
 use Rattle.zlink.specs.Sources.{Assembly, AreAssembled, IsFirstFaulty}
 

@@ -15,9 +15,9 @@ use Rattle.asm_names.specs.Faults.{first}
 use Rattle.asm_names.specs.Lines.{Taken}
 use Rattle.asm_names.specs.Names.{Names, names}
 use Rattle.asm_source.specs.declared.fault.LineFault.{LineFault}
-use Rattle.asm_states.specs.Stated as stated
-use Rattle.asm_states.specs.Stated.{numbered}
-use Rattle.asm_states.specs.declared.stating.Stated.{Stated}
+use Rattle.asm_statements.specs.Module.Stated as stated
+use Rattle.asm_statements.specs.Module.Stated.{numbered}
+use Rattle.asm_statements.specs.declared.stating.Stated.{Stated}
 use Rattle.zmo_module.specs.declared.module.Module as whole
 use Rattle.zmo_module.specs.Modules.{Module, Statement, module_of, statement_of}
 use Rattle.asm_module.specs.declared.fault.AsmFault.{AsmFault}
