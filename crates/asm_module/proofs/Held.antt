@@ -3,7 +3,7 @@ use Rattle.std.proofs.Common.{◌≡◌, ◌≤◌, ◌+◌, ◌∙◌, sym, ap,
 use Rattle.std.proofs.lemmas.List.{length-map}
 use Rattle.asm_names.specs.Layout.{Layout}
 use Rattle.asm_names.specs.Meanings.{externals}
-use Rattle.asm_holding.specs.Holding.{begins, entry, labels, listed, publics}
+use Rattle.asm_module.specs.Holding.{begins, entry, labels, listed, publics}
 use Rattle.asm_names.specs.Faults.{first_fault}
 use Rattle.asm_names.specs.Lines.{Taken}
 use Rattle.asm_names.specs.Names.{Names, names}

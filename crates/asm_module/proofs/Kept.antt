@@ -19,7 +19,7 @@ use Rattle.asm_names.specs.Layout.{Layout, next_at}
 use Rattle.asm_names.specs.Meanings as equ
 use Rattle.asm_names.specs.Meanings.{entries, externals, table_at}
 use Rattle.asm_names.specs.Settles.{Settles, told}
-use Rattle.asm_holding.specs.Holding.{entry, labels, listed, publics}
+use Rattle.asm_module.specs.Holding.{entry, labels, listed, publics}
 use Rattle.asm_statements.specs.Layouts.Laid.{laid, statements}
 use Rattle.asm_names.specs.Faults as naming
 use Rattle.asm_names.specs.Lines.{Taken, has_statement}

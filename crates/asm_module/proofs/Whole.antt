@@ -22,9 +22,9 @@ use Rattle.asm_names.specs.Faults as defined
 use Rattle.asm_names.specs.Faults.{first}
 use Rattle.asm_names.specs.Lines.{Taken}
 use Rattle.asm_names.specs.Names.{names}
-use Rattle.asm_source.specs.declared.fault.LineFault.{LineFault}
-use Rattle.asm_source.specs.Read.{IsRead, taken, unread}
-use Rattle.asm_source.specs.Source.{IsSourceText, last_listed}
+use Rattle.asm_module.specs.declared.line_fault.LineFault.{LineFault}
+use Rattle.asm_module.specs.Reads.Read.{IsRead, taken, unread}
+use Rattle.asm_module.specs.Reads.Source.{IsSourceText, last_listed}
 use Rattle.asm_text.specs.Lines.{Numbered}
 use Rattle.zmo_module.specs.Modules.{Module}
 use Rattle.asm_module.specs.Assembled.{Assembles, IsRefused, TellsLines, answer}

@@ -8,8 +8,8 @@ use Rattle.asm_names.specs.Lines.{Taken}
 use Rattle.asm_names.specs.Names.{names}
 use Rattle.asm_statements.specs.Program.Statement as stated
 use Rattle.asm_statements.specs.Program.Lines.{AreAt, program}
-use Rattle.asm_source.specs.Read.{taken}
-use Rattle.asm_source.specs.Source.{last_listed}
+use Rattle.asm_module.specs.Reads.Read.{taken}
+use Rattle.asm_module.specs.Reads.Source.{last_listed}
 use Rattle.asm_text.specs.Lines.{Numbered}
 use Rattle.zmo_module.specs.declared.module.Module as whole
 use Rattle.zmo_module.specs.Modules.{Module, Statement, module_of}

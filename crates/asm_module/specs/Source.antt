@@ -11,14 +11,14 @@ use Rattle.asm_names.specs.Faults as defined
 use Rattle.asm_names.specs.Faults.{first}
 use Rattle.asm_names.specs.Lines.{Taken}
 use Rattle.asm_names.specs.Names.{names}
-use Rattle.asm_source.specs.Read.{taken, unread}
+use Rattle.asm_module.specs.Reads.Read.{taken, unread}
 use Rattle.asm_statements.specs.Module.Stated as stated
 use Rattle.asm_statements.specs.Module.Stated.{numbered}
 use Rattle.asm_text.specs.Lines.{Numbered}
 use Rattle.zmo_module.specs.Modules.{Module}
 use Rattle.asm_module.specs.declared.fault.AsmFault.{AsmFault}
 use Rattle.asm_module.specs.declared.fault.Why.{Why}
-use Rattle.asm_holding.specs.Holding.{begins, entry, labels, listed, publics}
+use Rattle.asm_module.specs.Holding.{begins, entry, labels, listed, publics}
 use Rattle.asm_module.specs.Whys.{equ_why, line_why, name_why, state_why}
 
 -- before anything is known of places

@@ -16,9 +16,9 @@ ghost use Rattle.asm_module.specs.Assembled.{StatesLines};
 ghost use Rattle.asm_module.specs.Private.Steps.{AnswersLines, States, held};
 
 use crate::fault::{AsmFault, of_equ, of_state};
+use crate::passing_on::{begins, entry_of, externals_of, labels_of, publics_of};
 use crate::placing::place;
 use asm_expr::Names;
-use asm_holding::{begins, entry_of, externals_of, labels_of, publics_of};
 use asm_names::{Layout, NameTable, SourceLine, turns_of};
 use asm_statements::{Stated, fit_words, state_lines};
 use std::alloc::{AllocError, Global};
@@ -65,7 +65,7 @@ fn hold(
     ensures { IfOk result (λ m. module_of m ≡ held name.now grow (lines_of lines.now) (layout_of layout.now) []) }
 {
     asm_names::laws::few();
-    asm_holding::laws::kept();
+    crate::laws::kept();
     let labels = labels_of(alloc, table, layout)?;
     let publics = publics_of(alloc, &labels, lines)?;
     Ok(Module {
@@ -112,9 +112,9 @@ pub(crate) fn assemble_lines(
     asm_statements::laws::statements_keep_rules();
     asm_statements::laws::few_statements();
     asm_statements::laws::statements_at_places();
-    asm_holding::laws::named();
-    asm_holding::laws::kept();
-    asm_holding::laws::within();
+    crate::laws::named();
+    crate::laws::kept();
+    crate::laws::within();
     let turns = turns_of(alloc, &lines, table)?;
     let (settled, layout) = place(alloc, &lines, table, &turns, grow)?;
     if let Some((line, why)) = settled.fault {

@@ -18,8 +18,8 @@ use Rattle.asm_names.specs.Names.{Names, names}
 use Rattle.asm_names.specs.declared.equ_fault.EquFault.{EquFault}
 use Rattle.asm_names.specs.Circles.{TellsCircles, equ_items, line_named, lines_named}
 use Rattle.asm_names.specs.Layout.{Layout}
-use Rattle.asm_source.specs.declared.fault.LineFault.{LineFault}
-use Rattle.asm_source.specs.Read.{taken, unread}
+use Rattle.asm_module.specs.declared.line_fault.LineFault.{LineFault}
+use Rattle.asm_module.specs.Reads.Read.{taken, unread}
 use Rattle.asm_statements.specs.declared.fault.StateFault.{StateFault}
 use Rattle.asm_statements.specs.Module.Faults.{body_fault, not_label, undefined, value_by, valueless}
 use Rattle.asm_statements.specs.Module.Stated as stated

@@ -12,7 +12,7 @@ use Rattle.asm_module.specs.declared.fault.Why.{Why}
 use Rattle.asm_module.specs.Assembled.{Assembled, Assembles, IsRefused, States, answer, assembled, seen}
 use Rattle.asm_module.specs.Source.{layout, source_fault as lines_fault, table}
 use Rattle.asm_module.specs.Below.{numbered}
-use Rattle.asm_source.specs.Read.{taken}
+use Rattle.asm_module.specs.Reads.Read.{taken}
 use Rattle.zmo_module.specs.declared.module.Module as whole
 use Rattle.zmo_module.specs.Modules.{module_of}
 use Rattle.zmo_module.specs.Rules.{IsModule}

@@ -14,7 +14,7 @@ use Rattle.asm_names.specs.Faults as defined
 use Rattle.asm_names.specs.Faults.{first}
 use Rattle.asm_names.specs.Lines.{Taken}
 use Rattle.asm_names.specs.Names.{Names, names}
-use Rattle.asm_source.specs.declared.fault.LineFault.{LineFault}
+use Rattle.asm_module.specs.declared.line_fault.LineFault.{LineFault}
 use Rattle.asm_statements.specs.Module.Stated as stated
 use Rattle.asm_statements.specs.Module.Stated.{numbered}
 use Rattle.asm_statements.specs.declared.stating.Stated.{Stated}
@@ -22,7 +22,7 @@ use Rattle.zmo_module.specs.declared.module.Module as whole
 use Rattle.zmo_module.specs.Modules.{Module, Statement, module_of, statement_of}
 use Rattle.asm_module.specs.declared.fault.AsmFault.{AsmFault}
 use Rattle.asm_module.specs.declared.fault.Why.{Why}
-use Rattle.asm_holding.specs.Holding.{begins, entry, labels, listed, publics}
+use Rattle.asm_module.specs.Holding.{begins, entry, labels, listed, publics}
 use Rattle.asm_module.specs.Source as source
 use Rattle.asm_module.specs.Source.{at, equ_fault, module_by, no_layout, state_fault, statement_lines}
 use Rattle.asm_module.specs.Whys.{line_why, name_why, state_why}
