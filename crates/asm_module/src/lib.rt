@@ -1,8 +1,9 @@
-//! One source text to a module.
+//! Assembles one source.
 //!
-//! [`assemble`] answers the module that a source is, or its first fault; [`assemble_listed`] says besides from which lines its statements
-//! come; [`assemble_with`] lets a written `JR` grow. [`read_source`] answers the lines of a source's expansion, as far as they spell
-//! something, and [`labels_of`], [`externals_of`], [`publics_of`], [`begins`] and [`entry_of`] what a module holds besides its statements.
+//! [`assemble`] answers the module that a source is, or its first error; [`assemble_listed`] also says from which lines its
+//! statements come; [`assemble_with`] lets a written `JR` grow. [`read_source`] answers the lines of a source's expansion up to
+//! the first that is no line of the language, and [`labels_of`], [`externals_of`], [`publics_of`], [`begins`] and [`entry_of`]
+//! what a module has besides its statements.
 #![tactic(auto)]
 
 mod assembling;

@@ -1,9 +1,9 @@
-//! Pass 2: from the lines of a source to the statements of its module, and that they are right.
+//! From the lines of a source to the statements of its module, and that these are right.
 //!
-//! [`lay`] answers which lines have a statement and how many bytes each takes, as far as that is known before names have their places.
-//! [`state_lines`] answers the statements of a module, or the first line other than an EQU that is faulty. [`fit_words`] says what the
-//! types of statements say. [`laws`] has what these are for: the statements have the sizes that were laid, keep the rules of an object,
-//! and become at all places the bytes that the lines state.
+//! [`lay`] answers which lines have a statement and how many bytes each takes, as far as that is known before names have their
+//! addresses. [`state_lines`] answers the statements of a module, or the first line other than an EQU that has an error.
+//! [`fit_words`] says what the types of statements say. The [`laws`] say that the statements have the sizes that were laid out,
+//! keep the rules of an object file, and become at all addresses the bytes that the lines describe.
 #![tactic(auto)]
 
 mod fault;

@@ -1,5 +1,5 @@
-//! The texts within a Z80 assembler source: spans of its lines as a call shows them, what the lines are to blocks, where those blocks
-//! end, and what each block is gone on with.
+//! The lines of a Z80 assembler source as a macro call shows them, the blocks that begin in them, and where expansion continues
+//! after each block.
 #![tactic(auto)]
 
 mod blocks;

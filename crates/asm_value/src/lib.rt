@@ -1,5 +1,5 @@
-//! Expressions whose names are replaced: lists of postfix items, and what they are worth at places; and statements in order, with the
-//! distances between their places.
+//! Expressions whose names are replaced: lists of postfix items, and their values at given addresses; and statements in order,
+//! with the distances between them.
 #![tactic(auto)]
 
 mod arithmetic;

@@ -1,7 +1,7 @@
-//! Objects: one text a module, both ways; and their fields.
+//! Object files: one for each module, written and read, field by field.
 //!
-//! [`write`] answers the text of a module, and [`read`] the module that a text spells, or its first fault. Fields are read at the front of
-//! bytes and put at the end of a text: bytes, words, names, and expressions in postfix order.
+//! [`write`] answers the file of a module, and [`read`] the module of a file, or its first error. Fields are read from the front
+//! of bytes and added to the end of a file: bytes, words, names, and expressions in postfix order.
 #![tactic(auto)]
 
 mod code;

@@ -1,4 +1,4 @@
-//! Statements stand as their source was laid, before its names had their places.
+//! The statements have the sizes that their source was laid out with, before its names had their addresses.
 
 ghost use Rattle.std.specs.Prelude.{◌≡◌, ◌≤◌, ℕ, Bool, true, false, List, None, Some, length, map, count_by};
 ghost use Rattle.std.specs.List.{list_any};

@@ -1,4 +1,4 @@
-//! What lines state in a module depends on what names stand for, which each that is defined does.
+//! What lines become in a module depends on what names stand for; and each name that is defined stands for something.
 
 ghost use Rattle.std.specs.Prelude.{◌≡◌, ℕ, Bool, List, None};
 ghost use Rattle.asm_expr.specs.Names.{Table, found};

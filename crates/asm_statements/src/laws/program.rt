@@ -1,4 +1,4 @@
-//! Whatever is made of the statements at places is what the lines state.
+//! The bytes that are made of the statements at any addresses are what the lines describe.
 
 ghost use Rattle.std.specs.Prelude.{◌≡◌, ◌<◌, ℕ, All, Bool, true, false, List, Some, None, Ok, length, map};
 ghost use Rattle.std.specs.List.{list_any};

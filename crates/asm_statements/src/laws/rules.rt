@@ -1,4 +1,4 @@
-//! The statements are those that an object may hold.
+//! The statements are those that an object file may hold.
 
 ghost use Rattle.std.specs.Prelude.{◌≡◌, ◌≤◌, ◌<◌, ℕ, All, Bool, List, Some, Ok, count_by, length, map};
 ghost use Rattle.asm_expr.specs.Names.{AreCounted, Table, found};
