@@ -9,7 +9,7 @@ use Rattle.asm_value.specs.Items.{value}
 use Rattle.asm_expr.specs.Distances.{Step, some_distance}
 use Rattle.asm_expr.specs.Names.{Table}
 use Rattle.asm_expr.specs.Settling.{known, single, distance_of, difference, or_else, through, both, worth, leaf_or, reduced}
-use Rattle.asm_distance.proofs.Places.{one_distance}
+use Rattle.asm_value.proofs.Places.{one_distance}
 
 through_number : (f : ℕ → ℕ) (w : Worth) (n : ℕ) → through f w ≡ Worth.Number n → (m : ℕ) × (w ≡ Worth.Number m) × (f m ≡ n)
 through_number f (Worth.Number m) n e = (m, refl, cc)

@@ -16,7 +16,7 @@ use Rattle.asm_expr.specs.Origins.{is_value, is_valued_item, is_valued_name}
 use Rattle.asm_expr.specs.Settling.{both, difference, distance_of, fault, item_known, items_known, known, leaf_or, meant, or_else, reduced, replaced, settled, settled_as, single, standing, through, unknown_of, unless_fault, worth}
 use Rattle.asm_expr.proofs.Anywhere.{of_infix, of_prefix}
 use Rattle.asm_value.proofs.Judgements.{and_parts}
-use Rattle.asm_distance.proofs.Places.{neither}
+use Rattle.asm_value.proofs.Places.{neither}
 
 -- each part has a value
 abbrev Has : Expression Part → Type 0

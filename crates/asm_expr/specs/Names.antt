@@ -4,7 +4,7 @@ use Rattle.std.specs.Map.{lookup}
 use Rattle.std.specs.Str.{bytes_eq}
 use Rattle.asm_expr.specs.declared.answer.Settled.{Settled}
 use Rattle.asm_expr.specs.declared.meaning.Meaning.{Meaning}
-use Rattle.asm_distance.specs.declared.statement.Statement.{Statement}
+use Rattle.asm_value.specs.declared.statement.Statement.{Statement}
 
 -- Each name with what it stands for; the statement whose place is `$`; the statements that are passed, in order.
 pub record Table : Type 0 where

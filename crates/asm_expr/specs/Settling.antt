@@ -12,7 +12,7 @@ use Rattle.asm_expr.specs.declared.part.Part.{Part}
 use Rattle.asm_expr.specs.declared.single.Single.{Single}
 use Rattle.asm_expr.specs.declared.unknown.Unknown.{Unknown}
 use Rattle.asm_expr.specs.declared.meaning.Meaning.{Meaning}
-use Rattle.asm_distance.specs.declared.worth.Worth.{Worth}
+use Rattle.asm_value.specs.declared.worth.Worth.{Worth}
 use Rattle.asm_value.specs.declared.expr.TheConstants.{MOST_ITEMS}
 use Rattle.asm_parse.specs.Operators.{divides}
 use Rattle.asm_value.specs.Arithmetic.{unary, binary}

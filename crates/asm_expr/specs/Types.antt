@@ -5,8 +5,8 @@ pub use Rattle.asm_parse.specs.declared.operator.Binary.{Binary}
 pub use Rattle.asm_parse.specs.declared.item.Item.{Item}
 pub use Rattle.asm_parse.specs.declared.item.Term.{Term}
 pub use Rattle.asm_value.specs.declared.atom.Atom.{Atom}
-pub use Rattle.asm_distance.specs.declared.worth.Worth.{Worth}
-pub use Rattle.asm_distance.specs.declared.statement.Statement.{Statement}
+pub use Rattle.asm_value.specs.declared.worth.Worth.{Worth}
+pub use Rattle.asm_value.specs.declared.statement.Statement.{Statement}
 pub use Rattle.asm_expr.specs.declared.unknown.Unknown.{Unknown}
 pub use Rattle.asm_expr.specs.declared.answer.Settled.{Settled}
 pub use Rattle.asm_expr.specs.declared.meaning.Meaning.{Meaning}

@@ -19,9 +19,10 @@ mod weigh;
 
 pub use alone::number_alone;
 pub use answer::{Settled, settle};
-pub use asm_distance::{Statement, Worth};
 pub use asm_parse::{Binary, ExprFault, Item, Term, TermView, Tree, Unary, is_reserved, parse};
-pub use asm_value::{Atom, Expr, MOST_ITEMS, Room, constant, has_places, items, value};
+pub use asm_value::{
+    Atom, Expr, MOST_ITEMS, Room, Statement, Worth, constant, has_places, items, value,
+};
 pub use equating::equate;
 pub use here::{Offset, offset_from_here};
 pub use meaning::{Equated, Meaning};

@@ -23,9 +23,8 @@ use crate::parts::{Parts, known_item};
 use crate::single::Single;
 use crate::unknown::Unknown;
 use crate::weigh::item_size;
-use asm_distance::Worth;
 use asm_parse::{Binary, ExprFault, Item, Term, TermView, Tree, Unary};
-use asm_value::{Atom, Expr, MOST_ITEMS, Room, apply_binary, apply_unary, items};
+use asm_value::{Atom, Expr, MOST_ITEMS, Room, Worth, apply_binary, apply_unary, items};
 use std::rc::Rc;
 
 fn worth_of(item: &Item<Part>) -> Worth

@@ -1,16 +1,15 @@
 -- An expansion before its first line.
 use Rattle.std.proofs.Common.{◌≡◌, ◌+◌, ◌-◌, ◌∙◌, sym, ap, refl, ℕ, List, [], ◌∷◌, ◌++◌, None, map, length, take, reverse, arith, subst, append-nil}
 use Rattle.std.proofs.Math.Seq.{take-length}
-use Rattle.asm_texts.specs.Prepared.{said}
+use Rattle.asm_text.specs.Prepared.{said, macro_seen}
 use Rattle.asm_macro.specs.declared.expansion.Expansion.{Expansion}
-use Rattle.asm_texts.specs.Lines.{Numbered}
+use Rattle.asm_text.specs.Lines.{Numbered}
 use Rattle.asm_macro.specs.Texts.{numbered, source_lines}
 use Rattle.asm_macro.specs.Expands.{End, Expands}
 use Rattle.asm_macro.specs.State.{start}
 use Rattle.asm_macro.specs.Ahead.{Remains, Within}
 use Rattle.asm_macro.specs.Private.Frames.{around_seen, innermost}
-use Rattle.asm_texts.specs.Spans.{lines_from, text_of}
-use Rattle.asm_texts.specs.Prepared.{macro_seen}
+use Rattle.asm_text.specs.Spans.{lines_from, text_of}
 use Rattle.asm_macro.specs.Private.Moves.{rest_of, state_of}
 
 numbered_is : (at : ℕ) (texts : List (List ℕ)) → lines_from None at None texts ≡ numbered (at + 1) texts

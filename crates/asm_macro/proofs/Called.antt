@@ -4,18 +4,17 @@ use Rattle.std.proofs.lemmas.Bool.{lt-leb}
 use Rattle.asm_macro.specs.declared.take.TheConstants.{MOST_NESTED}
 use Rattle.asm_scan.specs.Tokens.{Lexeme}
 use Rattle.asm_line.specs.Forms.{Form}
-use Rattle.asm_texts.specs.declared.call.Macro as kept
+use Rattle.asm_text.specs.declared.call.Macro as kept
 use Rattle.asm_macro.specs.declared.fault.MacroFault.{MacroFault}
-use Rattle.asm_texts.specs.Lines.{Numbered}
+use Rattle.asm_text.specs.Lines.{Numbered}
 use Rattle.asm_macro.specs.State as state
-use Rattle.asm_texts.specs.Calls.{Macro, Opened, arguments_in, body_lines, label_lines, opened, table_of}
-use Rattle.asm_sections.specs.Onward as onward
+use Rattle.asm_text.specs.Calls.{Macro, Opened, arguments_in, body_lines, label_lines, opened, table_of}
+use Rattle.asm_text.specs.Sections.Onward as onward
 use Rattle.asm_macro.specs.Parts as parts
 use Rattle.asm_macro.specs.Ahead.{Around}
-use Rattle.asm_texts.specs.Spans.{lines_from}
+use Rattle.asm_text.specs.Spans.{lines_from}
 use Rattle.asm_macro.specs.Private.Moves.{Fails, On, moved}
-use Rattle.asm_texts.specs.Prepared.{macro_seen}
-use Rattle.asm_texts.specs.Prepared.{body_texts}
+use Rattle.asm_text.specs.Prepared.{macro_seen, body_texts}
 
 texts_from : (at : ℕ) (number : Option ℕ) (texts : List (List ℕ)) → parts.texts (lines_from number at None texts) ≡ texts
 texts_from at number [] = refl

@@ -3,16 +3,16 @@ use Rattle.std.proofs.Common.{◌≡◌, ◌+◌, ◌∙◌, sym, ap, refl, ℕ,
 use Rattle.asm_scan.specs.Tokens.{Lexeme}
 use Rattle.asm_replace.specs.Replaced.{Table, replaced}
 use Rattle.asm_macro.specs.declared.expansion.Expansion.{Expansion}
-use Rattle.asm_texts.specs.declared.span.Span.{Span}
-use Rattle.asm_sections.specs.declared.following.Following.{Following}
-use Rattle.asm_texts.specs.Lines.{heard}
-use Rattle.asm_texts.specs.Calls.{body_lines, replaced_by, replaced_line}
-use Rattle.asm_sections.specs.Onward as onward
+use Rattle.asm_text.specs.declared.span.Span.{Span}
+use Rattle.asm_text.specs.declared.following.Following.{Following}
+use Rattle.asm_text.specs.Lines.{heard}
+use Rattle.asm_text.specs.Calls.{body_lines, replaced_by, replaced_line}
+use Rattle.asm_text.specs.Sections.Onward as onward
 use Rattle.asm_macro.specs.Private.Entering.{Entered}
 use Rattle.asm_macro.specs.Private.Frames.{around_seen, innermost, turns_in}
-use Rattle.asm_texts.specs.Spans.{lines_from, text_of}
+use Rattle.asm_text.specs.Spans.{lines_from, text_of}
 use Rattle.asm_macro.specs.Private.Moves.{IsSound, rest_of, state_of, tables_in}
-use Rattle.asm_texts.specs.Prepared.{SaySame, body_texts}
+use Rattle.asm_text.specs.Prepared.{SaySame, body_texts}
 
 abbrev pub Replaces : Type 0
 Replaces = (t u : Table) → SaySame t u → (line : List ℕ) (tokens : List Lexeme) → replaced t line tokens ≡ replaced u line tokens

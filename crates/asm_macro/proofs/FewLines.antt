@@ -1,8 +1,8 @@
 -- An expansion has no more lines than it takes up: each line or turn that is taken up gives one line at most.
 use Rattle.std.proofs.Common.{◌≤◌, ◌+◌, ◌-◌, ℕ, zero, suc, List, [], ◌∷◌, ◌++◌, length, length-append, arith}
 use Rattle.asm_macro.specs.declared.expansion.TheConstants.{MOST_LINES}
-use Rattle.asm_texts.specs.Lines.{Numbered}
-use Rattle.asm_sections.specs.Onward.{Next}
+use Rattle.asm_text.specs.Lines.{Numbered}
+use Rattle.asm_text.specs.Sections.Onward.{Next}
 use Rattle.asm_macro.specs.State.{State, room}
 use Rattle.asm_macro.specs.Parts.{Part, Stop, Last, Go, Within, part, resumed}
 use Rattle.asm_macro.specs.Expands.{End, Whole, Ended, Stopped, Expands, nothing, line, Comes, stop, last, go, within, Follows, whole, ended, stopped, IsExpansion, long, short}

@@ -10,9 +10,9 @@ use Rattle.asm_line.specs.declared.forms.BlockWord.{BlockWord}
 use Rattle.asm_line.specs.Forms.{Form, Head, form}
 use Rattle.asm_line.specs.Forms as line
 use Rattle.asm_macro.specs.declared.fault.MacroFault.{MacroFault}
-use Rattle.asm_texts.specs.Lines.{Numbered, form_by, tokens_in}
+use Rattle.asm_text.specs.Lines.{Numbered, form_by, tokens_in}
 use Rattle.asm_macro.specs.State.{State, counted, macro_named, table}
-use Rattle.asm_sections.specs.Blocks.{Body, body_of, branches_of}
+use Rattle.asm_text.specs.Sections.Blocks.{Body, body_of, branches_of}
 use Rattle.asm_macro.specs.Judged.{first, is_counted, is_stray, parameters, redefined, stray, too_many, unclosed, unless_some, unread}
 use Rattle.asm_macro.specs.Parts.{Part, conditional, definition, fails, headed, judged, part, read, repeated}
 use Rattle.asm_macro.specs.Values.{worth}

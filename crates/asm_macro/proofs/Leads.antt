@@ -11,11 +11,11 @@ use Rattle.asm_words.specs.Words.{upper}
 use Rattle.asm_line.specs.declared.forms.BlockWord.{BlockWord}
 use Rattle.asm_line.specs.Forms.{Form, Head}
 use Rattle.asm_line.specs.Forms as line
-use Rattle.asm_texts.specs.Lines.{Numbered, form_of}
-use Rattle.asm_sections.specs.Blocks.{Body, Branches, Section, body_of, branches_of}
-use Rattle.asm_texts.specs.Roles.{is_alone}
-use Rattle.asm_texts.specs.Calls.{Macro, Opened, label_lines, opened}
-use Rattle.asm_sections.specs.Onward.{Next, Rest, BehindFirst, BehindSecond, Turns, renumbered}
+use Rattle.asm_text.specs.Lines.{Numbered, form_of}
+use Rattle.asm_text.specs.Sections.Blocks.{Body, Branches, Section, body_of, branches_of}
+use Rattle.asm_text.specs.Roles.{is_alone}
+use Rattle.asm_text.specs.Calls.{Macro, Opened, label_lines, opened}
+use Rattle.asm_text.specs.Sections.Onward.{Next, Rest, BehindFirst, BehindSecond, Turns, renumbered}
 use Rattle.asm_macro.specs.declared.fault.MacroFault.{MacroFault}
 use Rattle.asm_macro.specs.State.{State, counted, is_known, macro_called, table, room}
 use Rattle.asm_macro.specs.Judged.{first, is_counted, line_fault, parameters, redefined, stray, unclosed, unread}

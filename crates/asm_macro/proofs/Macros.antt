@@ -3,14 +3,13 @@ use Rattle.std.proofs.Common.{◌≡◌, ◌∙◌, sym, ap, refl, ℕ, List, []
 use Rattle.std.specs.Global.{Global}
 use Rattle.std.proofs.lemmas.List.{map-append}
 use Rattle.asm_replace.specs.Views as replaced
-use Rattle.asm_texts.specs.declared.call.Macro.{Macro}
-use Rattle.asm_sections.specs.declared.stretch.Block.{Block}
-use Rattle.asm_texts.specs.Lines.{Numbered}
-use Rattle.asm_sections.specs.Blocks.{body_of}
-use Rattle.asm_sections.specs.Sections.{body_seen, line_of}
-use Rattle.asm_texts.specs.Spans.{text_of}
-use Rattle.asm_texts.specs.Prepared.{macro_seen, macros_seen}
-use Rattle.asm_texts.specs.Prepared.{said}
+use Rattle.asm_text.specs.declared.call.Macro.{Macro}
+use Rattle.asm_text.specs.declared.stretch.Block.{Block}
+use Rattle.asm_text.specs.Lines.{Numbered}
+use Rattle.asm_text.specs.Sections.Blocks.{body_of}
+use Rattle.asm_text.specs.Sections.Sections.{body_seen, line_of}
+use Rattle.asm_text.specs.Spans.{text_of}
+use Rattle.asm_text.specs.Prepared.{macro_seen, macros_seen, said}
 use Rattle.asm_macro.specs.declared.expansion.Expansion.{Expansion}
 use Rattle.asm_macro.specs.Parts.{Part, Go, closing, texts}
 use Rattle.asm_macro.specs.Private.Frames.{innermost}

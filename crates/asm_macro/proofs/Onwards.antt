@@ -2,15 +2,15 @@
 use Rattle.std.proofs.Common.{◌≡◌, ◌<◌, ◌≤◌, ◌+◌, ◌∙◌, sym, ap, refl, ℕ, zero, suc, Bool, true, false, if◌then◌else◌, List, [], ◌∷◌, Option, Some, None, arith}
 use Rattle.asm_macro.specs.declared.take.TheConstants.{MOST_NESTED}
 use Rattle.asm_replace.specs.Replaced.{Table}
-use Rattle.asm_texts.specs.Lines.{Numbered, form_of}
-use Rattle.asm_texts.specs.Roles.{is_alone}
-use Rattle.asm_texts.specs.Spans.{text_of}
-use Rattle.asm_sections.specs.declared.following.Following.{Following}
-use Rattle.asm_sections.specs.Blocks.{Branches, Section}
-use Rattle.asm_sections.specs.Onward as onward
-use Rattle.asm_sections.specs.Onward.{Next, Rest, BehindFirst, BehindSecond, Turns, Onward, On, Stray, Into, behind, branch, stray, stray_in, unless}
-use Rattle.asm_sections.specs.Sections.{branches_seen, section_of}
-use Rattle.asm_sections.specs.Views.{behind_other, next_of}
+use Rattle.asm_text.specs.Lines.{Numbered, form_of}
+use Rattle.asm_text.specs.Roles.{is_alone}
+use Rattle.asm_text.specs.Spans.{text_of}
+use Rattle.asm_text.specs.declared.following.Following.{Following}
+use Rattle.asm_text.specs.Sections.Blocks.{Branches, Section}
+use Rattle.asm_text.specs.Sections.Onward as onward
+use Rattle.asm_text.specs.Sections.Onward.{Next, Rest, BehindFirst, BehindSecond, Turns, Onward, On, Stray, Into, behind, branch, stray, stray_in, unless}
+use Rattle.asm_text.specs.Sections.Sections.{branches_seen, section_of}
+use Rattle.asm_text.specs.Sections.Views.{behind_other, next_of}
 use Rattle.asm_macro.specs.declared.fault.MacroFault.{MacroFault}
 use Rattle.asm_macro.specs.State.{State}
 use Rattle.asm_macro.specs.Parts.{Part, Stop, Go, chosen, closing, fails, passed, resumed, second_of}

@@ -3,7 +3,7 @@ use Rattle.std.proofs.Common.{◌≡◌, ◌∙◌, sym, ap, refl, subst, ℕ, L
 use Rattle.asm_macro.specs.declared.fault.MacroFault.{MacroFault}
 use Rattle.asm_macro.specs.declared.moves.Given.{Given}
 use Rattle.asm_macro.specs.declared.moves.Stop as moved_by
-use Rattle.asm_texts.specs.Lines.{Numbered}
+use Rattle.asm_text.specs.Lines.{Numbered}
 use Rattle.asm_macro.specs.State.{State}
 use Rattle.asm_macro.specs.Parts.{Part, Stop, Last, Go, Within, part, resumed}
 use Rattle.asm_macro.specs.Expands.{End, Whole, Ended, Stopped, nothing, line, Comes, stop, last, go, within, whole, ended, stopped}

@@ -5,8 +5,8 @@ use Rattle.std.specs.Option.{option_map}
 use Rattle.std.proofs.lemmas.List.{drop_more, get_or-reverse, length-map, length-reverse, reverse-append, take-append-drop}
 use Rattle.std.proofs.lemmas.Option.{slice_get-get_or}
 use Rattle.asm_replace.specs.Replaced.{Table}
-use Rattle.asm_texts.proofs.Macros.{copied}
-use Rattle.asm_texts.specs.Prepared.{said}
+use Rattle.asm_text.proofs.Macros.{copied}
+use Rattle.asm_text.specs.Prepared.{said}
 use Rattle.asm_macro.specs.declared.expansion.Expansion.{Expansion}
 use Rattle.asm_macro.specs.Private.Moves.{tables_in}
 use Rattle.asm_macro.specs.Private.Frames.{below, innermost}

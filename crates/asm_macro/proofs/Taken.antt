@@ -3,9 +3,9 @@ use Rattle.std.proofs.Common.{◌≡◌, ◌⊎◌, inl, inr, ◌<◌, sym, refl
 use Rattle.std.proofs.lemmas.Bool.{lt-leb}
 use Rattle.asm_macro.specs.declared.take.TheConstants.{MOST_NESTED}
 use Rattle.asm_macro.specs.declared.fault.MacroFault.{MacroFault}
-use Rattle.asm_texts.specs.Lines.{Numbered}
+use Rattle.asm_text.specs.Lines.{Numbered}
 use Rattle.asm_macro.specs.State.{State}
-use Rattle.asm_sections.specs.Blocks.{Body, Branches}
+use Rattle.asm_text.specs.Sections.Blocks.{Body, Branches}
 use Rattle.asm_macro.specs.Parts.{chosen, conditional, repeated, turns}
 use Rattle.asm_macro.specs.Ahead.{Around, Rest}
 use Rattle.asm_macro.specs.Private.Stopped.{stopped}

@@ -3,14 +3,14 @@ use Rattle.std.proofs.Common.{◌≡◌, ◌≤◌, ◌+◌, ◌-◌, ◌∙◌,
 use Rattle.asm_macro.specs.declared.take.TheConstants.{MOST_NESTED}
 use Rattle.asm_macro.specs.declared.expansion.TheConstants.{MOST_LINES}
 use Rattle.asm_replace.specs.Replaced.{Table}
-use Rattle.asm_texts.specs.declared.span.Span.{Span}
-use Rattle.asm_texts.specs.Lines.{Numbered}
-use Rattle.asm_texts.specs.Spans.{text_of}
-use Rattle.asm_sections.specs.declared.following.Following.{Following}
-use Rattle.asm_sections.specs.declared.following.Onward.{Onward}
-use Rattle.asm_sections.specs.declared.stretch.Block.{Block}
-use Rattle.asm_sections.specs.Onward.{Next}
-use Rattle.asm_sections.specs.Views.{next_of, onward_seen}
+use Rattle.asm_text.specs.declared.span.Span.{Span}
+use Rattle.asm_text.specs.Lines.{Numbered}
+use Rattle.asm_text.specs.Spans.{text_of}
+use Rattle.asm_text.specs.declared.following.Following.{Following}
+use Rattle.asm_text.specs.declared.following.Onward.{Onward}
+use Rattle.asm_text.specs.declared.stretch.Block.{Block}
+use Rattle.asm_text.specs.Sections.Onward.{Next}
+use Rattle.asm_text.specs.Sections.Views.{next_of, onward_seen}
 use Rattle.asm_macro.specs.declared.expansion.Expansion.{Expansion}
 use Rattle.asm_macro.specs.declared.moves.Stop.{Stop}
 use Rattle.asm_macro.specs.State.{State}

@@ -1,8 +1,8 @@
 -- A text has one expansion.
 use Rattle.std.proofs.Common.{◌≡◌, ◌∙◌, ap, subst, refl, ℕ, List, [], ◌∷◌, ◌++◌, arith}
-use Rattle.asm_texts.specs.Lines.{Numbered}
+use Rattle.asm_text.specs.Lines.{Numbered}
 use Rattle.asm_macro.specs.State.{State}
-use Rattle.asm_sections.specs.Onward.{Next}
+use Rattle.asm_text.specs.Sections.Onward.{Next}
 use Rattle.asm_macro.specs.Parts.{Part, Stop, Last, Go, Within, part, resumed}
 use Rattle.asm_macro.specs.Expands.{End, Whole, Ended, Stopped, Expands, nothing, line, Comes, stop, last, go, within, Follows, whole, ended, stopped, IsExpansion, long, short}
 

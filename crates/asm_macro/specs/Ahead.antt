@@ -3,9 +3,9 @@ use Rattle.std.specs.Prelude.{◌≡◌, ◌<◌, ◌-◌, ℕ, Bool, true, fals
 use Rattle.asm_macro.specs.declared.expansion.TheConstants.{MOST_LINES}
 use Rattle.asm_macro.specs.declared.expander.Line.{Line}
 use Rattle.asm_macro.specs.declared.fault.MacroFault.{MacroFault}
-use Rattle.asm_texts.specs.Lines.{Numbered}
+use Rattle.asm_text.specs.Lines.{Numbered}
 use Rattle.asm_macro.specs.State.{State, room}
-use Rattle.asm_sections.specs.Onward.{Next}
+use Rattle.asm_text.specs.Sections.Onward.{Next}
 use Rattle.asm_macro.specs.Expands.{End, Ended, Stopped, Expands, Follows, IsDone, IsExpansion}
 
 -- what follows a text in the one around it, at a depth

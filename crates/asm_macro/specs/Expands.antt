@@ -2,10 +2,10 @@
 use Rattle.std.specs.Prelude.{◌<◌, ◌≤◌, ℕ, List, [], ◌∷◌, ◌++◌, Result, Ok, Err, length}
 use Rattle.limits.specs.declared.TheConstants.{LONGEST_TEXT}
 use Rattle.asm_macro.specs.declared.fault.MacroFault.{MacroFault}
-use Rattle.asm_texts.specs.Lines.{Numbered}
+use Rattle.asm_text.specs.Lines.{Numbered}
 use Rattle.asm_macro.specs.Texts.{numbered, source_lines}
 use Rattle.asm_macro.specs.State.{State, start}
-use Rattle.asm_sections.specs.Onward.{Next}
+use Rattle.asm_text.specs.Sections.Onward.{Next}
 use Rattle.asm_macro.specs.Parts.{Part, Stop, Last, Go, Within, part, resumed}
 
 -- How an expansion ends: it is whole, and leaves a state; an END was taken up; or it stops at a line with a fault.

@@ -12,9 +12,9 @@ use Rattle.asm_line.specs.Lists.{names}
 use Rattle.asm_scan.specs.Scanned.{scanned}
 use Rattle.asm_macro.specs.declared.fault.MacroFault.{MacroFault}
 use Rattle.asm_macro.specs.Faults.{fault_of_scan}
-use Rattle.asm_texts.specs.Lines.{Numbered, form_of}
+use Rattle.asm_text.specs.Lines.{Numbered, form_of}
 use Rattle.asm_macro.specs.State.{State, macro_named}
-use Rattle.asm_sections.specs.Blocks.{body_of, branches_of}
+use Rattle.asm_text.specs.Sections.Blocks.{body_of, branches_of}
 
 -- LOCAL and the words that divide or close a block are not counted.
 abbrev pub is_counted : Head → Bool

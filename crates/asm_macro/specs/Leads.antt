@@ -1,6 +1,6 @@
 -- What a part gives at once, what may be taken up from it on, and why it stops.
 use Rattle.std.specs.Prelude.{◌≡◌, ◌≤◌, ◌⊎◌, ℕ, suc, List, [], ◌∷◌, Some, Err, length}
-use Rattle.asm_texts.specs.Lines.{Numbered, form_of}
+use Rattle.asm_text.specs.Lines.{Numbered, form_of}
 use Rattle.asm_macro.specs.declared.fault.MacroFault.{MacroFault}
 use Rattle.asm_macro.specs.State.{State, room, table}
 use Rattle.asm_macro.specs.Values.{worth}

@@ -11,14 +11,13 @@ use Rattle.asm_line.specs.Forms.{Form, Head}
 use Rattle.asm_line.specs.Forms as line
 use Rattle.asm_scan.specs.Scanned.{scanned}
 use Rattle.asm_macro.specs.declared.fault.MacroFault.{MacroFault}
-use Rattle.asm_texts.specs.Lines.{Numbered, form_of}
-use Rattle.asm_texts.specs.Calls.{Macro}
+use Rattle.asm_text.specs.Lines.{Numbered, form_of}
+use Rattle.asm_text.specs.Calls.{Macro, Opened, opened, body_lines, arguments_in, table_of, label_lines}
 use Rattle.asm_macro.specs.State.{State, macro_called, with_macro, is_known, with_constant, counted, table}
 use Rattle.asm_macro.specs.Values.{worth}
-use Rattle.asm_texts.specs.Roles.{is_alone}
-use Rattle.asm_sections.specs.Blocks.{Section, Body, Branches, body_of, branches_of}
-use Rattle.asm_sections.specs.Onward.{Next, Rest, BehindFirst, BehindSecond, Turns, renumbered}
-use Rattle.asm_texts.specs.Calls.{Opened, opened, body_lines, arguments_in, table_of, label_lines}
+use Rattle.asm_text.specs.Roles.{is_alone}
+use Rattle.asm_text.specs.Sections.Blocks.{Section, Body, Branches, body_of, branches_of}
+use Rattle.asm_text.specs.Sections.Onward.{Next, Rest, BehindFirst, BehindSecond, Turns, renumbered}
 use Rattle.asm_macro.specs.Judged.{parameters, line_fault}
 
 pub data Part : Type 0 where

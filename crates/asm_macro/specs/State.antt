@@ -4,7 +4,7 @@ use Rattle.std.specs.Map.{lookup}
 use Rattle.std.specs.Str.{bytes_eq}
 use Rattle.asm_expr.specs.declared.meaning.Meaning.{Meaning}
 use Rattle.asm_expr.specs.Names as names
-use Rattle.asm_texts.specs.Calls.{Macro}
+use Rattle.asm_text.specs.Calls.{Macro}
 use Rattle.asm_macro.specs.declared.expansion.TheConstants.{MOST_LINES}
 
 -- The macros by their names; the names that EQU gave a value that is known here; how many LOCAL names there were; how many

@@ -2,7 +2,7 @@
 use Rattle.std.specs.Prelude.{ℕ, ◌+◌, ◌==◌, not, List, [], ◌∷◌, map, take}
 use Rattle.std.specs.List.{prefix_len}
 use Rattle.bstr.specs.Text.{lines_of, without_terminator}
-use Rattle.asm_texts.specs.Lines.{Numbered}
+use Rattle.asm_text.specs.Lines.{Numbered}
 
 -- the text up to its first byte 1AH, CP/M's end of a text file
 abbrev pub source_part : List ℕ → List ℕ

@@ -2,13 +2,13 @@
 
 ghost use Rattle.std.specs.Prelude.{◌≡◌, IfOk, OnOk};
 ghost use Rattle.std.specs.Option.{option_map};
-ghost use Rattle.asm_sections.specs.Blocks.{body_of, branches_of};
-ghost use Rattle.asm_sections.specs.Sections.{body_seen, branches_seen};
+ghost use Rattle.asm_text.specs.Sections.Blocks.{body_of, branches_of};
+ghost use Rattle.asm_text.specs.Sections.Sections.{body_seen, branches_seen};
 ghost use Rattle.asm_macro.specs.Private.Frames.{innermost};
 ghost use Rattle.asm_macro.specs.Private.Moves.{IsSound, rest_of, tables_in};
 
 use crate::expansion::Expansion;
-use asm_sections::{Block, Choice, body_of, branches_of};
+use asm_text::{Block, Choice, body_of, branches_of};
 use std::alloc::AllocError;
 
 impl<'a> Expansion<'a> {

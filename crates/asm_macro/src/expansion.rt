@@ -2,7 +2,7 @@
 
 ghost use Rattle.std.specs.Prelude.{◌≡◌, ◌≢◌, ◌<◌, ◌≤◌, ◌+◌, ◌∷◌, ℕ, IfOk, OnOk, List, [], Some, length, reverse, slice_index_or};
 ghost use Rattle.asm_replace.specs.Replaced.{Table};
-ghost use Rattle.asm_sections.specs.Books.{IsBook};
+ghost use Rattle.asm_text.specs.Sections.Books.{IsBook};
 ghost use Rattle.asm_macro.specs.Kept.{AreOf};
 ghost use Rattle.asm_macro.specs.Parts.{part};
 ghost use Rattle.asm_macro.specs.Private.Frames.{AreBooks, below, innermost};
@@ -13,8 +13,7 @@ use crate::constants::Constants;
 use crate::expander::Line;
 use crate::moves::{Given, Stop, Taken};
 use asm_scan::Token;
-use asm_sections::{Book, Following};
-use asm_texts::{Call, Lines, Macro, Span, put_shown};
+use asm_text::{Book, Call, Following, Lines, Macro, Span, put_shown};
 use indexmap::IndexMap;
 use name_key::NameKey;
 use std::alloc::{AllocError, Global};

@@ -4,9 +4,9 @@ ghost use Rattle.std.specs.Prelude.{◌≡◌, ◌≤◌, ◌+◌, OnOk, List, O
 ghost use Rattle.asm_macro.specs.declared.take.TheConstants.{MOST_NESTED};
 ghost use Rattle.asm_macro.specs.declared.expansion.TheConstants.{MOST_LINES};
 ghost use Rattle.asm_replace.specs.Replaced.{Table};
-ghost use Rattle.asm_texts.specs.Lines.{Numbered};
-ghost use Rattle.asm_sections.specs.Sections.{branches_seen};
-ghost use Rattle.asm_sections.specs.Views.{next_of, onward_seen};
+ghost use Rattle.asm_text.specs.Lines.{Numbered};
+ghost use Rattle.asm_text.specs.Sections.Sections.{branches_seen};
+ghost use Rattle.asm_text.specs.Sections.Views.{next_of, onward_seen};
 ghost use Rattle.asm_macro.specs.Parts.{chosen, resumed};
 ghost use Rattle.asm_macro.specs.Private.Frames.{innermost};
 ghost use Rattle.asm_macro.specs.Private.Going.{Enters, Fits, into, part_of, texts_opened, turn_in, turns_opened};
@@ -15,7 +15,7 @@ ghost use Rattle.asm_macro.specs.Private.Moves.{IsSound, Resumes, most_moves, mo
 use crate::expansion::{Expansion, MOST_LINES};
 use crate::fault::MacroFault;
 use crate::moves::Stop;
-use asm_sections::{Choice, Following, Onward, behind, branch};
+use asm_text::{Choice, Following, Onward, behind, branch};
 
 impl<'a> Expansion<'a> {
     /// Counts a turn of a REPT, if it is one that opens.

@@ -1,8 +1,8 @@
 //! What one move of an expansion comes to.
 
 ghost use Rattle.std.specs.Prelude.{◌≡◌, Ok, ℕ};
-ghost use Rattle.asm_texts.specs.Lines.{Numbered};
-ghost use Rattle.asm_texts.specs.Prepared.{labels};
+ghost use Rattle.asm_text.specs.Lines.{Numbered};
+ghost use Rattle.asm_text.specs.Prepared.{labels};
 ghost use Rattle.asm_macro.specs.declared.fault.MacroFault.{MacroFault};
 ghost use Rattle.asm_macro.specs.Ahead.{Rest};
 ghost use Rattle.asm_macro.specs.Private.Moves.{Fails, On, Takes};

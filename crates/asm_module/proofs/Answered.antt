@@ -5,10 +5,10 @@ use Rattle.asm_macro.specs.Expands.{End, Ended, IsExpanded, IsExpansion, Stopped
 use Rattle.asm_macro.specs.Texts.{source_lines}
 use Rattle.asm_names.specs.Faults.{first}
 use Rattle.asm_names.specs.Lines.{Taken}
-use Rattle.asm_rules.specs.Below as program
-use Rattle.asm_source.specs.Read.{taken}
-use Rattle.asm_source.specs.Source.{last_listed}
-use Rattle.asm_texts.specs.Lines.{Numbered}
+use Rattle.asm_statements.specs.Program.Statement as program
+use Rattle.asm_module.specs.Reads.Read.{taken}
+use Rattle.asm_module.specs.Reads.Source.{last_listed}
+use Rattle.asm_text.specs.Lines.{Numbered}
 use Rattle.zmo_module.specs.Modules.{Module}
 use Rattle.asm_module.proofs.Once.{OfLines, equ_fault_same, lines_same, module_same, program_same, state_fault_same}
 use Rattle.asm_module.specs.Assembled.{Assembled, Assembles, HasCause, IsProgram, IsStated, TellsLines, answer, assembled}

@@ -1,9 +1,9 @@
 -- What a module holds: there are few labels, and the parts make the whole.
 use Rattle.std.proofs.Common.{◌≡◌, ◌≤◌, ◌+◌, ◌∙◌, sym, ap, refl, subst, ℕ, Bool, List, Option, None, length, map, take, arith}
 use Rattle.std.proofs.lemmas.List.{length-map}
-use Rattle.asm_equ.specs.Layout.{Layout}
-use Rattle.asm_equ.specs.Meanings.{externals}
-use Rattle.asm_holding.specs.Holding.{begins, entry, labels, listed, publics}
+use Rattle.asm_names.specs.Layout.{Layout}
+use Rattle.asm_names.specs.Meanings.{externals}
+use Rattle.asm_module.specs.Holding.{begins, entry, labels, listed, publics}
 use Rattle.asm_names.specs.Faults.{first_fault}
 use Rattle.asm_names.specs.Lines.{Taken}
 use Rattle.asm_names.specs.Names.{Names, names}

@@ -11,29 +11,28 @@ use Rattle.asm_expr.specs.Distances.{is_unsized}
 use Rattle.asm_expr.specs.Names.{AreCounted, Table, found}
 use Rattle.asm_expr.specs.Origins.{Brings, is_number_name, is_valued_name}
 use Rattle.asm_expr.specs.Settling.{is_constant_name}
-use Rattle.asm_order.specs.declared.walk.Turn.{Turn}
-use Rattle.asm_order.specs.Order.{IsOrder}
-use Rattle.asm_equ.specs.Circles.{lines_named}
-use Rattle.asm_equ.specs.declared.settling.SettledNames.{SettledNames}
-use Rattle.asm_equ.specs.Layout.{Layout, next_at}
-use Rattle.asm_equ.specs.Meanings as equ
-use Rattle.asm_equ.specs.Meanings.{entries, externals, table_at}
-use Rattle.asm_equ.specs.Settles.{Settles, told}
-use Rattle.asm_holding.specs.Holding.{entry, labels, listed, publics}
-use Rattle.asm_layout.specs.Laid.{laid, statements}
+use Rattle.asm_names.specs.declared.walk.Turn.{Turn}
+use Rattle.asm_names.specs.Orders.Order.{IsOrder}
+use Rattle.asm_names.specs.Circles.{lines_named, TellsCircles}
+use Rattle.asm_names.specs.declared.settling.SettledNames.{SettledNames}
+use Rattle.asm_names.specs.Layout.{Layout, next_at}
+use Rattle.asm_names.specs.Meanings as equ
+use Rattle.asm_names.specs.Meanings.{entries, externals, table_at}
+use Rattle.asm_names.specs.Settles.{Settles, told}
+use Rattle.asm_module.specs.Holding.{entry, labels, listed, publics}
+use Rattle.asm_statements.specs.Layouts.Laid.{laid, statements}
 use Rattle.asm_names.specs.Faults as naming
 use Rattle.asm_names.specs.Lines.{Taken, has_statement}
 use Rattle.asm_names.specs.Names.{Names, kind_of, names}
 use Rattle.asm_piece.specs.Sized.{IsLike, kind}
-use Rattle.asm_rules.specs.Fitting.{FitsWord, IsReadLine}
-use Rattle.asm_rules.specs.Program.{AreAt, program}
-use Rattle.asm_equ.specs.Circles.{TellsCircles}
+use Rattle.asm_statements.specs.Rules.Fitting.{FitsWord, IsReadLine}
+use Rattle.asm_statements.specs.Program.Lines.{AreAt, program}
 use Rattle.asm_module.specs.Assembled.{StatesLines}
 use Rattle.asm_module.proofs.Passed.{SameFaults, SameStatements}
 use Rattle.asm_spell.specs.Names.{line_names}
-use Rattle.asm_stands.specs.Stands.{sizes}
-use Rattle.asm_states.specs.Stated as stated
-use Rattle.asm_states.specs.Stated.{numbered}
+use Rattle.asm_statements.specs.Layouts.Sizes.{sizes}
+use Rattle.asm_statements.specs.Module.Stated as stated
+use Rattle.asm_statements.specs.Module.Stated.{numbered}
 use Rattle.zmo_module.specs.Modules.{Label, Statement}
 use Rattle.zmo_module.specs.Rules.{IsLabel, IsModule, IsObjectName, IsStatement}
 use Rattle.asm_module.specs.Private.Steps.{held}

@@ -1,3 +1,5 @@
+mod Reads
+mod Holding
 mod Placed
 mod Once
 mod Answered

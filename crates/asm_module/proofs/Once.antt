@@ -10,21 +10,21 @@ use Rattle.std.proofs.lemmas.Map.Entries.{lookup_from_place}
 use Rattle.std.proofs.lemmas.Option.{slice_get-get_or, slice_get_within}
 use Rattle.asm_expr.specs.Equating.{equated}
 use Rattle.asm_expr.specs.Below.{source}
-use Rattle.asm_equ.specs.Circles.{TellsCircles, items_at}
-use Rattle.asm_equ.specs.declared.fault.EquFault.{EquFault}
-use Rattle.asm_equ.specs.Layout.{Layout}
-use Rattle.asm_equ.specs.Meanings as equ
-use Rattle.asm_equ.specs.Meanings.{Entries, after_rounds, entries, meaning, meaning_by, table_at, undefined, valueless}
-use Rattle.asm_layout.specs.Laid.{laid}
+use Rattle.asm_names.specs.Circles.{TellsCircles, items_at}
+use Rattle.asm_names.specs.declared.equ_fault.EquFault.{EquFault}
+use Rattle.asm_names.specs.Layout.{Layout}
+use Rattle.asm_names.specs.Meanings as equ
+use Rattle.asm_names.specs.Meanings.{Entries, after_rounds, entries, meaning, meaning_by, table_at, undefined, valueless}
+use Rattle.asm_statements.specs.Layouts.Laid.{laid}
 use Rattle.asm_names.specs.declared.kind.Kind.{Kind}
 use Rattle.asm_names.specs.Faults.{first, if_so}
 use Rattle.asm_names.specs.Lines.{Taken, placed}
 use Rattle.asm_names.specs.Names.{kind_of, names}
 use Rattle.asm_spell.specs.Line as line
 use Rattle.asm_spell.specs.Line.{Expression, Line}
-use Rattle.asm_rules.specs.Program.{program}
-use Rattle.asm_states.specs.Stated as stated
-use Rattle.asm_states.specs.Stated.{numbered}
+use Rattle.asm_statements.specs.Program.Lines.{program}
+use Rattle.asm_statements.specs.Module.Stated as stated
+use Rattle.asm_statements.specs.Module.Stated.{numbered}
 use Rattle.asm_module.specs.Source.{at, equ_fault, layout, module_by, no_layout, state_fault, statement_lines, table}
 use Rattle.asm_module.specs.Whys.{equ_why, state_why}
 

@@ -1,20 +1,20 @@
 -- What is answered of lines that passed the first pass.
 use Rattle.std.proofs.Common.{◌≡◌, ◌∙◌, sym, ap, subst, ℕ, Bool, List, [], ◌∷◌, Option, Some, None, length, map}
 use Rattle.std.proofs.lemmas.List.{length-map}
-use Rattle.asm_expr.specs.Names.{Table}
-use Rattle.asm_order.specs.declared.walk.Turn.{Turn}
-use Rattle.asm_order.specs.Order.{IsOrder}
-use Rattle.asm_equ.specs.Circles.{TellsCircles, lines_named}
-use Rattle.asm_equ.specs.declared.fault.EquFault.{EquFault}
-use Rattle.asm_equ.specs.declared.settling.SettledNames.{SettledNames}
-use Rattle.asm_equ.specs.Layout.{Layout}
-use Rattle.asm_equ.specs.Settles.{Settles, told}
+use Rattle.asm_expr.specs.Names.{Table, found}
+use Rattle.asm_names.specs.declared.walk.Turn.{Turn}
+use Rattle.asm_names.specs.Orders.Order.{IsOrder}
+use Rattle.asm_names.specs.Circles.{TellsCircles, lines_named}
+use Rattle.asm_names.specs.declared.equ_fault.EquFault.{EquFault}
+use Rattle.asm_names.specs.declared.settling.SettledNames.{SettledNames}
+use Rattle.asm_names.specs.Layout.{Layout}
+use Rattle.asm_names.specs.Settles.{Settles, told}
 use Rattle.asm_names.specs.Faults.{first}
 use Rattle.asm_names.specs.declared.kind.SourceLine.{SourceLine}
 use Rattle.asm_names.specs.Lines.{Taken, lines_of, taken_of}
 use Rattle.asm_names.specs.Names.{Names, names}
-use Rattle.asm_states.specs.Stated as stated
-use Rattle.asm_states.specs.Stated.{numbered}
+use Rattle.asm_statements.specs.Module.Stated as stated
+use Rattle.asm_statements.specs.Module.Stated.{numbered}
 use Rattle.zmo_module.specs.Modules.{Module, Statement}
 use Rattle.asm_module.specs.declared.fault.AsmFault.{AsmFault}
 use Rattle.asm_module.specs.declared.fault.Why.{Why}
@@ -22,7 +22,6 @@ use Rattle.asm_module.specs.Private.Steps.{FaultBy, HasFault, IsFault, IsWhole, 
 use Rattle.asm_module.specs.Source as source
 use Rattle.asm_module.specs.Source.{at, equ_fault, state_fault, table}
 use Rattle.asm_module.specs.Whys.{equ_why, state_why}
-use Rattle.asm_expr.specs.Names.{found}
 
 -- a fault of some lines
 abbrev pub IsFirst : Bool → List Taken → AsmFault → Type 0

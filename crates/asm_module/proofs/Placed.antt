@@ -1,11 +1,11 @@
 -- Names that are settled twice: before statements have their places, and after.
 use Rattle.std.proofs.Common.{◌≡◌, ◌∙◌, ap, subst, Bool, List}
 use Rattle.asm_expr.specs.Names.{Table}
-use Rattle.asm_order.specs.declared.walk.Turn.{Turn}
-use Rattle.asm_equ.specs.declared.settling.SettledNames.{SettledNames}
-use Rattle.asm_equ.specs.Layout.{Layout}
-use Rattle.asm_equ.specs.Settles.{Settles, told}
-use Rattle.asm_layout.specs.Laid.{laid}
+use Rattle.asm_names.specs.declared.walk.Turn.{Turn}
+use Rattle.asm_names.specs.declared.settling.SettledNames.{SettledNames}
+use Rattle.asm_names.specs.Layout.{Layout}
+use Rattle.asm_names.specs.Settles.{Settles, told}
+use Rattle.asm_statements.specs.Layouts.Laid.{laid}
 use Rattle.asm_names.specs.Lines.{Taken}
 use Rattle.asm_names.specs.Names.{Names, names}
 use Rattle.asm_piece.specs.Sized.{IsLike, kind}

@@ -9,12 +9,12 @@ use Rattle.asm_spell.specs.Few.{IsFew}
 use Rattle.asm_spell.specs.Line as line
 use Rattle.asm_spell.specs.Line.{Body, Line}
 use Rattle.asm_parse.specs.Names.{IsDefinable}
-use Rattle.asm_rules.specs.Fitting.{IsReadLine}
+use Rattle.asm_statements.specs.Rules.Fitting.{IsReadLine}
 use Rattle.asm_spell.specs.Names.{line_names}
 use Rattle.zmo_module.specs.Rules.{IsObjectName}
 use Rattle.asm_spell.specs.Spelling.{spelled}
-use Rattle.asm_equ.specs.Circles.{TellsCircles}
-use Rattle.asm_layout.specs.Laid.{HasFew, IsFewIn}
+use Rattle.asm_names.specs.Circles.{TellsCircles}
+use Rattle.asm_statements.specs.Layouts.Laid.{HasFew, IsFewIn}
 use Rattle.asm_macro.specs.declared.fault.MacroFault.{MacroFault}
 use Rattle.asm_macro.specs.Expands.{End, IsExpanded, IsExpansion}
 use Rattle.asm_macro.specs.Texts.{source_lines}
@@ -22,10 +22,10 @@ use Rattle.asm_names.specs.Faults as defined
 use Rattle.asm_names.specs.Faults.{first}
 use Rattle.asm_names.specs.Lines.{Taken}
 use Rattle.asm_names.specs.Names.{names}
-use Rattle.asm_source.specs.declared.fault.LineFault.{LineFault}
-use Rattle.asm_source.specs.Read.{IsRead, taken, unread}
-use Rattle.asm_source.specs.Source.{IsSourceText, last_listed}
-use Rattle.asm_texts.specs.Lines.{Numbered}
+use Rattle.asm_module.specs.declared.line_fault.LineFault.{LineFault}
+use Rattle.asm_module.specs.Reads.Read.{IsRead, taken, unread}
+use Rattle.asm_module.specs.Reads.Source.{IsSourceText, last_listed}
+use Rattle.asm_text.specs.Lines.{Numbered}
 use Rattle.zmo_module.specs.Modules.{Module}
 use Rattle.asm_module.specs.Assembled.{Assembles, IsRefused, TellsLines, answer}
 use Rattle.asm_module.specs.declared.fault.AsmFault.{AsmFault}

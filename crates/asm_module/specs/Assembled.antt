@@ -1,16 +1,16 @@
 -- What is answered of a source text.
 use Rattle.std.specs.Prelude.{◌≡◌, ◌≢◌, ℕ, Bool, false, List, Option, Some, None, Result, Ok, Err, length}
-use Rattle.asm_equ.specs.Circles.{TellsCircles}
+use Rattle.asm_names.specs.Circles.{TellsCircles}
 use Rattle.asm_macro.specs.declared.fault.MacroFault.{MacroFault}
 use Rattle.asm_macro.specs.Expands.{IsExpanded}
 use Rattle.asm_macro.specs.Texts.{source_lines}
 use Rattle.asm_names.specs.Lines.{Taken}
 use Rattle.asm_names.specs.Names.{names}
-use Rattle.asm_rules.specs.Below as stated
-use Rattle.asm_rules.specs.Program.{AreAt, program}
-use Rattle.asm_source.specs.Read.{taken}
-use Rattle.asm_source.specs.Source.{last_listed}
-use Rattle.asm_texts.specs.Lines.{Numbered}
+use Rattle.asm_statements.specs.Program.Statement as stated
+use Rattle.asm_statements.specs.Program.Lines.{AreAt, program}
+use Rattle.asm_module.specs.Reads.Read.{taken}
+use Rattle.asm_module.specs.Reads.Source.{last_listed}
+use Rattle.asm_text.specs.Lines.{Numbered}
 use Rattle.zmo_module.specs.declared.module.Module as whole
 use Rattle.zmo_module.specs.Modules.{Module, Statement, module_of}
 use Rattle.asm_module.specs.declared.assembling.Lines as listing

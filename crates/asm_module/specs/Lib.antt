@@ -1,3 +1,5 @@
+pub mod Reads
+pub mod Holding
 pub mod Below
 pub mod Whys
 pub mod Source

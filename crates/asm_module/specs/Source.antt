@@ -3,22 +3,22 @@ use Rattle.std.specs.Prelude.{ℕ, Bool, List, [], ◌∷◌, Option, map, take}
 use Rattle.std.specs.Option.{option_map}
 use Rattle.zmo_module.specs.declared.module.TheConstants.{LONGEST_NAME}
 use Rattle.asm_expr.specs.Names.{Table}
-use Rattle.asm_equ.specs.Layout.{Layout}
-use Rattle.asm_equ.specs.Meanings as equ
-use Rattle.asm_equ.specs.Meanings.{entries, externals, table_at}
-use Rattle.asm_layout.specs.Laid.{laid}
+use Rattle.asm_names.specs.Layout.{Layout}
+use Rattle.asm_names.specs.Meanings as equ
+use Rattle.asm_names.specs.Meanings.{entries, externals, table_at}
+use Rattle.asm_statements.specs.Layouts.Laid.{laid}
 use Rattle.asm_names.specs.Faults as defined
 use Rattle.asm_names.specs.Faults.{first}
 use Rattle.asm_names.specs.Lines.{Taken}
 use Rattle.asm_names.specs.Names.{names}
-use Rattle.asm_source.specs.Read.{taken, unread}
-use Rattle.asm_states.specs.Stated as stated
-use Rattle.asm_states.specs.Stated.{numbered}
-use Rattle.asm_texts.specs.Lines.{Numbered}
+use Rattle.asm_module.specs.Reads.Read.{taken, unread}
+use Rattle.asm_statements.specs.Module.Stated as stated
+use Rattle.asm_statements.specs.Module.Stated.{numbered}
+use Rattle.asm_text.specs.Lines.{Numbered}
 use Rattle.zmo_module.specs.Modules.{Module}
 use Rattle.asm_module.specs.declared.fault.AsmFault.{AsmFault}
 use Rattle.asm_module.specs.declared.fault.Why.{Why}
-use Rattle.asm_holding.specs.Holding.{begins, entry, labels, listed, publics}
+use Rattle.asm_module.specs.Holding.{begins, entry, labels, listed, publics}
 use Rattle.asm_module.specs.Whys.{equ_why, line_why, name_why, state_why}
 
 -- before anything is known of places

@@ -1,10 +1,10 @@
 -- The faults of the parts of a source as those of the whole.
-use Rattle.asm_equ.specs.declared.fault.EquFault.{EquFault}
+use Rattle.asm_names.specs.declared.equ_fault.EquFault.{EquFault}
 use Rattle.asm_macro.specs.declared.fault.MacroFault.{MacroFault}
 use Rattle.asm_names.specs.declared.fault.NameFault.{NameFault}
-use Rattle.asm_source.specs.declared.fault.LineFault.{LineFault}
+use Rattle.asm_module.specs.declared.line_fault.LineFault.{LineFault}
 use Rattle.asm_spell.specs.declared.fault.StmtFault.{StmtFault}
-use Rattle.asm_states.specs.declared.fault.StateFault.{StateFault}
+use Rattle.asm_statements.specs.declared.fault.StateFault.{StateFault}
 use Rattle.asm_module.specs.declared.fault.Why.{Why}
 
 abbrev pub macro_why : MacroFault → Why

@@ -8,7 +8,7 @@ ghost use Rattle.asm_module.specs.Assembled.{IsAssembled, IsAssembledModule, Sta
 use crate::fault::{AsmFault, of_macro};
 use crate::lines::assemble_lines;
 use crate::naming::first_pass;
-use asm_source::read_source;
+use crate::source::read_source;
 use std::alloc::Global;
 use zmo_module::Module;
 
@@ -40,8 +40,8 @@ pub fn assemble_with(
     ensures placed { IfOk result (λ r. States text.now grow (module_of r.0).statements) }
 {
     asm_macro::laws::few_lines();
-    asm_source::laws::each_spelled();
-    asm_source::laws::all_read();
+    crate::laws::each_spelled();
+    crate::laws::all_read();
     asm_spell::laws::few();
     asm_spell::laws::names();
     let source = match read_source(alloc, text) {

@@ -3,12 +3,11 @@
 ghost use Rattle.std.specs.Prelude.{◌≡◌, ℕ};
 ghost use Rattle.asm_module.specs.Whys.{equ_why, line_why, macro_why, name_why, state_why};
 
-use asm_equ::EquFault;
+use crate::line_fault::LineFault;
 use asm_macro::MacroFault;
-use asm_names::NameFault;
-use asm_source::LineFault;
+use asm_names::{EquFault, NameFault};
 use asm_spell::StmtFault;
-use asm_states::StateFault;
+use asm_statements::StateFault;
 use std::alloc::AllocError;
 use thiserror::Error;
 

@@ -1,18 +1,30 @@
-//! One source text to a module.
+//! Assembles one source.
 //!
-//! [`assemble`] answers the module that a source is, or its first fault; [`assemble_listed`] says besides from which lines its statements
-//! come; [`assemble_with`] lets a written `JR` grow.
+//! [`assemble`] answers the module that a source is, or its first error; [`assemble_listed`] also says from which lines its
+//! statements come; [`assemble_with`] lets a written `JR` grow. [`read_source`] answers the lines of a source's expansion up to
+//! the first that is no line of the language, and [`labels_of`], [`externals_of`], [`publics_of`], [`begins`] and [`entry_of`]
+//! what a module has besides its statements.
 #![tactic(auto)]
 
 mod assembling;
 mod fault;
+mod last;
 pub mod laws;
+mod line_fault;
 mod lines;
+mod listed;
 mod naming;
+mod passing_on;
 mod placing;
+mod reading;
+mod source;
 
 pub use asm_macro::MacroFault;
+pub use asm_names::SourceLine;
 pub use asm_spell::StmtFault;
 pub use assembling::{Lines, assemble, assemble_listed, assemble_with};
 pub use fault::{AsmFault, Why};
+pub use line_fault::LineFault;
+pub use passing_on::{begins, entry_of, externals_of, labels_of, publics_of};
+pub use source::{SourceText, read_source};
 pub use zmo_module::Module;

@@ -3,12 +3,12 @@
 ghost use Rattle.std.specs.Prelude.{◌≡◌, ◌<◌, ◌^◌, [], ℕ, All, Bool, List, None, IfOk, length, take};
 ghost use Rattle.zmo_module.specs.declared.module.TheConstants.{LONGEST_NAME};
 ghost use Rattle.asm_expr.specs.Names.{found};
-ghost use Rattle.asm_equ.specs.Layout.{layout_of};
-ghost use Rattle.asm_layout.specs.Laid.{HasFew};
+ghost use Rattle.asm_names.specs.Layout.{layout_of};
+ghost use Rattle.asm_statements.specs.Layouts.Laid.{HasFew};
 ghost use Rattle.asm_names.specs.Faults.{first_fault};
 ghost use Rattle.asm_names.specs.Lines.{lines_of};
 ghost use Rattle.asm_names.specs.Names.{kind_of, names};
-ghost use Rattle.asm_rules.specs.Fitting.{IsReadLine};
+ghost use Rattle.asm_statements.specs.Rules.Fitting.{IsReadLine};
 ghost use Rattle.asm_spell.specs.Names.{line_names};
 ghost use Rattle.zmo_module.specs.Modules.{module_of};
 ghost use Rattle.zmo_module.specs.Rules.{IsModule, IsObjectName};
@@ -16,13 +16,11 @@ ghost use Rattle.asm_module.specs.Assembled.{StatesLines};
 ghost use Rattle.asm_module.specs.Private.Steps.{AnswersLines, States, held};
 
 use crate::fault::{AsmFault, of_equ, of_state};
+use crate::passing_on::{begins, entry_of, externals_of, labels_of, publics_of};
 use crate::placing::place;
-use asm_equ::{Layout, turns_of};
 use asm_expr::Names;
-use asm_holding::{begins, entry_of, externals_of, labels_of, publics_of};
-use asm_names::{NameTable, SourceLine};
-use asm_rules::fit_words;
-use asm_states::{Stated, state_lines};
+use asm_names::{Layout, NameTable, SourceLine, turns_of};
+use asm_statements::{Stated, fit_words, state_lines};
 use std::alloc::{AllocError, Global};
 use zmo_module::{LONGEST_NAME, Module};
 
@@ -67,7 +65,7 @@ fn hold(
     ensures { IfOk result (λ m. module_of m ≡ held name.now grow (lines_of lines.now) (layout_of layout.now) []) }
 {
     asm_names::laws::few();
-    asm_holding::laws::kept();
+    crate::laws::kept();
     let labels = labels_of(alloc, table, layout)?;
     let publics = publics_of(alloc, &labels, lines)?;
     Ok(Module {
@@ -100,23 +98,23 @@ pub(crate) fn assemble_lines(
     ensures kept { IfOk result (λ r. IsModule (module_of r.0)) }
     ensures placed { IfOk result (λ r. StatesLines grow (lines_of lines.items) (module_of r.0).statements) }
 {
-    asm_equ::laws::told();
-    asm_equ::laws::valued();
-    asm_equ::laws::refs();
-    asm_layout::laws::like();
+    asm_names::laws::told();
+    asm_names::laws::valued();
+    asm_names::laws::refs();
+    asm_statements::laws::kinds_anywhere();
     asm_names::laws::few();
     asm_names::laws::distinct();
-    asm_states::laws::all_found();
-    asm_states::laws::stated_by_names();
-    asm_stands::laws::sized();
-    asm_stands::laws::laid();
-    asm_stands::laws::within();
-    asm_rules::laws::kept();
-    asm_rules::laws::few();
-    asm_rules::laws::placed();
-    asm_holding::laws::named();
-    asm_holding::laws::kept();
-    asm_holding::laws::within();
+    asm_statements::laws::all_found();
+    asm_statements::laws::stated_by_names();
+    asm_statements::laws::all_sized();
+    asm_statements::laws::stated_as_laid();
+    asm_statements::laws::next_within();
+    asm_statements::laws::statements_keep_rules();
+    asm_statements::laws::few_statements();
+    asm_statements::laws::statements_at_places();
+    crate::laws::named();
+    crate::laws::kept();
+    crate::laws::within();
     let turns = turns_of(alloc, &lines, table)?;
     let (settled, layout) = place(alloc, &lines, table, &turns, grow)?;
     if let Some((line, why)) = settled.fault {

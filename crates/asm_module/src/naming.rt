@@ -4,8 +4,8 @@ ghost use Rattle.asm_names.specs.Lines.{lines_of};
 ghost use Rattle.asm_module.specs.Private.Steps.{Passes};
 
 use crate::fault::{AsmFault, of_line, of_name};
+use crate::source::SourceText;
 use asm_names::{NameTable, names_of};
-use asm_source::SourceText;
 use std::alloc::Global;
 
 /// The names of a source, or the first line that may not define what it defines or spells nothing.

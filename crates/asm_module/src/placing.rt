@@ -1,20 +1,18 @@
 //! What names stand for, and where statements stand.
 
 ghost use Rattle.std.specs.Prelude.{◌≡◌, ◌≤◌, [], All, IfOk, None, length};
-ghost use Rattle.asm_order.specs.Order.{IsOrder};
-ghost use Rattle.asm_equ.specs.Circles.{lines_named};
-ghost use Rattle.asm_equ.specs.Layout.{layout_of};
-ghost use Rattle.asm_layout.specs.Laid.{HasFew};
+ghost use Rattle.asm_names.specs.Orders.Order.{IsOrder};
+ghost use Rattle.asm_names.specs.Circles.{lines_named};
+ghost use Rattle.asm_names.specs.Layout.{layout_of};
+ghost use Rattle.asm_statements.specs.Layouts.Laid.{HasFew};
 ghost use Rattle.asm_names.specs.Faults.{first_fault};
 ghost use Rattle.asm_names.specs.Lines.{lines_of};
 ghost use Rattle.asm_names.specs.Names.{names};
 ghost use Rattle.asm_module.specs.Private.Steps.{IsPlaced};
 ghost use Rattle.asm_module.specs.Source.{no_layout};
 
-use asm_equ::{Layout, SettledNames, settle_names};
-use asm_layout::lay;
-use asm_names::{NameTable, SourceLine};
-use asm_order::Turn;
+use asm_names::{Layout, NameTable, SettledNames, SourceLine, Turn, settle_names};
+use asm_statements::lay;
 use std::alloc::{AllocError, Global};
 
 /// Before anything is known of places.
@@ -43,7 +41,7 @@ pub(crate) fn place(
     ensures { IfOk result (IsPlaced grow (lines_of lines.now) turns.now) }
 {
     asm_names::laws::few();
-    asm_layout::laws::laid();
+    asm_statements::laws::laid_by_kinds();
     let unplaced = settle_names(alloc, lines, table, turns, &no_layout(alloc))?;
     let layout = lay(alloc, lines, &unplaced.names, grow)?;
     let settled = settle_names(alloc, lines, table, turns, &layout)?;

@@ -1,4 +1,9 @@
+pub mod Orders
 pub mod Lines
 pub mod Names
 pub mod Faults
+pub mod Layout
+pub mod Circles
+pub mod Meanings
+pub mod Settles
 pub mod Private

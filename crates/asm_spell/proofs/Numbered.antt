@@ -5,7 +5,7 @@ use Rattle.std.specs.List.{filter_map, cons_option}
 use Rattle.std.proofs.lemmas.List.Elements.{All-head, All-tail}
 use Rattle.asm_scan.specs.Tokens.{Lexeme}
 use Rattle.z80_instr.specs.declared.Instr.{Instr}
-use Rattle.z80_words.specs.declared.mnemonic.Mnemonic.{Mnemonic}
+use Rattle.z80_form.specs.declared.mnemonic.Mnemonic.{Mnemonic}
 use Rattle.z80_form.specs.declared.form.Form.{Form}
 use Rattle.z80_form.specs.declared.field.Field.{Field}
 use Rattle.z80_form.specs.Numbers as form

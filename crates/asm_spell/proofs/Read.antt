@@ -4,7 +4,7 @@ use Rattle.std.specs.Borrow.{Bor}
 use Rattle.std.specs.Option.{option_and_then}
 use Rattle.asm_scan.specs.declared.token.Token.{Token}
 use Rattle.asm_scan.specs.Tokens.{Lexeme}
-use Rattle.z80_words.specs.declared.mnemonic.Mnemonic.{Mnemonic}
+use Rattle.z80_form.specs.declared.mnemonic.Mnemonic.{Mnemonic}
 use Rattle.z80_form.specs.declared.form.Form.{Form}
 use Rattle.z80_form.specs.Spelling.{instruction_of}
 use Rattle.asm_spell.specs.declared.fault.StmtFault.{StmtFault}

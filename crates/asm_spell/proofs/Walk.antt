@@ -6,7 +6,7 @@ use Rattle.std.specs.Str.{str_eq_ignore_ascii_case}
 use Rattle.std.specs.List.{list_any}
 use Rattle.std.proofs.lemmas.List.Elements.{All-nil, All-cons}
 use Rattle.asm_words.specs.Words.{upper, is_reserved}
-use Rattle.z80_words.specs.Named.{mnemonic_named}
+use Rattle.z80_form.specs.Named.{mnemonic_named}
 use Rattle.z80_form.specs.Spelling.{instruction_of}
 use Rattle.asm_words.specs.Results.{◌>>=◌}
 use Rattle.asm_scan.specs.Tokens.{Lexeme}
@@ -17,8 +17,8 @@ use Rattle.asm_parse.specs.Private.Parsing.{reading, start}
 use Rattle.asm_line.specs.Forms as front
 use Rattle.asm_line.specs.Lists.{names}
 use Rattle.z80_instr.specs.declared.IndexRegister.{IndexRegister}
-use Rattle.z80_words.specs.declared.name.Name.{Name}
-use Rattle.z80_words.specs.declared.mnemonic.Mnemonic.{Mnemonic}
+use Rattle.z80_form.specs.declared.name.Name.{Name}
+use Rattle.z80_form.specs.declared.mnemonic.Mnemonic.{Mnemonic}
 use Rattle.z80_form.specs.declared.form.Pointed.{Pointed}
 use Rattle.z80_instr.specs.declared.Instr.{Instr}
 use Rattle.z80_instr.specs.declared.ShortCond.{ShortCond}

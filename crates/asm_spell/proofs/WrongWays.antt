@@ -11,7 +11,7 @@ use Rattle.z80_instr.specs.declared.Instr.{Instr}
 use Rattle.z80_instr.specs.declared.Operand.{Operand}
 use Rattle.z80_instr.specs.declared.Register.{Register}
 use Rattle.z80_instr.specs.declared.ShortCond.{ShortCond}
-use Rattle.z80_words.specs.Named.{mnemonic_named, name_named}
+use Rattle.z80_form.specs.Named.{mnemonic_named, name_named}
 use Rattle.z80_form.specs.declared.field.Field.{Field}
 use Rattle.z80_form.specs.Spelling.{instruction_of}
 use Rattle.z80_instr.specs.declared.Branch.{Branch}

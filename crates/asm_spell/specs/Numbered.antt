@@ -3,7 +3,7 @@ use Rattle.std.specs.Prelude.{◌≡◌, ◌⊎◌, List, Ok, map}
 use Rattle.std.specs.List.{filter_map}
 use Rattle.asm_scan.specs.Tokens.{Lexeme}
 use Rattle.z80_instr.specs.declared.Instr.{Instr}
-use Rattle.z80_words.specs.declared.mnemonic.Mnemonic.{Mnemonic}
+use Rattle.z80_form.specs.declared.mnemonic.Mnemonic.{Mnemonic}
 use Rattle.z80_form.specs.declared.field.Field.{Field}
 use Rattle.z80_form.specs.Numbers.{blank, fields, fields_of, number_fields}
 use Rattle.z80_form.specs.Spelling.{Spells}

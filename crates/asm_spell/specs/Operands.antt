@@ -9,8 +9,8 @@ use Rattle.asm_words.specs.Results.{◌>>=◌}
 use Rattle.asm_line.specs.Commas.{open_behind}
 use Rattle.asm_line.specs.Tokens.{is_name, is_comma}
 use Rattle.z80_instr.specs.declared.IndexRegister.{IndexRegister}
-use Rattle.z80_words.specs.declared.name.Name.{Name}
-use Rattle.z80_words.specs.Named.{name_named}
+use Rattle.z80_form.specs.declared.name.Name.{Name}
+use Rattle.z80_form.specs.Named.{name_named}
 use Rattle.z80_form.specs.declared.form.Pointed.{Pointed}
 use Rattle.z80_form.specs.declared.form.Form.{Form}
 use Rattle.asm_spell.specs.declared.fault.StmtFault.{StmtFault}

@@ -11,8 +11,8 @@ use Rattle.asm_line.specs.Forms as front
 use Rattle.z80_instr.specs.declared.Cond.{Cond}
 use Rattle.z80_instr.specs.declared.ShortCond.{ShortCond}
 use Rattle.z80_instr.specs.declared.Instr.{Instr}
-use Rattle.z80_words.specs.declared.mnemonic.Mnemonic.{Mnemonic}
-use Rattle.z80_words.specs.Named.{mnemonic_named}
+use Rattle.z80_form.specs.declared.mnemonic.Mnemonic.{Mnemonic}
+use Rattle.z80_form.specs.Named.{mnemonic_named}
 use Rattle.z80_form.specs.declared.field.Field.{Field}
 use Rattle.z80_form.specs.Numbers.{field_of}
 use Rattle.z80_form.specs.Spelling.{instruction_of}

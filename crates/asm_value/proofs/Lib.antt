@@ -4,3 +4,5 @@ pub mod Stack
 pub mod Judgements
 pub mod ValuesLeft
 pub mod Refs
+mod Sums
+pub mod Places

@@ -1,10 +1,11 @@
-//! Laws about expressions of an object, as functions that do nothing.
+//! Laws about expressions of an object and about distances, as functions that do nothing.
 
-ghost use Rattle.std.specs.Prelude.{◌≡◌, List};
-ghost use Rattle.asm_value.specs.Types.{Atom, Item};
-ghost use Rattle.asm_parse.specs.Expression.{Expression, postfix};
+ghost use Rattle.std.specs.Prelude.{◌≡◌, ℕ, List};
+ghost use Rattle.asm_value.specs.Types.{Atom, Binary, Item, Statement, Worth};
+ghost use Rattle.asm_parse.specs.Expression.{Expression, Infix, Leaf, postfix};
 ghost use Rattle.asm_value.specs.Postfix.{tree};
-ghost use Rattle.asm_value.specs.Items.{IsExpr};
+ghost use Rattle.asm_value.specs.Items.{IsExpr, value};
+ghost use Rattle.asm_value.specs.Distances.{Step, distance};
 
 /// Items in postfix order are those of one expression at most.
 pub fn one_expression()
@@ -14,4 +15,10 @@ pub fn one_expression()
 /// The tree of the items of an expression has these items.
 pub fn same_items()
     ensures { (items : List (Item Atom)) → IsExpr items → postfix (tree items) ≡ items }
+{}
+
+/// Places that step by each known size are as far apart as the statements say, from whatever beginning.
+pub fn one_distance()
+    ensures { (statements : List Statement) (places : ℕ → ℕ) → Step statements places → (p q n : ℕ) → distance statements p q ≡ Worth.Number n →
+        value places (Infix Binary.Subtract (Leaf (Atom.Ref p)) (Leaf (Atom.Ref q))) ≡ n }
 {}

@@ -1,7 +1,7 @@
 //! Where blocks end.
 
 use anyhow::{Context, anyhow};
-use asm_block::{Links, Role, links_of};
+use asm_text::{Links, Role, links_of};
 use std::alloc::Global;
 use std::io::Write;
 

@@ -1,9 +1,9 @@
 //! What lines of source spell.
 
 use anyhow::Context;
+use asm_module::read_source;
 use asm_parse::{Item, KeptName, Term, TermView, Tree};
 use asm_scan::{Token, tokens};
-use asm_source::read_source;
 use asm_spell::{Body, Line, Value, is_name, statement};
 use std::alloc::Global;
 use std::io::Write;

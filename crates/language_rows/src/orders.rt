@@ -1,7 +1,7 @@
 //! The order in which definitions are settled.
 
 use anyhow::anyhow;
-use asm_order::{Turn, are_defined, order};
+use asm_names::{Turn, are_defined, order};
 use std::alloc::Global;
 use std::io::Write;
 

@@ -6,7 +6,7 @@ use Rattle.asm_expr.specs.Names.{Table}
 use Rattle.asm_spell.specs.declared.fault.StmtFault.{StmtFault}
 use Rattle.asm_spell.specs.Line.{Body, Line}
 use Rattle.asm_spell.specs.Line as line
-use Rattle.asm_texts.specs.Lines.{Numbered}
+use Rattle.asm_text.specs.Lines.{Numbered}
 use Rattle.asm_macro.specs.declared.fault.MacroFault.{MacroFault}
 use Rattle.asm_macro.specs.Expands.{End, Ended, IsExpanded, IsExpansion, Stopped, Whole}
 use Rattle.asm_macro.specs.Texts.{source_lines}
@@ -15,14 +15,14 @@ use Rattle.asm_names.specs.Faults as defined
 use Rattle.asm_names.specs.Faults.{first, if_so}
 use Rattle.asm_names.specs.Lines.{Taken, placed}
 use Rattle.asm_names.specs.Names.{Names, names}
-use Rattle.asm_equ.specs.declared.fault.EquFault.{EquFault}
-use Rattle.asm_equ.specs.Circles.{TellsCircles, equ_items, line_named, lines_named}
-use Rattle.asm_equ.specs.Layout.{Layout}
-use Rattle.asm_source.specs.declared.fault.LineFault.{LineFault}
-use Rattle.asm_source.specs.Read.{taken, unread}
-use Rattle.asm_states.specs.declared.fault.StateFault.{StateFault}
-use Rattle.asm_states.specs.Faults.{body_fault, not_label, undefined, value_by, valueless}
-use Rattle.asm_states.specs.Stated as stated
+use Rattle.asm_names.specs.declared.equ_fault.EquFault.{EquFault}
+use Rattle.asm_names.specs.Circles.{TellsCircles, equ_items, line_named, lines_named}
+use Rattle.asm_names.specs.Layout.{Layout}
+use Rattle.asm_module.specs.declared.line_fault.LineFault.{LineFault}
+use Rattle.asm_module.specs.Reads.Read.{taken, unread}
+use Rattle.asm_statements.specs.declared.fault.StateFault.{StateFault}
+use Rattle.asm_statements.specs.Module.Faults.{body_fault, not_label, undefined, value_by, valueless}
+use Rattle.asm_statements.specs.Module.Stated as stated
 use Rattle.asm_piece.specs.Made.{Made, made}
 use Rattle.asm_module.specs.declared.fault.AsmFault.{AsmFault}
 use Rattle.asm_module.specs.declared.fault.Why.{Why}

@@ -9,9 +9,9 @@ use Rattle.asm_words.specs.Words.{upper}
 use Rattle.asm_line.specs.declared.forms.BlockWord.{BlockWord}
 use Rattle.asm_line.specs.Forms.{Form, Head}
 use Rattle.asm_line.specs.Forms as line
-use Rattle.asm_texts.specs.Lines.{Numbered, form_of}
-use Rattle.asm_sections.specs.Blocks.{body_of, branches_of}
-use Rattle.asm_sections.specs.Onward.{Next}
+use Rattle.asm_text.specs.Lines.{Numbered, form_of}
+use Rattle.asm_text.specs.Sections.Blocks.{body_of, branches_of}
+use Rattle.asm_text.specs.Sections.Onward.{Next}
 use Rattle.asm_macro.specs.declared.fault.MacroFault.{MacroFault}
 use Rattle.asm_macro.specs.State.{State, counted, macro_named, table, room}
 use Rattle.asm_macro.specs.Judged.{first, is_counted, is_stray, line_fault, redefined, stray, too_many, unclosed, unless_some, unread}

@@ -15,7 +15,7 @@ use Rattle.asm_parse.specs.Parsed.{parsed, parsed_by}
 use Rattle.asm_parse.specs.Source.{Operand}
 use Rattle.asm_value.specs.declared.expr.TheConstants.{MOST_ITEMS}
 use Rattle.asm_value.specs.declared.atom.Atom.{Atom}
-use Rattle.asm_distance.specs.declared.worth.Worth.{Worth}
+use Rattle.asm_value.specs.declared.worth.Worth.{Worth}
 use Rattle.asm_expr.specs.declared.answer.Settled.{Settled}
 use Rattle.asm_expr.specs.Names.{Table}
 use Rattle.asm_expr.specs.Origins.{is_number_item}

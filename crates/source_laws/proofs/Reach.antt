@@ -1,12 +1,11 @@
 -- Whether a number leads to another is told by a computation: by what may lie between, all numbers below some, one more at a time.
 use Rattle.std.proofs.Common.{◌≡◌, ◌<◌, ◌≤◌, ◌↔◌, ◌⊎◌, ◌||◌, ◌&&◌, inl, inr, refl, sym, subst, ℕ, zero, suc, Bool, true, false, List, [], nat_eq, true≢false, Contains, arith}
-use Rattle.std.proofs.lemmas.Bool.{and_parts}
+use Rattle.std.proofs.lemmas.Bool.{and_parts, eqb-true}
 use Rattle.std.proofs.lemmas.Cmp.{nat_eq_equiv}
 use Rattle.std.proofs.lemmas.Map.Views.{Contains-from_any, list_any-from_Contains}
-use Rattle.std.proofs.lemmas.Bool.{eqb-true}
 use Rattle.std.specs.List.{list_any}
-use Rattle.asm_order.specs.Circles.{LeadsTo}
-use Rattle.asm_order.specs.Circles.LeadsTo.{next, further}
+use Rattle.asm_names.specs.Orders.Circles.{LeadsTo}
+use Rattle.asm_names.specs.Orders.Circles.LeadsTo.{next, further}
 
 leads_on : {named : ℕ → List ℕ} {a b c : ℕ} → LeadsTo named a b → LeadsTo named b c → LeadsTo named a c
 leads_on (next names) more = further names more

@@ -1,12 +1,12 @@
 -- Each list of sources is a list of programs, or has a first source that is faulty.
 use Rattle.std.proofs.Common.{◌≡◌, ◌⊎◌, inl, inr, refl, ℕ, suc, Bool, List, [], ◌∷◌, Option, Some, None, Result, Ok, Err}
-use Rattle.asm_texts.specs.Lines.{Numbered}
+use Rattle.asm_text.specs.Lines.{Numbered}
 use Rattle.asm_names.specs.Faults.{first}
-use Rattle.asm_source.specs.Read.{taken}
+use Rattle.asm_module.specs.Reads.Read.{taken}
 use Rattle.asm_module.specs.declared.fault.AsmFault.{AsmFault}
 use Rattle.asm_module.specs.Assembled.{Assembled, Assembles, HasCause, IsStated, answer}
 use Rattle.asm_module.specs.Source.{equ_fault, first_pass, layout, state_fault}
-use Rattle.asm_reads.specs.Statement.{Statement}
+use Rattle.asm_statements.specs.Program.Statement.{Statement}
 use Rattle.zlink.specs.declared.source.Source.{Source}
 use Rattle.zlink.specs.Sources.{Assembly, AreAssembled, IsFirstFaulty}
 

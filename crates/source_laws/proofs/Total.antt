@@ -3,10 +3,10 @@ use Rattle.std.proofs.Common.{◌≡◌, ◌<◌, ◌≤◌, ◌+◌, if◌then�
 use Rattle.std.proofs.lemmas.Bool.{leb-false, leb-true}
 use Rattle.limits.specs.declared.TheConstants.{LONGEST_TEXT}
 use Rattle.asm_macro.specs.declared.expansion.TheConstants.{MOST_LINES}
-use Rattle.asm_texts.specs.Lines.{Numbered, form_of}
-use Rattle.asm_texts.specs.Roles.{is_alone}
-use Rattle.asm_sections.specs.Blocks.{Body, Section}
-use Rattle.asm_sections.specs.Onward.{Next, Rest, BehindFirst, BehindSecond, Turns, renumbered}
+use Rattle.asm_text.specs.Lines.{Numbered, form_of}
+use Rattle.asm_text.specs.Roles.{is_alone}
+use Rattle.asm_text.specs.Sections.Blocks.{Body, Section}
+use Rattle.asm_text.specs.Sections.Onward.{Next, Rest, BehindFirst, BehindSecond, Turns, renumbered}
 use Rattle.asm_macro.specs.declared.fault.MacroFault.{MacroFault}
 use Rattle.asm_macro.specs.State.{State, counted, start, room}
 use Rattle.asm_macro.specs.Texts.{numbered, source_lines}

@@ -1,9 +1,8 @@
 //! The lines of a row, and the layout that its columns are.
 
 use anyhow::Context;
-use asm_equ::Layout;
 use asm_expr::Statement;
-use asm_names::SourceLine;
+use asm_names::{Layout, SourceLine};
 use asm_scan::tokens;
 use asm_spell::statement;
 use std::alloc::Global;

@@ -2,8 +2,7 @@
 
 use crate::lines::lines_of;
 use anyhow::{Context, anyhow};
-use asm_equ::turns_of;
-use asm_names::{NameTable, names_of};
+use asm_names::{NameTable, names_of, turns_of};
 use std::alloc::Global;
 use std::io::Write;
 

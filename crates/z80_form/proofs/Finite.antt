@@ -1,7 +1,7 @@
 -- Tests over the forms of an operand.
 use Rattle.std.proofs.Common.{◌≡◌, List, [], ◌∷◌, ap, get_or}
 use Rattle.z80_instr.proofs.Finite.{Finite, indexes}
-use Rattle.z80_words.proofs.Finite.{names}
+use Rattle.z80_form.proofs.Words.Finite.{names}
 use Rattle.z80_form.specs.Types.{Pointed, Form}
 
 -- the forms that are no name and name no index register

@@ -1,3 +1,4 @@
+mod Words
 mod Finite
 mod Rows
 mod Texts

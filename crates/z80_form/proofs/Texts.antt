@@ -11,7 +11,7 @@ use Rattle.z80_form.specs.Spelling.{without_displacement, Spells, AreOperands, i
 use Rattle.z80_instr.specs.Table.{canonical}
 use Rattle.z80_form.specs.Numbers.{zeros, blank, with_displacement, field_of, has_expression, HasFields}
 use Rattle.z80_form.specs.Private.Reading.{instruction_read, two_read}
-use Rattle.z80_words.proofs.Finite.{mnemonics}
+use Rattle.z80_form.proofs.Words.Finite.{mnemonics}
 use Rattle.z80_form.proofs.Finite.{operand_forms}
 use Rattle.z80_form.proofs.Rows.{found}
 use Rattle.z80_form.proofs.Kept.{sizes_steady, blank_is_flat}

@@ -1,3 +1,5 @@
+pub mod Words
+pub mod Named
 pub mod Types
 pub mod Rows
 pub mod Numbers

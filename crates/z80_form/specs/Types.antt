@@ -18,8 +18,8 @@ pub use Rattle.z80_instr.specs.declared.InterruptMode.{InterruptMode}
 pub use Rattle.z80_instr.specs.declared.BlockOperation.{BlockOperation}
 pub use Rattle.z80_instr.specs.declared.BlockStep.{BlockStep}
 pub use Rattle.z80_instr.specs.declared.Instr.{Instr}
-pub use Rattle.z80_words.specs.declared.name.Name.{Name}
-pub use Rattle.z80_words.specs.declared.mnemonic.Mnemonic.{Mnemonic}
+pub use Rattle.z80_form.specs.declared.name.Name.{Name}
+pub use Rattle.z80_form.specs.declared.mnemonic.Mnemonic.{Mnemonic}
 pub use Rattle.z80_form.specs.declared.form.Pointed.{Pointed}
 pub use Rattle.z80_form.specs.declared.form.Form.{Form}
 pub use Rattle.z80_form.specs.declared.field.Field.{Field}

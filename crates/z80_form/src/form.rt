@@ -1,7 +1,7 @@
 //! The forms of an operand.
 
+use crate::name::Name;
 use z80_instr::IndexRegister;
-use z80_words::Name;
 
 /// A register that stands in parentheses by itself; `(C)` is the port that C names.
 #[derive(Clone, Copy, Debug, PartialEq, Eq)]

@@ -8,6 +8,10 @@ ghost use Rattle.z80_form.specs.Rows.{row};
 ghost use Rattle.z80_form.specs.Numbers.{allows, blank, field_of, fields, fields_of, number_field, number_fields, displacement_fields, with_number, with_numbers, but_last, has_displacement, HasFields, HasNumbers};
 ghost use Rattle.z80_form.specs.Spelling.{Spells, instruction_of};
 
+mod words;
+
+pub use words::named;
+
 /// Every instruction is that of its row with its numbers put in.
 pub fn complete()
     ensures { (instr : Instr) → in_range instr ≡ true → (numbers : List (Field × ℕ)) × HasNumbers instr numbers }

@@ -4,9 +4,9 @@ ghost use Rattle.std.specs.Prelude.{◌≡◌};
 ghost use Rattle.z80_form.specs.Private.Reading as reading;
 
 use crate::form::{Form, Pointed};
+use crate::name::Name;
 use crate::part::{hl_or_index, memory, operand, register, word_register};
 use z80_instr::{Instr, Operand, Pointer, Register};
-use z80_words::Name;
 
 /// The instruction, where the operand is A.
 pub(crate) fn if_a(form: Form, instr: Instr) -> Option<Instr>

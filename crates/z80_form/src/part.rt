@@ -4,11 +4,11 @@ ghost use Rattle.std.specs.Prelude.{◌≡◌};
 ghost use Rattle.z80_form.specs.Private.Reading.{addend_in, at_hl_or_index_in, condition_in, hl_or_index_in, index_in, memory_in, operand_in, pair_in, register_in, short_condition_in, stack_operand_in, word_register_in};
 
 use crate::form::{Form, Pointed};
+use crate::name::Name;
 use z80_instr::{
     Addend, Cond, HlOrIndex, IndexRegister, Memory, Operand, Register, RegisterPair, ShortCond,
     StackOperand, WordRegister,
 };
-use z80_words::Name;
 
 pub(crate) fn register(form: Form) -> Option<Register>
     ensures { result ≡ register_in form }

@@ -8,12 +8,13 @@ ghost use Rattle.z80_form.specs.Private.Reading as reading;
 
 use crate::form::{Form, Pointed};
 use crate::loads::{if_a, load};
+use crate::mnemonic::Mnemonic;
+use crate::name::Name;
 use crate::part::{
     addend, at_hl_or_index, condition, hl_or_index, operand, pair, register, short_condition,
     stack_operand, word_register,
 };
 use z80_instr::{AluOperation, IndexRegister, Instr, InterruptMode, Octal};
-use z80_words::{Mnemonic, Name};
 
 /// The instruction that a mnemonic and its operands spell, with zeros in place of its numbers.
 pub fn instruction(mnemonic: Mnemonic, operands: &[Form]) -> Option<Instr>

@@ -9,7 +9,7 @@ use Rattle.z80_instr.specs.Codes.{Codes}
 use Rattle.z80_cpu.specs.State.{Machine}
 use Rattle.z80_machine.specs.Turn.{bytes_at_pc, StandsAtPc}
 use Rattle.ruler.specs.Choice.{Choice, size_of, IsValid, bytes_before, place}
-use Rattle.asm_reads.specs.Statement.{Statement}
+use Rattle.asm_statements.specs.Program.Statement.{Statement}
 use Rattle.zlink.specs.Reads.{Reads, shape, sized_as}
 use Rattle.ruler.proofs.Places.{bytes-next, bytes-le, size-there}
 use Rattle.z80dev_laws.specs.Turns.{Holds, IsAt}

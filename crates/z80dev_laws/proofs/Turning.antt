@@ -19,11 +19,11 @@ use Rattle.z80_machine.specs.Turn.{StandsAtPc, carried_out, IsTurnOf, IsTurn}
 use Rattle.ruler.specs.Choice.{Choice, IsValid, size_of, bytes_before, place}
 use Rattle.z80_instr.specs.declared.Branch.{Branch}
 use Rattle.z80_instr.specs.declared.Branch.TheVariants.{Relative, CountDown}
-use Rattle.asm_reads.specs.Statement.{Statement, Code, Data, Space, Jump, Short}
+use Rattle.asm_statements.specs.Program.Statement.{Statement, Code, Data, Space, Jump, Short}
 use Rattle.asm_parse.specs.Expression.{Expression}
 use Rattle.asm_value.specs.declared.atom.Atom.{Atom}
 use Rattle.asm_piece.specs.Made.{widened, long_jump}
-use Rattle.asm_reads.specs.Pieces.{short_jump, LeadsTo, IsPiece, valued}
+use Rattle.asm_statements.specs.Program.Pieces.{short_jump, LeadsTo, IsPiece, valued}
 use Rattle.z80_form.specs.declared.field.Field.{Field}
 use Rattle.z80_form.specs.Numbers.{with_numbers}
 use Rattle.zlink.specs.Reads.{Reads, shape, sized_as}

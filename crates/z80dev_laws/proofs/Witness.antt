@@ -3,8 +3,8 @@ use Rattle.std.proofs.Common.{◌≡◌, ℕ, zero, suc, ◌+◌, false, List, [
 use Rattle.std.specs.Prelude.{replicate}
 use Rattle.std.specs.List.{slice_get, slice_range}
 use Rattle.ruler.specs.Choice.{Choice, IsSettled, ShortsReach, IsValid, bytes_before, place}
-use Rattle.asm_reads.specs.Statement.{Statement, Jump}
-use Rattle.asm_reads.specs.Pieces.{IsPiece}
+use Rattle.asm_statements.specs.Program.Statement.{Statement, Jump}
+use Rattle.asm_statements.specs.Program.Pieces.{IsPiece}
 use Rattle.zlink.specs.Reads.{Reads, shape}
 use Rattle.z80_cpu.specs.State.{Machine, machine, with_pc}
 use Rattle.z80_cpu.specs.declared.registers.Cpu.{Cpu}

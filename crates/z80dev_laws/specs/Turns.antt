@@ -13,8 +13,8 @@ use Rattle.z80_machine.specs.Turn.{IsTurn}
 use Rattle.ruler.specs.Choice.{Choice, place}
 use Rattle.z80_instr.specs.declared.Branch.{Branch}
 use Rattle.z80_instr.specs.declared.Branch.TheVariants.{Relative, CountDown}
-use Rattle.asm_reads.specs.Statement.{Statement, Code, Data, Space, Jump, Short}
-use Rattle.asm_reads.specs.Pieces.{valued}
+use Rattle.asm_statements.specs.Program.Statement.{Statement, Code, Data, Space, Jump, Short}
+use Rattle.asm_statements.specs.Program.Pieces.{valued}
 use Rattle.z80_form.specs.Numbers.{with_numbers}
 use Rattle.zlink.specs.Reads.{shape}
 

@@ -14,9 +14,9 @@ use Rattle.ruler.specs.Choice as choice
 use Rattle.ruler.specs.Choice.{Choice, bytes_before, place}
 use Rattle.ruler.proofs.Places.{place-next}
 use Rattle.asm_module.specs.Below.{IsAt, size_of, sizes}
-use Rattle.asm_reads.specs.Linked.{IsLike}
-use Rattle.asm_reads.specs.Pieces.{IsPiece}
-use Rattle.asm_reads.specs.Statement.{Statement}
+use Rattle.asm_statements.specs.Program.Linked.{IsLike}
+use Rattle.asm_statements.specs.Program.Pieces.{IsPiece}
+use Rattle.asm_statements.specs.Program.Statement.{Statement}
 use Rattle.zmo_module.specs.Modules as object
 use Rattle.zlink_program.specs.Parts.{Part, Publics, parts, parts_from, publics}
 use Rattle.zlink_program.specs.Whole.{Placed, placed, program, standing, stands}

@@ -9,7 +9,7 @@ use Rattle.std.proofs.lemmas.Option.{get_or_from_slice_get, slice_get-get_or, sl
 use Rattle.std.proofs.lemmas.Slice.Zip.{AllZip-left}
 use Rattle.asm_module.specs.declared.fault.AsmFault.{AsmFault}
 use Rattle.asm_module.specs.Assembled.{Assembled, Assembles, HasCause, IsStated}
-use Rattle.asm_reads.specs.Statement.{Statement}
+use Rattle.asm_statements.specs.Program.Statement.{Statement}
 use Rattle.ruler.specs.Choice.{Choice, IsValid}
 use Rattle.zlink_program.specs.declared.fault.JoinFault.{JoinFault}
 use Rattle.zlink_program.specs.Faults.{first_fault}

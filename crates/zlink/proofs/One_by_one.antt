@@ -5,14 +5,14 @@ use Rattle.std.proofs.lemmas.List.{length-map, map-append, take_more}
 use Rattle.std.proofs.lemmas.List.Elements.{All-append}
 use Rattle.std.proofs.lemmas.Option.{slice_get-get_or}
 use Rattle.asm_macro.specs.declared.fault.MacroFault.{MacroFault}
-use Rattle.asm_texts.specs.Lines.{Numbered}
+use Rattle.asm_text.specs.Lines.{Numbered}
 use Rattle.asm_module.specs.declared.assembling.Lines as listing
 use Rattle.asm_module.specs.declared.fault.AsmFault.{AsmFault}
 use Rattle.asm_module.specs.declared.fault.Why.{Why}
 use Rattle.asm_module.specs.Assembled.{Assembled, Assembles, IsRefused, States, answer, assembled, seen}
 use Rattle.asm_module.specs.Source.{layout, source_fault as lines_fault, table}
 use Rattle.asm_module.specs.Below.{numbered}
-use Rattle.asm_source.specs.Read.{taken}
+use Rattle.asm_module.specs.Reads.Read.{taken}
 use Rattle.zmo_module.specs.declared.module.Module as whole
 use Rattle.zmo_module.specs.Modules.{module_of}
 use Rattle.zmo_module.specs.Rules.{IsModule}

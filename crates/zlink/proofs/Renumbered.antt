@@ -3,10 +3,8 @@ use Rattle.std.proofs.Common.{◌≡◌, ℕ, ◌+◌, ◌%◌, ◌/◌, Bool, L
 use Rattle.std.specs.List.{flat_map, sum_by}
 use Rattle.std.proofs.lemmas.List.Concat.{flat_map-cons}
 use Rattle.asm_parse.specs.Expression.{Expression, Leaf, Prefix, Infix}
-use Rattle.asm_expr.specs.Below.{Atom}
+use Rattle.asm_expr.specs.Below.{Atom, unary, binary, value}
 use Rattle.asm_expr.specs.Types.{Statement as Size}
-use Rattle.asm_expr.specs.Below.{unary, binary}
-use Rattle.asm_expr.specs.Below.{value}
 use Rattle.asm_expr.proofs.Sizes.{sum_by-cons}
 use Rattle.z80_form.specs.declared.field.Field.{Field}
 use Rattle.z80_form.specs.Numbers.{with_numbers}
@@ -14,11 +12,11 @@ use Rattle.z80_instr.specs.Codes.{Codes}
 use Rattle.ruler.specs.declared.shape.Statement.{Statement as Sized}
 use Rattle.ruler.specs.declared.shape.Statement.TheVariants as sized
 use Rattle.asm_module.specs.Below.{size_of}
-use Rattle.asm_reads.specs.Linked.{IsLike, target_in}
-use Rattle.asm_reads.specs.Pieces as pieces
-use Rattle.asm_reads.specs.Pieces.{IsPiece, datum_bytes, valued, width}
-use Rattle.asm_reads.specs.Statement as statement
-use Rattle.asm_reads.specs.Statement.{Datum, Statement, target_of}
+use Rattle.asm_statements.specs.Program.Linked.{IsLike, target_in}
+use Rattle.asm_statements.specs.Program.Pieces as pieces
+use Rattle.asm_statements.specs.Program.Pieces.{IsPiece, datum_bytes, valued, width}
+use Rattle.asm_statements.specs.Program.Statement as statement
+use Rattle.asm_statements.specs.Program.Statement.{Datum, Statement, target_of}
 use Rattle.zmo_module.specs.Modules as object
 use Rattle.zlink_file.specs.Objects.{sized_by}
 use Rattle.zlink.specs.Program.{datum_in, renumbered, statement_in}

@@ -2,8 +2,8 @@
 use Rattle.std.specs.Prelude.{ℕ, map}
 use Rattle.asm_parse.specs.Expression.{Expression, Leaf, Prefix, Infix}
 use Rattle.asm_expr.specs.Below.{Atom}
-use Rattle.asm_reads.specs.Statement as statement
-use Rattle.asm_reads.specs.Statement.{Datum, Statement}
+use Rattle.asm_statements.specs.Program.Statement as statement
+use Rattle.asm_statements.specs.Program.Statement.{Datum, Statement}
 
 abbrev pub renumbered : (ℕ → ℕ) → Expression Atom → Expression Atom
 renumbered to (Leaf (Atom.Number n)) = Leaf (Atom.Number n)

@@ -5,9 +5,9 @@ use Rattle.z80_instr.specs.Table.{canonical}
 use Rattle.ruler.specs.declared.shape.Statement.{Statement as Sized}
 use Rattle.ruler.specs.declared.shape.Statement.TheVariants as sized
 use Rattle.ruler.specs.Choice.{Choice}
-use Rattle.asm_reads.specs.Pieces.{IsPiece, width}
-use Rattle.asm_reads.specs.Statement as statement
-use Rattle.asm_reads.specs.Statement.{Statement}
+use Rattle.asm_statements.specs.Program.Pieces.{IsPiece, width}
+use Rattle.asm_statements.specs.Program.Statement as statement
+use Rattle.asm_statements.specs.Program.Statement.{Statement}
 use Rattle.zlink_file.specs.Reads.{ReadsBy}
 
 -- a statement as far as its size matters

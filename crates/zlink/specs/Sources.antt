@@ -4,7 +4,7 @@ use Rattle.std.specs.List.{AllZip, flat_map, zip}
 use Rattle.asm_module.specs.declared.fault.AsmFault.{AsmFault}
 use Rattle.asm_module.specs.declared.fault.Why.{Why}
 use Rattle.asm_module.specs.Assembled.{Assembled, Assembles, IsStated}
-use Rattle.asm_reads.specs.Statement.{Statement}
+use Rattle.asm_statements.specs.Program.Statement.{Statement}
 use Rattle.zmo_module.specs.Modules.{Module}
 use Rattle.zlink_program.specs.Parts.{Part, Publics, parts, publics}
 use Rattle.zlink_program.specs.Whole.{stands}

@@ -6,8 +6,8 @@ use Rattle.asm_value.specs.Postfix.{tree}
 use Rattle.zmo_module.specs.declared.hole.Hole.{Hole}
 use Rattle.asm_piece.specs.Cells.{written}
 use Rattle.zmo_module.specs.Holes.{LieWithin, size_of}
-use Rattle.asm_reads.specs.Linked.{fill_one, filled}
-use Rattle.asm_reads.proofs.Holes.{length-written}
+use Rattle.asm_statements.specs.Program.Linked.{fill_one, filled}
+use Rattle.asm_statements.proofs.Program.Holes.{length-written}
 
 ends-within : (from count : ℕ) (hs : List Hole) (k : ℕ) (d : Hole) → LieWithin from count hs → k < length hs → (get_or hs k d).offset + size_of (get_or hs k d).width ≤ count
 ends-within from count [] k d within lt = absurd (omega arith)

@@ -13,7 +13,7 @@ use Rattle.asm_value.proofs.Judgements.{spelled_tree}
 use Rattle.z80_instr.specs.Codes.{Codes}
 use Rattle.asm_piece.specs.Cells.{written}
 use Rattle.asm_piece.specs.Made.{long_jump}
-use Rattle.asm_reads.specs.Linked.{IsLinked, fill_one, filled}
+use Rattle.asm_statements.specs.Program.Linked.{IsLinked, fill_one, filled}
 use Rattle.zmo_module.specs.declared.hole.Hole.{Hole}
 use Rattle.zmo_module.specs.Holes.{IsHole}
 use Rattle.zmo_module.specs.Modules as object

@@ -17,8 +17,8 @@ use Rattle.ruler.proofs.Places.{bytes-le, bytes-zero}
 use Rattle.zmo_module.specs.Modules as object
 use Rattle.zmo_module.specs.Modules.{Statement}
 use Rattle.asm_piece.specs.Made.{long_jump}
-use Rattle.asm_reads.specs.Linked.{IsLinked}
-use Rattle.asm_reads.specs.Pieces.{LeadsTo, short_jump}
+use Rattle.asm_statements.specs.Program.Linked.{IsLinked}
+use Rattle.asm_statements.specs.Program.Pieces.{LeadsTo, short_jump}
 use Rattle.zlink_program.specs.Whole.{Placed}
 use Rattle.zlink_file.specs.Objects.{IsPlaced, ReadsObjects, shape}
 use Rattle.zlink_file.specs.Places.{ArePlaces}

@@ -4,7 +4,7 @@ use Rattle.std.specs.List.{enumerate_from, filter_map}
 use Rattle.ruler.specs.declared.shape.Statement.{Statement as Sized}
 use Rattle.ruler.specs.declared.shape.Statement.TheVariants as sized
 use Rattle.ruler.specs.Choice.{Choice}
-use Rattle.asm_reads.specs.Linked.{IsLinked}
+use Rattle.asm_statements.specs.Program.Linked.{IsLinked}
 use Rattle.zmo_module.specs.Modules as object
 use Rattle.zmo_module.specs.Modules.{Statement}
 use Rattle.zlink_program.specs.Whole.{Placed}

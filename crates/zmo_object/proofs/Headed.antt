@@ -3,9 +3,9 @@ use Rattle.std.proofs.Common.{◌≡◌, ◌≤◌, ◌<◌, ◌+◌, ◌-◌, �
 use Rattle.std.specs.Option.{IfSome, is_some}
 use Rattle.std.proofs.lemmas.Bool.{ltb-true}
 use Rattle.limits.specs.declared.TheConstants.{MOST_NAMES, MOST_STATEMENTS}
-use Rattle.zmo_fields.specs.Texts.{counted, word}
-use Rattle.zmo_fields.specs.Fields.{IsBytes, byte_at, counted_at, number_at, word_at}
-use Rattle.zmo_fields.proofs.Taken.{Reads, Takes, byte_takes, counted_again, counted_takes, is_below, joins, kept_again, kept_takes, number_again, number_takes, then_is, then_takes, word_again, word_takes}
+use Rattle.zmo_object.specs.Fields.Texts.{counted, word}
+use Rattle.zmo_object.specs.Fields.Field.{IsBytes, byte_at, counted_at, number_at, word_at}
+use Rattle.zmo_object.proofs.Fields.Taken.{Reads, Takes, byte_takes, counted_again, counted_takes, is_below, joins, kept_again, kept_takes, number_again, number_takes, then_is, then_takes, word_again, word_takes}
 use Rattle.zmo_object.specs.Texts.{entry_text}
 use Rattle.zmo_object.specs.Reading.{Counts, Header, counts_at, entry_at, flags_at, header_at}
 

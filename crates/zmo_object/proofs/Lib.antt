@@ -1,3 +1,4 @@
+mod Fields
 pub mod Definable
 pub mod Fits
 pub mod Seen

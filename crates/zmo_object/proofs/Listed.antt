@@ -11,10 +11,10 @@ use Rattle.std.proofs.lemmas.Map.Keys.{IsDistinct-head, IsDistinct-push, IsDisti
 use Rattle.std.proofs.lemmas.Slice.Eq.{bytes_eq-Decides}
 use Rattle.zmo_module.specs.Modules.{Label}
 use Rattle.zmo_module.specs.Rules.{IsLabel, IsObjectName}
-use Rattle.zmo_fields.specs.declared.fault.FieldFault.{FieldFault}
-use Rattle.zmo_fields.specs.Texts.{counted, word}
-use Rattle.zmo_fields.specs.Fields.{IsBytes, counted_at, many, number_at}
-use Rattle.zmo_fields.proofs.Taken.{Chain, Reads, Takes, counted_again, counted_takes, is_below, is_least, joins, kept_again, kept_takes, many_again, many_takes, number_again, number_takes, then_is, then_takes}
+use Rattle.zmo_object.specs.declared.field_fault.FieldFault.{FieldFault}
+use Rattle.zmo_object.specs.Fields.Texts.{counted, word}
+use Rattle.zmo_object.specs.Fields.Field.{IsBytes, counted_at, many, number_at}
+use Rattle.zmo_object.proofs.Fields.Taken.{Chain, Reads, Takes, counted_again, counted_takes, is_below, is_least, joins, kept_again, kept_takes, many_again, many_takes, number_again, number_takes, then_is, then_takes}
 use Rattle.zmo_object.specs.Texts.{label_text}
 use Rattle.zmo_object.specs.Reading.{Counts, Lists, externals_at, is_definable, is_new, label_at, labels_at, lists_at, name_at, public_at, publics_at, with_label, with_name}
 use Rattle.zmo_object.proofs.Definable.{definable}

@@ -11,10 +11,10 @@ use Rattle.zmo_module.specs.Holes.{size_of}
 use Rattle.zmo_module.specs.Modules as object
 use Rattle.zmo_module.specs.Modules.{Statement}
 use Rattle.zmo_module.specs.Rules.{IsStatement, IsWritten}
-use Rattle.zmo_fields.specs.declared.fault.FieldFault.TheVariants as field
-use Rattle.zmo_fields.specs.Texts.{word}
-use Rattle.zmo_fields.specs.Fields.{Field, IsBytes, byte_at, bytes_at, coded, many, number_at, word_at}
-use Rattle.zmo_fields.proofs.Taken.{Reads, Takes, byte_takes, bytes_again, bytes_takes, coded_again, coded_takes, is_below, is_least, joins, many_again, many_takes, number_again, number_takes, then_is, then_takes, word_again, word_takes}
+use Rattle.zmo_object.specs.declared.field_fault.FieldFault.TheVariants as field
+use Rattle.zmo_object.specs.Fields.Texts.{word}
+use Rattle.zmo_object.specs.Fields.Field.{Field, IsBytes, byte_at, bytes_at, coded, many, number_at, word_at}
+use Rattle.zmo_object.proofs.Fields.Taken.{Reads, Takes, byte_takes, bytes_again, bytes_takes, coded_again, coded_takes, is_below, is_least, joins, many_again, many_takes, number_again, number_takes, then_is, then_takes, word_again, word_takes}
 use Rattle.zmo_object.specs.declared.code.TheConstants.{BRANCHES}
 use Rattle.zmo_object.specs.Codes.{branch_code, branch_of, condition_code, condition_of}
 use Rattle.zmo_object.specs.Texts.{hole_text, statement_text}

@@ -14,13 +14,13 @@ use Rattle.asm_value.proofs.Refs.{all_below, below_all}
 use Rattle.zmo_module.specs.declared.hole.Hole.{Hole}
 use Rattle.zmo_module.specs.declared.hole.Width.{Width}
 use Rattle.zmo_module.specs.Holes.{FitsWidth, IsHole, LieWithin, size_of}
-use Rattle.zmo_fields.specs.declared.fault.FieldFault.{FieldFault}
-use Rattle.zmo_fields.specs.declared.fault.FieldFault.TheVariants as fault
-use Rattle.zmo_fields.specs.Texts.{counted, expr_text, word}
-use Rattle.zmo_fields.specs.Fields.{IsBytes, coded, counted_at, given, judged, word_at}
-use Rattle.zmo_fields.specs.Postfix.{expr_of}
-use Rattle.zmo_fields.proofs.Spelled.{expr_again, expr_spelled}
-use Rattle.zmo_fields.proofs.Taken.{Chain, Reads, Takes, coded_again, coded_takes, counted_again, counted_takes, joins, then_is, then_takes, word_again, word_takes}
+use Rattle.zmo_object.specs.declared.field_fault.FieldFault.{FieldFault}
+use Rattle.zmo_object.specs.declared.field_fault.FieldFault.TheVariants as fault
+use Rattle.zmo_object.specs.Fields.Texts.{counted, expr_text, word}
+use Rattle.zmo_object.specs.Fields.Field.{IsBytes, coded, counted_at, given, judged, word_at}
+use Rattle.zmo_object.specs.Fields.Postfix.{expr_of}
+use Rattle.zmo_object.proofs.Fields.Spelled.{expr_again, expr_spelled}
+use Rattle.zmo_object.proofs.Fields.Taken.{Chain, Reads, Takes, coded_again, coded_takes, counted_again, counted_takes, joins, then_is, then_takes, word_again, word_takes}
 use Rattle.zmo_object.specs.Codes.{width_code, width_of}
 use Rattle.zmo_object.specs.Texts.{hole_text}
 use Rattle.zmo_object.specs.Reading.{fits_width, fitting, hole_at, is_blank, is_place, value_at, value_of}

@@ -11,9 +11,9 @@ use Rattle.std.proofs.lemmas.Slice.Eq.{bytes_eq-Decides}
 use Rattle.zmo_module.specs.declared.module.Module as whole
 use Rattle.zmo_module.specs.Modules.{Module, module_of}
 use Rattle.zmo_module.specs.Rules.{IsLabel, IsModule, IsStatement}
-use Rattle.zmo_fields.specs.Texts.{counted, word}
-use Rattle.zmo_fields.specs.Fields.{Field, IsBytes}
-use Rattle.zmo_fields.proofs.Taken.{Chain, Reads, joins, many_again, many_takes, then_is, then_takes}
+use Rattle.zmo_object.specs.Fields.Texts.{counted, word}
+use Rattle.zmo_object.specs.Fields.Field.{Field, IsBytes}
+use Rattle.zmo_object.proofs.Fields.Taken.{Chain, Reads, joins, many_again, many_takes, then_is, then_takes}
 use Rattle.zmo_object.specs.declared.fault.ObjectFault.{ObjectFault}
 use Rattle.zmo_object.specs.Codes.{grow_of, magic}
 use Rattle.zmo_object.specs.Texts.{counts_text, entry_text, flags, label_text, statement_text, text_of}

@@ -1,3 +1,4 @@
+pub mod Fields
 pub mod Codes
 pub mod Texts
 pub mod Reading

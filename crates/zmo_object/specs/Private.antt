@@ -3,8 +3,8 @@ use Rattle.std.specs.Prelude.{◌≡◌, ◌≤◌, ℕ, List, [], ◌∷◌, �
 use Rattle.zmo_module.specs.declared.module.TheConstants.{LONGEST_NAME}
 use Rattle.zmo_module.specs.Modules as object
 use Rattle.zmo_module.specs.Modules.{Label, Module, Statement, label_of}
-use Rattle.zmo_fields.specs.declared.fault.FieldFault.{FieldFault}
-use Rattle.zmo_fields.specs.Fields.{Fails, Field}
+use Rattle.zmo_object.specs.declared.field_fault.FieldFault.{FieldFault}
+use Rattle.zmo_object.specs.Fields.Field.{Fails, Field}
 use Rattle.zmo_object.specs.declared.header.Counts as count
 use Rattle.zmo_object.specs.declared.header.Header as head
 use Rattle.zmo_object.specs.declared.label.Lists as list

@@ -16,10 +16,10 @@ use Rattle.zmo_module.specs.Holes.{ends_in_byte, size_of}
 use Rattle.zmo_module.specs.Modules as object
 use Rattle.zmo_module.specs.Modules.{Label, Module, Statement, module_of}
 use Rattle.zmo_module.specs.declared.module.Module as whole
-use Rattle.zmo_fields.specs.declared.fault.FieldFault.{FieldFault}
-use Rattle.zmo_fields.specs.declared.fault.FieldFault.TheVariants as field
-use Rattle.zmo_fields.specs.Fields.{Field, byte_at, bytes_at, coded, counted_at, each, given, judged, kept, many, number_at, word_at}
-use Rattle.zmo_fields.specs.Postfix.{expr_of}
+use Rattle.zmo_object.specs.declared.field_fault.FieldFault.{FieldFault}
+use Rattle.zmo_object.specs.declared.field_fault.FieldFault.TheVariants as field
+use Rattle.zmo_object.specs.Fields.Field.{Field, byte_at, bytes_at, coded, counted_at, each, given, judged, kept, many, number_at, word_at}
+use Rattle.zmo_object.specs.Fields.Postfix.{expr_of}
 use Rattle.zmo_object.specs.declared.fault.ObjectFault.{ObjectFault}
 use Rattle.zmo_object.specs.declared.fault.ObjectFault.TheVariants as fault
 use Rattle.zmo_object.specs.Codes.{branch_of, condition_of, grow_of, width_of}

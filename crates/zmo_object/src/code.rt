@@ -1,10 +1,11 @@
 //! What stands as one byte in an object.
 
 ghost use Rattle.std.specs.Prelude.{◌≡◌};
-ghost use Rattle.zmo_fields.specs.Fields.{Finds, coded};
+ghost use Rattle.zmo_object.specs.Fields.Field.{Finds, coded};
 ghost use Rattle.zmo_object.specs.Codes.{branch_code, branch_of, condition_code, condition_of, width_code, width_of};
 
-use zmo_fields::{FieldFault, byte};
+use crate::field::byte;
+use crate::field_fault::FieldFault;
 use zmo_module::{Branch, ShortCond, Width};
 
 /// The conditions of a jump that may be coded both ways, in the order of their codes.

@@ -4,9 +4,9 @@ ghost use Rattle.std.specs.Prelude.{◌≡◌};
 ghost use Rattle.zmo_object.specs.declared.fault.ObjectFault.TheVariants.{NoMemory};
 ghost use Rattle.zmo_object.specs.Reading.{fault_in};
 
+use crate::field_fault::FieldFault;
 use std::alloc::{AllocError, AllocFailed};
 use thiserror::Error;
-use zmo_fields::FieldFault;
 
 /// Why bytes are no object.
 #[derive(Clone, Copy, Debug, PartialEq, Eq, Error)]

@@ -2,14 +2,16 @@
 
 ghost use Rattle.std.specs.Prelude.{◌≡◌, ◌++◌, OnOk};
 ghost use Rattle.zmo_module.specs.Modules.{module_of};
-ghost use Rattle.zmo_fields.specs.Fields.{Finds};
+ghost use Rattle.zmo_object.specs.Fields.Field.{Finds};
 ghost use Rattle.zmo_object.specs.Texts.{counts_text, entry_text, flags, header_text};
 ghost use Rattle.zmo_object.specs.Reading.{counts_at, entry_at, flags_at, header_at};
 ghost use Rattle.zmo_object.specs.Private.{FitsHeader, counts_of, header_of};
 
+use crate::field::{byte, counted, number, word};
+use crate::field_fault::FieldFault;
+use crate::put::{put_byte, put_counted, put_word};
 use limits::{MOST_NAMES, MOST_STATEMENTS};
 use std::alloc::AllocError;
-use zmo_fields::{FieldFault, byte, counted, number, put_byte, put_counted, put_word, word};
 use zmo_module::Module;
 
 /// How many there are of each.

@@ -4,15 +4,18 @@ ghost use Rattle.std.specs.Prelude.{◌≡◌, ◌≤◌, ◌+◌, ◌++◌, OnO
 ghost use Rattle.std.specs.List.{flat_map, list_all};
 ghost use Rattle.asm_value.specs.Items.{is_within};
 ghost use Rattle.zmo_module.specs.Holes.{size_of};
-ghost use Rattle.zmo_fields.specs.Fields.{Gives, many};
+ghost use Rattle.zmo_object.specs.Fields.Field.{Gives, many};
 ghost use Rattle.zmo_object.specs.Texts.{hole_text};
 ghost use Rattle.zmo_object.specs.Reading.{fits_width, fitting, hole_at, is_blank, is_place, value_at, value_of};
 
 use crate::code::{width, width_code};
+use crate::field::{counted, word};
+use crate::field_fault::FieldFault;
+use crate::postfix::expr_of;
+use crate::put::{put_byte, put_expr, put_word};
 use crate::room::room;
 use asm_value::has_places;
 use std::alloc::{AllocError, Global};
-use zmo_fields::{FieldFault, counted, expr_of, put_byte, put_expr, put_word, word};
 use zmo_module::{Expr, Hole, Width, ends_in_byte};
 
 fn size_of(width: Width) -> usize

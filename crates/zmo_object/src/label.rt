@@ -4,19 +4,21 @@ ghost use Rattle.std.specs.Prelude.{◌≡◌, ◌≤◌, ◌+◌, ◌++◌, ◌
 ghost use Rattle.std.specs.List.{flat_map};
 ghost use Rattle.zmo_module.specs.declared.module.TheConstants.{LONGEST_NAME};
 ghost use Rattle.zmo_module.specs.Modules.{label_of};
-ghost use Rattle.zmo_fields.specs.Fields.{Gives, many};
-ghost use Rattle.zmo_fields.specs.Texts.{counted, word};
+ghost use Rattle.zmo_object.specs.Fields.Field.{Gives, many};
+ghost use Rattle.zmo_object.specs.Fields.Texts.{counted, word};
 ghost use Rattle.zmo_object.specs.Texts.{label_text};
 ghost use Rattle.zmo_object.specs.Reading.{is_definable, is_new, label_at, lists_at, name_at, public_at, with_label, with_name};
 ghost use Rattle.zmo_object.specs.Private.{Labelled, Named, counts_of, lists_of};
 
+use crate::field::{counted, number};
+use crate::field_fault::FieldFault;
 use crate::header::Counts;
 use crate::names::Names;
+use crate::put::{put_counted, put_word};
 use crate::room::room;
 use asm_parse::is_name;
 use name_key::NameKey;
 use std::alloc::{AllocError, Global};
-use zmo_fields::{FieldFault, counted, number, put_counted, put_word};
 use zmo_module::Label;
 
 /// The fewest bytes of a label: a statement's number, and a name of one byte behind its length.

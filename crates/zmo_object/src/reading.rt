@@ -4,18 +4,18 @@ ghost use Rattle.std.specs.Prelude.{◌≡◌, IfOk, map};
 ghost use Rattle.zmo_module.specs.Modules as object;
 ghost use Rattle.zmo_module.specs.Modules.{module_of, statement_of};
 ghost use Rattle.zmo_module.specs.Rules.{IsModule};
-ghost use Rattle.zmo_fields.specs.Fields.{Gives, each};
+ghost use Rattle.zmo_object.specs.Fields.Field.{Gives, each};
 ghost use Rattle.zmo_object.specs.Codes.{grow_of};
 ghost use Rattle.zmo_object.specs.Reading.{Answers, answered, module_at, read_of, statement_at};
 ghost use Rattle.zmo_object.specs.Texts.{text_of};
 
 use crate::fault::{ObjectFault, fault_in};
+use crate::field_fault::FieldFault;
 use crate::header::read_header;
 use crate::label::read_lists;
 use crate::room::room;
 use crate::statement::statement;
 use std::alloc::Global;
-use zmo_fields::FieldFault;
 use zmo_module::{Module, Statement};
 
 /// The fewest bytes of a statement: a jump, or a space.

@@ -2,16 +2,18 @@
 
 ghost use Rattle.std.specs.Prelude.{◌≡◌, ◌++◌, OnOk};
 ghost use Rattle.zmo_module.specs.Modules.{Bytes, Jump, Short, Space, statement_of};
-ghost use Rattle.zmo_fields.specs.Fields.{Gives};
+ghost use Rattle.zmo_object.specs.Fields.Field.{Gives};
 ghost use Rattle.zmo_object.specs.Texts.{statement_text};
 ghost use Rattle.zmo_object.specs.Reading.{content_at, jump_at, short_at, space_at, statement_at};
 ghost use Rattle.zmo_object.specs.Private.{FitsWords};
 
 use crate::code::{branch, branch_code, condition, condition_code};
+use crate::field::{byte, number, run, word};
+use crate::field_fault::FieldFault;
 use crate::hole::{holes, put_holes};
+use crate::put::{put_byte, put_word};
 use limits::MOST_BYTES;
 use std::alloc::{AllocError, Global};
-use zmo_fields::{FieldFault, byte, number, put_byte, put_word, run, word};
 use zmo_module::{Branch, Hole, ShortCond, Statement};
 
 fn put_content(text: &mut Vec<u8>, bytes: &[u8], holes: &[Hole]) -> Result<(), AllocError>

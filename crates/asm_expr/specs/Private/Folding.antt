@@ -8,7 +8,7 @@ use Rattle.asm_parse.specs.declared.item.Item.{Item}
 use Rattle.asm_expr.specs.declared.part.Part.{Part}
 use Rattle.asm_expr.specs.declared.single.Single.{Single}
 use Rattle.asm_expr.specs.declared.unknown.Unknown.{Unknown}
-use Rattle.asm_distance.specs.declared.worth.Worth.{Worth}
+use Rattle.asm_value.specs.declared.worth.Worth.{Worth}
 use Rattle.asm_parse.specs.Operators.{divides}
 use Rattle.asm_value.specs.Arithmetic.{unary, binary}
 use Rattle.asm_parse.specs.Expression.{Expression, Leaf, Prefix, Infix, postfix}

@@ -3,7 +3,7 @@ use Rattle.std.specs.Prelude.{◌≡◌, ◌++◌, ℕ, List, Result, Ok, Err}
 use Rattle.asm_macro.specs.declared.fault.MacroFault.{MacroFault}
 use Rattle.asm_macro.specs.Ahead.{Ahead, Remains}
 use Rattle.asm_macro.specs.Expands.{End, IsDone, Stopped}
-use Rattle.asm_texts.specs.Lines.{Numbered}
+use Rattle.asm_text.specs.Lines.{Numbered}
 
 -- Behind some lines all that was still to come, or the line at which that stops and the fault. Want of memory alone has no cause.
 abbrev pub Collected : Ahead → List Numbered → Result (Unit {0}) (ℕ × MacroFault) → List Numbered → Type 0

@@ -1,8 +1,8 @@
 -- The body of a call is begun.
 use Rattle.std.specs.Prelude.{◌≡◌, ◌+◌, ◌∷◌, ℕ, List}
 use Rattle.asm_replace.specs.Replaced.{Table}
-use Rattle.asm_texts.specs.Calls.{body_lines}
-use Rattle.asm_sections.specs.Onward as onward
+use Rattle.asm_text.specs.Calls.{body_lines}
+use Rattle.asm_text.specs.Sections.Onward as onward
 use Rattle.asm_macro.specs.Ahead.{Rest}
 
 -- the body is the innermost text, and what was that follows it

@@ -1,10 +1,10 @@
 -- What follows the texts that an expansion keeps, each in the one around it.
 use Rattle.std.specs.Prelude.{ℕ, ◌+◌, List, [], ◌∷◌, Option, Some, None, length}
 use Rattle.asm_replace.specs.Replaced.{Table}
-use Rattle.asm_sections.specs.declared.book.Book.{Book}
-use Rattle.asm_sections.specs.declared.following.Following.{Following}
-use Rattle.asm_sections.specs.Books.{IsBook}
-use Rattle.asm_sections.specs.Views.{next_of}
+use Rattle.asm_text.specs.declared.book.Book.{Book}
+use Rattle.asm_text.specs.declared.following.Following.{Following}
+use Rattle.asm_text.specs.Sections.Books.{IsBook}
+use Rattle.asm_text.specs.Sections.Views.{next_of}
 use Rattle.asm_macro.specs.Ahead.{Around}
 
 -- How many repetitions are open, by what follows the texts within one another, the innermost first.

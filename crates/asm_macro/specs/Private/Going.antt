@@ -2,9 +2,9 @@
 use Rattle.std.specs.Prelude.{◌≡◌, ◌<◌, ◌+◌, ℕ, List, [], Result, Ok, Err, if◌then◌else◌, nat_le}
 use Rattle.asm_macro.specs.declared.take.TheConstants.{MOST_NESTED}
 use Rattle.asm_macro.specs.declared.expansion.TheConstants.{MOST_LINES}
-use Rattle.asm_sections.specs.declared.following.Following.{Following}
-use Rattle.asm_sections.specs.Onward as onward
-use Rattle.asm_texts.specs.Lines.{Numbered}
+use Rattle.asm_text.specs.declared.following.Following.{Following}
+use Rattle.asm_text.specs.Sections.Onward as onward
+use Rattle.asm_text.specs.Lines.{Numbered}
 use Rattle.asm_macro.specs.declared.fault.MacroFault.{MacroFault}
 use Rattle.asm_macro.specs.declared.moves.Stop as moves
 use Rattle.asm_macro.specs.State.{State, counted}

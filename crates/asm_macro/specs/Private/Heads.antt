@@ -8,10 +8,10 @@ use Rattle.asm_line.specs.declared.forms.BlockWord.{BlockWord}
 use Rattle.asm_line.specs.Forms.{Form, Head}
 use Rattle.asm_line.specs.Forms as line
 use Rattle.asm_macro.specs.declared.fault.MacroFault.{MacroFault}
-use Rattle.asm_texts.specs.Lines.{Numbered}
+use Rattle.asm_text.specs.Lines.{Numbered}
 use Rattle.asm_macro.specs.State.{State, macro_called, macro_named, table, with_macro}
 use Rattle.asm_macro.specs.Values.{worth}
-use Rattle.asm_sections.specs.Blocks.{Body, body_of, branches_of}
+use Rattle.asm_text.specs.Sections.Blocks.{Body, body_of, branches_of}
 use Rattle.asm_macro.specs.Judged.{is_stray, parameters}
 use Rattle.asm_macro.specs.Parts.{Part, Go, closing, fails, texts, definition, repeated, conditional, equated, worded}
 

@@ -5,25 +5,25 @@ use Rattle.limits.specs.declared.TheConstants.{LONGEST_TEXT}
 use Rattle.asm_macro.specs.declared.take.TheConstants.{MOST_NESTED}
 use Rattle.asm_macro.specs.declared.expansion.TheConstants.{MOST_LINES}
 use Rattle.asm_replace.specs.Replaced.{Table}
-use Rattle.asm_sections.specs.declared.book.Book.{Book}
+use Rattle.asm_text.specs.declared.book.Book.{Book}
 use Rattle.asm_macro.specs.declared.expansion.Expansion.{Expansion}
-use Rattle.asm_sections.specs.declared.following.Following.{Following}
+use Rattle.asm_text.specs.declared.following.Following.{Following}
 use Rattle.asm_macro.specs.declared.moves.Given.{Given}
 use Rattle.asm_macro.specs.declared.moves.Taken.{Taken}
 use Rattle.asm_macro.specs.declared.moves.Stop.{Stop}
 use Rattle.asm_macro.specs.declared.fault.MacroFault.{MacroFault}
-use Rattle.asm_texts.specs.Lines.{Numbered}
+use Rattle.asm_text.specs.Lines.{Numbered}
 use Rattle.asm_macro.specs.State as state
 use Rattle.asm_macro.specs.Parts as parts
 use Rattle.asm_macro.specs.Expands.{Ended, Stopped, IsDone}
 use Rattle.asm_macro.specs.Expands as expands
 use Rattle.asm_macro.specs.Ahead.{Around, Rest, Remains, Within}
-use Rattle.asm_texts.specs.Spans.{text_of}
-use Rattle.asm_texts.specs.declared.call.Macro.{Macro}
-use Rattle.asm_texts.specs.declared.call.Call.{Call}
-use Rattle.asm_texts.specs.Prepared.{macros_seen, said}
-use Rattle.asm_texts.specs.Kept.{IsKept, IsCall}
-use Rattle.asm_sections.specs.Books.{IsBook}
+use Rattle.asm_text.specs.Spans.{text_of}
+use Rattle.asm_text.specs.declared.call.Macro.{Macro}
+use Rattle.asm_text.specs.declared.call.Call.{Call}
+use Rattle.asm_text.specs.Prepared.{macros_seen, said}
+use Rattle.asm_text.specs.Kept.{IsKept, IsCall}
+use Rattle.asm_text.specs.Sections.Books.{IsBook}
 use Rattle.asm_macro.specs.Private.Frames.{AreBooks, around_seen, innermost, turns_in}
 
 -- the names of the open calls, the innermost first

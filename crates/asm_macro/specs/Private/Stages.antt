@@ -4,7 +4,7 @@ use Rattle.asm_macro.specs.declared.expander.Stage.{Stage}
 use Rattle.asm_macro.specs.declared.expansion.Expansion.{Expansion}
 use Rattle.asm_macro.specs.declared.fault.MacroFault.{MacroFault}
 use Rattle.asm_macro.specs.Expands.{End, Stopped, IsExpansion}
-use Rattle.asm_texts.specs.Lines.{Numbered}
+use Rattle.asm_text.specs.Lines.{Numbered}
 use Rattle.asm_macro.specs.Ahead.{Ahead, Before, Within, Over, Halted, Standing, Remains}
 use Rattle.asm_macro.specs.Private.Moves.{IsSound, rest_of}
 

@@ -3,26 +3,26 @@ use Rattle.std.specs.Prelude.{◌≡◌, ℕ, Bool, List, [], ◌∷◌, Option,
 use Rattle.std.specs.Global.{Global}
 use Rattle.zmo_module.specs.declared.module.TheConstants.{LONGEST_NAME}
 use Rattle.asm_expr.specs.Names.{Table}
-use Rattle.asm_order.specs.declared.walk.Turn.{Turn}
-use Rattle.asm_equ.specs.Circles.{TellsCircles}
-use Rattle.asm_equ.specs.declared.layout.Layout as layout
-use Rattle.asm_equ.specs.declared.settling.SettledNames.{SettledNames}
-use Rattle.asm_equ.specs.Layout.{Layout, layout_of}
-use Rattle.asm_equ.specs.Meanings.{externals}
-use Rattle.asm_equ.specs.Settles.{Settles, told}
+use Rattle.asm_names.specs.declared.walk.Turn.{Turn}
+use Rattle.asm_names.specs.Circles.{TellsCircles}
+use Rattle.asm_names.specs.declared.layout.Layout as layout
+use Rattle.asm_names.specs.declared.settling.SettledNames.{SettledNames}
+use Rattle.asm_names.specs.Layout.{Layout, layout_of}
+use Rattle.asm_names.specs.Meanings.{externals}
+use Rattle.asm_names.specs.Settles.{Settles, told}
 use Rattle.asm_names.specs.Faults as defined
 use Rattle.asm_names.specs.Faults.{first}
 use Rattle.asm_names.specs.Lines.{Taken}
 use Rattle.asm_names.specs.Names.{Names, names}
-use Rattle.asm_source.specs.declared.fault.LineFault.{LineFault}
-use Rattle.asm_states.specs.Stated as stated
-use Rattle.asm_states.specs.Stated.{numbered}
-use Rattle.asm_states.specs.declared.stating.Stated.{Stated}
+use Rattle.asm_module.specs.declared.line_fault.LineFault.{LineFault}
+use Rattle.asm_statements.specs.Module.Stated as stated
+use Rattle.asm_statements.specs.Module.Stated.{numbered}
+use Rattle.asm_statements.specs.declared.stating.Stated.{Stated}
 use Rattle.zmo_module.specs.declared.module.Module as whole
 use Rattle.zmo_module.specs.Modules.{Module, Statement, module_of, statement_of}
 use Rattle.asm_module.specs.declared.fault.AsmFault.{AsmFault}
 use Rattle.asm_module.specs.declared.fault.Why.{Why}
-use Rattle.asm_holding.specs.Holding.{begins, entry, labels, listed, publics}
+use Rattle.asm_module.specs.Holding.{begins, entry, labels, listed, publics}
 use Rattle.asm_module.specs.Source as source
 use Rattle.asm_module.specs.Source.{at, equ_fault, module_by, no_layout, state_fault, statement_lines}
 use Rattle.asm_module.specs.Whys.{line_why, name_why, state_why}

@@ -7,7 +7,7 @@ use Rattle.asm_line.specs.Commas.{open_behind}
 use Rattle.asm_line.specs.Tokens.{is_comma}
 use Rattle.asm_spell.specs.declared.fault.StmtFault.{StmtFault}
 use Rattle.asm_spell.specs.declared.operand.Written as written
-use Rattle.z80_words.specs.declared.mnemonic.Mnemonic.{Mnemonic}
+use Rattle.z80_form.specs.declared.mnemonic.Mnemonic.{Mnemonic}
 use Rattle.asm_spell.specs.Line.{Body}
 use Rattle.asm_spell.specs.Operands.{pieces, Written}
 use Rattle.asm_spell.specs.Spelling.{instruction_by}

@@ -1,7 +1,7 @@
 -- What is written for statements.
 use Rattle.std.specs.Prelude.{◌≡◌, ℕ, ◌+◌, ◌^◌, ◌<◌, Bool, false, List, [], ◌∷◌, ◌++◌, All, Some, length, slice_get, slice_index}
 use Rattle.ruler.specs.Choice.{Choice, IsNear, size_of}
-use Rattle.asm_reads.specs.Linked.{IsLinked}
+use Rattle.asm_statements.specs.Program.Linked.{IsLinked}
 use Rattle.zmo_module.specs.Holes.{IsHole, LieWithin}
 use Rattle.zmo_module.specs.Modules as object
 use Rattle.zmo_module.specs.Modules.{Statement}

@@ -1,7 +1,7 @@
 use Rattle.std.proofs.Common.{◌≡◌, ◌∙◌, sym, ap, subst, refl, length, map, reverse, arith, [], None}
 use Rattle.std.proofs.lemmas.List.Elements.{All-nil, All-same}
 use Rattle.bstr.specs.Text.{lines_of, without_terminator}
-use Rattle.asm_texts.specs.Kept.{IsCall, IsKept}
+use Rattle.asm_text.specs.Kept.{IsCall, IsKept}
 use Rattle.asm_macro.specs.declared.expansion.Expansion.{Expansion}
 use Rattle.asm_macro.specs.Texts.{numbered}
 use Rattle.asm_macro.specs.State.{start}

@@ -1,7 +1,7 @@
 use Rattle.std.proofs.Common.{◌≡◌, ◌++◌, List}
 use Rattle.asm_macro.specs.Ahead.{Remains, most_left}
 use Rattle.asm_macro.specs.Expands.{End}
-use Rattle.asm_texts.specs.Lines.{Numbered}
+use Rattle.asm_text.specs.Lines.{Numbered}
 use Rattle.asm_macro.specs.Views.{lines_seen}
 use Rattle.asm_macro.proofs.whole.collect.Given as goal
 

@@ -3,7 +3,7 @@ use Rattle.std.proofs.lemmas.List.{length-map}
 use Rattle.std.proofs.lemmas.Option.{slice_get-get_or}
 use Rattle.std.proofs.lemmas.Result.{err_from_is_err_and}
 use Rattle.asm_macro.specs.Texts.{source_lines}
-use Rattle.asm_source.specs.Source.{last_listed}
+use Rattle.asm_module.specs.Reads.Source.{last_listed}
 use Rattle.asm_names.specs.Lines.{lines_of, taken_of}
 use Rattle.zmo_module.specs.Modules.{module_of}
 use Rattle.asm_module.specs.Assembled.{IsRefused, StatesLines}

@@ -1,13 +1,13 @@
 use Rattle.std.proofs.Common.{◌≡◌, ◌∙◌, [], sym, ap, subst, All, None, length, map}
 use Rattle.std.proofs.lemmas.Result.{err_from_is_err_and}
-use Rattle.asm_order.specs.Order.{IsOrder}
-use Rattle.asm_equ.specs.Circles.{lines_named}
-use Rattle.asm_equ.specs.Layout.{layout_of}
+use Rattle.asm_names.specs.Orders.Order.{IsOrder}
+use Rattle.asm_names.specs.Circles.{lines_named}
+use Rattle.asm_names.specs.Layout.{layout_of}
 use Rattle.asm_names.specs.Lines.{lines_of}
 use Rattle.asm_names.specs.Names.{names}
-use Rattle.asm_states.specs.Stated.{first_fault}
-use Rattle.asm_equ.specs.Settles.{told}
-use Rattle.asm_rules.specs.Fitting.{FitsWord}
+use Rattle.asm_statements.specs.Module.Stated.{first_fault}
+use Rattle.asm_names.specs.Settles.{told}
+use Rattle.asm_statements.specs.Rules.Fitting.{FitsWord}
 use Rattle.zmo_module.specs.Modules.{Module, statement_of}
 use Rattle.zmo_module.specs.Rules.{IsModule}
 use Rattle.asm_module.proofs.Kept.{at_places, is_module}
@@ -51,9 +51,9 @@ returns-clause-kept c =
     let placed = subst (λ ls. IsPlaced c.args.grow (lines_of ls) c.deref-3.result.now (c.in_ok-settled.settled, c.in_ok-settled.layout)) c.deref-2.ensures.value c.in_ok-settled.ensures in
     subst IsModule (sym (whole_is ∙ ap (held c.args.name.now c.args.grow (lines_of c.args.lines.items) (layout_of c.in_ok-settled.layout)) c.in_ok-stated.ensures.1))
     (is_module
-    (record { constants = c.valued.ensures.constants; values = c.valued.ensures.all; refs = c.refs.ensures; like = c.like.ensures; few_names = c.few.ensures.names; few_statements = c.few.ensures.statements; distinct = c.distinct.ensures })
-    (record { sized = c.sized.ensures; laid_so = c.laid.ensures; within = c.within.ensures; kept = c.kept.ensures; few = c.few-2.ensures })
-    (record { named = c.named.ensures; labels_kept = c.kept-2.ensures.labels; externals_kept = c.kept-2.ensures.externals; few = c.kept-2.ensures.few; distinct = c.kept-2.ensures.distinct; publics_kept = c.within-2.ensures.publics; ascending = c.within-2.ensures.ascending; entry_kept = c.within-2.ensures.entry })
+    (record { constants = c.valued.ensures.constants; values = c.valued.ensures.all; refs = c.refs.ensures; like = c.kinds_anywhere.ensures; few_names = c.few.ensures.names; few_statements = c.few.ensures.statements; distinct = c.distinct.ensures })
+    (record { sized = c.all_sized.ensures; laid_so = c.stated_as_laid.ensures; within = c.next_within.ensures; kept = c.statements_keep_rules.ensures; few = c.few_statements.ensures })
+    (record { named = c.named.ensures; labels_kept = c.kept.ensures.labels; externals_kept = c.kept.ensures.externals; few = c.kept.ensures.few; distinct = c.kept.ensures.distinct; publics_kept = c.within.ensures.publics; ascending = c.within.ensures.ascending; entry_kept = c.within.ensures.entry })
     c.args.grow (lines_of c.args.lines.items) c.deref-3.result.now (layout_of c.in_ok-settled.layout) c.in_ok-settled.settled
     (record {
       names_sound = c.requires.sound;
@@ -76,9 +76,9 @@ returns-clause-placed c =
     let placed = subst (λ ls. IsPlaced c.args.grow (lines_of ls) c.deref-3.result.now (c.in_ok-settled.settled, c.in_ok-settled.layout)) c.deref-2.ensures.value c.in_ok-settled.ensures in
     subst (StatesLines c.args.grow (lines_of c.args.lines.items)) (sym (ap (λ m. m.statements) whole_is ∙ c.in_ok-stated.ensures.1))
     (at_places
-    (record { constants = c.valued.ensures.constants; values = c.valued.ensures.all; refs = c.refs.ensures; like = c.like.ensures; few_names = c.few.ensures.names; few_statements = c.few.ensures.statements; distinct = c.distinct.ensures })
-    (record { sized = c.sized.ensures; laid_so = c.laid.ensures; within = c.within.ensures; kept = c.kept.ensures; few = c.few-2.ensures })
-    (record { named = c.named.ensures; labels_kept = c.kept-2.ensures.labels; externals_kept = c.kept-2.ensures.externals; few = c.kept-2.ensures.few; distinct = c.kept-2.ensures.distinct; publics_kept = c.within-2.ensures.publics; ascending = c.within-2.ensures.ascending; entry_kept = c.within-2.ensures.entry })
+    (record { constants = c.valued.ensures.constants; values = c.valued.ensures.all; refs = c.refs.ensures; like = c.kinds_anywhere.ensures; few_names = c.few.ensures.names; few_statements = c.few.ensures.statements; distinct = c.distinct.ensures })
+    (record { sized = c.all_sized.ensures; laid_so = c.stated_as_laid.ensures; within = c.next_within.ensures; kept = c.statements_keep_rules.ensures; few = c.few_statements.ensures })
+    (record { named = c.named.ensures; labels_kept = c.kept.ensures.labels; externals_kept = c.kept.ensures.externals; few = c.kept.ensures.few; distinct = c.kept.ensures.distinct; publics_kept = c.within.ensures.publics; ascending = c.within.ensures.ascending; entry_kept = c.within.ensures.entry })
     c.args.grow (lines_of c.args.lines.items) c.deref-3.result.now (layout_of c.in_ok-settled.layout) c.in_ok-settled.settled
     (record {
       names_sound = c.requires.sound;
@@ -93,5 +93,5 @@ returns-clause-placed c =
       named = c.requires.named;
       fit = subst (All FitsWord) (ap (map statement_of) c.deref-5.ensures.value ∙ c.in_ok-stated.ensures.1) c.fit_words.ensures;
     })
-    c.placed.ensures c.stated_by_names.ensures.fault c.stated_by_names.ensures.statements
+    c.statements_at_places.ensures c.stated_by_names.ensures.fault c.stated_by_names.ensures.statements
     (tells_of c.told.ensures c.args.table.now c.args.lines.items c.deref-3.result.now c.in_ok-turns.turns.items c.requires.names c.deref-3.ensures.value (subst (λ ls. IsOrder (length ls) (lines_named c.args.table.now (lines_of ls)) c.in_ok-turns.turns.items) c.deref.ensures.value c.in_ok-turns.ensures)))

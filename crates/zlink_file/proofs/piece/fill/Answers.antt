@@ -1,6 +1,6 @@
 use Rattle.std.proofs.Common.{◌≡◌, ℕ, ◌+◌, ◌++◌, ◌≤◌, length, slice_index, take, drop, ap, ◌∙◌, arith}
 use Rattle.asm_piece.specs.Cells.{written}
-use Rattle.asm_reads.specs.Linked.{fill_one}
+use Rattle.asm_statements.specs.Program.Linked.{fill_one}
 use Rattle.zmo_module.specs.Holes.{size_of}
 use Rattle.zlink_file.proofs.Filled.{filled-more, hole-within, length-fill_one}
 use Rattle.zlink_file.proofs.piece.fill.Goals as goal

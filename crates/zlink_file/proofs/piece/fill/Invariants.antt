@@ -1,5 +1,5 @@
 use Rattle.std.proofs.Common.{◌≡◌, length, slice_index, take}
-use Rattle.asm_reads.specs.Linked.{filled}
+use Rattle.asm_statements.specs.Program.Linked.{filled}
 use Rattle.zlink_file.proofs.piece.fill.Given as goal
 
 -- the holes before this one are filled

@@ -1,8 +1,8 @@
 use Rattle.std.proofs.Common.{map}
 use Rattle.std.proofs.lemmas.List.{map_push}
 use Rattle.std.proofs.lemmas.Result.{err_from_is_err_and}
-use Rattle.zmo_fields.specs.Fields.{many}
-use Rattle.zmo_fields.proofs.Many.{ends, goes_on, is_done}
+use Rattle.zmo_object.specs.Fields.Field.{many}
+use Rattle.zmo_object.proofs.Fields.Many.{ends, goes_on, is_done}
 use Rattle.zmo_object.specs.Reading.{name_at, with_name}
 use Rattle.zmo_object.proofs.label.externals.Goals as goal
 

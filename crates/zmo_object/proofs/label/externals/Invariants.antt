@@ -1,6 +1,6 @@
 use Rattle.std.proofs.Common.{◌-◌, map}
-use Rattle.zmo_fields.specs.Fields.{many}
-use Rattle.zmo_fields.proofs.Many.{GoesOn}
+use Rattle.zmo_object.specs.Fields.Field.{many}
+use Rattle.zmo_object.proofs.Fields.Many.{GoesOn}
 use Rattle.zmo_object.specs.Reading.{name_at, with_name}
 use Rattle.zmo_object.proofs.label.externals.Given as goal
 

@@ -2,8 +2,8 @@ use Rattle.std.proofs.Common.{◌∷◌, [], map, append_assoc}
 use Rattle.std.proofs.lemmas.List.{map_push}
 use Rattle.std.proofs.lemmas.Result.{err_from_is_err_and}
 use Rattle.zmo_module.specs.Modules.{label_of}
-use Rattle.zmo_fields.specs.Fields.{many}
-use Rattle.zmo_fields.proofs.Many.{ends, goes_on, is_done}
+use Rattle.zmo_object.specs.Fields.Field.{many}
+use Rattle.zmo_object.proofs.Fields.Many.{ends, goes_on, is_done}
 use Rattle.zmo_object.specs.Reading.{label_at, with_label}
 use Rattle.zmo_object.proofs.label.labels.Goals as goal
 

@@ -1,7 +1,7 @@
 use Rattle.std.proofs.Common.{◌≡◌, ◌-◌, ◌++◌, map}
 use Rattle.zmo_module.specs.Modules.{label_of}
-use Rattle.zmo_fields.specs.Fields.{many}
-use Rattle.zmo_fields.proofs.Many.{GoesOn}
+use Rattle.zmo_object.specs.Fields.Field.{many}
+use Rattle.zmo_object.proofs.Fields.Many.{GoesOn}
 use Rattle.zmo_object.specs.Reading.{label_at, with_label}
 use Rattle.zmo_object.proofs.label.labels.Given as goal
 

@@ -1,7 +1,7 @@
 use Rattle.std.proofs.Common.{◌+◌}
 use Rattle.std.proofs.lemmas.Result.{err_from_is_err_and}
-use Rattle.zmo_fields.specs.Fields.{many}
-use Rattle.zmo_fields.proofs.Many.{as_fault, fails, goes_on, is_done}
+use Rattle.zmo_object.specs.Fields.Field.{many}
+use Rattle.zmo_object.proofs.Fields.Many.{as_fault, fails, goes_on, is_done}
 use Rattle.zmo_object.specs.Reading.{public_at}
 use Rattle.zmo_object.proofs.label.publics.Goals as goal
 

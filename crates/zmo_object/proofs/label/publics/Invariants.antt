@@ -1,6 +1,6 @@
 use Rattle.std.proofs.Common.{◌-◌, ◌+◌}
-use Rattle.zmo_fields.specs.Fields.{many}
-use Rattle.zmo_fields.proofs.Many.{GoesOn}
+use Rattle.zmo_object.specs.Fields.Field.{many}
+use Rattle.zmo_object.proofs.Fields.Many.{GoesOn}
 use Rattle.zmo_object.specs.Reading.{public_at}
 use Rattle.zmo_object.proofs.label.publics.Given as goal
 

@@ -1,6 +1,6 @@
 use Rattle.std.proofs.Common.{◌≡◌, ◌++◌, take, map}
 use Rattle.std.specs.List.{flat_map}
-use Rattle.zmo_fields.specs.Texts.{counted}
+use Rattle.zmo_object.specs.Fields.Texts.{counted}
 use Rattle.zmo_object.proofs.label.put_externals.Given as goal
 
 abbrev pub invariant-loop-name : goal.invariant-loop-name

@@ -1,6 +1,6 @@
 use Rattle.std.proofs.Common.{◌≡◌, ◌++◌, take}
 use Rattle.std.specs.List.{flat_map}
-use Rattle.zmo_fields.specs.Texts.{word}
+use Rattle.zmo_object.specs.Fields.Texts.{word}
 use Rattle.zmo_object.proofs.label.put_publics.Given as goal
 
 abbrev pub invariant-loop-label : goal.invariant-loop-label

@@ -1,7 +1,7 @@
 use Rattle.std.proofs.Common.{◌-◌, ℕ, map}
 use Rattle.zmo_module.specs.Modules.{statement_of}
-use Rattle.zmo_fields.specs.Fields.{each}
-use Rattle.zmo_fields.proofs.Many.{GoesOn}
+use Rattle.zmo_object.specs.Fields.Field.{each}
+use Rattle.zmo_object.proofs.Fields.Many.{GoesOn}
 use Rattle.zmo_object.specs.Reading.{statement_at}
 use Rattle.zmo_object.proofs.reading.statements.Given as goal
 

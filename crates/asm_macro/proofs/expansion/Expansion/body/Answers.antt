@@ -1,11 +1,11 @@
 use Rattle.std.proofs.Common.{◌≡◌, ◌∙◌, ◌-◌, IfOk, ap, subst, length}
 use Rattle.std.specs.List.{slice_get}
 use Rattle.std.specs.Option.{option_map}
-use Rattle.asm_sections.specs.Blocks.{body_of}
-use Rattle.asm_sections.specs.Books.{IsBook}
-use Rattle.asm_texts.specs.Prepared.{said}
-use Rattle.asm_sections.specs.Sections.{body_seen}
-use Rattle.asm_texts.specs.Spans.{text_of}
+use Rattle.asm_text.specs.Sections.Blocks.{body_of}
+use Rattle.asm_text.specs.Sections.Books.{IsBook}
+use Rattle.asm_text.specs.Prepared.{said}
+use Rattle.asm_text.specs.Sections.Sections.{body_seen}
+use Rattle.asm_text.specs.Spans.{text_of}
 use Rattle.asm_macro.proofs.Stacks.{given_ok, last_table}
 use Rattle.asm_macro.proofs.expansion.Expansion.body.Goals as goal
 

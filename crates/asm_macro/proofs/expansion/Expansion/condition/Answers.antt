@@ -1,8 +1,8 @@
 use Rattle.std.proofs.Common.{◌≡◌, ◌∙◌, ap, sym, subst, Some, Err}
 use Rattle.std.specs.Option.{option_map}
 use Rattle.asm_scan.specs.Tokens.{lexemes}
-use Rattle.asm_sections.specs.Blocks.{branches_of}
-use Rattle.asm_sections.specs.Sections.{branches_seen}
+use Rattle.asm_text.specs.Sections.Blocks.{branches_of}
+use Rattle.asm_text.specs.Sections.Sections.{branches_seen}
 use Rattle.asm_macro.specs.State as state
 use Rattle.asm_macro.specs.Values.{worth}
 use Rattle.asm_macro.specs.Ahead.{seen}

@@ -5,7 +5,7 @@ use Rattle.std.specs.Str.{bytes_eq}
 use Rattle.asm_words.specs.Words.{is_reserved, upper}
 use Rattle.asm_replace.specs.Views.{texts}
 use Rattle.asm_line.specs.Views.{form_seen}
-use Rattle.asm_texts.specs.Prepared.{macro_seen, macros_seen}
+use Rattle.asm_text.specs.Prepared.{macro_seen, macros_seen}
 use Rattle.asm_macro.specs.State.{macro_named}
 use Rattle.asm_macro.specs.Ahead.{seen}
 use Rattle.asm_macro.specs.Private.Moves.{Resumes, moved, rest_of, state_of}

@@ -1,9 +1,9 @@
 use Rattle.std.proofs.Common.{◌∙◌, ◌∷◌, ◌++◌, [], ap, map, reverse, sym, subst, length, length-append, arith}
-use Rattle.asm_texts.specs.Prepared.{said}
-use Rattle.asm_sections.specs.declared.following.Following.{Following}
+use Rattle.asm_text.specs.Prepared.{said}
+use Rattle.asm_text.specs.declared.following.Following.{Following}
 use Rattle.std.proofs.lemmas.List.Elements.{All-push, All-same}
-use Rattle.asm_sections.specs.Books.{IsBook}
-use Rattle.asm_texts.specs.Kept.{IsCall}
+use Rattle.asm_text.specs.Sections.Books.{IsBook}
+use Rattle.asm_text.specs.Kept.{IsCall}
 use Rattle.asm_macro.specs.Private.Frames.{AreBooks, innermost, turns_in}
 use Rattle.asm_macro.specs.Private.Moves.{tables_in}
 use Rattle.asm_macro.proofs.Stacks.{pushed}

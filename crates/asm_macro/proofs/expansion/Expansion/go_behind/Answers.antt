@@ -1,8 +1,8 @@
 use Rattle.std.proofs.Common.{◌≡◌, ◌∙◌, ◌+◌, ◌-◌, ap, sym, subst, arith, length}
 use Rattle.std.specs.List.{slice_get}
-use Rattle.asm_texts.specs.Prepared.{said}
-use Rattle.asm_sections.specs.Onward.{behind}
-use Rattle.asm_sections.specs.Views.{next_of, onward_seen}
+use Rattle.asm_text.specs.Prepared.{said}
+use Rattle.asm_text.specs.Sections.Onward.{behind}
+use Rattle.asm_text.specs.Sections.Views.{next_of, onward_seen}
 use Rattle.asm_macro.specs.Private.Frames.{innermost}
 use Rattle.asm_macro.specs.Private.Going.{Fits, part_of, texts_opened, turns_opened}
 use Rattle.asm_macro.specs.Private.Moves.{Resumes, moved, rest_of, state_of, tables_in}

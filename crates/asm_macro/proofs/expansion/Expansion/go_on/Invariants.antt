@@ -1,5 +1,5 @@
 use Rattle.std.proofs.Common.{◌≤◌, List}
-use Rattle.asm_texts.specs.Lines.{Numbered}
+use Rattle.asm_text.specs.Lines.{Numbered}
 use Rattle.asm_macro.specs.Expands.{End}
 use Rattle.asm_macro.specs.Ahead.{Remains, Within}
 use Rattle.asm_macro.specs.Kept.{AreOf}

@@ -1,7 +1,7 @@
 use Rattle.std.proofs.Common.{◌∙◌, ◌+◌, ap, length, subst, sym, Err}
 use Rattle.std.proofs.lemmas.Result.{err_from_is_err_and}
-use Rattle.asm_texts.specs.Spans.{text_of}
-use Rattle.asm_sections.specs.Views.{onward_seen}
+use Rattle.asm_text.specs.Spans.{text_of}
+use Rattle.asm_text.specs.Sections.Views.{onward_seen}
 use Rattle.asm_macro.specs.Private.Frames.{innermost}
 use Rattle.asm_macro.specs.Private.Going.{part_of}
 use Rattle.asm_macro.specs.Private.Moves.{Resumes, moved, rest_of, state_of, tables_in}

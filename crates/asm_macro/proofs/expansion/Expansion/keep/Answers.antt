@@ -4,11 +4,11 @@ use Rattle.std.specs.Option.{option_map}
 use Rattle.std.proofs.lemmas.List.Elements.{All-push, All-same}
 use Rattle.indexmap.proofs.CallerLemmas.{insert_entry-new}
 use Rattle.asm_replace.specs.Views.{texts}
-use Rattle.asm_sections.specs.Blocks.{body_of}
-use Rattle.asm_sections.specs.Onward.{stray}
-use Rattle.asm_sections.specs.Sections.{body_seen, line_of}
-use Rattle.asm_texts.specs.Prepared.{said}
-use Rattle.asm_texts.specs.Kept.{IsKept}
+use Rattle.asm_text.specs.Sections.Blocks.{body_of}
+use Rattle.asm_text.specs.Sections.Onward.{stray}
+use Rattle.asm_text.specs.Sections.Sections.{body_seen, line_of}
+use Rattle.asm_text.specs.Prepared.{said}
+use Rattle.asm_text.specs.Kept.{IsKept}
 use Rattle.asm_macro.specs.declared.fault.MacroFault.{MacroFault}
 use Rattle.asm_macro.specs.State.{macro_named, with_macro}
 use Rattle.asm_macro.specs.Ahead.{seen}
@@ -19,7 +19,7 @@ use Rattle.asm_macro.specs.Private.Heads.{kept}
 use Rattle.asm_macro.specs.Private.Moves.{Fails, moved, rest_of, state_of, tables_in}
 use Rattle.asm_macro.proofs.Stacks.{last_table}
 use Rattle.asm_macro.proofs.Onwards.{closing_none, closing_some}
-use Rattle.asm_texts.proofs.Macros.{absent}
+use Rattle.asm_text.proofs.Macros.{absent}
 use Rattle.asm_macro.proofs.Macros.{kept_is}
 use Rattle.asm_macro.proofs.expansion.Expansion.keep.Goals as goal
 

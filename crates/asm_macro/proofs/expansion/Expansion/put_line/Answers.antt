@@ -1,12 +1,12 @@
 use Rattle.std.proofs.Common.{◌∙◌, ◌+◌, ap, sym, length, ◌-◌}
 use Rattle.std.specs.Option.{unwrap_or}
 use Rattle.std.specs.List.{slice_get}
-use Rattle.asm_texts.specs.Prepared.{said}
+use Rattle.asm_text.specs.Prepared.{said}
 use Rattle.asm_macro.proofs.Stacks.{last_table}
-use Rattle.asm_sections.proofs.Texts.{front_line}
+use Rattle.asm_text.proofs.Sections.Texts.{front_line}
 use Rattle.asm_macro.specs.Private.Moves.{rest_of, tables_in}
 use Rattle.asm_macro.specs.Private.Frames.{innermost}
-use Rattle.asm_texts.specs.Spans.{shown}
+use Rattle.asm_text.specs.Spans.{shown}
 use Rattle.asm_macro.proofs.expansion.Expansion.put_line.Goals as goal
 
 pub returns-in-Some-clause-line : goal.returns-in-Some-clause-line

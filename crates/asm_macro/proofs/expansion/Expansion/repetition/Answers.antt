@@ -1,8 +1,8 @@
 use Rattle.std.proofs.Common.{◌≡◌, ◌∙◌, ap, sym, subst, Some, Err, arith}
 use Rattle.std.specs.Option.{option_map}
 use Rattle.asm_scan.specs.Tokens.{lexemes}
-use Rattle.asm_sections.specs.Blocks.{body_of}
-use Rattle.asm_sections.specs.Sections.{body_seen}
+use Rattle.asm_text.specs.Sections.Blocks.{body_of}
+use Rattle.asm_text.specs.Sections.Sections.{body_seen}
 use Rattle.asm_macro.specs.State as state
 use Rattle.asm_macro.specs.Values.{worth}
 use Rattle.asm_macro.specs.Ahead.{seen}

@@ -1,14 +1,14 @@
 use Rattle.std.proofs.Common.{◌≡◌, ◌∙◌, ◌+◌, ◌-◌, ◌++◌, ◌∷◌, [], ℕ, ap, sym, subst, length, reverse, length-take, arith, map, take}
 use Rattle.std.specs.Vec.{vec_len}
-use Rattle.asm_sections.specs.declared.following.Following.{Following}
+use Rattle.asm_text.specs.declared.following.Following.{Following}
 use Rattle.asm_macro.specs.Parts.{resumed}
 use Rattle.asm_macro.specs.Private.Frames.{AreBooks, around_seen, innermost, turns_in}
-use Rattle.asm_sections.specs.Views.{next_of}
+use Rattle.asm_text.specs.Sections.Views.{next_of}
 use Rattle.asm_macro.specs.Private.Moves.{Resumes, moved, rest_of, state_of, tables_in}
-use Rattle.asm_texts.specs.Prepared.{said}
+use Rattle.asm_text.specs.Prepared.{said}
 use Rattle.std.proofs.lemmas.List.Elements.{All-same, All-take}
-use Rattle.asm_sections.specs.Books.{IsBook}
-use Rattle.asm_texts.specs.Kept.{IsCall}
+use Rattle.asm_text.specs.Sections.Books.{IsBook}
+use Rattle.asm_text.specs.Kept.{IsCall}
 use Rattle.asm_macro.proofs.Stacks.{popped_tables, pushed}
 use Rattle.asm_macro.proofs.Turned.{popped, rest_popped, turns_popped}
 use Rattle.asm_macro.proofs.expansion.Expansion.resume.Goals as goal

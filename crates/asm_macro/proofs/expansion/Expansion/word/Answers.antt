@@ -5,14 +5,12 @@ use Rattle.asm_words.specs.Words.{upper}
 use Rattle.asm_line.specs.Views.{form_seen}
 use Rattle.asm_macro.specs.declared.fault.MacroFault.{MacroFault}
 use Rattle.asm_macro.specs.State.{called_by, macro_called}
-use Rattle.asm_texts.specs.Kept.{IsCall}
-use Rattle.asm_texts.specs.Calls.{arguments_in, body_lines, label_lines, table_of}
-use Rattle.asm_sections.specs.Onward as onward
+use Rattle.asm_text.specs.Kept.{IsCall}
+use Rattle.asm_text.specs.Calls.{arguments_in, body_lines, label_lines, table_of}
+use Rattle.asm_text.specs.Sections.Onward as onward
 use Rattle.asm_macro.specs.Ahead.{seen}
-use Rattle.asm_texts.specs.Prepared.{Prepares}
-use Rattle.asm_texts.specs.Prepared.{body_texts}
+use Rattle.asm_text.specs.Prepared.{Prepares, body_texts, macro_seen, macros_seen}
 use Rattle.asm_macro.specs.Private.Moves.{Fails, On, Takes, rest_of, state_of}
-use Rattle.asm_texts.specs.Prepared.{macro_seen, macros_seen}
 use Rattle.asm_macro.proofs.Called.{called_off, called_on, opened_is}
 use Rattle.asm_macro.proofs.Stacks.{depth_is}
 use Rattle.asm_macro.proofs.expansion.Expansion.word.Goals as goal

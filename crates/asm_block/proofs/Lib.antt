@@ -1,4 +1,0 @@
-mod Nested
-mod Cut
-mod Linked
-mod Walked

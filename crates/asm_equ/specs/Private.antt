@@ -1,5 +1,0 @@
--- What private contracts alone cite: no reviewer need believe it.
-pub mod Bounds
-pub mod Judged
-pub mod Placed
-pub mod Turned

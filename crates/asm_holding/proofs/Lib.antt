@@ -1,3 +1,0 @@
-mod Collected
-mod Keeping
-mod Within

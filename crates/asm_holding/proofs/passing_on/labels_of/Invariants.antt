@@ -1,8 +1,0 @@
-use Rattle.std.proofs.Common.{◌≡◌, map, take}
-use Rattle.asm_equ.specs.Layout.{layout_of}
-use Rattle.zmo_module.specs.Modules.{label_of}
-use Rattle.asm_holding.specs.Holding.{labels}
-use Rattle.asm_holding.proofs.passing_on.labels_of.Given as goal
-
-abbrev pub invariant-loop-at : goal.invariant-loop-at
-invariant-loop-at l = map label_of l.labels.items ≡ labels (layout_of l.layout) (take l.at l.table)

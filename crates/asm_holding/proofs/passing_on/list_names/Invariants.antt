@@ -1,8 +1,0 @@
-use Rattle.std.proofs.Common.{◌≡◌, ◌||◌, ℕ, List, take}
-use Rattle.std.specs.List.{list_any}
-use Rattle.std.specs.Str.{bytes_eq}
-use Rattle.asm_spell.specs.Line.{listed_of}
-use Rattle.asm_holding.proofs.passing_on.list_names.Given as goal
-
-abbrev pub invariant-loop-name : goal.invariant-loop-name
-invariant-loop-name l = (name : List ℕ) → list_any (bytes_eq name) l.listed ≡ (list_any (bytes_eq name) l.initial.listed || list_any (bytes_eq name) (listed_of (take l.name-index l.names)))

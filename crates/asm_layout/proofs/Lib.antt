@@ -1,3 +1,0 @@
-pub mod Few
-mod Laying_down
-mod SameKinds

@@ -1,0 +1,4 @@
+mod Ends
+pub mod Kept
+pub mod Taking
+mod Texts

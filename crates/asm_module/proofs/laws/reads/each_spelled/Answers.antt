@@ -1,0 +1,5 @@
+use Rattle.asm_module.proofs.Reads.Kept.{each_read}
+use Rattle.asm_module.proofs.laws.reads.each_spelled.Goals as goal
+
+pub returns : goal.returns
+returns c = each_read

@@ -1,0 +1,28 @@
+-- What is answered of a source text.
+use Rattle.std.specs.Prelude.{◌≡◌, ℕ, List, [], ◌∷◌, Some, Result, Ok, Err, length}
+use Rattle.asm_spell.specs.Line as line
+use Rattle.asm_spell.specs.Line.{Line}
+use Rattle.asm_macro.specs.declared.fault.MacroFault.{MacroFault}
+use Rattle.asm_macro.specs.Expands.{IsExpanded}
+use Rattle.asm_macro.specs.Texts.{source_lines}
+use Rattle.asm_text.specs.Lines.{Numbered}
+use Rattle.asm_names.specs.Lines.{Taken, lines_of}
+use Rattle.asm_module.specs.declared.source.SourceText.{SourceText}
+use Rattle.asm_module.specs.Reads.Read.{taken, unread}
+
+-- the number of a line with END, else another
+abbrev pub end_or : ℕ → ℕ → Line → ℕ
+end_or number other (line.Statement label (Some (line.End entry))) = number
+end_or number other _ = other
+
+-- The last line that a listing has: the first with END, else the last of the text.
+abbrev pub last_listed : ℕ → List Taken → ℕ
+last_listed last [] = last
+last_listed last (l ∷ ls) = end_or l.number (last_listed last ls) l.line
+
+-- The text's expansion is read, or it stops. Want of memory alone has no cause in the text.
+abbrev pub IsSourceText : List ℕ → Result SourceText (ℕ × MacroFault) → Type 0
+IsSourceText text (Ok s) = (lines : List Numbered) × IsExpanded text (Ok lines) × (lines_of s.lines.items ≡ taken lines) × (s.unread ≡ unread lines)
+    × (s.last ≡ last_listed (length (source_lines text)) (taken lines))
+IsSourceText text (Err (number, MacroFault.NoMemory)) = Unit {0}
+IsSourceText text (Err (number, why)) = IsExpanded text (Err (number, why))

@@ -1,5 +1,0 @@
-use Rattle.asm_names.proofs.Distinct.{distinct_names}
-use Rattle.asm_names.proofs.laws.distinct.Goals as goal
-
-pub returns : goal.returns
-returns c = distinct_names

@@ -1,0 +1,16 @@
+-- Where the statements of a source stand, as far as its names ask.
+use Rattle.std.specs.Prelude.{ℕ, List, slice_index}
+use Rattle.asm_expr.specs.Types.{Statement}
+use Rattle.asm_names.specs.declared.layout.Layout as layout
+
+-- the statements in order, and for each line the number of the next one behind the lines before it
+pub record Layout : Type 0 where
+  pub next : List ℕ
+  pub statements : List Statement
+
+abbrev pub next_at : Layout → ℕ → ℕ
+next_at layout at = slice_index layout.next at
+
+-- what the code's type holds
+abbrev pub layout_of : layout.Layout → Layout
+layout_of l = record { next = l.next.items; statements = l.statements.items }

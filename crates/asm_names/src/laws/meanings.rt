@@ -1,0 +1,51 @@
+//! Laws of the names that EQU defines, as functions that do nothing: their calls bring the clauses.
+
+ghost use Rattle.std.specs.Prelude.{◌≡◌, ◌<◌, ◌≤◌, ◌+◌, ℕ, Bool, true, false, List, None, Some, length};
+ghost use Rattle.std.specs.List.{list_any};
+ghost use Rattle.std.specs.Map.{lookup};
+ghost use Rattle.std.specs.Str.{bytes_eq};
+ghost use Rattle.asm_expr.specs.declared.meaning.Meaning.{Meaning};
+ghost use Rattle.asm_expr.specs.Distances.{is_unsized};
+ghost use Rattle.asm_expr.specs.Origins.{Brings, is_number_name, is_valued_name};
+ghost use Rattle.asm_expr.specs.Settling.{is_constant_name};
+ghost use Rattle.asm_names.specs.declared.walk.Turn.{Turn};
+ghost use Rattle.asm_names.specs.Orders.Order.{IsOrder};
+ghost use Rattle.asm_names.specs.Faults as naming;
+ghost use Rattle.asm_names.specs.Lines.{Taken};
+ghost use Rattle.asm_names.specs.Names.{Names, names};
+ghost use Rattle.asm_names.specs.Circles.{TellsCircles, lines_named};
+ghost use Rattle.asm_names.specs.Layout.{Layout, next_at};
+ghost use Rattle.asm_names.specs.Meanings.{entries, externals, first_fault};
+ghost use Rattle.asm_names.specs.Settles.{told};
+
+/// Turns in order tell which lines lead back to themselves.
+pub fn told()
+    ensures { (names : Names) (lines : List Taken) (turns : List Turn) → IsOrder (length lines) (lines_named names lines) turns → TellsCircles names lines (told turns) }
+{}
+
+/// Where no line is faulty, each name that is constant stands for a number; and each name stands for a value, if the size of each
+/// statement is known.
+pub fn valued()
+    ensures constants { (lines : List Taken) (turns : List Turn) (layout : Layout) → naming.first_fault lines ≡ None →
+        IsOrder (length lines) (lines_named (names lines) lines) turns → first_fault (names lines) lines (told turns) layout ≡ None →
+        (name : List ℕ) (what : Meaning) → lookup (bytes_eq name) (entries (names lines) lines (told turns) layout) ≡ Some what →
+        is_constant_name (Some what) ≡ true → is_number_name (Some what) ≡ true }
+    ensures all { (lines : List Taken) (turns : List Turn) (layout : Layout) → naming.first_fault lines ≡ None →
+        IsOrder (length lines) (lines_named (names lines) lines) turns → first_fault (names lines) lines (told turns) layout ≡ None →
+        list_any is_unsized layout.statements ≡ false →
+        (name : List ℕ) (what : Meaning) → lookup (bytes_eq name) (entries (names lines) lines (told turns) layout) ≡ Some what →
+        is_valued_name (Some what) ≡ true }
+{
+    crate::laws::given();
+    asm_expr::laws::number_of_numbers();
+    asm_expr::laws::valued();
+}
+
+/// Names stand for refs below a count, where the numbers of statements are below it and there are as many behind them as externals.
+pub fn refs()
+    ensures { (names : Names) (lines : List Taken) (circle : ℕ → Bool) (layout : Layout) (count : ℕ) → ((at : ℕ) → next_at layout at < count) →
+        (length layout.statements + 1) + length (externals names) ≤ count →
+        (name : List ℕ) (what : Meaning) → lookup (bytes_eq name) (entries names lines circle layout) ≡ Some what → Brings (λ r. r < count) what }
+{
+    asm_expr::laws::no_other_refs();
+}

@@ -1,0 +1,124 @@
+//! All names of a source.
+
+ghost use Rattle.std.specs.Prelude.{◌≡◌, ◌≤◌, IfOk, OnOk, None, length, replicate};
+ghost use Rattle.limits.specs.declared.TheConstants.{MOST_STATEMENTS};
+ghost use Rattle.asm_spell.specs.Line.{line_of};
+ghost use Rattle.asm_names.specs.Orders.Order.{IsOrder};
+ghost use Rattle.asm_names.specs.Faults.{first, first_fault};
+ghost use Rattle.asm_names.specs.Lines.{lines_of};
+ghost use Rattle.asm_names.specs.Names as defined;
+ghost use Rattle.asm_names.specs.Circles.{lines_named};
+ghost use Rattle.asm_names.specs.Layout.{layout_of};
+ghost use Rattle.asm_names.specs.Settles.{Settles, told};
+ghost use Rattle.asm_names.specs.Private.Turned.{CanTake, Takes, numbered};
+
+use crate::fault::EquFault;
+use crate::judging::judge;
+use crate::kind::SourceLine;
+use crate::laws;
+use crate::layout::Layout;
+use crate::places::places_of;
+use crate::table::NameTable;
+use crate::walk::Turn;
+use asm_expr::Names;
+use asm_spell::Line;
+use std::alloc::{AllocError, Global};
+
+/// What the names of a source stand for.
+#[derive(Debug, Drop)]
+pub struct SettledNames {
+    pub names: Names,
+    /// The first EQU line that is faulty, by the number that it bears, and its first fault.
+    pub fault: Option<(u32, EquFault)>,
+}
+
+/// The names that are settled so far, and of each line its fault.
+#[derive(Debug, Drop)]
+pub(crate) struct Settling {
+    names: Names,
+    faults: Vec<Option<EquFault>>,
+}
+
+impl Settling {
+    /// Settles the name that a line gives, if it is an EQU.
+    fn take(
+        &mut self,
+        alloc: Global,
+        turn: Turn,
+        line: &Line,
+        table: &NameTable,
+        layout: &Layout,
+    ) -> Result<(), AllocError>
+        requires { CanTake table.now turn (line_of line.now) self.old }
+        ensures { OnOk result (Takes table.now (layout_of layout.now) turn (line_of line.now) self.old self.new) }
+    {
+        let Line::Equ { name, value } = line else {
+            return Ok(());
+        };
+        let at = turn.definition as usize;
+        self.names.set_here(layout.next_at(at));
+        let judged = judge(alloc, value, table, turn.on_circle, &self.names)?;
+        self.faults[at] = judged.fault;
+        self.names.define(name.to_vec(alloc)?, judged.meaning)?;
+        Ok(())
+    }
+}
+
+/// So many lines without a fault.
+fn no_faults(alloc: Global, count: usize) -> Result<Vec<Option<EquFault>>, AllocError>
+    ensures { IfOk result (λ faults. faults.items ≡ replicate count None) }
+{
+    let mut faults = Vec::with_capacity(alloc, count)?;
+    for _ in 0..count {
+        faults.push(None)?;
+    }
+    Ok(faults)
+}
+
+/// The first fault, with the number of its line.
+fn first_of(lines: &[SourceLine], faults: &[Option<EquFault>]) -> Option<(u32, EquFault)>
+    requires { length faults.now ≡ length lines.now }
+    ensures { result ≡ first (numbered (lines_of lines.now) faults.now) }
+{
+    for (at, line) in lines.iter().enumerate() {
+        if let Some(why) = faults[at] {
+            return Some((line.number, why));
+        }
+    }
+    None
+}
+
+/// What the names of a source stand for, whatever the order of its lines, and the first fault of its EQU lines: a name that is nowhere
+/// defined, an EQU that leads back to itself, or a fault of its expression. A name whose own line has a fault may stand for anything.
+///
+/// `turns` is what [`turns_of`](crate::turns_of) answers of these lines.
+pub fn settle_names(
+    alloc: Global,
+    lines: &[SourceLine],
+    table: &NameTable,
+    turns: &[Turn],
+    layout: &Layout,
+) -> Result<SettledNames, AllocError>
+    requires sound { first_fault (lines_of lines.now) ≡ None }
+    requires names { table.now ≡ defined.names (lines_of lines.now) }
+    requires turns { IsOrder (length lines.now) (lines_named table.now (lines_of lines.now)) turns.now }
+    requires few { length layout.now.statements.items ≤ MOST_STATEMENTS }
+    ensures { IfOk result (Settles table.now (lines_of lines.now) (told turns.now) (layout_of layout.now)) }
+{
+    laws::few();
+    laws::distinct();
+    laws::given();
+    let mut settling = Settling {
+        names: places_of(alloc, table, layout)?,
+        faults: no_faults(alloc, lines.len())?,
+    };
+    for turn in turns {
+        let line = &lines[turn.definition as usize].line;
+        settling.take(alloc, *turn, line, table, layout)?;
+    }
+    let fault = first_of(lines, &settling.faults);
+    Ok(SettledNames {
+        names: settling.names,
+        fault,
+    })
+}

@@ -1,9 +1,0 @@
-mod Leading
-mod Frames
-mod Opened
-mod Followed
-mod Visits
-mod Keeping
-mod Drained
-mod Closed
-mod Ordered

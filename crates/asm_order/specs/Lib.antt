@@ -1,3 +1,0 @@
-pub mod Circles
-pub mod Order
-pub mod Private

@@ -1,5 +1,0 @@
-pub mod Statement
-pub mod Pieces
-pub mod Linked
-pub mod Rules
-pub mod Spelled

@@ -1,3 +1,0 @@
-mod Listed
-mod Keeping
-mod Placing

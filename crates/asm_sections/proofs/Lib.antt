@@ -1,4 +1,0 @@
-pub mod Texts
-mod Branches
-mod Books
-mod Strays

@@ -1,6 +1,0 @@
-pub mod Blocks
-pub mod Books
-pub mod Sections
-pub mod Onward
-pub mod Views
-pub mod Private

@@ -1,4 +1,0 @@
-mod Ends
-mod Kept
-mod Taking
-mod Texts

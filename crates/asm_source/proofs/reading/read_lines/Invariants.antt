@@ -1,9 +1,0 @@
-use Rattle.asm_source.proofs.Taking.{Standing}
-use Rattle.asm_macro.specs.Ahead.{most_left}
-use Rattle.asm_source.proofs.reading.read_lines.Given as goal
-
-abbrev pub invariant-loop-expander : goal.invariant-loop-expander
-invariant-loop-expander l = Standing l.fn.text l.reading l.expander.ahead
-
-abbrev pub decreases-loop-expander : goal.decreases-loop-expander
-decreases-loop-expander l = most_left l.expander.ahead

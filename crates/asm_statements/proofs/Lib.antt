@@ -1,0 +1,4 @@
+mod Layouts
+mod Module
+pub mod Program
+mod Rules

@@ -1,0 +1,3 @@
+pub mod Pieces
+mod Listed
+pub mod Statements

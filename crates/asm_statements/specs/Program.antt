@@ -1,0 +1,5 @@
+pub mod Statement
+pub mod Pieces
+pub mod Linked
+pub mod Spelled
+pub mod Lines

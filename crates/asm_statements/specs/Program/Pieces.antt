@@ -1,0 +1,61 @@
+-- When bytes are a statement's, at places.
+use Rattle.std.specs.Prelude.{◌≡◌, ℕ, ◌+◌, ◌/◌, ◌%◌, Bool, List, [], ◌∷◌, Some, None, if◌then◌else◌, length, map, replicate, ℤ, pos, ◌+ℤ◌}
+use Rattle.std.specs.Bool.{MatchBool}
+use Rattle.std.specs.List.{flat_map, sum_by}
+use Rattle.asm_parse.specs.Expression.{Expression}
+use Rattle.asm_expr.specs.Below.{Atom, value}
+use Rattle.asm_expr.specs.Types.{Statement as Size}
+use Rattle.z80_instr.specs.declared.Instr.{Instr}
+use Rattle.z80_instr.specs.Table.{canonical}
+use Rattle.z80_instr.specs.Codes.{Codes}
+use Rattle.z80_form.specs.declared.field.Field.{Field}
+use Rattle.z80_form.specs.Numbers.{with_numbers}
+use Rattle.z80_instr.specs.declared.Branch.{Branch}
+use Rattle.asm_piece.specs.Made.{long_jump}
+use Rattle.asm_statements.specs.Program.Statement as statement
+use Rattle.asm_statements.specs.Program.Statement.{Datum, Statement}
+
+-- JR or DJNZ by a displacement
+abbrev pub short_jump : Branch → ℤ → Instr
+short_jump (Branch.Relative None) e = Instr.JumpRelative e
+short_jump (Branch.Relative (Some condition)) e = Instr.JumpRelativeIf condition e
+short_jump Branch.CountDown e = Instr.Djnz e
+
+-- a short jump at one place whose displacement, counted from its end, leads to another
+abbrev pub LeadsTo : ℕ → ℕ → Branch → List ℕ → Type 0
+LeadsTo from to branch bytes = (e : ℤ) × (pos (from + 2) +ℤ e ≡ pos to) × Codes (short_jump branch e) bytes
+
+-- an item's bytes: a word has its low byte first
+abbrev pub datum_bytes : (ℕ → ℕ) → Datum → List ℕ
+datum_bytes places (statement.Byte e) = value places e % 256 ∷ []
+datum_bytes places (statement.Word e) = value places e % 256 ∷ value places e / 256 ∷ []
+
+-- what the expressions of numbers are worth
+abbrev pub valued : (ℕ → ℕ) → List (Field × Expression Atom) → List (Field × ℕ)
+valued places numbers = map (λ n. (n.0, value places n.1)) numbers
+
+-- The bytes are a statement's: at a place, long or short, where each ref has its place.
+abbrev pub IsPiece : ℕ → Bool → (ℕ → ℕ) → Statement → List ℕ → Type 0
+IsPiece at long places (statement.Code instr numbers) bytes = Codes (with_numbers (valued places numbers) instr) bytes
+IsPiece at long places (statement.Data items) bytes = bytes ≡ flat_map (datum_bytes places) items
+IsPiece at long places (statement.Space n fill) bytes = bytes ≡ replicate n fill
+IsPiece at long places (statement.Jump condition target) bytes = MatchBool long (Codes (long_jump condition (places target)) bytes) (LeadsTo at (places target) (Branch.Relative condition) bytes)
+IsPiece at long places (statement.Short branch target) bytes = LeadsTo at (places target) branch bytes
+
+-- A statement as far as its size matters.
+abbrev pub width : Datum → ℕ
+width (statement.Byte e) = 1
+width (statement.Word e) = 2
+
+abbrev pub sized_as : Statement → Size
+sized_as (statement.Code instr numbers) = Size.Sized (length (canonical instr))
+sized_as (statement.Data items) = Size.Sized (sum_by width items)
+sized_as (statement.Space n fill) = Size.Sized n
+sized_as (statement.Jump condition target) = Size.Relaxable
+sized_as (statement.Short branch target) = Size.Sized 2
+
+-- how many bytes a statement takes, long or short
+abbrev pub takes : Bool → Size → ℕ
+takes long (Size.Sized n) = n
+takes long Size.Relaxable = if long then 3 else 2
+takes long Size.Unsized = 0

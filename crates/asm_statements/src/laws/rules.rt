@@ -1,0 +1,43 @@
+//! The statements are those that an object file may hold.
+
+ghost use Rattle.std.specs.Prelude.{◌≡◌, ◌≤◌, ◌<◌, ℕ, All, Bool, List, Some, Ok, count_by, length, map};
+ghost use Rattle.asm_expr.specs.Names.{AreCounted, Table, found};
+ghost use Rattle.asm_expr.specs.Origins.{AllBring, Brings};
+ghost use Rattle.asm_expr.specs.declared.meaning.Meaning.{Meaning};
+ghost use Rattle.asm_spell.specs.Line.{Body};
+ghost use Rattle.asm_names.specs.Lines.{Taken, has_statement};
+ghost use Rattle.asm_names.specs.Layout.{Layout, next_at};
+ghost use Rattle.asm_piece.specs.Made.{Piece, Some_piece, made};
+ghost use Rattle.zmo_module.specs.Rules.{IsStatement};
+ghost use Rattle.asm_statements.specs.Module.Stated.{numbered};
+ghost use Rattle.asm_statements.specs.Program.Spelled.{IsSpelled};
+ghost use Rattle.asm_statements.specs.Rules.Fitting.{FitsWord, IsReadLine};
+ghost use Rattle.asm_statements.specs.Rules.Piece.{KeepsRules};
+
+/// The piece of a spelled line keeps the rules of an object with so many refs, where the place of `$` and the names bring no others.
+pub fn pieces_keep_rules()
+    ensures { (t : Table) (b : Body) (p : Piece) (refs : ℕ) → AreCounted t → AllBring (λ r. r < refs) t → IsSpelled b → made t b ≡ Ok (Some_piece p) →
+        KeepsRules refs p }
+{
+    asm_expr::laws::worth_of_settled();
+    asm_expr::laws::no_other_refs();
+    asm_spell::laws::numbered();
+    z80_form::laws::fields();
+    z80_form::laws::kept();
+    z80_form::laws::places();
+}
+
+/// The statements of spelled lines keep the rules of an object with so many refs, where names and places bring no others.
+pub fn statements_keep_rules()
+    ensures { (grow : Bool) (t : Table) (layout : Layout) (lines : List Taken) (refs : ℕ) → AreCounted t → ((at : ℕ) → next_at layout at < refs) →
+        ((name : List ℕ) (what : Meaning) → found t name ≡ Some what → Brings (λ r. r < refs) what) → All (λ l. IsReadLine l.line) lines →
+        All FitsWord (map (λ n. n.1) (numbered grow t layout lines)) → All (IsStatement grow refs) (map (λ n. n.1) (numbered grow t layout lines)) }
+{
+    pieces_keep_rules();
+    asm_piece::laws::few();
+}
+
+/// There are no more statements than words that take a place.
+pub fn few_statements()
+    ensures { (grow : Bool) (t : Table) (layout : Layout) (lines : List Taken) → length (numbered grow t layout lines) ≤ count_by (λ l. has_statement l.line) lines }
+{}

@@ -1,4 +1,0 @@
-pub mod Missing_names
-pub mod In_order
-mod Found
-mod Alike

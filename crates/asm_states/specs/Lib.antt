@@ -1,4 +1,0 @@
-pub mod Faults
-pub mod Statements
-pub mod Stated
-pub mod Private

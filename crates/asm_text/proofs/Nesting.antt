@@ -1,0 +1,4 @@
+mod Nested
+mod Cut
+pub mod Linked
+pub mod Walked

@@ -1,0 +1,4 @@
+pub mod Texts
+pub mod Branches
+pub mod Books
+pub mod Strays

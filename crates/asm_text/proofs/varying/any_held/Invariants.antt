@@ -1,0 +1,10 @@
+use Rattle.std.proofs.Common.{◌≡◌, [], drop}
+use Rattle.std.specs.List.{list_any}
+use Rattle.asm_scan.specs.Tokens.{lexemes}
+use Rattle.asm_replace.specs.Views.{in_call}
+use Rattle.asm_text.specs.Private.Varying.{is_held}
+use Rattle.asm_text.proofs.varying.any_held.Given as goal
+
+-- Those that are left say it of all.
+abbrev pub invariant-loop-token : goal.invariant-loop-token
+invariant-loop-token l = list_any (is_held (in_call l.names [] 0)) (lexemes l.tokens) ≡ list_any (is_held (in_call l.names [] 0)) (lexemes (drop l.token-index l.tokens))

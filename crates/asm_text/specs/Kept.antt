@@ -1,0 +1,69 @@
+-- What is found out of macros once, and what of that is known of their calls.
+use Rattle.std.specs.Prelude.{◌≡◌, ◌⊎◌, ◌≤◌, ◌<◌, ◌++◌, ℕ, Bool, true, false, List, [], Option, Some, None, length}
+use Rattle.std.specs.List.{Contains}
+use Rattle.std.specs.Map.{lookup}
+use Rattle.std.specs.Option.{option_map}
+use Rattle.std.specs.Str.{bytes_eq}
+use Rattle.asm_replace.specs.declared.names.Names.{Names}
+use Rattle.asm_replace.specs.Replaced.{SaySame, Table, arguments_of, local_names}
+use Rattle.asm_replace.specs.Views.{in_call}
+use Rattle.asm_replace.specs.Views as replaced
+use Rattle.asm_text.specs.declared.call.Call.{Call}
+use Rattle.asm_text.specs.declared.call.Macro.{Macro}
+use Rattle.asm_text.specs.declared.open.Opened as open_by
+use Rattle.asm_text.specs.declared.signs.Sign.{Sign}
+use Rattle.asm_text.specs.declared.varying.Varying.{Varying}
+use Rattle.asm_text.specs.Calls.{Opened, opened}
+use Rattle.asm_text.specs.Prepared.{body_texts, said}
+use Rattle.asm_text.specs.Stands.{Stands}
+use Rattle.asm_text.specs.Plain.{ArePlain}
+
+abbrev pub opened_seen : List (List ℕ) → open_by.Opened → Opened
+opened_seen all o = record { locals = replaced.texts o.locals.items; lines = body_texts all o.rest }
+
+-- A table has names of another alone.
+abbrev pub HasOnly : Table → Table → Type 0
+HasOnly t u = (name : List ℕ) → lookup (bytes_eq name) u ≡ None → lookup (bytes_eq name) t ≡ None
+
+-- Of the lines from one on and before another, those at these places alone may be other things to blocks, in a call with a
+-- table, than they are as they stand.
+abbrev pub Suffice : List (List ℕ) → ℕ → ℕ → List ℕ → Table → Type 0
+Suffice texts from to places t = (k : ℕ) → from ≤ k → k < to → k < length texts → Contains places k ⊎ Stands texts (Some t) k
+
+-- the places that are asked where all texts that are put in are known to be plain to Sign.Word, to Sign.Second, to both or to none
+abbrev pub places_where : Bool → Bool → Varying → List ℕ
+places_where false false v = v.places.items
+places_where true false v = v.with_word.items
+places_where false true v = v.with_second.items
+places_where true true v = v.with_both.items
+
+-- Whatever these names are replaced by, those places suffice that are asked where the texts are plain to what is said.
+abbrev pub IsVarying : List (List ℕ) → Table → Varying → Type 0
+IsVarying texts names v =
+    (t : Table) → HasOnly t names → (word second : Bool) → (word ≡ true → ArePlain Sign.Word t) → (second ≡ true → ArePlain Sign.Second t)
+    → Suffice texts v.at v.end (places_where word second v) t
+
+-- So for the names of an opened body; the range is all of its lines.
+abbrev pub VariesIn : List (List ℕ) → Names → Option open_by.Opened → Varying → Type 0
+VariesIn texts names None v = Unit {0}
+VariesIn texts names (Some o) v = (v.at ≡ o.rest.at) × (v.end ≡ o.rest.end) × IsVarying texts (in_call names [] 0) v
+
+-- The names of an opened body say in each call what its parameters and LOCAL names are replaced by.
+abbrev pub AreNames : List (List ℕ) → Option open_by.Opened → Names → Type 0
+AreNames parameters None names = Unit {0}
+AreNames parameters (Some o) names =
+    (some : List (List ℕ)) (counter : ℕ) → SaySame (in_call names some counter) (arguments_of parameters some ++ local_names counter (replaced.texts o.locals.items))
+
+-- What is kept of a macro is so.
+abbrev pub IsKept : List (List ℕ) → Macro → Type 0
+IsKept texts m =
+    (option_map (opened_seen texts) m.opened ≡ opened (body_texts texts m.body)) × AreNames (replaced.texts m.parameters.items) m.opened m.names.value
+    × VariesIn texts m.names.value m.opened m.varying.value
+
+-- the places of the lines that are asked in a call
+abbrev pub asked_places : Call → List ℕ
+asked_places c = places_where c.plain.word c.plain.second c.varying.value
+
+-- Of some lines, those alone that are asked may be other things to blocks in the call than they are as they stand.
+abbrev pub IsCall : List (List ℕ) → Call → Type 0
+IsCall texts c = Suffice texts c.varying.value.at c.varying.value.end (asked_places c) (said c)

@@ -1,0 +1,12 @@
+pub mod Nesting
+pub mod Lines
+pub mod Roles
+pub mod Calls
+pub mod Spans
+pub mod Stands
+pub mod Prepared
+pub mod Signs
+pub mod Plain
+pub mod Kept
+pub mod Sections
+pub mod Private

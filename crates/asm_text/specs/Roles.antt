@@ -1,0 +1,29 @@
+-- What lines are to blocks.
+use Rattle.std.specs.Prelude.{Bool, not, ◌&&◌, is_some, nat_le, length, List, map}
+use Rattle.asm_line.specs.declared.forms.BlockWord.{BlockWord}
+use Rattle.asm_line.specs.Forms as line
+use Rattle.asm_line.specs.Forms.{Form}
+use Rattle.asm_text.specs.declared.matching.Role.{Role}
+use Rattle.asm_text.specs.Lines.{Numbered, form_of}
+
+abbrev pub role_of_word : BlockWord → Role
+role_of_word BlockWord.Macro = Role.OpensBody
+role_of_word BlockWord.Rept = Role.OpensBody
+role_of_word BlockWord.If = Role.OpensIf
+role_of_word BlockWord.Else = Role.Else
+role_of_word BlockWord.EndIf = Role.EndIf
+role_of_word BlockWord.EndM = Role.EndBody
+role_of_word BlockWord.Local = Role.Other
+
+-- what a line is to blocks, with or without a label
+abbrev pub role_of_head : line.Head → Role
+role_of_head (line.Macro name) = Role.OpensBody
+role_of_head (line.Block word) = role_of_word word
+role_of_head _ = Role.Other
+
+abbrev pub roles : List Numbered → List Role
+roles lines = map (λ l. role_of_head (form_of l.text).head) lines
+
+-- an ELSE, ENDIF or ENDM of an open block: it stands alone on its line
+abbrev pub is_alone : Form → Bool
+is_alone form = not (is_some form.label) && nat_le (length form.rest) 0

@@ -1,0 +1,5 @@
+pub mod Blocks
+pub mod Books
+pub mod Sections
+pub mod Onward
+pub mod Views

@@ -1,0 +1,39 @@
+//! Texts that bring no sign of blocks where they are put in the place of names.
+
+ghost use Rattle.std.specs.Prelude.{◌≡◌};
+ghost use Rattle.asm_replace.specs.Views.{texts};
+ghost use Rattle.asm_text.specs.Plain.{are_plain};
+
+use crate::signs::{Sign, has_sign};
+
+/// Whether all texts that are put in are plain to each sign.
+#[derive(Clone, Copy, Debug)]
+pub(crate) struct Plain {
+    pub word: bool,
+    pub second: bool,
+}
+
+/// Whether each parameter's argument has no such sign. A missing one is empty, and so has none.
+fn are_plain(sign: Sign, parameters: &[Vec<u8>], arguments: &[Vec<u8>]) -> bool
+    ensures { result ≡ are_plain sign (texts parameters.now) (texts arguments.now) }
+{
+    let mut at = 0;
+    while at < parameters.len() && at < arguments.len() {
+        if has_sign(sign, &arguments[at]) {
+            return false;
+        }
+        at += 1;
+    }
+    true
+}
+
+/// To which signs each parameter's argument is plain.
+pub(crate) fn plain_to(parameters: &[Vec<u8>], arguments: &[Vec<u8>]) -> Plain
+    ensures word { result.word ≡ are_plain Sign.Word (texts parameters.now) (texts arguments.now) }
+    ensures second { result.second ≡ are_plain Sign.Second (texts parameters.now) (texts arguments.now) }
+{
+    Plain {
+        word: are_plain(Sign::Word, parameters, arguments),
+        second: are_plain(Sign::Second, parameters, arguments),
+    }
+}

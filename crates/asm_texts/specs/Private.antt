@@ -1,4 +1,0 @@
-pub mod Ends
-pub mod Openings
-pub mod Varying
-pub mod Pairs

@@ -1,4 +1,0 @@
-pub mod Types
-pub mod Words
-pub mod Named
-pub mod Private

@@ -1,6 +1,0 @@
-use Rattle.std.proofs.Common.{◌≡◌, ◌++◌, take}
-use Rattle.zmo_fields.specs.Texts.{expr_text}
-use Rattle.zmo_fields.proofs.put.put_items.Given as goal
-
-abbrev pub invariant-loop-item : goal.invariant-loop-item
-invariant-loop-item l = l.text.items ≡ l.initial.text.items ++ expr_text (take l.item-index l.items)

@@ -1,3 +1,0 @@
-pub mod Texts
-pub mod Postfix
-pub mod Fields

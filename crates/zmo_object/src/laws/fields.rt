@@ -1,0 +1,16 @@
+//! Laws of the definitions, as functions that do nothing: a caller has the clause of the one that it calls.
+
+ghost use Rattle.std.specs.Prelude.{◌≡◌, ℕ, List, Some};
+ghost use Rattle.std.specs.Option.{IfSome};
+ghost use Rattle.asm_parse.specs.declared.item.Item.{Item};
+ghost use Rattle.asm_value.specs.declared.atom.Atom.{Atom};
+ghost use Rattle.asm_value.specs.Items.{IsExpr};
+ghost use Rattle.zmo_object.specs.Fields.Field.{IsBytes};
+ghost use Rattle.zmo_object.specs.Fields.Postfix.{expr_of};
+ghost use Rattle.zmo_object.specs.Fields.Texts.{expr_text};
+
+/// Each expression is read again from its bytes, and bytes that are read as an expression are its own.
+pub fn one_spelling()
+    ensures again { (items : List (Item Atom)) → IsExpr items → expr_of (expr_text items) ≡ Some items }
+    ensures spelled { (bytes : List ℕ) → IsBytes bytes → IfSome (expr_of bytes) (λ items. IsExpr items × (bytes ≡ expr_text items)) }
+{}
