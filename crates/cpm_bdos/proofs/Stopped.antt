@@ -5,23 +5,23 @@ use Rattle.cpm_console.specs.Line.{Transcript}
 use Rattle.cpm_console.specs.Screen.{Screen}
 use Rattle.cpm_disk.specs.Calls.{Mounted}
 use Rattle.cpm_disk.specs.Image.{Image}
-use Rattle.cpm_console_calls.specs.Lines.{ReadsLine}
-use Rattle.cpm_console_calls.specs.declared.reply.Reply.TheVariants.{Value, WarmBoot}
+use Rattle.cpm_bdos.specs.Console.Lines.{ReadsLine}
+use Rattle.cpm_bdos.specs.declared.console.reply.Reply.TheVariants.{Value, WarmBoot}
 use Rattle.cpm_directory.specs.declared.fault.DiskFault.{DiskFault}
 use Rattle.cpm_directory.specs.Letters.{letters}
 use Rattle.cpm_disk.specs.Operations.{IsCreated, IsRead, IsWritten}
 use Rattle.cpm_fcb.specs.Bytes.{bytes_at}
 use Rattle.cpm_fcb.specs.Fcbs.{fcb_at, file_judged, name_of, random_of}
 use Rattle.cpm_fcb.specs.Stops.{Ends, Unless}
-use Rattle.cpm_file_calls.specs.Changes.{made}
+use Rattle.cpm_bdos.specs.Files.Changes.{made}
 use Rattle.cpm_fcb.specs.declared.stop.Stop.{Stop}
 use Rattle.cpm_fcb.specs.declared.stop.Stop.TheVariants as stop
 use Rattle.std.specs.Prelude.{⊤}
-use Rattle.cpm_file_calls.specs.declared.search.Search.{Search}
-use Rattle.cpm_record_calls.specs.Random.{Within, is_within, read_at, write_at}
-use Rattle.cpm_record_calls.specs.Sequential.{InTurn, read_next, sequential_judged, write_next}
-use Rattle.cpm_record_calls.specs.Places.{place_of, record_at, turned}
-use Rattle.cpm_record_calls.specs.declared.place.Place.{Place}
+use Rattle.cpm_bdos.specs.declared.files.search.Search.{Search}
+use Rattle.cpm_bdos.specs.Records.Random.{Within, is_within, read_at, write_at}
+use Rattle.cpm_bdos.specs.Records.Sequential.{InTurn, read_next, sequential_judged, write_next}
+use Rattle.cpm_bdos.specs.Records.Places.{place_of, record_at, turned}
+use Rattle.cpm_bdos.specs.declared.records.place.Place.{Place}
 use Rattle.cpm_bdos.specs.declared.function.Function.{Function}
 use Rattle.cpm_bdos.specs.declared.function.Function.TheVariants as function
 use Rattle.cpm_bdos.specs.declared.function.ConsoleCall.{ConsoleCall}

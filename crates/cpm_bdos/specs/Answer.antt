@@ -12,18 +12,18 @@ use Rattle.cpm_fcb.specs.Bytes.{byte_at}
 use Rattle.cpm_fcb.specs.Stops.{Ends}
 use Rattle.cpm_fcb.specs.declared.stop.Stop.{Stop}
 use Rattle.cpm_fcb.specs.declared.stop.Stop.TheVariants as stop
-use Rattle.cpm_console_calls.specs.declared.reply.Reply.{Reply}
-use Rattle.cpm_console_calls.specs.declared.reply.Reply.TheVariants.{Value, WarmBoot}
-use Rattle.cpm_console_calls.specs.Lines.{ReadsLine}
-use Rattle.cpm_console_calls.specs.Raw.{Directs, PutsRaw, TakesRaw, readiness}
-use Rattle.cpm_console_calls.specs.Texts.{Speaks, printed, put_talk, taken_talk}
-use Rattle.cpm_file_calls.specs.declared.search.Search.{Search}
-use Rattle.cpm_file_calls.specs.Changes.{Erases, Makes, Renames}
-use Rattle.cpm_file_calls.specs.Opening.{closed, opened}
-use Rattle.cpm_file_calls.specs.Searching.{SearchesFirst, answer_of, next_search, with_searched}
-use Rattle.cpm_record_calls.specs.Numbers.{numbered, sized}
-use Rattle.cpm_record_calls.specs.Random.{ReadsAt, WritesAt}
-use Rattle.cpm_record_calls.specs.Sequential.{ReadsNext, WritesNext}
+use Rattle.cpm_bdos.specs.declared.console.reply.Reply.{Reply}
+use Rattle.cpm_bdos.specs.declared.console.reply.Reply.TheVariants.{Value, WarmBoot}
+use Rattle.cpm_bdos.specs.Console.Lines.{ReadsLine}
+use Rattle.cpm_bdos.specs.Console.Raw.{Directs, PutsRaw, TakesRaw, readiness}
+use Rattle.cpm_bdos.specs.Console.Texts.{Speaks, printed, put_talk, taken_talk}
+use Rattle.cpm_bdos.specs.declared.files.search.Search.{Search}
+use Rattle.cpm_bdos.specs.Files.Changes.{Erases, Makes, Renames}
+use Rattle.cpm_bdos.specs.Files.Opening.{closed, opened}
+use Rattle.cpm_bdos.specs.Files.Searching.{SearchesFirst, answer_of, next_search, with_searched}
+use Rattle.cpm_bdos.specs.Records.Numbers.{numbered, sized}
+use Rattle.cpm_bdos.specs.Records.Random.{ReadsAt, WritesAt}
+use Rattle.cpm_bdos.specs.Records.Sequential.{ReadsNext, WritesNext}
 use Rattle.cpm_bdos.specs.declared.function.Function.{Function}
 use Rattle.cpm_bdos.specs.declared.function.Function.TheVariants as function
 use Rattle.cpm_bdos.specs.declared.function.ConsoleCall.{ConsoleCall}

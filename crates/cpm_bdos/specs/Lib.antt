@@ -1,3 +1,6 @@
+pub mod Console
+pub mod Files
+pub mod Records
 pub mod Functions
 pub mod Settings
 pub mod System

@@ -2,7 +2,7 @@
 use Rattle.std.specs.Prelude.{◌≡◌, ℕ, List, Option, None}
 use Rattle.cpm_console.specs.declared.terminal.Terminal.{Terminal}
 use Rattle.cpm_disk.specs.Calls.{Mounted}
-use Rattle.cpm_file_calls.specs.declared.search.Search.{Search}
+use Rattle.cpm_bdos.specs.declared.files.search.Search.{Search}
 use Rattle.cpm_bdos.specs.Settings.{first_dma}
 
 -- a mounted disk, a console with its column, the address of the DMA buffer, the user, and the search that found an entry last

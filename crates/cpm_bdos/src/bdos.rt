@@ -1,18 +1,18 @@
 //! The BDOS.
 
+use crate::console::{Reply, direct, is_ready, print, put, put_raw, read_line, take, take_raw};
+use crate::files::{Search, close, erase, make, open, rename, search_first, search_next};
 use crate::function::{
     BiosEntry, ConsoleCall, FileCall, Function, RecordCall, SearchCall, SettingCall,
 };
 use crate::outcome::After;
+use crate::records::{read_at, read_next, set_random, size, write_at, write_next};
 use crate::registers::{answered, byte_answered, nothing_answered, put_value};
 use crate::setting::{FIRST_DMA, set_by};
 use cpm_console::{Console, Terminal};
-use cpm_console_calls::{Reply, direct, is_ready, print, put, put_raw, read_line, take, take_raw};
 use cpm_disk::Disk;
 use cpm_fcb::Stop;
-use cpm_file_calls::{Search, close, erase, make, open, rename, search_first, search_next};
 use cpm_image::Sectors;
-use cpm_record_calls::{read_at, read_next, set_random, size, write_at, write_next};
 use std::marker::Model;
 use z80_cpu::{Cpu, Memory};
 

@@ -1,14 +1,19 @@
 //! The system calls of CP/M 2.2 on a mounted disk of either kind and a console: the BDOS, and the console entries of the BIOS.
+//!
+//! [`Bdos`] answers every call, by its number. The calls themselves are in families: [`console`], [`files`], [`records`].
 #![tactic(auto)]
 
 mod bdos;
+pub mod console;
+pub mod files;
 mod function;
 mod outcome;
+pub mod records;
 mod registers;
 mod setting;
 
 pub use bdos::Bdos;
-pub use cpm_console_calls::Reply;
+pub use console::Reply;
 pub use cpm_fcb::Stop;
 pub use function::{
     BiosEntry, ConsoleCall, FileCall, Function, RecordCall, SearchCall, SettingCall,

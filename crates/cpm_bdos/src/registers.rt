@@ -3,7 +3,7 @@
 ghost use Rattle.std.specs.Prelude.{◌≡◌};
 ghost use Rattle.cpm_bdos.specs.Answer.{answered, nothing_answered, with_value};
 
-use cpm_console_calls::Reply;
+use crate::console::Reply;
 use cpm_fcb::Stop;
 use z80_cpu::Cpu;
 

@@ -1,0 +1,92 @@
+//! Opening and closing files.
+
+ghost use Rattle.std.specs.Prelude.{◌≡◌};
+ghost use Rattle.cpm_fcb.specs.Stops.{Ends};
+ghost use Rattle.cpm_bdos.specs.Files.Opening.{closed, code_of, extent_entry, extent_number, opened};
+
+use cpm_directory::LAST_EXTENT;
+use cpm_disk::{Disk, DiskKind, Name, Pattern};
+use cpm_fcb::{Fcb, Stop, put_entry};
+use cpm_image::Sectors;
+use z80_cpu::Memory;
+
+/// What a call answers that finds nothing.
+pub(crate) const NOT_FOUND: u16 = 0xFF;
+
+/// The answer for an entry: its number modulo 4, or FFH where there is none.
+pub(crate) fn code_of(entry: Option<u16>) -> u16
+    ensures { result ≡ code_of entry }
+{
+    match entry {
+        Some(number) => number % 4,
+        None => NOT_FOUND,
+    }
+}
+
+/// Opens a file: bytes 1 to 31 of the first entry that matches the FCB's name and EX, with S2 0, go to the FCB: function 15.
+///
+/// # Errors
+///
+/// [`Stop::UnknownDrive`], [`Stop::BadFcb`] of the drive.
+pub fn open<S: Sectors>(
+    disk: &Disk<S>,
+    user: u8,
+    memory: &mut Memory,
+    address: u16,
+) -> Result<u16, Stop>
+    ensures { Ends (opened S.sectors disk.now user address memory.old) memory.old memory.new result }
+{
+    let fcb = Fcb::at(memory, address);
+    fcb.judge_drive()?;
+    let pattern = Pattern {
+        name: fcb.name(),
+        extent: fcb.extent(),
+        high: 0,
+    };
+    let found = disk.find(user, &pattern, 0);
+    put_entry(disk, found, 1, memory, address);
+    Ok(code_of(found))
+}
+
+/// Closes a file: answers the entry of the FCB's name, EX and, on a Megabyte disk, the low six bits of S2: function 16.
+///
+/// # Errors
+///
+/// [`Stop::UnknownDrive`], [`Stop::BadFcb`] of the drive or for a `?` in the name.
+pub fn close<S: Sectors>(
+    disk: &Disk<S>,
+    user: u8,
+    memory: &Memory,
+    address: u16,
+) -> Result<u16, Stop>
+    ensures { result ≡ closed S.sectors disk.now user address memory.now }
+{
+    let fcb = Fcb::at(memory, address);
+    fcb.judge_file()?;
+    Ok(code_of(extent_entry(disk, user, &fcb)))
+}
+
+/// The entry of the extent that an FCB stands in.
+fn extent_entry<S: Sectors>(disk: &Disk<S>, user: u8, fcb: &Fcb) -> Option<u16>
+    ensures { result ≡ extent_entry S.sectors disk.now user fcb.now }
+{
+    if fcb.extent() > LAST_EXTENT {
+        return None;
+    }
+    disk.find_extent(
+        user,
+        &Name::new(fcb.name()),
+        extent_number(disk.kind(), fcb),
+    )
+}
+
+/// The number of the extent that an FCB stands in. S2 counts on a Megabyte disk alone.
+fn extent_number(kind: DiskKind, fcb: &Fcb) -> u16
+    ensures { result ≡ extent_number kind fcb.now }
+{
+    let extent = u16::from(fcb.extent());
+    match kind {
+        DiskKind::EightInch => extent,
+        DiskKind::Megabyte => 32 * u16::from(fcb.s2() % 64) + extent,
+    }
+}

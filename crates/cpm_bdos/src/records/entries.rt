@@ -1,0 +1,25 @@
+//! What an FCB is told of the entry of its extent.
+
+ghost use Rattle.std.specs.Prelude.{◌≡◌, ◌<◌, ◌/◌};
+ghost use Rattle.cpm_bdos.specs.Records.Entries.{with_extent_entry};
+
+use cpm_disk::{Disk, Name};
+use cpm_fcb::put_entry;
+use cpm_image::Sectors;
+use z80_cpu::Memory;
+
+/// Puts bytes 15 to 31 of the entry of a record's extent to an FCB.
+pub(crate) fn put_extent_entry<S: Sectors>(
+    disk: &Disk<S>,
+    user: u8,
+    name: &Name,
+    number: u32,
+    memory: &mut Memory,
+    address: u16,
+)
+    requires { number / 128 < 65536 }
+    ensures { memory.new ≡ with_extent_entry S.sectors disk.now user name.now number address memory.old }
+{
+    let entry = disk.find_extent(user, name, (number / 128) as u16);
+    put_entry(disk, entry, 15, memory, address);
+}

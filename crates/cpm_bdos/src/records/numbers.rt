@@ -1,0 +1,68 @@
+//! R0 to R2 of an FCB.
+
+ghost use Rattle.std.specs.Prelude.{◌≡◌, ◌<◌, ◌^◌};
+ghost use Rattle.cpm_directory.specs.declared.entry.TheConstants.{USERS};
+ghost use Rattle.cpm_fcb.specs.Stops.{Ends};
+ghost use Rattle.cpm_bdos.specs.Records.Numbers.{numbered, sized, with_random};
+
+use crate::records::place::Place;
+use cpm_disk::{Disk, DiskKind, Name};
+use cpm_fcb::{Fcb, Stop, put_field};
+use cpm_image::Sectors;
+use z80_cpu::Memory;
+
+/// What is answered where there is no such file.
+const NO_FILE: u16 = 0xFF;
+
+/// Sets R0 to R2 to the size of a file: function 35. Where there is none they become 0, and the answer is FFH.
+///
+/// # Errors
+///
+/// [`Stop::UnknownDrive`], [`Stop::BadFcb`] of the drive or for a `?` in the name.
+pub fn size<S: Sectors>(
+    disk: &Disk<S>,
+    user: u8,
+    memory: &mut Memory,
+    address: u16,
+) -> Result<u16, Stop>
+    requires { user < USERS }
+    ensures { Ends (sized S.sectors disk.now user address memory.old) memory.old memory.new result }
+{
+    let fcb = Fcb::at(memory, address);
+    fcb.judge_file()?;
+    match disk.size(user, &Name::new(fcb.name())) {
+        Some(size) => {
+            put_random(memory, address, size);
+            Ok(0)
+        }
+        None => {
+            put_random(memory, address, 0);
+            Ok(NO_FILE)
+        }
+    }
+}
+
+/// Sets R0 to R2 to the record of EX and CR, and of S2 on a Megabyte disk, whatever they are: function 36.
+///
+/// # Errors
+///
+/// [`Stop::UnknownDrive`], [`Stop::BadFcb`] of the drive or for a `?` in the name.
+pub fn set_random(kind: DiskKind, memory: &mut Memory, address: u16) -> Result<u16, Stop>
+    ensures { Ends (numbered kind address memory.old) memory.old memory.new result }
+{
+    let fcb = Fcb::at(memory, address);
+    fcb.judge_file()?;
+    put_random(memory, address, Place::of(&fcb).record(kind));
+    Ok(0)
+}
+
+/// Puts a number of 24 bits to R0 to R2, the low byte first.
+fn put_random(memory: &mut Memory, address: u16, number: u32)
+    requires { number < 2 ^ 24 }
+    ensures { memory.new ≡ with_random address number memory.old }
+{
+    let low = (number % 256) as u8;
+    let middle = (number / 256 % 256) as u8;
+    let high = (number / 65_536) as u8;
+    put_field(memory, address, 33, &[low, middle, high]);
+}

@@ -1,0 +1,110 @@
+//! Where an FCB stands in its file.
+
+use cpm_directory::{LAST_EXTENT, MOST_RECORDS};
+use cpm_disk::DiskKind;
+use cpm_fcb::{Fcb, Stop};
+
+/// Where an FCB stands in its file: EX, S2 and CR.
+#[derive(Clone, Copy, Debug, PartialEq, Eq)]
+pub struct Place {
+    pub extent: u8,
+    pub s2: u8,
+    pub current: u8,
+}
+
+impl Place {
+    ghost use Rattle.std.specs.Prelude.{◌≡◌, ◌<◌, ◌≤◌, IfSome, OnOk, false};
+    ghost use Rattle.cpm_directory.specs.declared.rules.TheConstants.{MOST_RECORDS};
+    ghost use Rattle.cpm_bdos.specs.Records.Places.{is_bad, next_extent, next_high, place_judged, place_of, record_at, turned};
+
+    /// The place in an FCB.
+    pub fn of(fcb: &Fcb) -> Place
+        ensures { result ≡ place_of fcb.now }
+    {
+        Place {
+            extent: fcb.extent(),
+            s2: fcb.s2(),
+            current: fcb.current(),
+        }
+    }
+
+    /// The record there. S2 counts on a Megabyte disk alone.
+    pub fn record(self, kind: DiskKind) -> u32
+        ensures { result ≡ record_at kind self }
+    {
+        let high = match kind {
+            DiskKind::EightInch => 0,
+            DiskKind::Megabyte => u32::from(self.s2 % 64),
+        };
+        4096 * high + 128 * u32::from(self.extent) + u32::from(self.current)
+    }
+
+    /// Judges a place to read or write in turn: EX, CR and, on a Megabyte disk, the low six bits of S2 have a greatest value.
+    pub(crate) fn judge(self, kind: DiskKind) -> Result<(), Stop>
+        ensures judged { result ≡ place_judged kind self }
+        ensures within { OnOk result (self.current ≤ MOST_RECORDS) }
+    {
+        if self.is_bad(kind) {
+            Err(Stop::BadFcb)
+        } else {
+            Ok(())
+        }
+    }
+
+    fn is_bad(self, kind: DiskKind) -> bool
+        ensures bad { result ≡ is_bad kind self }
+        ensures within { result ≡ false → self.current ≤ MOST_RECORDS }
+    {
+        let bad = self.extent > LAST_EXTENT || self.current > MOST_RECORDS;
+        match kind {
+            DiskKind::EightInch => bad,
+            DiskKind::Megabyte => bad || self.s2 % 64 > kind.last_high(),
+        }
+    }
+
+    /// The place of the record that is next: behind the last record of an extent the next extent begins, where there is one.
+    pub(crate) fn turned(self, kind: DiskKind) -> Option<Place>
+        ensures place { result ≡ turned kind self }
+        ensures within { self.current ≤ MOST_RECORDS → IfSome result (λ p. p.current < MOST_RECORDS) }
+    {
+        if self.current == MOST_RECORDS {
+            self.next_extent(kind)
+        } else {
+            Some(self)
+        }
+    }
+
+    /// The next extent: after EX 31 that of the next S2, on a Megabyte disk alone.
+    fn next_extent(self, kind: DiskKind) -> Option<Place>
+        ensures place { result ≡ next_extent kind self }
+        ensures within { IfSome result (λ p. p.current < MOST_RECORDS) }
+    {
+        if self.extent < LAST_EXTENT {
+            return Some(Place {
+                extent: self.extent + 1,
+                current: 0,
+                ..self
+            });
+        }
+        match kind {
+            DiskKind::EightInch => None,
+            DiskKind::Megabyte => self.next_high(),
+        }
+    }
+
+    /// The first extent of the next S2, where there is one.
+    fn next_high(self) -> Option<Place>
+        ensures place { result ≡ next_high DiskKind.Megabyte self }
+        ensures within { IfSome result (λ p. p.current < MOST_RECORDS) }
+    {
+        if self.s2 % 64 < DiskKind::Megabyte.last_high() {
+            Some(Place {
+                extent: 0,
+                s2: self.s2 + 1,
+                current: 0,
+            })
+        } else {
+            None
+        }
+    }
+}

@@ -1,0 +1,141 @@
+//! Records by number.
+
+ghost use Rattle.std.specs.Prelude.{◌≡◌, ◌<◌};
+ghost use Rattle.cpm_directory.specs.declared.entry.TheConstants.{USERS};
+ghost use Rattle.cpm_fcb.specs.Stops.{Ends};
+ghost use Rattle.cpm_bdos.specs.Records.Random.{ReadsAt, WritesAt, is_within, refused_read, refused_write, with_place_of};
+
+use crate::records::entries::put_extent_entry;
+use cpm_disk::{Disk, DiskFault, DiskKind, Name};
+use cpm_fcb::{Fcb, Stop, bytes_at, put_bytes, put_field, stop_of};
+use cpm_image::Sectors;
+use z80_cpu::Memory;
+
+/// What a read answers where the record was not written.
+const UNWRITTEN: u16 = 1;
+
+/// What a write answers where the disk is full.
+const DISK_FULL: u16 = 2;
+
+/// What a read answers where the extent was not written, or there is no such file.
+const NO_EXTENT: u16 = 4;
+
+/// What a write answers where the directory is full.
+const DIRECTORY_FULL: u16 = 5;
+
+/// What is answered for a record that no file may have.
+const TOO_FAR: u16 = 6;
+
+/// Reads the record of R0 and R1 to the DMA buffer: function 33. The answer is 1 where it is not written, 4 where its extent or
+/// the file is not there, 6 where no file may have it. With every answer but 6, EX, S2 and CR are set to its place.
+///
+/// # Errors
+///
+/// [`Stop::UnknownDrive`], [`Stop::BadFcb`] of the drive or for a `?` in the name, [`Stop::DiskFault`].
+pub fn read_at<S: Sectors>(
+    disk: &mut Disk<S>,
+    user: u8,
+    dma: u16,
+    memory: &mut Memory,
+    address: u16,
+) -> Result<u16, Stop>
+    requires { user < USERS }
+    ensures { ReadsAt S.sectors S.faults disk.old disk.new user dma address memory.old memory.new result }
+{
+    let fcb = Fcb::at(memory, address);
+    fcb.judge_file()?;
+    if !is_within(&fcb, disk.kind()) {
+        return Ok(TOO_FAR);
+    }
+    let name = Name::new(fcb.name());
+    let number = fcb.random();
+    match disk.read_block_of(user, &name, u32::from(number)) {
+        Ok(bytes) => {
+            put_bytes(memory, dma, &bytes);
+            put_place_of(memory, address, number);
+            put_extent_entry(disk, user, &name, u32::from(number), memory, address);
+            Ok(0)
+        }
+        Err(fault) => not_read(fault, memory, address, number),
+    }
+}
+
+/// Writes the DMA buffer to the record of R0 and R1: function 34. The answer is 2 where the disk is full, 5 where the directory
+/// is, 6 where no file may have the record. With every answer but 6, EX, S2 and CR are set to its place.
+///
+/// # Errors
+///
+/// Those of `read_at`; [`Stop::BadFcb`] where there is no such file, [`Stop::FileReadOnly`].
+pub fn write_at<S: Sectors>(
+    disk: &mut Disk<S>,
+    user: u8,
+    dma: u16,
+    memory: &mut Memory,
+    address: u16,
+) -> Result<u16, Stop>
+    requires { user < USERS }
+    ensures { WritesAt S.sectors S.faults disk.old disk.new user dma address memory.old memory.new result }
+{
+    let fcb = Fcb::at(memory, address);
+    fcb.judge_file()?;
+    if !is_within(&fcb, disk.kind()) {
+        return Ok(TOO_FAR);
+    }
+    let name = Name::new(fcb.name());
+    let number = fcb.random();
+    match disk.write_block_of(user, &name, u32::from(number), &bytes_at(memory, dma)) {
+        Ok(()) => {
+            put_place_of(memory, address, number);
+            put_extent_entry(disk, user, &name, u32::from(number), memory, address);
+            Ok(0)
+        }
+        Err(fault) => not_written(fault, memory, address, number),
+    }
+}
+
+/// Whether a file may have the record.
+fn is_within(fcb: &Fcb, kind: DiskKind) -> bool
+    ensures { result ≡ is_within kind fcb.now }
+{
+    fcb.overflow() == 0 && u32::from(fcb.random()) < kind.file_records()
+}
+
+/// Sets EX, S2 and CR to the place of a record.
+fn put_place_of(memory: &mut Memory, address: u16, number: u16)
+    ensures { memory.new ≡ with_place_of address number memory.old }
+{
+    put_field(memory, address, 12, &[(number / 128 % 32) as u8]);
+    put_field(memory, address, 14, &[(number / 4096) as u8]);
+    put_field(memory, address, 32, &[(number % 128) as u8]);
+}
+
+/// What a read by number answers that the disk refuses.
+fn not_read(fault: DiskFault, memory: &mut Memory, address: u16, number: u16) -> Result<u16, Stop>
+    ensures { Ends (refused_read address number memory.old fault) memory.old memory.new result }
+{
+    let value = match fault {
+        DiskFault::NotFound | DiskFault::NoExtent => NO_EXTENT,
+        DiskFault::Unwritten => UNWRITTEN,
+        _ => return Err(stop_of(fault)),
+    };
+    put_place_of(memory, address, number);
+    Ok(value)
+}
+
+/// What a write by number answers that the disk refuses.
+fn not_written(
+    fault: DiskFault,
+    memory: &mut Memory,
+    address: u16,
+    number: u16,
+) -> Result<u16, Stop>
+    ensures { Ends (refused_write address number memory.old fault) memory.old memory.new result }
+{
+    let value = match fault {
+        DiskFault::DiskFull => DISK_FULL,
+        DiskFault::DirectoryFull => DIRECTORY_FULL,
+        _ => return Err(stop_of(fault)),
+    };
+    put_place_of(memory, address, number);
+    Ok(value)
+}

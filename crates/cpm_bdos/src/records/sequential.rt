@@ -1,0 +1,152 @@
+//! Records in turn.
+
+ghost use Rattle.std.specs.Prelude.{◌≡◌, ◌<◌, ◌≤◌, OnOk, ℕ, List};
+ghost use Rattle.cpm_directory.specs.declared.entry.TheConstants.{USERS};
+ghost use Rattle.cpm_fcb.specs.Stops.{Ends};
+ghost use Rattle.cpm_fcb.specs.Fcbs.{current_of};
+ghost use Rattle.cpm_bdos.specs.Records.Sequential.{ReadsNext, WritesNext, refused_read, refused_write, sequential_judged, with_extent, with_place, with_s2};
+
+use crate::records::entries::put_extent_entry;
+use crate::records::place::Place;
+use cpm_disk::{Disk, DiskFault, DiskKind, Name};
+use cpm_fcb::{Fcb, Stop, bytes_at, put_bytes, put_field, stop_of};
+use cpm_image::Sectors;
+use z80_cpu::Memory;
+
+/// What a read answers where there is no record.
+const NO_RECORD: u16 = 1;
+
+/// What a write answers where the directory is full.
+const DIRECTORY_FULL: u16 = 1;
+
+/// What a write answers where the disk is full, or the record is past the last.
+const DISK_FULL: u16 = 2;
+
+/// Reads the record that is next to the DMA buffer: function 20. Where there is none the answer is 1, and the FCB stays.
+///
+/// # Errors
+///
+/// [`Stop::UnknownDrive`], [`Stop::BadFcb`] of the drive, for a `?` in the name, EX above 31, CR above 128 or on a Megabyte
+/// disk S2 above 15, [`Stop::DiskFault`].
+pub fn read_next<S: Sectors>(
+    disk: &mut Disk<S>,
+    user: u8,
+    dma: u16,
+    memory: &mut Memory,
+    address: u16,
+) -> Result<u16, Stop>
+    requires { user < USERS }
+    ensures { ReadsNext S.sectors S.faults disk.old disk.new user dma address memory.old memory.new result }
+{
+    let fcb = Fcb::at(memory, address);
+    let kind = disk.kind();
+    judge(&fcb, kind)?;
+    let old = Place::of(&fcb);
+    let Some(new) = old.turned(kind) else {
+        return Ok(NO_RECORD);
+    };
+    let name = Name::new(fcb.name());
+    let number = new.record(kind);
+    match disk.read_block_of(user, &name, number) {
+        Ok(bytes) => {
+            put_bytes(memory, dma, &bytes);
+            put_place(memory, address, old, new);
+            put_extent_entry(disk, user, &name, number, memory, address);
+            Ok(0)
+        }
+        Err(fault) => not_read(fault),
+    }
+}
+
+/// Writes the DMA buffer to the record that is next: function 21. The answer is 1 where the directory is full, 2 where the disk
+/// is or the record is past the last; then the FCB stays.
+///
+/// # Errors
+///
+/// Those of `read_next`; [`Stop::BadFcb`] where there is no such file, [`Stop::FileReadOnly`].
+pub fn write_next<S: Sectors>(
+    disk: &mut Disk<S>,
+    user: u8,
+    dma: u16,
+    memory: &mut Memory,
+    address: u16,
+) -> Result<u16, Stop>
+    requires { user < USERS }
+    ensures { WritesNext S.sectors S.faults disk.old disk.new user dma address memory.old memory.new result }
+{
+    let fcb = Fcb::at(memory, address);
+    let kind = disk.kind();
+    judge(&fcb, kind)?;
+    let old = Place::of(&fcb);
+    let Some(new) = old.turned(kind) else {
+        return Ok(DISK_FULL);
+    };
+    let name = Name::new(fcb.name());
+    let number = new.record(kind);
+    match disk.write_block_of(user, &name, number, &bytes_at(memory, dma)) {
+        Ok(()) => {
+            put_place(memory, address, old, new);
+            put_extent_entry(disk, user, &name, number, memory, address);
+            Ok(0)
+        }
+        Err(fault) => not_written(fault),
+    }
+}
+
+/// Judges drive and name, and then the place.
+fn judge(fcb: &Fcb, kind: DiskKind) -> Result<(), Stop>
+    ensures judged { result ≡ sequential_judged kind fcb.now }
+    ensures within { OnOk result (current_of fcb.now ≤ 128) }
+{
+    fcb.judge_file()?;
+    Place::of(fcb).judge(kind)
+}
+
+/// Puts CR behind a record, EX where CR was 128, and S2 where it went up.
+fn put_place(memory: &mut Memory, address: u16, old: Place, new: Place)
+    requires { new.current < 128 }
+    ensures { memory.new ≡ with_place address old new memory.old }
+{
+    put_extent(memory, address, old, new);
+    put_s2(memory, address, old, new);
+    put_field(memory, address, 32, &[new.current + 1]);
+}
+
+fn put_extent(memory: &mut Memory, address: u16, old: Place, new: Place)
+    ensures { memory.new ≡ with_extent address old new memory.old }
+{
+    if old.current == 128 {
+        put_field(memory, address, 12, &[new.extent]);
+    }
+}
+
+fn put_s2(memory: &mut Memory, address: u16, old: Place, new: Place)
+    ensures { memory.new ≡ with_s2 address old new memory.old }
+{
+    if old.s2 != new.s2 {
+        put_field(memory, address, 14, &[new.s2]);
+    }
+}
+
+/// What a read in turn answers that the disk refuses.
+fn not_read(fault: DiskFault) -> Result<u16, Stop>
+    ensures { (memory : List ℕ) → Ends (refused_read memory fault) memory memory result }
+{
+    match fault {
+        DiskFault::NotFound | DiskFault::NoExtent | DiskFault::Unwritten | DiskFault::TooFar => {
+            Ok(NO_RECORD)
+        }
+        _ => Err(stop_of(fault)),
+    }
+}
+
+/// What a write in turn answers that the disk refuses.
+fn not_written(fault: DiskFault) -> Result<u16, Stop>
+    ensures { (memory : List ℕ) → Ends (refused_write memory fault) memory memory result }
+{
+    match fault {
+        DiskFault::DirectoryFull => Ok(DIRECTORY_FULL),
+        DiskFault::DiskFull | DiskFault::TooFar => Ok(DISK_FULL),
+        _ => Err(stop_of(fault)),
+    }
+}
