@@ -1,2 +1,4 @@
+pub mod Words
+pub mod Start
 pub mod Turns
 pub mod Run

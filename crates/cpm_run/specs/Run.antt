@@ -5,9 +5,9 @@ use Rattle.z80_cpu.specs.declared.registers.Cpu.{Cpu}
 use Rattle.cpm_console.specs.Dialog.{Dialog}
 use Rattle.cpm_disk.specs.Calls.{Mounted}
 use Rattle.cpm_disk.specs.Image.{Image}
-use Rattle.cpm_start.specs.declared.fault.StartFault.{StartFault}
-use Rattle.cpm_start.specs.declared.fault.StartFault.TheVariants as fault
-use Rattle.cpm_start.specs.Start.{IsStart}
+use Rattle.cpm_run.specs.declared.fault.StartFault.{StartFault}
+use Rattle.cpm_run.specs.declared.fault.StartFault.TheVariants as fault
+use Rattle.cpm_run.specs.Start.{IsStart}
 use Rattle.cpm_bdos.specs.System.{new_system}
 use Rattle.cpm_run.specs.declared.ending.Why.{Why}
 use Rattle.cpm_run.specs.declared.ending.Why.TheVariants as why

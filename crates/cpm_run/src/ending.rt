@@ -3,11 +3,11 @@
 ghost use Rattle.std.specs.Prelude.{◌≡◌};
 ghost use Rattle.cpm_run.specs.Run.{unstarted};
 
+use crate::fault::StartFault;
 use cpm_bdos::Stop;
 use cpm_console::Console;
 use cpm_disk::Disk;
 use cpm_image::Sectors;
-use cpm_start::StartFault;
 use thiserror::Error;
 
 /// Why a run ended.

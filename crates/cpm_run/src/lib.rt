@@ -1,12 +1,21 @@
 //! Programs of CP/M 2.2, run on the machine with a disk and a console.
+//!
+//! [`start`] makes the state in which a program begins: page zero, the command's words, the program at 0100H, and the entries of the
+//! system. [`run`] goes on from there to the program's end.
 #![tactic(auto)]
 
 mod ending;
+mod fault;
 mod places;
 mod running;
+mod starting;
 mod turning;
+mod words;
 
 pub use cpm_bdos::Stop;
 pub use ending::{RunEnd, Why};
+pub use fault::StartFault;
 pub use places::{BDOS, BIOS};
 pub use running::run;
+pub use starting::start;
+pub use words::LONGEST_TAIL;

@@ -6,12 +6,12 @@ ghost use Rattle.cpm_run.specs.Run.{Ends, IsRun};
 
 use crate::ending::{RunEnd, Why, unstarted};
 use crate::places::{BDOS, BIOS, is_finished};
+use crate::starting::start;
 use crate::turning::turn;
 use cpm_bdos::Bdos;
 use cpm_console::Console;
 use cpm_disk::Disk;
 use cpm_image::Sectors;
-use cpm_start::start;
 use std::alloc::Global;
 use z80_machine::{Cpu, Memory, Stop, Watch};
 

@@ -19,7 +19,7 @@ pub enum StartFault {
 
 impl From<AllocError> for StartFault {
     ghost use Rattle.std.specs.Prelude.{◌≡◌};
-    ghost use Rattle.cpm_start.specs.declared.fault.StartFault.TheVariants as fault;
+    ghost use Rattle.cpm_run.specs.declared.fault.StartFault.TheVariants as fault;
 
     ghost from_gives = { λ _ e. e ≡ fault.NoMemory };
 

@@ -1,6 +1,6 @@
 use Rattle.std.proofs.Common.{ℕ, List, [], ◌∷◌, length, refl, ap, ◌∙◌}
-use Rattle.cpm_start.proofs.Laid.{laid}
-use Rattle.cpm_start.proofs.starting.start_memory.Goals as goal
+use Rattle.cpm_run.proofs.Laid.{laid}
+use Rattle.cpm_run.proofs.starting.start_memory.Goals as goal
 
 pub returns : goal.returns
 returns c =

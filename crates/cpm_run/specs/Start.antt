@@ -5,10 +5,10 @@ use Rattle.limits.specs.declared.TheConstants.{LONGEST_PROGRAM}
 use Rattle.z80_cpu.specs.declared.registers.Cpu.{Cpu}
 use Rattle.z80_cpu.specs.Cleared.{cleared}
 use Rattle.cpm_fcb.specs.Bytes.{with_bytes}
-use Rattle.cpm_start.specs.declared.words.TheConstants.{LONGEST_TAIL}
-use Rattle.cpm_start.specs.declared.fault.StartFault.{StartFault}
-use Rattle.cpm_start.specs.declared.fault.StartFault.TheVariants as fault
-use Rattle.cpm_start.specs.Words.{control, tail_of, upper}
+use Rattle.cpm_run.specs.declared.words.TheConstants.{LONGEST_TAIL}
+use Rattle.cpm_run.specs.declared.fault.StartFault.{StartFault}
+use Rattle.cpm_run.specs.declared.fault.StartFault.TheVariants as fault
+use Rattle.cpm_run.specs.Words.{control, tail_of, upper}
 
 -- JP to an address below 10000H, by its two bytes
 abbrev pub jump_to : ℕ → ℕ → List ℕ

@@ -2,9 +2,9 @@
 
 ghost use Rattle.std.specs.Prelude.{◌≡◌, ◌≤◌, IfOk, length, map};
 ghost use Rattle.limits.specs.declared.TheConstants.{LONGEST_PROGRAM};
-ghost use Rattle.cpm_start.specs.Start.{IsStart, start_cpu, start_memory, word_at};
-ghost use Rattle.cpm_start.specs.Words.{control, tail_of};
-ghost use Rattle.cpm_start.specs.declared.words.TheConstants.{LONGEST_TAIL};
+ghost use Rattle.cpm_run.specs.Start.{IsStart, start_cpu, start_memory, word_at};
+ghost use Rattle.cpm_run.specs.Words.{control, tail_of};
+ghost use Rattle.cpm_run.specs.declared.words.TheConstants.{LONGEST_TAIL};
 
 use crate::fault::StartFault;
 use crate::words::{LONGEST_TAIL, control, tail_of, upper};

@@ -1,7 +1,7 @@
 //! The words behind a command.
 
 ghost use Rattle.std.specs.Prelude.{◌≡◌, ◌≤◌, ◌∷◌, IfOk, length, map};
-ghost use Rattle.cpm_start.specs.Words.{before, behind, control, field, filled, name_of, place_of, tail_of, upper};
+ghost use Rattle.cpm_run.specs.Words.{before, behind, control, field, filled, name_of, place_of, tail_of, upper};
 
 use std::alloc::{AllocError, Global};
 
