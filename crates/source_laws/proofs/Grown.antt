@@ -6,8 +6,8 @@ use Rattle.ruler.specs.Choice.{Choice, IsJump, IsSettled}
 use Rattle.relax.specs.Growth.{after}
 use Rattle.zmo_module.specs.Modules as object
 use Rattle.zmo_module.specs.Modules.{Module, Statement}
-use Rattle.zlink_program.specs.Whole.{Placed, program}
-use Rattle.zlink_file.specs.Objects.{grown_at, is_marked, shape, sized_by}
+use Rattle.zlink.specs.Program.Whole.{Placed, program}
+use Rattle.zlink.specs.File.Objects.{grown_at, is_marked, shape, sized_by}
 use Rattle.zlink.specs.Linked.{IsOutput, Output}
 use Rattle.source_laws.specs.Grown.{IsMarkedJump}
 

@@ -1,7 +1,7 @@
 -- Jumps of a program that were written as a JR.
 use Rattle.std.specs.Prelude.{◌≡◌, ℕ, List, Some, slice_get, true}
-use Rattle.zlink_file.specs.Objects.{is_marked}
-use Rattle.zlink_program.specs.Whole.{Placed}
+use Rattle.zlink.specs.File.Objects.{is_marked}
+use Rattle.zlink.specs.Program.Whole.{Placed}
 
 -- statement k of the whole is one
 pub record IsMarkedJump (program : List Placed) (k : ℕ) : Type 0 where

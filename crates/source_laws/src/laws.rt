@@ -11,8 +11,8 @@ ghost use Rattle.source_laws.specs.Grown.{IsMarkedJump};
 ghost use Rattle.zlink.specs.declared.source.Source.{Source};
 ghost use Rattle.zlink.specs.Linked.{IsOutput, Output};
 ghost use Rattle.zlink.specs.Sources.{Assembly, AreAssembled, IsFirstFaulty};
-ghost use Rattle.zlink_file.specs.Objects.{shape};
-ghost use Rattle.zlink_program.specs.Whole.{program};
+ghost use Rattle.zlink.specs.File.Objects.{shape};
+ghost use Rattle.zlink.specs.Program.Whole.{program};
 ghost use Rattle.zmo_module.specs.Modules.{Module};
 
 /// Each text has an expansion, which may stop with a fault; so with `asm_macro::laws::one_expansion` it has one. The fault is never

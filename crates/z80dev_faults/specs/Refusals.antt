@@ -3,8 +3,8 @@ use Rattle.std.specs.Prelude.{ℕ, List, ◌++◌, codes, decimal}
 use Rattle.zlink.specs.Types.{AsmFault, Why}
 use Rattle.zmo_object.specs.declared.fault.ObjectFault.{ObjectFault}
 use Rattle.zmo_object.specs.declared.fault.ObjectFault.TheVariants as object
-use Rattle.zlink_program.specs.declared.fault.JoinFault.{JoinFault}
-use Rattle.zlink_program.specs.declared.fault.JoinFault.TheVariants as join
+use Rattle.zlink.specs.declared.program.fault.JoinFault.{JoinFault}
+use Rattle.zlink.specs.declared.program.fault.JoinFault.TheVariants as join
 use Rattle.zlink.specs.declared.fault.BuildFault.{BuildFault}
 use Rattle.zlink.specs.declared.fault.BuildFault.TheVariants as build
 use Rattle.zlink.specs.declared.fault.LinkFault.{LinkFault}

@@ -5,8 +5,7 @@ ghost use Rattle.z80dev_faults.specs.Refusals.{of_build, of_link, of_source};
 
 use crate::names::why_name;
 use std::fmt;
-use zlink::{AsmFault, BuildFault, LinkFault, Misfit, Why};
-use zlink_program::JoinFault;
+use zlink::{AsmFault, BuildFault, JoinFault, LinkFault, Misfit, Why};
 use zmo_object::ObjectFault;
 
 /// Why sources or objects make no file.

@@ -7,10 +7,10 @@ use Rattle.std.proofs.lemmas.List.Concat.{flat_map-cons}
 use Rattle.ruler.specs.Choice.{place}
 use Rattle.relax.specs.Growth.{after}
 use Rattle.asm_module.specs.declared.assembling.Lines as listing
-use Rattle.zlink_program.specs.Laws.{statement_count}
-use Rattle.zlink_program.specs.Whole as object
-use Rattle.zlink_file.specs.Objects as file
-use Rattle.zlink_file.specs.Places.{ArePlaces}
+use Rattle.zlink.specs.Program.Laws.{statement_count}
+use Rattle.zlink.specs.Program.Whole as object
+use Rattle.zlink.specs.File.Objects as file
+use Rattle.zlink.specs.File.Places.{ArePlaces}
 use Rattle.zlink.specs.declared.fault.BuildFault.TheVariants as build
 use Rattle.zlink.specs.declared.fault.LinkFault.{LinkFault}
 use Rattle.zlink.specs.declared.fault.LinkFault.TheVariants as link

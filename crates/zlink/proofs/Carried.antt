@@ -18,12 +18,12 @@ use Rattle.asm_statements.specs.Program.Linked.{IsLike}
 use Rattle.asm_statements.specs.Program.Pieces.{IsPiece}
 use Rattle.asm_statements.specs.Program.Statement.{Statement}
 use Rattle.zmo_module.specs.Modules as object
-use Rattle.zlink_program.specs.Parts.{Part, Publics, parts, parts_from, publics}
-use Rattle.zlink_program.specs.Whole.{Placed, placed, program, standing, stands}
-use Rattle.zlink_file.specs.Objects as file
-use Rattle.zlink_file.specs.Objects.{IsPlaced, ReadsObjects, sized_by}
-use Rattle.zlink_file.specs.Reads.{ReadsBy}
-use Rattle.zlink.specs.Program.{statement_in}
+use Rattle.zlink.specs.Program.Parts.{Part, Publics, parts, parts_from, publics}
+use Rattle.zlink.specs.Program.Whole.{Placed, placed, program, standing, stands}
+use Rattle.zlink.specs.File.Objects as file
+use Rattle.zlink.specs.File.Objects.{IsPlaced, ReadsObjects, sized_by}
+use Rattle.zlink.specs.File.Reads.{ReadsBy}
+use Rattle.zlink.specs.Renumbered.{statement_in}
 use Rattle.zlink.specs.Reads.{Reads, shape, sized_as}
 use Rattle.zlink.specs.Sources.{Assembly, in_whole, modules_of, program_of}
 use Rattle.zlink.specs.Private.Assembling.{IsKept}

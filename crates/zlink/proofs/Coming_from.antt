@@ -5,8 +5,8 @@ use Rattle.std.proofs.lemmas.Grind.{flat_map-append}
 use Rattle.std.proofs.lemmas.List.{append-nil, length-map, length-take-le, map-append, take_more}
 use Rattle.std.proofs.lemmas.List.Concat.{flat_map-cons}
 use Rattle.asm_module.specs.declared.assembling.Lines as listing
-use Rattle.zlink_program.specs.Laws.{statement_count}
-use Rattle.zlink_program.proofs.Laid_end_to_end.{count-cons}
+use Rattle.zlink.specs.Program.Laws.{statement_count}
+use Rattle.zlink.proofs.Programs.Laid_end_to_end.{count-cons}
 use Rattle.zlink.specs.declared.origins.Origin as origin
 use Rattle.zlink.specs.Built.{Origin, lines_of, origin_of, origins_by}
 use Rattle.zlink.specs.Sources.{Assembly, modules_of}

@@ -11,8 +11,8 @@ use Rattle.asm_module.specs.declared.fault.AsmFault.{AsmFault}
 use Rattle.asm_module.specs.Assembled.{Assembled, Assembles, HasCause, IsStated}
 use Rattle.asm_statements.specs.Program.Statement.{Statement}
 use Rattle.ruler.specs.Choice.{Choice, IsValid}
-use Rattle.zlink_program.specs.declared.fault.JoinFault.{JoinFault}
-use Rattle.zlink_program.specs.Faults.{first_fault}
+use Rattle.zlink.specs.declared.program.fault.JoinFault.{JoinFault}
+use Rattle.zlink.specs.Program.Faults.{first_fault}
 use Rattle.zlink.specs.declared.building.Built.{Built}
 use Rattle.zlink.specs.declared.fault.BuildFault.{BuildFault}
 use Rattle.zlink.specs.declared.fault.BuildFault.TheVariants as build
@@ -20,8 +20,8 @@ use Rattle.zlink.specs.declared.fault.LinkFault.{LinkFault}
 use Rattle.zlink.specs.declared.fault.LinkFault.TheVariants as link
 use Rattle.zlink.specs.declared.source.Source.{Source}
 use Rattle.zlink.specs.Built.{IsBuilt}
-use Rattle.zlink_program.specs.Whole as object
-use Rattle.zlink_file.specs.Objects as linked
+use Rattle.zlink.specs.Program.Whole as object
+use Rattle.zlink.specs.File.Objects as linked
 use Rattle.zmo_module.specs.Modules.{Module}
 use Rattle.zlink.specs.declared.linking.Linked.{Linked}
 use Rattle.zlink.specs.Linked.{IsExact, IsLinked, link_fault}

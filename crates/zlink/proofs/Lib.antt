@@ -1,3 +1,5 @@
+mod Programs
+mod Files
 pub mod Agreement
 pub mod Built_of
 pub mod Carried

@@ -8,12 +8,12 @@ use Rattle.ruler.specs.Choice.{Choice, place}
 use Rattle.relax.specs.declared.growth.Verdict.{Verdict}
 use Rattle.relax.specs.Growth.{Holds, IsLeastFirst, after}
 use Rattle.zmo_module.specs.Modules.{Module}
-use Rattle.zlink_program.specs.declared.fault.JoinFault.{JoinFault}
-use Rattle.zlink_program.specs.Faults.{first_fault}
-use Rattle.zlink_program.specs.Whole.{Placed, program}
-use Rattle.zlink_file.specs.Objects as file
-use Rattle.zlink_file.specs.Objects.{ReadsObjects, grown}
-use Rattle.zlink_file.specs.Places.{ArePlaces}
+use Rattle.zlink.specs.declared.program.fault.JoinFault.{JoinFault}
+use Rattle.zlink.specs.Program.Faults.{first_fault}
+use Rattle.zlink.specs.Program.Whole.{Placed, program}
+use Rattle.zlink.specs.File.Objects as file
+use Rattle.zlink.specs.File.Objects.{ReadsObjects, grown}
+use Rattle.zlink.specs.File.Places.{ArePlaces}
 use Rattle.zlink.specs.declared.building.Built.{Built}
 use Rattle.zlink.specs.declared.fault.BuildFault.{BuildFault}
 use Rattle.zlink.specs.declared.fault.BuildFault.TheVariants as build

@@ -18,8 +18,8 @@ use Rattle.asm_statements.specs.Program.Pieces.{IsPiece, datum_bytes, valued, wi
 use Rattle.asm_statements.specs.Program.Statement as statement
 use Rattle.asm_statements.specs.Program.Statement.{Datum, Statement, target_of}
 use Rattle.zmo_module.specs.Modules as object
-use Rattle.zlink_file.specs.Objects.{sized_by}
-use Rattle.zlink.specs.Program.{datum_in, renumbered, statement_in}
+use Rattle.zlink.specs.File.Objects.{sized_by}
+use Rattle.zlink.specs.Renumbered.{datum_in, renumbered, statement_in}
 use Rattle.zlink.specs.Reads.{sized_as}
 
 module _ (places : ℕ → ℕ) (to : ℕ → ℕ) where

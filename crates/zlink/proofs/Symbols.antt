@@ -10,9 +10,9 @@ use Rattle.zmo_module.specs.declared.module.Label.{Label}
 use Rattle.zmo_module.specs.Modules as object
 use Rattle.zmo_module.specs.Modules.{Module, label_of}
 use Rattle.zmo_module.specs.Rules.{IsLabel, IsModule}
-use Rattle.zlink_program.specs.Laws.{statement_count}
-use Rattle.zlink_program.specs.Parts.{Part, parts, parts_from}
-use Rattle.zlink_program.proofs.Laid_end_to_end.{count-cons}
+use Rattle.zlink.specs.Program.Laws.{statement_count}
+use Rattle.zlink.specs.Program.Parts.{Part, parts, parts_from}
+use Rattle.zlink.proofs.Programs.Laid_end_to_end.{count-cons}
 use Rattle.zlink.specs.Linked.{Symbol, symbols, symbols_in}
 
 -- A map of a map.

@@ -4,10 +4,10 @@ use Rattle.std.specs.List.{enumerate_from, flat_map}
 use Rattle.asm_module.specs.declared.fault.AsmFault.{AsmFault}
 use Rattle.ruler.specs.Choice.{Choice, IsValid, place}
 use Rattle.relax.specs.Growth.{after}
-use Rattle.zlink_program.specs.declared.fault.JoinFault.{JoinFault}
-use Rattle.zlink_program.specs.Faults.{first_fault}
-use Rattle.zlink_program.specs.Whole as object
-use Rattle.zlink_file.specs.Objects as file
+use Rattle.zlink.specs.declared.program.fault.JoinFault.{JoinFault}
+use Rattle.zlink.specs.Program.Faults.{first_fault}
+use Rattle.zlink.specs.Program.Whole as object
+use Rattle.zlink.specs.File.Objects as file
 use Rattle.zlink.specs.declared.fault.BuildFault.{BuildFault}
 use Rattle.zlink.specs.declared.fault.BuildFault.TheVariants as build
 use Rattle.zlink.specs.declared.fault.LinkFault.TheVariants as link

@@ -1,5 +1,7 @@
-pub mod Types
 pub mod Program
+pub mod File
+pub mod Types
+pub mod Renumbered
 pub mod Reads
 pub mod Certified
 pub mod Judged

@@ -4,12 +4,12 @@ use Rattle.std.specs.List.{flat_map}
 use Rattle.ruler.specs.Choice.{Choice, IsValid, place}
 use Rattle.relax.specs.Growth.{after}
 use Rattle.zmo_module.specs.Modules.{Module}
-use Rattle.zlink_program.specs.declared.fault.JoinFault.{JoinFault}
-use Rattle.zlink_program.specs.Faults.{first_fault}
-use Rattle.zlink_program.specs.Parts.{parts}
-use Rattle.zlink_program.specs.Whole.{program}
-use Rattle.zlink_file.specs.Objects.{ReadsObjects, grown, shape}
-use Rattle.zlink_file.specs.Places.{ArePlaces}
+use Rattle.zlink.specs.declared.program.fault.JoinFault.{JoinFault}
+use Rattle.zlink.specs.Program.Faults.{first_fault}
+use Rattle.zlink.specs.Program.Parts.{parts}
+use Rattle.zlink.specs.Program.Whole.{program}
+use Rattle.zlink.specs.File.Objects.{ReadsObjects, grown, shape}
+use Rattle.zlink.specs.File.Places.{ArePlaces}
 use Rattle.zlink.specs.declared.fault.LinkFault.{LinkFault}
 use Rattle.zlink.specs.declared.fault.LinkFault.TheVariants as link
 use Rattle.zlink.specs.declared.linking.Linked as linked

@@ -8,7 +8,7 @@ use Rattle.ruler.specs.Choice.{Choice}
 use Rattle.asm_statements.specs.Program.Pieces.{IsPiece, width}
 use Rattle.asm_statements.specs.Program.Statement as statement
 use Rattle.asm_statements.specs.Program.Statement.{Statement}
-use Rattle.zlink_file.specs.Reads.{ReadsBy}
+use Rattle.zlink.specs.File.Reads.{ReadsBy}
 
 -- a statement as far as its size matters
 abbrev pub sized_as : Statement → Sized

@@ -6,10 +6,10 @@ use Rattle.asm_module.specs.declared.fault.Why.{Why}
 use Rattle.asm_module.specs.Assembled.{Assembled, Assembles, IsStated}
 use Rattle.asm_statements.specs.Program.Statement.{Statement}
 use Rattle.zmo_module.specs.Modules.{Module}
-use Rattle.zlink_program.specs.Parts.{Part, Publics, parts, publics}
-use Rattle.zlink_program.specs.Whole.{stands}
+use Rattle.zlink.specs.Program.Parts.{Part, Publics, parts, publics}
+use Rattle.zlink.specs.Program.Whole.{stands}
 use Rattle.zlink.specs.declared.source.Source.{Source}
-use Rattle.zlink.specs.Program.{statement_in}
+use Rattle.zlink.specs.Renumbered.{statement_in}
 
 -- What one source is: its module with the lines of its statements, and the program that it states.
 pub record Assembly : Type 0 where

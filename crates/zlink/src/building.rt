@@ -5,14 +5,13 @@ ghost use Rattle.zlink.specs.Built.{IsBuilt, IsExact};
 
 use crate::assembling::{Assemblies, assemble_all};
 use crate::fault::BuildFault;
-use crate::laws::exact;
+use crate::laws::{exact, laid_out};
 use crate::linking::{Linked, link};
 use crate::origins::{Origin, origins_of};
 use crate::source::Source;
 use crate::symbol::Symbol;
 use asm_module::Lines;
 use std::alloc::{AllocError, Global};
-use zlink_program::laws::laid_out;
 
 /// What is built of sources.
 #[derive(Debug, Drop, PartialEq, Eq)]

@@ -4,10 +4,10 @@ ghost use Rattle.std.specs.Prelude.{◌≡◌};
 ghost use Rattle.zlink.specs.Linked.{link_fault};
 ghost use Rattle.zlink.specs.Private.Assembling.{source_fault};
 
+use crate::program::JoinFault;
 use asm_module::{AsmFault, Why};
 use std::alloc::{AllocError, AllocFailed};
 use thiserror::Error;
-use zlink_program::JoinFault;
 
 /// Why no choice of short and long jumps fits.
 #[derive(Clone, Copy, Debug, PartialEq, Eq, Error)]

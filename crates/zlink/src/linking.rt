@@ -7,12 +7,13 @@ ghost use Rattle.zlink.specs.Linked.{IsExact, IsLinked};
 
 use crate::certify::{Texts, certify};
 use crate::fault::{LinkFault, Misfit};
+use crate::file::{emit, grown, places_of, shape_of};
+use crate::laws::laid_out;
+use crate::program::join;
 use crate::symbol::{Symbol, symbols_of};
 use relax::{Verdict, least};
 use std::alloc::Global;
-use zlink_file::{emit, grown, places_of, shape_of};
-use zlink_program::laws::laid_out;
-use zlink_program::{Module, join};
+use zmo_module::Module;
 
 /// What is linked of modules.
 #[derive(Debug, Drop, PartialEq, Eq)]

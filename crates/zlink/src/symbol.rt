@@ -3,12 +3,13 @@
 ghost use Rattle.std.specs.Prelude.{◌≡◌, ◌<◌, ◌+◌, ◌++◌, All, IfOk, OnOk, length, map, slice_index};
 ghost use Rattle.zmo_module.specs.Modules.{module_of};
 ghost use Rattle.zmo_module.specs.Rules.{IsModule};
-ghost use Rattle.zlink_program.specs.Whole.{AreLinks, program};
+ghost use Rattle.zlink.specs.Program.Whole.{AreLinks, program};
 ghost use Rattle.zlink.specs.Linked.{symbol_of, symbols, symbols_in};
 
+use crate::laws::laid_out;
+use crate::program::Links;
 use std::alloc::{AllocError, Global};
-use zlink_program::laws::laid_out;
-use zlink_program::{Links, Module};
+use zmo_module::Module;
 
 /// A label.
 #[derive(Debug, Drop, PartialEq, Eq)]

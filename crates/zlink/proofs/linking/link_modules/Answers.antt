@@ -6,9 +6,9 @@ use Rattle.relax.specs.declared.growth.Growth.{Growth}
 use Rattle.relax.specs.declared.growth.Verdict.TheVariants.{Best}
 use Rattle.relax.specs.Growth.{IsGrowth, after}
 use Rattle.zmo_module.specs.Modules.{Module, module_of}
-use Rattle.zlink_program.specs.Whole.{program}
-use Rattle.zlink_file.specs.Objects.{ReadsObjects, grown, shape, sized_by}
-use Rattle.zlink_file.specs.Places.{ArePlaces}
+use Rattle.zlink.specs.Program.Whole.{program}
+use Rattle.zlink.specs.File.Objects.{ReadsObjects, grown, shape, sized_by}
+use Rattle.zlink.specs.File.Places.{ArePlaces}
 use Rattle.zlink.specs.declared.fault.Misfit.TheVariants.{Range, TooLarge}
 use Rattle.zlink.specs.Certified.{IsCertified}
 use Rattle.zlink.specs.Linked.{IsOutput, Output, symbols}

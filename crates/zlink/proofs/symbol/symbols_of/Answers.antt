@@ -2,9 +2,9 @@ use Rattle.std.proofs.Common.{◌++◌, map, slice_index, sym, ap, ◌∙◌, ar
 use Rattle.std.specs.List.{flat_map}
 use Rattle.std.proofs.lemmas.List.{length-map, take_all}
 use Rattle.zmo_module.specs.Modules.{module_of}
-use Rattle.zlink_program.specs.Laws.{part_at}
-use Rattle.zlink_program.specs.Parts.{parts}
-use Rattle.zlink_file.proofs.Linking.{ends, here, length-parts, links-long}
+use Rattle.zlink.specs.Program.Laws.{part_at}
+use Rattle.zlink.specs.Program.Parts.{parts}
+use Rattle.zlink.proofs.Files.Linking.{ends, here, length-parts, links-long}
 use Rattle.zlink.specs.Linked.{symbol_of, symbols_in}
 use Rattle.zlink.proofs.Symbols.{label_within, parts_next}
 use Rattle.zlink.proofs.symbol.symbols_of.Goals as goal

@@ -1,7 +1,7 @@
 use Rattle.std.proofs.Common.{◌≡◌, map, slice_index, take}
 use Rattle.std.specs.List.{flat_map}
 use Rattle.zmo_module.specs.Modules.{module_of}
-use Rattle.zlink_program.specs.Parts.{parts}
+use Rattle.zlink.specs.Program.Parts.{parts}
 use Rattle.zlink.specs.Linked.{symbol_of, symbols_in}
 use Rattle.zlink.proofs.symbol.symbols_of.Given as goal
 

@@ -1,0 +1,14 @@
+//! Laws of files, as functions that do nothing.
+
+ghost use Rattle.std.specs.Prelude.{◌≡◌, ℕ, List};
+ghost use Rattle.ruler.specs.declared.shape.Statement.{Statement};
+ghost use Rattle.ruler.specs.Choice.{Choice};
+ghost use Rattle.zlink.specs.Program.Whole.{Placed};
+ghost use Rattle.zlink.specs.File.Objects.{ReadsObjects};
+ghost use Rattle.zlink.specs.File.Places.{ArePlaces};
+
+/// Under a choice, statements of modules are one file, and the statements of a shape have one list of places.
+pub fn one_file()
+    ensures file { (file other : List ℕ) (program : List Placed) (c : Choice) → ReadsObjects file program c → ReadsObjects other program c → file ≡ other }
+    ensures places { (c : Choice) (shape : List Statement) (places other : List ℕ) → ArePlaces c shape places → ArePlaces c shape other → places ≡ other }
+{}

@@ -1,0 +1,97 @@
+//! The names that modules give to one another.
+
+ghost use Rattle.std.specs.Prelude.{◌≡◌, ◌≤◌, ◌++◌, ◌∷◌, [], All, IfOk, None, OnOk, is_some, map, not};
+ghost use Rattle.limits.specs.declared.TheConstants.{MOST_STATEMENTS};
+ghost use Rattle.zmo_module.specs.Modules.{module_of};
+ghost use Rattle.zmo_module.specs.Rules.{IsModule};
+ghost use Rattle.zlink.specs.Program.Faults.{first_of};
+ghost use Rattle.zlink.specs.Program.Laws.{statement_count};
+ghost use Rattle.zlink.specs.Program.Parts.{found, given, parts, publics};
+ghost use Rattle.zlink.specs.Private.Joining.{Judges, clashes, once, part};
+
+use crate::program::fault::JoinFault;
+use indexmap::IndexMap;
+use name_key::{KeyMixer, NameKey};
+use std::alloc::{AllocError, Global};
+use std::marker::Model;
+use zmo_module::Module;
+
+/// Public names, each with the number of a statement of the whole.
+#[derive(Drop)]
+pub(crate) struct PublicNames<'a> {
+    statements: IndexMap<&'a [u8], u32, NameKey>,
+}
+
+impl<'a> Model for PublicNames<'a> {
+    ghost use Rattle.std.specs.Prelude.{map};
+    ghost use Rattle.zlink.specs.Program.Parts.{Publics};
+
+    ghost Value = { Publics };
+
+    ghost view = { λ n. map (λ e. (e.0.now, e.1)) n.statements.entries };
+}
+
+/// Mixes in the names of a module's labels.
+fn mix(mixer: &mut KeyMixer, module: &Module) {
+    for label in &module.labels {
+        mixer.mix(&label.name);
+    }
+}
+
+/// The key of the names of modules.
+fn key_of(modules: &[Module]) -> NameKey {
+    let mut mixer = KeyMixer::new();
+    for module in modules {
+        mix(&mut mixer, module);
+    }
+    mixer.key()
+}
+
+impl<'a> PublicNames<'a> {
+    /// The public names of modules, or the first that is given twice.
+    pub(crate) fn of(alloc: Global, modules: &'a [Module]) -> Result<PublicNames<'a>, JoinFault>
+        requires rules { All IsModule (map module_of modules.now) }
+        requires few { statement_count (map module_of modules.now) ≤ MOST_STATEMENTS }
+        ensures { Judges (first_of (once (map module_of modules.now)) (parts (map module_of modules.now))) (λ names. names ≡ publics (parts (map module_of modules.now))) result }
+    {
+        let mut names = PublicNames {
+            statements: IndexMap::with_hasher(alloc, key_of(modules)),
+        };
+        let mut base = 0;
+        for (number, module) in modules.iter().enumerate() {
+            names.give(number, base, module)?;
+            base += module.statements.len() as u32;
+        }
+        Ok(names)
+    }
+
+    /// Adds the public names of a module with this number and behind so many statements.
+    fn give(&mut self, number: usize, base: u32, object: &'a Module) -> Result<(), JoinFault>
+        requires rules { IsModule (module_of object.now) }
+        requires few { base ≤ MOST_STATEMENTS }
+        ensures { Judges (clashes self.old (part number base (module_of object.now))) (λ _. self.new ≡ self.old ++ given (part number base (module_of object.now))) result }
+    {
+        for number_of_label in &object.publics {
+            let label = &object.labels[usize::from(*number_of_label)];
+            if !self.add(&label.name, base + u32::from(label.statement))? {
+                return Err(JoinFault::DefinedTwice(number, *number_of_label));
+            }
+        }
+        Ok(())
+    }
+
+    /// Adds a name, and answers whether it is a new one.
+    fn add(&mut self, name: &'a [u8], statement: u32) -> Result<bool, AllocError>
+        ensures new { IfOk result (λ is_new. is_new ≡ not (is_some (found self.old name.now))) }
+        ensures added { OnOk result (found self.old name.now ≡ None → self.new ≡ self.old ++ (name.now, statement) ∷ []) }
+    {
+        Ok(self.statements.insert(name, statement)?.is_none())
+    }
+
+    /// The statement at which a name stands, where it is given.
+    pub(crate) fn found(&self, name: &[u8]) -> Option<u32>
+        ensures { result ≡ found self.now name.now }
+    {
+        self.statements.get(name).copied()
+    }
+}

@@ -1,8 +1,0 @@
-use Rattle.std.proofs.Common.{◌≡◌, ◌++◌, map, take}
-use Rattle.ruler.specs.Choice.{chosen}
-use Rattle.zmo_module.specs.Modules.{statement_of}
-use Rattle.zlink_file.specs.Private.Marked.{marked_from}
-use Rattle.zlink_file.proofs.layout.put_grown.Given as goal
-
-abbrev pub invariant-loop-k : goal.invariant-loop-k
-invariant-loop-k l = l.numbers.items ≡ l.fn.numbers.items ++ marked_from (chosen l.long) l.first (map statement_of (take l.k l.statements))

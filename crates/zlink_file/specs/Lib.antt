@@ -1,4 +1,0 @@
-pub mod Reads
-pub mod Objects
-pub mod Places
-pub mod Private

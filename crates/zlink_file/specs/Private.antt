@@ -1,4 +1,0 @@
--- What private contracts alone cite: no reviewer need believe it.
-pub mod Pieces
-pub mod Refs
-pub mod Marked

@@ -1,7 +1,0 @@
-use Rattle.std.proofs.Common.{ℕ}
-use Rattle.zlink_program.specs.Faults.{begins_late}
-use Rattle.zlink_program.proofs.Going_on.{Judging}
-use Rattle.zlink_program.proofs.checks.check_begins.Given as goal
-
-abbrev pub invariant-loop-number : goal.invariant-loop-number
-invariant-loop-number l = (base : ℕ) × Judging begins_late l.modules l.number base

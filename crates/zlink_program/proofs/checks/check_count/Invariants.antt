@@ -1,8 +1,0 @@
-use Rattle.std.proofs.Common.{◌≤◌, map}
-use Rattle.limits.specs.declared.TheConstants.{MOST_STATEMENTS}
-use Rattle.zmo_module.specs.Modules.{module_of}
-use Rattle.zlink_program.proofs.Going_on.{Reached, left}
-use Rattle.zlink_program.proofs.checks.check_count.Given as goal
-
-abbrev pub invariant-loop-module : goal.invariant-loop-module
-invariant-loop-module l = Reached (map module_of l.modules) l.module-index l.count (left l.modules l.module-index) × (l.count ≤ MOST_STATEMENTS)

@@ -1,6 +1,0 @@
-use Rattle.zlink_program.specs.Faults.{unresolved}
-use Rattle.zlink_program.proofs.Going_on.{Links_so_far}
-use Rattle.zlink_program.proofs.joining.all_links.Given as goal
-
-abbrev pub invariant-loop-number : goal.invariant-loop-number
-invariant-loop-number l = Links_so_far l.modules l.names (unresolved l.names) l.number l.base l.links.items

@@ -1,5 +1,0 @@
-pub mod Parts
-pub mod Whole
-pub mod Faults
-pub mod Laws
-pub mod Private

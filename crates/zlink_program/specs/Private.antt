@@ -1,2 +1,0 @@
--- What private contracts alone cite: no reviewer need believe it.
-pub mod Judged
