@@ -2,7 +2,7 @@
 use Rattle.std.specs.Prelude.{ℕ, List, codes}
 use Rattle.cert_check.specs.declared.fault.CheckFault.{CheckFault}
 use Rattle.cert_check.specs.declared.fault.CheckFault.TheVariants as check
-use Rattle.z80dev_faults.specs.Numbered.{numbered}
+use Rattle.z80dev_make.specs.Faults.Numbered.{numbered}
 
 abbrev pub check_text : CheckFault → List ℕ
 check_text (check.BadSizes line) = numbered (codes "BadSizes") line

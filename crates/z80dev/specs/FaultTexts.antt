@@ -1,6 +1,6 @@
 -- How faults of the one source are printed, which is named MAIN.
 use Rattle.std.specs.Prelude.{ℕ, List, codes}
-use Rattle.z80dev_faults.specs.Refusals.{of_build, refusal_text}
+use Rattle.z80dev_make.specs.Faults.Refusals.{of_build, refusal_text}
 use Rattle.z80dev.specs.declared.fault.Fault.{Fault}
 use Rattle.z80dev.specs.declared.fault.Fault.TheVariants as fault
 

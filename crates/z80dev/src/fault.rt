@@ -8,8 +8,8 @@ ghost use Rattle.zlink.specs.declared.fault.BuildFault.TheVariants as build;
 
 use std::alloc::AllocError;
 use std::fmt;
-use z80dev_faults::{Refusal, Told};
 use z80dev_finish::{FILE_FAULT, REFUSED};
+use z80dev_make::{Refusal, Told};
 use zlink::{BuildFault, LinkFault};
 
 /// The name of the one source.

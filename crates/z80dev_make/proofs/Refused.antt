@@ -4,8 +4,8 @@ use Rattle.std.specs.Prelude.{◌≢◌}
 use Rattle.asm_module.specs.declared.fault.AsmFault.{AsmFault}
 use Rattle.asm_module.specs.declared.fault.Why.{Why}
 use Rattle.asm_module.specs.Assembled.{Assembles, IsRefused}
-use Rattle.z80dev_faults.specs.declared.refusal.Refusal.TheVariants as refusal
-use Rattle.z80dev_faults.specs.Refusals.{by_why}
+use Rattle.z80dev_make.specs.declared.faults.refusal.Refusal.TheVariants as refusal
+use Rattle.z80dev_make.specs.Faults.Refusals.{by_why}
 
 module _ (name text : List ℕ) (grow : Bool) (fault : AsmFault) where
   pub caused : (w : Why) → w ≢ Why.NoMemory → IsRefused w name text grow fault → Assembles name text grow (Err fault)

@@ -3,8 +3,8 @@ use Rattle.std.specs.Prelude.{◌≡◌, ℕ, List, [], ◌∷◌, ◌++◌, Som
 use Rattle.zlink.specs.declared.fault.LinkFault.{LinkFault}
 use Rattle.zlink.specs.declared.fault.LinkFault.TheVariants as link
 use Rattle.zlink.specs.declared.source.Source.{Source}
-use Rattle.z80dev_faults.specs.declared.refusal.Told.{Told}
-use Rattle.z80dev_faults.specs.Refusals.{misfit_text, of_link, refusal_text}
+use Rattle.z80dev_make.specs.declared.faults.refusal.Told.{Told}
+use Rattle.z80dev_make.specs.Faults.Refusals.{misfit_text, of_link, refusal_text}
 use Rattle.z80dev_finish.specs.Answers.{Answer, answer_by, nothing}
 use Rattle.z80dev_finish.specs.declared.answer.Answer as made
 use Rattle.z80dev_finish.specs.declared.answer.Kind.{Kind}

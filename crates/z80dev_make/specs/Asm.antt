@@ -4,7 +4,7 @@ use Rattle.asm_module.specs.declared.fault.AsmFault.{AsmFault}
 use Rattle.asm_module.specs.Assembled.{Assembled, Assembles, HasCause}
 use Rattle.zmo_module.specs.Modules.{Module}
 use Rattle.zmo_object.specs.Texts.{text_of}
-use Rattle.z80dev_faults.specs.Refusals.{of_source, refusal_text}
+use Rattle.z80dev_make.specs.Faults.Refusals.{of_source, refusal_text}
 use Rattle.z80dev_finish.specs.declared.answer.Kind.TheVariants as kind
 use Rattle.z80dev_make.specs.declared.answer.SourceFile.{SourceFile}
 use Rattle.z80dev_finish.specs.Answers.{Answer, nothing}

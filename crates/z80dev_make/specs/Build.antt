@@ -9,7 +9,7 @@ use Rattle.zlink.specs.declared.source.Source.{Source}
 use Rattle.zlink.specs.Built.{IsBuilt, IsExact}
 use Rattle.zlisting.specs.Listing.{listing}
 use Rattle.zlisting.specs.Symbols.{symbols}
-use Rattle.z80dev_faults.specs.Refusals.{of_source, refusal_text}
+use Rattle.z80dev_make.specs.Faults.Refusals.{of_source, refusal_text}
 use Rattle.z80dev_finish.specs.declared.answer.Kind.{Kind}
 use Rattle.z80dev_finish.specs.declared.answer.Kind.TheVariants as kind
 use Rattle.z80dev_make.specs.declared.answer.SourceFile.{SourceFile}

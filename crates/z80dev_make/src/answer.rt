@@ -4,8 +4,8 @@ ghost use Rattle.std.specs.Prelude.{◌≡◌, IfOk, codes, map};
 ghost use Rattle.z80dev_finish.specs.Answers.{file_of, nothing};
 ghost use Rattle.z80dev_make.specs.Answers.{answer_of, no_program, program_files, refused, text_files};
 
+use crate::faults::{Refusal, Told};
 use std::alloc::{AllocError, Global};
-use z80dev_faults::{Refusal, Told};
 use z80dev_finish::{Answer, Kind, NewFile};
 use zlink::LinkFault;
 

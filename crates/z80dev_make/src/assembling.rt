@@ -8,9 +8,9 @@ ghost use Rattle.z80dev_make.specs.Answers.{answer_of};
 ghost use Rattle.z80dev_make.specs.Asm.{IsAsm, object_answer};
 
 use crate::answer::{SourceFile, refused, without_memory};
+use crate::faults::{Refusal, Told};
 use asm_module::{Module, Why, assemble_with};
 use std::alloc::{AllocError, Global};
-use z80dev_faults::{Refusal, Told};
 use z80dev_finish::{Answer, Kind, NewFile};
 use zmo_object::write;
 

@@ -6,10 +6,10 @@ ghost use Rattle.z80dev_make.specs.Answers.{IsSource, answer_of};
 ghost use Rattle.z80dev_make.specs.Build.{IsBuild, IsMade, build_answer, grown_lines, line_from, path_at};
 
 use crate::answer::{SourceFile, no_program, program, refused, without_memory};
+use crate::faults::{Refusal, Told};
 use crate::jumps::{Jumps, jumps_of};
 use std::alloc::{AllocError, Global};
 use std::fmt;
-use z80dev_faults::{Refusal, Told};
 use z80dev_finish::{Answer, Kind, NewFile};
 use zlink::{BuildFault, Built, Origin, Source, build_with};
 use zlisting::{listing, symbols};

@@ -7,8 +7,8 @@ ghost use Rattle.z80dev_make.specs.Link.{IsLink, link_answer};
 ghost use Rattle.z80dev_make.specs.Private.Steps.{AreRead};
 
 use crate::answer::{no_program, program, refused, without_memory};
+use crate::faults::{Refusal, Told};
 use std::alloc::{AllocError, Global};
-use z80dev_faults::{Refusal, Told};
 use z80dev_finish::Answer;
 use zlink::{LinkFault, Linked, Module, link as link_modules};
 use zmo_object::{ObjectFault, read};

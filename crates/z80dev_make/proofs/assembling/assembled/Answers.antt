@@ -1,6 +1,6 @@
 use Rattle.std.proofs.Common.{Ok, Err, sym, ap, subst, ◌∙◌}
 use Rattle.asm_module.specs.Assembled.{Assembles, IsRefused, seen}
-use Rattle.z80dev_faults.specs.Refusals.{refusal_text}
+use Rattle.z80dev_make.specs.Faults.Refusals.{refusal_text}
 use Rattle.z80dev_finish.specs.Answers.{nothing}
 use Rattle.z80dev_make.proofs.Refused.{caused, said}
 use Rattle.z80dev_make.proofs.assembling.assembled.Goals as goal

@@ -11,10 +11,10 @@ use Rattle.zlink.specs.declared.fault.LinkFault.{LinkFault}
 use Rattle.zlink.specs.declared.fault.LinkFault.TheVariants as link
 use Rattle.zlink.specs.declared.fault.Misfit.{Misfit}
 use Rattle.zlink.specs.declared.fault.Misfit.TheVariants as misfit
-use Rattle.z80dev_faults.specs.declared.refusal.Refusal.{Refusal}
-use Rattle.z80dev_faults.specs.declared.refusal.Refusal.TheVariants as refusal
-use Rattle.z80dev_faults.specs.Names.{why_name}
-use Rattle.z80dev_faults.specs.Numbered.{numbered, numbered_twice}
+use Rattle.z80dev_make.specs.declared.faults.refusal.Refusal.{Refusal}
+use Rattle.z80dev_make.specs.declared.faults.refusal.Refusal.TheVariants as refusal
+use Rattle.z80dev_make.specs.Faults.Names.{why_name}
+use Rattle.z80dev_make.specs.Faults.Numbered.{numbered, numbered_twice}
 
 -- of a source
 abbrev pub by_why : Why → AsmFault → Refusal

@@ -1,7 +1,7 @@
 //! The names of the faults of a source.
 
 ghost use Rattle.std.specs.Prelude.{◌≡◌};
-ghost use Rattle.z80dev_faults.specs.Names.{expression_name, macro_name, scan_name, statement_name, why_name};
+ghost use Rattle.z80dev_make.specs.Faults.Names.{expression_name, macro_name, scan_name, statement_name, why_name};
 
 use asm_macro::MacroFault;
 use asm_parse::ExprFault;

@@ -1,9 +1,9 @@
 //! Why there is no file, and how it is printed.
 
 ghost use Rattle.std.specs.Prelude.{◌≡◌};
-ghost use Rattle.z80dev_faults.specs.Refusals.{of_build, of_link, of_source};
+ghost use Rattle.z80dev_make.specs.Faults.Refusals.{of_build, of_link, of_source};
 
-use crate::names::why_name;
+use crate::faults::names::why_name;
 use std::fmt;
 use zlink::{AsmFault, BuildFault, JoinFault, LinkFault, Misfit, Why};
 use zmo_object::ObjectFault;
@@ -77,7 +77,7 @@ pub struct Told<'a> {
 
 impl fmt::Display for Told<'_> {
     ghost use Rattle.std.specs.Prelude.{Some};
-    ghost use Rattle.z80dev_faults.specs.Refusals.{refusal_text};
+    ghost use Rattle.z80dev_make.specs.Faults.Refusals.{refusal_text};
 
     ghost output = { λ told. Some (refusal_text told.path.now told.refusal) };
 
