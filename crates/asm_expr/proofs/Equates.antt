@@ -5,7 +5,7 @@ use Rattle.asm_parse.specs.Expression.{Expression}
 use Rattle.asm_parse.specs.Source.{Operand}
 use Rattle.asm_expr.specs.Names.{AreCounted, IsCounted, Table}
 use Rattle.asm_expr.specs.Settling.{IsWorthOf, replaced, settled, size}
-use Rattle.asm_words.specs.Results.{◌>>=◌}
+use Rattle.common.specs.Results.{◌>>=◌}
 use Rattle.asm_expr.specs.Equating.{equated, meaning_of}
 use Rattle.asm_expr.proofs.Guards.{positive}
 use Rattle.asm_expr.proofs.Steps.{replaced_short}

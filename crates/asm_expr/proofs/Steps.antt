@@ -7,7 +7,7 @@ use Rattle.asm_expr.specs.declared.part.Part.{Part}
 use Rattle.asm_parse.specs.Expression.{Expression, Leaf, Prefix, Infix, postfix}
 use Rattle.asm_value.specs.Postfix.{spread, put, run, only, tree}
 use Rattle.asm_expr.specs.Names.{AreCounted, IsCounted, Table, found, items_of}
-use Rattle.asm_words.specs.Results.{◌>>=◌}
+use Rattle.common.specs.Results.{◌>>=◌}
 use Rattle.asm_expr.specs.declared.meaning.Meaning.{Meaning}
 use Rattle.asm_parse.specs.declared.item.Term.{Term}
 use Rattle.std.proofs.Math.ListN.{get_or-map}

@@ -1,7 +1,7 @@
 -- What an EQU's expression stands for.
 use Rattle.std.specs.Prelude.{Result, Ok, if◌then◌else◌}
 use Rattle.std.specs.List.{list_all}
-use Rattle.asm_words.specs.Results.{◌>>=◌}
+use Rattle.common.specs.Results.{◌>>=◌}
 use Rattle.asm_parse.specs.declared.fault.ExprFault.{ExprFault}
 use Rattle.asm_parse.specs.Expression.{Expression, postfix}
 use Rattle.asm_parse.specs.Source.{Operand}

@@ -11,8 +11,8 @@ use crate::answer::Settled;
 use crate::left::is_left;
 use crate::meaning::Meaning;
 use asm_value::{Expr, Layout, MOST_ITEMS, Statement, Worth};
+use common::NameKey;
 use indexmap::IndexMap;
-use name_key::NameKey;
 use std::alloc::{AllocError, Global};
 use std::marker::Model;
 

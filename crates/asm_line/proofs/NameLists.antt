@@ -5,7 +5,7 @@ use Rattle.std.proofs.Common.{get_or, append_assoc, sym, ◌∙◌, ap, arith}
 use Rattle.std.proofs.lemmas.List.{at_drop_more}
 use Rattle.asm_scan.specs.declared.token.Token.{Token}
 use Rattle.asm_scan.specs.Tokens.{Lexeme, lexeme, lexemes}
-use Rattle.asm_words.specs.Words.{upper}
+use Rattle.common.specs.Words.{upper}
 use Rattle.asm_line.specs.Tokens.{is_name, is_comma}
 use Rattle.asm_line.specs.Lists.{names}
 

@@ -7,7 +7,7 @@ use Rattle.asm_macro.specs.declared.expansion.TheConstants.{MOST_LINES}
 use Rattle.asm_scan.specs.declared.fault.ScanFault.{ScanFault}
 use Rattle.asm_scan.specs.Tokens.{Lexeme}
 use Rattle.asm_scan.specs.Scanned.{scanned}
-use Rattle.asm_words.specs.Words.{upper}
+use Rattle.common.specs.Words.{upper}
 use Rattle.asm_line.specs.declared.forms.BlockWord.{BlockWord}
 use Rattle.asm_line.specs.Forms.{Form, Head}
 use Rattle.asm_line.specs.Forms as line

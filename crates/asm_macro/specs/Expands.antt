@@ -1,6 +1,6 @@
 -- The expansion of a text.
 use Rattle.std.specs.Prelude.{◌<◌, ◌≤◌, ℕ, List, [], ◌∷◌, ◌++◌, Result, Ok, Err, length}
-use Rattle.limits.specs.declared.TheConstants.{LONGEST_TEXT}
+use Rattle.common.specs.declared.limits.TheConstants.{LONGEST_TEXT}
 use Rattle.asm_macro.specs.declared.fault.MacroFault.{MacroFault}
 use Rattle.asm_text.specs.Lines.{Numbered}
 use Rattle.asm_macro.specs.Texts.{numbered, source_lines}

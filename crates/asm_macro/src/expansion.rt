@@ -14,8 +14,8 @@ use crate::expander::Line;
 use crate::moves::{Given, Stop, Taken};
 use asm_scan::Token;
 use asm_text::{Book, Call, Following, Lines, Macro, Span, put_shown};
+use common::NameKey;
 use indexmap::IndexMap;
-use name_key::NameKey;
 use std::alloc::{AllocError, Global};
 
 /// The most lines and turns of a whole expansion.

@@ -10,9 +10,8 @@ use crate::expansion::Expansion;
 use crate::fault::MacroFault;
 use asm_text::{Book, Lines, Span};
 use bstr::ByteSlice;
+use common::{LONGEST_TEXT, NameKey};
 use indexmap::IndexMap;
-use limits::LONGEST_TEXT;
-use name_key::NameKey;
 use std::alloc::Global;
 
 /// How many bytes stand before the first byte 1AH.

@@ -4,8 +4,8 @@ ghost use Rattle.std.specs.Prelude.{◌≡◌, ◌||◌, [], ℕ, List, OnOk};
 ghost use Rattle.std.specs.List.{list_any};
 ghost use Rattle.std.specs.Str.{bytes_eq};
 
+use common::NameKey;
 use indexmap::IndexSet;
-use name_key::NameKey;
 use std::alloc::{AllocError, Global};
 use std::marker::Model;
 

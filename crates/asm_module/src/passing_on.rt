@@ -4,7 +4,7 @@ ghost use Rattle.std.specs.Prelude.{◌≡◌, ◌≤◌, ◌++◌, ◌||◌, []
 ghost use Rattle.std.specs.List.{cons_option, list_any};
 ghost use Rattle.std.specs.Option.{option_map};
 ghost use Rattle.std.specs.Str.{bytes_eq};
-ghost use Rattle.limits.specs.declared.TheConstants.{MOST_NAMES};
+ghost use Rattle.common.specs.declared.limits.TheConstants.{MOST_NAMES};
 ghost use Rattle.asm_spell.specs.Line.{line_of, listed_of};
 ghost use Rattle.asm_names.specs.Layout.{layout_of};
 ghost use Rattle.asm_names.specs.Meanings.{external_in, externals};
@@ -15,7 +15,7 @@ ghost use Rattle.asm_module.specs.Holding.{begins, entry, entry_name, is_origin,
 use crate::listed::Listed;
 use asm_names::{Kind, Layout, NameTable, SourceLine};
 use asm_spell::{Body, KeptName, Line};
-use name_key::{KeyMixer, NameKey};
+use common::{KeyMixer, NameKey};
 use std::alloc::{AllocError, Global};
 use zmo_module::Label;
 

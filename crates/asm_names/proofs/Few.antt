@@ -5,7 +5,7 @@ use Rattle.std.proofs.lemmas.Bool.{ltb-false, leb-false}
 use Rattle.std.proofs.lemmas.List.Sums.{sum_by-append}
 use Rattle.std.proofs.lemmas.List.{append-nil, append_assoc}
 use Rattle.std.specs.Option.{option_map}
-use Rattle.limits.specs.declared.TheConstants.{MOST_NAMES, MOST_STATEMENTS}
+use Rattle.common.specs.declared.limits.TheConstants.{MOST_NAMES, MOST_STATEMENTS}
 use Rattle.asm_names.specs.declared.fault.NameFault.{NameFault}
 use Rattle.asm_names.specs.Faults.{at_line, duplicate, faults, first, first_fault, if_so, line_fault, too_many_names, too_many_statements}
 use Rattle.asm_names.specs.Lines.{Taken, has_statement}

@@ -11,7 +11,7 @@ use Rattle.asm_spell.specs.Line.{Line}
 use Rattle.asm_names.specs.declared.fault.NameFault.{NameFault}
 use Rattle.asm_names.specs.declared.naming.Naming.{Naming}
 use Rattle.std.specs.Option.{option_map}
-use Rattle.limits.specs.declared.TheConstants.{MOST_NAMES, MOST_STATEMENTS}
+use Rattle.common.specs.declared.limits.TheConstants.{MOST_NAMES, MOST_STATEMENTS}
 use Rattle.asm_names.specs.declared.kind.SourceLine.{SourceLine}
 use Rattle.asm_names.specs.Lines.{Taken, has_statement, lines_of, placed, taken_of}
 use Rattle.asm_names.specs.Names.{Names, clashes, definitions, defines, kind_of, names, repeats, with_name, with_names}

@@ -1,7 +1,7 @@
 -- What a line may have against it by the lines before it. Each fault is said by itself, and then which comes first.
 use Rattle.std.specs.Prelude.{◌≡◌, ℕ, ◌&&◌, Bool, List, [], ◌∷◌, ◌++◌, Option, Some, None, Result, Ok, Err, if◌then◌else◌, length, count_by, nat_le, nat_lt}
 use Rattle.std.specs.Option.{option_map}
-use Rattle.limits.specs.declared.TheConstants.{MOST_NAMES, MOST_STATEMENTS}
+use Rattle.common.specs.declared.limits.TheConstants.{MOST_NAMES, MOST_STATEMENTS}
 use Rattle.asm_names.specs.declared.fault.NameFault.{NameFault}
 use Rattle.asm_names.specs.Lines.{Taken, has_statement}
 use Rattle.asm_names.specs.Names.{Names, defines, names, repeats}

@@ -10,8 +10,7 @@ use crate::fault::NameFault;
 use crate::kind::SourceLine;
 use crate::table::NameTable;
 use asm_spell::{Body, Line};
-use limits::{MOST_NAMES, MOST_STATEMENTS};
-use name_key::{KeyMixer, NameKey};
+use common::{KeyMixer, MOST_NAMES, MOST_STATEMENTS, NameKey};
 use std::alloc::Global;
 
 /// Whether a word takes a place in the program, as far as its own line tells: `DS 0` too.

@@ -11,7 +11,7 @@ use crate::kind::Kind;
 use crate::layout::Layout;
 use crate::table::NameTable;
 use asm_expr::{Meaning, Names, Statement};
-use name_key::NameKey;
+use common::NameKey;
 use std::alloc::{AllocError, Global};
 
 /// Passes a statement.

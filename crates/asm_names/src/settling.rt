@@ -1,7 +1,7 @@
 //! All names of a source.
 
 ghost use Rattle.std.specs.Prelude.{◌≡◌, ◌≤◌, IfOk, OnOk, None, length, replicate};
-ghost use Rattle.limits.specs.declared.TheConstants.{MOST_STATEMENTS};
+ghost use Rattle.common.specs.declared.limits.TheConstants.{MOST_STATEMENTS};
 ghost use Rattle.asm_spell.specs.Line.{line_of};
 ghost use Rattle.asm_names.specs.Orders.Order.{IsOrder};
 ghost use Rattle.asm_names.specs.Faults.{first, first_fault};

@@ -10,8 +10,8 @@ ghost use Rattle.asm_names.specs.Private.Steps.{TakesUp, externals};
 use crate::fault::NameFault;
 use crate::kind::Kind;
 use asm_spell::{Body, KeptName, Line};
+use common::NameKey;
 use indexmap::IndexMap;
-use name_key::NameKey;
 use std::alloc::{AllocError, Global};
 use std::marker::Model;
 

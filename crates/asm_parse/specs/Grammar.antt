@@ -13,7 +13,7 @@ use Rattle.asm_parse.specs.declared.sign.Prefix.{Prefix}
 use Rattle.asm_parse.specs.Expression.{Expression, postfix}
 use Rattle.asm_parse.specs.Expression as tree
 use Rattle.asm_parse.specs.Source.{Operand, Number, Name, Here}
-use Rattle.asm_words.specs.Words.{upper, is_reserved}
+use Rattle.common.specs.Words.{upper, is_reserved}
 use Rattle.asm_parse.specs.Words.{sign_of}
 
 -- A token as an expression reads it: a term, a sign, or what stands in no expression.

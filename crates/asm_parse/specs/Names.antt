@@ -1,7 +1,7 @@
 -- Names that a program can define.
 use Rattle.std.specs.Prelude.{◌≡◌, ℕ, false, List}
 use Rattle.asm_scan.specs.Tokens.{IsName}
-use Rattle.asm_words.specs.Words.{upper, is_reserved}
+use Rattle.common.specs.Words.{upper, is_reserved}
 
 -- The whole text is one name, in upper case, and not reserved.
 pub record IsDefinable (text : List ℕ) : Type 0 where

@@ -1,6 +1,6 @@
 -- The words and marks of the language that stand in expressions.
 use Rattle.std.specs.Prelude.{ℕ, List, [], ◌∷◌, Option, Some, None, codes}
-use Rattle.asm_words.specs.Words.{first_word}
+use Rattle.common.specs.Words.{first_word}
 use Rattle.asm_parse.specs.declared.operator.Unary.{Unary}
 use Rattle.asm_parse.specs.declared.operator.Binary.{Binary}
 use Rattle.asm_parse.specs.declared.sign.Sign.{Sign}

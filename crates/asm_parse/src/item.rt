@@ -1,7 +1,7 @@
 //! The items of expressions in postfix order.
 
 ghost use Rattle.std.specs.Prelude.{◌≡◌, IfOk};
-ghost use Rattle.asm_words.specs.Words.{upper};
+ghost use Rattle.common.specs.Words.{upper};
 ghost use Rattle.asm_parse.specs.Source.{Name, view_item, view_operand, operand, source_item};
 
 use crate::operator::{Binary, Unary};

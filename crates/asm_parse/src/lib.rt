@@ -12,7 +12,7 @@ mod short_name;
 mod sign;
 mod tree;
 
-pub use asm_words::is_reserved;
+pub use common::is_reserved;
 pub use fault::ExprFault;
 pub use few::Few;
 pub use item::{Item, KeptName, Term, TermView};

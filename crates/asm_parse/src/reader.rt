@@ -19,7 +19,7 @@ use crate::operator::{Binary, Unary};
 use crate::sign::{Prefix, Sign, sign_of};
 use crate::tree::Tree;
 use asm_scan::{Kind, Mark, Token};
-use asm_words::is_reserved;
+use common::is_reserved;
 use smallvec::SmallVec;
 use std::alloc::Global;
 

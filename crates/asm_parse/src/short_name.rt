@@ -1,7 +1,7 @@
 //! Names that lie in place.
 
 ghost use Rattle.std.specs.Prelude.{◌≡◌, ◌<◌, IfSome, IfNone, length};
-ghost use Rattle.asm_words.specs.Words.{upper};
+ghost use Rattle.common.specs.Words.{upper};
 ghost use Rattle.asm_parse.specs.declared.short_name.TheConstants.{MOST_SHORT};
 
 use std::marker::Model;

@@ -12,7 +12,7 @@ use Rattle.asm_expr.specs.Names.{Table}
 use Rattle.asm_expr.specs.Below.{source}
 use Rattle.asm_expr.specs.Settling.{is_constant_item, is_known, settled}
 use Rattle.asm_expr.proofs.Steps.{source_whole}
-use Rattle.asm_words.specs.Results.{◌>>=◌}
+use Rattle.common.specs.Results.{◌>>=◌}
 use Rattle.asm_spell.specs.declared.fault.StmtFault.{StmtFault}
 use Rattle.asm_spell.specs.Line.{Expression}
 use Rattle.asm_piece.specs.Fields.{as_stmt}

@@ -2,8 +2,8 @@
 use Rattle.std.specs.Prelude.{◌≢◌, ℕ, zero, suc, ◌-◌, ◌%◌, ◌==◌, ◌&&◌, Bool, false, List, [], ◌∷◌, Option, Some, None, Result, Ok, Err, if◌then◌else◌, All, length, map}
 use Rattle.std.specs.List.{AllPass, flat_map, list_all}
 use Rattle.std.specs.Option.{IfSome}
-use Rattle.limits.specs.declared.TheConstants.{FIRST_PLACE}
-use Rattle.asm_words.specs.Results.{◌>>=◌}
+use Rattle.common.specs.declared.limits.TheConstants.{FIRST_PLACE}
+use Rattle.common.specs.Results.{◌>>=◌}
 use Rattle.asm_parse.specs.declared.item.Item.{Item}
 use Rattle.asm_parse.specs.Expression.{postfix}
 use Rattle.asm_parse.specs.Source.{Name}

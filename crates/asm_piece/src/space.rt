@@ -11,7 +11,7 @@ use crate::field::{fixed, number, settle_expr};
 use crate::piece::{Made, Piece};
 use asm_expr::{Names, Settled, Tree, Unknown, is_constant};
 use asm_spell::StmtFault;
-use limits::FIRST_PLACE;
+use common::FIRST_PLACE;
 use std::alloc::Global;
 use z80_form::Field;
 

@@ -7,7 +7,7 @@ use Rattle.std.specs.Str.{bytes_eq}
 use Rattle.std.proofs.lemmas.List.{take-append-drop}
 use Rattle.std.proofs.lemmas.List.Elements.{All-head, All-tail}
 use Rattle.std.proofs.Math.Seq.{drop-append_seam}
-use Rattle.asm_words.specs.Words.{upper}
+use Rattle.common.specs.Words.{upper}
 use Rattle.asm_scan.specs.Classes.{is_blank}
 use Rattle.asm_scan.specs.Tokens.{Lexeme}
 use Rattle.asm_scan.specs.Lines.{BeginsToken, BeginsTokens}

@@ -5,7 +5,7 @@ use Rattle.std.specs.Str.{bytes_eq}
 use Rattle.asm_scan.specs.declared.fault.ScanFault.{ScanFault}
 use Rattle.asm_scan.specs.declared.token.Kind.{Kind}
 use Rattle.asm_scan.specs.Tokens.{Lexeme}
-use Rattle.asm_words.specs.Words.{upper}
+use Rattle.common.specs.Words.{upper}
 use Rattle.asm_line.specs.Tokens.{is_name}
 use Rattle.asm_replace.specs.Replaced.{Table}
 

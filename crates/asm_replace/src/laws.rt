@@ -3,7 +3,7 @@
 ghost use Rattle.std.specs.Prelude.{◌≡◌, ◌++◌, ℕ, All, List, None, true};
 ghost use Rattle.std.specs.Map.{lookup};
 ghost use Rattle.std.specs.Str.{bytes_eq};
-ghost use Rattle.asm_words.specs.Words.{upper};
+ghost use Rattle.common.specs.Words.{upper};
 ghost use Rattle.asm_scan.specs.Lines.{Cut};
 ghost use Rattle.asm_scan.specs.Scanned.{scanned};
 ghost use Rattle.asm_scan.specs.Tokens.{Lexeme};

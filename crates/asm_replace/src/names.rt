@@ -5,8 +5,8 @@ ghost use Rattle.asm_replace.specs.Replaced.{SaySame};
 ghost use Rattle.asm_replace.specs.Views.{seen, texts};
 ghost use Rattle.asm_replace.specs.Private.Places.{placed};
 
+use common::{KeyMixer, NameKey};
 use indexmap::IndexMap;
-use name_key::{KeyMixer, NameKey};
 use std::alloc::{AllocError, Global};
 
 /// What a name of a macro is.

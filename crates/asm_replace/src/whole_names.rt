@@ -2,7 +2,7 @@
 
 ghost use Rattle.std.specs.Prelude.{◌≡◌, ◌++◌, OnOk};
 ghost use Rattle.asm_scan.specs.Tokens.{lexeme, lexemes};
-ghost use Rattle.asm_words.specs.Words.{upper};
+ghost use Rattle.common.specs.Words.{upper};
 ghost use Rattle.asm_replace.specs.Pieces.{behind};
 ghost use Rattle.asm_replace.specs.Replaced.{replaced, swapped};
 ghost use Rattle.asm_replace.specs.Views.{table, text_of, texts};

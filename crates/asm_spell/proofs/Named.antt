@@ -10,8 +10,8 @@ use Rattle.z80_instr.proofs.Finite.{agree_below}
 use Rattle.asm_line.specs.declared.forms.BlockWord.{BlockWord}
 use Rattle.std.proofs.lemmas.List.Elements.{All-nil, All-cons, All-head, All-tail, All-map, All-weaker}
 use Rattle.std.proofs.lemmas.Str.Ascii.{uppercase-uppercase}
-use Rattle.asm_words.specs.Results.{◌>>=◌}
-use Rattle.asm_words.specs.Words.{upper, is_reserved}
+use Rattle.common.specs.Results.{◌>>=◌}
+use Rattle.common.specs.Words.{upper, is_reserved}
 use Rattle.asm_scan.specs.declared.token.Kind.{Kind}
 use Rattle.asm_scan.specs.Classes.{begins_name, continues_name, is_blank}
 use Rattle.asm_scan.specs.Tokens.{IsName, IsToken, Lexeme}

@@ -7,7 +7,7 @@ use Rattle.asm_scan.specs.declared.token.Token.{Token}
 use Rattle.asm_scan.specs.Tokens.{Lexeme, lexeme, lexemes}
 use Rattle.asm_line.specs.Commas.{open_behind}
 use Rattle.asm_line.specs.Tokens.{is_comma}
-use Rattle.asm_words.specs.Results.{◌>>=◌}
+use Rattle.common.specs.Results.{◌>>=◌}
 use Rattle.asm_spell.specs.declared.fault.StmtFault.{StmtFault}
 use Rattle.asm_spell.specs.Faults.{Fails, each}
 use Rattle.asm_spell.specs.Operands.{pieces, with_first, closed_by_last, is_last}

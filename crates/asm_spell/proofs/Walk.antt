@@ -5,10 +5,10 @@ use Rattle.std.specs.Option.{IfSome, is_some, option_and_then, option_map}
 use Rattle.std.specs.Str.{str_eq_ignore_ascii_case}
 use Rattle.std.specs.List.{list_any}
 use Rattle.std.proofs.lemmas.List.Elements.{All-nil, All-cons}
-use Rattle.asm_words.specs.Words.{upper, is_reserved}
+use Rattle.common.specs.Words.{upper, is_reserved}
 use Rattle.z80_form.specs.Named.{mnemonic_named}
 use Rattle.z80_form.specs.Spelling.{instruction_of}
-use Rattle.asm_words.specs.Results.{◌>>=◌}
+use Rattle.common.specs.Results.{◌>>=◌}
 use Rattle.asm_scan.specs.Tokens.{Lexeme}
 use Rattle.asm_parse.specs.declared.fault.ExprFault.{ExprFault}
 use Rattle.asm_parse.specs.Parsed.{parsed_by}

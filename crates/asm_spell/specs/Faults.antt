@@ -1,7 +1,7 @@
 -- What tokens are refused for, and what a call answers.
 use Rattle.std.specs.Prelude.{◌≡◌, List, [], ◌∷◌, Option, Some, None, Result, Ok, Err}
 use Rattle.asm_parse.specs.declared.fault.ExprFault.{ExprFault}
-use Rattle.asm_words.specs.Results.{◌>>=◌}
+use Rattle.common.specs.Results.{◌>>=◌}
 use Rattle.asm_spell.specs.declared.fault.StmtFault.{StmtFault}
 
 -- the fault of an operand that is no expression

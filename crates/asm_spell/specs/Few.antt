@@ -1,7 +1,7 @@
 -- How many bytes the items of DB and of DW take: those of a line are few.
 use Rattle.std.specs.Prelude.{◌≤◌, ℕ, ◌*◌, length}
 use Rattle.std.specs.List.{sum_by}
-use Rattle.limits.specs.declared.TheConstants.{MOST_BYTES}
+use Rattle.common.specs.declared.limits.TheConstants.{MOST_BYTES}
 use Rattle.asm_spell.specs.Line as line
 use Rattle.asm_spell.specs.Line.{Body, Value}
 

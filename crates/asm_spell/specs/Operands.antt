@@ -5,7 +5,7 @@ use Rattle.asm_scan.specs.declared.token.Mark.{Mark}
 use Rattle.asm_scan.specs.Tokens.{Lexeme}
 use Rattle.asm_parse.specs.declared.fault.ExprFault.{ExprFault}
 use Rattle.asm_parse.specs.Parsed.{parsed}
-use Rattle.asm_words.specs.Results.{◌>>=◌}
+use Rattle.common.specs.Results.{◌>>=◌}
 use Rattle.asm_line.specs.Commas.{open_behind}
 use Rattle.asm_line.specs.Tokens.{is_name, is_comma}
 use Rattle.z80_instr.specs.declared.IndexRegister.{IndexRegister}

@@ -5,8 +5,8 @@ use Rattle.std.specs.List.{cons_option, list_any, filter_map}
 use Rattle.asm_scan.specs.Tokens.{Lexeme}
 use Rattle.asm_parse.specs.declared.item.Item.{Item}
 use Rattle.asm_parse.specs.Source.{Name}
-use Rattle.asm_words.specs.Results.{◌>>=◌}
-use Rattle.asm_words.specs.Words.{upper, is_reserved}
+use Rattle.common.specs.Results.{◌>>=◌}
+use Rattle.common.specs.Words.{upper, is_reserved}
 use Rattle.asm_line.specs.Forms as front
 use Rattle.z80_instr.specs.declared.Cond.{Cond}
 use Rattle.z80_instr.specs.declared.ShortCond.{ShortCond}

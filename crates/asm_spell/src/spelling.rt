@@ -4,7 +4,7 @@ ghost use Rattle.std.specs.Prelude.{◌≡◌, IfErr, IfOk, None, Some};
 ghost use Rattle.std.specs.Option.{option_map};
 ghost use Rattle.asm_scan.specs.Tokens.{lexemes};
 ghost use Rattle.std.specs.List.{list_any};
-ghost use Rattle.asm_words.specs.Words.{upper, is_reserved};
+ghost use Rattle.common.specs.Words.{upper, is_reserved};
 ghost use Rattle.asm_spell.specs.Faults.{Gives, IsOfTokens};
 ghost use Rattle.asm_spell.specs.Line.{body_of, line_of, listed_of};
 ghost use Rattle.asm_spell.specs.Spelling.{body_names, defined, has_reserved, labelled, operation, spelled};
@@ -17,7 +17,7 @@ use crate::operand::expression;
 use asm_line::{Form, Head, form_of};
 use asm_parse::KeptName;
 use asm_scan::Token;
-use asm_words::is_reserved;
+use common::is_reserved;
 use std::alloc::{AllocError, Global};
 use z80_form::mnemonic_of;
 

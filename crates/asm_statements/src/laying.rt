@@ -2,7 +2,7 @@
 
 ghost use Rattle.std.specs.Prelude.{◌≡◌, ◌≤◌, ◌++◌, [], All, IfOk, OnOk, count_by, is_some};
 ghost use Rattle.std.specs.List.{cons_option};
-ghost use Rattle.limits.specs.declared.TheConstants.{MOST_STATEMENTS};
+ghost use Rattle.common.specs.declared.limits.TheConstants.{MOST_STATEMENTS};
 ghost use Rattle.asm_expr.specs.Names.{found};
 ghost use Rattle.asm_spell.specs.Line.{body_of, line_of};
 ghost use Rattle.asm_piece.specs.Made.{ref_of};

@@ -18,7 +18,7 @@ use Rattle.asm_scan.specs.Lines.{BeginsTokens, Scans}
 use Rattle.asm_scan.specs.Scanned.{scanned}
 use Rattle.asm_scan.specs.Tokens.{BeginsWithout, IsName, IsNumber, IsToken, Lexeme}
 use Rattle.asm_scan.proofs.Cuts.{scans}
-use Rattle.asm_words.specs.Words.{upper}
+use Rattle.common.specs.Words.{upper}
 use Rattle.asm_line.specs.Tokens.{is_name}
 use Rattle.asm_replace.proofs.Fronts.{whole_line}
 use Rattle.asm_replace.proofs.Lines.{after_token}

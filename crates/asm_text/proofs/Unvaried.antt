@@ -11,7 +11,7 @@ use Rattle.asm_scan.specs.Lines.{Cut, Scans}
 use Rattle.asm_scan.specs.Scanned.{scanned}
 use Rattle.asm_scan.specs.Tokens.{Lexeme}
 use Rattle.asm_scan.proofs.Cuts.{scans}
-use Rattle.asm_words.specs.Words.{upper}
+use Rattle.common.specs.Words.{upper}
 use Rattle.asm_line.specs.Forms.{Form, form, headed, labelled, worded}
 use Rattle.asm_line.specs.Tokens.{is_colon, is_name, is_word}
 use Rattle.asm_text.specs.declared.matching.Role.{Role}

@@ -2,7 +2,7 @@
 
 ghost use Rattle.std.specs.Prelude.{◌≡◌, ◌<◌, ◌≤◌, ◌+◌, IfOk, IfSome, None, length};
 ghost use Rattle.std.specs.Option.{option_map};
-ghost use Rattle.limits.specs.declared.TheConstants.{LONGEST_TEXT};
+ghost use Rattle.common.specs.declared.limits.TheConstants.{LONGEST_TEXT};
 ghost use Rattle.asm_text.specs.Sections.Blocks.{body_of, branches_of};
 ghost use Rattle.asm_text.specs.Sections.Books.{IsBook};
 ghost use Rattle.asm_text.specs.Kept.{IsCall};

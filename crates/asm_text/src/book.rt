@@ -2,7 +2,7 @@
 
 ghost use Rattle.std.specs.Prelude.{◌≡◌, ◌≤◌, ◌-◌, ◌<◌, ℕ, IfOk, List, OnOk, Option, Some, length, true};
 ghost use Rattle.std.specs.Option.{option_map};
-ghost use Rattle.limits.specs.declared.TheConstants.{LONGEST_TEXT};
+ghost use Rattle.common.specs.declared.limits.TheConstants.{LONGEST_TEXT};
 ghost use Rattle.asm_text.specs.Nesting.Blocks.{between};
 ghost use Rattle.asm_replace.specs.Replaced.{Table};
 ghost use Rattle.asm_text.specs.Kept.{IsCall};

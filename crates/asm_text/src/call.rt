@@ -14,8 +14,8 @@ use crate::plain::Plain;
 use crate::span::Span;
 use crate::varying::{Varying, varying_of};
 use asm_replace::{Names, Replacements};
+use common::NameKey;
 use indexmap::IndexMap;
-use name_key::NameKey;
 use std::alloc::{AllocError, Global};
 use std::rc::Rc;
 

@@ -10,7 +10,7 @@ use Rattle.cpm_operations.specs.declared.placement.Placement.{Placement}
 use Rattle.cpm_directory.specs.declared.fault.DiskFault.TheVariants as fault
 use Rattle.cpm_directory.specs.Entries.{at, block, erased, has_record, is_extent_of, is_match, is_of, is_read_only, marked, new_extent, place_on_disk, renamed, with_record}
 use Rattle.cpm_directory.specs.Searches.{file_is_read_only, free_block, free_entry, is_file}
-pub use Rattle.results.specs.Results.{◌>>=◌}
+pub use Rattle.common.specs.Results.{◌>>=◌}
 
 -- goes on where a test holds, else refuses
 abbrev pub unless : {A : Type 0} → Bool → DiskFault → Result A DiskFault → Result A DiskFault

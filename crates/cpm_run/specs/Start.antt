@@ -1,7 +1,7 @@
 -- The state in which a program begins under CP/M 2.2.
 use Rattle.std.specs.Prelude.{◌≡◌, ◌*◌, ◌≤◌, ◌<◌, ℕ, List, [], ◌∷◌, Result, Ok, Err, length, replicate, slice_index_or}
 use Rattle.std.specs.List.{flat_map, range_with_len}
-use Rattle.limits.specs.declared.TheConstants.{LONGEST_PROGRAM}
+use Rattle.common.specs.declared.limits.TheConstants.{LONGEST_PROGRAM}
 use Rattle.z80_cpu.specs.declared.registers.Cpu.{Cpu}
 use Rattle.z80_cpu.specs.Cleared.{cleared}
 use Rattle.cpm_fcb.specs.Bytes.{with_bytes}

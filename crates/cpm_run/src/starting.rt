@@ -1,15 +1,15 @@
 //! The state in which a program begins.
 
 ghost use Rattle.std.specs.Prelude.{◌≡◌, ◌≤◌, IfOk, length, map};
-ghost use Rattle.limits.specs.declared.TheConstants.{LONGEST_PROGRAM};
+ghost use Rattle.common.specs.declared.limits.TheConstants.{LONGEST_PROGRAM};
 ghost use Rattle.cpm_run.specs.Start.{IsStart, start_cpu, start_memory, word_at};
 ghost use Rattle.cpm_run.specs.Words.{control, tail_of};
 ghost use Rattle.cpm_run.specs.declared.words.TheConstants.{LONGEST_TAIL};
 
 use crate::fault::StartFault;
 use crate::words::{LONGEST_TAIL, control, tail_of, upper};
+use common::LONGEST_PROGRAM;
 use cpm_fcb::put_bytes;
-use limits::LONGEST_PROGRAM;
 use std::alloc::{AllocError, Global};
 use z80_cpu::{Cpu, Memory};
 

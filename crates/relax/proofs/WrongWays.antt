@@ -2,7 +2,7 @@
 -- and judging ranges or the total with every jump long. Each is an answer that is no growth of the shape named here.
 use Rattle.std.proofs.Common.{◌≡◌, ◌≢◌, ℕ, zero, suc, Bool, true, false, List, [], ◌∷◌, Some, refl, sym, ap, subst, ◌∙◌, arith}
 use Rattle.std.specs.List.{slice_get}
-use Rattle.limits.specs.declared.TheConstants.{LONGEST_PROGRAM}
+use Rattle.common.specs.declared.limits.TheConstants.{LONGEST_PROGRAM}
 use Rattle.ruler.specs.declared.shape.Statement.{Statement}
 use Rattle.ruler.specs.declared.shape.Statement.TheVariants.{Fixed, Jump, Short}
 use Rattle.ruler.specs.Choice.{Choice, bytes_before, chosen, total, IsJump, IsNear, IsShort, IsSettled, Reaches}

@@ -1,7 +1,7 @@
 use Rattle.std.specs.Prelude.{◌≡◌, ℕ, zero, suc, ◌+◌, ◌<◌, ◌≤◌, All, Bool, false, if◌then◌else◌, List, length, Some, slice_get}
 use Rattle.std.specs.List.{slice_index_or}
 use Rattle.std.specs.Option.{option_map_or}
-use Rattle.limits.specs.declared.TheConstants.{FIRST_PLACE, LONGEST_PROGRAM, MOST_BYTES, MOST_STATEMENTS}
+use Rattle.common.specs.declared.limits.TheConstants.{FIRST_PLACE, LONGEST_PROGRAM, MOST_BYTES, MOST_STATEMENTS}
 use Rattle.ruler.specs.declared.shape.Statement.{Statement}
 use Rattle.ruler.specs.declared.shape.Statement.TheVariants.{Fixed, Jump, Short}
 

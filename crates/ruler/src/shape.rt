@@ -1,6 +1,6 @@
 //! What the sizes of a program depend on.
 
-use limits::MOST_STATEMENTS;
+use common::MOST_STATEMENTS;
 use std::marker::Model;
 
 /// One statement of a program, as far as sizes go. Targets are numbers of statements, counted from 0; the count of all
@@ -17,7 +17,7 @@ pub enum Statement {
 
 impl Statement {
     ghost use Rattle.std.specs.Prelude.{◌≡◌, ◌≤◌, ◌↔◌, IsTrue};
-    ghost use Rattle.limits.specs.declared.TheConstants.{MOST_BYTES};
+    ghost use Rattle.common.specs.declared.limits.TheConstants.{MOST_BYTES};
     ghost use Rattle.ruler.specs.Choice.{size_of, IsStatement};
 
     /// Whether it may stand in a program of `count` statements.

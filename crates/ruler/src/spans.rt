@@ -1,7 +1,7 @@
 //! How far each jump of a program goes, kept up while jumps grow.
 
 ghost use Rattle.std.specs.Prelude.{◌≡◌, ℕ, ◌+◌, ◌<◌, ◌≤◌, true, false, length, vec_len, min, slice_index, IfOk};
-ghost use Rattle.limits.specs.declared.TheConstants.{MOST_STATEMENTS};
+ghost use Rattle.common.specs.declared.limits.TheConstants.{MOST_STATEMENTS};
 ghost use Rattle.ruler.specs.Choice.{IsShape};
 ghost use Rattle.ruler.specs.Private.Spans.{AreTargets, ArePlaces, AreSpans, Widened};
 

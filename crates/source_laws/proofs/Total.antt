@@ -1,7 +1,7 @@
 -- Each text has an expansion.
 use Rattle.std.proofs.Common.{◌≡◌, ◌<◌, ◌≤◌, ◌+◌, if◌then◌else◌, refl, ℕ, zero, suc, Bool, true, false, nat_le, List, [], ◌∷◌, ◌++◌, length, arith}
 use Rattle.std.proofs.lemmas.Bool.{leb-false, leb-true}
-use Rattle.limits.specs.declared.TheConstants.{LONGEST_TEXT}
+use Rattle.common.specs.declared.limits.TheConstants.{LONGEST_TEXT}
 use Rattle.asm_macro.specs.declared.expansion.TheConstants.{MOST_LINES}
 use Rattle.asm_text.specs.Lines.{Numbered, form_of}
 use Rattle.asm_text.specs.Roles.{is_alone}

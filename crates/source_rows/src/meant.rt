@@ -4,7 +4,7 @@ use crate::lines::{layout_of, lines_of};
 use anyhow::{Context, anyhow};
 use asm_expr::Meaning;
 use asm_names::{Layout, SettledNames, names_of, settle_names, turns_of};
-use limits::MOST_STATEMENTS;
+use common::MOST_STATEMENTS;
 use std::alloc::Global;
 use std::io::Write;
 

@@ -1,7 +1,7 @@
 -- A text that is read piece by piece.
 use Rattle.std.proofs.Common.{◌≡◌, ℕ, ◌+◌, ◌≤◌, Bool, false, List, Option, length}
 use Rattle.std.specs.Io.KnownBytes.{Consumes}
-use Rattle.limits.specs.declared.TheConstants.{LONGEST_TEXT}
+use Rattle.common.specs.declared.limits.TheConstants.{LONGEST_TEXT}
 
 -- What was read is what the reader gave, and is within the limit; it has not failed, and each turn is one read, which gave a byte at
 -- least or was interrupted.

@@ -1,6 +1,6 @@
 -- How printing the file of a text ends.
 use Rattle.std.specs.Prelude.{◌≡◌, ℕ, ◌<◌, ◌⊎◌, List, length, Option, None, Some, Result, Ok, Err}
-use Rattle.limits.specs.declared.TheConstants.{LONGEST_TEXT}
+use Rattle.common.specs.declared.limits.TheConstants.{LONGEST_TEXT}
 use Rattle.streams.specs.Stream.{Stream}
 use Rattle.streams.specs.Writing.{PutsAll, PutsFront}
 use Rattle.z80dev.specs.declared.fault.Fault.{Fault}

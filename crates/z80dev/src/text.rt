@@ -6,7 +6,7 @@ ghost use Rattle.z80dev.specs.Reading.{IsUnread, IsWithin};
 ghost use Rattle.z80dev.specs.declared.text.TheConstants.{MOST_READS};
 
 use crate::fault::Fault;
-use limits::LONGEST_TEXT;
+use common::LONGEST_TEXT;
 use std::alloc::Global;
 use streams::{Input, ReadFault};
 

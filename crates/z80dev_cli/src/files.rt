@@ -4,7 +4,7 @@ mod lock;
 mod part;
 
 ghost use Rattle.std.specs.Prelude.{◌≡◌, ◌≤◌, IfOk, None, length, option_map, string_bytes};
-ghost use Rattle.limits.specs.declared.TheConstants.{LONGEST_TEXT};
+ghost use Rattle.common.specs.declared.limits.TheConstants.{LONGEST_TEXT};
 ghost use Rattle.streams.specs.Stream.{counted};
 ghost use Rattle.z80dev_finish.specs.Files.{IsLockWanted};
 ghost use Rattle.z80dev_cli.specs.Host.{lock_in, part_in};

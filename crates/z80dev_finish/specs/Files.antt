@@ -1,7 +1,7 @@
 -- Files by their paths, and what reading and writing one does.
 use Rattle.std.specs.Prelude.{◌≡◌, ◌≢◌, ◌⊎◌, ℕ, ◌<◌, ◌≤◌, Bool, true, false, All, IfSome, List, [], ◌∷◌, ◌++◌, Option, None, Some, Result, Ok, Err, Vec, length}
 use Rattle.std.specs.Global.{Global}
-use Rattle.limits.specs.declared.TheConstants.{LONGEST_TEXT}
+use Rattle.common.specs.declared.limits.TheConstants.{LONGEST_TEXT}
 use Rattle.streams.specs.Stream.{counted}
 use Rattle.streams.specs.declared.writing.WriteFailed.{WriteFailed}
 use Rattle.z80dev_finish.specs.declared.files.Unread.{Unread}

@@ -5,7 +5,7 @@ ghost use Rattle.streams.specs.Stream.{counted};
 ghost use Rattle.z80dev_jobs.specs.Memory.{Finds, file_of, files_of, folder_of};
 ghost use Rattle.z80dev_jobs.specs.Private.Kept.{Copies, Keeps, KeepsPart, TakesLock};
 
-use limits::LONGEST_TEXT;
+use common::LONGEST_TEXT;
 use std::alloc::{AllocError, Global};
 use streams::WriteFailed;
 use z80dev_finish::{Claimed, Files, Placed, Unread};

@@ -1,6 +1,6 @@
 -- Turns of a program by its statements: where each leads, by flags, B and places. No byte is decoded.
 use Rattle.std.specs.Prelude.{◌≡◌, ℕ, zero, suc, ◌+◌, Bool, true, if◌then◌else◌, List, Option, Some, None, length, nat_eq, slice_get, slice_range}
-use Rattle.limits.specs.declared.TheConstants.{FIRST_PLACE}
+use Rattle.common.specs.declared.limits.TheConstants.{FIRST_PLACE}
 use Rattle.z80_instr.specs.declared.Instr.{Instr}
 use Rattle.z80_instr.specs.declared.ShortCond.{ShortCond}
 use Rattle.z80_cpu.specs.Types.{Flags}

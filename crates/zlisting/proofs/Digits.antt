@@ -2,7 +2,7 @@
 use Rattle.std.proofs.Common.{◌≡◌, ◌∙◌, ◌+◌, ◌-◌, ◌<◌, ◌≤◌, ℕ, zero, suc, List, [], ◌∷◌, ◌++◌, length, get_or, map, min, take, drop, refl, ap, arith, append_assoc}
 use Rattle.std.specs.List.{flat_map}
 use Rattle.std.proofs.lemmas.List.{length-map, map-append, take-map}
-use Rattle.limits.specs.declared.TheConstants.{FIRST_PLACE}
+use Rattle.common.specs.declared.limits.TheConstants.{FIRST_PLACE}
 use Rattle.hex.specs.Hex.{encode_upper, encode_with}
 use Rattle.zlisting.specs.declared.cells.Cell.{Cell}
 use Rattle.zlisting.specs.Printed.{address_text, blanks, left_in, listed_line, margin, row, rows}

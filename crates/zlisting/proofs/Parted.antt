@@ -3,7 +3,7 @@ use Rattle.std.proofs.Common.{◌≡◌, ◌∙◌, ◌+◌, ◌-◌, ◌<◌, �
 use Rattle.std.specs.List.{flat_map}
 use Rattle.std.proofs.lemmas.List.{drop_more, map-append}
 use Rattle.std.proofs.lemmas.List.Elements.{filter-append}
-use Rattle.limits.specs.declared.TheConstants.{FIRST_PLACE}
+use Rattle.common.specs.declared.limits.TheConstants.{FIRST_PLACE}
 use Rattle.zlisting.specs.declared.cells.Cell.{Cell}
 use Rattle.zlisting.specs.Printed.{Byte}
 use Rattle.zlisting.specs.Listing.{Part, between, bytes_of, line_bytes}

@@ -1,7 +1,7 @@
 -- The listing of a program.
 use Rattle.std.specs.Prelude.{ℕ, ◌-◌, ◌==◌, ◌&&◌, List, [], ◌∷◌, Option, Some, None, filter, map, take, drop}
 use Rattle.std.specs.List.{enumerate_from, flat_map, zip}
-use Rattle.limits.specs.declared.TheConstants.{FIRST_PLACE}
+use Rattle.common.specs.declared.limits.TheConstants.{FIRST_PLACE}
 use Rattle.asm_macro.specs.Texts.{source_lines}
 use Rattle.zlink.specs.Built.{Origin, origin_of}
 use Rattle.zlink.specs.declared.building.Built as built

@@ -7,7 +7,7 @@ ghost use Rattle.zlisting.specs.Listing.{between, bytes_of};
 ghost use Rattle.zlisting.specs.Listing as spec;
 ghost use Rattle.zlisting.specs.Private.Runs.{Ascends, HasLines, IsBehind, cell_of, cells_in, is_before, is_on};
 
-use limits::FIRST_PLACE;
+use common::FIRST_PLACE;
 use std::alloc::{AllocError, Global};
 use zlink::Origin;
 

@@ -8,7 +8,7 @@ ghost use Rattle.zlisting.specs.Printed as spec;
 ghost use Rattle.zlisting.specs.Private.Runs.{byte_of};
 
 use crate::cells::Cell;
-use limits::FIRST_PLACE;
+use common::FIRST_PLACE;
 use std::alloc::{AllocError, Global};
 
 /// The most bytes of a row.

@@ -4,7 +4,7 @@ use Rattle.std.specs.List.{IsDistinct}
 use Rattle.std.specs.List.Sorted.{IsStrictlyIncreasing}
 use Rattle.std.specs.Option.{IfSome}
 use Rattle.std.specs.Str.{bytes_eq}
-use Rattle.limits.specs.declared.TheConstants.{MOST_BYTES, MOST_NAMES, MOST_STATEMENTS}
+use Rattle.common.specs.declared.limits.TheConstants.{MOST_BYTES, MOST_NAMES, MOST_STATEMENTS}
 use Rattle.asm_parse.specs.Names.{IsDefinable}
 use Rattle.z80_instr.specs.declared.Branch.{Branch}
 use Rattle.zmo_module.specs.declared.module.TheConstants.{LONGEST_NAME}

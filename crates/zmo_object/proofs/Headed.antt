@@ -2,7 +2,7 @@
 use Rattle.std.proofs.Common.{◌≡◌, ◌≤◌, ◌<◌, ◌+◌, ◌-◌, ◌%◌, ◌==◌, ℕ, zero, suc, Bool, true, false, cond, leb, ltb, List, [], ◌∷◌, ◌++◌, Option, Some, None, Ok, length, refl, sym, ap, ◌∙◌, append_assoc, arith}
 use Rattle.std.specs.Option.{IfSome, is_some}
 use Rattle.std.proofs.lemmas.Bool.{ltb-true}
-use Rattle.limits.specs.declared.TheConstants.{MOST_NAMES, MOST_STATEMENTS}
+use Rattle.common.specs.declared.limits.TheConstants.{MOST_NAMES, MOST_STATEMENTS}
 use Rattle.zmo_object.specs.Fields.Texts.{counted, word}
 use Rattle.zmo_object.specs.Fields.Field.{IsBytes, byte_at, counted_at, number_at, word_at}
 use Rattle.zmo_object.proofs.Fields.Taken.{Reads, Takes, byte_takes, counted_again, counted_takes, is_below, joins, kept_again, kept_takes, number_again, number_takes, then_is, then_takes, word_again, word_takes}

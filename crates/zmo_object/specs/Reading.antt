@@ -3,9 +3,9 @@ use Rattle.std.specs.Prelude.{◌≡◌, ℕ, ◌+◌, ◌-◌, ◌%◌, ◌==�
 use Rattle.std.specs.List.{list_all, list_any}
 use Rattle.std.specs.Option.{option_and_then}
 use Rattle.std.specs.Str.{bytes_eq}
-use Rattle.limits.specs.declared.TheConstants.{MOST_BYTES, MOST_NAMES, MOST_STATEMENTS}
-use Rattle.asm_words.specs.Results.{◌>>=◌}
-use Rattle.asm_words.specs.Words.{is_reserved, upper}
+use Rattle.common.specs.declared.limits.TheConstants.{MOST_BYTES, MOST_NAMES, MOST_STATEMENTS}
+use Rattle.common.specs.Results.{◌>>=◌}
+use Rattle.common.specs.Words.{is_reserved, upper}
 use Rattle.asm_scan.specs.Classes.{begins_name, continues_name}
 use Rattle.asm_parse.specs.declared.item.Item.{Item}
 use Rattle.asm_value.specs.declared.atom.Atom.{Atom}

@@ -10,7 +10,7 @@ ghost use Rattle.zmo_object.specs.Private.{FitsHeader, counts_of, header_of};
 use crate::field::{byte, counted, number, word};
 use crate::field_fault::FieldFault;
 use crate::put::{put_byte, put_counted, put_word};
-use limits::{MOST_NAMES, MOST_STATEMENTS};
+use common::{MOST_NAMES, MOST_STATEMENTS};
 use std::alloc::AllocError;
 use zmo_module::Module;
 

@@ -17,7 +17,7 @@ use crate::names::Names;
 use crate::put::{put_counted, put_word};
 use crate::room::room;
 use asm_parse::is_name;
-use name_key::NameKey;
+use common::NameKey;
 use std::alloc::{AllocError, Global};
 use zmo_module::Label;
 

@@ -12,7 +12,7 @@ use crate::field::{byte, number, run, word};
 use crate::field_fault::FieldFault;
 use crate::hole::{holes, put_holes};
 use crate::put::{put_byte, put_word};
-use limits::MOST_BYTES;
+use common::MOST_BYTES;
 use std::alloc::{AllocError, Global};
 use zmo_module::{Branch, Hole, ShortCond, Statement};
 

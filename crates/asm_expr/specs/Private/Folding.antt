@@ -1,6 +1,6 @@
 -- How the code reduces an expression, item by item.
 use Rattle.std.specs.Prelude.{◌≡◌, ℕ, ◌+◌, ◌-◌, List, [], ◌∷◌, Option, Some, None, Result, Ok, Err, if◌then◌else◌, length, slice_get}
-use Rattle.asm_words.specs.Results.{◌>>=◌}
+use Rattle.common.specs.Results.{◌>>=◌}
 use Rattle.asm_parse.specs.declared.fault.ExprFault.{ExprFault}
 use Rattle.asm_parse.specs.declared.operator.Unary.{Unary}
 use Rattle.asm_parse.specs.declared.operator.Binary.{Binary}

@@ -1,6 +1,6 @@
 -- What an expansion says of its text.
 use Rattle.std.proofs.Common.{◌≤◌, ℕ, List, Ok, Err, length}
-use Rattle.limits.specs.declared.TheConstants.{LONGEST_TEXT}
+use Rattle.common.specs.declared.limits.TheConstants.{LONGEST_TEXT}
 use Rattle.asm_macro.specs.declared.fault.MacroFault.{MacroFault}
 use Rattle.asm_macro.specs.Expands.{IsDone, IsExpanded, IsExpansion, End, long, short}
 use Rattle.asm_text.specs.Lines.{Numbered}

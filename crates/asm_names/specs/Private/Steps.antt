@@ -1,6 +1,6 @@
 -- Definitions and lines taken up one after the other.
 use Rattle.std.specs.Prelude.{◌≡◌, ◌<◌, ◌≤◌, ◌+◌, true, false, ℕ, List, [], ◌∷◌, ◌++◌, Option, Some, None, Result, Ok, Err, if◌then◌else◌, count_by, length, map}
-use Rattle.limits.specs.declared.TheConstants.{MOST_STATEMENTS}
+use Rattle.common.specs.declared.limits.TheConstants.{MOST_STATEMENTS}
 use Rattle.asm_spell.specs.Line.{Line}
 use Rattle.asm_names.specs.declared.fault.NameFault.{NameFault}
 use Rattle.asm_names.specs.declared.naming.Naming.{Naming}

@@ -3,7 +3,7 @@
 ghost use Rattle.std.specs.Prelude.{◌≡◌, ◌≤◌, ℕ, List, None, Some, count_by, length, map, slice_get};
 ghost use Rattle.std.specs.List.{IsDistinct};
 ghost use Rattle.std.specs.Str.{bytes_eq};
-ghost use Rattle.limits.specs.declared.TheConstants.{MOST_NAMES, MOST_STATEMENTS};
+ghost use Rattle.common.specs.declared.limits.TheConstants.{MOST_NAMES, MOST_STATEMENTS};
 ghost use Rattle.asm_names.specs.Faults.{first_fault};
 ghost use Rattle.asm_names.specs.Lines.{Taken, has_statement};
 ghost use Rattle.asm_spell.specs.Line.{Equ, Expression};

@@ -12,7 +12,7 @@ use Rattle.z80_form.specs.declared.field.Field.{Field}
 use Rattle.z80_form.specs.Numbers.{allows}
 use Rattle.zmo_module.specs.declared.hole.Width.{Width}
 use Rattle.zmo_module.specs.Holes.{ends_in_byte}
-use Rattle.asm_words.specs.Results.{◌>>=◌}
+use Rattle.common.specs.Results.{◌>>=◌}
 use Rattle.asm_parse.specs.declared.fault.ExprFault.{ExprFault}
 use Rattle.asm_parse.specs.declared.item.Item.{Item}
 use Rattle.asm_parse.specs.declared.operator.Binary.{Binary}

@@ -1,6 +1,6 @@
 -- What a statement is known to keep by its line and by the code's types.
 use Rattle.std.specs.Prelude.{◌≤◌, Some}
-use Rattle.limits.specs.declared.TheConstants.{MOST_BYTES}
+use Rattle.common.specs.declared.limits.TheConstants.{MOST_BYTES}
 use Rattle.asm_statements.specs.Program.Spelled.{IsSpelled}
 use Rattle.asm_spell.specs.Few.{IsFew}
 use Rattle.asm_spell.specs.Line as line

@@ -1,7 +1,7 @@
 -- Lines that are looked through, and the texts within them.
 use Rattle.std.proofs.Common.{◌≡◌, ◌<◌, ◌≤◌, ◌+◌, ◌-◌, ◌∙◌, sym, ap, refl, ℕ, zero, suc, List, [], ◌∷◌, Option, map, take, drop, length, arith, length-take, length-drop, ◌^◌, None, get_or}
 use Rattle.std.proofs.lemmas.List.{drop-map, length-map, take-map}
-use Rattle.limits.specs.declared.TheConstants.{LONGEST_TEXT}
+use Rattle.common.specs.declared.limits.TheConstants.{LONGEST_TEXT}
 use Rattle.asm_text.specs.declared.matching.Role.{Role}
 use Rattle.asm_text.specs.Nesting.Blocks.{between}
 use Rattle.asm_replace.specs.Replaced.{Table}

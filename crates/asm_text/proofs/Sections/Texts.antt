@@ -2,7 +2,7 @@
 use Rattle.std.proofs.Common.{◌≡◌, ◌<◌, ◌≤◌, ◌+◌, ◌-◌, ◌∙◌, sym, ap, refl, ℕ, zero, suc, List, [], ◌∷◌, Option, Some, length, take, drop, get_or, arith, length-take, length-drop, ◌++◌, append_assoc, append-nil, get_or-take, drop_of_length-le}
 use Rattle.std.specs.Option.{unwrap_or}
 use Rattle.std.proofs.lemmas.List.{drop_more, drop-take, get_or-drop, length-map}
-use Rattle.limits.specs.declared.TheConstants.{LONGEST_TEXT}
+use Rattle.common.specs.declared.limits.TheConstants.{LONGEST_TEXT}
 use Rattle.asm_text.specs.declared.matching.Role.{Role}
 use Rattle.asm_replace.specs.Replaced.{Table}
 use Rattle.asm_text.specs.declared.span.Span.{Span}

@@ -1,6 +1,6 @@
 -- What is found of the least choice.
 use Rattle.std.specs.Prelude.{◌≡◌, ℕ, ◌<◌, ◌≤◌, List}
-use Rattle.limits.specs.declared.TheConstants.{LONGEST_PROGRAM}
+use Rattle.common.specs.declared.limits.TheConstants.{LONGEST_PROGRAM}
 use Rattle.ruler.specs.declared.shape.Statement.{Statement}
 use Rattle.relax.specs.declared.growth.Verdict.{Verdict}
 use Rattle.relax.specs.declared.growth.Verdict.TheVariants.{Best, Range, TooLarge}

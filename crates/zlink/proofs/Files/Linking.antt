@@ -10,7 +10,7 @@ use Rattle.std.proofs.lemmas.List.Elements.{All-map, All-weaker, recursion_from_
 use Rattle.std.proofs.lemmas.List.Sums.{sum_by_more, sum_by_more_le}
 use Rattle.std.proofs.lemmas.Option.{get_or_from_slice_get, slice_get-get_or, slice_get-map, slice_get_within}
 use Rattle.std.proofs.lemmas.Slice.Zip.{AllZip-left, AllZip-long}
-use Rattle.limits.specs.declared.TheConstants.{MOST_STATEMENTS}
+use Rattle.common.specs.declared.limits.TheConstants.{MOST_STATEMENTS}
 use Rattle.ruler.specs.declared.shape.Statement.{Statement as Sized}
 use Rattle.ruler.specs.declared.shape.Statement.TheVariants as sized
 use Rattle.ruler.specs.Choice.{IsShape, IsStatement as IsSized}

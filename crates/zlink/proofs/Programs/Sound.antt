@@ -7,7 +7,7 @@ use Rattle.std.specs.Str.{bytes_eq}
 use Rattle.std.proofs.lemmas.Bool.{ltb-false, leb-true}
 use Rattle.std.proofs.lemmas.List.Elements.{All-append, All-cons, All-get_or, All-head, All-map, All-nil, All-tail, All-weaker}
 use Rattle.std.proofs.lemmas.Map.Entries.{All-lookup}
-use Rattle.limits.specs.declared.TheConstants.{MOST_STATEMENTS}
+use Rattle.common.specs.declared.limits.TheConstants.{MOST_STATEMENTS}
 use Rattle.zmo_module.specs.Modules.{Module}
 use Rattle.zmo_module.specs.Rules.{IsLabel, IsModule, IsStatement, refs_of}
 use Rattle.zlink.specs.declared.program.fault.JoinFault.{JoinFault}

@@ -1,6 +1,6 @@
 -- What the refs of one module stand for, from what is kept of it.
 use Rattle.std.specs.Prelude.{ℕ, ◌+◌, ◌-◌, ◌<◌, ◌≤◌, List, ◌++◌, if◌then◌else◌, length, map, nat_le, slice_index, slice_range}
-use Rattle.limits.specs.declared.TheConstants.{MOST_BYTES}
+use Rattle.common.specs.declared.limits.TheConstants.{MOST_BYTES}
 use Rattle.zmo_module.specs.Modules as object
 use Rattle.zmo_module.specs.Modules.{Statement}
 

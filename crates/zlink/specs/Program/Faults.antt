@@ -2,7 +2,7 @@
 use Rattle.std.specs.Prelude.{◌≡◌, ◌&&◌, Bool, not, ◌==◌, List, [], ◌∷◌, Option, Some, None, Result, Ok, Err, if◌then◌else◌, is_some, length, nat_lt, take}
 use Rattle.std.specs.List.{enumerate_from, sum_by}
 use Rattle.std.specs.Option.{option_and_then}
-use Rattle.limits.specs.declared.TheConstants.{MOST_STATEMENTS}
+use Rattle.common.specs.declared.limits.TheConstants.{MOST_STATEMENTS}
 use Rattle.zmo_module.specs.Modules.{Module}
 use Rattle.zlink.specs.declared.program.fault.JoinFault.{JoinFault}
 use Rattle.zlink.specs.declared.program.joining.Links.{Links}

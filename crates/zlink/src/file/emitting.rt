@@ -14,7 +14,7 @@ use crate::file::piece::put_statement;
 use crate::file::refs::fill_table;
 use crate::laws::{laid_out, within};
 use crate::program::Links;
-use limits::FIRST_PLACE;
+use common::FIRST_PLACE;
 use std::alloc::{AllocError, Global};
 use zmo_module::{Module, Statement};
 

@@ -1,7 +1,7 @@
 //! Where the statements of a whole stand.
 
 ghost use Rattle.std.specs.Prelude.{◌≡◌, ◌&&◌, ◌≤◌, ◌<◌, ◌+◌, ◌++◌, ◌^◌, All, IfOk, None, OnOk, length, map, vec_len};
-ghost use Rattle.limits.specs.declared.TheConstants.{MOST_STATEMENTS};
+ghost use Rattle.common.specs.declared.limits.TheConstants.{MOST_STATEMENTS};
 ghost use Rattle.ruler.specs.Choice.{chosen};
 ghost use Rattle.zmo_module.specs.Modules.{module_of, statement_of};
 ghost use Rattle.zmo_module.specs.Rules.{IsModule};
@@ -15,7 +15,7 @@ ghost use Rattle.zlink.specs.Private.Refs.{IsSizable, stands_by};
 use crate::file::refs::stands;
 use crate::laws::{laid_out, within};
 use crate::program::Links;
-use limits::FIRST_PLACE;
+use common::FIRST_PLACE;
 use ruler::{Shape, Statement};
 use std::alloc::{AllocError, Global};
 use zmo_module::Module;

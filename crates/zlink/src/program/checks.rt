@@ -1,7 +1,7 @@
 //! Faults that are seen without names.
 
 ghost use Rattle.std.specs.Prelude.{◌≡◌, ◌≤◌, All, map};
-ghost use Rattle.limits.specs.declared.TheConstants.{MOST_STATEMENTS};
+ghost use Rattle.common.specs.declared.limits.TheConstants.{MOST_STATEMENTS};
 ghost use Rattle.zmo_module.specs.Modules.{module_of};
 ghost use Rattle.zmo_module.specs.Rules.{IsModule};
 ghost use Rattle.zlink.specs.Program.Faults.{begins_late, enters_late, first_of, too_many};
@@ -10,7 +10,7 @@ ghost use Rattle.zlink.specs.Program.Parts.{parts};
 ghost use Rattle.zlink.specs.Private.Joining.{part, refused};
 
 use crate::program::fault::JoinFault;
-use limits::MOST_STATEMENTS;
+use common::MOST_STATEMENTS;
 use zmo_module::Module;
 
 /// Refuses more statements than a program may have.

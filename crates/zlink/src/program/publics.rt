@@ -1,7 +1,7 @@
 //! The names that modules give to one another.
 
 ghost use Rattle.std.specs.Prelude.{◌≡◌, ◌≤◌, ◌++◌, ◌∷◌, [], All, IfOk, None, OnOk, is_some, map, not};
-ghost use Rattle.limits.specs.declared.TheConstants.{MOST_STATEMENTS};
+ghost use Rattle.common.specs.declared.limits.TheConstants.{MOST_STATEMENTS};
 ghost use Rattle.zmo_module.specs.Modules.{module_of};
 ghost use Rattle.zmo_module.specs.Rules.{IsModule};
 ghost use Rattle.zlink.specs.Program.Faults.{first_of};
@@ -10,8 +10,8 @@ ghost use Rattle.zlink.specs.Program.Parts.{found, given, parts, publics};
 ghost use Rattle.zlink.specs.Private.Joining.{Judges, clashes, once, part};
 
 use crate::program::fault::JoinFault;
+use common::{KeyMixer, NameKey};
 use indexmap::IndexMap;
-use name_key::{KeyMixer, NameKey};
 use std::alloc::{AllocError, Global};
 use std::marker::Model;
 use zmo_module::Module;

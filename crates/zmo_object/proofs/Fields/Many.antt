@@ -1,7 +1,7 @@
 -- Fields read one behind the other, as a loop reads them.
 use Rattle.std.proofs.Common.{◌≡◌, ℕ, suc, ◌-◌, ◌+◌, ◌≤◌, ◌<◌, List, [], ◌∷◌, ◌++◌, Result, Ok, Err, refl, sym, ap, ◌∙◌, append_assoc, arith}
 use Rattle.std.proofs.lemmas.List.{append-nil}
-use Rattle.asm_words.specs.Results.{◌>>=◌}
+use Rattle.common.specs.Results.{◌>>=◌}
 use Rattle.zmo_object.specs.declared.field_fault.FieldFault.{FieldFault}
 use Rattle.zmo_object.specs.declared.field_fault.FieldFault.TheVariants as fault
 use Rattle.zmo_object.specs.Fields.Field.{Fails, Field, many}

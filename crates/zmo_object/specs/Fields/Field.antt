@@ -1,6 +1,6 @@
 -- A field at the front of bytes: its value and the bytes behind it.
 use Rattle.std.specs.Prelude.{◌≡◌, ◌<◌, All, ℕ, ◌+◌, ◌*◌, Bool, ◌&&◌, if◌then◌else◌, nat_lt, nat_le, zero, suc, List, [], ◌∷◌, Option, Some, None, Result, Ok, Err, length, take, drop}
-use Rattle.asm_words.specs.Results.{◌>>=◌}
+use Rattle.common.specs.Results.{◌>>=◌}
 use Rattle.zmo_object.specs.declared.field_fault.FieldFault.{FieldFault}
 use Rattle.zmo_object.specs.declared.field_fault.FieldFault.TheVariants as fault
 

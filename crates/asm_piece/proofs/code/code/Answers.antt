@@ -1,6 +1,6 @@
 use Rattle.std.proofs.Common.{◌+◌, [], ◌∷◌, ◌++◌, Ok, drop, sym, ap, subst, ◌∙◌}
 use Rattle.std.proofs.lemmas.List.{drop_more}
-use Rattle.asm_words.specs.Results.{◌>>=◌}
+use Rattle.common.specs.Results.{◌>>=◌}
 use Rattle.asm_piece.specs.Made.{number_filled}
 use Rattle.asm_piece.proofs.Each.{Numbered, step}
 use Rattle.asm_piece.proofs.code.code.Goals as goal

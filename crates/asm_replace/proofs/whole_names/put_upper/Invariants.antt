@@ -1,5 +1,5 @@
 use Rattle.std.proofs.Common.{◌≡◌, ◌++◌, drop}
-use Rattle.asm_words.specs.Words.{upper}
+use Rattle.common.specs.Words.{upper}
 use Rattle.asm_replace.proofs.whole_names.put_upper.Given as goal
 
 -- What is written, and the rest in upper case, is the whole.

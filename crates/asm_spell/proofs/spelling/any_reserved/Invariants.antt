@@ -1,6 +1,6 @@
 use Rattle.std.proofs.Common.{◌≡◌, drop}
 use Rattle.std.specs.List.{list_any}
-use Rattle.asm_words.specs.Words.{is_reserved}
+use Rattle.common.specs.Words.{is_reserved}
 use Rattle.asm_spell.specs.Line.{listed_of}
 use Rattle.asm_spell.proofs.spelling.any_reserved.Given as goal
 

@@ -1,6 +1,6 @@
 use Rattle.std.proofs.Common.{◌≡◌, ◌∙◌, ◌+◌, ap, map, take, drop}
 use Rattle.std.proofs.lemmas.Result.{on_ok_weaker}
-use Rattle.limits.specs.declared.TheConstants.{FIRST_PLACE}
+use Rattle.common.specs.declared.limits.TheConstants.{FIRST_PLACE}
 use Rattle.hex.specs.Hex.{encode_upper}
 use Rattle.zlisting.specs.declared.cells.Cell.{Cell}
 use Rattle.zlisting.specs.Printed.{address_text}

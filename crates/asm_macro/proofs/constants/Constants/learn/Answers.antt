@@ -1,6 +1,6 @@
 use Rattle.std.proofs.Common.{◌∙◌, ◌++◌, ◌∷◌, [], ap, sym, is_some}
 use Rattle.asm_scan.specs.Tokens.{lexemes}
-use Rattle.asm_words.specs.Words.{upper}
+use Rattle.common.specs.Words.{upper}
 use Rattle.asm_expr.specs.Names.{found}
 use Rattle.asm_macro.specs.Values.{worth}
 use Rattle.asm_macro.specs.Private.Constants.{table_of}

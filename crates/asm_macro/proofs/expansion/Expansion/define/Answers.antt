@@ -2,7 +2,7 @@ use Rattle.std.proofs.Common.{◌≡◌, ◌∙◌, ◌+◌, ◌||◌, nat_lt, a
 use Rattle.std.specs.Map.{lookup}
 use Rattle.std.specs.Option.{option_map}
 use Rattle.std.specs.Str.{bytes_eq}
-use Rattle.asm_words.specs.Words.{is_reserved, upper}
+use Rattle.common.specs.Words.{is_reserved, upper}
 use Rattle.asm_replace.specs.Views.{texts}
 use Rattle.asm_line.specs.Views.{form_seen}
 use Rattle.asm_text.specs.Prepared.{macro_seen, macros_seen}

@@ -1,7 +1,7 @@
 use Rattle.std.proofs.Common.{take, map, ap, ◌∙◌}
 use Rattle.std.proofs.lemmas.List.{take-map}
 use Rattle.std.specs.Char.{to_ascii_uppercase}
-use Rattle.asm_words.specs.Words.{upper}
+use Rattle.common.specs.Words.{upper}
 use Rattle.asm_parse.proofs.short_name.ShortName.make_upper.Goals as goal
 
 pub returns : goal.returns

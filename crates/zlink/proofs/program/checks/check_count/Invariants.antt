@@ -1,5 +1,5 @@
 use Rattle.std.proofs.Common.{◌≤◌, map}
-use Rattle.limits.specs.declared.TheConstants.{MOST_STATEMENTS}
+use Rattle.common.specs.declared.limits.TheConstants.{MOST_STATEMENTS}
 use Rattle.zmo_module.specs.Modules.{module_of}
 use Rattle.zlink.proofs.Programs.Going_on.{Reached, left}
 use Rattle.zlink.proofs.program.checks.check_count.Given as goal

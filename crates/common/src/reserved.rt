@@ -1,7 +1,7 @@
 //! Names that no program defines.
 
 ghost use Rattle.std.specs.Prelude.{◌≡◌};
-ghost use Rattle.asm_words.specs.Words.{is_reserved};
+ghost use Rattle.common.specs.Words.{is_reserved};
 
 /// Whether a name in upper case is a register, a condition or an operator, which no program defines.
 pub fn is_reserved(name: &[u8]) -> bool

@@ -1,5 +1,4 @@
-//! The limits of Z80 programs under CP/M 2.2, and of the modules and texts that they are made of. There is no code here.
-#![tactic(auto)]
+//! The limits of Z80 programs under CP/M 2.2, and of the modules and source files that they are made of.
 
 /// Where a program begins: 0100H, as every program under CP/M.
 pub const FIRST_PLACE: u32 = 0x100;

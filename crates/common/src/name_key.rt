@@ -3,11 +3,10 @@
 //! A table that places its names by a fixed hash is slow where somebody has chosen names that all have one place. So each table
 //! has a key of its own, which hangs on all that may stand in it: whoever changes a name changes the key, and with it every
 //! place. What a table answers hangs on no key.
-#![tactic(auto)]
 
 ghost use Rattle.std.specs.Prelude.{◌≡◌, map};
 ghost use Rattle.std.specs.List.{fold};
-ghost use Rattle.name_key.specs.Keys.{hashed, keyed, nothing};
+ghost use Rattle.common.specs.Keys.{hashed, keyed, nothing};
 
 use std::hash::{BuildHasher, DefaultHasher, FoldHasher, Hasher};
 

@@ -1,2 +1,0 @@
--- One answer after another: the first fault is the whole's.
-pub use Rattle.results.specs.Results.{◌>>=◌}
