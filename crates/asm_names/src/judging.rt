@@ -8,7 +8,7 @@ ghost use Rattle.asm_expr.specs.Settling.{is_known};
 ghost use Rattle.asm_expr.specs.declared.meaning.Meaning.{Meaning};
 ghost use Rattle.asm_names.specs.Private.Judged.{is_named, judged};
 
-use crate::fault::EquFault;
+use crate::equ_fault::EquFault;
 use crate::table::NameTable;
 use asm_expr::{ExprFault, Item, Meaning, Names, Term, TermView, Tree, equate};
 use std::alloc::{AllocError, Global};

@@ -12,7 +12,7 @@ ghost use Rattle.asm_names.specs.Layout.{layout_of};
 ghost use Rattle.asm_names.specs.Settles.{Settles, told};
 ghost use Rattle.asm_names.specs.Private.Turned.{CanTake, Takes, numbered};
 
-use crate::fault::EquFault;
+use crate::equ_fault::EquFault;
 use crate::judging::judge;
 use crate::kind::SourceLine;
 use crate::laws;

@@ -4,7 +4,7 @@ ghost use Rattle.std.specs.Prelude.{◌≡◌, ◌≤◌, ◌++◌, ◌∷◌, [
 ghost use Rattle.asm_value.specs.declared.expr.TheConstants.{MOST_ITEMS};
 ghost use Rattle.zmo_object.specs.Fields.Texts.{word, counted, item_text, expr_text};
 
-use crate::code::{binary_code, unary_code};
+use crate::operator::{binary_code, unary_code};
 use asm_value::{Atom, Expr, Item, MOST_ITEMS, Room, items};
 use byteorder::{ByteOrder, LittleEndian};
 use std::alloc::AllocError;
