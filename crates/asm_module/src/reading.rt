@@ -9,7 +9,7 @@ ghost use Rattle.asm_text.specs.Lines.{Numbered};
 ghost use Rattle.asm_module.specs.Private.Reading.{IsReading, Reads, ReadsLine, is_memory};
 ghost use Rattle.asm_module.specs.Reads.Read as lines;
 
-use crate::fault::LineFault;
+use crate::line_fault::LineFault;
 use asm_macro::{Expander, Line as MacroLine, MacroFault};
 use asm_names::SourceLine;
 use asm_scan::{ScanFault, Token, tokens};

@@ -2,8 +2,8 @@
 
 ghost use Rattle.asm_module.specs.Reads.Source.{IsSourceText};
 
-use crate::fault::LineFault;
 use crate::last::last_listed;
+use crate::line_fault::LineFault;
 use crate::reading::{Reading, read_lines};
 use asm_macro::MacroFault;
 use asm_names::SourceLine;

@@ -2,7 +2,7 @@
 
 ghost use Rattle.zmo_object.specs.Fields.Field.{Finds, byte_at, word_at, number_at, bytes_at, counted_at};
 
-use crate::fault::FieldFault;
+use crate::field_fault::FieldFault;
 use byteorder::{ByteOrder, LittleEndian};
 
 /// A byte.
