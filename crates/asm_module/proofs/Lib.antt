@@ -1,4 +1,4 @@
-mod Reads
+mod Reading_lines
 mod Holding
 mod Placed
 mod Once

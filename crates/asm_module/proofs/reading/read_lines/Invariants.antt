@@ -1,4 +1,4 @@
-use Rattle.asm_module.proofs.Reads.Taking.{Standing}
+use Rattle.asm_module.proofs.Reading_lines.Taking.{Standing}
 use Rattle.asm_macro.specs.Ahead.{most_left}
 use Rattle.asm_module.proofs.reading.read_lines.Given as goal
 

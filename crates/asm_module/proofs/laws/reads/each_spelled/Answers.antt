@@ -1,4 +1,4 @@
-use Rattle.asm_module.proofs.Reads.Kept.{each_read}
+use Rattle.asm_module.proofs.Reading_lines.Kept.{each_read}
 use Rattle.asm_module.proofs.laws.reads.each_spelled.Goals as goal
 
 pub returns : goal.returns

@@ -1,6 +1,6 @@
 use Rattle.std.proofs.Common.{refl, sym, ◌∙◌}
 use Rattle.asm_macro.specs.Ahead.{seen}
-use Rattle.asm_module.proofs.Reads.Taking.{stays, stopped, took}
+use Rattle.asm_module.proofs.Reading_lines.Taking.{stays, stopped, took}
 use Rattle.asm_module.proofs.reading.Reading.take.Goals as goal
 
 pub returns-then-is_some : goal.returns-then-is_some
