@@ -8,20 +8,21 @@ use Rattle.z80dev_commands.specs.declared.Target.{Target}
 use Rattle.z80dev_disk.specs.Refusals.{refusal_text}
 use Rattle.z80dev_disk.specs.declared.refusal.Refusal.{Refusal}
 use Rattle.std.specs.List.{AllZip, concat}
-use Rattle.std.specs.Prelude.{◌⊎◌}
+use Rattle.std.specs.Prelude.{◌⊎◌, ◌==◌}
+use Rattle.std.proofs.lemmas.Bool.{false≢true}
 use Rattle.std.proofs.lemmas.List.{get_or-map, length-map, map-append, take_more}
 use Rattle.cpm_image.specs.Image.{blank_image}
 use Rattle.streams.specs.Stream.{counted}
 use Rattle.streams.specs.declared.writing.WriteFailed.{WriteFailed}
 use Rattle.z80dev_disk.specs.declared.getting.Gotten.{Gotten}
 use Rattle.z80dev_finish.proofs.Stored.{grows_none, grows_trans, none_more}
-use Rattle.z80dev_finish.specs.Files.{Adds, File, Folder, IsUntouched, Stores}
+use Rattle.z80dev_finish.specs.Files.{Adds, File, Folder, IsLockWanted, IsUntouched, Stores}
 use Rattle.z80dev_finish.specs.declared.end.End.{End}
 use Rattle.z80dev_finish.specs.declared.end.End.TheVariants as end
 use Rattle.z80dev_disk.specs.Put.{IsPut as IsPutOn}
 use Rattle.z80dev_disk.specs.Words.{name_of, own_name, pattern_of}
 use Rattle.z80dev_commands.specs.declared.Manner.{Manner}
-use Rattle.z80dev_jobs.specs.Disks.{BlankEnds, BlankIsMade, Changes, ChangesImage, Claiming, IsChanged, Named, NamedAll, NothingDone, PutEnds, Refuses, Warns, GetsMatching, IsWrittenInto, NamedIfGiven, PutAllEnds, ReadsImage, WritesInto, as_put, bad_name, kind_of, path_in, warnings, without_name}
+use Rattle.z80dev_jobs.specs.Disks.{BlankEnds, BlankIsMade, Changes, ChangesImage, Claiming, IsChanged, Named, NamedAll, NothingDone, PutEnds, Refuses, Warns, GetsMatching, IsWrittenInto, NamedIfGiven, PutAllEnds, ReadsImage, WritesInto, as_put, bad_name, kind_of, locked_effect, path_in, warnings, without_name}
 use Rattle.z80dev_jobs.specs.Reading.{IsNotRead, IsOneNotRead, IsRead}
 use Rattle.z80dev_finish.specs.Answers.{Answer, answer_by}
 use Rattle.z80dev_finish.specs.Finishing.{Finishes}
@@ -285,20 +286,30 @@ into_stopped folder gotten k d old mid new file failed lt is so_far (inr this, f
   failures ∙ ap counted so_far.1,
 )
 
+-- the path of a folder that is not empty
+pub not_empty : (path : List ℕ) → (length path == 0) ≡ false → path ≢ []
+not_empty [] same none = false≢true (sym same)
+not_empty (b ∷ rest) same none = absurd cc
+
 -- ---- blank images
+
+-- a lock that is held exactly if it is wanted
+held : (files : Option (List File)) (lock : Bool) → IsLockWanted files lock lock
+held None lock = λ unwanted. unwanted
+held (Some known) lock = refl
 
 pub blank_out : (mega keep lock : Bool) (image : List ℕ) (f : Folder) (o : Stream) (e : End) (result : Result (Option (String Global)) End) → e ≡ end.NoMemory → IsErrAnd result (λ g. g ≡ e)
     → EndsWith (BlankEnds mega keep lock image (effect_of f f o o)) result
 blank_out mega keep lock image f o e result out same =
     let x = effect_of f f o o in
     passed_on (BlankEnds mega keep lock image x) e result same (
-      warnings image 0 (lock && not false),
-      no_line e (warnings image 0 (lock && not false)) (λ done. no_memory (sym out ∙ done)),
+      warnings image 0 (lock && not lock),
+      no_line e (warnings image 0 (lock && not lock)) (λ done. no_memory (sym out ∙ done)),
       (
-        false,
-        (λ _. refl),
+        lock,
+        held f.files lock,
         refl,
-        subst (BlankIsMade image keep (concat (blank_image (kind_of mega))) x) (sym out) (nothing_done f o),
+        subst (BlankIsMade image keep (concat (blank_image (kind_of mega))) (locked_effect image lock x)) (sym out) (nothing_done f o),
       ),
     )
 
@@ -307,11 +318,11 @@ pub blank_unlocked : (mega keep lock : Bool) (image : List ℕ) (old new : Folde
 blank_unlocked mega keep lock image old new o (end.File at last) result (path, no_ending, (adds, failures)) same =
     let x = effect_of old new o o in
     passed_on (BlankEnds mega keep lock image x) (end.File at last) result same
-    (warnings image 0 (lock && not false), refl, (false, (λ _. refl), refl, (refl, path, no_ending, inl adds, failures)))
+    (warnings image 0 (lock && not lock), refl, (lock, held old.files lock, refl, (refl, path, no_ending, inl adds, failures)))
 blank_unlocked mega keep lock image old new o end.NoMemory result nothing same =
     let x = effect_of old new o o in
     passed_on (BlankEnds mega keep lock image x) end.NoMemory result same
-    (warnings image 0 (lock && not false), refl, (false, (λ _. refl), refl, (nothing, refl)))
+    (warnings image 0 (lock && not lock), refl, (lock, held old.files lock, refl, (nothing, refl)))
 blank_unlocked mega keep lock image old new o end.Done result none same = absurd none
 blank_unlocked mega keep lock image old new o (end.Refused said) result none same = absurd none
 blank_unlocked mega keep lock image old new o (end.Path path) result none same = absurd none
