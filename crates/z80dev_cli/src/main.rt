@@ -14,7 +14,9 @@ use words::words_of;
 use z80dev::{End, Watched, WatchedSink, report};
 use z80dev_jobs::{Host, command};
 
-/// The number of standard error, the last of the standard streams.
+/// How many standard streams there are, and the number of the last, which is standard error.
+const STREAMS: usize = 3;
+
 const LAST_STREAM: i32 = 2;
 
 /// Runs the command on the files and streams of the system. Its output is written a line at a time.
@@ -32,19 +34,22 @@ fn run(rt: &HostRuntime) -> Result<u8, AllocError> {
     Ok(command(rt.alloc(), &words, host).status)
 }
 
-/// A folder that is open under the number of a standard stream which was closed; none if that stream is open. Without it the next file
-/// would get that number, and what is printed would be written into that file. A folder can be neither read nor written as a file, so a
-/// closed stream still fails.
-fn placeholder(rt: &HostRuntime) -> Option<File> {
-    match fs::open(rt, "/") {
-        Ok(folder) if folder.as_raw_fd() <= LAST_STREAM => Some(folder),
-        _ => None,
+/// Folders that are open under the numbers of those standard streams that were closed. Without them the next file would get such a number, and
+/// what is printed would be written into that file. A folder can be neither read nor written as a file, so a closed stream still fails.
+fn placeholders(rt: &HostRuntime) -> [Option<File>; STREAMS] {
+    let mut held = [None, None, None];
+    for slot in &mut held {
+        // A file gets the lowest number that is free.
+        match fs::open(rt, "/") {
+            Ok(folder) if folder.as_raw_fd() <= LAST_STREAM => *slot = Some(folder),
+            _ => break,
+        }
     }
+    held
 }
 
 fn main(rt: HostRuntime) -> ExitCode {
-    // The lowest number that is free comes first, so one for each stream is enough.
-    let _placeholders = [placeholder(&rt), placeholder(&rt), placeholder(&rt)];
+    let _placeholders = placeholders(&rt);
     ExitCode::from(match run(&rt) {
         Ok(status) => status,
         Err(_) => report(&End::NoMemory, &mut WatchedSink::new(rt.stderr())),
