@@ -13,12 +13,16 @@ use lock::{HeldLock, is_one_file, take_lock};
 use part::{Part, write_part};
 use std::alloc::{AllocError, Global};
 use std::fs::{self, Metadata};
-use streams::{Watched, WriteFailed};
+use streams::{Watched, WatchedSink, WriteFailed, print};
 use z80dev::{Fault, read_text};
 use z80dev_finish::{Claimed, Files, Placed, Unread};
 
-/// Standard output and standard error, as paths.
-const STREAMS: [&str; 2] = ["/proc/self/fd/1", "/proc/self/fd/2"];
+/// The standard streams as paths.
+const INPUT: &str = "/proc/self/fd/0";
+
+const OUTPUT: &str = "/proc/self/fd/1";
+
+const ERRORS: &str = "/proc/self/fd/2";
 
 /// The files of the system, how often a call failed, and how often a file took the place of another.
 #[derive(Drop)]
@@ -197,32 +201,44 @@ fn claim(
     Ok((lock, bytes))
 }
 
-/// Writes the bytes: to a pipe or a device directly, to a stream of this program at its end, and else as a new file that takes the place of
-/// the path's.
+/// Writes the bytes: to a pipe or a device directly, and else as a new file that takes the place of the path's.
 fn write(rt: &HostRuntime, path: &str, bytes: &[u8]) -> Result<(), WriteFailed> {
     match fs::metadata(rt, path) {
-        Ok(found) if !found.is_file() && !found.is_dir() => write_there(rt, path, bytes, false),
-        Ok(found) if leads_to_stream(rt, path, &found) => write_there(rt, path, bytes, true),
+        Ok(found) if !found.is_file() && !found.is_dir() => {
+            part::write_through(rt, path, bytes)?;
+            Ok(())
+        }
+        Ok(found) if is_link(rt, path) => write_linked(rt, path, bytes, &found),
         _ => part::replace(rt, path, bytes),
     }
 }
 
-/// Writes the bytes to what is there.
-fn write_there(
+/// Whether a path is a symbolic link.
+fn is_link(rt: &HostRuntime, path: &str) -> bool {
+    fs::symlink_metadata(rt, path).is_ok_and(|link| link.is_symlink())
+}
+
+/// Writes the bytes where a link to a file is. If that is the file of a standard stream, as that of `/dev/stdout` may be, the link stays, since
+/// every program of the system needs it. The bytes go to the stream, so what is printed afterwards comes after them.
+fn write_linked(
     rt: &HostRuntime,
     path: &str,
     bytes: &[u8],
-    at_end: bool,
+    found: &Metadata,
 ) -> Result<(), WriteFailed> {
-    part::write_through(rt, path, bytes, at_end)?;
-    Ok(())
+    if is_file_of(rt, OUTPUT, found) {
+        return print(&mut WatchedSink::new(rt.stdout()), bytes);
+    }
+    if is_file_of(rt, ERRORS, found) {
+        return print(&mut WatchedSink::new(rt.stderr()), bytes);
+    }
+    if is_file_of(rt, INPUT, found) {
+        return Err(WriteFailed);
+    }
+    part::replace(rt, path, bytes)
 }
 
-/// Whether a path is a link to the file of standard output or standard error, as `/dev/stdout` may be. To replace such a link would break it
-/// for every program of the system.
-fn leads_to_stream(rt: &HostRuntime, path: &str, found: &Metadata) -> bool {
-    fs::symlink_metadata(rt, path).is_ok_and(|link| link.is_symlink())
-        && STREAMS.iter().any(|stream| fs::metadata(rt, stream).is_ok_and(|file| is_one_file(
-            &file, found,
-        )))
+/// Whether this is the file that a standard stream leads to.
+fn is_file_of(rt: &HostRuntime, stream: &str, found: &Metadata) -> bool {
+    fs::metadata(rt, stream).is_ok_and(|file| is_one_file(&file, found))
 }

@@ -7,7 +7,7 @@ mod words;
 use files::HostFiles;
 use std::alloc::AllocError;
 use std::fs::{self, File};
-use std::io::LineWriter;
+use std::io::{self, LineWriter};
 use std::os::fd::AsRawFd;
 use std::process::ExitCode;
 use words::words_of;
@@ -34,13 +34,18 @@ fn run(rt: &HostRuntime) -> Result<u8, AllocError> {
     Ok(command(rt.alloc(), &words, host).status)
 }
 
+/// Opens something that is there on nearly every system. A program may be kept from the root.
+fn open_any(rt: &HostRuntime) -> io::Result<File> {
+    fs::open(rt, "/").or_else(|_| fs::open(rt, "/dev/null"))
+}
+
 /// Folders that are open under the numbers of those standard streams that were closed. Without them the next file would get such a number, and
 /// what is printed would be written into that file. A folder can be neither read nor written as a file, so a closed stream still fails.
 fn placeholders(rt: &HostRuntime) -> [Option<File>; STREAMS] {
     let mut held = [None, None, None];
     for slot in &mut held {
         // A file gets the lowest number that is free.
-        match fs::open(rt, "/") {
+        match open_any(rt) {
             Ok(folder) if folder.as_raw_fd() <= LAST_STREAM => *slot = Some(folder),
             _ => break,
         }

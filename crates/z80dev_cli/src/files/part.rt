@@ -190,14 +190,13 @@ pub(crate) fn write_part(
     }
 }
 
-/// Writes the bytes to the file itself, at its end or from its beginning on, and returns it.
+/// Writes the bytes to what is there, and returns it.
 pub(crate) fn write_through(
     rt: &HostRuntime,
     path: &str,
     bytes: &[u8],
-    at_end: bool,
 ) -> Result<File, WriteFailed> {
-    let Ok(file) = OpenOptions::new().write(true).append(at_end).open(rt, path) else {
+    let Ok(file) = OpenOptions::new().write(true).open(rt, path) else {
         return Err(WriteFailed);
     };
     put(&mut WatchedSink::new(&file), bytes)?;
@@ -208,7 +207,7 @@ pub(crate) fn write_through(
 fn write_there(rt: &HostRuntime, names: Names, bytes: &[u8]) -> Result<Part, WriteFailed>
     ensures { IfOk result (λ p. (p.names ≡ names) × (p.is_synced ≡ false)) }
 {
-    let file = write_through(rt, &names.target, bytes, false)?;
+    let file = write_through(rt, &names.target, bytes)?;
     Ok(Part {
         names,
         place: Place::There,
