@@ -8,7 +8,7 @@ use Rattle.asm_parse.specs.Source.{Operand, Name, Number, Here}
 use Rattle.asm_value.specs.Items.{IsExpr}
 use Rattle.asm_expr.specs.Names.{Table, found}
 use Rattle.asm_value.specs.Postfix.{source, spread, tree}
-use Rattle.asm_expr.specs.Settling.{divisions_fault, first, item_known, items_known, known, known_item, reduced, settled, settled_as, standing, too_large, unknown_of, unless_fault}
+use Rattle.asm_expr.specs.Settling.{divisions_fault, first_of_two, item_known, items_known, known, known_item, reduced, settled, settled_as, standing, too_large, unknown_of, unless_fault}
 use Rattle.asm_expr.specs.Private.Folding.{Folds, fold_all, unless}
 use Rattle.asm_expr.specs.Private.Left.{IsLeft, IsLeftName, IsLeftOperand, IsReducedTree, operand_alone}
 use Rattle.asm_expr.proofs.Alike.{same_divisions, same_reduced}
@@ -19,12 +19,12 @@ use Rattle.asm_expr.proofs.OneTerm.{answered}
 use Rattle.asm_value.proofs.Postfix.{one_expression, tree-postfix}
 use Rattle.asm_expr.proofs.Steps.{not_large}
 
--- the items of an expression of an object, as what is settled has them
+-- the items of an object file's expression, as items that are being settled
 pub known_items : (items : List (Item Atom)) → IsExpr items → postfix (known (tree items)) ≡ map known_item items
 known_items items expr =
     known-postfix (tree items) ∙ ap (λ e. map known_item (postfix e)) (tree-postfix items expr.tree expr.spelled) ∙ ap (map known_item) expr.spelled
 
--- what an object has of them is themselves
+-- an object file's item is the same after both conversions
 item_again : (x : Item Atom) → item_known (known_item x) ≡ Some x
 item_again (Item.Leaf (Atom.Number n)) = refl
 item_again (Item.Leaf (Atom.Ref r)) = refl
@@ -35,7 +35,7 @@ pub known_again : (items : List (Item Atom)) → items_known (map known_item ite
 known_again [] = refl
 known_again (x ∷ xs) = rw (item_again x, known_again xs) refl
 
--- What was folded without a fault to one expression's items is that expression reduced.
+-- If folding gives one expression and no error, it gives that expression reduced.
 unless_one : (f : Option ExprFault) (a : Expression Part) (now : List (Expression Part)) → unless f (Ok (a ∷ [])) ≡ Ok now → (f ≡ None) × (now ≡ a ∷ [])
 unless_one None a now e = (refl, cc)
 unless_one (Some why) a now e = cc
@@ -48,7 +48,7 @@ left_by_fold t items now expr folds written =
     let spelled : postfix (reduced t e) ≡ postfix e = ap spread (sym one.1) ∙ sym written ∙ sym (known_items items expr) in
     record { expr = expr; reduced = record { sound = one.0; same = one_expression (reduced t e) e spelled } }
 
--- Behind others too it is left as it is.
+-- Settling leaves such an expression as it is after others too.
 left_folds : (t : Table) (items : List (Item Atom)) (before : List (Expression Part)) → IsLeft t items → fold_all t (postfix (known (tree items))) before ≡ Ok (known (tree items) ∷ before)
 left_folds t items before left =
     let e = known (tree items) in
@@ -62,14 +62,14 @@ left_pushed t s items old new is left put before were = (
   put ∙ ap (λ xs. xs ++ map known_item items) were ∙ ap (λ xs. spread before ++ xs) (sym (known_items items left.expr)),
 )
 
--- What a name stands for, and what it is left as, are the same.
+-- What a name stands for is what settling leaves it as.
 pub same_settled : (t : Table) (name : List ℕ) (equated : Equated) (items : List (Item Atom)) → found t name ≡ Some (Meaning.Equ equated) → IsLeftName t name items → equated.settled ≡ Settled.Known items
 same_settled t name equated items known is =
     let two : Some (Meaning.Equ equated) ≡ Some (Meaning.Equ (record { settled = Settled.Known items; size = is.size })) = sym known ∙ is.found in
     let same : equated ≡ record { settled = Settled.Known items; size = is.size } = cc in
     ap (λ e. e.settled) same
 
--- Of a table nothing counts but its statements.
+-- Whether settling leaves an expression as it is depends only on the statements of the table.
 pub left_same : (t u : Table) (items : List (Item Atom)) → t.statements ≡ u.statements → IsLeft u items → IsLeft t items
 left_same t u items same left =
     let e = known (tree items) in
@@ -77,11 +77,11 @@ left_same t u items same left =
     let fixed = same_reduced t u Anything (weigh t u same) e (all_places e) ∙ left.reduced.same in
     record { expr = left.expr; reduced = record { sound = sound; same = fixed } }
 
--- What such a name is settled to, and a term.
+-- What such a name is settled as, and such a term.
 left_settled : (t : Table) (name : List ℕ) (items : List (Item Atom)) → IsLeftName t name items → settled t (source (Item.Leaf (Name name) ∷ [])) ≡ Ok (Settled.Known items)
 left_settled t name items is =
     let e = known (tree items) in
-    let fault : first (too_large (0 + is.size)) (divisions_fault t e) ≡ None = ap (λ f. first f (divisions_fault t e)) (not_large (0 + is.size) (omega (arith, is.few))) ∙ is.left.reduced.sound in
+    let fault : first_of_two (too_large (0 + is.size)) (divisions_fault t e) ≡ None = ap (λ f. first_of_two f (divisions_fault t e)) (not_large (0 + is.size) (omega (arith, is.few))) ∙ is.left.reduced.sound in
     ap (answered t) is.found
     ∙ ap (λ f. unless_fault f (settled_as (items_known (postfix (reduced t e))) (unknown_of (reduced t e)))) fault
     ∙ ap (λ r. Ok (settled_as (items_known (postfix r)) (unknown_of r))) is.left.reduced.same

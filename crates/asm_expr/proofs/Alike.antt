@@ -1,4 +1,4 @@
--- What two tables make of an expression whose leaves stand for the same in both.
+-- Two tables settle an expression in the same way if its leaves stand for the same in both.
 use Rattle.std.proofs.Common.{◌≡◌, ℕ, ◌+◌, Bool, true, [], ◌∷◌, ◌++◌, None, Ok, if◌then◌else◌, ◌&&◌, refl, sym, ap, ◌∙◌}
 use Rattle.std.specs.List.{list_all}
 use Rattle.std.proofs.lemmas.List.Folds.{list_all-append}
@@ -9,24 +9,24 @@ use Rattle.asm_parse.specs.Operators.{divides}
 use Rattle.asm_parse.specs.Expression.{Expression, Leaf, Prefix, Infix, postfix}
 use Rattle.asm_parse.specs.Source.{Operand}
 use Rattle.asm_expr.specs.Names.{Table}
-use Rattle.asm_expr.specs.Settling.{division_fault, divisions_fault, divisor_fault, fault_behind, first, is_constant_item, items_known, leaf_or, reduced, replaced, settled, settled_as, size, size_of, stands_for, too_large, unknown_of, unless_fault, worth}
+use Rattle.asm_expr.specs.Settling.{division_fault, divisions_fault, divisor_fault, fault_behind, first_of_two, is_constant_item, items_known, leaf_or, reduced, replaced, settled, settled_as, expression_size, operand_size, stands_for, too_large, unknown_of, unless_fault, worth}
 use Rattle.asm_expr.specs.Equating.{constant_of, equated, meaning_of}
 use Rattle.asm_expr.proofs.Origins.{Places}
 
--- A leaf stands for the same in both, and its places have a property.
+-- A leaf stands for the same in both tables, and each ref in it has the property.
 pub record IsAlike (t u : Table) (P : ℕ → Type 0) (operand : Operand) : Type 0 where
   pub part : stands_for t operand ≡ stands_for u operand
-  pub size : size_of t operand ≡ size_of u operand
+  pub size : operand_size t operand ≡ operand_size u operand
   pub constant : is_constant_item t (Item.Leaf operand) ≡ is_constant_item u (Item.Leaf operand)
   pub places : Places P (stands_for u operand)
 
--- .. and so does each leaf of an expression.
+-- That holds for each leaf of an expression.
 abbrev pub AreAlike : Table → Table → (ℕ → Type 0) → Expression Operand → Type 0
 AreAlike t u P (Leaf operand) = IsAlike t u P operand
 AreAlike t u P (Prefix op a) = AreAlike t u P a
 AreAlike t u P (Infix op a b) = AreAlike t u P a × AreAlike t u P b
 
--- Expressions whose places have the property are worth the same in both.
+-- In both tables the same is known of each expression whose refs have the property.
 abbrev pub WeighAlike : Table → Table → (ℕ → Type 0) → Type 0
 WeighAlike t u P = (e : Expression Part) → Places P e → worth t e ≡ worth u e
 
@@ -47,9 +47,9 @@ module _ (t u : Table) (P : ℕ → Type 0) (weigh : WeighAlike t u P) where
   same_divisions (Leaf part) p = refl
   same_divisions (Prefix op a) p = same_divisions a p
   same_divisions (Infix op a b) p =
-      ap (λ f. first f (first (divisions_fault t b) (division_fault t op b))) (same_divisions a p.0)
-      ∙ ap (λ f. first (divisions_fault u a) (first f (division_fault t op b))) (same_divisions b p.1)
-      ∙ ap (λ f. first (divisions_fault u a) (first (divisions_fault u b) f)) (same_division op b p.1)
+      ap (λ f. first_of_two f (first_of_two (divisions_fault t b) (division_fault t op b))) (same_divisions a p.0)
+      ∙ ap (λ f. first_of_two (divisions_fault u a) (first_of_two f (division_fault t op b))) (same_divisions b p.1)
+      ∙ ap (λ f. first_of_two (divisions_fault u a) (first_of_two (divisions_fault u b) f)) (same_division op b p.1)
 
   pub same_replaced : (e : Expression Operand) → AreAlike t u P e → replaced t e ≡ replaced u e
   same_replaced (Leaf operand) alike = alike.part
@@ -61,27 +61,27 @@ module _ (t u : Table) (P : ℕ → Type 0) (weigh : WeighAlike t u P) where
   replaced_places (Prefix op a) alike = replaced_places a alike
   replaced_places (Infix op a b) alike = (replaced_places a alike.0, replaced_places b alike.1)
 
-  same_size : (e : Expression Operand) → AreAlike t u P e → size t e ≡ size u e
+  same_size : (e : Expression Operand) → AreAlike t u P e → expression_size t e ≡ expression_size u e
   same_size (Leaf operand) alike = alike.size
   same_size (Prefix op a) alike = ap (λ n. n + 1) (same_size a alike)
-  same_size (Infix op a b) alike = ap (λ n. (n + size t b) + 1) (same_size a alike.0) ∙ ap (λ n. (size u a + n) + 1) (same_size b alike.1)
+  same_size (Infix op a b) alike = ap (λ n. (n + expression_size t b) + 1) (same_size a alike.0) ∙ ap (λ n. (expression_size u a + n) + 1) (same_size b alike.1)
 
   same_fault : (n : ℕ) (e : Expression Operand) → AreAlike t u P e → fault_behind n t e ≡ fault_behind n u e
   same_fault n (Leaf operand) alike =
-      ap (λ k. first (too_large (n + k)) (divisions_fault t (stands_for t operand))) alike.size
-      ∙ ap (λ x. first (too_large (n + size_of u operand)) (divisions_fault t x)) alike.part
-      ∙ ap (first (too_large (n + size_of u operand))) (same_divisions (stands_for u operand) alike.places)
+      ap (λ k. first_of_two (too_large (n + k)) (divisions_fault t (stands_for t operand))) alike.size
+      ∙ ap (λ x. first_of_two (too_large (n + operand_size u operand)) (divisions_fault t x)) alike.part
+      ∙ ap (first_of_two (too_large (n + operand_size u operand))) (same_divisions (stands_for u operand) alike.places)
   same_fault n (Prefix op a) alike =
-      ap (λ f. first f (too_large (n + size t (Prefix op a)))) (same_fault n a alike)
-      ∙ ap (λ k. first (fault_behind n u a) (too_large (n + k))) (same_size (Prefix op a) alike)
+      ap (λ f. first_of_two f (too_large (n + expression_size t (Prefix op a)))) (same_fault n a alike)
+      ∙ ap (λ k. first_of_two (fault_behind n u a) (too_large (n + k))) (same_size (Prefix op a) alike)
   same_fault n (Infix op a b) alike =
       let division : division_fault t op (replaced t b) ≡ division_fault u op (replaced u b) =
       ap (division_fault t op) (same_replaced b alike.1) ∙ same_division op (replaced u b) (replaced_places b alike.1) in
-      ap (λ f. first f (first (fault_behind (n + size t a) t b) (first (too_large (n + size t (Infix op a b))) (division_fault t op (replaced t b))))) (same_fault n a alike.0)
-      ∙ ap (λ k. first (fault_behind n u a) (first (fault_behind (n + k) t b) (first (too_large (n + size t (Infix op a b))) (division_fault t op (replaced t b))))) (same_size a alike.0)
-      ∙ ap (λ f. first (fault_behind n u a) (first f (first (too_large (n + size t (Infix op a b))) (division_fault t op (replaced t b))))) (same_fault (n + size u a) b alike.1)
-      ∙ ap (λ k. first (fault_behind n u a) (first (fault_behind (n + size u a) u b) (first (too_large (n + k)) (division_fault t op (replaced t b))))) (same_size (Infix op a b) alike)
-      ∙ ap (λ f. first (fault_behind n u a) (first (fault_behind (n + size u a) u b) (first (too_large (n + size u (Infix op a b))) f))) division
+      ap (λ f. first_of_two f (first_of_two (fault_behind (n + expression_size t a) t b) (first_of_two (too_large (n + expression_size t (Infix op a b))) (division_fault t op (replaced t b))))) (same_fault n a alike.0)
+      ∙ ap (λ k. first_of_two (fault_behind n u a) (first_of_two (fault_behind (n + k) t b) (first_of_two (too_large (n + expression_size t (Infix op a b))) (division_fault t op (replaced t b))))) (same_size a alike.0)
+      ∙ ap (λ f. first_of_two (fault_behind n u a) (first_of_two f (first_of_two (too_large (n + expression_size t (Infix op a b))) (division_fault t op (replaced t b))))) (same_fault (n + expression_size u a) b alike.1)
+      ∙ ap (λ k. first_of_two (fault_behind n u a) (first_of_two (fault_behind (n + expression_size u a) u b) (first_of_two (too_large (n + k)) (division_fault t op (replaced t b))))) (same_size (Infix op a b) alike)
+      ∙ ap (λ f. first_of_two (fault_behind n u a) (first_of_two (fault_behind (n + expression_size u a) u b) (first_of_two (too_large (n + expression_size u (Infix op a b))) f))) division
 
   pub settled_alike : (e : Expression Operand) → AreAlike t u P e → settled t e ≡ settled u e
   settled_alike e alike =
@@ -106,7 +106,7 @@ module _ (t u : Table) (P : ℕ → Type 0) (weigh : WeighAlike t u P) where
   pub equated_alike : (e : Expression Operand) → AreAlike t u P e → equated t e ≡ equated u e
   equated_alike e alike =
       ap (λ r. r >>= λ s. Ok (meaning_of t e s)) (settled_alike e alike)
-      ∙ ap (λ c. settled u e >>= λ s. Ok (meaning_as c s (size t e))) (same_constant e alike)
+      ∙ ap (λ c. settled u e >>= λ s. Ok (meaning_as c s (expression_size t e))) (same_constant e alike)
       ∙ ap (λ k. settled u e >>= λ s. Ok (meaning_as (list_all (is_constant_item u) (postfix e)) s k)) (same_size e alike)
     where
       meaning_as : Bool → Settled → ℕ → Meaning

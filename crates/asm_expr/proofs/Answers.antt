@@ -1,4 +1,4 @@
--- What is answered of an expression, by its reduced items.
+-- What is answered for an expression, given its reduced items.
 use Rattle.std.proofs.Common.{◌≡◌, ◌-◌, ◌⊎◌, ◌||◌, inl, inr, true, List, [], ◌∷◌, Option, Some, None, Result, Ok, Err, length, map, slice_get, refl, sym, ap, subst, ◌∙◌, arith}
 use Rattle.std.specs.Option.{option_map}
 use Rattle.std.specs.List.{list_any}
@@ -18,7 +18,7 @@ use Rattle.asm_expr.proofs.Steps.{settled_worth}
 use Rattle.std.proofs.Math.Bool.{or-true}
 use Rattle.std.proofs.lemmas.Bool.{false≢true}
 
--- Items without unknown parts are those of an object, and the other way round.
+-- Items without unknown parts are items of an object file, and the other way round.
 item_back : (x : Item Part) (y : Item Atom) → item_known x ≡ Some y → known_item y ≡ x
 item_back (Item.Leaf (Part.Number n)) y e = let is : Item.Leaf (Atom.Number n) ≡ y = cc in ap known_item (sym is)
 item_back (Item.Leaf (Part.Ref r)) y e = let is : Item.Leaf (Atom.Ref r) ≡ y = cc in ap known_item (sym is)
@@ -63,7 +63,7 @@ items_lost (x ∷ xs) e =
     lost_later : (x : Item Part) (xs : List (Item Part)) → list_any is_unknown xs ≡ true → list_any is_unknown (x ∷ xs) ≡ true
     lost_later x xs e = ap (λ b. is_unknown x || b) e ∙ or-true (is_unknown x)
 
--- What is answered, from what the code finds.
+-- What is answered, given what the code finds.
 pub settled_known : (t : Table) (e : Expression Operand) (items : List (Item Atom)) → fault t e ≡ None → Some items ≡ items_known (postfix (reduced t (replaced t e))) → Ok (Settled.Known items) ≡ settled t e
 settled_known t e items none is =
     let r = reduced t (replaced t e) in
@@ -83,7 +83,7 @@ Answers t e r = (r ≡ settled t e) ⊎ (r ≡ Err ExprFault.NoMemory)
 pub refused : (t : Table) (e : Expression Operand) (why : ExprFault) → IsReduced t e (Err why) → Answers t e (Err why)
 refused t e why is = inl (settled_fault t e why is)
 
--- What an answer says of the reduced items.
+-- What an answer says about the reduced items.
 told : (t : Table) (e : Expression Operand) (o : Option (List (Item Atom))) → items_known (postfix (reduced t (replaced t e))) ≡ o → fault t e ≡ None → IsSettled t e (Ok (settled_as o (unknown_of (reduced t (replaced t e)))))
 told t e (Some items) is none = (none, items_back (postfix (reduced t (replaced t e))) items is)
 told t e None is none = (none, items_lost (postfix (reduced t (replaced t e))) is, refl)
@@ -104,7 +104,7 @@ pub is_settled : (t : Table) (e : Expression Operand) (r : Result Settled ExprFa
 is_settled t e r (inl same) = subst (IsSettled t e) (sym same) (is_settled_by t e (fault t e) refl)
 is_settled t e r (inr memory) = subst (IsSettled t e) (sym memory) tt
 
--- What is known of the whole is told by its last item.
+-- The last item says what is known of the whole.
 last_root : (r : Expression Part) → slice_get (postfix r) (length (postfix r) - 1) ≡ Some (root r)
 last_root r = slice_get-get_or (postfix r) (length (postfix r) - 1) (root r) (omega (arith, positive r)) ∙ ap (λ x. Some x) (last_item r [] (root r))
 
@@ -132,6 +132,6 @@ unknown_worth t e some = sym (worth-reduced t e) ∙ by_last (reduced t e) some
     by_last (Prefix op a) some = refl
     by_last (Infix op a b) some = refl
 
--- What is settled is worth what the whole is.
+-- The settled items have the value of the whole.
 pub worth_of_known : (t : Table) → AreCounted t → (e : Expression Operand) (items : List (Item Atom)) → fault t e ≡ None → Some items ≡ items_known (postfix (reduced t (replaced t e))) → IsWorth t e items
 worth_of_known t counted e items none known = settled_worth t counted e items none (items_back (postfix (reduced t (replaced t e))) items (sym known))

@@ -1,4 +1,4 @@
--- Constant expressions: the same is answered of them anywhere, and where their names are numbers they are numbers.
+-- Constant expressions: they are settled in the same way anywhere, and as numbers if their names stand for numbers.
 use Rattle.std.proofs.Common.{◌≡◌, ℕ, Bool, true, List, [], ◌∷◌, ◌++◌, Option, Some, None, Ok, refl, sym, ap, ◌∙◌}
 use Rattle.std.specs.List.{list_all}
 use Rattle.std.proofs.lemmas.List.Folds.{list_all-append}
@@ -18,11 +18,11 @@ use Rattle.asm_value.proofs.Judgements.{and_parts}
 use Rattle.asm_expr.proofs.Offsets.{no_place}
 use Rattle.asm_expr.proofs.Origins.{Places}
 
--- No place stands in an expression.
+-- No address is in the expression.
 abbrev IsBare : Expression Part → Type 0
 IsBare e = Places (λ r. ⊥) e
 
--- A table's names, seen from elsewhere among other statements.
+-- The names of a table, with another `$` and other statements.
 abbrev at : Table → ℕ → List Statement → Table
 at t here statements = record t { here = here; statements = statements }
 
@@ -57,7 +57,7 @@ bare_worth t here statements (Infix op a b) bare =
     ∙ ap (λ w. or_else (difference t op a b) (both (binary op) w (worth (at t here statements) b))) (bare_worth t here statements a bare.0)
     ∙ ap (λ w. or_else (difference t op a b) (both (binary op) (worth t a) w)) (bare_worth t here statements b bare.1)
 
--- A constant expression is bare, and its names stand for the same anywhere.
+-- A constant expression contains no address, and its names stand for the same anywhere.
 name_bare : (m : Option Meaning) → is_constant_name m ≡ true → IsBare (meant m)
 name_bare None c = tt
 name_bare (Some (Meaning.Label s)) c = cc
@@ -67,7 +67,7 @@ name_bare (Some Meaning.UnknownConstant) c = tt
 name_bare (Some (Meaning.Equ equated)) c = cc
 name_bare (Some Meaning.Faulty) c = tt
 
--- what holds of each item holds of the operands' items
+-- what holds of each item holds of each item of an operand
 pub of_prefix : (f : Item Operand → Bool) (op : Unary) (a : Expression Operand) → list_all f (postfix (Prefix op a)) ≡ true → list_all f (postfix a) ≡ true
 of_prefix f op a c = (and_parts _ _ (sym (list_all-append f (postfix a) (Item.Unary op ∷ [])) ∙ c)).0
 
@@ -93,7 +93,7 @@ pub equated_anywhere : (t : Table) (e : Expression Operand) → list_all (is_con
     → equated (record t { here = here; statements = statements }) e ≡ equated t e
 equated_anywhere t e c here statements = equated_alike (at t here statements) t (λ r. ⊥) (bare_worth t here statements) e (alike t here statements e c)
 
--- Numbers make numbers.
+-- An expression of numbers is a number.
 number_name : (m : Option Meaning) → is_number_name m ≡ true → (n : ℕ) × (meant m ≡ Leaf (Part.Number n))
 number_name None c = cc
 number_name (Some (Meaning.Label s)) c = cc

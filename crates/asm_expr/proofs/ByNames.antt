@@ -1,4 +1,4 @@
--- What is answered of an expression hangs on the names that occur in it, on `$` and on the statements alone.
+-- The answers for an expression depend only on the names in it, on `$`, and on the statements.
 use Rattle.std.proofs.Common.{◌≡◌, ℕ, [], ◌∷◌, ◌++◌, if◌then◌else◌, refl, ap, ◌∙◌, arith}
 use Rattle.std.specs.List.{list_all}
 use Rattle.std.proofs.lemmas.List.Elements.{Contains-append_left, Contains-append_right}
@@ -10,7 +10,7 @@ use Rattle.asm_parse.specs.Expression.{Expression, Leaf, Prefix, Infix, postfix}
 use Rattle.asm_parse.specs.Source.{Operand, Number, Name, Here}
 use Rattle.asm_expr.specs.Names.{Table, found}
 use Rattle.asm_expr.specs.Origins.{AgreeOn}
-use Rattle.asm_expr.specs.Offsets.{behind, constant_behind, offset}
+use Rattle.asm_expr.specs.Offsets.{offset_after_here, constant_behind, offset}
 use Rattle.asm_expr.specs.declared.here.Offset.{Offset}
 use Rattle.asm_expr.specs.Settling.{both, difference, distance_of, is_constant_item, is_constant_name, meant, or_else, replaced, settled, single, size_meant, through, worth}
 use Rattle.asm_expr.specs.Distances.{distance, some_distance}
@@ -21,7 +21,7 @@ use Rattle.asm_expr.proofs.Origins.{Places}
 abbrev pub Anything : ℕ → Type 0
 Anything r = Unit {0}
 
--- every place is one
+-- each ref of an expression has the property that holds for all
 pub all_places : (e : Expression Part) → Places Anything e
 all_places (Leaf (Part.Number n)) = tt
 all_places (Leaf (Part.Ref r)) = tt
@@ -74,11 +74,11 @@ equated_by_names t u e agree = equated_alike t u Anything (weigh t u agree.state
 pub constant_by_names : (t u : Table) (e : Expression Operand) → AgreeOn (postfix e) t u → list_all (is_constant_item t) (postfix e) ≡ list_all (is_constant_item u) (postfix e)
 constant_by_names t u e agree = same_constant t u Anything (weigh t u agree.statements) e (alike t u e agree)
 
--- An operand that begins at `$` agrees in what lies behind `$`.
+-- Two tables that agree on an operand with `$` agree on what it says.
 behind_here : (t u : Table) (op : Binary) (n : Expression Operand) → AgreeOn (postfix (Infix op (Leaf Here) n)) t u → constant_behind t op n ≡ constant_behind u op n
 behind_here t u op n agree =
-    ap (λ b. if b then behind op (worth t (replaced t n)) else Offset.NotConstant) (constant_by_names t u n right)
-    ∙ ap (λ w. if list_all (is_constant_item u) (postfix n) then behind op w else Offset.NotConstant)
+    ap (λ b. if b then offset_after_here op (worth t (replaced t n)) else Offset.NotConstant) (constant_by_names t u n right)
+    ∙ ap (λ w. if list_all (is_constant_item u) (postfix n) then offset_after_here op w else Offset.NotConstant)
     (ap (worth t) (same_replaced t u Anything (weigh t u agree.statements) n (alike t u n right)) ∙ weigh t u agree.statements (replaced u n) (all_places (replaced u n)))
   where
     right : AgreeOn (postfix n) t u

@@ -1,4 +1,4 @@
--- An expression in which no place and no external stands is fixed.
+-- An expression that contains no address and no external is fixed.
 use Rattle.std.proofs.Common.{◌≡◌, ℕ, true, [], ◌∷◌, ◌++◌, Option, Some, None, refl, sym, ◌∙◌}
 use Rattle.std.specs.List.{list_all}
 use Rattle.std.proofs.lemmas.List.Folds.{list_all-append}

@@ -1,4 +1,4 @@
--- The entries of a map of names, and the names that they spell.
+-- The entries of a map of names, and what each name stands for.
 use Rattle.std.proofs.Common.{◌≡◌, ◌≤◌, ℕ, Bool, true, false, List, [], ◌∷◌, ◌++◌, All, Option, cond, Some, None, length, map, take, refl, sym, ap, subst, ◌∙◌, arith}
 use Rattle.std.proofs.lemmas.List.{map-append, take-append-le, length-append}
 use Rattle.std.proofs.lemmas.List.Elements.{All-append}
@@ -51,7 +51,7 @@ pub table_after : {A : Type 0} (entries new : List (Vec ℕ A × Entry)) (name :
 table_after entries new name entry here statements is =
     ap (λ es. table_of es here statements) is ∙ ap (λ es. record { entries = es; here = here; statements = statements }) (append-as (λ e. e.meaning) entries (name, entry))
 
--- What is found with one more entry was found before, or is the entry's.
+-- What is found with one more entry was found before, or is that entry's.
 found_after : (p : List ℕ → Bool) (entries : List (List ℕ × Meaning)) (name : List ℕ) (what found : Meaning) → ((other : Meaning) → lookup p entries ≡ Some other → IsCounted other) → IsCounted what
     → lookup p (entries ++ (name, what) ∷ []) ≡ Some found → IsCounted found
 found_after p [] name what found old new is =
@@ -68,7 +68,7 @@ found_after p (e ∷ es) name what found old new is =
 pub counted_after : (t : Table) (name : List ℕ) (what : Meaning) → AreCounted t → IsCounted what → AreCounted (with_meaning name what t)
 counted_after t name what old new = λ other found is. found_after (bytes_eq other) t.entries name what found (old other) new is
 
--- What is known of each entry is known with one more,
+-- What is known of each entry is known of each with one more,
 pub known_after : {A : Type 0} (statements : List Statement) (entries new : List (Vec ℕ A × Entry)) (name : Vec ℕ A) (entry : Entry) → new ≡ entries ++ (name, entry) ∷ []
     → AreKnown statements entries → Knows statements entry.meaning entry.left_at → AreKnown statements new
 known_after statements entries new name entry is all one =
@@ -81,7 +81,7 @@ pub known_among : {A : Type 0} (statements : List Statement) (entries : List (Ve
     → Knows statements entry.meaning entry.left_at
 known_among statements entries entry all among = subst (λ e. Knows statements e.meaning e.left_at) (sym among.1.1) (all among.0 entry among.1.0)
 
--- What is known by some statements is known with one more.
+-- What is known with some statements is known with one more.
 knows_more : (statements : List Statement) (s : Statement) (what : Meaning) (n : Option ℕ) → Knows statements what n → Knows (statements ++ s ∷ []) what n
 knows_more statements s (Meaning.Equ equated) (Some n) k =
     (omega (arith, k.0, length-append statements (s ∷ [])), subst (λ front. IsLeftBy front equated.settled) (sym (take-append-le n statements (s ∷ []) k.0)) k.1)
@@ -95,12 +95,12 @@ knows_more statements s what None k = k
 pub known_more : {A : Type 0} (statements : List Statement) (s : Statement) (entries : List (Vec ℕ A × Entry)) → AreKnown statements entries → AreKnown (statements ++ s ∷ []) entries
 known_more statements s entries all = λ k d lt. knows_more statements s _ _ (all k d lt)
 
--- What is not found of an entry is not there.
+-- If no meaning is found, there is no entry.
 pub none_meant : (o : Option Entry) → option_map (λ e. e.meaning) o ≡ None → o ≡ None
 none_meant None is = refl
 none_meant (Some e) is = cc
 
--- A name whose entry tells so is left as it is.
+-- Settling leaves a name as it is if its entry says so.
 pub left_name : {A : Type 0} (entries : List (Vec ℕ A × Entry)) (here : ℕ) (statements : List Statement) (name : List ℕ) (entry : Entry) (items : List (Item Atom)) (size : ℕ)
     → lookup (λ k. bytes_eq name k.items) entries ≡ Some entry → entry.meaning ≡ Meaning.Equ (record { settled = Settled.Known items; size = size }) → size ≤ MOST_ITEMS
     → entry.left_at ≡ Some (length statements) → Knows statements entry.meaning entry.left_at → IsLeftName (table_of entries here statements) name items
@@ -114,7 +114,7 @@ left_name entries here statements name entry items size is meaning few at knows 
       left = left_same t (record empty { statements = take (length statements) statements }) items (sym (take-length statements)) both.1;
     }
 
--- What is found out of a meaning when all statements have passed.
+-- What is known of a meaning when the table has all its statements.
 pub knows_now : (t : Table) (what : Meaning) (equated : Equated) (items : List (Item Atom)) (n : ℕ) → what ≡ Meaning.Equ equated → equated.settled ≡ Settled.Known items
     → n ≡ length t.statements → IsLeft t items → Knows t.statements what (Some n)
 knows_now t what equated items n is settled len left =

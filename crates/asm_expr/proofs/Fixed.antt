@@ -44,7 +44,7 @@ fixed_value t places step (Infix op a b) n is =
           ap (λ x. binary op x (value places b)) (fixed_value t places step a m.0 m.2) ∙ ap (binary op m.0) (fixed_value t places step b m.1 m.3) ∙ m.4
     ] refl is
 
--- What is known of expressions, by their operators.
+-- An expression that is a leaf as it is being settled is that leaf in an object file.
 leaf_known : (e : Expression Atom) (n : ℕ) → known e ≡ Leaf (Part.Number n) → e ≡ Leaf (Atom.Number n)
 leaf_known (Leaf (Atom.Number m)) n is = let same : m ≡ n = cc in ap (λ k. Leaf (Atom.Number k)) same
 leaf_known (Leaf (Atom.Ref r)) n is = cc
@@ -75,7 +75,7 @@ some_number statements p n is = elim (nat_lt (length statements) p) as (λ past.
   | false ↦ λ bad. cc
 ] is
 
--- A known difference is one of two places.
+-- A difference that is a number is one of two addresses.
 two_places : (t : Table) (a b : Single) (n : ℕ) → distance_of t a b ≡ Worth.Number n → (p : ℕ) × (q : ℕ) × (a ≡ Single.Place p) × (b ≡ Single.Place q)
 two_places t (Single.Place p) (Single.Place q) n is = (p, q, refl, refl)
 two_places t (Single.Place p) Single.Anything n is = absurd (some_number t.statements p n is)
@@ -95,7 +95,7 @@ one_place (Leaf (Part.Unknown Unknown.VariesInByte)) p is = cc
 one_place (Prefix op a) p is = cc
 one_place (Infix op a b) p is = cc
 
--- An expression that is a number has no part that is not known,
+-- An expression that is a number has no unknown part,
 number_known : (t : Table) (e : Expression Part) (n : ℕ) → worth t e ≡ Worth.Number n → (x : Expression Atom) × (e ≡ known x)
 number_known t (Leaf (Part.Number m)) n is = (Leaf (Atom.Number m), refl)
 number_known t (Leaf (Part.Ref r)) n is = cc
@@ -126,7 +126,7 @@ number_known t (Infix op a b) n is =
         (Infix Binary.Subtract (Leaf (Atom.Ref s.0)) (Leaf (Atom.Ref s.1)), sym (ap (λ x. Infix Binary.Subtract x (Leaf (Part.Ref s.1))) left ∙ ap (Infix Binary.Subtract a) right))
     distance_known t op a b n is = cc
 
--- nor has one that reduces to none, and it has the value of what it reduces to.
+-- nor has one that reduces to an expression without one, and it has the value of the expression that it reduces to.
 pub record Same (t : Table) (e : Expression Part) (x : Expression Atom) : Type 0 where
   pub whole : Expression Atom
   pub known : e ≡ known whole

@@ -9,10 +9,10 @@ use Rattle.asm_value.specs.Arithmetic.{unary, binary}
 use Rattle.asm_parse.specs.Expression.{Expression, Leaf, Prefix, Infix, postfix}
 use Rattle.asm_parse.specs.Source.{Operand}
 use Rattle.asm_expr.specs.Names.{Table}
-use Rattle.asm_expr.specs.Settling.{stands_for, replaced, size, size_of, single, distance_of, difference, or_else, through, both, worth, leaf_or, reduced, first, divisor_fault, division_fault, divisions_fault, too_large, fault_behind}
+use Rattle.asm_expr.specs.Settling.{stands_for, replaced, expression_size, operand_size, single, distance_of, difference, or_else, through, both, worth, leaf_or, reduced, first_of_two, divisor_fault, division_fault, divisions_fault, too_large, fault_behind}
 use Rattle.asm_expr.specs.Private.Folding.{root, worth_of, single_of, difference_of, prefixed, joined, item_fault, unless, fold_one, fold_all, settling}
 
--- The last item of a reduced expression tells what is known of it, and whether it is a place.
+-- The last item of a reduced expression says what is known of it, and whether it is an address.
 worth_root : (other : Expression Part) (o : Worth) → worth_of (root other) ≡ Worth.Varies → worth_of (root (leaf_or other o)) ≡ o
 worth_root other Worth.Varies varies = varies
 worth_root other Worth.Unknown varies = refl
@@ -57,7 +57,7 @@ joined-reduced t op a b = ap (leaf_or (Infix op (reduced t a) (reduced t b)))
 pub fault-reduced : (t : Table) (op : Binary) (b : Expression Part) → item_fault op (root (reduced t b)) ≡ division_fault t op b
 fault-reduced t op b = ap (λ n. if divides op then divisor_fault n else None) (worth-reduced t b)
 
-unless-first : {A : Type 0} (f g : Option ExprFault) (answer : Result A ExprFault) → unless (first f g) answer ≡ unless f (unless g answer)
+unless-first : {A : Type 0} (f g : Option ExprFault) (answer : Result A ExprFault) → unless (first_of_two f g) answer ≡ unless f (unless g answer)
 unless-first None g answer = refl
 unless-first (Some fault) g answer = refl
 
@@ -81,39 +81,39 @@ fold-postfix t (Infix op a b) rest before =
     ap (λ items. fold_all t items before) split
     ∙ fold-postfix t a (postfix b ++ Item.Binary op ∷ rest) before
     ∙ ap (unless (divisions_fault t a)) (fold-postfix t b (Item.Binary op ∷ rest) (reduced t a ∷ before) ∙ ap (unless (divisions_fault t b)) last ∙ sym (unless-first (divisions_fault t b) (division_fault t op b) _))
-    ∙ sym (unless-first (divisions_fault t a) (first (divisions_fault t b) (division_fault t op b)) _)
+    ∙ sym (unless-first (divisions_fault t a) (first_of_two (divisions_fault t b) (division_fault t op b)) _)
 
 pub fold-whole : (t : Table) (e : Expression Part) (before : List (Expression Part)) → fold_all t (postfix e) before ≡ unless (divisions_fault t e) (Ok (reduced t e ∷ before))
 fold-whole t e before = ap (λ items. fold_all t items before) (sym (append-nil (postfix e))) ∙ fold-postfix t e [] before
 
--- an infix operator's step, behind m terms and operators with it
+-- the step of an infix operator, which is the m-th term or operator
 abbrev settling_last : Table → Binary → List (Item Operand) → ℕ → List (Expression Part) → Result (List (Expression Part)) ExprFault
 settling_last t op rest m before = unless (too_large m) ((fold_one t (Item.Binary op) before >>= λ now. fold_all t [] now) >>= λ now. settling t rest m now)
 
 pub settling-postfix : (t : Table) (e : Expression Operand) (rest : List (Item Operand)) (n : ℕ) (before : List (Expression Part))
-    → settling t (postfix e ++ rest) n before ≡ unless (fault_behind n t e) (settling t rest (n + size t e) (reduced t (replaced t e) ∷ before))
+    → settling t (postfix e ++ rest) n before ≡ unless (fault_behind n t e) (settling t rest (n + expression_size t e) (reduced t (replaced t e) ∷ before))
 settling-postfix t (Leaf operand) rest n before =
-    let m = n + size_of t operand in
+    let m = n + operand_size t operand in
     ap (λ r. unless (too_large m) (r >>= λ now. settling t rest m now)) (fold-whole t (stands_for t operand) before)
     ∙ ap (unless (too_large m)) (unless-then (divisions_fault t (stands_for t operand)) _ _)
     ∙ sym (unless-first (too_large m) (divisions_fault t (stands_for t operand)) _)
 settling-postfix t (Prefix op a) rest n before =
-    let sum : (n + size t a) + 1 ≡ n + (size t a + 1) = omega arith in
+    let sum : (n + expression_size t a) + 1 ≡ n + (expression_size t a + 1) = omega arith in
     ap (λ items. settling t items n before) (append_assoc (postfix a) (Item.Unary op ∷ []) rest)
     ∙ settling-postfix t a (Item.Unary op ∷ rest) n before
     ∙ ap (λ k. unless (fault_behind n t a) (unless (too_large k) (settling t rest k (prefixed op (reduced t (replaced t a)) ∷ before)))) sum
-    ∙ ap (λ e. unless (fault_behind n t a) (unless (too_large (n + (size t a + 1))) (settling t rest (n + (size t a + 1)) (e ∷ before)))) (prefixed-reduced t op (replaced t a))
-    ∙ sym (unless-first (fault_behind n t a) (too_large (n + (size t a + 1))) _)
+    ∙ ap (λ e. unless (fault_behind n t a) (unless (too_large (n + (expression_size t a + 1))) (settling t rest (n + (expression_size t a + 1)) (e ∷ before)))) (prefixed-reduced t op (replaced t a))
+    ∙ sym (unless-first (fault_behind n t a) (too_large (n + (expression_size t a + 1))) _)
 settling-postfix t (Infix op a b) rest n before =
     let fa = fault_behind n t a in
-    let fb = fault_behind (n + size t a) t b in
-    let k = n + ((size t a + size t b) + 1) in
+    let fb = fault_behind (n + expression_size t a) t b in
+    let k = n + ((expression_size t a + expression_size t b) + 1) in
     let d = division_fault t op (replaced t b) in
     let ra = reduced t (replaced t a) in
     let rb = reduced t (replaced t b) in
-    let sum : ((n + size t a) + size t b) + 1 ≡ n + ((size t a + size t b) + 1) = omega arith in
+    let sum : ((n + expression_size t a) + expression_size t b) + 1 ≡ n + ((expression_size t a + expression_size t b) + 1) = omega arith in
     let split : (postfix a ++ postfix b) ++ Item.Binary op ∷ [] ++ rest ≡ postfix a ++ (postfix b ++ Item.Binary op ∷ rest) = simp append_assoc in
-    let last : settling t (Item.Binary op ∷ rest) ((n + size t a) + size t b) (rb ∷ ra ∷ before)
+    let last : settling t (Item.Binary op ∷ rest) ((n + expression_size t a) + expression_size t b) (rb ∷ ra ∷ before)
     ≡ unless (too_large k) (unless d (settling t rest k (reduced t (replaced t (Infix op a b)) ∷ before))) =
     ap (λ m. settling_last t op rest m (rb ∷ ra ∷ before)) sum
     ∙ ap (λ r. unless (too_large k) (r >>= λ now. settling t rest k now)) (unless-then (item_fault op (root rb)) (Ok (joined t op ra rb ∷ before)) (λ now. fold_all t [] now))
@@ -122,9 +122,9 @@ settling-postfix t (Infix op a b) rest n before =
     ∙ ap (λ e. unless d (settling t rest k (e ∷ before))) (joined-reduced t op (replaced t a) (replaced t b))) in
     ap (λ items. settling t items n before) split
     ∙ settling-postfix t a (postfix b ++ Item.Binary op ∷ rest) n before
-    ∙ ap (unless fa) (settling-postfix t b (Item.Binary op ∷ rest) (n + size t a) (ra ∷ before) ∙ ap (unless fb) (last ∙ sym (unless-first (too_large k) d _)) ∙ sym (unless-first fb (first (too_large k) d) _))
-    ∙ sym (unless-first fa (first fb (first (too_large k) d)) _)
+    ∙ ap (unless fa) (settling-postfix t b (Item.Binary op ∷ rest) (n + expression_size t a) (ra ∷ before) ∙ ap (unless fb) (last ∙ sym (unless-first (too_large k) d _)) ∙ sym (unless-first fb (first_of_two (too_large k) d) _))
+    ∙ sym (unless-first fa (first_of_two fb (first_of_two (too_large k) d)) _)
 
--- What the whole comes to.
+-- What settling all items of an expression gives.
 pub settling-whole : (t : Table) (e : Expression Operand) → settling t (postfix e) 0 [] ≡ unless (fault_behind 0 t e) (Ok (reduced t (replaced t e) ∷ []))
 settling-whole t e = ap (λ items. settling t items 0 []) (sym (append-nil (postfix e))) ∙ settling-postfix t e [] 0 []

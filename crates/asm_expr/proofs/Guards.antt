@@ -1,4 +1,5 @@
--- An expression without faulty divisions divides by numbers alone once it is reduced.
+-- If no division of an expression has an error, then the reduced expression divides only by numbers other than 0, and by parts
+-- without a value.
 use Rattle.std.proofs.Common.{◌≡◌, ℕ, zero, suc, ◌+◌, ◌≤◌, Bool, true, false, not, ◌||◌, ◌&&◌, List, [], ◌∷◌, ◌++◌, Option, Some, None, length, map, nat_lt, if◌then◌else◌, refl, sym, ap, ◌∙◌, arith, append_assoc, append-nil, length-append}
 use Rattle.std.specs.Cmp.Derive.{both_true}
 use Rattle.std.proofs.lemmas.Bool.{ltb-false}
@@ -9,11 +10,11 @@ use Rattle.asm_parse.specs.Expression.{Expression, Leaf, Prefix, Infix, postfix}
 use Rattle.asm_value.specs.Items.{is_division, is_divisor, is_guarded, is_guarded_behind}
 use Rattle.asm_parse.specs.Source.{Operand}
 use Rattle.asm_expr.specs.Names.{Table}
-use Rattle.asm_expr.specs.Settling.{known_item, replaced, size, worth, leaf_or, reduced, first, divisor_fault, division_fault, divisions_fault, too_large, fault_behind, fault}
+use Rattle.asm_expr.specs.Settling.{known_item, replaced, expression_size, worth, leaf_or, reduced, first_of_two, divisor_fault, division_fault, divisions_fault, too_large, fault_behind, fault}
 use Rattle.asm_expr.specs.Private.Folding.{root}
 use Rattle.asm_value.proofs.Judgements.{and_parts}
 
--- a number that is not 0, or one that is not known
+-- whether an item is a number other than 0, or a part without a value
 abbrev is_safe : Item Part → Bool
 is_safe (Item.Leaf (Part.Number (suc n))) = true
 is_safe (Item.Leaf (Part.Unknown what)) = true
@@ -27,7 +28,7 @@ abbrev safe_behind : Item Part → List (Item Part) → Bool
 safe_behind before [] = true
 safe_behind before (item ∷ items) = (not (divides_at item) || is_safe before) && safe_behind item items
 
--- Each division of an expression has one of these on its right.
+-- Each division of the expression has such an item as its divisor.
 abbrev pub Guarded : Expression Part → Type 0
 Guarded (Leaf part) = Unit {0}
 Guarded (Prefix op a) = Guarded a
@@ -41,7 +42,7 @@ guarded_behind (Infix op a b) g x rest h =
     let split : (postfix a ++ postfix b) ++ Item.Binary op ∷ [] ++ rest ≡ postfix a ++ (postfix b ++ Item.Binary op ∷ rest) = simp append_assoc in
     ap (safe_behind x) split ∙ guarded_behind a g.0 x (postfix b ++ Item.Binary op ∷ rest) (guarded_behind b g.1 (root a) (Item.Binary op ∷ rest) (both_true g.2 h))
 
--- What is known is guarded as it was.
+-- Such an item of an object file is such an item of an expression that is being settled.
 known_safe : (x : Item Atom) → is_safe (known_item x) ≡ is_divisor x
 known_safe (Item.Leaf (Atom.Number zero)) = refl
 known_safe (Item.Leaf (Atom.Number (suc n))) = refl
@@ -71,7 +72,7 @@ guarded_postfix e items is g =
     let zero : Item Atom = Item.Leaf (Atom.Number 0) in
     first_guarded zero items (sym (known_behind zero items) ∙ ap (safe_behind (known_item zero)) (is ∙ sym (append-nil (postfix e))) ∙ guarded_behind e g (known_item zero) [] refl)
 
-first_none : (f g : Option ExprFault) → first f g ≡ None → (f ≡ None) × (g ≡ None)
+first_none : (f g : Option ExprFault) → first_of_two f g ≡ None → (f ≡ None) × (g ≡ None)
 first_none None g e = (refl, e)
 first_none (Some fault) g e = cc
 
@@ -119,7 +120,7 @@ guarded_reduced t (Infix op a b) none =
     let g = first_none _ _ f.1 in
     leaf_guarded (Infix op (reduced t a) (reduced t b)) _ (guarded_reduced t a f.0, guarded_reduced t b g.0, divides_by t op b g.1)
 
--- An expression without a fault has none in its divisions, and is small.
+-- An expression without an error has none in its divisions, and is not too large.
 pub sound : (t : Table) (n : ℕ) (e : Expression Operand) → fault_behind n t e ≡ None → divisions_fault t (replaced t e) ≡ None
 sound t n (Leaf operand) none = (first_none _ _ none).1
 sound t n (Prefix op a) none = sound t n a (first_none _ _ none).0
@@ -127,7 +128,7 @@ sound t n (Infix op a b) none =
     let f = first_none _ _ none in
     let g = first_none _ _ f.1 in
     let h = first_none _ _ g.1 in
-    rw (sound t n a f.0, sound t (n + size t a) b g.0) h.1
+    rw (sound t n a f.0, sound t (n + expression_size t a) b g.0) h.1
 
 fits : (n : ℕ) → too_large n ≡ None → n ≤ 64
 fits n none = elim (nat_lt 64 n) as (λ b. nat_lt 64 n ≡ b → (if b then Some ExprFault.TooLarge else None) ≡ None → n ≤ 64) [
@@ -135,7 +136,7 @@ fits n none = elim (nat_lt 64 n) as (λ b. nat_lt 64 n ≡ b → (if b then Some
   | false ↦ λ is _. omega (arith, ltb-false 64 n is)
 ] refl none
 
-pub small : (t : Table) (n : ℕ) (e : Expression Operand) → fault_behind n t e ≡ None → n + size t e ≤ 64
+pub small : (t : Table) (n : ℕ) (e : Expression Operand) → fault_behind n t e ≡ None → n + expression_size t e ≤ 64
 small t n (Leaf operand) none = fits _ (first_none _ _ none).0
 small t n (Prefix op a) none = fits _ (first_none _ _ none).1
 small t n (Infix op a b) none =

@@ -56,7 +56,7 @@ left_one items e spelled =
       | Some (x ∷ y ∷ more) ↦ λ bad. cc
     ] whole
 
--- a list by its ends
+-- a list is its first element, its middle and its last element
 pub ends : {A : Type 0} (xs : List A) (first last : A) → 2 ≤ length xs → first ≡ get_or xs 0 first → last ≡ get_or xs (length xs - 1) last → xs ≡ (first ∷ take (length xs - 1 - 1) (drop 1 xs)) ++ last ∷ []
 ends [] first last h f l = absurd (omega (arith, h))
 ends {A} (x ∷ xs) first last h f l =
@@ -93,7 +93,7 @@ sums Binary.Add is = refl
 sums Binary.Subtract is = refl
 sums op is = cc
 
--- A list that ends so has one end.
+-- Equal lists have the same last element and the same front.
 same_end : {A : Type 0} (xs ys : List A) (x y : A) → xs ++ x ∷ [] ≡ ys ++ y ∷ [] → (xs ≡ ys) × (x ≡ y)
 same_end [] [] x y e = (refl, cc)
 same_end [] (b ∷ []) x y e = cc
@@ -106,7 +106,7 @@ same_end (a ∷ xs) (b ∷ ys) x y e =
     let r = same_end xs ys x y rest in
     (ap (λ h. h ∷ xs) head ∙ ap (λ t. b ∷ t) r.0, r.1)
 
--- What is `$+n` or `$-n` is found.
+-- The code finds every `$+n` and `$-n`.
 pub not_found : (items n : List (Item Term)) (first last : Item Term) → items ≡ (first ∷ n) ++ last ∷ [] → leaves_one n ≡ false → IsNotFromHere (map source_item items)
 not_found items n first last cut none = λ op e sum is.
     let whole : map source_item items ≡ (source_item first ∷ map source_item n) ++ source_item last ∷ [] = ap (map source_item) cut ∙ map-append source_item (first ∷ n) (last ∷ []) in

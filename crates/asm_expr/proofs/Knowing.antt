@@ -1,4 +1,4 @@
--- What an object has of items that are being settled, part by part.
+-- The object file's items of cells that are being settled, cell by cell.
 use Rattle.std.proofs.Common.{◌≡◌, ◌<◌, ◌+◌, ◌++◌, ◌∷◌, [], ℕ, List, Option, Some, None, length, drop, get_or, refl, sym, ap, ◌∙◌, append-nil}
 use Rattle.std.proofs.lemmas.List.{append_assoc, at_drop_more}
 use Rattle.std.proofs.lemmas.Grind.{flat_map-append}
@@ -21,7 +21,7 @@ two_fronts : {X : Type 0} (front added : List X) (o : Option (List X)) → optio
 two_fronts front added None = refl
 two_fronts front added (Some others) = ap Some (sym (append_assoc front added others))
 
--- what is known of items behind others
+-- the object file's items of two lists, one after the other
 known-append : (xs ys : List (Item Part)) → items_known (xs ++ ys) ≡ and_then (items_known xs) (λ added. option_map (λ others. added ++ others) (items_known ys))
 known-append [] ys = sym (same_others (items_known ys))
 known-append (x ∷ xs) ys =
@@ -44,7 +44,7 @@ some_front : (front new : List (Item Atom)) (o : Option (List (Item Atom))) → 
 some_front front new None is = cc
 some_front front new (Some added) is = let same : front ++ added ≡ new = cc in (added, refl, sym same)
 
--- Some parts are known, and stand in a list; one more is read.
+-- The items of some cells are known and in a list; one more cell is read.
 module _ (cells : List Cell) (at : ℕ) (c : Cell) (front : List (Item Atom)) (lt : at < length cells) (read : c ≡ get_or cells at c)
     (before : option_map (λ others. front ++ others) (items_known (flat_map opened (drop at cells))) ≡ items_known (flat_map opened cells)) where
   left_items : items_known (flat_map opened (drop at cells))
@@ -53,7 +53,7 @@ module _ (cells : List Cell) (at : ℕ) (c : Cell) (front : List (Item Atom)) (l
       at_drop_more (λ cs. items_known (flat_map opened cs)) cells at c lt ∙ ap (λ x. items_known (opened x ++ flat_map opened (drop (at + 1) cells))) (sym read)
       ∙ known-append (opened c) (flat_map opened (drop (at + 1) cells))
 
-  -- It is known too,
+  -- Its items are known too,
   pub next_known : (added new : List (Item Atom)) → items_known (opened c) ≡ Some added → new ≡ front ++ added
       → option_map (λ others. new ++ others) (items_known (flat_map opened (drop (at + 1) cells))) ≡ items_known (flat_map opened cells)
   next_known added new is put =
@@ -61,7 +61,7 @@ module _ (cells : List Cell) (at : ℕ) (c : Cell) (front : List (Item Atom)) (l
       ap (λ xs. option_map (λ others. xs ++ others) rest) put ∙ sym (two_fronts front added rest)
       ∙ ap (option_map (λ others. front ++ others)) (sym (left_items ∙ ap (λ o. and_then o (λ added. option_map (λ others. added ++ others) rest)) is)) ∙ before
 
-  -- or nothing of all is.
+  -- or the items of all cells are not known.
   pub next_lost : items_known (opened c) ≡ None → None ≡ items_known (flat_map opened cells)
   next_lost is =
       let rest = items_known (flat_map opened (drop (at + 1) cells)) in

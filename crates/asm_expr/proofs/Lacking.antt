@@ -14,7 +14,7 @@ use Rattle.asm_expr.specs.Names.{Table, found}
 use Rattle.asm_expr.specs.Distances.{some_distance}
 use Rattle.asm_expr.specs.Settling.{both, difference, distance_of, fault, is_known, item_known, items_known, leaf_or, meant, or_else, reduced, replaced, settled, settled_as, single, through, unknown_of, unless_fault, worth, worth_unknown}
 
--- a part has no value
+-- some part of the expression has no value
 abbrev Lacks : Expression Part → Type 0
 Lacks (Leaf (Part.Unknown what)) = Unit {0}
 Lacks (Leaf (Part.Number n)) = ⊥

@@ -1,4 +1,4 @@
--- What an operand says that begins at `$`.
+-- What an operand that begins with `$` says.
 use Rattle.std.proofs.Common.{◌≡◌, ◌≢◌, ℕ, nat_lt, length, Bool, true, false, List, [], ◌∷◌, None, Ok, Err, map, if◌then◌else◌, refl, sym, ap, ◌∙◌}
 use Rattle.std.specs.List.{list_all, list_any}
 use Rattle.std.proofs.lemmas.Bool.{false≢true}
@@ -13,26 +13,26 @@ use Rattle.asm_expr.specs.Names.{Table}
 use Rattle.asm_expr.specs.Settling.{known, known_item, replaced, single, distance_of, difference, or_else, worth, leaf_or, reduced, fault, is_constant_item}
 use Rattle.asm_expr.specs.Private.Answers.{IsSettled, is_unknown}
 use Rattle.asm_expr.proofs.Constants.{steady}
-use Rattle.asm_expr.specs.Offsets.{behind, constant_behind, offset, IsOffset}
+use Rattle.asm_expr.specs.Offsets.{offset_after_here, constant_behind, offset, IsOffset}
 use Rattle.asm_expr.specs.Private.Heads.{is_sum, IsFromHere, IsNotFromHere, numbered}
 use Rattle.asm_value.proofs.Postfix.{one_expression}
 use Rattle.asm_expr.proofs.Guards.{reduced_number, reduced_unknown}
 use Rattle.asm_expr.proofs.Fixed.{infix_known, leaf_unknown}
 use Rattle.asm_expr.proofs.Known.{object_tree}
 
--- by the operator
+-- what the operand says, for each of the two operators
 sum_offset : (t : Table) (op : Binary) (n : Expression Operand) → is_sum op ≡ true → offset t (Infix op (Leaf Here) n) ≡ constant_behind t op n
 sum_offset t Binary.Add n is = refl
 sum_offset t Binary.Subtract n is = refl
 sum_offset t op n is = cc
 
-never_other : (b : Bool) (op : Binary) (w : Worth) → (if b then behind op w else Offset.NotConstant) ≢ Offset.Other
+never_other : (b : Bool) (op : Binary) (w : Worth) → (if b then offset_after_here op w else Offset.NotConstant) ≢ Offset.Other
 never_other true op (Worth.Number n) = λ e. cc
 never_other true op Worth.Unknown = λ e. cc
 never_other true op Worth.Varies = λ e. cc
 never_other false op w = λ e. cc
 
--- An operand of no such form.
+-- An operand of another form.
 pub other : (t : Table) (e : Expression Operand) → postfix e ≢ Item.Leaf Here ∷ [] → IsNotFromHere (postfix e) → offset t e ≡ Offset.Other
 other t (Leaf Here) alone none = absurd (alone refl)
 other t (Leaf (Number n)) alone none = refl
@@ -42,7 +42,7 @@ other t (Infix Binary.Add (Leaf Here) b) alone none = absurd (none Binary.Add b 
 other t (Infix Binary.Subtract (Leaf Here) b) alone none = absurd (none Binary.Subtract b refl refl)
 other t (Infix op a b) alone none = refl
 
--- A number is no place.
+-- An expression that is a number is not a single address.
 pub no_place : (t : Table) (e : Expression Part) (m : ℕ) → worth t e ≡ Worth.Number m → single e ≡ Single.Other
 no_place t (Leaf (Part.Number n)) m is = refl
 no_place t (Leaf (Part.Ref r)) m is = cc
@@ -57,14 +57,14 @@ no_difference : (t : Table) (op : Binary) (here : ℕ) (e : Expression Part) →
 no_difference t Binary.Subtract here e none = ap (distance_of t (Single.Place here)) none
 no_difference t op here e none = refl
 
--- The whole, where n is a number.
+-- The whole, if n is a number.
 whole_is : (t : Table) (op : Binary) (n : Expression Operand) (m : ℕ) → worth t (replaced t n) ≡ Worth.Number m
     → reduced t (replaced t (Infix op (Leaf Here) n)) ≡ Infix op (Leaf (Part.Ref t.here)) (Leaf (Part.Number m))
 whole_is t op n m is =
     ap (λ d. leaf_or (Infix op (Leaf (Part.Ref t.here)) (reduced t (replaced t n))) (or_else d Worth.Varies)) (no_difference t op t.here (replaced t n) (no_place t (replaced t n) m is))
     ∙ ap (Infix op (Leaf (Part.Ref t.here))) (reduced_number t (replaced t n) m is)
 
--- What is not known lies behind no place by a number.
+-- An address and an unknown number have no difference that is a number.
 some_place : (t : Table) (p : ℕ) (op : Binary) (e : Expression Part) (m : ℕ) → worth t e ≡ Worth.Unknown → or_else (difference t op (Leaf (Part.Ref p)) e) Worth.Varies ≡ Worth.Number m → ⊥
 some_place t p Binary.Subtract (Leaf (Part.Number n)) m is bad = cc
 some_place t p Binary.Subtract (Leaf (Part.Ref r)) m is bad = cc
@@ -80,7 +80,7 @@ some_place t p Binary.Subtract (Prefix u a) m is bad = cc
 some_place t p Binary.Subtract (Infix o a b) m is bad = cc
 some_place t p op e m is bad = cc
 
--- The whole is not known where n is not.
+-- The whole is not known if n is not.
 whole_unknown : (t : Table) (op : Binary) (e : Expression Part) (x : Expression Atom) → worth t e ≡ Worth.Unknown → reduced t (Infix op (Leaf (Part.Ref t.here)) e) ≡ known x → ⊥
 whole_unknown t op e x is made =
     let d = difference t op (Leaf (Part.Ref t.here)) e in
@@ -93,7 +93,7 @@ whole_unknown t op e x is made =
           leaf_unknown p.1 u.0 (sym p.4 ∙ u.1)
     ] refl made
 
--- The items of the whole, where they are known.
+-- The items of the whole, if they are known.
 number_item : (x : Item Atom) (m : ℕ) → known_item x ≡ Item.Leaf (Part.Number m) → x ≡ Item.Leaf (Atom.Number m)
 number_item (Item.Leaf (Atom.Number n)) m e = let same : n ≡ m = cc in ap (λ k. Item.Leaf (Atom.Number k)) same
 number_item (Item.Leaf (Atom.Ref r)) m e = cc
@@ -107,7 +107,7 @@ three_number op (a ∷ []) x z m e = cc
 three_number op (a ∷ b ∷ []) x z m e = cc
 three_number op (a ∷ b ∷ c ∷ d ∷ more) x z m e = cc
 
--- What is found of an operand, put together.
+-- What the code has found about an operand.
 pub record Begins (e : Expression Operand) (op : Binary) (n : List (Item Operand)) : Type 0 where
   pub sum : is_sum op ≡ true
   pub tree : Expression Operand
@@ -117,10 +117,10 @@ pub record Begins (e : Expression Operand) (op : Binary) (n : List (Item Operand
 pub begins : (e : Expression Operand) (op : Binary) (n items : List (Item Operand)) → postfix e ≡ items → IsFromHere op n items → Begins e op n
 begins e op n items is f = record { sum = f.sum; tree = f.tree; spelled = f.spelled; whole = one_expression e (Infix op (Leaf Here) f.tree) (is ∙ sym f.whole) }
 
-says : (t : Table) (e : Expression Operand) (op : Binary) (n : List (Item Operand)) → (b : Begins e op n) → offset t e ≡ (if list_all (is_constant_item t) n then behind op (worth t (replaced t b.tree)) else Offset.NotConstant)
+says : (t : Table) (e : Expression Operand) (op : Binary) (n : List (Item Operand)) → (b : Begins e op n) → offset t e ≡ (if list_all (is_constant_item t) n then offset_after_here op (worth t (replaced t b.tree)) else Offset.NotConstant)
 says t e op n b =
     ap (offset t) b.whole ∙ sum_offset t op b.tree b.sum
-    ∙ ap (λ xs. if list_all (is_constant_item t) xs then behind op (worth t (replaced t b.tree)) else Offset.NotConstant) b.spelled
+    ∙ ap (λ xs. if list_all (is_constant_item t) xs then offset_after_here op (worth t (replaced t b.tree)) else Offset.NotConstant) b.spelled
 
 pub refused : (t : Table) (e : Expression Operand) (op : Binary) (n : List (Item Operand)) (why : ExprFault) → Begins e op n → IsSettled t e (Err why) → IsOffset t e (Err why)
 refused t e op n why b is = by_fault why is (λ bad. never_other (list_all (is_constant_item t) n) op (worth t (replaced t b.tree)) (sym (says t e op n b) ∙ bad))
@@ -134,15 +134,15 @@ refused t e op n why b is = by_fault why is (λ bad. never_other (list_all (is_c
     by_fault ExprFault.TooLarge is never = (is, never)
 
 pub varies : (t : Table) (e : Expression Operand) (op : Binary) (n : List (Item Operand)) → Begins e op n → list_all (is_constant_item t) n ≡ false → offset t e ≡ Offset.NotConstant
-varies t e op n b none = says t e op n b ∙ ap (λ c. if c then behind op (worth t (replaced t b.tree)) else Offset.NotConstant) none
+varies t e op n b none = says t e op n b ∙ ap (λ c. if c then offset_after_here op (worth t (replaced t b.tree)) else Offset.NotConstant) none
 
-constant_says : (t : Table) (e : Expression Operand) (op : Binary) (n : List (Item Operand)) → (b : Begins e op n) → list_all (is_constant_item t) n ≡ true → offset t e ≡ behind op (worth t (replaced t b.tree))
-constant_says t e op n b all = says t e op n b ∙ ap (λ c. if c then behind op (worth t (replaced t b.tree)) else Offset.NotConstant) all
+constant_says : (t : Table) (e : Expression Operand) (op : Binary) (n : List (Item Operand)) → (b : Begins e op n) → list_all (is_constant_item t) n ≡ true → offset t e ≡ offset_after_here op (worth t (replaced t b.tree))
+constant_says t e op n b all = says t e op n b ∙ ap (λ c. if c then offset_after_here op (worth t (replaced t b.tree)) else Offset.NotConstant) all
 
 pub unknown : (t : Table) (e : Expression Operand) (op : Binary) (n : List (Item Operand)) → Begins e op n → list_all (is_constant_item t) n ≡ true
     → list_any is_unknown (postfix (reduced t (replaced t e))) ≡ true → offset t e ≡ Offset.Unknown
 unknown t e op n b all some =
-    constant_says t e op n b all ∙ elim (worth t (replaced t b.tree)) as (λ w. worth t (replaced t b.tree) ≡ w → behind op w ≡ Offset.Unknown) [
+    constant_says t e op n b all ∙ elim (worth t (replaced t b.tree)) as (λ w. worth t (replaced t b.tree) ≡ w → offset_after_here op w ≡ Offset.Unknown) [
       | Worth.Number m ↦ λ is.
           let none : list_any is_unknown (postfix (reduced t (replaced t e))) ≡ false =
           ap (λ x. list_any is_unknown (postfix (reduced t (replaced t x)))) b.whole ∙ ap (λ x. list_any is_unknown (postfix x)) (whole_is t op b.tree m is) in
@@ -155,7 +155,7 @@ pub number : (t : Table) (e : Expression Operand) (op : Binary) (n : List (Item 
     → map known_item items ≡ postfix (reduced t (replaced t e)) → offset t e ≡ numbered op items
 number t e op n items b all made =
     let whole : map known_item items ≡ postfix (reduced t (replaced t (Infix op (Leaf Here) b.tree))) = made ∙ ap (λ x. postfix (reduced t (replaced t x))) b.whole in
-    constant_says t e op n b all ∙ elim (worth t (replaced t b.tree)) as (λ w. worth t (replaced t b.tree) ≡ w → behind op w ≡ numbered op items) [
+    constant_says t e op n b all ∙ elim (worth t (replaced t b.tree)) as (λ w. worth t (replaced t b.tree) ≡ w → offset_after_here op w ≡ numbered op items) [
       | Worth.Number m ↦ λ is. sym (three_number op items _ _ m (whole ∙ ap postfix (whole_is t op b.tree m is)))
       | Worth.Unknown ↦ λ is.
           let object = object_tree items (reduced t (replaced t (Infix op (Leaf Here) b.tree))) whole in

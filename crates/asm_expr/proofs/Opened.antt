@@ -1,4 +1,4 @@
--- What parts that are being settled are, written out.
+-- The items of cells that are being settled.
 use Rattle.std.proofs.Common.{◌≡◌, ◌≤◌, ◌<◌, ◌+◌, ◌-◌, ◌++◌, ◌∷◌, [], ℕ, zero, suc, List, Option, All, Some, None, length, map, take, drop, get_or, Bool, true, false, refl, sym, ap, subst, ◌∙◌, arith, inl, inr, append_assoc, length-append, append-nil}
 use Rattle.std.proofs.lemmas.List.{get_or-append_right, get_or-take, length-map, length-take-le, take-append-le, take_more, take_more_set}
 use Rattle.std.proofs.lemmas.List.Elements.{All-append}
@@ -18,7 +18,7 @@ use Rattle.asm_expr.specs.Private.Folding.{root}
 use Rattle.asm_expr.proofs.Known.{known-postfix}
 use Rattle.asm_expr.proofs.Spread.{last_item}
 
--- Each part has an item at least.
+-- Each cell has at least one item.
 pub some_opened : (cells : List Cell) → All IsSound cells → length cells ≤ length (flat_map opened cells)
 some_opened [] sound = omega arith
 some_opened (Cell.Item item ∷ cells) sound = omega (arith, some_opened cells (λ k d lt. sound (suc k) d (omega (arith, lt))))
@@ -26,7 +26,7 @@ some_opened (Cell.List list ∷ cells) sound =
     let long : IsSound (Cell.List list) = sound 0 (Cell.List list) (omega arith) in
     omega (arith, long.1, length-map list.now.value.items known_item, length-append (map known_item list.now.value.items) (flat_map opened cells), some_opened cells (λ k d lt. sound (suc k) d (omega (arith, lt))))
 
--- An operator is the last of an expression's items where there are two at least.
+-- The last item of an expression is an operator if there are at least two items.
 no_leaf : (e : Expression Atom) → 2 ≤ length (postfix e) → is_leaf (root (known e)) ≡ false
 no_leaf (Leaf atom) long = absurd (omega (arith, long))
 no_leaf (Prefix op a) long = refl
@@ -38,7 +38,7 @@ last_operator items d operation =
     let spelled : postfix (known e) ≡ map known_item items = known-postfix e ∙ ap (map known_item) operation.0.spelled in
     ap (λ xs. is_leaf (get_or xs (length xs - 1) d)) (sym spelled) ∙ ap is_leaf (last_item (known e) [] d) ∙ no_leaf e (omega (arith, operation.1, ap length operation.0.spelled))
 
--- So a part that ends in a leaf is one item.
+-- So a cell that ends in a leaf is one item.
 pub alone : (c : Cell) (d : Item Part) → IsSound c → is_leaf (get_or (opened c) (length (opened c) - 1) d) ≡ true → (x : Item Part) × (opened c ≡ x ∷ [])
 alone (Cell.Item item) d sound ends = (item, refl)
 alone (Cell.List list) d sound ends = let none = last_operator list.now.value.items d sound in cc
@@ -57,7 +57,7 @@ pub without_last : (xs : List (Item Part)) (x : Item Part) → take (length (xs 
 without_last xs x = ap (λ k. take k (xs ++ x ∷ [])) (omega (arith, length-append xs (x ∷ []))) ∙ take-append_seam xs (x ∷ [])
 
 module _ (cells : List Cell) where
-  -- the first parts, written out
+  -- the items of the first n cells
   abbrev pub first_parts : ℕ → List (Item Part)
   first_parts n = flat_map opened (take n cells)
 
@@ -83,7 +83,7 @@ module _ (cells : List Cell) where
   pub sound_at : (m n : ℕ) (d : Cell) → n < m → m ≤ length cells → All IsSound (take m cells) → IsSound (get_or cells n d)
   sound_at m n d lt few all = subst IsSound (get_or-take m cells n d lt) (all n d (omega (arith, lt, length-take-le m cells few)))
 
-  -- Where all end in a leaf, the last part is one item.
+  -- If all the items end in a leaf, the last cell is one item.
   pub ends_alone : (n : ℕ) (d : Cell) → n < length cells → IsSound (get_or cells n d) → EndsInLeaf (first_parts (n + 1)) → (x : Item Part) × (first_parts (n + 1) ≡ first_parts n ++ x ∷ [])
   ends_alone n d lt sound ends =
       let c = get_or cells n d in
@@ -94,15 +94,15 @@ module _ (cells : List Cell) where
       let one = alone c e sound last in
       (one.0, whole ∙ ap (λ xs. first_parts n ++ xs) one.1)
 
-  -- There are no more parts than items.
+  -- There are no more cells than items.
   pub few_parts : (n : ℕ) (now : List (Item Part)) → n ≤ length cells → All IsSound (take n cells) → first_parts n ≡ now → n ≤ length now
   few_parts n now few sound is = omega (arith, some_opened (take n cells) sound, length-take-le n cells few, ap length is)
 
-  -- What stands where a part is put behind the others, by the list that they were before.
+  -- The items after one more cell is appended.
   pub put_behind : (n : ℕ) (c : Cell) (now : List (Item Part)) → n < length cells → first_parts n ≡ now → flat_map opened (take (n + 1) (set cells n c)) ≡ now ++ opened c
   put_behind n c now lt is = one_put n c lt ∙ ap (λ xs. xs ++ opened c) is
 
-  -- a leaf in the place of the last item,
+  -- The items after a leaf replaces the last item,
   pub put_last : (n : ℕ) (p : Part) (d : Cell) (now : List (Item Part)) → n < length cells → All IsSound (take (n + 1) cells) → first_parts (n + 1) ≡ now → EndsInLeaf now
       → flat_map opened (take (n + 1) (set cells n (Cell.Item (Item.Leaf p)))) ≡ take (length now - 1) now ++ Item.Leaf p ∷ []
   put_last n p d now lt sound is ends =
@@ -110,7 +110,7 @@ module _ (cells : List Cell) where
       let whole : now ≡ first_parts n ++ one.0 ∷ [] = sym is ∙ one.1 in
       one_put n (Cell.Item (Item.Leaf p)) lt ∙ ap (λ xs. xs ++ Item.Leaf p ∷ []) (sym (without_last (first_parts n) one.0) ∙ ap (λ xs. take (length xs - 1) xs) (sym whole))
 
-  -- and of the last two.
+  -- and after a leaf replaces the last two.
   pub put_two : (n : ℕ) (p : Part) (d : Cell) (now : List (Item Part)) → n + 1 < length cells → All IsSound (take ((n + 1) + 1) cells) → first_parts ((n + 1) + 1) ≡ now → EndsInLeaf now
       → EndsInLeaf (take (length now - 1) now) → flat_map opened (take (n + 1) (set cells n (Cell.Item (Item.Leaf p)))) ≡ take (length now - 2) now ++ Item.Leaf p ∷ []
   put_two n p d now lt sound is right left =
@@ -123,7 +123,7 @@ module _ (cells : List Cell) where
       let rest : take (length now - 2) now ≡ first_parts n = ap (λ k. take k now) short ∙ ap (take (length (first_parts n))) all ∙ take-append_seam (first_parts n) (x.0 ∷ y.0 ∷ []) in
       one_put n (Cell.Item (Item.Leaf p)) (omega (arith, lt)) ∙ ap (λ xs. xs ++ Item.Leaf p ∷ []) (sym rest)
 
-  -- The last item is that of the last part,
+  -- The last item is that of the last cell,
   pub last_is : (n : ℕ) (d : Cell) (e : Item Part) (now : List (Item Part)) → n < length cells → All IsSound (take (n + 1) cells) → first_parts (n + 1) ≡ now
       → get_or now (length now - 1) e ≡ get_or (opened (get_or cells n d)) (length (opened (get_or cells n d)) - 1) e
   last_is n d e now lt sound is =
@@ -131,7 +131,7 @@ module _ (cells : List Cell) where
       let one = some c (sound_at (n + 1) n d (omega arith) (omega (arith, lt)) sound) in
       ap (λ xs. get_or xs (length xs - 1) e) (sym is ∙ one_more n d lt) ∙ last_behind (first_parts n) (opened c) e one
 
-  -- and the one before it that of the part before, where the last one is a leaf.
+  -- and the one before it is that of the cell before, if the last item is a leaf.
   pub before_is : (n : ℕ) (d : Cell) (e : Item Part) (now : List (Item Part)) → n + 1 < length cells → All IsSound (take ((n + 1) + 1) cells) → first_parts ((n + 1) + 1) ≡ now → EndsInLeaf now
       → get_or now (length now - 2) e ≡ get_or (opened (get_or cells n d)) (length (opened (get_or cells n d)) - 1) e
   before_is n d e now lt sound is ends =
@@ -147,7 +147,7 @@ module _ (cells : List Cell) where
       ∙ get_or-append (first_parts (n + 1)) (y.0 ∷ []) e (length (first_parts (n + 1)) - 1) within
       ∙ last_is n d e (first_parts (n + 1)) (omega (arith, lt)) (sound_fewer ((n + 1) + 1) (n + 1) (omega arith) (omega (arith, lt)) sound) refl
 
-  -- Where one part alone is there, no two items end in a leaf.
+  -- If there is only one cell, there are not two items that end in a leaf.
   pub not_two : (n : ℕ) (d : Cell) (now : List (Item Part)) → n < 2 → n ≤ length cells → All IsSound (take n cells) → first_parts n ≡ now → EndsInLeaf now → 2 ≤ length now → ⊥
   not_two zero d now lt few sound is ends two = absurd (omega (arith, two, ap length is))
   not_two (suc zero) d now lt few sound is ends two =
@@ -155,7 +155,7 @@ module _ (cells : List Cell) where
       absurd (omega (arith, two, ap length (sym is ∙ one.1)))
   not_two (suc (suc n)) d now lt few sound is ends two = absurd (omega (arith, lt))
 
--- The same by how many parts there are.
+-- The same, given how many cells there are.
 module _ (cells : List Cell) (len : ℕ) (now : List (Item Part)) (few : len ≤ length cells) (sound : All IsSound (take len cells)) (is : flat_map opened (take len cells) ≡ now) where
   pub room_for : (most : ℕ) → length now < most → length cells ≡ most → len < length cells
   room_for most less all = omega (arith, less, all, few_parts cells len now few sound is)

@@ -10,14 +10,14 @@ use Rattle.asm_parse.specs.Source.{Operand, Number, Name, Here}
 use Rattle.asm_value.specs.Postfix.{run, only, tree}
 use Rattle.asm_value.specs.Items.{refs, refs_in}
 use Rattle.asm_expr.specs.Names.{Table, found}
-use Rattle.asm_expr.specs.Settling.{known, leaf_or, meant, reduced, replaced, settled, size, standing, is_constant_item, worth}
+use Rattle.asm_expr.specs.Settling.{known, leaf_or, meant, reduced, replaced, settled, expression_size, standing, is_constant_item, worth}
 use Rattle.asm_expr.specs.Equating.{constant_of, equated, meaning_of}
 use Rattle.asm_expr.specs.Origins.{AllBring, AreRefs, Brings}
 use Rattle.asm_expr.proofs.Answers.{is_settled}
 use Rattle.asm_expr.proofs.Equates.{equated_as}
 use Rattle.asm_expr.proofs.Known.{object_tree}
 
--- Each place in an expression has a property.
+-- Each ref in an expression has the property.
 abbrev pub Places : (ℕ → Type 0) → Expression Part → Type 0
 Places P (Leaf (Part.Ref r)) = P r
 Places P (Leaf _) = Unit {0}
@@ -31,7 +31,7 @@ AllPlaces P (e ∷ before) = Places P (known e) × AllPlaces P before
 abbrev refs-append : (xs ys : List (Item Atom)) → refs (xs ++ ys) ≡ refs xs ++ refs ys
 refs-append = flat_map-append refs_in
 
--- the items of an expression have the refs that stand in it
+-- the items of an expression have the refs of the expression,
 items_of_places : (P : ℕ → Type 0) (e : Expression Atom) → Places P (known e) → All P (refs (postfix e))
 items_of_places P (Leaf (Atom.Number n)) p = All-nil P
 items_of_places P (Leaf (Atom.Ref r)) p = All-cons P r [] p (All-nil P)
@@ -103,7 +103,7 @@ settled_refs P t all e (Settled.Known items) is =
     subst (λ xs. All P (refs xs)) object.2 (items_of_places P object.0 places)
 settled_refs P t all e (Settled.Unknown what) is = tt
 
--- The same of what an EQU's expression stands for.
+-- The same holds for what an EQU's expression stands for.
 pub equated_refs : (P : ℕ → Type 0) (t : Table) → AllBring P t → (e : Expression Operand) (what : Meaning) → equated t e ≡ Ok what → Brings P what
 equated_refs P t all e what is =
     let s = equated_as t e what is in
@@ -117,7 +117,7 @@ equated_refs P t all e what is =
     constant_refs (Settled.Unknown Unknown.VariesInByte) = tt
 
     meaning_refs : (s : Settled) → AreRefs P s → Brings P (meaning_of t e s)
-    meaning_refs s refs = elim (list_all (is_constant_item t) (postfix e)) as (λ c. Brings P (if c then constant_of s else Meaning.Equ (record { settled = s; size = size t e }))) [
+    meaning_refs s refs = elim (list_all (is_constant_item t) (postfix e)) as (λ c. Brings P (if c then constant_of s else Meaning.Equ (record { settled = s; size = expression_size t e }))) [
       | true ↦ constant_refs s
       | false ↦ refs
     ]

@@ -1,4 +1,4 @@
--- The items of expressions that stand one behind the other.
+-- The items of several expressions, one after the other.
 use Rattle.std.proofs.Common.{◌≡◌, ◌≤◌, ℕ, ◌-◌, List, [], ◌∷◌, ◌++◌, Option, Some, None, Ok, length, take, get_or, true, refl, sym, ap, subst, ◌∙◌, arith, append_assoc, length-append}
 use Rattle.std.proofs.Math.Seq.{take-append_seam}
 use Rattle.std.proofs.lemmas.List.{get_or-take, get_or_default, length-take-le}
@@ -13,7 +13,7 @@ use Rattle.asm_expr.specs.Settling.{distance_of, or_else, both, leaf_or}
 use Rattle.asm_expr.specs.Private.Cells.{EndsInLeaf, is_leaf}
 use Rattle.asm_expr.specs.Private.Folding.{root, worth_of, single_of, leaf_of, folded_unary, folded_binary, fold_one, prefixed, joined, Folds}
 
--- what stands before the last item
+-- the items before the last one
 pub front : Expression Part → List (Item Part)
 front (Leaf part) = []
 front (Prefix op a) = postfix a
@@ -36,7 +36,7 @@ last_item a before d =
     let len : length (spread (a ∷ before)) - 1 ≡ length (spread before ++ front a) = omega (arith, ap length whole, length-append (spread before ++ front a) (root a ∷ [])) in
     ap (λ k. get_or (spread (a ∷ before)) k d) len ∙ ap (λ xs. get_or xs (length (spread before ++ front a)) d) whole ∙ get_or-middle (spread before ++ front a) (root a) [] d
 
--- Where the last expression is a leaf, the item before it is the last one of the expression before it.
+-- If the last expression is a leaf, the item before it is the last one of the expression before it.
 second_item : (part : Part) (a : Expression Part) (before : List (Expression Part)) (d : Item Part)
     → get_or (spread (Leaf part ∷ a ∷ before)) (length (spread (Leaf part ∷ a ∷ before)) - 2) d ≡ root a
 second_item part a before d =
@@ -60,7 +60,7 @@ leaf_none other (Worth.Number n) is = cc
 leaf_none other Worth.Unknown is = cc
 leaf_none other Worth.Varies is = refl
 
--- What is fixed is a leaf.
+-- The operand of a prefix operator whose result is fixed is a leaf.
 unary_leaf : (op : Unary) (a : Expression Part) (p : Part) → leaf_of (folded_unary op (root a)) ≡ Some p → (q : Part) × (a ≡ Leaf q)
 unary_leaf op (Leaf q) p is = (q, refl)
 unary_leaf op (Prefix u a) p is = cc
@@ -97,7 +97,7 @@ distance_none t (Single.Place p) = refl
 distance_none t Single.Anything = refl
 distance_none t Single.Other = refl
 
--- An operand that is no leaf makes no leaf.
+-- If an operand is no leaf, the result varies.
 right_operator : (t : Table) (op : Binary) (x y : Item Part) → worth_of y ≡ Worth.Varies → single_of y ≡ Single.Other → folded_binary t op x y ≡ Worth.Varies
 right_operator t Binary.Subtract x y varies ref =
     ap (λ o. or_else (distance_of t (single_of x) o) (both (binary Binary.Subtract) (worth_of x) (worth_of y))) ref
@@ -117,7 +117,7 @@ same_fold t op a (Leaf part) before x y left right = ap (λ z. folded_binary t o
 same_fold t op a (Prefix u b) before x y left right = ap (λ z. folded_binary t op x z) right ∙ right_operator t op x (Item.Unary u) refl refl ∙ sym (right_operator t op (root a) (Item.Unary u) refl refl)
 same_fold t op a (Infix o b c) before x y left right = ap (λ z. folded_binary t op x z) right ∙ right_operator t op x (Item.Binary o) refl refl ∙ sym (right_operator t op (root a) (Item.Binary o) refl refl)
 
--- What makes a leaf are two leaves.
+-- If the result of an infix operator is fixed, both operands are leaves.
 two_leaves : (t : Table) (op : Binary) (a b : Expression Part) (n : Part) → leaf_of (folded_binary t op (root a) (root b)) ≡ Some n → (p : Part) × (q : Part) × (a ≡ Leaf p) × (b ≡ Leaf q)
 two_leaves t op (Leaf p) (Leaf q) n is = (p, q, refl, refl)
 two_leaves t op (Leaf p) (Prefix u b) n is = let none = ap leaf_of (right_operator t op (Item.Leaf p) (Item.Unary u) refl refl) in cc
@@ -157,7 +157,7 @@ binary_other t op a b before old new x y n is len left right none made =
     let apart : (((spread before ++ postfix a) ++ postfix b) ++ Item.Binary op ∷ []) ≡ spread before ++ ((postfix a ++ postfix b) ++ Item.Binary op ∷ []) = simp append_assoc in
     made ∙ ap (λ xs. xs ++ Item.Binary op ∷ []) is ∙ apart ∙ ap (λ e. spread (e ∷ before)) (sym (leaf_none (Infix op a b) (folded_binary t op (root a) (root b)) same))
 
--- What makes a leaf stands behind leaves.
+-- If the result of an operator is fixed, the items before it are leaves.
 unary_is : (op : Unary) (x : Item Part) (p : Part) → leaf_of (folded_unary op x) ≡ Some p → is_leaf x ≡ true
 unary_is op (Item.Leaf q) p leaf = refl
 unary_is op (Item.Unary u) p leaf = cc
@@ -195,7 +195,7 @@ pub none_of : (o : Option ExprFault) → ((why : ExprFault) → o ≡ Some why �
 none_of None never = refl
 none_of (Some why) never = absurd (never why refl)
 
--- a prefix operator's step, of which the first expression is known once there is one
+-- the step of a prefix operator, given the expression before it
 pub folds_unary : (t : Table) (op : Unary) (before : List (Expression Part)) (new : List (Item Part)) → 1 ≤ length before
     → ((a : Expression Part) (rest : List (Expression Part)) → before ≡ a ∷ rest → new ≡ spread (prefixed op a ∷ rest)) → Folds (fold_one t (Item.Unary op) before) {A = Unit {0}} (Ok tt) new
 folds_unary t op [] new enough made = absurd (omega (arith, enough))

@@ -1,4 +1,4 @@
--- The state of a source that is settled item by item.
+-- What holds while the items of an expression are settled one by one.
 use Rattle.std.proofs.Common.{◌≡◌, ℕ, ◌+◌, ◌≤◌, ◌<◌, List, [], ◌∷◌, ◌++◌, Option, Some, None, Result, Ok, Err, length, map, if◌then◌else◌, drop, get_or, refl, sym, ap, ◌∙◌, arith, length-append}
 use Rattle.std.proofs.lemmas.List.{at_drop_more, at_drop_all, length-map}
 use Rattle.std.proofs.lemmas.Bool.{lt-ltb, le-ltb}
@@ -6,15 +6,15 @@ use Rattle.asm_expr.specs.Types.{Item, Atom, ExprFault, Settled, Worth}
 use Rattle.asm_expr.specs.declared.part.Part.{Part}
 use Rattle.asm_parse.specs.Expression.{Expression, Leaf, Prefix, Infix, postfix}
 use Rattle.asm_value.specs.Postfix.{spread, put, run, only, tree}
-use Rattle.asm_expr.specs.Names.{AreCounted, IsCounted, Table, found, items_of}
+use Rattle.asm_expr.specs.Names.{AreCounted, IsCounted, Table, found, item_count}
 use Rattle.common.specs.Results.{◌>>=◌}
 use Rattle.asm_expr.specs.declared.meaning.Meaning.{Meaning}
 use Rattle.asm_parse.specs.declared.item.Term.{Term}
 use Rattle.std.proofs.Math.ListN.{get_or-map}
 use Rattle.asm_value.specs.Items.{value}
-use Rattle.asm_parse.specs.Source.{Operand, Number, Name, Here, IsSource, source_item}
+use Rattle.asm_parse.specs.Source.{Operand, Number, Name, Here, AreExpressionItems, source_item}
 use Rattle.asm_value.specs.Postfix.{source}
-use Rattle.asm_expr.specs.Settling.{stands_for, standing, meant, size_meant, size, known, known_item, replaced, reduced, worth, divisions_fault, too_large, fault, IsWorth}
+use Rattle.asm_expr.specs.Settling.{stands_for, standing, meant, size_meant, expression_size, known, known_item, replaced, reduced, worth, divisions_fault, too_large, fault, IsWorth}
 use Rattle.asm_expr.specs.Private.Folding.{root, worth_of, item_fault, unless, fold_one, fold_all, joined, prefixed, Folds, IsReduced, items_for, item_size, settling}
 use Rattle.asm_value.specs.Private.Steps.{arity}
 use Rattle.asm_expr.proofs.Folds.{fold-whole, settling-whole, worth-reduced}
@@ -24,7 +24,7 @@ use Rattle.asm_expr.proofs.Constants.{steady}
 use Rattle.asm_expr.proofs.Known.{object_tree, known-postfix}
 use Rattle.asm_value.proofs.Postfix.{next, run-one, run-whole, tree-postfix, one_expression}
 
--- Some items of an expression are read, behind expressions that stood before: these expressions are there now.
+-- The first `read` items are folded, after the expressions that were there before; `now` are the expressions that are there.
 pub record Folded (t : Table) (items : List (Item Part)) (before : List (Expression Part)) (read : ℕ) (out : List (Item Part)) : Type 0 where
   pub now : List (Expression Part)
   pub folds : fold_all t (drop read items) now ≡ fold_all t items before
@@ -33,7 +33,7 @@ pub record Folded (t : Table) (items : List (Item Part)) (before : List (Express
   pub runs : run (drop read items) values ≡ run items []
   pub enough : length values ≤ length now
 
--- As many values as items leave stand in the output at least, whatever stood in it before.
+-- The output has at least as many items as the items read so far leave values.
 pub record Room (items : List (Item Part)) (read len : ℕ) : Type 0 where
   pub values : List (Expression Part)
   pub runs : run (drop read items) values ≡ run items []
@@ -84,7 +84,7 @@ folded_arity t items before k out d left whole h f =
     let n = next items k d f.values left whole f.runs h in
     omega (arith, (put_len (get_or items k d) f.values n.0 n.1).0, f.enough)
 
--- what is left to fold, one item on
+-- the items that are left to fold, one item further
 fold_step : (t : Table) (items : List (Item Part)) (k : ℕ) (d : Item Part) (now : List (Expression Part)) (answer : Result (List (Expression Part)) ExprFault) → k < length items → fold_one t (get_or items k d) now ≡ answer
     → fold_all t (drop k items) now ≡ (answer >>= λ after. fold_all t (drop (k + 1) items) after)
 fold_step t items k d now answer h is = at_drop_more (λ is. fold_all t is now) items k d h ∙ ap (λ r. r >>= λ after. fold_all t (drop (k + 1) items) after) is
@@ -109,7 +109,7 @@ pub folded_end : (t : Table) (items : List (Item Part)) (before : List (Expressi
     → (f : Folded t items before k out) → (now : List (Expression Part)) × (fold_all t items before ≡ Ok now) × (out ≡ spread now)
 folded_end t items before k out h f = (f.now, sym f.folds ∙ at_drop_all (λ is. fold_all t is f.now) items k h, f.written)
 
--- Some items of a source are read, and stand for this many terms and operators.
+-- The first `read` items of a source are settled, and stand for `size` terms and operators.
 pub record Settles (t : Table) (items : List (Item Operand)) (read size : ℕ) (out : List (Item Part)) : Type 0 where
   pub now : List (Expression Part)
   pub settles : settling t (drop read items) size now ≡ settling t items 0 []
@@ -134,7 +134,7 @@ settles_arity t items k size out d left whole h s =
     let p = put_len (get_or items k d) s.values n.0 n.1 in
     (omega (arith, p.0, s.enough), omega (arith, p.0, s.enough, long s.now, ap length s.written))
 
--- what is left to settle, one item on
+-- the items that are left to settle, one item further
 settling_step : (t : Table) (items : List (Item Operand)) (k size : ℕ) (d : Item Operand) (now : List (Expression Part)) → k < length items
     → settling t (drop k items) size now ≡ unless (too_large (size + item_size t (get_or items k d)))
     (fold_all t (items_for t (get_or items k d)) now >>= λ after. settling t (drop (k + 1) items) (size + item_size t (get_or items k d)) after)
@@ -150,7 +150,7 @@ then_ok : (r : Result (List (Expression Part)) ExprFault) → (r >>= λ now. Ok 
 then_ok (Ok x) = refl
 then_ok (Err why) = refl
 
--- An item leaves as many expressions, folded, as it does unfolded.
+-- An item leaves as many expressions when it is folded as when it is not.
 for_len : (t : Table) (x : Item Operand) (before now : List (Expression Part)) → arity x ≤ length before → fold_all t (items_for t x) before ≡ Ok now → length now + arity x ≡ length before + 1
 for_len t (Item.Leaf operand) before now h e =
     let is = unless_ok (divisions_fault t (stands_for t operand)) (reduced t (stands_for t operand) ∷ before) now (sym (fold-whole t (stands_for t operand) before) ∙ e) in
@@ -171,7 +171,7 @@ settles_next t items k size out new d left after whole h s few is written grown 
     ∙ ap (λ r. r >>= λ after. settling t (drop (k + 1) items) (size + item_size t x) after) is in
     record { now = after; settles = sym step ∙ s.settles; written = written; values = n.0; runs = n.2; enough = omega (arith, p.1, q, s.enough); small = few; most = omega (arith, s.most, grown) }
 
--- A fault on the way is the fault of the whole.
+-- An error on the way is the error of the whole.
 same_fault : (t : Table) (e : Expression Operand) (why : ExprFault) → settling t (postfix e) 0 [] ≡ Err why → fault t e ≡ Some why
 same_fault t e why is =
     elim (fault t e) as (λ f. fault t e ≡ f → unless f (Ok (reduced t (replaced t e) ∷ [])) ≡ Err why → f ≡ Some why) [
@@ -219,7 +219,7 @@ tree_short items n some h =
       | Some (e ∷ f ∷ more) ↦ λ _. some
     ] refl
 
-standing_short : (s : Settled) (n : ℕ) → 1 ≤ n → items_of s ≤ n → length (postfix (standing s)) ≤ n
+standing_short : (s : Settled) (n : ℕ) → 1 ≤ n → item_count s ≤ n → length (postfix (standing s)) ≤ n
 standing_short (Settled.Known items) n some few =
     omega (arith, tree_short items n some few, ap length (known-postfix (tree items)), length-map (postfix (tree items)) known_item)
 standing_short (Settled.Unknown what) n some few = some
@@ -235,7 +235,7 @@ meant_short (Some (Meaning.Equ equated)) counted =
     let c = counted (Meaning.Equ equated) refl in
     standing_short equated.settled equated.size c.0 c.1
 
-pub replaced_short : (t : Table) → AreCounted t → (e : Expression Operand) → length (postfix (replaced t e)) ≤ size t e
+pub replaced_short : (t : Table) → AreCounted t → (e : Expression Operand) → length (postfix (replaced t e)) ≤ expression_size t e
 replaced_short t counted (Leaf (Number n)) = omega arith
 replaced_short t counted (Leaf (Name name)) = meant_short (found t name) (counted name)
 replaced_short t counted (Leaf Here) = omega arith
@@ -265,8 +265,8 @@ pub settled_worth : (t : Table) → AreCounted t → (e : Expression Operand) (o
 settled_worth t counted e out none is =
     let object = object_tree out (reduced t (replaced t e)) is in
     let same = same t (replaced t e) object.0 object.1 in
-    let whole : length out ≤ size t e = omega (arith, length-map out known_item, ap length is, reduced_shorter t (replaced t e), replaced_short t counted e) in
-    let few : size t e ≤ 64 = omega (arith, small t 0 e none) in
+    let whole : length out ≤ expression_size t e = omega (arith, length-map out known_item, ap length is, reduced_shorter t (replaced t e), replaced_short t counted e) in
+    let few : expression_size t e ≤ 64 = omega (arith, small t 0 e none) in
     record {
       expr = record {
         tree = object.0;
@@ -286,12 +286,12 @@ settled_worth t counted e out none is =
       );
     }
 
-pub source_whole : (items : List (Item Operand)) → IsSource items → postfix (source items) ≡ items
+pub source_whole : (items : List (Item Operand)) → AreExpressionItems items → postfix (source items) ≡ items
 source_whole items s = ap (λ r. postfix (only Here r)) (run-whole items s.expression s.spelled) ∙ s.spelled
 
-pub run_source : (items read : List (Item Operand)) → IsSource items → read ≡ items → (e : Expression Operand) × (run read [] ≡ Some (e ∷ []))
+pub run_source : (items read : List (Item Operand)) → AreExpressionItems items → read ≡ items → (e : Expression Operand) × (run read [] ≡ Some (e ∷ []))
 run_source items read s same = (s.expression, run-whole read s.expression (s.spelled ∙ sym same))
 
--- what a read gives, seen as an item of a source
+-- the item that was read, as an item of a source
 pub read_at : (xs : List (Item Term)) (k : ℕ) (x : Item Term) → x ≡ get_or xs k x → get_or (map source_item xs) k (source_item x) ≡ source_item x
 read_at xs k x is = get_or-map source_item xs k x ∙ ap source_item (sym is)

@@ -1,4 +1,4 @@
--- An expression whose names all stand for values has one, where the size of each statement is known.
+-- An expression whose names all stand for values has a value, if the size of each statement is known.
 use Rattle.std.proofs.Common.{◌≡◌, ◌∙◌, ◌||◌, ◌-◌, ◌%◌, sym, ap, ℕ, zero, suc, Bool, true, false, List, [], ◌∷◌, ◌++◌, Option, Some, None, Ok, refl}
 use Rattle.std.specs.Prelude.{if◌then◌else◌, length, nat_lt, nat_le, take, drop}
 use Rattle.std.specs.List.{list_all, list_any, sum_by}
@@ -11,14 +11,14 @@ use Rattle.asm_parse.specs.Expression.{Expression, Leaf, Prefix, Infix, postfix,
 use Rattle.asm_parse.specs.Source.{Operand, Number, Name, Here}
 use Rattle.asm_expr.specs.Names.{Table, found}
 use Rattle.asm_value.specs.Postfix.{tree}
-use Rattle.asm_expr.specs.Distances.{backwards, between, bytes, bytes_of, distance, is_relaxable, is_unsized}
+use Rattle.asm_expr.specs.Distances.{backwards, statements_between, bytes_taken, statement_bytes, distance, is_relaxable, is_unsized}
 use Rattle.asm_expr.specs.Origins.{is_value, is_valued_item, is_valued_name}
 use Rattle.asm_expr.specs.Settling.{both, difference, distance_of, fault, item_known, items_known, known, leaf_or, meant, or_else, reduced, replaced, settled, settled_as, single, standing, through, unknown_of, unless_fault, worth}
 use Rattle.asm_expr.proofs.Anywhere.{of_infix, of_prefix}
 use Rattle.asm_value.proofs.Judgements.{and_parts}
 use Rattle.asm_value.proofs.Places.{neither}
 
--- each part has a value
+-- each part of the expression has a value
 abbrev Has : Expression Part → Type 0
 Has (Leaf (Part.Number n)) = Unit {0}
 Has (Leaf (Part.Ref r)) = Unit {0}
@@ -47,7 +47,7 @@ or_sure (Worth.Number n) w first second = tt
 or_sure Worth.Unknown w first second = absurd first
 or_sure Worth.Varies w first second = second
 
--- Among statements of known sizes each distance is known, or varies.
+-- If the size of each statement is known, each distance is a number or varies.
 none_taken : (n : ℕ) (statements : List Statement) → list_any is_unsized statements ≡ false → list_any is_unsized (take n statements) ≡ false
 none_taken zero [] none = refl
 none_taken zero (s ∷ ss) none = refl
@@ -61,8 +61,8 @@ none_dropped zero statements none = none
 none_dropped (suc n) [] none = refl
 none_dropped (suc n) (s ∷ ss) none = none_dropped n ss (neither (is_unsized s) (list_any is_unsized ss) none).1
 
-bytes_sure : (statements : List Statement) → list_any is_unsized statements ≡ false → IsSure (bytes statements)
-bytes_sure statements none = by (list_any is_relaxable statements) (list_any is_unsized statements) none (sum_by bytes_of statements)
+bytes_sure : (statements : List Statement) → list_any is_unsized statements ≡ false → IsSure (bytes_taken statements)
+bytes_sure statements none = by (list_any is_relaxable statements) (list_any is_unsized statements) none (sum_by statement_bytes statements)
   where
     by : (varies unknown : Bool) → unknown ≡ false → (n : ℕ) → IsSure (if varies then Worth.Varies else if unknown then Worth.Unknown else Worth.Number (n % modulus))
     by true unknown is n = tt
@@ -74,19 +74,19 @@ backwards_sure (Worth.Number n) sure = tt
 backwards_sure Worth.Unknown sure = sure
 backwards_sure Worth.Varies sure = tt
 
-between_sure : (statements : List Statement) (low high : ℕ) → list_any is_unsized statements ≡ false → IsSure (bytes (between statements low high))
-between_sure statements low high none = bytes_sure (between statements low high) (none_taken (high - low) (drop low statements) (none_dropped low statements none))
+between_sure : (statements : List Statement) (low high : ℕ) → list_any is_unsized statements ≡ false → IsSure (bytes_taken (statements_between statements low high))
+between_sure statements low high none = bytes_sure (statements_between statements low high) (none_taken (high - low) (drop low statements) (none_dropped low statements none))
 
 distance_sure : (statements : List Statement) (p q : ℕ) → list_any is_unsized statements ≡ false → IsSure (distance statements p q)
 distance_sure statements p q none =
-    by (nat_lt (length statements) p || nat_lt (length statements) q) (nat_le q p) _ _ (between_sure statements q p none) (backwards_sure (bytes (between statements p q)) (between_sure statements p q none))
+    by (nat_lt (length statements) p || nat_lt (length statements) q) (nat_le q p) _ _ (between_sure statements q p none) (backwards_sure (bytes_taken (statements_between statements p q)) (between_sure statements p q none))
   where
     by : (past forth : Bool) (v w : Worth) → IsSure v → IsSure w → IsSure (if past then Worth.Varies else if forth then v else w)
     by true forth v w first second = tt
     by false true v w first second = first
     by false false v w first second = second
 
--- What is worth of parts that have values is sure, and reducing takes none away.
+-- If all parts of an expression have values, it is a number or varies, and reducing it takes no value away.
 module _ (t : Table) (none : list_any is_unsized t.statements ≡ false) where
   far_sure : (x y : Single) → (x ≡ Single.Anything → ⊥) → (y ≡ Single.Anything → ⊥) → IsSure (distance_of t x y)
   far_sure (Single.Place p) (Single.Place q) left right = distance_sure t.statements p q none
@@ -125,7 +125,7 @@ module _ (t : Table) (none : list_any is_unsized t.statements ≡ false) where
   reduced_has (Prefix op a) has = leaf_has (Prefix op (reduced t a)) (worth t (Prefix op a)) (worth_sure (Prefix op a) has) (reduced_has a has)
   reduced_has (Infix op a b) has = leaf_has (Infix op (reduced t a) (reduced t b)) (worth t (Infix op a b)) (worth_sure (Infix op a b) has) (reduced_has a has.0, reduced_has b has.1)
 
--- Names that stand for values bring such parts.
+-- Names that stand for values bring only parts with values.
 known_has : (e : Expression Atom) → Has (known e)
 known_has (Leaf (Atom.Number n)) = tt
 known_has (Leaf (Atom.Ref r)) = tt
@@ -154,7 +154,7 @@ replaced_has t (Infix op a b) is =
     let sides = of_infix (is_valued_item t) op a b is in
     (replaced_has t a sides.0, replaced_has t b sides.1)
 
--- The items of parts that have values are those of an object.
+-- Items whose parts have values are items of an object file.
 abbrev AreKnown : List (Item Part) → Type 0
 AreKnown xs = (items : List (Item Atom)) × (items_known xs ≡ Some items)
 

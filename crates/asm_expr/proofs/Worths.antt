@@ -1,4 +1,4 @@
--- What is settled is worth what the whole is: for the answer as a function of the table and the tree.
+-- The settled items have the value of the whole, for `settled` as a function of the table and the tree.
 use Rattle.std.proofs.Common.{◌≡◌, Ok, sym, ap, ◌∙◌, inl}
 use Rattle.asm_expr.specs.Types.{Settled}
 use Rattle.asm_parse.specs.Expression.{Expression}

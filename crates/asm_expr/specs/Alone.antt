@@ -6,7 +6,7 @@ use Rattle.asm_value.specs.declared.atom.Atom.{Atom}
 use Rattle.asm_expr.specs.declared.meaning.Meaning.{Meaning}
 use Rattle.asm_expr.specs.Names.{Table, found}
 
--- the number or place that a name stands for, where it has a value and is no expression
+-- the number or ref that a name stands for; None if it has no value or stands for an expression
 abbrev pub atom_meant : Option Meaning → Option Atom
 atom_meant (Some (Meaning.Label r)) = Some (Atom.Ref r)
 atom_meant (Some (Meaning.External r)) = Some (Atom.Ref r)
@@ -18,15 +18,15 @@ atom_of t (Number n) = Some (Atom.Number n)
 atom_of t (Name name) = atom_meant (found t name)
 atom_of t Here = Some (Atom.Ref t.here)
 
--- the same of an expression of one term
+-- the number or ref that an expression of one term stands for
 abbrev pub atom_alone : Table → List (Item Operand) → Option Atom
 atom_alone t (Item.Leaf operand ∷ []) = atom_of t operand
 atom_alone t _ = None
 
-abbrev pub number_in : Option Atom → Option ℕ
-number_in (Some (Atom.Number n)) = Some n
-number_in _ = None
+abbrev pub atom_number : Option Atom → Option ℕ
+atom_number (Some (Atom.Number n)) = Some n
+atom_number _ = None
 
--- the number that an expression of one term is
+-- the number that an expression of one term stands for
 abbrev pub number_alone : Table → List (Item Operand) → Option ℕ
-number_alone t items = number_in (atom_alone t items)
+number_alone t items = atom_number (atom_alone t items)

@@ -6,7 +6,7 @@ use Rattle.asm_expr.specs.declared.answer.Settled.{Settled}
 use Rattle.asm_expr.specs.declared.meaning.Meaning.{Meaning}
 use Rattle.asm_value.specs.declared.statement.Statement.{Statement}
 
--- Each name with what it stands for; the statement whose place is `$`; the statements that are passed, in order.
+-- Each name and what it stands for; the statement whose address is `$`; and the statements so far, in order.
 pub record Table : Type 0 where
   pub entries : List (List ℕ × Meaning)
   pub here : ℕ
@@ -15,7 +15,7 @@ pub record Table : Type 0 where
 abbrev pub empty : Table
 empty = record { entries = []; here = 0; statements = [] }
 
--- what a name stands for
+-- what a name stands for, if it is in the table
 abbrev pub found : Table → List ℕ → Option Meaning
 found t name = lookup (bytes_eq name) t.entries
 
@@ -25,16 +25,16 @@ with_meaning name what t = record t { entries = t.entries ++ (name, what) ∷ []
 abbrev pub with_statement : Statement → Table → Table
 with_statement statement t = record t { statements = t.statements ++ statement ∷ [] }
 
--- how many items an expression has; one without a value counts as one
-abbrev pub items_of : Settled → ℕ
-items_of (Settled.Known items) = length items
-items_of (Settled.Unknown what) = 1
+-- how many items a settled expression has; an expression without a value counts as one item
+abbrev pub item_count : Settled → ℕ
+item_count (Settled.Known items) = length items
+item_count (Settled.Unknown what) = 1
 
--- An EQU name's expression stands for as many terms and operators as it has items, at least, and for one.
+-- An EQU name's expression stands for at least one term or operator, and for at least as many as it has items.
 abbrev pub IsCounted : Meaning → Type 0
-IsCounted (Meaning.Equ equated) = (1 ≤ equated.size) × (items_of equated.settled ≤ equated.size)
+IsCounted (Meaning.Equ equated) = (1 ≤ equated.size) × (item_count equated.settled ≤ equated.size)
 IsCounted _ = Unit {0}
 
--- Each name's does.
+-- That holds for each name of the table.
 abbrev pub AreCounted : Table → Type 0
 AreCounted t = (name : List ℕ) (what : Meaning) → found t name ≡ Some what → IsCounted what

@@ -1,4 +1,4 @@
--- What the names handed in make of an expression: its first fault, or its items with each fixed part as its number.
+-- What an expression is settled as: its first error, or its items with names replaced and each fixed part as its number.
 use Rattle.std.specs.Prelude.{◌≡◌, ◌≤◌, ◌↔◌, length, [], ◌∷◌, ℕ, zero, suc, ◌+◌, Bool, true, false, List, Option, Some, None, Result, Ok, Err, if◌then◌else◌, nat_lt, is_some}
 use Rattle.std.specs.List.{list_all}
 use Rattle.std.specs.Option.{option_map}
@@ -23,7 +23,7 @@ use Rattle.asm_value.specs.Items.{IsExpr, value}
 use Rattle.asm_expr.specs.Distances.{distance, some_distance, Step}
 use Rattle.asm_expr.specs.Names.{Table, found}
 
--- What is settled has one leaf more than an object: what has no value.
+-- While an expression is being settled, it may have one kind of leaf more than one of an object file: a part without a value.
 abbrev pub part : Atom → Part
 part (Atom.Number n) = Part.Number n
 part (Atom.Ref r) = Part.Ref r
@@ -42,7 +42,7 @@ abbrev pub standing : Settled → Expression Part
 standing (Settled.Known items) = known (tree items)
 standing (Settled.Unknown what) = Leaf (Part.Unknown what)
 
--- Names are replaced by what they stand for. (That a name stands for something is the caller's to see to.)
+-- A name is replaced by what it stands for. (The caller has to see to it that it stands for something.)
 abbrev pub meant : Option Meaning → Expression Part
 meant (Some (Meaning.Label statement)) = Leaf (Part.Ref statement)
 meant (Some (Meaning.External ref)) = Leaf (Part.Ref ref)
@@ -62,21 +62,21 @@ replaced t (Leaf operand) = stands_for t operand
 replaced t (Prefix op a) = Prefix op (replaced t a)
 replaced t (Infix op a b) = Infix op (replaced t a) (replaced t b)
 
--- How many terms and operators an expression stands for.
+-- How many terms and operators a name stands for.
 abbrev pub size_meant : Option Meaning → ℕ
 size_meant (Some (Meaning.Equ equated)) = equated.size
 size_meant _ = 1
 
-abbrev pub size_of : Table → Operand → ℕ
-size_of t (Name name) = size_meant (found t name)
-size_of t _ = 1
+abbrev pub operand_size : Table → Operand → ℕ
+operand_size t (Name name) = size_meant (found t name)
+operand_size t _ = 1
 
-abbrev pub size : Table → Expression Operand → ℕ
-size t (Leaf operand) = size_of t operand
-size t (Prefix op a) = size t a + 1
-size t (Infix op a b) = (size t a + size t b) + 1
+abbrev pub expression_size : Table → Expression Operand → ℕ
+expression_size t (Leaf operand) = operand_size t operand
+expression_size t (Prefix op a) = expression_size t a + 1
+expression_size t (Infix op a b) = (expression_size t a + expression_size t b) + 1
 
--- An expression that is one place, or may be one.
+-- Whether an expression is a single address, or may be one.
 abbrev pub single : Expression Part → Single
 single (Leaf (Part.Ref r)) = Single.Place r
 single (Leaf (Part.Unknown Unknown.Anything)) = Single.Anything
@@ -88,7 +88,8 @@ distance_of t (Single.Place p) Single.Anything = some_distance t.statements p
 distance_of t Single.Anything (Single.Place q) = some_distance t.statements q
 distance_of t _ _ = Worth.Varies
 
--- What a difference of two single places is: their distance. It varies for any other operator and operands.
+-- What is known of the difference of two single addresses: their distance. For any other operator or operands the answer is that it
+-- varies.
 abbrev pub difference : Table → Binary → Expression Part → Expression Part → Worth
 difference t Binary.Subtract a b = distance_of t (single a) (single b)
 difference t _ a b = Worth.Varies
@@ -97,7 +98,7 @@ abbrev pub or_else : Worth → Worth → Worth
 or_else Worth.Varies other = other
 or_else worth other = worth
 
--- What an operator makes varies where an operand does, and else is not known where an operand is not.
+-- The result of an operator varies if an operand does, and otherwise is not known if an operand is not known.
 abbrev pub through : (ℕ → ℕ) → Worth → Worth
 through f (Worth.Number a) = Worth.Number (f a)
 through f other = other
@@ -114,9 +115,9 @@ worth_unknown Unknown.Number = Worth.Unknown
 worth_unknown Unknown.Varies = Worth.Varies
 worth_unknown Unknown.VariesInByte = Worth.Varies
 
--- What is known of an expression: its number where it is fixed and each part has a value, that is where no place stands in it but in
--- differences of two single places between which no relaxable jump stands; that it varies whatever parts without a value are; else
--- nothing.
+-- What is known of an expression. It is a number if the expression is fixed and each part has a value: each address in it is in a
+-- difference of two single addresses with no relaxable jump between them. It varies, if it does so whatever the parts without a
+-- value are. Otherwise nothing is known.
 abbrev pub worth : Table → Expression Part → Worth
 worth t (Leaf (Part.Number n)) = Worth.Number n
 worth t (Leaf (Part.Ref r)) = Worth.Varies
@@ -124,7 +125,7 @@ worth t (Leaf (Part.Unknown what)) = worth_unknown what
 worth t (Prefix op a) = through (unary op) (worth t a)
 worth t (Infix op a b) = or_else (difference t op a b) (both (binary op) (worth t a) (worth t b))
 
--- Each fixed part becomes its number, or one that is not known.
+-- A fixed part becomes its number, or an unknown number.
 abbrev pub leaf_or : Expression Part → Worth → Expression Part
 leaf_or other (Worth.Number n) = Leaf (Part.Number n)
 leaf_or other Worth.Unknown = Leaf (Part.Unknown Unknown.Number)
@@ -135,12 +136,12 @@ reduced t (Leaf part) = Leaf part
 reduced t (Prefix op a) = leaf_or (Prefix op (reduced t a)) (worth t (Prefix op a))
 reduced t (Infix op a b) = leaf_or (Infix op (reduced t a) (reduced t b)) (worth t (Infix op a b))
 
--- the first of two faults, if there is one
-abbrev pub first : Option ExprFault → Option ExprFault → Option ExprFault
-first (Some fault) other = Some fault
-first None other = other
+-- the first of two errors, if there is one
+abbrev pub first_of_two : Option ExprFault → Option ExprFault → Option ExprFault
+first_of_two (Some fault) other = Some fault
+first_of_two None other = other
 
--- A divisor is fixed, and not 0. One that is not known has no fault.
+-- A divisor has to be fixed, and not 0. One that is not known has no error.
 abbrev pub divisor_fault : Worth → Option ExprFault
 divisor_fault (Worth.Number (suc n)) = None
 divisor_fault (Worth.Number zero) = Some ExprFault.DivideByZero
@@ -150,27 +151,27 @@ divisor_fault Worth.Varies = Some ExprFault.LabelDivisor
 abbrev pub division_fault : Table → Binary → Expression Part → Option ExprFault
 division_fault t op divisor = if divides op then divisor_fault (worth t divisor) else None
 
--- The first division, in postfix order, that has a fault.
+-- The error of the first division, in postfix order, that has one.
 abbrev pub divisions_fault : Table → Expression Part → Option ExprFault
 divisions_fault t (Leaf part) = None
 divisions_fault t (Prefix op a) = divisions_fault t a
-divisions_fault t (Infix op a b) = first (divisions_fault t a) (first (divisions_fault t b) (division_fault t op b))
+divisions_fault t (Infix op a b) = first_of_two (divisions_fault t a) (first_of_two (divisions_fault t b) (division_fault t op b))
 
--- There are not more terms and operators than the most items.
+-- There may be no more terms and operators than `MOST_ITEMS`.
 abbrev pub too_large : ℕ → Option ExprFault
 too_large n = if nat_lt MOST_ITEMS n then Some ExprFault.TooLarge else None
 
--- The first fault in postfix order, of an expression before which some number of terms and operators stands.
+-- The first error of an expression in postfix order, given how many terms and operators come before it.
 abbrev pub fault_behind : ℕ → Table → Expression Operand → Option ExprFault
-fault_behind n t (Leaf operand) = first (too_large (n + size_of t operand)) (divisions_fault t (stands_for t operand))
-fault_behind n t (Prefix op a) = first (fault_behind n t a) (too_large (n + size t (Prefix op a)))
+fault_behind n t (Leaf operand) = first_of_two (too_large (n + operand_size t operand)) (divisions_fault t (stands_for t operand))
+fault_behind n t (Prefix op a) = first_of_two (fault_behind n t a) (too_large (n + expression_size t (Prefix op a)))
 fault_behind n t (Infix op a b) =
-    first (fault_behind n t a) (first (fault_behind (n + size t a) t b) (first (too_large (n + size t (Infix op a b))) (division_fault t op (replaced t b))))
+    first_of_two (fault_behind n t a) (first_of_two (fault_behind (n + expression_size t a) t b) (first_of_two (too_large (n + expression_size t (Infix op a b))) (division_fault t op (replaced t b))))
 
 abbrev pub fault : Table → Expression Operand → Option ExprFault
 fault t e = fault_behind 0 t e
 
--- The items of an object, where no part has no value.
+-- The items of an object file, if each part has a value.
 abbrev pub known_by : Part → Option Atom
 known_by (Part.Number n) = Some (Atom.Number n)
 known_by (Part.Ref r) = Some (Atom.Ref r)
@@ -185,7 +186,7 @@ abbrev pub items_known : List (Item Part) → Option (List (Item Atom))
 items_known [] = Some []
 items_known (x ∷ xs) = and_then (item_known x) (λ item. option_map (λ items. item ∷ items) (items_known xs))
 
--- What is known of a reduced expression without a value: it varies where it is no single part.
+-- What is known of a reduced expression that has a part without a value. It varies if it is not a single part.
 abbrev pub unknown_of : Expression Part → Unknown
 unknown_of (Leaf (Part.Unknown what)) = what
 unknown_of (Prefix Unary.High a) = Unknown.VariesInByte
@@ -200,12 +201,12 @@ abbrev pub unless_fault : Option ExprFault → Settled → Result Settled ExprFa
 unless_fault None answer = Ok answer
 unless_fault (Some why) answer = Err why
 
--- What is answered of an expression: its first fault; else the items of it reduced; or what is known of it, where a part has no value.
+-- What an expression is settled as: its first error; or else its reduced items; or what is known of it, if a part has no value.
 abbrev pub settled : Table → Expression Operand → Result Settled ExprFault
 settled t e = let r = reduced t (replaced t e) in unless_fault (fault t e) (settled_as (items_known (postfix r)) (unknown_of r))
 
--- An item stands for no place and no external. (An EQU name that is not constant has a place or an external in it. Nothing is said
--- against a name whose own line is faulty, nor against one that stands for nothing.)
+-- Whether a name stands for no address and no external. (An EQU name that is not constant has one of these in its expression. A
+-- name whose own line has an error counts as constant, and so does one that stands for nothing.)
 abbrev pub is_constant_name : Option Meaning → Bool
 is_constant_name (Some (Meaning.Constant n)) = true
 is_constant_name (Some Meaning.UnknownConstant) = true
@@ -218,25 +219,26 @@ is_constant_item t (Item.Leaf (Name name)) = is_constant_name (found t name)
 is_constant_item t (Item.Leaf Here) = false
 is_constant_item t _ = true
 
--- What is settled makes an expression of no more items than the whole stands for terms and operators, 64 at most. It has the value of
--- the whole at the places of every choice of jumps, laid from any beginning; where the whole is fixed it is one number, and else it is none; where
--- no place and no external stands in the whole, it is fixed.
+-- The settled items are right. They make an expression, and there are no more of them than the whole stands for terms and
+-- operators, which are 64 at most. They have the value of the whole at all addresses that step by each known size, as those of
+-- every choice of jumps do from any beginning. They are one number exactly if the whole is fixed, and also if the whole contains no
+-- address and no external.
 pub record IsWorth (t : Table) (e : Expression Operand) (items : List (Item Atom)) : Type 0 where
   pub expr : IsExpr items
-  pub short : length items ≤ size t e
-  pub small : size t e ≤ MOST_ITEMS
+  pub short : length items ≤ expression_size t e
+  pub small : expression_size t e ≤ MOST_ITEMS
   pub whole : Expression Atom
   pub known : replaced t e ≡ known whole
   pub value : (places : ℕ → ℕ) → Step t.statements places → value places (tree items) ≡ value places whole
   pub constant : list_all (is_constant_item t) (postfix e) ≡ true → (n : ℕ) × (items ≡ Item.Leaf (Atom.Number n) ∷ [])
   pub fixed : (n : ℕ) → (worth t (replaced t e) ≡ Worth.Number n) ↔ (items ≡ Item.Leaf (Atom.Number n) ∷ [])
 
--- Of what has a part without a value it is said whether it varies whatever that value is.
+-- The settled answer is right. If a part has no value, it says whether the whole varies whatever that value is.
 abbrev pub IsWorthOf : Table → Expression Operand → Settled → Type 0
 IsWorthOf t e (Settled.Known items) = IsWorth t e items
 IsWorthOf t e (Settled.Unknown what) = worth t (replaced t e) ≡ worth_unknown what
 
--- An item is no name that stands for nothing.
+-- Whether an item stands for something: it is no name, or a name in the table.
 abbrev pub is_known : Table → Item Operand → Bool
 is_known t (Item.Leaf (Name name)) = is_some (found t name)
 is_known t _ = true

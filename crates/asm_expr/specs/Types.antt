@@ -1,4 +1,4 @@
--- The public types, in one place for this crate and those above it.
+-- The public types, in one module for this crate and those above it.
 pub use Rattle.asm_parse.specs.declared.fault.ExprFault.{ExprFault}
 pub use Rattle.asm_parse.specs.declared.operator.Unary.{Unary}
 pub use Rattle.asm_parse.specs.declared.operator.Binary.{Binary}

@@ -1,4 +1,4 @@
-//! Expressions of one term, which most are.
+//! Expressions of one term, as most expressions are.
 
 ghost use Rattle.std.specs.Prelude.{◌≡◌, ◌∷◌, [], ℕ, IfSome, Ok, Some};
 ghost use Rattle.std.specs.Option.{option_map};
@@ -16,7 +16,7 @@ use crate::names::Names;
 use asm_parse::{Item, Term, TermView, Tree};
 use asm_value::{Atom, Expr};
 
-/// What a term stands for; None where that has no value, or is an expression.
+/// The number or ref that a term stands for; None if it has no value, or if it stands for an expression with an operator.
 fn atom_of(term: &Term, names: &Names) -> Option<Atom>
     ensures { result ≡ atom_of names.now (operand term.now) }
 {
@@ -31,7 +31,8 @@ fn atom_of(term: &Term, names: &Names) -> Option<Atom>
     }
 }
 
-/// What an expression of one term stands for; None for any other, and where that has no value, or is an expression.
+/// The number or ref that an expression of one term stands for; None for any other expression, and for a term that has no value or
+/// stands for an expression with an operator.
 pub(crate) fn atom_alone(parsed: &Tree, names: &Names) -> Option<Atom>
     ensures alone { result ≡ atom_alone names.now parsed.now }
 {
@@ -41,7 +42,7 @@ pub(crate) fn atom_alone(parsed: &Tree, names: &Names) -> Option<Atom>
     }
 }
 
-/// The expression for which a term stands, where settling leaves it as it is.
+/// The expression that a term stands for, if settling leaves it as it is.
 fn left_of<'a>(term: &Term, names: &'a Names) -> Option<&'a Expr>
     ensures { IfSome result (λ expr. IsLeftOperand names.now (operand term.now) expr.now) }
 {
@@ -51,7 +52,7 @@ fn left_of<'a>(term: &Term, names: &'a Names) -> Option<&'a Expr>
     }
 }
 
-/// The term that an expression of one term is.
+/// The term of an expression that has only one; None for any other expression.
 fn term_alone(parsed: &Tree) -> Option<&Term>
     ensures { option_map (λ term. operand term.now) result ≡ operand_alone parsed.now }
 {
@@ -61,7 +62,7 @@ fn term_alone(parsed: &Tree) -> Option<&Term>
     }
 }
 
-/// The expression for which an expression of one term stands, where settling leaves it as it is.
+/// The expression that the only term of an expression stands for, if settling leaves it as it is. None for any other expression.
 pub(crate) fn left_alone<'a>(parsed: &Tree, names: &'a Names) -> Option<&'a Expr>
     ensures settled { IfSome result (λ expr. settled names.now (source parsed.now) ≡ Ok (Settled.Known expr.now)) }
 {
@@ -71,8 +72,8 @@ pub(crate) fn left_alone<'a>(parsed: &Tree, names: &'a Names) -> Option<&'a Expr
     }
 }
 
-/// The number for which an expression of one term stands: a number, or the name of a constant. None for any other expression,
-/// and for a term that stands for something else.
+/// The number that an expression of one term stands for: the term is a number or the name of a constant. None for any other
+/// expression.
 pub fn number_alone(parsed: &Tree, names: &Names) -> Option<u16>
     ensures alone { result ≡ number_alone names.now parsed.now }
     ensures settled { (n : ℕ) → result ≡ Some n → settled names.now (source parsed.now) ≡ Ok (Settled.Known (Item.Leaf (Atom.Number n) ∷ [])) }

@@ -1,4 +1,4 @@
-//! What names make of an expression: the items of an object.
+//! Settling an expression: replacing its names by what they stand for, and each fixed part by its number.
 
 ghost use Rattle.std.specs.Prelude.{◌≡◌, ◌⊎◌, ◌≤◌, length, Some, Ok, Err, IfOk, IfSome};
 ghost use Rattle.std.specs.List.{AllPass};
@@ -19,17 +19,17 @@ use asm_parse::{ExprFault, Item, Tree, Unary};
 use asm_value::Expr;
 use std::alloc::{AllocError, Global};
 
-/// What names make of an expression.
+/// An expression that is settled.
 #[derive(Debug, Drop)]
 pub enum Settled {
-    /// Its items, each fixed part as its number.
+    /// The items of the expression, with each fixed part as its number.
     Known(Expr),
-    /// A part has no value, since a line that gives it is faulty: what is known of the whole.
+    /// A part has no value, because a line that it depends on has an error. This says what is known of the whole.
     Unknown(Unknown),
 }
 
 impl Settled {
-    /// The same, its items so kept that other expressions may have them.
+    /// The same, with its items kept so that other expressions can share them.
     pub(crate) fn into_shared(self, alloc: Global) -> Result<Settled, AllocError>
         ensures { IfOk result (λ shared. shared ≡ self) }
     {
@@ -40,7 +40,7 @@ impl Settled {
     }
 }
 
-/// What is known of an expression without a value, by its last item.
+/// What is known of an expression that has a part without a value, given its last item.
 fn unknown_by(last: &Item<Part>) -> Unknown
     ensures { result ≡ unknown_by (Some last.now) }
 {
@@ -51,7 +51,7 @@ fn unknown_by(last: &Item<Part>) -> Unknown
     }
 }
 
-/// What is known of an expression without a value, by its reduced items.
+/// What is known of an expression that has a part without a value, given its reduced items.
 fn unknown_of(reduced: &Parts<'_>) -> Unknown
     requires { 1 ≤ length reduced.now }
     ensures { result ≡ unknown_at_end reduced.now }
@@ -59,7 +59,8 @@ fn unknown_of(reduced: &Parts<'_>) -> Unknown
     unknown_by(&reduced.last())
 }
 
-/// What the names make of an expression of one term that settling leaves as it is, if others may have its items; else None.
+/// The settled expression, if the expression is one term that settling leaves as it is and whose items can be shared; None
+/// otherwise.
 fn settle_again(parsed: &Tree, names: &Names) -> Result<Option<Expr>, AllocError>
     ensures { IfOk result (λ answer. IfSome answer (λ expr. settled names.now (source parsed.now) ≡ Ok (Settled.Known expr))) }
 {
@@ -69,13 +70,13 @@ fn settle_again(parsed: &Tree, names: &Names) -> Result<Option<Expr>, AllocError
     }
 }
 
-/// What the names make of an expression of any number of terms.
+/// Settles an expression of any number of terms.
 fn settle_items(alloc: Global, parsed: &Tree, names: &Names) -> Result<Settled, ExprFault>
     requires { AllPass (is_known names.now) parsed.now }
     ensures settled { (result ≡ settled names.now (source parsed.now)) ⊎ (result ≡ Err ExprFault.NoMemory) }
     ensures worth { IfOk result (λ answer. IsWorthOf names.now (source parsed.now) answer) }
 {
-    // Called for what it says of the table: the items that are settled are no more than the most items.
+    // Called for its clause, from which follows that there are never more than `MOST_ITEMS` settled items.
     names.counted();
     let reduced = reduce(parsed, names)?;
     match kept_of(alloc, reduced.cells())? {
@@ -84,22 +85,21 @@ fn settle_items(alloc: Global, parsed: &Tree, names: &Names) -> Result<Settled, 
     }
 }
 
-/// What the names make of an expression: its items with each fixed part as its number. A part may have no value, since the
-/// line that gives it is faulty: a name that stands for none, or a distance over a statement whose size is not known. That is
-/// no fault of this expression, and what is answered is whether the whole is one number all the same.
+/// Settles an expression: replaces its names by what they stand for, and each fixed part by its number. A part may have no value,
+/// if the line that it depends on has an error: a name whose own line has one, or a distance over a statement of unknown size. That
+/// is no error of this expression; the answer then says whether the whole is fixed all the same.
 ///
 /// # Errors
 ///
-/// Where an expression has several faults, the one that shows first in postfix order:
-/// [`ExprFault::DivideByZero`] and [`ExprFault::LabelDivisor`] at a division whose divisor is 0, or is not fixed;
-/// [`ExprFault::TooLarge`] at the 65th term or operator, after EQU names are replaced.
-/// [`ExprFault::NoMemory`] where the items cannot grow.
+/// If an expression has several errors, the first one in postfix order: [`ExprFault::DivideByZero`] and [`ExprFault::LabelDivisor`]
+/// at a division whose divisor is 0, or is not fixed; [`ExprFault::TooLarge`] at the 65th term or operator, counted after EQU names
+/// are replaced. [`ExprFault::NoMemory`] if memory runs out.
 pub fn settle(alloc: Global, parsed: &Tree, names: &Names) -> Result<Settled, ExprFault>
     requires { AllPass (is_known names.now) parsed.now }
     ensures settled { (result ≡ settled names.now (source parsed.now)) ⊎ (result ≡ Err ExprFault.NoMemory) }
     ensures worth { IfOk result (λ answer. IsWorthOf names.now (source parsed.now) answer) }
 {
-    // Called for what it says of the table.
+    // Called for its clause about the table.
     names.counted();
     match atom_alone(parsed, names) {
         Some(atom) => Ok(Settled::Known(Expr::leaf(atom))),

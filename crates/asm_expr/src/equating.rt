@@ -1,4 +1,4 @@
-//! What an EQU's expression stands for.
+//! What a name stands for that EQU defines by an expression.
 
 ghost use Rattle.std.specs.Prelude.{◌≡◌, ◌⊎◌, Err, IfOk};
 ghost use Rattle.std.specs.List.{AllPass};
@@ -17,17 +17,17 @@ use asm_parse::{ExprFault, Tree};
 use asm_value::constant;
 use std::alloc::Global;
 
-/// What a name stands for whose EQU has this expression.
+/// Finds what a name stands for that EQU defines by this expression.
 ///
 /// # Errors
 ///
-/// The first fault of the expression, as [`settle`](crate::settle) has it.
+/// The first error of the expression, as [`settle`](crate::settle) reports it.
 pub fn equate(alloc: Global, parsed: &Tree, names: &Names) -> Result<Meaning, ExprFault>
     requires { AllPass (is_known names.now) parsed.now }
     ensures equated { (result ≡ equated names.now (source parsed.now)) ⊎ (result ≡ Err ExprFault.NoMemory) }
     ensures counted { IfOk result IsCounted }
 {
-    // Called for what it says of the table: an expression stands for one term or operator at least.
+    // Called for its clause, from which follows that an expression stands for at least one term or operator.
     names.counted();
     let settled = settle(alloc, parsed, names)?;
     if !is_constant(parsed, names) {

@@ -1,4 +1,4 @@
-//! Operands that begin at `$`, as JR and DJNZ have them.
+//! Operands of JR and DJNZ that begin with `$`.
 
 ghost use Rattle.std.specs.Prelude.{◌≡◌, [], ◌∷◌, ◌↔◌, IsTrue, Some, map, length, nat_eq, MatchOption};
 ghost use Rattle.std.specs.List.{AllPass};
@@ -17,20 +17,20 @@ use asm_parse::{Binary, ExprFault, Item, Term, Tree};
 use asm_value::{Atom, Room, apply_binary, items, values_left};
 use std::alloc::Global;
 
-/// What an operand says that begins at `$`.
+/// What the operand of a JR or DJNZ says.
 #[derive(Clone, Copy, Debug, PartialEq, Eq)]
 pub enum Offset {
-    /// `$`, `$+n` or `$-n` where n is constant: how far it lies behind `$`, modulo 65,536.
+    /// `$`, `$+n` or `$-n` with n constant: how far the target is after `$`, modulo 65,536.
     Number(u16),
-    /// Such an operand, but n is not known, since a line that gives it is faulty.
+    /// Such an operand, but n is not known, because a line that it depends on has an error.
     Unknown,
-    /// `$+n` or `$-n` where n is not constant.
+    /// `$+n` or `$-n`, and n is not constant.
     NotConstant,
     /// An operand of another form.
     Other,
 }
 
-/// The operator of items whose first is `$` and whose last is `+` or `-`.
+/// The operator of an operand whose first item is `$` and whose last item is `+` or `-`; None for any other operand.
 fn sign_of(first: &Item<Term>, last: &Item<Term>) -> Option<Binary>
     ensures { result ≡ sign_of (source_item first.now) (source_item last.now) }
 {
@@ -41,14 +41,14 @@ fn sign_of(first: &Item<Term>, last: &Item<Term>) -> Option<Binary>
     }
 }
 
-/// Whether the items leave one value.
+/// Whether these items are one expression: whether they leave exactly one value.
 fn leaves_one(items: &[Item<Term>]) -> bool
     ensures { result ≡ option_eq nat_eq (option_map length (run items.now [])) (Some 1) }
 {
     values_left(items) == Some(1)
 }
 
-/// The operator and the items of n in `$+n` and `$-n`.
+/// The operator and the items of n, if the operand is `$+n` or `$-n`.
 fn from_here(items: &[Item<Term>]) -> Option<(Binary, &[Item<Term>])>
     ensures { MatchOption result (IsNotFromHere (map source_item items.now)) (λ found. IsFromHere found.0 (map source_item found.1.now) (map source_item items.now)) }
 {
@@ -59,7 +59,7 @@ fn from_here(items: &[Item<Term>]) -> Option<(Binary, &[Item<Term>])>
     if leaves_one(n) { Some((op, n)) } else { None }
 }
 
-/// How far the operand lies behind `$`, by its items when they are settled.
+/// How far the target is after `$`, given the settled items of `$+n` or `$-n`.
 fn numbered(op: Binary, settled: &[Item<Atom>]) -> Offset
     ensures { result ≡ numbered op settled.now }
 {
@@ -75,11 +75,12 @@ fn is_here(items: &[Item<Term>]) -> bool
     matches!(items, [Item::Leaf(Term::Here)])
 }
 
-/// How far an operand lies behind `$`, by its tree, where it is `$`, `$+n` or `$-n` with n constant.
+/// Finds how far the target of an operand is after `$`, if the operand is `$`, or `$+n` or `$-n` with n constant. The form is that
+/// of the tree: `$+2*3` has it, and `$+2+3` does not.
 ///
 /// # Errors
 ///
-/// The first fault of `$+n` or `$-n`, as [`settle`](crate::settle) has it. An operand of another form is not judged.
+/// The first error of `$+n` or `$-n`, as [`settle`](crate::settle) reports it. An operand of another form is not checked.
 pub fn offset_from_here(alloc: Global, parsed: &Tree, names: &Names) -> Result<Offset, ExprFault>
     requires { AllPass (is_known names.now) parsed.now }
     ensures { IsOffset names.now (source parsed.now) result }

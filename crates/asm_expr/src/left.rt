@@ -1,4 +1,4 @@
-//! Expressions that settling leaves as they are, which are those that were settled before.
+//! Expressions that settling leaves as they are, such as those that were settled before.
 
 ghost use Rattle.std.specs.Prelude.{◌≡◌, ◌∷◌, [], map, true};
 ghost use Rattle.std.specs.List.{flat_map};
@@ -13,7 +13,7 @@ use crate::sharing::item_known;
 use asm_parse::Item;
 use asm_value::{Atom, Expr};
 
-/// Whether a part of what was settled is this item alone.
+/// Whether a settled part is exactly this one item. It may answer false even if it is.
 fn is_item(cell: &Cell<'_>, item: &Item<Atom>) -> bool
     ensures { result ≡ true → opened cell.now ≡ known_item item.now ∷ [] }
 {
@@ -26,7 +26,7 @@ fn is_item(cell: &Cell<'_>, item: &Item<Atom>) -> bool
     }
 }
 
-/// Whether what was settled is these items.
+/// Whether the settled parts are exactly these items. It may answer false even if they are.
 fn are_items(cells: &[Cell<'_>], items: &[Item<Atom>]) -> bool
     ensures { result ≡ true → flat_map opened cells.now ≡ map known_item items.now }
 {
@@ -43,7 +43,7 @@ fn are_items(cells: &[Cell<'_>], items: &[Item<Atom>]) -> bool
     true
 }
 
-/// Whether these names make of an expression what it is.
+/// Whether settling leaves an expression as it is. It may answer false even if it does.
 pub(crate) fn is_left(expr: &Expr, names: &Names) -> bool
     ensures { result ≡ true → IsLeft names.now expr.now }
 {

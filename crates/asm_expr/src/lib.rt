@@ -1,4 +1,4 @@
-//! Expressions of Z80 assembler source: what names make of trees.
+//! Expressions of Z80 assembler source: replaces the names in a tree by what they stand for, and each fixed part by its number.
 #![tactic(auto)]
 
 mod alone;

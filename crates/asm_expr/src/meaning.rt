@@ -1,8 +1,8 @@
-//! What a name stands for.
+//! What a name of a source stands for.
 
 use crate::answer::Settled;
 
-/// What an EQU's expression is, and how many terms and operators it stands for.
+/// What an EQU's expression is once settled, and how many terms and operators it stands for.
 #[derive(Debug, Drop)]
 pub struct Equated {
     pub settled: Settled,
@@ -12,16 +12,17 @@ pub struct Equated {
 /// What a name stands for.
 #[derive(Debug, Drop)]
 pub enum Meaning {
-    /// The place of a statement, by its number.
+    /// The address of the statement with this number.
     Label(u16),
-    /// The place of an external, by its ref, a number past the end of the statements.
+    /// The address of the external with this ref, a number past the end of the statements.
     External(u16),
-    /// The value of an EQU's constant expression.
+    /// A constant: the value of an EQU's expression that contains no address and no external.
     Constant(u16),
-    /// An EQU's expression without a known value, in which no place and no external stands but, perhaps, in faulty names.
+    /// An EQU's expression whose value is not known, because a name in it has an error. No other name in it stands for an address
+    /// or an external.
     UnknownConstant,
     /// Any other EQU's expression.
     Equ(Equated),
-    /// Anything, since the name's own line is faulty.
+    /// Anything, because the name's own line has an error.
     Faulty,
 }

@@ -1,4 +1,4 @@
-//! What the names of a module stand for, and where its statements lie.
+//! The table of a module's names: what each stands for, and how large the statements are.
 
 ghost use Rattle.std.specs.Prelude.{◌≡◌, IfOk, IfSome, None, OnOk, OnErr, option_copied};
 ghost use Rattle.asm_expr.specs.Types.{Statement};
@@ -16,15 +16,16 @@ use indexmap::IndexMap;
 use std::alloc::{AllocError, Global};
 use std::marker::Model;
 
-/// What a name stands for, and what was found out of that.
+/// What a name stands for, and what is known about settling it.
 #[derive(Debug, Drop)]
 struct Entry {
     meaning: Meaning,
-    /// How many statements had passed when it was found that settling leaves the name's expression as it is.
+    /// How many statements the table had when settling was found to leave the name's expression as it is.
     left_at: Option<usize>,
 }
 
-/// What the names of a module stand for, the place of `$`, and the statements in order. Clauses see the table.
+/// What each name of a module stands for, which statement's address `$` is, and the statements in order. Clauses see the table of
+/// these.
 #[derive(Debug, Drop)]
 pub struct Names {
     entries: IndexMap<Vec<u8>, Entry, NameKey>,
@@ -44,14 +45,14 @@ impl Model for Names {
 }
 
 impl Names {
-    /// No names and no statements.
+    /// An empty table.
     pub fn new(alloc: Global) -> Names
         ensures { result ≡ empty }
     {
         Names::keyed(alloc, NameKey::of(&[]))
     }
 
-    /// No names, which are to be looked up by this key, and no statements.
+    /// An empty table whose names will be looked up by this key.
     pub fn keyed(alloc: Global, key: NameKey) -> Names
         ensures { result ≡ empty }
     {
@@ -62,7 +63,7 @@ impl Names {
         }
     }
 
-    /// No names, which are to be looked up by this key, and no statements, with room for so many of both.
+    /// An empty table whose names will be looked up by this key, with room for this many names and statements.
     pub fn with_capacity(
         alloc: Global,
         key: NameKey,
@@ -78,8 +79,8 @@ impl Names {
         })
     }
 
-    /// Adds a name in upper case, which is not there yet. An EQU name's expression stands for as many terms and operators as it
-    /// has items, at least.
+    /// Adds a name in upper case that is not in the table yet. If it is an EQU name, its expression has to stand for at least as
+    /// many terms and operators as it has items.
     pub fn define(&mut self, name: Vec<u8>, meaning: Meaning) -> Result<(), AllocError>
         requires new { found self.old name.items ≡ None }
         requires counted { IsCounted meaning }
@@ -91,7 +92,7 @@ impl Names {
         Ok(())
     }
 
-    /// How many statements have passed, if settling leaves the expression of this meaning as it is.
+    /// How many statements there are so far, if settling leaves the expression of this meaning as it is; None otherwise.
     fn left_at(&self, meaning: &Meaning) -> Option<usize>
         ensures { Knows self.now.statements meaning.now result }
     {
@@ -108,28 +109,28 @@ impl Names {
         }
     }
 
-    /// The statement whose place is `$`, by its number.
+    /// Sets the number of the statement whose address is `$`.
     pub fn set_here(&mut self, statement: u16)
         ensures { self.new ≡ record self.old { here = statement } }
     {
         self.here = statement;
     }
 
-    /// The statement whose place is `$`.
+    /// The number of the statement whose address is `$`.
     pub fn here(&self) -> u16
         ensures { result ≡ self.now.here }
     {
         self.here
     }
 
-    /// Each name's expression stands for as many terms and operators as it has items, at least: a law of the table.
+    /// A law of the table: each EQU name's expression stands for at least as many terms and operators as it has items.
     pub fn counted(&self)
         ensures { AreCounted self.now }
     {
         let _here = self.here;
     }
 
-    /// Passes a statement that takes as many bytes in every choice of jumps.
+    /// Appends a statement that has the same size in every choice of jumps.
     pub fn pass_fixed(&mut self, size: u16) -> Result<(), AllocError>
         ensures ok { OnOk result (self.new ≡ with_statement (Statement.Sized size) self.old) }
         ensures err { OnErr result (self.new ≡ self.old) }
@@ -137,7 +138,7 @@ impl Names {
         self.statements.pass(Statement::Sized(size))
     }
 
-    /// Passes a relaxable jump.
+    /// Appends a relaxable jump.
     pub fn pass_jump(&mut self) -> Result<(), AllocError>
         ensures ok { OnOk result (self.new ≡ with_statement Statement.Relaxable self.old) }
         ensures err { OnErr result (self.new ≡ self.old) }
@@ -145,7 +146,7 @@ impl Names {
         self.statements.pass(Statement::Relaxable)
     }
 
-    /// Passes a statement whose size is not known, since its own line is faulty.
+    /// Appends a statement whose size is not known, because its own line has an error.
     pub fn pass_unsized(&mut self) -> Result<(), AllocError>
         ensures ok { OnOk result (self.new ≡ with_statement Statement.Unsized self.old) }
         ensures err { OnErr result (self.new ≡ self.old) }
@@ -153,7 +154,7 @@ impl Names {
         self.statements.pass(Statement::Unsized)
     }
 
-    /// What a name in upper case stands for.
+    /// What a name in upper case stands for; None if it is not in the table.
     pub fn meaning(&self, name: &[u8]) -> Option<&Meaning>
         ensures { option_copied result ≡ found self.now name.now }
     {
@@ -163,8 +164,7 @@ impl Names {
         }
     }
 
-    /// The expression for which an EQU's name stands, where settling that name leaves it as it is. None where that is not so,
-    /// or was not found out.
+    /// The expression that an EQU name stands for, if settling leaves it as it is. None if it does not, or if that is not known.
     pub(crate) fn left(&self, name: &[u8]) -> Option<&Expr>
         ensures { IfSome result (λ expr. IsLeftName self.now name.now expr.now) }
     {
@@ -185,15 +185,15 @@ impl Names {
         }
     }
 
-    /// How far statement `p` lies behind statement `q`, modulo 65,536: as many bytes as the statements between them
-    /// take. Where one is no statement and not the end, it varies.
+    /// How far the address of statement `p` is after that of statement `q`, modulo 65,536: how many bytes the statements between
+    /// them take. The answer is `Varies` if `p` or `q` is neither a statement nor the end.
     pub fn distance(&self, p: u16, q: u16) -> Worth
         ensures { result ≡ distance self.now.statements p q }
     {
         self.statements.distance(p, q)
     }
 
-    /// How far a statement lies from a place that is not known.
+    /// How far a statement is from an address that is not known.
     pub(crate) fn some_distance(&self, p: u16) -> Worth
         ensures { result ≡ some_distance self.now.statements p }
     {

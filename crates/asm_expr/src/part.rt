@@ -1,4 +1,4 @@
-//! The leaves of expressions that are settled.
+//! The leaves of an expression that is being settled.
 
 use crate::unknown::Unknown;
 
@@ -6,8 +6,8 @@ use crate::unknown::Unknown;
 #[derive(Clone, Copy, Debug)]
 pub(crate) enum Part {
     Number(u16),
-    /// The place of a statement or of an external, by its number.
+    /// The address of a statement or of an external, by its number.
     Ref(u16),
-    /// What has no value, since a line that gives it is faulty.
+    /// A part without a value, because a line that it depends on has an error.
     Unknown(Unknown),
 }

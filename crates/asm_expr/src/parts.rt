@@ -1,4 +1,4 @@
-//! Items that are being settled, on the stack.
+//! Items that are being settled, kept on the stack.
 
 ghost use Rattle.std.specs.Prelude.{◌≡◌, ◌<◌, ◌≤◌, ◌+◌, ◌-◌, ◌++◌, ◌∷◌, [], length, map, take};
 ghost use Rattle.std.specs.List.{flat_map};
@@ -12,15 +12,15 @@ use asm_value::{Atom, MOST_ITEMS};
 use std::marker::Model;
 use std::rc::Rc;
 
-/// Some items that are being settled: one, or all of an expression that settling leaves as it is.
+/// Some items that are being settled: one item, or all items of an expression that settling leaves as it is.
 #[derive(Clone, Copy)]
 pub(crate) enum Cell<'a> {
     Item(Item<Part>),
     List(&'a Rc<Vec<Item<Atom>>>),
 }
 
-/// Items that are being settled, no more than an expression may have: they take no memory of the allocator's. Those of an expression
-/// that settling leaves as it is are not written out. Clauses see the list of all.
+/// Items that are being settled, at most as many as an expression may have. They are kept on the stack and take no other memory. An
+/// expression that settling leaves as it is takes one cell, whatever its length. Clauses see the list of all items.
 #[derive(Drop)]
 pub(crate) struct Parts<'a> {
     cells: [Cell<'a>; MOST_ITEMS],
@@ -42,7 +42,7 @@ impl<'a> Model for Parts<'a> {
     ghost invariant = { λ p. (p.len ≤ MOST_ITEMS) × (length p.cells ≡ MOST_ITEMS) × All IsSound (take p.len p.cells) };
 }
 
-/// An item of an object.
+/// An item of an object file, as an item that is being settled.
 pub(crate) fn known_item(item: Item<Atom>) -> Item<Part>
     ensures { result ≡ known_item item }
 {
@@ -54,7 +54,7 @@ pub(crate) fn known_item(item: Item<Atom>) -> Item<Part>
     }
 }
 
-/// The last item of a part.
+/// The last item of a cell.
 fn last_of(cell: &Cell<'_>) -> Item<Part>
     requires { IsSound cell.now }
     ensures { result ≡ get_or (opened cell.now) (length (opened cell.now) - 1) result }
@@ -76,7 +76,7 @@ impl<'a> Parts<'a> {
         }
     }
 
-    /// Puts an item behind the others.
+    /// Appends an item.
     pub(crate) fn push(&mut self, item: Item<Part>)
         requires { length self.old < MOST_ITEMS }
         ensures { self.new ≡ self.old ++ item ∷ [] }
@@ -87,7 +87,7 @@ impl<'a> Parts<'a> {
         self.len += 1;
     }
 
-    /// Puts all items of an expression behind the others.
+    /// Appends all items of an expression.
     pub(crate) fn push_list(&mut self, list: &'a Rc<Vec<Item<Atom>>>)
         requires room { length self.old < MOST_ITEMS }
         requires operation { IsOperation list.now.value.items }
@@ -99,7 +99,7 @@ impl<'a> Parts<'a> {
         self.len += 1;
     }
 
-    /// Puts a leaf in the place of the last item, which is a leaf.
+    /// Replaces the last item, which is a leaf, by this leaf.
     pub(crate) fn replace_last(&mut self, part: Part)
         requires some { 1 ≤ length self.old }
         requires leaf { EndsInLeaf self.old }
@@ -110,7 +110,7 @@ impl<'a> Parts<'a> {
         cells[at] = Cell::Item(Item::Leaf(part));
     }
 
-    /// Puts a leaf in the place of the last two items, which are leaves.
+    /// Replaces the last two items, which are leaves, by this leaf.
     pub(crate) fn replace_two(&mut self, part: Part)
         requires some { 2 ≤ length self.old }
         requires right { EndsInLeaf self.old }
@@ -132,7 +132,7 @@ impl<'a> Parts<'a> {
         last_of(&cells[self.len - 1])
     }
 
-    /// The item before the last one, where that is a leaf. Where it is none, nothing is said.
+    /// The item before the last one, if the last one is a leaf. If it is not, the answer has no meaning.
     pub(crate) fn before_last(&self) -> Item<Part>
         requires { 2 ≤ length self.now }
         ensures { EndsInLeaf self.now → result ≡ get_or self.now (length self.now - 2) result }
@@ -144,7 +144,7 @@ impl<'a> Parts<'a> {
         last_of(&cells[self.len - 2])
     }
 
-    /// All of them, in order.
+    /// The cells of all items, in order.
     pub(crate) fn cells(&self) -> &[Cell<'a>]
         ensures { flat_map opened result.now ≡ self.now }
     {

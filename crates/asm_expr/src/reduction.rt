@@ -1,4 +1,4 @@
-//! What names make of an expression.
+//! Reduces an expression item by item: replaces names by what they stand for, and each fixed part by its number.
 
 ghost use Rattle.std.specs.Prelude.{◌≡◌, ◌<◌, ◌≤◌, ◌+◌, ◌∷◌, List, Ok, Some, IfOk, IfSome, true, length, map};
 ghost use Rattle.std.specs.List.{AllPass};
@@ -7,10 +7,10 @@ ghost use Rattle.asm_parse.specs.declared.item.Item.{Item};
 ghost use Rattle.asm_parse.specs.Expression.{Expression, Leaf, postfix};
 ghost use Rattle.asm_value.specs.Postfix.{source, spread, tree};
 ghost use Rattle.asm_parse.specs.Source.{operand, source_item};
-ghost use Rattle.asm_expr.specs.Names.{AreCounted, found, items_of};
+ghost use Rattle.asm_expr.specs.Names.{AreCounted, found, item_count};
 ghost use Rattle.asm_value.specs.Arithmetic.{binary};
 ghost use Rattle.asm_value.specs.Items.{IsExpr};
-ghost use Rattle.asm_expr.specs.Settling.{both, distance_of, is_known, known_item, size_of, standing};
+ghost use Rattle.asm_expr.specs.Settling.{both, distance_of, is_known, known_item, operand_size, standing};
 ghost use Rattle.asm_value.specs.Private.Steps.{arity};
 ghost use Rattle.asm_expr.specs.Private.Left.{IsLeftName};
 ghost use Rattle.asm_expr.specs.Private.Folding.{Folds, IsReduced, difference_of, fold_all, fold_one, folded_binary, folded_unary, item_fault, item_size, items_for, leaf_of, prefixed, single_of, worth_of};
@@ -47,7 +47,7 @@ fn single_of(item: &Item<Part>) -> Single
     }
 }
 
-/// The difference of two operands, as far as it is the distance of two places.
+/// The difference of two operands, if it is the distance of two addresses. Otherwise the answer is `Varies`.
 fn distance_of(names: &Names, x: Single, y: Single) -> Worth
     ensures { result ≡ distance_of names.now x y }
 {
@@ -59,7 +59,7 @@ fn distance_of(names: &Names, x: Single, y: Single) -> Worth
     }
 }
 
-/// The leaf that a fixed part becomes.
+/// The leaf that a fixed part becomes; None for a part that varies.
 fn leaf_of(worth: Worth) -> Option<Part>
     ensures { result ≡ leaf_of worth }
 {
@@ -70,7 +70,7 @@ fn leaf_of(worth: Worth) -> Option<Part>
     }
 }
 
-/// What a prefix operator makes of an operand, by its last item.
+/// What is known of the result of a prefix operator, given the last item of its operand.
 fn folded_unary(op: Unary, x: &Item<Part>) -> Worth
     ensures { result ≡ folded_unary op x.now }
 {
@@ -80,7 +80,7 @@ fn folded_unary(op: Unary, x: &Item<Part>) -> Worth
     }
 }
 
-/// The distance of two places, where their difference is taken.
+/// What is known of the result of a subtraction as the distance of two addresses. `Varies` for any other operator.
 fn difference_of(names: &Names, op: Binary, x: &Item<Part>, y: &Item<Part>) -> Worth
     ensures { result ≡ difference_of names.now op x.now y.now }
 {
@@ -90,7 +90,7 @@ fn difference_of(names: &Names, op: Binary, x: &Item<Part>, y: &Item<Part>) -> W
     }
 }
 
-/// What an operator makes of two numbers of which so much is known.
+/// What is known of the result of an operator, given what is known of its two operands.
 fn both(op: Binary, x: Worth, y: Worth) -> Worth
     ensures { result ≡ both (binary op) x y }
 {
@@ -101,7 +101,7 @@ fn both(op: Binary, x: Worth, y: Worth) -> Worth
     }
 }
 
-/// What an operator makes of two operands, by the last items of these.
+/// What is known of the result of an infix operator, given the last items of its two operands.
 fn folded_binary(names: &Names, op: Binary, x: &Item<Part>, y: &Item<Part>) -> Worth
     ensures { result ≡ folded_binary names.now op x.now y.now }
 {
@@ -111,7 +111,7 @@ fn folded_binary(names: &Names, op: Binary, x: &Item<Part>, y: &Item<Part>) -> W
     }
 }
 
-/// The fault of a division by this item, the last of a divisor.
+/// The error of a division whose divisor ends with this item.
 fn item_fault(op: Binary, divisor: &Item<Part>) -> Option<ExprFault>
     ensures { result ≡ item_fault op divisor.now }
 {
@@ -125,7 +125,7 @@ fn item_fault(op: Binary, divisor: &Item<Part>) -> Option<ExprFault>
     }
 }
 
-/// A prefix operator behind its operand's items.
+/// Appends a prefix operator to the reduced items of its operand, and reduces the result.
 fn fold_unary(items: &mut Parts<'_>, op: Unary)
     requires some { 1 ≤ length items.old }
     requires room { length items.old < MOST_ITEMS }
@@ -140,7 +140,7 @@ fn fold_unary(items: &mut Parts<'_>, op: Unary)
     }
 }
 
-/// An operator behind the items of its two operands.
+/// Appends an infix operator to the reduced items of its two operands, and reduces the result.
 fn fold_binary(items: &mut Parts<'_>, op: Binary, names: &Names) -> Result<(), ExprFault>
     requires two { 2 ≤ length items.old }
     requires room { length items.old < MOST_ITEMS }
@@ -166,7 +166,7 @@ fn fold_binary(items: &mut Parts<'_>, op: Binary, names: &Names) -> Result<(), E
     }
 }
 
-/// One item more behind items that are reduced.
+/// Appends one item to reduced items, and reduces the result.
 fn fold(items: &mut Parts<'_>, item: Item<Part>, names: &Names) -> Result<(), ExprFault>
     requires operands { arity item ≤ length items.old }
     requires room { length items.old < MOST_ITEMS }
@@ -188,7 +188,7 @@ fn fold(items: &mut Parts<'_>, item: Item<Part>, names: &Names) -> Result<(), Ex
     }
 }
 
-/// The items of an expression behind items that are reduced.
+/// Appends the items of an expression to reduced items, one by one, and reduces the result.
 fn take_items(out: &mut Parts<'_>, items: &[Item<Atom>], names: &Names) -> Result<(), ExprFault>
     requires expr { IsExpr items.now }
     requires room { length out.old + length items.now ≤ MOST_ITEMS }
@@ -202,7 +202,7 @@ fn take_items(out: &mut Parts<'_>, items: &[Item<Atom>], names: &Names) -> Resul
     Ok(())
 }
 
-/// The items of an expression that do not lie side by side, behind items that are reduced.
+/// Appends the items of an expression that are not side by side in memory to reduced items.
 #[inline(never)]
 fn take_gathered(out: &mut Parts<'_>, expr: &Expr, names: &Names) -> Result<(), ExprFault>
     requires room { length out.old + length expr.now ≤ MOST_ITEMS }
@@ -214,7 +214,7 @@ fn take_gathered(out: &mut Parts<'_>, expr: &Expr, names: &Names) -> Result<(), 
     take_items(out, items(expr, &mut Room::new()), names)
 }
 
-/// The items of any expression behind items that are reduced.
+/// Appends the items of any expression to reduced items.
 pub(crate) fn take_expr(out: &mut Parts<'_>, expr: &Expr, names: &Names) -> Result<(), ExprFault>
     requires room { length out.old + length expr.now ≤ MOST_ITEMS }
     ensures whole { postfix (tree expr.now) ≡ expr.now }
@@ -228,7 +228,7 @@ pub(crate) fn take_expr(out: &mut Parts<'_>, expr: &Expr, names: &Names) -> Resu
     }
 }
 
-/// A leaf behind items that are reduced, which has no fault.
+/// Appends a leaf to reduced items. There is no error.
 fn put_part(out: &mut Parts<'_>, part: Part) -> Result<(), ExprFault>
     requires room { length out.old < MOST_ITEMS }
     ensures most { IfOk result (λ _. length out.new ≤ length out.old + 1) }
@@ -238,10 +238,10 @@ fn put_part(out: &mut Parts<'_>, part: Part) -> Result<(), ExprFault>
     Ok(())
 }
 
-/// What an EQU name's expression is, behind items that are reduced.
+/// Appends what an EQU name's expression was settled as to reduced items.
 fn take_settled(out: &mut Parts<'_>, settled: &Settled, names: &Names) -> Result<(), ExprFault>
-    requires room { length out.old + items_of settled.now ≤ MOST_ITEMS }
-    ensures most { IfOk result (λ _. length out.new ≤ length out.old + items_of settled.now) }
+    requires room { length out.old + item_count settled.now ≤ MOST_ITEMS }
+    ensures most { IfOk result (λ _. length out.new ≤ length out.old + item_count settled.now) }
     ensures folds { (before : List (Expression Part)) → out.old ≡ spread before →
         Folds (fold_all names.now (postfix (standing settled.now)) before) result out.new }
 {
@@ -251,7 +251,7 @@ fn take_settled(out: &mut Parts<'_>, settled: &Settled, names: &Names) -> Result
     }
 }
 
-/// The items for which a name stands, where settling leaves them as they are and there are two at least.
+/// The items that a name stands for, if settling leaves them as they are and there are at least two.
 fn list_left<'a>(name: &[u8], names: &'a Names) -> Option<&'a Rc<Vec<Item<Atom>>>>
     ensures { IfSome result (λ list. IsLeftName names.now name.now list.now.value.items × (2 ≤ length list.now.value.items)) }
 {
@@ -264,8 +264,7 @@ fn list_left<'a>(name: &[u8], names: &'a Names) -> Option<&'a Rc<Vec<Item<Atom>>
     }
 }
 
-/// What an EQU's expression is for which a name stands, behind items that are reduced. What settling leaves as it is need not be
-/// settled again.
+/// Appends what an EQU name stands for to reduced items. An expression that settling leaves as it is is not settled again.
 fn take_equ<'a>(
     out: &mut Parts<'a>,
     name: &[u8],
@@ -273,8 +272,8 @@ fn take_equ<'a>(
     names: &'a Names,
 ) -> Result<(), ExprFault>
     requires known { found names.now name.now ≡ Some (Meaning.Equ equated.now) }
-    requires room { length out.old + items_of equated.now.settled ≤ MOST_ITEMS }
-    ensures most { IfOk result (λ _. length out.new ≤ length out.old + items_of equated.now.settled) }
+    requires room { length out.old + item_count equated.now.settled ≤ MOST_ITEMS }
+    ensures most { IfOk result (λ _. length out.new ≤ length out.old + item_count equated.now.settled) }
     ensures folds { (before : List (Expression Part)) → out.old ≡ spread before →
         Folds (fold_all names.now (postfix (standing equated.now.settled)) before) result out.new }
 {
@@ -287,12 +286,12 @@ fn take_equ<'a>(
     }
 }
 
-/// What a term stands for, behind items that are reduced.
+/// Appends what a term stands for to reduced items.
 fn take_term<'a>(out: &mut Parts<'a>, term: &Term, names: &'a Names) -> Result<(), ExprFault>
     requires known { is_known names.now (Item.Leaf (operand term.now)) ≡ true }
     requires counted { AreCounted names.now }
-    requires room { length out.old + size_of names.now (operand term.now) ≤ MOST_ITEMS }
-    ensures most { IfOk result (λ _. length out.new ≤ length out.old + size_of names.now (operand term.now)) }
+    requires room { length out.old + operand_size names.now (operand term.now) ≤ MOST_ITEMS }
+    ensures most { IfOk result (λ _. length out.new ≤ length out.old + operand_size names.now (operand term.now)) }
     ensures folds { (before : List (Expression Part)) → out.old ≡ spread before →
         Folds (fold_all names.now (items_for names.now (Item.Leaf (operand term.now))) before) result out.new }
 {
@@ -311,7 +310,7 @@ fn take_term<'a>(out: &mut Parts<'a>, term: &Term, names: &'a Names) -> Result<(
     }
 }
 
-/// An item of a source, behind items that are reduced.
+/// Appends an item of a source to reduced items.
 fn take_item<'a>(out: &mut Parts<'a>, item: &Item<Term>, names: &'a Names) -> Result<(), ExprFault>
     requires known { is_known names.now (source_item item.now) ≡ true }
     requires counted { AreCounted names.now }
@@ -328,12 +327,13 @@ fn take_item<'a>(out: &mut Parts<'a>, item: &Item<Term>, names: &'a Names) -> Re
     }
 }
 
-/// The items of an expression with each fixed part as its number, or as one that is not known.
+/// The items of an expression with its names replaced, and with each fixed part as its number, or as one part if the number is not
+/// known.
 pub(crate) fn reduce<'a>(parsed: &Tree, names: &'a Names) -> Result<Parts<'a>, ExprFault>
     requires { AllPass (is_known names.now) parsed.now }
     ensures { IsReduced names.now (source parsed.now) result }
 {
-    // Called for what it says of the table: what a name stands for has no more items than terms and operators.
+    // Called for its clause: what a name stands for has no more items than terms and operators.
     names.counted();
     let mut out = Parts::new();
     let mut size = 0;

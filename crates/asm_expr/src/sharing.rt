@@ -1,4 +1,4 @@
-//! How what is settled is kept: expressions that name an EQU have the items of its expression in common.
+//! How settled expressions are kept: an expression that uses an EQU name shares the items of that EQU's expression.
 
 ghost use Rattle.std.specs.Prelude.{◌≡◌, ◌++◌, IfOk, Some, None, if◌then◌else◌};
 ghost use Rattle.std.specs.List.{flat_map};
@@ -14,7 +14,7 @@ use asm_value::{Atom, Kept, Piece};
 use std::alloc::{AllocError, Global};
 use std::rc::Rc;
 
-/// The item of an object that this is; None where it has no value.
+/// This item as one of an object file; None if it has no value.
 pub(crate) fn item_known(item: &Item<Part>) -> Option<Item<Atom>>
     ensures { result ≡ item_known item.now }
 {
@@ -27,7 +27,7 @@ pub(crate) fn item_known(item: &Item<Part>) -> Option<Item<Atom>>
     }
 }
 
-/// A part of what is settled as a piece of what is kept; None where it has no value.
+/// A settled cell as a piece to be kept; None if it has no value.
 fn piece_of(cell: &Cell<'_>) -> Result<Option<Piece>, AllocError>
     ensures { IfOk result (λ answer. option_map items_in answer ≡ items_known (opened cell.now)) }
 {
@@ -37,7 +37,7 @@ fn piece_of(cell: &Cell<'_>) -> Result<Option<Piece>, AllocError>
     }
 }
 
-/// What is settled as pieces; None where one of them has no value.
+/// The settled cells as pieces; None if one of them has no value.
 fn pieces_of(alloc: Global, cells: &[Cell<'_>]) -> Result<Option<Vec<Piece>>, AllocError>
     ensures { IfOk result (λ answer. option_map (λ pieces. flat_map items_in pieces.items) answer ≡ items_known (flat_map opened cells.now)) }
 {
@@ -51,7 +51,7 @@ fn pieces_of(alloc: Global, cells: &[Cell<'_>]) -> Result<Option<Vec<Piece>>, Al
     Ok(Some(pieces))
 }
 
-/// Puts the items of a part of what is settled behind others; false where it has no value.
+/// Appends the items of a settled cell to others. Answers false if the cell has no value.
 fn add_known(known: &mut Vec<Item<Atom>>, cell: &Cell<'_>) -> Result<bool, AllocError>
     ensures { IfOk result (λ all. option_map (λ added. known.old.items ++ added) (items_known (opened cell.now)) ≡ if all then Some known.new.items else None) }
 {
@@ -70,7 +70,7 @@ fn add_known(known: &mut Vec<Item<Atom>>, cell: &Cell<'_>) -> Result<bool, Alloc
     }
 }
 
-/// How many items there are in all parts.
+/// How many items there are in all cells.
 fn count_of(cells: &[Cell<'_>]) -> usize {
     let mut count = 0usize;
     for cell in cells {
@@ -82,7 +82,7 @@ fn count_of(cells: &[Cell<'_>]) -> usize {
     count
 }
 
-/// What is settled as a list of its own; None where a part of it has no value.
+/// The settled cells as one list; None if one of them has no value.
 fn items_known(alloc: Global, cells: &[Cell<'_>]) -> Result<Option<Vec<Item<Atom>>>, AllocError>
     ensures { IfOk result (λ answer. option_map (λ known. known.items) answer ≡ items_known (flat_map opened cells.now)) }
 {
@@ -95,7 +95,7 @@ fn items_known(alloc: Global, cells: &[Cell<'_>]) -> Result<Option<Vec<Item<Atom
     Ok(Some(known))
 }
 
-/// A part as it is kept where it is all there is; None where it has no value.
+/// A settled cell that is the whole expression, as it is kept; None if it has no value.
 fn kept_alone(cell: &Cell<'_>) -> Result<Option<Kept>, AllocError>
     ensures { IfOk result (λ answer. option_map kept answer ≡ items_known (opened cell.now)) }
 {
@@ -105,17 +105,17 @@ fn kept_alone(cell: &Cell<'_>) -> Result<Option<Kept>, AllocError>
     }
 }
 
-/// So many items take as much memory as one piece.
+/// How many items take as much memory as one piece.
 const ITEMS_OF_A_PIECE: usize = 3;
 
-/// What is settled, as it is kept; None where a part of it has no value.
+/// A settled expression as it is kept; None if a part of it has no value.
 pub(crate) fn kept_of(alloc: Global, cells: &[Cell<'_>]) -> Result<Option<Kept>, AllocError>
     ensures { IfOk result (λ answer. option_map kept answer ≡ items_known (flat_map opened cells.now)) }
 {
     if let [cell] = cells {
         return kept_alone(cell);
     }
-    // A piece for each part, where that takes less memory than all items.
+    // One piece for each cell, if that takes less memory than a list of all items.
     if count_of(cells) / ITEMS_OF_A_PIECE > cells.len() {
         Ok(pieces_of(alloc, cells)?.map(Kept::Pieces))
     } else {

@@ -1,16 +1,15 @@
-//! What is known of an expression of which a part has no value.
+//! What is known of an expression that has a part without a value.
 
-/// What is known of an expression of which a part has no value, since the line that gives it is faulty: a name's, or that of a
-/// statement whose size is not known.
+/// What is known of an expression that has a part without a value, because a line that the part depends on has an error: the line
+/// of a name, or that of a statement whose size is not known.
 #[derive(Clone, Copy, Debug, PartialEq, Eq)]
 pub enum Unknown {
-    /// It is a name whose line is faulty, and may be a place as well as any other expression.
+    /// The expression is only a name whose line has an error. It may be a single address, or any other expression.
     Anything,
-    /// It is no single place. It is one number in every choice of jumps, or would be but for a faulty name in it, of which
-    /// nothing is said.
+    /// It is not a single address. It is the same number in every choice of jumps, as far as the parts with a value say.
     Number,
-    /// It may be another number in another choice.
+    /// It may be another number in another choice of jumps.
     Varies,
-    /// So it may, and its outermost operator is HIGH or LOW.
+    /// It may be another number in another choice of jumps, and its outermost operator is HIGH or LOW.
     VariesInByte,
 }

@@ -1,4 +1,4 @@
-//! What an expression of a source is by its names, before it is settled.
+//! What can be said of an expression before it is settled: its size, whether it is constant, and whether its names are defined.
 
 ghost use Rattle.std.specs.Prelude.{◌≡◌, ◌≤◌, ◌↔◌, IsTrue};
 ghost use Rattle.std.specs.List.{AllPass, list_all};
@@ -6,14 +6,14 @@ ghost use Rattle.asm_parse.specs.Source.{source_item};
 ghost use Rattle.asm_parse.specs.Expression.{postfix};
 ghost use Rattle.asm_value.specs.declared.expr.TheConstants.{MOST_ITEMS};
 ghost use Rattle.asm_value.specs.Postfix.{source};
-ghost use Rattle.asm_expr.specs.Settling.{is_constant_item, is_known, size};
+ghost use Rattle.asm_expr.specs.Settling.{is_constant_item, is_known, expression_size};
 ghost use Rattle.asm_expr.specs.Private.Folding.{item_size};
 
 use crate::meaning::Meaning;
 use crate::names::Names;
 use asm_parse::{Item, Term, TermView, Tree};
 
-/// How many terms and operators an item of a source stands for.
+/// How many terms and operators an item of an expression stands for, after EQU names are replaced.
 pub(crate) fn item_size(item: &Item<Term>, names: &Names) -> u16
     ensures { result ≡ item_size names.now (source_item item.now) }
 {
@@ -26,7 +26,7 @@ pub(crate) fn item_size(item: &Item<Term>, names: &Names) -> u16
     }
 }
 
-/// Whether an item stands for no place and no external.
+/// Whether an item stands for no address and no external.
 fn is_constant_item(item: &Item<Term>, names: &Names) -> bool
     ensures { result ≡ is_constant_item names.now (source_item item.now) }
 {
@@ -48,19 +48,19 @@ pub(crate) fn all_constant(items: &[Item<Term>], names: &Names) -> bool
     items.iter().all(|item| is_constant_item(item, names))
 }
 
-/// Whether an expression is constant: no place and no external stands in it after EQU names are replaced. A name whose own line is
-/// faulty counts as constant, and so does one that stands for nothing.
+/// Whether an expression is constant: it contains no address and no external after EQU names are replaced. A name whose own line
+/// has an error counts as constant, and so does one that stands for nothing.
 pub fn is_constant(parsed: &Tree, names: &Names) -> bool
     ensures { result ≡ list_all (is_constant_item names.now) (postfix (source parsed.now)) }
 {
     all_constant(parsed.items(), names)
 }
 
-/// How many terms and operators an expression stands for, after EQU names are replaced, a constant one by its number.
-/// Of what [`settle`](crate::settle) takes there are 64 at most.
+/// How many terms and operators an expression stands for, after EQU names are replaced, a constant one by its number. They are 64
+/// at most if [`settle`](crate::settle) accepts the expression.
 pub fn size(parsed: &Tree, names: &Names) -> u16
-    requires { size names.now (source parsed.now) ≤ MOST_ITEMS }
-    ensures { result ≡ size names.now (source parsed.now) }
+    requires { expression_size names.now (source parsed.now) ≤ MOST_ITEMS }
+    ensures { result ≡ expression_size names.now (source parsed.now) }
 {
     let mut total = 0;
     for item in parsed.items() {

@@ -1,4 +1,4 @@
--- What stands behind the head of a line is the end of its tokens.
+-- The tokens after the head of a line are its last tokens.
 use Rattle.std.proofs.Common.{◌≡◌, ap, refl, ℕ, Bool, true, false, List, [], ◌∷◌, ◌++◌, Option, Some, None, ◌&&◌, if◌then◌else◌, codes}
 use Rattle.asm_scan.specs.Tokens.{Lexeme}
 use Rattle.asm_line.specs.Tokens.{is_name, is_colon, is_word}
@@ -28,7 +28,7 @@ label_last name [] = ([], refl)
 label_last name (word ∷ rest) =
     either (word ∷ rest) (is_word (codes "EQU") word) (defined name rest) (headed (Some name) (word ∷ rest)) (word ∷ [], refl) (head_last (Some name) (word ∷ rest))
 
--- two tokens before
+-- the same with two tokens before them
 behind_two : (name second : Lexeme) (rest : List Lexeme) (f : Form) → IsLast rest f → IsLast (name ∷ second ∷ rest) f
 behind_two name second rest f last = (name ∷ second ∷ last.0, ap (λ r. name ∷ second ∷ r) last.1)
 

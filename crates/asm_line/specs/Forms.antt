@@ -1,11 +1,11 @@
--- What a line says first.
+-- How a line begins: its label and its head.
 use Rattle.std.specs.Prelude.{ℕ, List, [], ◌∷◌, Option, Some, None, ◌&&◌, if◌then◌else◌, codes}
 use Rattle.std.specs.Str.{str_eq_ignore_ascii_case}
 use Rattle.asm_scan.specs.Tokens.{Lexeme}
 use Rattle.asm_line.specs.declared.forms.BlockWord.{BlockWord}
 use Rattle.asm_line.specs.Tokens.{is_name, is_colon, is_word}
 
--- A definition, with the name that it defines; a word of blocks; any other word; or no word. Names stand as they are written.
+-- The head of a line: a definition, with the name that it defines; a block word; any other word; or no word. Names are as written.
 pub data Head : Type 0 where
   Equ : List ℕ → Head
   Macro : List ℕ → Head
@@ -13,13 +13,13 @@ pub data Head : Type 0 where
   Word : List ℕ → Head
   Nothing : Head
 
--- the label before the head, and the tokens behind it
+-- a line: the label before its head, the head, and the tokens after it
 pub record Form : Type 0 where
   pub label : Option (List ℕ)
   pub head : Head
   pub rest : List Lexeme
 
--- the word of blocks that a name is, in either case
+-- the block word that a name is, in upper or lower case
 abbrev pub block_named : List ℕ → Option BlockWord
 block_named name =
     if str_eq_ignore_ascii_case name (codes "MACRO") then Some BlockWord.Macro
@@ -35,13 +35,13 @@ abbrev pub head_of_block : List ℕ → Option BlockWord → Head
 head_of_block name (Some block) = Block block
 head_of_block name None = Word name
 
--- a word, which a name alone is
+-- a line whose word is this token, if it is a name
 abbrev pub worded : Option (List ℕ) → Lexeme → List Lexeme → Form
 worded label word rest =
     if is_name word then record { label = label; head = head_of_block word.text (block_named word.text); rest = rest }
     else record { label = label; head = Nothing; rest = word ∷ rest }
 
--- what stands behind a label, if there is one: `name MACRO`, or a word
+-- the tokens after a label, if there is one: `name MACRO`, or a word
 abbrev pub headed : Option (List ℕ) → List Lexeme → Form
 headed label (name ∷ word ∷ rest) =
     if is_name name && is_word (codes "MACRO") word then record { label = label; head = Macro name.text; rest = rest }
@@ -52,12 +52,12 @@ headed label [] = record { label = label; head = Nothing; rest = [] }
 abbrev pub defined : List ℕ → List Lexeme → Form
 defined name rest = record { label = None; head = Equ name; rest = rest }
 
--- a name and a colon: a label, but before EQU
+-- a name and a colon: a label, unless EQU follows
 abbrev pub labelled : List ℕ → List Lexeme → Form
 labelled name (word ∷ rest) = if is_word (codes "EQU") word then defined name rest else headed (Some name) (word ∷ rest)
 labelled name [] = headed (Some name) []
 
--- what the tokens of a line say first: a definition by EQU, before which a colon may stand, or a label and what stands behind it
+-- the form of a line: a definition by EQU, with or without a colon after the name; or a label, if there is one, and what follows it
 abbrev pub form : List Lexeme → Form
 form (name ∷ second ∷ rest) =
     if is_name name && is_word (codes "EQU") second then defined name.text rest

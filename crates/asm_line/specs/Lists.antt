@@ -5,8 +5,8 @@ use Rattle.asm_scan.specs.Tokens.{Lexeme}
 use Rattle.common.specs.Words.{upper}
 use Rattle.asm_line.specs.Tokens.{is_name, is_comma}
 
--- the names in upper case, one at least; None where the tokens are no such list
-abbrev pub names : List Lexeme → Option (List (List ℕ))
-names [] = None
-names (name ∷ []) = if is_name name then Some (upper name.text ∷ []) else None
-names (name ∷ comma ∷ rest) = if is_name name && is_comma comma then option_map (λ ns. upper name.text ∷ ns) (names rest) else None
+-- the names in upper case, at least one; None if the tokens are no such list
+abbrev pub name_list : List Lexeme → Option (List (List ℕ))
+name_list [] = None
+name_list (name ∷ []) = if is_name name then Some (upper name.text ∷ []) else None
+name_list (name ∷ comma ∷ rest) = if is_name name && is_comma comma then option_map (λ ns. upper name.text ∷ ns) (name_list rest) else None

@@ -1,11 +1,11 @@
-//! Parentheses, within which no comma separates operands or arguments.
+//! Parentheses: a comma within them separates no operands and no arguments.
 
 ghost use Rattle.std.specs.Prelude.{◌≡◌, ◌<◌};
 ghost use Rattle.asm_line.specs.Commas.{open_behind};
 
 use asm_scan::{Kind, Mark, Token};
 
-/// How many parentheses are open behind a token, of which `depth` are open before it.
+/// How many parentheses are open after a token, if `depth` are open before it. A `)` that closes none does not count.
 pub fn open_behind(depth: usize, token: &Token<'_>) -> usize
     requires { depth < usize.MAX }
     ensures { result ≡ open_behind depth token.now.kind }

@@ -1,4 +1,4 @@
-//! What a line says first.
+//! How a line begins: its label and its head.
 
 ghost use Rattle.std.specs.Prelude.{◌≡◌, ◌∷◌, ◌&&◌, codes};
 ghost use Rattle.std.specs.Option.{option_map};
@@ -10,7 +10,7 @@ ghost use Rattle.asm_line.specs.Views.{form_seen};
 use crate::single::{is_colon, is_name, is_word};
 use asm_scan::Token;
 
-/// A word that opens, divides or closes a block, or names what is local to a macro.
+/// A word that opens, divides or closes a block, or LOCAL, which lists the names that are local to a macro.
 #[derive(Clone, Copy, Debug, PartialEq, Eq)]
 pub enum BlockWord {
     Macro,
@@ -22,7 +22,7 @@ pub enum BlockWord {
     EndM,
 }
 
-/// What stands first behind a line's label. Names are as they are written.
+/// The first word or definition after a line's label. Names are as written.
 #[derive(Clone, Copy, Debug)]
 pub enum Head<'a> {
     /// `name EQU` or `name: EQU`.
@@ -32,21 +32,21 @@ pub enum Head<'a> {
     Block(BlockWord),
     /// Any other name.
     Word(&'a [u8]),
-    /// No name.
+    /// Nothing: the line ends after its label, or something other than a name follows.
     Nothing,
 }
 
-/// A line by what it says first.
+/// The parts of a line: its label, its head, and the tokens after the head.
 #[derive(Clone, Copy, Debug)]
 pub struct Form<'a> {
     /// The name before the colon.
     pub label: Option<&'a [u8]>,
     pub head: Head<'a>,
-    /// The tokens behind the head.
+    /// The tokens after the head.
     pub rest: &'a [Token<'a>],
 }
 
-/// The word of blocks that a name is, in either case.
+/// The block word that a name is, in upper or lower case, if it is one.
 fn block_named(name: &[u8]) -> Option<BlockWord>
     ensures { result ≡ block_named name.now }
 {
@@ -69,7 +69,7 @@ fn block_named(name: &[u8]) -> Option<BlockWord>
     }
 }
 
-/// A line whose word, if it is one, is this token.
+/// The form of a line whose word is this token, if it is a name.
 #[inline(always)]
 fn worded<'a>(
     label: Option<&'a [u8]>,
@@ -94,7 +94,7 @@ fn worded<'a>(
     Form { label, head, rest }
 }
 
-/// What stands behind a label, if there is one.
+/// The form of a line, given its label, if it has one, and the tokens after that.
 #[inline(always)]
 fn headed<'a>(label: Option<&'a [u8]>, tokens: &'a [Token<'a>]) -> Form<'a>
     ensures { form_seen result ≡ headed (option_map (λ name. name.now) label.entry) (lexemes tokens.entry.now) }
@@ -120,7 +120,7 @@ fn headed<'a>(label: Option<&'a [u8]>, tokens: &'a [Token<'a>]) -> Form<'a>
     }
 }
 
-/// A line that begins with a name and a colon.
+/// The form of a line that begins with a name and a colon, given the tokens after these.
 #[inline(always)]
 fn labelled<'a>(name: &'a [u8], tokens: &'a [Token<'a>]) -> Form<'a>
     ensures { form_seen result ≡ labelled name.now (lexemes tokens.entry.now) }
@@ -135,21 +135,21 @@ fn labelled<'a>(name: &'a [u8], tokens: &'a [Token<'a>]) -> Form<'a>
     }
 }
 
-/// Whether a line that begins with these tokens defines by EQU.
+/// Whether a line that begins with these two tokens is an EQU.
 fn is_equ(name: &Token<'_>, word: &Token<'_>) -> bool
     ensures { result ≡ (is_name (lexeme name.now) && is_word (codes "EQU") (lexeme word.now)) }
 {
     is_name(name) && is_word(b"EQU", word)
 }
 
-/// Whether a line that begins with these tokens has a label.
+/// Whether a line that begins with these two tokens has a label.
 fn is_label(name: &Token<'_>, colon: &Token<'_>) -> bool
     ensures { result ≡ (is_name (lexeme name.now) && is_colon (lexeme colon.now)) }
 {
     is_name(name) && is_colon(colon)
 }
 
-/// What the tokens of a line say first.
+/// The form of a line: its label, its head, and the tokens after the head.
 pub fn form_of<'a>(tokens: &'a [Token<'a>]) -> Form<'a>
     ensures { form_seen result ≡ form (lexemes tokens.entry.now) }
 {

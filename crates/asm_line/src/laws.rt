@@ -1,10 +1,10 @@
-//! A law about what a line says first, as a function that does nothing.
+//! A law about how a line begins, as a function that does nothing. A caller calls it to use its clause.
 
 ghost use Rattle.std.specs.Prelude.{◌≡◌, ◌++◌, List};
 ghost use Rattle.asm_scan.specs.Tokens.{Lexeme};
 ghost use Rattle.asm_line.specs.Forms.{form};
 
-/// What stands behind the head is the end of the tokens.
+/// The tokens after the head are the last tokens of the line.
 pub fn rest_is_last()
     ensures { (tokens : List Lexeme) → (before : List Lexeme) × (tokens ≡ before ++ (form tokens).rest) }
 {}

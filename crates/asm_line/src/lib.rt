@@ -1,5 +1,5 @@
-//! What a line of Z80 assembler source says first: its label, a definition by EQU or MACRO, a word of blocks or any other
-//! word, and what follows it.
+//! How a line of Z80 assembler source begins: its label, a definition by EQU or MACRO, a block word or any other word, and the
+//! tokens after that.
 #![tactic(auto)]
 
 mod commas;

@@ -3,15 +3,15 @@
 ghost use Rattle.std.specs.Prelude.{◌≡◌, map, IfOk};
 ghost use Rattle.std.specs.Option.{option_map};
 ghost use Rattle.asm_scan.specs.Tokens.{lexemes};
-ghost use Rattle.asm_line.specs.Lists.{names};
+ghost use Rattle.asm_line.specs.Lists.{name_list};
 
 use crate::single::{is_comma, is_name};
 use asm_scan::Token;
 use std::alloc::{AllocError, Global};
 
-/// The names in upper case, one at least; None where the tokens are no names separated by commas.
+/// The names in upper case, at least one; None if the tokens are not names separated by commas.
 pub fn names(alloc: Global, tokens: &[Token<'_>]) -> Result<Option<Vec<Vec<u8>>>, AllocError>
-    ensures { IfOk result (λ found. option_map (λ all. map (λ name. name.items) all.items) found ≡ names (lexemes tokens.entry.now)) }
+    ensures { IfOk result (λ found. option_map (λ all. map (λ name. name.items) all.items) found ≡ name_list (lexemes tokens.entry.now)) }
 {
     let mut all = Vec::new(alloc);
     let mut at = 0;

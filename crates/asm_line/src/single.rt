@@ -1,4 +1,4 @@
-//! What single tokens are.
+//! Tests of single tokens.
 
 ghost use Rattle.std.specs.Prelude.{◌≡◌};
 ghost use Rattle.asm_scan.specs.Tokens.{lexeme};
@@ -13,7 +13,7 @@ pub fn is_name(token: &Token<'_>) -> bool
     matches!(token.kind, Kind::Name)
 }
 
-/// Whether a token is this word, in either case.
+/// Whether a token is this word, in upper or lower case.
 pub fn is_word(word: &[u8], token: &Token<'_>) -> bool
     ensures { result ≡ is_word word.now (lexeme token.now) }
 {

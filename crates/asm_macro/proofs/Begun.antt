@@ -1,4 +1,4 @@
--- An expansion before its first line.
+-- The expansion of a source before its first line.
 use Rattle.std.proofs.Common.{◌≡◌, ◌+◌, ◌-◌, ◌∙◌, sym, ap, refl, ℕ, List, [], ◌∷◌, ◌++◌, None, map, length, take, reverse, arith, subst, append-nil}
 use Rattle.std.proofs.Math.Seq.{take-length}
 use Rattle.asm_text.specs.Prepared.{said, macro_seen}

@@ -1,7 +1,7 @@
--- The body of a call is begun.
+-- The body of a call begins.
 use Rattle.std.proofs.Common.{◌≡◌, ◌+◌, ◌∙◌, sym, ap, refl, ℕ, List, [], ◌∷◌, Option, Some, None, reverse, length, arith}
 use Rattle.asm_scan.specs.Tokens.{Lexeme}
-use Rattle.asm_replace.specs.Replaced.{Table, replaced}
+use Rattle.asm_replace.specs.Replaced.{ReplacementTable, replaced_tokens}
 use Rattle.asm_macro.specs.declared.expansion.Expansion.{Expansion}
 use Rattle.asm_text.specs.declared.span.Span.{Span}
 use Rattle.asm_text.specs.declared.following.Following.{Following}
@@ -15,19 +15,19 @@ use Rattle.asm_macro.specs.Private.Moves.{IsSound, rest_of, state_of, tables_in}
 use Rattle.asm_text.specs.Prepared.{SaySame, body_texts}
 
 abbrev pub Replaces : Type 0
-Replaces = (t u : Table) → SaySame t u → (line : List ℕ) (tokens : List Lexeme) → replaced t line tokens ≡ replaced u line tokens
+Replaces = (t u : ReplacementTable) → SaySame t u → (line : List ℕ) (tokens : List Lexeme) → replaced_tokens t line tokens ≡ replaced_tokens u line tokens
 
-by_tokens : Replaces → (t u : Table) → SaySame t u → (line : List ℕ) (tokens : Option (List Lexeme)) → replaced_by t line tokens ≡ replaced_by u line tokens
+by_tokens : Replaces → (t u : ReplacementTable) → SaySame t u → (line : List ℕ) (tokens : Option (List Lexeme)) → replaced_by t line tokens ≡ replaced_by u line tokens
 by_tokens law t u same line (Some tokens) = law t u same line tokens
 by_tokens law t u same line None = refl
 
-lines_are : Replaces → (t u : Table) → SaySame t u → (number at : ℕ) (texts : List (List ℕ)) → lines_from (Some number) at (Some t) texts ≡ body_lines number u texts
+lines_are : Replaces → (t u : ReplacementTable) → SaySame t u → (number at : ℕ) (texts : List (List ℕ)) → lines_from (Some number) at (Some t) texts ≡ body_lines number u texts
 lines_are law t u same number at [] = refl
 lines_are law t u same number at (x ∷ xs) =
     ap (λ y. record { number = number; text = y } ∷ lines_from (Some number) (at + 1) (Some t) xs) (by_tokens law t u same x (heard x))
     ∙ ap (λ ls. record { number = number; text = replaced_line u x } ∷ ls) (lines_are law t u same number (at + 1) xs)
 
-pub entered : Replaces → (x : Expansion) (tables : List Table) (around : List Following) (t u : Table) (number counter : ℕ) (body : Span) → IsSound x → SaySame t u
+pub entered : Replaces → (x : Expansion) (tables : List ReplacementTable) (around : List Following) (t u : ReplacementTable) (number counter : ℕ) (body : Span) → IsSound x → SaySame t u
     → tables ≡ t ∷ tables_in x → around ≡ Following.Rest x.text ∷ reverse x.around.items
     → Entered (rest_of x) number u (body_texts x.lines body) counter (record {
       depth = length tables + x.turns;

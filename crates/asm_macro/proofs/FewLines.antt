@@ -1,16 +1,16 @@
--- An expansion has no more lines than it takes up: each line or turn that is taken up gives one line at most.
+-- An expansion gives no more lines than it may read: each line or repetition that is read gives one line at most.
 use Rattle.std.proofs.Common.{◌≤◌, ◌+◌, ◌-◌, ℕ, zero, suc, List, [], ◌∷◌, ◌++◌, length, length-append, arith}
 use Rattle.asm_macro.specs.declared.expansion.TheConstants.{MOST_LINES}
 use Rattle.asm_text.specs.Lines.{Numbered}
 use Rattle.asm_text.specs.Sections.Onward.{Next}
 use Rattle.asm_macro.specs.State.{State, room}
-use Rattle.asm_macro.specs.Parts.{Part, Stop, Last, Go, Within, part, resumed}
+use Rattle.asm_macro.specs.Parts.{ExpansionPart, Stop, Last, Go, Within, line_part, resumed}
 use Rattle.asm_macro.specs.Expands.{End, Whole, Ended, Stopped, Expands, nothing, line, Comes, stop, last, go, within, Follows, whole, ended, stopped, IsExpansion, long, short}
 use Rattle.asm_macro.specs.Leads.{given, most, room_behind}
 use Rattle.asm_macro.proofs.Leads.{onward_leads, part_leads}
 
--- where there is room for none, none is taken up
-none_comes : (d : ℕ) (p : Part) (lines : List Numbered) (end : End) → most p ≤ 0 → Comes d p lines end → length lines + room_behind end ≤ 0
+-- if nothing more may be read, no line comes
+none_comes : (d : ℕ) (p : ExpansionPart) (lines : List Numbered) (end : End) → most p ≤ 0 → Comes d p lines end → length lines + room_behind end ≤ 0
 none_comes d (Stop [] number why) _ _ h stop = omega arith
 none_comes d (Stop (l ∷ more) number why) lines end h a = absurd (omega (arith, h))
 none_comes d (Last l) lines end h a = absurd (omega (arith, h))
@@ -27,10 +27,10 @@ mutual
   few_expands d e (l ∷ rest) lines end (line a) =
       let p = part_leads d e l rest in
       some_or_none (room e) (length lines + room_behind end)
-      (λ h. none_comes d (part d e l rest) lines end (omega (arith, h, p.1)) a)
-      (few_comes d 1 (room e - 1) (part d e l rest) lines end p.0 (omega (arith, p.1)) a)
+      (λ h. none_comes d (line_part d e l rest) lines end (omega (arith, h, p.1)) a)
+      (few_comes d 1 (room e - 1) (line_part d e l rest) lines end p.0 (omega (arith, p.1)) a)
 
-  few_comes : (d k n : ℕ) (p : Part) (lines : List Numbered) (end : End) → length (given p) ≤ k → most p ≤ suc n → Comes d p lines end → length lines + room_behind end ≤ k + n
+  few_comes : (d k n : ℕ) (p : ExpansionPart) (lines : List Numbered) (end : End) → length (given p) ≤ k → most p ≤ suc n → Comes d p lines end → length lines + room_behind end ≤ k + n
   few_comes d k n (Stop front number why) _ _ few h stop = omega (arith, few)
   few_comes d k n (Last l) _ _ few h last = omega (arith, few)
   few_comes d k n (Go front e rest) _ end few h (go lines a) = omega (arith, few, h, few_expands d e rest lines end a, length-append front lines)

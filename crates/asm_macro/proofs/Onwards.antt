@@ -1,73 +1,73 @@
--- What blocks are gone on with are the parts that they come to.
+-- Where expansion continues at a block: the code's answer is the part that the definitions give.
 use Rattle.std.proofs.Common.{◌≡◌, ◌<◌, ◌≤◌, ◌+◌, ◌∙◌, sym, ap, refl, ℕ, zero, suc, Bool, true, false, if◌then◌else◌, List, [], ◌∷◌, Option, Some, None, arith}
 use Rattle.asm_macro.specs.declared.take.TheConstants.{MOST_NESTED}
-use Rattle.asm_replace.specs.Replaced.{Table}
+use Rattle.asm_replace.specs.Replaced.{ReplacementTable}
 use Rattle.asm_text.specs.Lines.{Numbered, form_of}
 use Rattle.asm_text.specs.Roles.{is_alone}
 use Rattle.asm_text.specs.Spans.{text_of}
 use Rattle.asm_text.specs.declared.following.Following.{Following}
 use Rattle.asm_text.specs.Sections.Blocks.{Branches, Section}
 use Rattle.asm_text.specs.Sections.Onward as onward
-use Rattle.asm_text.specs.Sections.Onward.{Next, Rest, BehindFirst, BehindSecond, Turns, Onward, On, Stray, Into, behind, branch, stray, stray_in, unless}
+use Rattle.asm_text.specs.Sections.Onward.{Next, Rest, BehindFirst, BehindSecond, Turns, Onward, On, Stray, Into, behind, branch, stray, stray_in, stray_or}
 use Rattle.asm_text.specs.Sections.Sections.{branches_seen, section_of}
 use Rattle.asm_text.specs.Sections.Views.{behind_other, next_of}
 use Rattle.asm_macro.specs.declared.fault.MacroFault.{MacroFault}
 use Rattle.asm_macro.specs.State.{State}
-use Rattle.asm_macro.specs.Parts.{Part, Stop, Go, chosen, closing, fails, passed, resumed, second_of}
+use Rattle.asm_macro.specs.Parts.{ExpansionPart, Stop, Go, branch_part, closing, fails, passed, resumed, else_part}
 use Rattle.asm_macro.specs.Private.Going.{Fits, part_of, texts_opened, turn_in, turns_opened}
 
--- a part, unless the line of a number may not stand
-abbrev barred : Option ℕ → Part → Part
+-- a part, unless the line with this number is misplaced
+abbrev barred : Option ℕ → ExpansionPart → ExpansionPart
 barred None p = p
 barred (Some number) p = Stop [] number MacroFault.Stray
 
-closing_by : (b : Bool) (l : Numbered) (p : Part) → (if b then p else fails l MacroFault.Stray) ≡ barred (if b then None else Some l.number) p
+closing_by : (b : Bool) (l : Numbered) (p : ExpansionPart) → (if b then p else fails l MacroFault.Stray) ≡ barred (if b then None else Some l.number) p
 closing_by true l p = refl
 closing_by false l p = refl
 
-closing_is : (l : Numbered) (p : Part) → closing l p ≡ barred (stray l) p
+closing_is : (l : Numbered) (p : ExpansionPart) → closing l p ≡ barred (stray l) p
 closing_is l p = closing_by (is_alone (form_of l.text)) l p
 
-pub closing_none : (l : Numbered) (s : Option ℕ) → s ≡ stray l → s ≡ None → (p : Part) → closing l p ≡ p
+pub closing_none : (l : Numbered) (s : Option ℕ) → s ≡ stray l → s ≡ None → (p : ExpansionPart) → closing l p ≡ p
 closing_none l s is none p = closing_is l p ∙ ap (λ o. barred o p) (sym is ∙ none)
 
-pub closing_some : (l : Numbered) (s : Option ℕ) (number : ℕ) → s ≡ stray l → s ≡ Some number → (p : Part) → closing l p ≡ Stop [] number MacroFault.Stray
+pub closing_some : (l : Numbered) (s : Option ℕ) (number : ℕ) → s ≡ stray l → s ≡ Some number → (p : ExpansionPart) → closing l p ≡ Stop [] number MacroFault.Stray
 closing_some l s number is some p = closing_is l p ∙ ap (λ o. barred o p) (sym is ∙ some)
 
-passed_is : (others : List Section) (p : Part) → passed others p ≡ barred (stray_in others) p
+passed_is : (others : List Section) (p : ExpansionPart) → passed others p ≡ barred (stray_in others) p
 passed_is [] p = refl
 passed_is (t ∷ []) p = closing_is t.end p
 passed_is (t ∷ u ∷ more) p = refl
 
-part_unless : (depth : ℕ) (e : State) (s : Option ℕ) (o : Onward) → part_of depth e (unless s o) ≡ barred s (part_of depth e o)
+part_unless : (depth : ℕ) (e : State) (s : Option ℕ) (o : Onward) → part_of depth e (stray_or s o) ≡ barred s (part_of depth e o)
 part_unless depth e None o = refl
 part_unless depth e (Some number) o = refl
 
-closed : (depth : ℕ) (e : State) (l : Numbered) (o : Onward) (p : Part) → p ≡ part_of depth e o → closing l p ≡ part_of depth e (unless (stray l) o)
+closed : (depth : ℕ) (e : State) (l : Numbered) (o : Onward) (p : ExpansionPart) → p ≡ part_of depth e o → closing l p ≡ part_of depth e (stray_or (stray l) o)
 closed depth e l o p is = closing_is l p ∙ ap (barred (stray l)) is ∙ sym (part_unless depth e (stray l) o)
 
--- what follows a text
+-- where expansion continues after some lines
 pub resumed_is : (depth : ℕ) (next : Next) (e : State) → resumed depth next e ≡ part_of depth e (behind next)
 resumed_is depth (Rest text) e = refl
 resumed_is depth (BehindFirst b) e =
-    closed depth e b.first.end (unless (stray_in b.others) (On b.after)) (passed b.others (Go [] e b.after)) (passed_is b.others (Go [] e b.after) ∙ sym (part_unless depth e (stray_in b.others) (On b.after)))
+    closed depth e b.first.end (stray_or (stray_in b.others) (On b.after)) (passed b.others (Go [] e b.after)) (passed_is b.others (Go [] e b.after) ∙ sym (part_unless depth e (stray_in b.others) (On b.after)))
 resumed_is depth (BehindSecond t [] after) e = closed depth e t.end (On after) (Go [] e after) refl
 resumed_is depth (BehindSecond t (u ∷ more) after) e = refl
 resumed_is depth (Turns zero number body) e = closed depth e body.section.end (On body.after) (Go [] e body.after) refl
 resumed_is depth (Turns (suc n) number body) e = refl
 
-second_is : (depth : ℕ) (e : State) (others : List Section) (after : List Numbered) → second_of depth e others after ≡ part_of depth e (onward.second_of others after)
+second_is : (depth : ℕ) (e : State) (others : List Section) (after : List Numbered) → else_part depth e others after ≡ part_of depth e (onward.second_of others after)
 second_is depth e [] after = refl
 second_is depth e (t ∷ more) after = refl
 
 -- a branch of an IF
-pub chosen_is : (n depth : ℕ) (e : State) (b : Branches) → chosen n depth e b ≡ part_of depth e (branch n b)
-chosen_is zero depth e b = closed depth e b.first.end (onward.second_of b.others b.after) (second_of depth e b.others b.after) (second_is depth e b.others b.after)
+pub chosen_is : (n depth : ℕ) (e : State) (b : Branches) → branch_part n depth e b ≡ part_of depth e (branch n b)
+chosen_is zero depth e b = closed depth e b.first.end (onward.second_of b.others b.after) (else_part depth e b.others b.after) (second_is depth e b.others b.after)
 chosen_is (suc n) depth e b = refl
 
--- Such may be gone on with.
+-- Where expansion continues at a block, nesting stays within the limit.
 
-fits_unless : (many : ℕ) (s : Option ℕ) (o : Onward) → Fits many o → Fits many (unless s o)
+fits_unless : (many : ℕ) (s : Option ℕ) (o : Onward) → Fits many o → Fits many (stray_or s o)
 fits_unless many None o fits = fits
 fits_unless many (Some number) o fits = tt
 
@@ -83,28 +83,28 @@ fits_other : (many : ℕ) (others : List Section) (after : List Numbered) → Fi
 fits_other many [] after = tt
 fits_other many (t ∷ more) after = fits_unless many (stray_in (t ∷ more)) (On after) tt
 
-pub fits_behind : (many : ℕ) (texts : List (List ℕ)) (names : Option Table) (f : Following) → many + turn_in f ≤ MOST_NESTED → Fits many (behind (next_of texts names f))
+pub fits_behind : (many : ℕ) (texts : List (List ℕ)) (names : Option ReplacementTable) (f : Following) → many + turn_in f ≤ MOST_NESTED → Fits many (behind (next_of texts names f))
 fits_behind many texts names (Following.Rest s) h = tt
 fits_behind many texts names (Following.BehindFirst c) h =
-    let b = branches_seen texts names c in fits_unless many (stray b.first.end) (unless (stray_in b.others) (On b.after)) (fits_unless many (stray_in b.others) (On b.after) tt)
+    let b = branches_seen texts names c in fits_unless many (stray b.first.end) (stray_or (stray_in b.others) (On b.after)) (fits_unless many (stray_in b.others) (On b.after) tt)
 fits_behind many texts names (Following.BehindSecond c) h = let b = branches_seen texts names c in fits_other many b.others b.after
 fits_behind many texts names (Following.Turns zero number body) h = fits_unless many (stray (section_of texts names body.stretch).end) (On (text_of texts names body.after)) tt
 fits_behind many texts names (Following.Turns (suc n) number body) h = let less : many < MOST_NESTED = omega (arith, h) in less
 
--- How many texts and turns open.
+-- How many spans of lines and how many repetitions begin at a block.
 
-same_unless : (s : Option ℕ) (o : Onward) → texts_opened o ≡ turns_opened o → texts_opened (unless s o) ≡ turns_opened (unless s o)
+same_unless : (s : Option ℕ) (o : Onward) → texts_opened o ≡ turns_opened o → texts_opened (stray_or s o) ≡ turns_opened (stray_or s o)
 same_unless None o same = same
 same_unless (Some number) o same = refl
 
 pub behind_opens : (next : Next) → texts_opened (behind next) ≡ turns_opened (behind next)
 behind_opens (Rest text) = refl
-behind_opens (BehindFirst b) = same_unless (stray b.first.end) (unless (stray_in b.others) (On b.after)) (same_unless (stray_in b.others) (On b.after) refl)
+behind_opens (BehindFirst b) = same_unless (stray b.first.end) (stray_or (stray_in b.others) (On b.after)) (same_unless (stray_in b.others) (On b.after) refl)
 behind_opens (BehindSecond t more after) = same_unless (stray_in (t ∷ more)) (On after) refl
 behind_opens (Turns zero number body) = same_unless (stray body.section.end) (On body.after) refl
 behind_opens (Turns (suc n) number body) = refl
 
-none_unless : (s : Option ℕ) (o : Onward) → turns_opened o ≡ 0 → turns_opened (unless s o) ≡ 0
+none_unless : (s : Option ℕ) (o : Onward) → turns_opened o ≡ 0 → turns_opened (stray_or s o) ≡ 0
 none_unless None o none = none
 none_unless (Some number) o none = refl
 

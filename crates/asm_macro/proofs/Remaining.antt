@@ -1,23 +1,23 @@
--- What is still to come, before a move and behind it.
+-- What is still to come before a move of the expander, and after it.
 use Rattle.std.proofs.Common.{◌≡◌, ◌∙◌, sym, ap, refl, subst, ℕ, List, [], ◌∷◌, ◌++◌, append_assoc, append-nil, Ok, Err, Some, None}
 use Rattle.asm_macro.specs.declared.fault.MacroFault.{MacroFault}
 use Rattle.asm_macro.specs.declared.moves.Given.{Given}
 use Rattle.asm_macro.specs.declared.moves.Stop as moved_by
 use Rattle.asm_text.specs.Lines.{Numbered}
 use Rattle.asm_macro.specs.State.{State}
-use Rattle.asm_macro.specs.Parts.{Part, Stop, Last, Go, Within, part, resumed}
+use Rattle.asm_macro.specs.Parts.{ExpansionPart, Stop, Last, Go, Within, line_part, resumed}
 use Rattle.asm_macro.specs.Expands.{End, Whole, Ended, Stopped, nothing, line, Comes, stop, last, go, within, whole, ended, stopped}
 use Rattle.asm_macro.specs.Ahead.{Around, Rest, Remains, Resumes}
 use Rattle.asm_macro.specs.Ahead as ahead
 use Rattle.asm_macro.specs.Private.Moves.{Moved, On, Fails, Done, Gives, Goes, moved, in_text, next_move}
 use Rattle.asm_macro.specs.Private.Moves as moves
 
--- a part, and what follows it, comes to these lines and ends so
-abbrev Part_remains : ℕ → List Around → Part → List Numbered → End → Type 0
+-- these lines come from a part and from what follows it, and the expansion ends so
+abbrev Part_remains : ℕ → List Around → ExpansionPart → List Numbered → End → Type 0
 Part_remains depth around p lines end =
     (first more : List Numbered) × (middle : End) × Comes depth p first middle × Resumes around middle more end × (lines ≡ first ++ more)
 
-part_on : (depth : ℕ) (around : List Around) (p : Part) (given : List Numbered) (new : Rest) → moved depth around p ≡ On given new
+part_on : (depth : ℕ) (around : List Around) (p : ExpansionPart) (given : List Numbered) (new : Rest) → moved depth around p ≡ On given new
     → (lines : List Numbered) (end : End) → Remains (ahead.Within new) lines end → Part_remains depth around p (given ++ lines) end
 part_on depth around (Stop g n why) given new e lines end r = absurd (cc)
 part_on depth around (Last l) given new e lines end r = absurd (cc)
@@ -47,13 +47,13 @@ resumes_stopped : (n : ℕ) (why : MacroFault) (around : List Around) → Resume
 resumes_stopped n why [] = (refl, refl)
 resumes_stopped n why (a ∷ around) = ([], [], Stopped n why, stopped, resumes_stopped n why around, refl)
 
-part_end : (depth : ℕ) (around : List Around) (p : Part) (l : Numbered) → moved depth around p ≡ moves.End l → Part_remains depth around p (l ∷ []) Ended
+part_end : (depth : ℕ) (around : List Around) (p : ExpansionPart) (l : Numbered) → moved depth around p ≡ moves.End l → Part_remains depth around p (l ∷ []) Ended
 part_end depth around (Stop g n why) l e = absurd (cc)
 part_end depth around (Last m) l e = let is : m ≡ l = cc in (l ∷ [], [], Ended, subst (λ x. Comes depth (Last m) (x ∷ []) Ended) is last, resumes_ended around, refl)
 part_end depth around (Go g s text) l e = absurd (cc)
 part_end depth around (Within g s inner text next) l e = absurd (cc)
 
-part_fails : (depth : ℕ) (around : List Around) (p : Part) (given : List Numbered) (n : ℕ) (why : MacroFault) → moved depth around p ≡ Fails given n why → Part_remains depth around p given (Stopped n why)
+part_fails : (depth : ℕ) (around : List Around) (p : ExpansionPart) (given : List Numbered) (n : ℕ) (why : MacroFault) → moved depth around p ≡ Fails given n why → Part_remains depth around p given (Stopped n why)
 part_fails depth around (Stop g m because) given n why e =
     let one : g ≡ given = cc in
     let two : m ≡ n = cc in
@@ -63,20 +63,20 @@ part_fails depth around (Last l) given n why e = absurd (cc)
 part_fails depth around (Go g s text) given n why e = absurd (cc)
 part_fails depth around (Within g s inner text next) given n why e = absurd (cc)
 
--- a line that comes next
+-- a line that is read next
 taken : (depth : ℕ) (s : State) (l : Numbered) (text : List Numbered) (around : List Around) (lines : List Numbered) (end : End)
-    → Part_remains depth around (part depth s l text) lines end → Remains (ahead.Within (record { depth = depth; state = s; text = l ∷ text; around = around })) lines end
+    → Part_remains depth around (line_part depth s l text) lines end → Remains (ahead.Within (record { depth = depth; state = s; text = l ∷ text; around = around })) lines end
 taken depth s l text around lines end p = (p.0, p.1, p.2, line p.3, p.4, p.5)
 
--- what follows a text that is over
+-- where expansion continues after the current lines
 over : (depth : ℕ) (s : State) (a : Around) (around : List Around) (lines : List Numbered) (end : End)
     → Part_remains a.depth around (resumed a.depth a.next s) lines end → Remains (ahead.Within (record { depth = depth; state = s; text = []; around = a ∷ around })) lines end
 over depth s a around lines end p = ([], lines, Whole s, nothing, (p.0, p.1, p.2, whole p.3, p.4, p.5), refl)
 
 by_parts : (depth : ℕ) (s : State) (text : List Numbered) (around : List Around) (lines : List Numbered) (end : End)
-    → ((d : ℕ) (out : List Around) (p : Part) → moved d out p ≡ in_text depth s text around → Part_remains d out p lines end)
+    → ((d : ℕ) (out : List Around) (p : ExpansionPart) → moved d out p ≡ in_text depth s text around → Part_remains d out p lines end)
     → (in_text depth s text around ≡ Done → ⊥) → Remains (ahead.Within (record { depth = depth; state = s; text = text; around = around })) lines end
-by_parts depth s (l ∷ text) around lines end f n = taken depth s l text around lines end (f depth around (part depth s l text) refl)
+by_parts depth s (l ∷ text) around lines end f n = taken depth s l text around lines end (f depth around (line_part depth s l text) refl)
 by_parts depth s [] (a ∷ around) lines end f n = over depth s a around lines end (f a.depth around (resumed a.depth a.next s) refl)
 by_parts depth s [] [] lines end f n = absurd (n refl)
 
@@ -89,7 +89,7 @@ remains_end r l e = by_parts r.depth r.state r.text r.around (l ∷ []) Ended (�
 pub remains_fails : (r : Rest) (given : List Numbered) (n : ℕ) (why : MacroFault) → next_move r ≡ Fails given n why → Remains (ahead.Within r) given (Stopped n why)
 remains_fails r given n why e = by_parts r.depth r.state r.text r.around given (Stopped n why) (λ depth around p is. part_fails depth around p given n why (is ∙ e)) (λ d. cc)
 
-not_done : (depth : ℕ) (around : List Around) (p : Part) → moved depth around p ≡ Done → ⊥
+not_done : (depth : ℕ) (around : List Around) (p : ExpansionPart) → moved depth around p ≡ Done → ⊥
 not_done depth around (Stop g n why) e = cc
 not_done depth around (Last l) e = cc
 not_done depth around (Go g s text) e = cc
@@ -98,13 +98,13 @@ not_done depth around (Within g s inner text next) e = cc
 done_whole : (depth : ℕ) (s : State) (text : List Numbered) (around : List Around) → in_text depth s text around ≡ Done
     → Remains (ahead.Within (record { depth = depth; state = s; text = text; around = around })) [] (Whole s)
 done_whole depth s [] [] e = ([], [], Whole s, nothing, (refl, refl), refl)
-done_whole depth s (l ∷ text) around e = absurd (not_done depth around (part depth s l text) e)
+done_whole depth s (l ∷ text) around e = absurd (not_done depth around (line_part depth s l text) e)
 done_whole depth s [] (a ∷ around) e = absurd (not_done a.depth around (resumed a.depth a.next s) e)
 
 pub remains_done : (r : Rest) → next_move r ≡ Done → Remains (ahead.Within r) [] (Whole r.state)
 remains_done r e = done_whole r.depth r.state r.text r.around e
 
--- What is to come now was to come before.
+-- What is still to come after a move was still to come before it.
 abbrev pub Leads : Rest → Rest → Type 0
 Leads old now = (lines : List Numbered) (end : End) → Remains (ahead.Within now) lines end → Remains (ahead.Within old) lines end
 

@@ -1,12 +1,12 @@
--- What lines that are taken up come to.
+-- What a line that is read leads to.
 use Rattle.std.proofs.Common.{◌≡◌, ◌⊎◌, inl, inr, ◌<◌, sym, refl, subst, ℕ, false, nat_le, List, [], Option, Some, Result, Ok, Err}
 use Rattle.std.proofs.lemmas.Bool.{lt-leb}
 use Rattle.asm_macro.specs.declared.take.TheConstants.{MOST_NESTED}
 use Rattle.asm_macro.specs.declared.fault.MacroFault.{MacroFault}
 use Rattle.asm_text.specs.Lines.{Numbered}
 use Rattle.asm_macro.specs.State.{State}
-use Rattle.asm_text.specs.Sections.Blocks.{Body, Branches}
-use Rattle.asm_macro.specs.Parts.{chosen, conditional, repeated, turns}
+use Rattle.asm_text.specs.Sections.Blocks.{BlockBody, Branches}
+use Rattle.asm_macro.specs.Parts.{branch_part, conditional, repeated, repetition_part}
 use Rattle.asm_macro.specs.Ahead.{Around, Rest}
 use Rattle.asm_macro.specs.Private.Stopped.{stopped}
 use Rattle.asm_macro.specs.Private.Moves.{Fails, Moved, Resumes, moved}
@@ -23,18 +23,18 @@ stopped_fails n (MacroFault.Scan why) new = refl
 stopped_fails n (MacroFault.Expr why) new = refl
 stopped_fails n MacroFault.NoMemory new = tt
 
--- a value that is answered
+-- a value that is answered is the value of the expression
 pub value_is : (w : Result ℕ MacroFault) (n : ℕ) → (◌≡◌ {A = Result ℕ MacroFault} (Ok n) w) ⊎ (◌≡◌ {A = Result ℕ MacroFault} (Ok n) (Err MacroFault.NoMemory)) → w ≡ Ok n
 value_is w n (inl e) = sym e
 value_is w n (inr e) = absurd (cc)
 
--- a fault of a value that is answered, of what has that fault
+-- if the expression has an error, expansion stops with that error
 pub value_fails : (w : Result ℕ MacroFault) (n : ℕ) (why : MacroFault) (new : Rest) (move : Moved) → (◌≡◌ {A = Result ℕ MacroFault} (Err why) w) ⊎ (◌≡◌ {A = Result ℕ MacroFault} (Err why) (Err MacroFault.NoMemory))
     → (w ≡ Err why → move ≡ Fails [] n why) → Resumes (Err (stopped n why)) new move
 value_fails w n why new move (inl e) f = subst (Resumes (Err (stopped n why)) new) (sym (f (sym e))) (stopped_fails n why new)
 value_fails w n why new move (inr e) f = let none : why ≡ MacroFault.NoMemory = cc in rw none tt
 
-pub conditional_ok : (depth : ℕ) (e : State) (l : Numbered) (found : Option Branches) (w : Result ℕ MacroFault) (b : Branches) (n : ℕ) → found ≡ Some b → w ≡ Ok n → conditional depth e l found w ≡ chosen n depth e b
+pub conditional_ok : (depth : ℕ) (e : State) (l : Numbered) (found : Option Branches) (w : Result ℕ MacroFault) (b : Branches) (n : ℕ) → found ≡ Some b → w ≡ Ok n → conditional depth e l found w ≡ branch_part n depth e b
 conditional_ok depth e l found w b n f v = rw (f, v) refl
 
 pub conditional_err : (depth : ℕ) (around : List Around) (e : State) (l : Numbered) (found : Option Branches) (w : Result ℕ MacroFault) (b : Branches) (why : MacroFault) → found ≡ Some b → w ≡ Err why
@@ -44,9 +44,9 @@ conditional_err depth around e l found w b why f v = rw (f, v) refl
 not_deep : (n : ℕ) → n < MOST_NESTED → nat_le MOST_NESTED n ≡ false
 not_deep n h = lt-leb MOST_NESTED n h
 
-pub repeated_ok : (depth : ℕ) (e : State) (l : Numbered) (found : Option Body) (w : Result ℕ MacroFault) (b : Body) (n : ℕ) → found ≡ Some b → w ≡ Ok n → depth < MOST_NESTED → repeated depth e l found w ≡ turns depth n l.number b e
+pub repeated_ok : (depth : ℕ) (e : State) (l : Numbered) (found : Option BlockBody) (w : Result ℕ MacroFault) (b : BlockBody) (n : ℕ) → found ≡ Some b → w ≡ Ok n → depth < MOST_NESTED → repeated depth e l found w ≡ repetition_part depth n l.number b e
 repeated_ok depth e l found w b n f v h = rw (f, v, not_deep depth h) refl
 
-pub repeated_err : (depth : ℕ) (around : List Around) (e : State) (l : Numbered) (found : Option Body) (w : Result ℕ MacroFault) (b : Body) (why : MacroFault) → found ≡ Some b → w ≡ Err why
+pub repeated_err : (depth : ℕ) (around : List Around) (e : State) (l : Numbered) (found : Option BlockBody) (w : Result ℕ MacroFault) (b : BlockBody) (why : MacroFault) → found ≡ Some b → w ≡ Err why
     → moved depth around (repeated depth e l found w) ≡ Fails [] l.number why
 repeated_err depth around e l found w b why f v = rw (f, v) refl

@@ -1,8 +1,8 @@
--- What moves leave.
+-- What a move of the expander leaves.
 use Rattle.std.proofs.Common.{◌≡◌, ◌≤◌, ◌+◌, ◌-◌, ◌∙◌, sym, ap, refl, subst, Err, ℕ, List, [], ◌∷◌, ◌++◌, Option, reverse, length, arith}
 use Rattle.asm_macro.specs.declared.take.TheConstants.{MOST_NESTED}
 use Rattle.asm_macro.specs.declared.expansion.TheConstants.{MOST_LINES}
-use Rattle.asm_replace.specs.Replaced.{Table}
+use Rattle.asm_replace.specs.Replaced.{ReplacementTable}
 use Rattle.asm_text.specs.declared.span.Span.{Span}
 use Rattle.asm_text.specs.Lines.{Numbered}
 use Rattle.asm_text.specs.Spans.{text_of}
@@ -14,7 +14,7 @@ use Rattle.asm_text.specs.Sections.Views.{next_of, onward_seen}
 use Rattle.asm_macro.specs.declared.expansion.Expansion.{Expansion}
 use Rattle.asm_macro.specs.declared.moves.Stop.{Stop}
 use Rattle.asm_macro.specs.State.{State}
-use Rattle.asm_macro.specs.Parts.{Part, Within, resumed}
+use Rattle.asm_macro.specs.Parts.{ExpansionPart, Within, resumed}
 use Rattle.asm_macro.specs.Ahead as ahead
 use Rattle.asm_macro.specs.Ahead.{Around}
 use Rattle.asm_macro.specs.Private.Frames.{around_seen, below, innermost, outside, turns_in}
@@ -22,9 +22,9 @@ use Rattle.asm_macro.specs.Private.Going.{Enters, Fits, FitsNext, turn_in}
 use Rattle.asm_macro.specs.Private.Moves.{IsSound, Moved, On, Resumes, Sound, in_text, moved, next_move, rest_of, state_of, tables_in}
 use Rattle.asm_macro.proofs.Stacks.{pushed}
 
--- A text within begins; a turn of a REPT is counted.
+-- The lines of a block begin, and a repetition of a REPT is counted.
 
-pub stopped_into : (new : ahead.Rest) (depth : ℕ) (around : List Around) (why : Stop) (e : State) (d : ℕ) (text : List Numbered) (next : Next) (part : Part) → Enters (Err why) e d text next part → Resumes (Err why) new (moved depth around part)
+pub stopped_into : (new : ahead.Rest) (depth : ℕ) (around : List Around) (why : Stop) (e : State) (d : ℕ) (text : List Numbered) (next : Next) (part : ExpansionPart) → Enters (Err why) e d text next part → Resumes (Err why) new (moved depth around part)
 stopped_into new depth around Stop.NoMemory e d text next part h = tt
 stopped_into new depth around (Stop.At n why) e d text next part h = ap (moved depth around) h
 
@@ -34,23 +34,23 @@ turn_more (Following.Rest s) around = let e : turns_in around ≡ turns_in aroun
 turn_more (Following.BehindFirst c) around = let e : turns_in around ≡ turns_in around + 0 = omega arith in e
 turn_more (Following.BehindSecond c) around = let e : turns_in around ≡ turns_in around + 0 = omega arith in e
 
--- what is gone into is in no call of its own
-inner : (many : ℕ) (texts : List (List ℕ)) (names : Option Table) (f : Following) (tables : List Table) → FitsNext many (next_of texts names f) → outside f tables ≡ tables
+-- the lines of a block are in the same call as the block
+inner : (many : ℕ) (texts : List (List ℕ)) (names : Option ReplacementTable) (f : Following) (tables : List ReplacementTable) → FitsNext many (next_of texts names f) → outside f tables ≡ tables
 inner many texts names (Following.Turns left number body) tables fits = refl
 inner many texts names (Following.Rest s) tables fits = absurd fits
 inner many texts names (Following.BehindFirst c) tables fits = refl
 inner many texts names (Following.BehindSecond c) tables fits = refl
 
-pub fits_turn : (many : ℕ) (texts : List (List ℕ)) (names : Option Table) (f : Following) → FitsNext many (next_of texts names f) → many ≤ MOST_NESTED → many + turn_in f ≤ MOST_NESTED
+pub fits_turn : (many : ℕ) (texts : List (List ℕ)) (names : Option ReplacementTable) (f : Following) → FitsNext many (next_of texts names f) → many ≤ MOST_NESTED → many + turn_in f ≤ MOST_NESTED
 fits_turn many texts names (Following.Turns left number body) fits most = omega (arith, fits)
 fits_turn many texts names (Following.Rest s) fits most = absurd fits
 fits_turn many texts names (Following.BehindFirst c) fits most = omega (arith, most)
 fits_turn many texts names (Following.BehindSecond c) fits most = omega (arith, most)
 
-pub fits_into : (many : ℕ) (texts : List (List ℕ)) (names : Option Table) (o : Onward) (s : Span) (f : Following) → o ≡ Onward.Into s f → Fits many (onward_seen texts names o) → FitsNext many (next_of texts names f)
+pub fits_into : (many : ℕ) (texts : List (List ℕ)) (names : Option ReplacementTable) (o : Onward) (s : Span) (f : Following) → o ≡ Onward.Into s f → Fits many (onward_seen texts names o) → FitsNext many (next_of texts names f)
 fits_into many texts names o s f is fits = subst (λ p. Fits many (onward_seen texts names p)) is fits
 
--- an expansion with a turn counted
+-- an expansion with one more repetition counted, if one begins
 abbrev pub WithTurn : Expansion → Following → Expansion → Type 0
 WithTurn x f y = y ≡ record x { count = x.count + turn_in f; turns = x.turns + turn_in f }
 
@@ -69,7 +69,7 @@ gone_into x y after f text many sound fits kept is =
     ∙ ap (λ a. On [] (record { depth = length N + (x.turns + turn_in f); state = state_of y; text = text_of T (innermost N) text; around = a })) (sym seen)
     ∙ ap (λ z. On [] (record { depth = length (tables_in z) + z.turns; state = state_of y; text = text_of z.lines (innermost (tables_in z)) text; around = around_seen z.lines (tables_in z) (reverse after) })) (sym kept)
 
-pub sound_into : (x y : Expansion) (after : List Following) (f : Following) (texts : List (List ℕ)) (names : Option Table) → IsSound x
+pub sound_into : (x y : Expansion) (after : List Following) (f : Following) (texts : List (List ℕ)) (names : Option ReplacementTable) → IsSound x
     → FitsNext (length x.calls.items + x.turns) (next_of texts names f) → WithTurn x f y → y.count ≤ MOST_LINES → after ≡ y.around.items ++ f ∷ []
     → Sound y.lines (tables_in y) (reverse after) (length y.calls.items) y.turns y.count y.book (reverse y.books.items) y.source y.macros.entries y.calls.items
 sound_into x y after f texts names sound fits kept few is =
@@ -86,7 +86,7 @@ sound_into x y after f texts names sound fits kept few is =
       open_calls = sound.open_calls;
     })
 
--- what follows a text that is over
+-- where expansion continues after the current lines
 pub popped : (x : Expansion) (left : List Following) (f : Following) → (rest_of x).text ≡ [] → x.around.items ≡ left ++ f ∷ []
     → next_move (rest_of x) ≡ moved (length (outside f (tables_in x)) + turns_in (reverse left)) (around_seen x.lines (outside f (tables_in x)) (reverse left))
     (resumed (length (outside f (tables_in x)) + turns_in (reverse left)) (next_of x.lines (innermost (outside f (tables_in x))) f) (state_of x))
@@ -97,13 +97,13 @@ popped x left f over is =
 pub turns_popped : (x : Expansion) (left : List Following) (n number : ℕ) (body : Block) → IsSound x → x.around.items ≡ left ++ Following.Turns n number body ∷ [] → turns_in (reverse left) ≡ x.turns - 1
 turns_popped x left n number body sound is = omega (arith, sound.turns, ap turns_in (ap reverse is ∙ pushed left (Following.Turns n number body)))
 
-outside_below : (s : Span) (tables : List Table) → outside (Following.Rest s) tables ≡ below tables
+outside_below : (s : Span) (tables : List ReplacementTable) → outside (Following.Rest s) tables ≡ below tables
 outside_below s [] = refl
 outside_below s (t ∷ ts) = refl
 
--- a call is over
-pub rest_popped : (x : Expansion) (left : List Following) (s : Span) (tables : List Table) → (rest_of x).text ≡ [] → x.around.items ≡ left ++ Following.Rest s ∷ [] → x.turns ≡ turns_in (reverse left) → tables ≡ below (tables_in x)
+-- after the body of a call
+pub rest_popped : (x : Expansion) (left : List Following) (s : Span) (tables : List ReplacementTable) → (rest_of x).text ≡ [] → x.around.items ≡ left ++ Following.Rest s ∷ [] → x.turns ≡ turns_in (reverse left) → tables ≡ below (tables_in x)
     → next_move (rest_of x) ≡ On [] (record { depth = length tables + x.turns; state = state_of x; text = text_of x.lines (innermost tables) s; around = around_seen x.lines tables (reverse left) })
 rest_popped x left s tables over is turns same =
-    let to : List Table → ℕ → Moved = λ ts n. On [] (record { depth = length ts + n; state = state_of x; text = text_of x.lines (innermost ts) s; around = around_seen x.lines ts (reverse left) }) in
+    let to : List ReplacementTable → ℕ → Moved = λ ts n. On [] (record { depth = length ts + n; state = state_of x; text = text_of x.lines (innermost ts) s; around = around_seen x.lines ts (reverse left) }) in
     popped x left (Following.Rest s) over is ∙ ap (λ ts. to ts (turns_in (reverse left))) (outside_below s (tables_in x) ∙ sym same) ∙ ap (to tables) (sym turns)

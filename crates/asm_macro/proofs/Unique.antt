@@ -1,9 +1,9 @@
--- A text has one expansion.
+-- A source has at most one expansion.
 use Rattle.std.proofs.Common.{◌≡◌, ◌∙◌, ap, subst, refl, ℕ, List, [], ◌∷◌, ◌++◌, arith}
 use Rattle.asm_text.specs.Lines.{Numbered}
 use Rattle.asm_macro.specs.State.{State}
 use Rattle.asm_text.specs.Sections.Onward.{Next}
-use Rattle.asm_macro.specs.Parts.{Part, Stop, Last, Go, Within, part, resumed}
+use Rattle.asm_macro.specs.Parts.{ExpansionPart, Stop, Last, Go, Within, line_part, resumed}
 use Rattle.asm_macro.specs.Expands.{End, Whole, Ended, Stopped, Expands, nothing, line, Comes, stop, last, go, within, Follows, whole, ended, stopped, IsExpansion, long, short}
 
 abbrev pub AreSame : List Numbered → End → List Numbered → End → Type 0
@@ -12,9 +12,9 @@ AreSame lines end more other = (lines ≡ more) × (end ≡ other)
 mutual
   one_expands : (d : ℕ) (e : State) (text lines more : List Numbered) (end other : End) → Expands d e text lines end → Expands d e text more other → AreSame lines end more other
   one_expands d e [] _ _ _ _ nothing nothing = (refl, refl)
-  one_expands d e (l ∷ rest) lines more end other (line a) (line b) = one_comes d (part d e l rest) lines more end other a b
+  one_expands d e (l ∷ rest) lines more end other (line a) (line b) = one_comes d (line_part d e l rest) lines more end other a b
 
-  one_comes : (d : ℕ) (p : Part) (lines more : List Numbered) (end other : End) → Comes d p lines end → Comes d p more other → AreSame lines end more other
+  one_comes : (d : ℕ) (p : ExpansionPart) (lines more : List Numbered) (end other : End) → Comes d p lines end → Comes d p more other → AreSame lines end more other
   one_comes d (Stop given n why) _ _ _ _ stop stop = (refl, refl)
   one_comes d (Last l) _ _ _ _ last last = (refl, refl)
   one_comes d (Go given e rest) _ _ end other (go lines a) (go more b) =

@@ -1,4 +1,4 @@
--- What tokens are worth where each name is a constant.
+-- The value of an expression whose names are all constants.
 use Rattle.std.proofs.Common.{◌≡◌, ◌⊎◌, inl, inr, ◌∙◌, ◌&&◌, cond, sym, ap, refl, ℕ, Bool, true, false, is_some, List, [], ◌∷◌, ◌++◌, Option, Some, None, Result, Ok, Err, map, Bor, option_copied}
 use Rattle.std.specs.List.{AllPass, list_all}
 use Rattle.std.specs.Prelude.{IsTrue, ◌↔◌}
@@ -23,7 +23,7 @@ use Rattle.asm_expr.specs.Settling.{is_constant_item, is_constant_name, is_known
 use Rattle.asm_expr.proofs.Anywhere.{number_settled}
 use Rattle.asm_macro.specs.declared.fault.MacroFault.{MacroFault}
 use Rattle.asm_macro.specs.Faults.{fault_of_expr}
-use Rattle.asm_macro.specs.Values.{number_of, worth, worth_of_items}
+use Rattle.asm_macro.specs.Values.{settled_number, value_of_tokens, worth_of_items}
 use Rattle.asm_macro.specs.Private.Constants.{constants_in, is_plain_item, number_in, table_of}
 use Rattle.asm_macro.specs.Private.Heads.{constants_with, with_worth}
 
@@ -49,7 +49,7 @@ same_items : (cs : List (List ℕ × ℕ)) (xs : List (Item Operand)) → list_a
 same_items cs [] = refl
 same_items cs (x ∷ xs) = ap (λ b. b && list_all (is_plain_item (table_of cs)) xs) (same_item cs x) ∙ ap (λ b. is_number_item (table_of cs) x && b) (same_items cs xs)
 
--- two tests of each, and each test of all
+-- the order of tests does not matter
 and_false : (b : Bool) → (b && false) ≡ false
 and_false true = refl
 and_false false = refl
@@ -84,37 +84,37 @@ all_known t items false tells =
 pub not_known : (t : Table) (items : List (Item Operand)) → list_all (is_known t) items ≡ false → list_all (is_plain_item t) items ≡ false
 not_known t items e = plain_all t items ∙ ap (λ b. list_all (is_constant_item t) items && b) e ∙ and_false (list_all (is_constant_item t) items)
 
--- the items that are read
+-- the items of the expression are parsed
 pub items_read : (w : Result (List (Item Operand)) ExprFault) (items : List (Item Operand)) → (◌≡◌ {A = Result (List (Item Operand)) ExprFault} (Ok items) w) ⊎ (◌≡◌ {A = Result (List (Item Operand)) ExprFault} (Ok items) (Err ExprFault.NoMemory)) → w ≡ Ok items
 items_read w items (inl e) = sym e
 items_read w items (inr e) = absurd (cc)
 
 pub no_number : (cs : List (List ℕ × ℕ)) (tokens : List Lexeme) (items : List (Item Operand)) → parsed tokens ≡ Ok items → list_all (is_plain_item (table_of cs)) items ≡ false
-    → worth (table_of cs) tokens ≡ Err MacroFault.ConditionNamesLabel
+    → value_of_tokens (table_of cs) tokens ≡ Err MacroFault.ConditionNamesLabel
 no_number cs tokens items p e = let n : list_all (is_number_item (table_of cs)) items ≡ false = sym (same_items cs items) ∙ e in ap (worth_of_items (table_of cs)) p ∙ rw n refl
 
 pub numbers : (cs : List (List ℕ × ℕ)) (tokens : List Lexeme) (items : List (Item Operand)) → parsed tokens ≡ Ok items → list_all (is_plain_item (table_of cs)) items ≡ true
-    → worth (table_of cs) tokens ≡ number_of (settled (table_of cs) (source items))
+    → value_of_tokens (table_of cs) tokens ≡ settled_number (settled (table_of cs) (source items))
 numbers cs tokens items p e = let n : list_all (is_number_item (table_of cs)) items ≡ true = sym (same_items cs items) ∙ e in ap (worth_of_items (table_of cs)) p ∙ rw n refl
 
--- a fault of the value
+-- an error of the value
 pub settled_err : (cs : List (List ℕ × ℕ)) (tokens : List Lexeme) (items : List (Item Operand)) (why : ExprFault) → parsed tokens ≡ Ok items → list_all (is_plain_item (table_of cs)) items ≡ true
     → (◌≡◌ {A = Result Settled ExprFault} (Err why) (settled (table_of cs) (source items))) ⊎ (◌≡◌ {A = Result Settled ExprFault} (Err why) (Err ExprFault.NoMemory))
-    → (◌≡◌ {A = Result ℕ MacroFault} (Err (fault_of_expr why)) (worth (table_of cs) tokens)) ⊎ (◌≡◌ {A = Result ℕ MacroFault} (Err (fault_of_expr why)) (Err MacroFault.NoMemory))
-settled_err cs tokens items why p e (inl s) = inl (ap number_of s ∙ sym (numbers cs tokens items p e))
+    → (◌≡◌ {A = Result ℕ MacroFault} (Err (fault_of_expr why)) (value_of_tokens (table_of cs) tokens)) ⊎ (◌≡◌ {A = Result ℕ MacroFault} (Err (fault_of_expr why)) (Err MacroFault.NoMemory))
+settled_err cs tokens items why p e (inl s) = inl (ap settled_number s ∙ sym (numbers cs tokens items p e))
 settled_err cs tokens items why p e (inr s) = let none : why ≡ ExprFault.NoMemory = cc in inr (rw none refl)
 
--- the number of the value
+-- the number that is the value
 pub settled_ok : (cs : List (List ℕ × ℕ)) (tokens : List Lexeme) (items : List (Item Operand)) (s : Settled) (r : Result ℕ MacroFault) → parsed tokens ≡ Ok items → list_all (is_plain_item (table_of cs)) items ≡ true → postfix (source items) ≡ items
     → (◌≡◌ {A = Result Settled ExprFault} (Ok s) (settled (table_of cs) (source items))) ⊎ (◌≡◌ {A = Result Settled ExprFault} (Ok s) (Err ExprFault.NoMemory))
-    → ((n : ℕ) → s ≡ Settled.Known (Item.Leaf (Atom.Number n) ∷ []) → r ≡ Ok n) → r ≡ worth (table_of cs) tokens
+    → ((n : ℕ) → s ≡ Settled.Known (Item.Leaf (Atom.Number n) ∷ []) → r ≡ Ok n) → r ≡ value_of_tokens (table_of cs) tokens
 settled_ok cs tokens items s r p e same (inl is) f =
     let all = ap (list_all (is_number_item (table_of cs))) same ∙ sym (same_items cs items) ∙ e in
     let number = number_settled (table_of cs) (source items) all s (sym is) in
-    f number.0 number.2 ∙ sym (numbers cs tokens items p e ∙ ap number_of (sym is ∙ ap Ok number.2))
+    f number.0 number.2 ∙ sym (numbers cs tokens items p e ∙ ap settled_number (sym is ∙ ap Ok number.2))
 settled_ok cs tokens items s r p e same (inr is) f = absurd (cc)
 
--- a name is a constant where it is found
+-- a name in the list is a constant
 some_name : (cs : List (List ℕ × ℕ)) (p : List ℕ → Bool) → is_some (lookup p (meant cs)) ≡ is_some (lookup p cs)
 some_name [] p = refl
 some_name (c ∷ cs) p =

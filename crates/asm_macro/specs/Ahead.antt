@@ -1,4 +1,4 @@
--- What of an expansion is still to come: the meaning of an expander between two lines.
+-- What of an expansion is still to come. This is the meaning of an expander between two lines.
 use Rattle.std.specs.Prelude.{◌≡◌, ◌<◌, ◌-◌, ℕ, Bool, true, false, List, [], ◌∷◌, ◌++◌, Result, Ok, Err}
 use Rattle.asm_macro.specs.declared.expansion.TheConstants.{MOST_LINES}
 use Rattle.asm_macro.specs.declared.expander.Line.{Line}
@@ -8,32 +8,32 @@ use Rattle.asm_macro.specs.State.{State, room}
 use Rattle.asm_text.specs.Sections.Onward.{Next}
 use Rattle.asm_macro.specs.Expands.{End, Ended, Stopped, Expands, Follows, IsDone, IsExpansion}
 
--- what follows a text in the one around it, at a depth
+-- where expansion continues after some lines, and at which depth of calls and repetitions
 pub record Around : Type 0 where
   pub depth : ℕ
   pub next : Next
 
--- the rest of the innermost text, at its depth and from a state, and what follows it and those around, the innermost first
+-- the rest of the current lines, with their depth and the state; and where expansion continues after them, the innermost first
 pub record Rest : Type 0 where
   pub depth : ℕ
   pub state : State
   pub text : List Numbered
   pub around : List Around
 
--- Nothing of a source text is given yet; it is given in part; all is given; or a fault came, on a line.
+-- How far an expansion is: the source is not read yet; it is in some lines; all lines were given; or it stopped at a line with an error.
 pub data Ahead : Type 0 where
   Before : List ℕ → Ahead
   Within : Rest → Ahead
   Over : Ahead
   Halted : ℕ → MacroFault → Ahead
 
--- A text that ended somehow, and those around it, come to these lines and end so.
+-- After lines that ended with `middle`, expansion continues in the lines around them, gives these lines and ends so.
 abbrev pub Resumes : List Around → End → List Numbered → End → Type 0
 Resumes [] middle lines end = (lines ≡ []) × (end ≡ middle)
 Resumes (a ∷ around) middle lines end =
     (first more : List Numbered) × (then : End) × Follows a.depth middle a.next first then × Resumes around then more end × (lines ≡ first ++ more)
 
--- What is still to come is these lines, and ends so.
+-- These lines are still to come, and then the expansion ends so.
 abbrev pub Remains : Ahead → List Numbered → End → Type 0
 Remains (Before text) lines end = IsExpansion text lines end
 Remains (Within rest) lines end =
@@ -44,24 +44,25 @@ Remains (Halted number why) lines end = (lines ≡ []) × (end ≡ Stopped numbe
 abbrev pub seen : Line → Numbered
 seen l = record { number = l.number; text = l.text.now }
 
--- An expander: the line that its last call gave, where it gave one, and what is still to come.
+-- An expander as its callers see it: the line that its last call gave, if it gave one, and what is still to come.
 pub record Standing : Type 0 where
   pub given : Numbered
   pub ahead : Ahead
 
--- Nothing is given yet.
+-- An expander before its first line.
 abbrev pub begun : List ℕ → Standing
 begun text = record { given = record { number = 0; text = [] }; ahead = Before text }
 
--- How many lines may still come, at most: a line that is given was counted.
+-- How many lines may still come, at most. A line that was given is counted already.
 abbrev pub most_left : Ahead → ℕ
 most_left (Before text) = MOST_LINES
 most_left (Within rest) = room rest.state
 most_left Over = 0
 most_left (Halted number why) = 0
 
--- What a call answers, and what it leaves: a line is given, and then the rest; or nothing is to come; or the fault is given that
--- is to come. Want of memory alone has no cause.
+-- What a call of an expander answers and what it leaves. `true`: a line is given; together with what is to come then, it is what was to
+-- come before, and fewer lines may come than before. `false`: no line was to come. An error: the expansion stops here, unless memory ran
+-- out, which has no cause in the source.
 abbrev pub IsNext : Standing → Result Bool (ℕ × MacroFault) → Standing → Type 0
 IsNext before (Ok true) after =
     (most_left after.ahead < most_left before.ahead)

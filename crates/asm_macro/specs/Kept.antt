@@ -1,4 +1,4 @@
--- Tokens that are kept of a line.
+-- The tokens of a line that an expander keeps for its caller.
 use Rattle.std.specs.Prelude.{◌≡◌, ℕ, List, Option, Some, None, Vec, Ok}
 use Rattle.std.specs.Global.{Global}
 use Rattle.asm_scan.specs.declared.token.Token.{Token}

@@ -1,4 +1,4 @@
--- The value of an expression whose names are constants, or its fault.
+-- The value of the expression of an IF, REPT or EQU line during expansion, or its error. Only names that are constants have a value there.
 use Rattle.std.specs.Prelude.{ℕ, [], ◌∷◌, List, Result, Ok, Err, if◌then◌else◌}
 use Rattle.std.specs.List.{list_all}
 use Rattle.asm_scan.specs.Tokens.{Lexeme}
@@ -15,18 +15,18 @@ use Rattle.asm_expr.specs.Settling.{settled}
 use Rattle.asm_macro.specs.declared.fault.MacroFault.{MacroFault}
 use Rattle.asm_macro.specs.Faults.{fault_of_expr}
 
--- The number that is answered of an expression, or its fault. (What has numbers alone in it is a number, or faulty.)
-abbrev pub number_of : Result Settled ExprFault → Result ℕ MacroFault
-number_of (Ok (Settled.Known (Item.Leaf (Atom.Number n) ∷ []))) = Ok n
-number_of (Ok _) = Err MacroFault.ConditionNamesLabel
-number_of (Err fault) = Err (fault_of_expr fault)
+-- The number that an expression has, or its error. (An expression of numbers only has either, so the second case does not occur.)
+abbrev pub settled_number : Result Settled ExprFault → Result ℕ MacroFault
+settled_number (Ok (Settled.Known (Item.Leaf (Atom.Number n) ∷ []))) = Ok n
+settled_number (Ok _) = Err MacroFault.ConditionNamesLabel
+settled_number (Err fault) = Err (fault_of_expr fault)
 
--- of its items: a name that is no constant, or `$`, comes before a fault of the value
+-- the value of items: a name that is not a constant, or `$`, is reported before an error of the value
 abbrev pub worth_of_items : Table → Result (List (Item Operand)) ExprFault → Result ℕ MacroFault
-worth_of_items t (Ok items) = if list_all (is_number_item t) items then number_of (settled t (source items)) else Err MacroFault.ConditionNamesLabel
+worth_of_items t (Ok items) = if list_all (is_number_item t) items then settled_number (settled t (source items)) else Err MacroFault.ConditionNamesLabel
 worth_of_items t (Err fault) = Err (fault_of_expr fault)
 
--- What tokens are worth: the number of their expression, or the first that there is of a fault of what they spell, a name
--- that is no constant, and a fault of its value.
-abbrev pub worth : Table → List Lexeme → Result ℕ MacroFault
-worth t tokens = worth_of_items t (parsed tokens)
+-- The value of tokens: the number of their expression, or the first of these errors: the tokens are no expression; a name is not a
+-- constant; the expression has no value.
+abbrev pub value_of_tokens : Table → List Lexeme → Result ℕ MacroFault
+value_of_tokens t tokens = worth_of_items t (parsed tokens)

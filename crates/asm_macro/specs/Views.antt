@@ -1,4 +1,4 @@
--- The lines that the code answers as those of the definitions.
+-- The lines that the code answers, as definitions see them.
 use Rattle.std.specs.Prelude.{ℕ, List, Result, Ok, Err, map}
 use Rattle.asm_macro.specs.declared.fault.MacroFault.{MacroFault}
 use Rattle.asm_macro.specs.declared.whole.Expanded.{Expanded}

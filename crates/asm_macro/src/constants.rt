@@ -1,4 +1,4 @@
-//! The names that EQU gave a value.
+//! Keeps the names that EQU gave a value during expansion.
 
 ghost use Rattle.std.specs.Prelude.{◌≡◌, ◌⊎◌, ◌∷◌, [], Err, List, Ok, OnOk, ℕ};
 ghost use Rattle.asm_parse.specs.declared.item.Item.{Item};
@@ -7,7 +7,7 @@ ghost use Rattle.asm_expr.specs.declared.answer.Settled.{Settled};
 ghost use Rattle.common.specs.Words.{upper};
 ghost use Rattle.asm_scan.specs.Tokens.{lexemes};
 ghost use Rattle.asm_macro.specs.declared.fault.MacroFault.{MacroFault};
-ghost use Rattle.asm_macro.specs.Values.{worth};
+ghost use Rattle.asm_macro.specs.Values.{value_of_tokens};
 ghost use Rattle.asm_macro.specs.Private.Heads.{constants_with};
 ghost use Rattle.std.specs.Map.{lookup};
 ghost use Rattle.std.specs.Str.{bytes_eq};
@@ -20,7 +20,7 @@ use common::NameKey;
 use std::alloc::{AllocError, Global};
 use std::marker::Model;
 
-/// The names that EQU gave a value that is known here. Clauses see each with its value.
+/// The names that EQU gave a value that is known during expansion. Clauses see each with its value.
 #[derive(Debug, Drop)]
 pub(crate) struct Constants {
     names: Names,
@@ -37,7 +37,7 @@ impl Model for Constants {
     ghost invariant = { λ c. c.names ≡ table_of (constants_in c.names.entries) };
 }
 
-/// The number of an expression that is settled, of names that are constants.
+/// Answers the number of an expression whose names are all constants.
 fn number_in(settled: &Settled) -> Result<u16, MacroFault>
     ensures { (n : ℕ) → settled.now ≡ Settled.Known (Item.Leaf (Atom.Number n) ∷ []) → result ≡ Ok n }
 {
@@ -50,10 +50,10 @@ fn number_in(settled: &Settled) -> Result<u16, MacroFault>
     }
 }
 
-/// What an expression is worth, of names that are constants.
+/// Answers the value of an expression, whose names have to be constants.
 fn value_of(alloc: Global, names: &Names, tokens: &[Token<'_>]) -> Result<u16, MacroFault>
     ensures { (constants : List (List ℕ × ℕ)) → names.now ≡ table_of constants →
-        (result ≡ worth (table_of constants) (lexemes tokens.entry.now)) ⊎ (result ≡ Err MacroFault.NoMemory) }
+        (result ≡ value_of_tokens (table_of constants) (lexemes tokens.entry.now)) ⊎ (result ≡ Err MacroFault.NoMemory) }
 {
     let tree = parse(alloc, tokens)?;
     if !is_constant(&tree, names) {
@@ -75,21 +75,21 @@ impl Constants {
         }
     }
 
-    /// What an expression is worth.
+    /// Answers the value of an expression.
     pub(crate) fn value_of(&self, alloc: Global, tokens: &[Token<'_>]) -> Result<u16, MacroFault>
-        ensures { (result ≡ worth (table_of self.now) (lexemes tokens.entry.now)) ⊎ (result ≡ Err MacroFault.NoMemory) }
+        ensures { (result ≡ value_of_tokens (table_of self.now) (lexemes tokens.entry.now)) ⊎ (result ≡ Err MacroFault.NoMemory) }
     {
         value_of(alloc, &self.names, tokens)
     }
 
-    /// Remembers a name that an EQU line defines, where it is the first of that name with a value.
+    /// Keeps the name that an EQU line defines, if it has a value and no earlier EQU line gave the name one.
     pub(crate) fn learn(
         &mut self,
         alloc: Global,
         name: &[u8],
         tokens: &[Token<'_>],
     ) -> Result<(), AllocError>
-        ensures { OnOk result (self.new ≡ constants_with self.old (upper name.now) (worth (table_of self.old) (lexemes tokens.entry.now))) }
+        ensures { OnOk result (self.new ≡ constants_with self.old (upper name.now) (value_of_tokens (table_of self.old) (lexemes tokens.entry.now))) }
     {
         let key = name.to_ascii_uppercase(alloc)?;
         if self.names.meaning(&key).is_some() {

@@ -1,4 +1,4 @@
-//! The lines of an expansion, one after the other.
+//! Gives the lines of an expansion, one after the other.
 
 ghost use Rattle.std.specs.Prelude.{◌≡◌, ℕ, Ok, Err, None, false};
 ghost use Rattle.asm_macro.specs.Ahead.{begun, Halted, IsNext, Over, seen};
@@ -13,7 +13,7 @@ use asm_scan::Token;
 use std::alloc::Global;
 use std::marker::Model;
 
-/// A line, and the number in the source of the line from which it comes: its own, or that of the outermost call or REPT.
+/// A line of an expansion, with the number of the source line that it comes from: its own, or that of the outermost call or REPT.
 #[derive(Clone, Copy, Debug, PartialEq, Eq)]
 pub struct Line<'a> {
     pub number: u32,
@@ -23,14 +23,14 @@ pub struct Line<'a> {
 /// How far the expansion is.
 #[derive(Debug, Drop)]
 enum Stage<'a> {
-    /// Nothing is read yet.
+    /// The source is not read yet.
     Before(&'a [u8]),
     Within(Expansion<'a>),
     Over,
     Halted(u32, MacroFault),
 }
 
-/// All is given. (Called, since room for a stage is made ready where it stands, at each line.)
+/// Ends the expansion. Not inlined: building a `Stage` in place would zero 480 bytes on every line.
 #[inline(never)]
 fn end(stage: &mut Stage<'_>)
     ensures { stage.new ≡ Stage.Over }
@@ -38,7 +38,7 @@ fn end(stage: &mut Stage<'_>)
     *stage = Stage::Over;
 }
 
-/// A fault came, on a line.
+/// Stops the expansion with an error at a line. Not inlined, for the same reason.
 #[inline(never)]
 fn halt(stage: &mut Stage<'_>, number: u32, why: MacroFault)
     ensures { stage.new ≡ Stage.Halted number why }
@@ -46,12 +46,12 @@ fn halt(stage: &mut Stage<'_>, number: u32, why: MacroFault)
     *stage = Stage::Halted(number, why);
 }
 
-/// The expansion of a source text, line by line.
+/// Expands a source line by line.
 #[derive(Debug, Drop)]
 pub struct Expander<'a> {
     alloc: Global,
     stage: Stage<'a>,
-    /// The line that was given last, its number, and its tokens, where they are kept.
+    /// The line that was given last, its number, and its tokens if they are kept.
     buffer: Vec<u8>,
     number: u32,
     tokens: Option<Vec<Token<'a>>>,
@@ -83,7 +83,7 @@ impl<'a> Expander<'a> {
     ghost use Rattle.asm_macro.specs.Given.{IsNextLine};
     ghost use Rattle.asm_macro.specs.Private.Stages.{IsStarted, Starts};
 
-    /// Nothing is read before the first line is asked for.
+    /// Makes an expander, which reads the source only when the first line is asked for.
     pub fn new(alloc: Global, text: &'a [u8]) -> Expander<'a>
         ensures { result ≡ begun text.now }
     {
@@ -96,7 +96,7 @@ impl<'a> Expander<'a> {
         }
     }
 
-    /// Reads the text, where that is not done yet.
+    /// Reads the source, unless that is done already.
     fn start(&mut self)
         ensures { Starts self.old self.new }
     {
@@ -109,7 +109,7 @@ impl<'a> Expander<'a> {
         };
     }
 
-    /// The same, once the text is read.
+    /// Does the same as `advance`, once the source is read.
     fn go(&mut self) -> Result<bool, (u32, MacroFault)>
         requires { IsStarted self.old }
         ensures next { IsNext self.old result self.new }
@@ -151,11 +151,11 @@ impl<'a> Expander<'a> {
         }
     }
 
-    /// Goes on to the next line, which [`line`](Expander::line) then gives; false behind the last, and from then on.
+    /// Goes on to the next line, which [`line`](Expander::line) then answers; false after the last line, and on each later call.
     ///
     /// # Errors
     ///
-    /// The line on which the expansion stops, and why; from then on every call answers it again.
+    /// The line at which the expansion stops, and why. Each later call answers the same error.
     pub fn advance(&mut self) -> Result<bool, (u32, MacroFault)>
         ensures next { IsNext self.old result self.new }
         ensures over { self.old.ahead ≡ Over → result ≡ Ok false }
@@ -165,11 +165,11 @@ impl<'a> Expander<'a> {
         self.go()
     }
 
-    /// The next line; None behind the last, and from then on.
+    /// Answers the next line; None after the last line, and on each later call.
     ///
     /// # Errors
     ///
-    /// The line on which the expansion stops, and why; from then on every call answers it again.
+    /// The line at which the expansion stops, and why. Each later call answers the same error.
     pub fn next_line(&mut self) -> Result<Option<Line<'_>>, (u32, MacroFault)>
         ensures* next { sem 𝓛 (follows_so (the_row (record { mir = named 1; lft = [] })) (the_row (record { mir = named 1; lft = [] })) self.entry.ghost_name none (λ _ _. ⊤) (λ after. IsNextLine self.old result after)) }
         ensures over { self.old.ahead ≡ Over → result ≡ Ok None }
@@ -182,7 +182,7 @@ impl<'a> Expander<'a> {
         }
     }
 
-    /// The line that the last call gave, where it gave one.
+    /// Answers the line that the last call gave, if it gave one.
     pub fn line(&self) -> Line<'_>
         ensures { seen result ≡ self.now.given }
     {
@@ -192,8 +192,8 @@ impl<'a> Expander<'a> {
         }
     }
 
-    /// The tokens of the line that was given last, which it need not be cut into again; None where they are not kept, as those
-    /// of a line in a call.
+    /// Answers the tokens of the line that was given last, so that the caller need not tokenize it again; None if they are not kept, as for
+    /// the lines of a call.
     pub fn take_tokens(&mut self) -> Option<Vec<Token<'a>>>
         ensures same { self.new ≡ self.old }
         ensures tokens { AreOf self.old.given.text result }

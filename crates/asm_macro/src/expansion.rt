@@ -1,10 +1,10 @@
-//! What is known from the lines before, and what is still to be expanded.
+//! Keeps what is known while a source is expanded, and what is left to expand; moves from line to line.
 
 ghost use Rattle.std.specs.Prelude.{◌≡◌, ◌≢◌, ◌<◌, ◌≤◌, ◌+◌, ◌∷◌, ℕ, IfOk, OnOk, List, [], Some, length, reverse, slice_index_or};
-ghost use Rattle.asm_replace.specs.Replaced.{Table};
+ghost use Rattle.asm_replace.specs.Replaced.{ReplacementTable};
 ghost use Rattle.asm_text.specs.Sections.Books.{IsBook};
 ghost use Rattle.asm_macro.specs.Kept.{AreOf};
-ghost use Rattle.asm_macro.specs.Parts.{part};
+ghost use Rattle.asm_macro.specs.Parts.{line_part};
 ghost use Rattle.asm_macro.specs.Private.Frames.{AreBooks, below, innermost};
 ghost use Rattle.asm_macro.specs.declared.moves.Given.{Given};
 ghost use Rattle.asm_macro.specs.Private.Moves.{Gives, Goes, IsSound, Lessens, Resumes, Takes, most_moves, moved, next_move, rest_of, state_of};
@@ -18,7 +18,7 @@ use common::NameKey;
 use indexmap::IndexMap;
 use std::alloc::{AllocError, Global};
 
-/// The most lines and turns of a whole expansion.
+/// The most lines and repetitions that one expansion may read.
 pub const MOST_LINES: u32 = 60_000;
 
 /// An expansion between two moves.
@@ -31,27 +31,27 @@ pub(crate) struct Expansion<'a> {
     pub constants: Constants,
     /// How many LOCAL names there were.
     pub counter: u64,
-    /// How many lines and turns were taken up.
+    /// How many lines and repetitions were read.
     pub count: u32,
-    /// What is left of the innermost text.
+    /// What is left of the current lines.
     pub text: Span,
-    /// What follows it and those around, the innermost last.
+    /// Where expansion continues after the current lines, after the lines around them, and so on, the innermost last.
     pub around: Vec<Following>,
     /// The open calls, the innermost last.
     pub calls: Vec<Call>,
     /// How many repetitions are open.
     pub turns: usize,
-    /// Where the blocks end of the innermost call's text, where they end elsewhere than its lines as they stand.
+    /// Where blocks end in the current lines, if the names that the innermost call replaces make blocks end elsewhere than as written.
     pub book: Book,
-    /// And of the texts around the open calls, the innermost last.
+    /// The same for the lines around each open call, the innermost last.
     pub books: Vec<Book>,
-    /// Where the blocks of the source end.
+    /// Where blocks end in the source as written.
     pub source: Book,
 }
 
-/// Where the blocks end of the text around a call that is over.
+/// Answers where blocks end in the lines around a call whose body is expanded.
 fn outer_book(alloc: Global, books: &mut Vec<Book>) -> Book
-    ensures { (texts : List (List ℕ)) (tables : List Table) → AreBooks texts tables (reverse books.old.items)
+    ensures { (texts : List (List ℕ)) (tables : List ReplacementTable) → AreBooks texts tables (reverse books.old.items)
         → IsBook texts (innermost (below tables)) result × AreBooks texts (below tables) (reverse books.new.items) }
 {
     match books.pop() {
@@ -61,7 +61,7 @@ fn outer_book(alloc: Global, books: &mut Vec<Book>) -> Book
 }
 
 impl<'a> Expansion<'a> {
-    /// Goes on behind a text that is over, in the one around it.
+    /// Continues after the current lines, which are all expanded, in the lines around them.
     #[inline(never)]
     fn resume(&mut self) -> Result<(), Stop>
         requires sound { IsSound self.old }
@@ -90,8 +90,7 @@ impl<'a> Expansion<'a> {
         }
     }
 
-    /// Writes the first line of the innermost text, which is this one of the source, in the place of what was written, and answers
-    /// its number.
+    /// Writes the next of the current lines, which is this line of the source, to the buffer, and answers its number.
     fn put_line(&mut self, source: &[u8], buffer: &mut Vec<u8>) -> Result<u32, AllocError>
         requires sound { IsSound self.old }
         requires at { self.old.text.at < self.old.text.end }
@@ -113,7 +112,7 @@ impl<'a> Expansion<'a> {
         }
     }
 
-    /// Takes up a line that was written to a buffer. Where no call is open it is a line of the source, whose tokens are kept.
+    /// Reads a line that was written to a buffer. Outside of calls it is a line of the source, whose tokens are kept.
     fn take_written(
         &mut self,
         number: u32,
@@ -127,7 +126,7 @@ impl<'a> Expansion<'a> {
         ensures count { OnOk result (self.old.count < self.new.count) }
         ensures around { OnOk result (length self.new.around.items ≤ length self.old.around.items + 1) }
         ensures taken { Takes (record { number = number; text = written.now }) result (rest_of self.new) (moved (rest_of self.old).depth (rest_of self.old).around
-            (part (rest_of self.old).depth (state_of self.old) (record { number = number; text = written.now }) (rest_of self.old).text)) }
+            (line_part (rest_of self.old).depth (state_of self.old) (record { number = number; text = written.now }) (rest_of self.old).text)) }
         ensures kept { AreOf written.now kept.new }
     {
         if self.calls.is_empty() {
@@ -139,7 +138,7 @@ impl<'a> Expansion<'a> {
         self.take(Line { number, text }, &mut None)
     }
 
-    /// Takes up the first line of the innermost text.
+    /// Reads the next of the current lines.
     fn take_line(
         &mut self,
         buffer: &mut Vec<u8>,
@@ -173,7 +172,7 @@ impl<'a> Expansion<'a> {
         }
     }
 
-    /// Goes on by one line, or by the end of a text.
+    /// Makes one move: reads a line, or continues after the current lines.
     fn step(
         &mut self,
         buffer: &mut Vec<u8>,
@@ -196,7 +195,7 @@ impl<'a> Expansion<'a> {
         Ok(None)
     }
 
-    /// Goes on to the next line that is given.
+    /// Makes moves until one gives a line, or the expansion ends.
     pub(crate) fn go_on(
         &mut self,
         buffer: &mut Vec<u8>,

@@ -1,13 +1,13 @@
-//! What the innermost text is gone on with.
+//! Continues an expansion with the lines of a block, or after a block.
 
 ghost use Rattle.std.specs.Prelude.{◌≡◌, ◌≤◌, ◌+◌, OnOk, List, Option, length, ℕ};
 ghost use Rattle.asm_macro.specs.declared.take.TheConstants.{MOST_NESTED};
 ghost use Rattle.asm_macro.specs.declared.expansion.TheConstants.{MOST_LINES};
-ghost use Rattle.asm_replace.specs.Replaced.{Table};
+ghost use Rattle.asm_replace.specs.Replaced.{ReplacementTable};
 ghost use Rattle.asm_text.specs.Lines.{Numbered};
 ghost use Rattle.asm_text.specs.Sections.Sections.{branches_seen};
 ghost use Rattle.asm_text.specs.Sections.Views.{next_of, onward_seen};
-ghost use Rattle.asm_macro.specs.Parts.{chosen, resumed};
+ghost use Rattle.asm_macro.specs.Parts.{branch_part, resumed};
 ghost use Rattle.asm_macro.specs.Private.Frames.{innermost};
 ghost use Rattle.asm_macro.specs.Private.Going.{Enters, Fits, into, part_of, texts_opened, turn_in, turns_opened};
 ghost use Rattle.asm_macro.specs.Private.Moves.{IsSound, Resumes, most_moves, moved, rest_of, state_of, tables_in};
@@ -18,13 +18,13 @@ use crate::moves::Stop;
 use asm_text::{Choice, Following, Onward, behind, branch};
 
 impl<'a> Expansion<'a> {
-    /// Counts a turn of a REPT, if it is one that opens.
+    /// Counts a repetition of a REPT, if one begins.
     fn count_turn(&mut self, following: &Following) -> Result<(), Stop>
         requires sound { IsSound self.old }
         requires shallow { length self.old.calls.items + self.old.turns + turn_in following.now ≤ MOST_NESTED }
         ensures counted { OnOk result (self.new ≡ record self.old { count = self.old.count + turn_in following.now; turns = self.old.turns + turn_in following.now }) }
         ensures few { OnOk result (self.new.count ≤ MOST_LINES) }
-        ensures enters { (texts : List (List ℕ)) (names : Option Table) (depth : ℕ) (text : List Numbered) → Enters result (state_of self.new) (depth + turn_in following.now) text (next_of texts names following.now)
+        ensures enters { (texts : List (List ℕ)) (names : Option ReplacementTable) (depth : ℕ) (text : List Numbered) → Enters result (state_of self.new) (depth + turn_in following.now) text (next_of texts names following.now)
             (into depth (state_of self.old) text (next_of texts names following.now)) }
     {
         match following {
@@ -42,7 +42,7 @@ impl<'a> Expansion<'a> {
         }
     }
 
-    /// Goes on with what a block opens, or with what stands behind it.
+    /// Continues with the lines that a block opens, or with those after it.
     fn go_with(&mut self, onward: Onward) -> Result<(), Stop>
         requires sound { IsSound self.old }
         requires fits { Fits (length self.old.calls.items + self.old.turns) (onward_seen self.old.lines (innermost (tables_in self.old)) onward) }
@@ -67,20 +67,20 @@ impl<'a> Expansion<'a> {
         }
     }
 
-    /// Goes on with a branch of an IF, by what its expression is worth.
+    /// Continues with the branch of an IF that the value of its expression chooses.
     pub(crate) fn go_in(&mut self, value: u16, choice: Choice) -> Result<(), Stop>
         requires sound { IsSound self.old }
         ensures sound { OnOk result (IsSound self.new) }
         ensures count { OnOk result (self.new.count ≡ self.old.count) }
         ensures around { OnOk result (length self.new.around.items ≤ length self.old.around.items + 1) }
         ensures chosen { Resumes result (rest_of self.new) (moved (rest_of self.old).depth (rest_of self.old).around
-            (chosen value (rest_of self.old).depth (state_of self.old) (branches_seen self.old.lines (innermost (tables_in self.old)) choice))) }
+            (branch_part value (rest_of self.old).depth (state_of self.old) (branches_seen self.old.lines (innermost (tables_in self.old)) choice))) }
     {
         let onward = branch(self.alloc, &self.lines, self.calls.last(), value, choice)?;
         self.go_with(onward)
     }
 
-    /// Goes on behind a text in a block that is over, or with the turns of a REPT.
+    /// Continues after the lines of a block, or with the next repetition of a REPT.
     pub(crate) fn go_behind(&mut self, following: Following) -> Result<(), Stop>
         requires sound { IsSound self.old }
         requires shallow { length self.old.calls.items + self.old.turns + turn_in following ≤ MOST_NESTED }

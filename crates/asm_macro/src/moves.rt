@@ -1,8 +1,8 @@
-//! What one move of an expansion comes to.
+//! What one move of an expansion gives: no line, a line, or an error.
 
 ghost use Rattle.std.specs.Prelude.{◌≡◌, Ok, ℕ};
 ghost use Rattle.asm_text.specs.Lines.{Numbered};
-ghost use Rattle.asm_text.specs.Prepared.{labels};
+ghost use Rattle.asm_text.specs.Prepared.{label_line};
 ghost use Rattle.asm_macro.specs.declared.fault.MacroFault.{MacroFault};
 ghost use Rattle.asm_macro.specs.Ahead.{Rest};
 ghost use Rattle.asm_macro.specs.Private.Moves.{Fails, On, Takes};
@@ -11,7 +11,7 @@ ghost use Rattle.asm_macro.specs.declared.moves.Stop.TheVariants.{NoMemory};
 use crate::fault::MacroFault;
 use std::alloc::{AllocError, AllocFailed};
 
-/// Why an expansion stops: a fault at a line's number, or no memory is left.
+/// Why an expansion stops: an error at the line with this number, or memory ran out.
 #[derive(Clone, Copy, Debug)]
 pub(crate) enum Stop {
     At(u32, MacroFault),
@@ -34,17 +34,17 @@ impl<T: Drop> From<AllocFailed<T>> for Stop {
     }
 }
 
-/// What a line that is taken up gives.
+/// What a line that is read gives.
 #[derive(Debug, Drop)]
 pub(crate) enum Taken {
     Nothing,
     /// The line itself.
     Line,
-    /// The line itself, with which the expansion ends.
+    /// The line itself, which is the last of the expansion.
     Last,
-    /// The line's label alone.
+    /// Only the label of the line.
     Label(Vec<u8>),
-    /// The line's label, and then the line is a stray one.
+    /// The label of the line, after which expansion stops, since the body of the macro has a malformed LOCAL line.
     Refused(Vec<u8>),
 }
 
@@ -53,15 +53,15 @@ pub(crate) enum Taken {
 pub(crate) enum Given {
     Line(u32),
     Last(u32),
-    /// A line, behind which the expansion stops at a stray one.
+    /// A line after which expansion stops, since the body of the called macro has a malformed LOCAL line.
     Refused(u32),
-    /// Nothing is left.
+    /// Nothing: all lines are expanded.
     Over,
 }
 
-/// What a call gives whose body is begun.
+/// Answers what a call gives once its body begins: its label, if it has one.
 pub(crate) fn begun(label: Option<Vec<u8>>) -> Taken
-    ensures { (l : Numbered) (new : Rest) → Takes l (Ok result) new (On (labels l.number label) new) }
+    ensures { (l : Numbered) (new : Rest) → Takes l (Ok result) new (On (label_line l.number label) new) }
 {
     match label {
         None => Taken::Nothing,
@@ -69,9 +69,9 @@ pub(crate) fn begun(label: Option<Vec<u8>>) -> Taken
     }
 }
 
-/// What a call gives whose body may not stand.
+/// Answers what a call gives whose body has a malformed LOCAL line: its label, if it has one, and the error.
 pub(crate) fn refused(number: u32, label: Option<Vec<u8>>) -> Result<Taken, Stop>
-    ensures { (l : Numbered) (new : Rest) → l.number ≡ number → Takes l result new (Fails (labels number label) number MacroFault.Stray) }
+    ensures { (l : Numbered) (new : Rest) → l.number ≡ number → Takes l result new (Fails (label_line number label) number MacroFault.Stray) }
 {
     match label {
         None => Err(Stop::At(number, MacroFault::Stray)),

@@ -1,4 +1,4 @@
-//! The lines of a source text.
+//! Splits a source into lines, with which its expansion begins.
 
 ghost use Rattle.std.specs.Prelude.{◌≡◌, ◌≤◌, ◌==◌, length, not};
 ghost use Rattle.std.specs.List.{prefix_len};
@@ -14,7 +14,7 @@ use common::{LONGEST_TEXT, NameKey};
 use indexmap::IndexMap;
 use std::alloc::Global;
 
-/// How many bytes stand before the first byte 1AH.
+/// Answers how many bytes come before the first byte 1AH.
 fn end_of(text: &[u8]) -> usize
     ensures value { result ≡ prefix_len (λ byte. not (byte == 0x1A)) text.now }
     ensures within { result ≤ length text.now }
@@ -25,7 +25,7 @@ fn end_of(text: &[u8]) -> usize
     }
 }
 
-/// The text up to its first byte 1AH, CP/M's end of a text file.
+/// Answers the source up to its first byte 1AH, which ends a text file in CP/M.
 pub fn source_part(text: &[u8]) -> &[u8]
     ensures part { result.now ≡ source_part text.now }
     ensures within { length result.now ≤ length text.now }
@@ -33,7 +33,7 @@ pub fn source_part(text: &[u8]) -> &[u8]
     &text[..end_of(text)]
 }
 
-/// The expansion of a text, before its first line.
+/// Reads a source: answers its expansion before the first line.
 pub(crate) fn begin(alloc: Global, text: &[u8]) -> Result<Expansion<'_>, MacroFault>
     ensures { Begins text.now result }
 {

@@ -1,4 +1,4 @@
-//! Lines that are taken up.
+//! Reads a line and decides what it leads to: it is given, or it defines a macro, or it opens a block, or it calls a macro.
 
 ghost use Rattle.std.specs.Prelude.{◌≡◌, ◌<◌, ◌≤◌, ◌+◌, ◌||◌, nat_lt, All, IfOk, IfSome, OnOk, Ok, List, ℕ, None, Some, codes, false, length, true};
 ghost use Rattle.std.specs.Option.{option_map};
@@ -8,17 +8,17 @@ ghost use Rattle.asm_scan.specs.Scanned.{scanned};
 ghost use Rattle.common.specs.Words.{upper};
 ghost use Rattle.asm_line.specs.Views.{form_seen, head_seen};
 ghost use Rattle.asm_replace.specs.Views.{texts};
-ghost use Rattle.asm_replace.specs.Replaced.{Table};
-ghost use Rattle.asm_text.specs.Kept.{IsCall, IsKept};
+ghost use Rattle.asm_replace.specs.Replaced.{ReplacementTable};
+ghost use Rattle.asm_text.specs.Kept.{IsCall, IsKeptMacro};
 ghost use Rattle.asm_text.specs.Prepared.{SaySame, body_texts, macro_seen, macros_seen, said};
 ghost use Rattle.std.specs.Str.{bytes_eq};
 ghost use Rattle.asm_macro.specs.Private.Entering.{Entered};
-ghost use Rattle.asm_macro.specs.State.{called_by, macro_called, macro_named, table};
-ghost use Rattle.asm_macro.specs.Values.{worth};
+ghost use Rattle.asm_macro.specs.State.{called_by, macro_called, macro_named, constant_table};
+ghost use Rattle.asm_macro.specs.Values.{value_of_tokens};
 ghost use Rattle.asm_macro.specs.Ahead.{seen};
-ghost use Rattle.asm_text.specs.Sections.Blocks.{body_of, branches_of};
+ghost use Rattle.asm_text.specs.Sections.Blocks.{block_body, branches_of};
 ghost use Rattle.asm_macro.specs.Judged.{is_counted, parameters};
-ghost use Rattle.asm_macro.specs.Parts.{conditional, part, repeated, worded};
+ghost use Rattle.asm_macro.specs.Parts.{conditional, line_part, repeated, word_part};
 ghost use Rattle.asm_macro.specs.Private.Stopped.{stopped};
 ghost use Rattle.asm_macro.specs.Private.Frames.{innermost};
 ghost use Rattle.asm_macro.specs.Private.Heads.{by_head, defined, kept};
@@ -37,10 +37,10 @@ use indexmap::IndexMap;
 use std::alloc::{AllocError, Global};
 use std::mem;
 
-/// The most calls and repetitions within one another.
+/// The most calls and repetitions that may be nested.
 pub const MOST_NESTED: usize = 16;
 
-/// A fault at a line; want of memory has no line.
+/// Answers the error of a line; running out of memory belongs to no line.
 fn stopped(number: u32, why: MacroFault) -> Stop
     ensures { result ≡ stopped number why }
 {
@@ -50,7 +50,7 @@ fn stopped(number: u32, why: MacroFault) -> Stop
     }
 }
 
-/// Whether a line is counted: any but LOCAL and the words that close or divide.
+/// Whether a line counts as read: each does, except LOCAL and the words that divide or close a block.
 fn is_counted(head: Head<'_>) -> bool
     ensures { result ≡ is_counted (head_seen head.entry) }
 {
@@ -60,7 +60,7 @@ fn is_counted(head: Head<'_>) -> bool
     )
 }
 
-/// A macro's parameters, in upper case: none, or names divided by commas; None where the tokens are no such list.
+/// Answers the parameters of a macro, in upper case: none, or names with commas between them. Answers None if the tokens are no such list.
 fn parameters(alloc: Global, tokens: &[Token<'_>]) -> Result<Option<Vec<Vec<u8>>>, AllocError>
     ensures { IfOk result (λ found. option_map (λ all. texts all.items) found ≡ parameters (lexemes tokens.entry.now)) }
 {
@@ -71,17 +71,18 @@ fn parameters(alloc: Global, tokens: &[Token<'_>]) -> Result<Option<Vec<Vec<u8>>
     }
 }
 
-/// Whether a MACRO line may not stand: it has a label, stands in a call or repetition, or has a reserved name.
+/// Whether a MACRO line is misplaced: it has a label, is in a call or repetition, or has a reserved name.
 fn may_not_stand(labelled: bool, depth: usize, reserved: bool) -> bool
     ensures { result ≡ ((labelled || nat_lt 0 depth) || reserved) }
 {
     labelled || depth > 0 || reserved
 }
 
-/// The macro that a word in upper case calls, if it calls one. EQU is known before macros, so it calls none, whatever has its name.
+/// Answers the macro that a word in upper case calls, if it calls one. EQU is recognized before macros, so it calls none, even if a macro
+/// has this name.
 fn called_by<'m>(macros: &'m IndexMap<Vec<u8>, Macro, NameKey>, word: &[u8]) -> Option<&'m Macro>
     ensures found { (texts : List (List ℕ)) → option_map (λ m. macro_seen texts m.now) result ≡ called_by word.now (macros_seen texts macros.now.entries) }
-    ensures kept { (texts : List (List ℕ)) → All (λ e. IsKept texts e.1) macros.now.entries → IfSome result (λ m. IsKept texts m.now) }
+    ensures kept { (texts : List (List ℕ)) → All (λ e. IsKeptMacro texts e.1) macros.now.entries → IfSome result (λ m. IsKeptMacro texts m.now) }
 {
     if word == b"EQU".as_slice() {
         None
@@ -90,7 +91,7 @@ fn called_by<'m>(macros: &'m IndexMap<Vec<u8>, Macro, NameKey>, word: &[u8]) -> 
     }
 }
 
-/// The longest word that is looked up as a macro's name without memory of its own.
+/// The longest word that is looked up as a macro name without allocating memory.
 const SHORT: usize = 16;
 
 /// Whether a word is short, calls no macro and is not END.
@@ -109,7 +110,7 @@ fn is_plain(macros: &IndexMap<Vec<u8>, Macro, NameKey>, word: &[u8]) -> bool
 }
 
 impl<'a> Expansion<'a> {
-    /// `IF e`.
+    /// Reads a line `IF e`.
     #[inline(never)]
     fn condition(&mut self, line: Line<'_>, tokens: &[Token<'_>]) -> Result<(), Stop>
         requires sound { IsSound self.old }
@@ -117,7 +118,7 @@ impl<'a> Expansion<'a> {
         ensures count { OnOk result (self.new.count ≡ self.old.count) }
         ensures around { OnOk result (length self.new.around.items ≤ length self.old.around.items + 1) }
         ensures taken { Resumes result (rest_of self.new) (moved (rest_of self.old).depth (rest_of self.old).around
-            (conditional (rest_of self.old).depth (state_of self.old) (seen line.entry) (branches_of (rest_of self.old).text) (worth (table (state_of self.old)) (lexemes tokens.entry.now)))) }
+            (conditional (rest_of self.old).depth (state_of self.old) (seen line.entry) (branches_of (rest_of self.old).text) (value_of_tokens (constant_table (state_of self.old)) (lexemes tokens.entry.now)))) }
     {
         let found = self.branches()?;
         let Some(choice) = found else {
@@ -129,7 +130,7 @@ impl<'a> Expansion<'a> {
         }
     }
 
-    /// `REPT n`.
+    /// Reads a line `REPT n`.
     #[inline(never)]
     fn repetition(&mut self, line: Line<'_>, tokens: &[Token<'_>]) -> Result<(), Stop>
         requires sound { IsSound self.old }
@@ -137,7 +138,7 @@ impl<'a> Expansion<'a> {
         ensures count { OnOk result (self.old.count ≤ self.new.count) }
         ensures around { OnOk result (length self.new.around.items ≤ length self.old.around.items + 1) }
         ensures taken { Resumes result (rest_of self.new) (moved (rest_of self.old).depth (rest_of self.old).around
-            (repeated (rest_of self.old).depth (state_of self.old) (seen line.entry) (body_of (rest_of self.old).text) (worth (table (state_of self.old)) (lexemes tokens.entry.now)))) }
+            (repeated (rest_of self.old).depth (state_of self.old) (seen line.entry) (block_body (rest_of self.old).text) (value_of_tokens (constant_table (state_of self.old)) (lexemes tokens.entry.now)))) }
     {
         let found = self.body()?;
         let Some(body) = found else {
@@ -168,7 +169,7 @@ impl<'a> Expansion<'a> {
         ensures sound { OnOk result (IsSound self.new) }
         ensures count { OnOk result (self.new.count ≡ self.old.count) }
         ensures around { OnOk result (length self.new.around.items ≤ length self.old.around.items + 1) }
-        ensures entered { OnOk result ((names_said : Table) → SaySame (said call) names_said → Entered (rest_of self.old) (seen line.entry).number names_said (body_texts self.old.lines body) counter (rest_of self.new)) }
+        ensures entered { OnOk result ((names_said : ReplacementTable) → SaySame (said call) names_said → Entered (rest_of self.old) (seen line.entry).number names_said (body_texts self.old.lines body) counter (rest_of self.new)) }
     {
         asm_replace::laws::by_names();
         self.around.push(Following::Rest(self.text))?;
@@ -183,7 +184,7 @@ impl<'a> Expansion<'a> {
         Ok(())
     }
 
-    /// A word: a call where it calls a macro, else END or any other.
+    /// Reads a line that begins with a word: a call if a macro has this name; otherwise END or any other line.
     fn word(
         &mut self,
         line: Line<'_>,
@@ -196,7 +197,7 @@ impl<'a> Expansion<'a> {
         ensures count { OnOk result (self.new.count ≡ self.old.count) }
         ensures around { OnOk result (length self.new.around.items ≤ length self.old.around.items + 1) }
         ensures taken { Takes (seen line.entry) result (rest_of self.new) (moved (rest_of self.old).depth (rest_of self.old).around
-            (worded (rest_of self.old).depth (state_of self.old) (seen line.entry) (form_seen form.entry) (lexemes tokens.entry.now) (rest_of self.old).text (upper name.now) (macro_called (state_of self.old) (upper name.now)))) }
+            (word_part (rest_of self.old).depth (state_of self.old) (seen line.entry) (form_seen form.entry) (lexemes tokens.entry.now) (rest_of self.old).text (upper name.now) (macro_called (state_of self.old) (upper name.now)))) }
     {
         let key = name.to_ascii_uppercase(self.alloc)?;
         let Some(called) = called_by(&self.macros, &key) else {
@@ -226,7 +227,7 @@ impl<'a> Expansion<'a> {
         }
     }
 
-    /// Keeps a macro, if its body ends.
+    /// Keeps a macro, if its body is closed.
     fn keep(&mut self, line: Line<'_>, key: Vec<u8>, parameters: Vec<Vec<u8>>) -> Result<(), Stop>
         requires sound { IsSound self.old }
         requires outside { length self.old.calls.items ≡ 0 }
@@ -235,7 +236,7 @@ impl<'a> Expansion<'a> {
         ensures count { OnOk result (self.new.count ≡ self.old.count) }
         ensures around { OnOk result (length self.new.around.items ≤ length self.old.around.items + 1) }
         ensures taken { Resumes result (rest_of self.new) (moved (rest_of self.old).depth (rest_of self.old).around
-            (kept (state_of self.old) (seen line.entry) key.items (texts parameters.items) (body_of (rest_of self.old).text))) }
+            (kept (state_of self.old) (seen line.entry) key.items (texts parameters.items) (block_body (rest_of self.old).text))) }
     {
         let found = self.body()?;
         let Some(body) = found else {
@@ -252,7 +253,7 @@ impl<'a> Expansion<'a> {
         Ok(())
     }
 
-    /// `name MACRO ..`.
+    /// Reads a line `name MACRO ..`.
     #[inline(never)]
     fn define(&mut self, line: Line<'_>, form: Form<'_>, name: &[u8]) -> Result<(), Stop>
         requires sound { IsSound self.old }
@@ -277,7 +278,7 @@ impl<'a> Expansion<'a> {
         self.keep(line, key, parameters)
     }
 
-    /// Takes up a line that is counted, by its head.
+    /// Reads a line that is counted, by its first words.
     fn take_head(
         &mut self,
         line: Line<'_>,
@@ -315,7 +316,7 @@ impl<'a> Expansion<'a> {
         }
     }
 
-    /// Takes up a line that is read.
+    /// Reads a line that was tokenized.
     fn take_form(&mut self, line: Line<'_>, tokens: &[Token<'_>]) -> Result<Taken, Stop>
         requires sound { IsSound self.old }
         requires scanned { scanned line.text.now ≡ Ok (lexemes tokens.now) }
@@ -323,7 +324,7 @@ impl<'a> Expansion<'a> {
         ensures count { OnOk result (self.old.count < self.new.count) }
         ensures around { OnOk result (length self.new.around.items ≤ length self.old.around.items + 1) }
         ensures taken { Takes (seen line.entry) result (rest_of self.new) (moved (rest_of self.old).depth (rest_of self.old).around
-            (part (rest_of self.old).depth (state_of self.old) (seen line.entry) (rest_of self.old).text)) }
+            (line_part (rest_of self.old).depth (state_of self.old) (seen line.entry) (rest_of self.old).text)) }
     {
         let form = form_of(tokens);
         if !is_counted(form.head) {
@@ -336,7 +337,7 @@ impl<'a> Expansion<'a> {
         self.take_head(line, tokens, form)
     }
 
-    /// Takes up a line, behind which the innermost text goes on, and keeps its tokens.
+    /// Reads a line, which the rest of the current lines follows, and keeps its tokens.
     pub(crate) fn take<'b>(
         &mut self,
         line: Line<'b>,
@@ -347,7 +348,7 @@ impl<'a> Expansion<'a> {
         ensures count { OnOk result (self.old.count < self.new.count) }
         ensures around { OnOk result (length self.new.around.items ≤ length self.old.around.items + 1) }
         ensures taken { Takes (seen line.entry) result (rest_of self.new) (moved (rest_of self.old).depth (rest_of self.old).around
-            (part (rest_of self.old).depth (state_of self.old) (seen line.entry) (rest_of self.old).text)) }
+            (line_part (rest_of self.old).depth (state_of self.old) (seen line.entry) (rest_of self.old).text)) }
         ensures kept { AreOf line.entry.text.now kept.new }
     {
         *kept = None;

@@ -1,4 +1,4 @@
-//! A whole expansion.
+//! Expands a whole source at once.
 
 ghost use Rattle.std.specs.Prelude.{◌≡◌, ◌++◌, ◌∷◌, [], OnOk};
 ghost use Rattle.asm_macro.specs.Ahead.{seen};
@@ -10,7 +10,7 @@ use crate::expander::{Expander, Line};
 use crate::fault::MacroFault;
 use std::alloc::{AllocError, Global};
 
-/// A line of an expansion, and the number in the source of the line from which it comes.
+/// A line of an expansion, with the number of the source line that it comes from.
 #[derive(Debug, Drop)]
 pub struct ExpandedLine {
     pub number: u32,
@@ -23,7 +23,7 @@ pub struct Expanded {
     pub lines: Vec<ExpandedLine>,
 }
 
-/// Puts a line behind others.
+/// Appends a line.
 fn put(alloc: Global, lines: &mut Vec<ExpandedLine>, line: Line<'_>) -> Result<(), AllocError>
     ensures { OnOk result (lines_seen lines.new.items ≡ lines_seen lines.old.items ++ seen line.entry ∷ []) }
 {
@@ -35,7 +35,7 @@ fn put(alloc: Global, lines: &mut Vec<ExpandedLine>, line: Line<'_>) -> Result<(
     Ok(())
 }
 
-/// Puts all lines that are still to come behind others.
+/// Appends all lines that are still to come.
 fn collect(
     alloc: Global,
     expander: &mut Expander<'_>,
@@ -52,11 +52,11 @@ fn collect(
     Ok(())
 }
 
-/// The expansion of a source text.
+/// Answers the expansion of a source.
 ///
 /// # Errors
 ///
-/// The line on which the expansion stops, and why.
+/// The line at which the expansion stops, and why.
 pub fn expand(alloc: Global, text: &[u8]) -> Result<Expanded, (u32, MacroFault)>
     ensures { IsExpanded text.now (expanded_seen result) }
 {

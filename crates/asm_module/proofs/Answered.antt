@@ -1,4 +1,4 @@
--- One expansion has one answer, and states one program.
+-- An expansion has one answer, and its source describes one program.
 use Rattle.std.proofs.Common.{◌≡◌, ◌∙◌, sym, ap, refl, subst, ℕ, Bool, List, [], ◌∷◌, Option, Some, None, Result, Ok, Err, length}
 use Rattle.asm_macro.specs.declared.fault.MacroFault.{MacroFault}
 use Rattle.asm_macro.specs.Expands.{End, Ended, IsExpanded, IsExpansion, Stopped, Whole}
@@ -13,18 +13,18 @@ use Rattle.zmo_module.specs.Modules.{Module}
 use Rattle.asm_module.proofs.Once.{OfLines, equ_fault_same, lines_same, module_same, program_same, state_fault_same}
 use Rattle.asm_module.specs.Assembled.{Assembled, Assembles, HasCause, IsProgram, IsStated, TellsLines, answer, assembled}
 use Rattle.asm_module.specs.declared.fault.AsmFault.{AsmFault}
-use Rattle.asm_module.specs.Source.{equ_fault, first_pass, layout, module_by, state_fault, statement_lines}
+use Rattle.asm_module.specs.Source.{first_equ_line_fault, first_pass, layout, module_by, state_fault, statement_lines}
 
 abbrev Expansion : Type 0
 Expansion = Result (List Numbered) (ℕ × MacroFault)
 
--- what an expansion that ends so is answered
+-- what `expand` answers for an expansion that ends so
 abbrev ended_by : List Numbered → End → Expansion
 ended_by lines (Stopped number why) = Err (number, why)
 ended_by lines Ended = Ok lines
 ended_by lines (Whole e) = Ok lines
 
--- it has a cause in the text
+-- the answer has a cause in the source: it is not that memory ran out
 abbrev IsCaused : Expansion → Type 0
 IsCaused (Err (number, MacroFault.NoMemory)) = ⊥
 IsCaused e = Unit {0}
@@ -68,7 +68,7 @@ module _ (one : (text : List ℕ) (lines more : List Numbered) (end other : End)
         parts_same e e-2 s s-2 m m-2 l l-2 equs others holds_same each_same = rw (equs, others, holds_same, each_same) refl
 
         refused : (fault : AsmFault) → first_pass from ≡ Some fault → (circle : ℕ → Bool) → assembled name grow count circle (Ok from) ≡ Err fault
-        refused fault is circle = ap (λ p. answer (first (p ∷ equ_fault (taken from) circle (layout grow (taken from) circle) ∷ state_fault (taken from) circle (layout grow (taken from) circle) ∷ [])) (holds circle)) is
+        refused fault is circle = ap (λ p. answer (first (p ∷ first_equ_line_fault (taken from) circle (layout grow (taken from) circle) ∷ state_fault (taken from) circle (layout grow (taken from) circle) ∷ [])) (holds circle)) is
 
         by_pass : (pass : Option AsmFault) → first_pass from ≡ pass → assembled name grow count c (Ok from) ≡ assembled name grow count d (Ok from)
         by_pass None is =

@@ -1,10 +1,10 @@
--- What a module holds: there are few labels, and the parts make the whole.
+-- What a module has: the number of its labels is within the limit, and its parts make the whole.
 use Rattle.std.proofs.Common.{◌≡◌, ◌≤◌, ◌+◌, ◌∙◌, sym, ap, refl, subst, ℕ, Bool, List, Option, None, length, map, take, arith}
 use Rattle.std.proofs.lemmas.List.{length-map}
 use Rattle.asm_names.specs.Layout.{Layout}
 use Rattle.asm_names.specs.Meanings.{externals}
 use Rattle.asm_module.specs.Holding.{begins, entry, labels, listed, publics}
-use Rattle.asm_names.specs.Faults.{first_fault}
+use Rattle.asm_names.specs.Faults.{first_name_fault}
 use Rattle.asm_names.specs.Lines.{Taken}
 use Rattle.asm_names.specs.Names.{Names, names}
 use Rattle.zmo_module.specs.declared.module.Label as label
@@ -13,8 +13,8 @@ use Rattle.zmo_module.specs.Modules.{Label, Module, label_of, module_of, stateme
 use Rattle.asm_module.specs.Private.Steps.{held}
 
 pub few_labels : ((layout : Layout) (names : Names) → length (labels layout names) + length (externals names) ≤ length names)
-    → ((lines : List Taken) → first_fault lines ≡ None → length (names lines) ≤ 40000)
-    → (layout : Layout) (lines : List Taken) (given : Names) (all : List label.Label) → given ≡ names lines → first_fault lines ≡ None
+    → ((lines : List Taken) → first_name_fault lines ≡ None → length (names lines) ≤ 40000)
+    → (layout : Layout) (lines : List Taken) (given : Names) (all : List label.Label) → given ≡ names lines → first_name_fault lines ≡ None
     → map label_of all ≡ labels layout given → length all ≤ 40000
 few_labels few names_few layout lines given all is sound are =
     let count : length all ≡ length (labels layout given) = sym (length-map all label_of) ∙ ap length are in
@@ -22,7 +22,7 @@ few_labels few names_few layout lines given all is sound are =
     let most : length given ≤ 40000 = subst (λ n. length n ≤ 40000) (sym is) (names_few lines sound) in
     omega (arith, count, le, most)
 
--- A module whose parts are these is held by its lines.
+-- A module with these parts is the one that its lines make.
 pub parts_held : (name : List ℕ) (grow : Bool) (lines : List Taken) (layout : Layout) (given : Names) (m : whole.Module) → given ≡ names lines → m.name.items ≡ take 255 name → m.begins ≡ begins lines
     → m.entry ≡ entry (map label_of m.labels.items) lines → map label_of m.labels.items ≡ labels layout given → m.publics.items ≡ publics (map label_of m.labels.items) (listed lines)
     → map (λ one. one.items) m.externals.items ≡ externals given → module_of m ≡ held name m.grow lines layout (map statement_of m.statements.items)

@@ -1,4 +1,4 @@
--- What is answered of a whole text.
+-- What is answered for a whole source.
 use Rattle.std.proofs.Common.{◌≡◌, ◌≤◌, ◌∙◌, sym, ap, refl, subst, ℕ, Bool, false, List, [], ◌∷◌, Option, Some, None, Ok, Err, length, map, slice_get}
 use Rattle.std.specs.List.{All}
 use Rattle.std.proofs.lemmas.List.{length-map}
@@ -23,7 +23,7 @@ use Rattle.asm_names.specs.Faults.{first}
 use Rattle.asm_names.specs.Lines.{Taken}
 use Rattle.asm_names.specs.Names.{names}
 use Rattle.asm_module.specs.declared.line_fault.LineFault.{LineFault}
-use Rattle.asm_module.specs.Reads.Read.{IsRead, taken, unread}
+use Rattle.asm_module.specs.Reads.Read.{IsTakenLine, taken, unread}
 use Rattle.asm_module.specs.Reads.Source.{IsSourceText, last_listed}
 use Rattle.asm_text.specs.Lines.{Numbered}
 use Rattle.zmo_module.specs.Modules.{Module}
@@ -32,7 +32,7 @@ use Rattle.asm_module.specs.declared.fault.AsmFault.{AsmFault}
 use Rattle.asm_module.specs.declared.fault.Why.{Why}
 use Rattle.asm_module.specs.Private.Steps.{FaultBy, HasFault, IsFault, IsWhole}
 use Rattle.asm_module.specs.Source as source
-use Rattle.asm_module.specs.Source.{at, equ_fault, first_pass, source_fault, state_fault}
+use Rattle.asm_module.specs.Source.{fault_on_line, first_equ_line_fault, first_pass, source_fault, state_fault}
 use Rattle.asm_module.specs.Whys.{line_why, macro_why, name_why}
 
 -- An expansion that stops.
@@ -41,7 +41,7 @@ pub stops : (name text : List ℕ) (grow : Bool) (number : ℕ) (why : MacroFaul
 stops name text grow number MacroFault.NoMemory is = tt
 stops name text grow number why is = (Err (number, why), is, (λ at. false), tt, refl)
 
--- a fault with a cause in the text
+-- an error that has a cause in the source
 refused : (why : Why) (name text : List ℕ) (grow : Bool) (fault : AsmFault) → Assembles name text grow (Err fault) → IsRefused why name text grow fault
 refused (Why.Macro w) name text grow fault is = is
 refused (Why.Stmt w) name text grow fault is = is
@@ -58,21 +58,21 @@ module _ (name text : List ℕ) (grow : Bool) (from : List Numbered) (expanded :
   by_circle circle tells fault is =
       (Ok from, expanded, circle, tells, ap (λ f. answer f (record { holds = source.module_by name grow (taken from) circle (source.layout grow (taken from) circle); each = source.statement_lines grow (taken from) circle (source.layout grow (taken from) circle); last = last_listed (length (source_lines text)) (taken from) })) is)
 
-  -- The first pass finds a fault.
+  -- The first pass finds an error.
   pub passed_fault : (other : Option (ℕ × LineFault)) (fault : AsmFault) → other ≡ unread from
-      → IsFault (first (at name_why (defined.first_fault lines) ∷ at line_why other ∷ [])) fault → IsRefused fault.why name text grow fault
+      → IsFault (first (fault_on_line name_why (defined.first_name_fault lines) ∷ fault_on_line line_why other ∷ [])) fault → IsRefused fault.why name text grow fault
   passed_fault other fault others is = by_why fault.why is
     where
-      found : first (at name_why (defined.first_fault lines) ∷ at line_why other ∷ []) ≡ Some fault → Assembles name text grow (Err fault)
+      found : first (fault_on_line name_why (defined.first_name_fault lines) ∷ fault_on_line line_why other ∷ []) ≡ Some fault → Assembles name text grow (Err fault)
       found there =
-          let pass : first_pass from ≡ Some fault = sym (ap (λ ls. first (at name_why (defined.first_fault ls) ∷ at line_why (unread from) ∷ [])) are) ∙ sym (ap (λ o. first (at name_why (defined.first_fault lines) ∷ at line_why o ∷ [])) others) ∙ there in
+          let pass : first_pass from ≡ Some fault = sym (ap (λ ls. first (fault_on_line name_why (defined.first_name_fault ls) ∷ fault_on_line line_why (unread from) ∷ [])) are) ∙ sym (ap (λ o. first (fault_on_line name_why (defined.first_name_fault lines) ∷ fault_on_line line_why o ∷ [])) others) ∙ there in
           by_circle (λ at. false) (λ none. absurd (some_is_none (sym pass ∙ none))) fault
-          (ap (λ f. first (f ∷ equ_fault (taken from) (λ at. false) (source.layout grow (taken from) (λ at. false)) ∷ state_fault (taken from) (λ at. false) (source.layout grow (taken from) (λ at. false)) ∷ [])) pass)
+          (ap (λ f. first (f ∷ first_equ_line_fault (taken from) (λ at. false) (source.layout grow (taken from) (λ at. false)) ∷ state_fault (taken from) (λ at. false) (source.layout grow (taken from) (λ at. false)) ∷ [])) pass)
         where
           some_is_none : Some fault ≡ None → ⊥
           some_is_none bad = cc
 
-      by_why : (why : Why) → FaultBy why (first (at name_why (defined.first_fault lines) ∷ at line_why other ∷ [])) fault → IsRefused why name text grow fault
+      by_why : (why : Why) → FaultBy why (first (fault_on_line name_why (defined.first_name_fault lines) ∷ fault_on_line line_why other ∷ [])) fault → IsRefused why name text grow fault
       by_why Why.NoMemory is = tt
       by_why (Why.Macro w) is = found is
       by_why (Why.Stmt w) is = found is
@@ -83,20 +83,20 @@ module _ (name text : List ℕ) (grow : Bool) (from : List Numbered) (expanded :
       by_why Why.TooManyStatements is = found is
       by_why Why.TooManyNames is = found is
 
-  module _ (sound : defined.first_fault lines ≡ None) (all : unread from ≡ None) where
+  module _ (sound : defined.first_name_fault lines ≡ None) (all : unread from ≡ None) where
     passes : first_pass from ≡ None
-    passes = ap (λ f. first (at name_why f ∷ at line_why (unread from) ∷ [])) (sym (ap defined.first_fault are) ∙ sound) ∙ ap (λ o. first (at line_why o ∷ [])) all
+    passes = ap (λ f. first (fault_on_line name_why f ∷ fault_on_line line_why (unread from) ∷ [])) (sym (ap defined.first_name_fault are) ∙ sound) ∙ ap (λ o. first (fault_on_line line_why o ∷ [])) all
 
-    -- behind the first pass the others are asked
-    others : (circle : ℕ → Bool) → source_fault grow from circle ≡ first (equ_fault (taken from) circle (source.layout grow (taken from) circle) ∷ state_fault (taken from) circle (source.layout grow (taken from) circle) ∷ [])
-    others circle = ap (λ f. first (f ∷ equ_fault (taken from) circle (source.layout grow (taken from) circle) ∷ state_fault (taken from) circle (source.layout grow (taken from) circle) ∷ [])) passes
+    -- after the first pass, the other lines are judged
+    others : (circle : ℕ → Bool) → source_fault grow from circle ≡ first (first_equ_line_fault (taken from) circle (source.layout grow (taken from) circle) ∷ state_fault (taken from) circle (source.layout grow (taken from) circle) ∷ [])
+    others circle = ap (λ f. first (f ∷ first_equ_line_fault (taken from) circle (source.layout grow (taken from) circle) ∷ state_fault (taken from) circle (source.layout grow (taken from) circle) ∷ [])) passes
 
-    -- Another line is faulty.
+    -- A line has an error after the first pass.
     pub other_fault : (fault : AsmFault) → HasFault fault.why grow lines fault → IsRefused fault.why name text grow fault
     other_fault fault has = by_why fault.why (subst (λ ls. HasFault fault.why grow ls fault) are has)
       where
         found : ((circle : ℕ → Bool) × TellsCircles (names (taken from)) (taken from) circle
-            × (first (equ_fault (taken from) circle (source.layout grow (taken from) circle) ∷ state_fault (taken from) circle (source.layout grow (taken from) circle) ∷ []) ≡ Some fault)) → Assembles name text grow (Err fault)
+            × (first (first_equ_line_fault (taken from) circle (source.layout grow (taken from) circle) ∷ state_fault (taken from) circle (source.layout grow (taken from) circle) ∷ []) ≡ Some fault)) → Assembles name text grow (Err fault)
         found is = by_circle is.0 (λ none. is.1) fault (others is.0 ∙ is.2)
 
         by_why : (why : Why) → HasFault why grow (taken from) fault → IsRefused why name text grow fault
@@ -110,7 +110,7 @@ module _ (name text : List ℕ) (grow : Bool) (from : List Numbered) (expanded :
         by_why Why.TooManyStatements is = found is
         by_why Why.TooManyNames is = found is
 
-    -- None is.
+    -- No line has an error.
     pub no_fault : (last : ℕ) (m : Module) (each : List ℕ) → last ≡ last_listed (length (source_lines text)) lines → IsWhole name grow lines m each
         → Assembles name text grow (Ok (record { holds = m; each = each; last = last }))
     no_fault last m each last_is whole =
@@ -128,7 +128,7 @@ module _ (name text : List ℕ) (grow : Bool) (from : List Numbered) (expanded :
               ∙ ap (λ l. Ok (record { holds = m; each = each; last = l })) (sym last_there),
         )
 
-    -- There are few lines.
+    -- The number of lines is within the limit.
     pub few_lines : ((text : List ℕ) (lines : List Numbered) (end : End) → IsExpansion text lines end → length lines ≤ MOST_LINES)
         → ((lines : List Numbered) → unread lines ≡ None → map (λ l. l.number) (taken lines) ≡ map (λ l. l.number) lines) → length lines ≤ MOST_LINES
     few_lines few read =
@@ -136,8 +136,8 @@ module _ (name text : List ℕ) (grow : Bool) (from : List Numbered) (expanded :
         let same : length (taken from) ≡ length from = sym (length-map (taken from) (λ l. l.number)) ∙ ap length (read from all) ∙ length-map from (λ l. l.number) in
         subst (λ n. n ≤ MOST_LINES) (sym (ap length are ∙ same)) le
 
-  -- The data of each line takes few bytes.
-  pub few_data : ((lines : List Numbered) (k : ℕ) (l : Taken) → slice_get (taken lines) k ≡ Some l → (there : Numbered) × (slice_get lines k ≡ Some there) × IsRead there l)
+  -- DB or DW in a line makes 1 to 65,535 bytes.
+  pub few_data : ((lines : List Numbered) (k : ℕ) (l : Taken) → slice_get (taken lines) k ≡ Some l → (there : Numbered) × (slice_get lines k ≡ Some there) × IsTakenLine there l)
       → ((bytes : List ℕ) (tokens : List Lexeme) (label : Option (List ℕ)) (body : Body) → scanned bytes ≡ Ok tokens → spelled tokens ≡ Ok (line.Statement label (Some body)) → IsFew body)
       → (k : ℕ) (l : Taken) → slice_get lines k ≡ Some l → HasFew l
   few_data each few k l there =
@@ -149,8 +149,8 @@ module _ (name text : List ℕ) (grow : Bool) (from : List Numbered) (expanded :
       by_line (line.Statement label None) there tokens scans spells = tt
       by_line (line.Statement label (Some body)) there tokens scans spells = few there.text tokens label body scans spells
 
-  -- Each line is spelled.
-  pub spelled_line : ((lines : List Numbered) (k : ℕ) (l : Taken) → slice_get (taken lines) k ≡ Some l → (there : Numbered) × (slice_get lines k ≡ Some there) × IsRead there l)
+  -- Each line was parsed from tokens.
+  pub spelled_line : ((lines : List Numbered) (k : ℕ) (l : Taken) → slice_get (taken lines) k ≡ Some l → (there : Numbered) × (slice_get lines k ≡ Some there) × IsTakenLine there l)
       → ((bytes : List ℕ) (tokens : List Lexeme) (label : Option (List ℕ)) (body : Body) → scanned bytes ≡ Ok tokens → spelled tokens ≡ Ok (line.Statement label (Some body)) → IsFew body)
       → (k : ℕ) (l : Taken) → slice_get lines k ≡ Some l → IsReadLine l.line
   spelled_line each few k l there =
@@ -162,8 +162,8 @@ module _ (name text : List ℕ) (grow : Bool) (from : List Numbered) (expanded :
       by_line (line.Statement label None) there tokens scans spells = tt
       by_line (line.Statement label (Some body)) there tokens scans spells = (record { tokens = tokens; label = label; is = spells }, few there.text tokens label body scans spells)
 
-  -- Its names are those of an object.
-  pub named_line : ((lines : List Numbered) (k : ℕ) (l : Taken) → slice_get (taken lines) k ≡ Some l → (there : Numbered) × (slice_get lines k ≡ Some there) × IsRead there l)
+  -- The names in a line are names that an object file may hold.
+  pub named_line : ((lines : List Numbered) (k : ℕ) (l : Taken) → slice_get (taken lines) k ≡ Some l → (there : Numbered) × (slice_get lines k ≡ Some there) × IsTakenLine there l)
       → ((bytes : List ℕ) (tokens : List Lexeme) (one : Line) → scanned bytes ≡ Ok tokens → spelled tokens ≡ Ok one → All IsDefinable (line_names one))
       → ((bytes : List ℕ) (tokens : List Lexeme) (one : Line) → scanned bytes ≡ Ok tokens → spelled tokens ≡ Ok one → All (λ name. length name ≤ 255) (line_names one))
       → (k : ℕ) (l : Taken) → slice_get lines k ≡ Some l → All IsObjectName (line_names l.line)

@@ -1,4 +1,4 @@
--- What is answered of a source text.
+-- What `assemble_with` and the like answer for a source.
 use Rattle.std.specs.Prelude.{◌≡◌, ◌≢◌, ℕ, Bool, false, List, Option, Some, None, Result, Ok, Err, length}
 use Rattle.asm_names.specs.Circles.{TellsCircles}
 use Rattle.asm_macro.specs.declared.fault.MacroFault.{MacroFault}
@@ -7,19 +7,19 @@ use Rattle.asm_macro.specs.Texts.{source_lines}
 use Rattle.asm_names.specs.Lines.{Taken}
 use Rattle.asm_names.specs.Names.{names}
 use Rattle.asm_statements.specs.Program.Statement as stated
-use Rattle.asm_statements.specs.Program.Lines.{AreAt, program}
+use Rattle.asm_statements.specs.Program.Lines.{AreAt, program_of_lines}
 use Rattle.asm_module.specs.Reads.Read.{taken}
 use Rattle.asm_module.specs.Reads.Source.{last_listed}
 use Rattle.asm_text.specs.Lines.{Numbered}
 use Rattle.zmo_module.specs.declared.module.Module as whole
-use Rattle.zmo_module.specs.Modules.{Module, Statement, module_of}
+use Rattle.zmo_module.specs.Modules.{Module, ModuleStatement, module_of}
 use Rattle.asm_module.specs.declared.assembling.Lines as listing
 use Rattle.asm_module.specs.declared.fault.AsmFault.{AsmFault}
 use Rattle.asm_module.specs.declared.fault.Why.{Why}
-use Rattle.asm_module.specs.Source.{first_pass, layout, module_by, source_fault, statement_lines, table}
+use Rattle.asm_module.specs.Source.{first_pass, layout, module_by, source_fault, statement_lines, source_table}
 use Rattle.asm_module.specs.Whys.{macro_why}
 
--- a module, the line of each of its statements, and the last line that a listing has
+-- a module, the line of each of its statements, and the last line that the listing shows
 pub record Assembled : Type 0 where
   pub holds : Module
   pub each : List ℕ
@@ -29,7 +29,8 @@ abbrev pub answer : Option AsmFault → Assembled → Result Assembled AsmFault
 answer (Some fault) whole = Err fault
 answer None whole = Ok whole
 
--- The lines of an expansion are a module, or have a first fault; so has an expansion that stops. How many lines the text has is told.
+-- The module of the lines of an expansion, or their first error; or the error at which the expansion stops. `count` is how many lines the
+-- source has.
 abbrev pub assembled : List ℕ → Bool → ℕ → (ℕ → Bool) → Result (List Numbered) (ℕ × MacroFault) → Result Assembled AsmFault
 assembled name grow count circle (Err (number, why)) = Err (record { line = number; why = macro_why why })
 assembled name grow count circle (Ok lines) = answer (source_fault grow lines circle) (record {
@@ -38,56 +39,56 @@ assembled name grow count circle (Ok lines) = answer (source_fault grow lines ci
   last = last_listed count (taken lines);
 })
 
--- It is told of each line whether it leads back to itself, where the first pass finds no fault.
+-- `circle` says of each line whether it leads back to itself, if the first pass finds no error.
 abbrev pub TellsLines : (ℕ → Bool) → Result (List Numbered) (ℕ × MacroFault) → Type 0
 TellsLines circle (Ok lines) = first_pass lines ≡ None → TellsCircles (names (taken lines)) (taken lines) circle
 TellsLines circle (Err stop) = Unit {0}
 
--- The text is this module, or this is its first fault.
+-- The source has this module, or this is its first error.
 abbrev pub Assembles : List ℕ → List ℕ → Bool → Result Assembled AsmFault → Type 0
 Assembles name text grow result =
     (expanded : Result (List Numbered) (ℕ × MacroFault)) × IsExpanded text expanded × (circle : ℕ → Bool) × TellsLines circle expanded
     × (assembled name grow (length (source_lines text)) circle expanded ≡ result)
 
--- An answer has a cause in the text, if it is not want of memory.
+-- An answer has a cause in the source if it is not that memory ran out.
 abbrev pub HasCause : Result Assembled AsmFault → Type 0
 HasCause (Ok whole) = Unit {0}
 HasCause (Err fault) = fault.why ≢ Why.NoMemory
 
--- What the code's types hold.
-abbrev pub seen : whole.Module × listing.Lines → Assembled
-seen (m, lines) = record { holds = module_of m; each = lines.each.items; last = lines.last }
+-- The values of the code's types as definitions see them.
+abbrev pub assembled_of : whole.Module × listing.Lines → Assembled
+assembled_of (m, lines) = record { holds = module_of m; each = lines.each.items; last = lines.last }
 
--- why a text is refused: want of memory alone has no cause in it
+-- why a source is refused: its first error; if memory ran out, nothing is claimed
 abbrev pub IsRefused : Why → List ℕ → List ℕ → Bool → AsmFault → Type 0
 IsRefused Why.NoMemory name text grow fault = Unit {0}
 IsRefused why name text grow fault = Assembles name text grow (Err fault)
 
--- What is answered.
+-- What `assemble_with` answers.
 abbrev pub IsAssembled : List ℕ → List ℕ → Bool → Result (whole.Module × listing.Lines) AsmFault → Type 0
-IsAssembled name text grow (Ok m) = Assembles name text grow (Ok (seen m))
+IsAssembled name text grow (Ok m) = Assembles name text grow (Ok (assembled_of m))
 IsAssembled name text grow (Err fault) = IsRefused fault.why name text grow fault
 
--- .. without the lines from which statements come
+-- what `assemble` answers: the same without `grow`, and without the lines of statements
 abbrev pub IsAssembledModule : List ℕ → List ℕ → Result whole.Module AsmFault → Type 0
 IsAssembledModule name text (Ok m) = (each : List ℕ) × (last : ℕ) × Assembles name text false (Ok (record { holds = module_of m; each = each; last = last }))
 IsAssembledModule name text (Err fault) = IsRefused fault.why name text false fault
 
--- The program of lines, by what their names stand for.
+-- This is the program that the lines describe, once their names are settled.
 abbrev pub IsProgram : Bool → List Taken → List stated.Statement → Type 0
 IsProgram grow lines p =
     (circle : ℕ → Bool) × TellsCircles (names lines) lines circle
-    × (p ≡ program grow (table lines circle (layout grow lines circle)) (layout grow lines circle) lines)
+    × (p ≡ program_of_lines grow (source_table lines circle (layout grow lines circle)) (layout grow lines circle) lines)
 
--- .. that a text states
+-- the program that a source describes
 abbrev pub IsStated : List ℕ → Bool → List stated.Statement → Type 0
 IsStated text grow p = (lines : List Numbered) × IsExpanded text (Ok lines) × IsProgram grow (taken lines) p
 
--- Statements are those that lines state: they take as many bytes, and jumps go to the same refs; and what is made of them at places, long or
--- short, is what the lines state there.
-abbrev pub StatesLines : Bool → List Taken → List Statement → Type 0
+-- The statements are those that the lines describe: they have the same sizes, jumps go to the same refs, and the bytes linked from them at
+-- any addresses, short or long, are what the lines describe there.
+abbrev pub StatesLines : Bool → List Taken → List ModuleStatement → Type 0
 StatesLines grow lines statements = (p : List stated.Statement) × IsProgram grow lines p × AreAt statements p
 
--- .. the lines of a text
-abbrev pub States : List ℕ → Bool → List Statement → Type 0
+-- the statements are those that the lines of a source describe
+abbrev pub States : List ℕ → Bool → List ModuleStatement → Type 0
 States text grow statements = (p : List stated.Statement) × IsStated text grow p × AreAt statements p

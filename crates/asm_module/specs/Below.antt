@@ -1,4 +1,4 @@
--- Words of the crates below, for the crates above.
-pub use Rattle.asm_statements.specs.Program.Lines.{AreAt, IsAt}
-pub use Rattle.asm_statements.specs.Layouts.Sizes.{size_of, sizes}
-pub use Rattle.asm_statements.specs.Module.Stated.{numbered}
+-- Words from the crates below, passed on to the crates above.
+pub use Rattle.asm_statements.specs.Program.Lines.{AreAt, IsLinkedAs}
+pub use Rattle.asm_statements.specs.Layouts.Sizes.{size_in_module, sizes}
+pub use Rattle.asm_statements.specs.Module.Stated.{numbered_statements}

@@ -1,4 +1,4 @@
--- What a module holds besides its statements: labels, what it passes on, and its entry.
+-- What a module has besides its statements: labels, public labels, externals and an entry.
 use Rattle.std.specs.Prelude.{ℕ, Bool, true, false, List, [], Option, Some, None, if◌then◌else◌, slice_get}
 use Rattle.std.specs.List.{enumerate_from, filter_map, flat_map, list_any, position_from}
 use Rattle.std.specs.Option.{option_and_then}
@@ -19,13 +19,13 @@ label_in layout _ = None
 abbrev pub labels : Layout → Names → List Label
 labels layout names = filter_map (label_in layout) names
 
-abbrev pub is_origin : Line → Bool
-is_origin (line.Statement label (Some (line.Origin e))) = true
-is_origin _ = false
+abbrev pub is_origin_line : Line → Bool
+is_origin_line (line.Statement label (Some (line.Origin e))) = true
+is_origin_line _ = false
 
--- one of the lines has an ORG
+-- one of the lines is an ORG
 abbrev pub begins : List Taken → Bool
-begins lines = list_any (λ l. is_origin l.line) lines
+begins lines = list_any (λ l. is_origin_line l.line) lines
 
 abbrev pub public_in : Line → List (List ℕ)
 public_in (line.Statement label (Some (line.Public list))) = list
@@ -46,11 +46,11 @@ abbrev pub entry_in : Line → Option (List ℕ)
 entry_in (line.Statement label (Some (line.End entry))) = entry
 entry_in _ = None
 
--- the name that END has (one line has END at most, the last)
+-- the name in an END line (at most one line is an END, the last one)
 abbrev pub entry_name : List Taken → Option (List ℕ)
 entry_name lines = slice_get (filter_map (λ l. entry_in l.line) lines) 0
 
--- the number of the label of a name
+-- the number of the label with this name
 abbrev pub label_number : List Label → List ℕ → Option ℕ
 label_number labels name = position_from (λ l. bytes_eq name l.name) 0 labels
 

@@ -1,4 +1,4 @@
--- The faults of the parts of a source as those of the whole.
+-- The errors of the parts of a source as errors of the source.
 use Rattle.asm_names.specs.declared.equ_fault.EquFault.{EquFault}
 use Rattle.asm_macro.specs.declared.fault.MacroFault.{MacroFault}
 use Rattle.asm_names.specs.declared.fault.NameFault.{NameFault}

@@ -1,4 +1,4 @@
-//! From a text to a module.
+//! Assembles a source to a module.
 
 ghost use Rattle.std.specs.Prelude.{IfOk, false};
 ghost use Rattle.zmo_module.specs.Modules.{module_of};
@@ -12,23 +12,22 @@ use crate::source::read_source;
 use std::alloc::Global;
 use zmo_module::Module;
 
-/// From which lines of a source its statements come.
+/// Which lines of a source its statements come from.
 #[derive(Debug, Drop)]
 pub struct Lines {
-    /// Of each statement the number of its line.
+    /// For each statement the number of its line.
     pub each: Vec<u32>,
-    /// The number of the last line that a listing has; 0 for a text without lines.
+    /// The number of the last line that the listing shows, or 0 if the source has no lines.
     pub last: u32,
 }
 
-/// The module that a source text is, under a name of which the first 255 bytes count. Where `grow` says so, a written `JR` may be coded
-/// as a `JP`.
+/// Answers the module of a source. Its name is the first 255 bytes of `name`. If `grow` is true, a written `JR` may become a `JP`.
 ///
 /// # Errors
 ///
-/// The first fault of the source: of its expansion, whatever line that is on; then of the first line that may not define what it defines, or
-/// spells nothing; then of the first EQU line; then of the first other line. [`Why::NoMemory`](crate::Why::NoMemory) alone has no cause in
-/// the text.
+/// The first error of the source: of its expansion, whichever line that is on; then of the first line that may not define its name, or
+/// cannot be parsed; then of the first EQU line; then of the first other line. [`Why::NoMemory`](crate::Why::NoMemory) is the only error
+/// that has no cause in the source.
 pub fn assemble_with(
     alloc: Global,
     name: &[u8],
@@ -54,11 +53,11 @@ pub fn assemble_with(
     Ok((module, Lines { each, last }))
 }
 
-/// The module that a source text is, and from which lines its statements come. Each written `JR` is always short.
+/// Answers the module of a source, and which lines its statements come from. Each written `JR` is always short.
 ///
 /// # Errors
 ///
-/// As those of [`assemble_with`].
+/// Those of [`assemble_with`].
 pub fn assemble_listed(alloc: Global, name: &[u8], text: &[u8]) -> Result<(Module, Lines), AsmFault>
     ensures answer { IsAssembled name.now text.now false result }
     ensures kept { IfOk result (λ r. IsModule (module_of r.0)) }
@@ -67,11 +66,11 @@ pub fn assemble_listed(alloc: Global, name: &[u8], text: &[u8]) -> Result<(Modul
     assemble_with(alloc, name, text, false)
 }
 
-/// The module that a source text is. Each written `JR` is always short.
+/// Answers the module of a source. Each written `JR` is always short.
 ///
 /// # Errors
 ///
-/// As those of [`assemble_with`].
+/// Those of [`assemble_with`].
 pub fn assemble(alloc: Global, name: &[u8], text: &[u8]) -> Result<Module, AsmFault>
     ensures answer { IsAssembledModule name.now text.now result }
     ensures kept { IfOk result (λ m. IsModule (module_of m)) }

@@ -1,4 +1,4 @@
-//! Why a source is no module.
+//! Why a source cannot be assembled.
 
 ghost use Rattle.std.specs.Prelude.{◌≡◌, ℕ};
 ghost use Rattle.asm_module.specs.Whys.{equ_why, line_why, macro_why, name_why, state_why};
@@ -11,20 +11,20 @@ use asm_statements::StateFault;
 use std::alloc::AllocError;
 use thiserror::Error;
 
-/// Why a source is no module.
+/// Why a source cannot be assembled.
 #[derive(Clone, Copy, Debug, PartialEq, Eq, Error)]
 pub enum Why {
     /// Its expansion stops.
     #[error("{0}")]
     Macro(MacroFault),
-    /// A line spells nothing, or its values are not those of a statement.
+    /// A line cannot be parsed, or a value in it has an error.
     #[error("{0}")]
     Stmt(StmtFault),
     #[error("a name is defined twice")]
     Duplicate,
     #[error("a name is not defined")]
     Undefined,
-    /// `PUBLIC` or `END` has a name that is no label.
+    /// `PUBLIC` or `END` lists a name that is not a label.
     #[error("a name is no label")]
     PublicNotLabel,
     #[error("a name is defined by itself")]
@@ -37,7 +37,7 @@ pub enum Why {
     NoMemory,
 }
 
-/// The first fault of a source, and the number of its line.
+/// The first error of a source, and the number of its line.
 #[derive(Clone, Copy, Debug, PartialEq, Eq, Error)]
 #[error("line {line}: {why}")]
 pub struct AsmFault {
@@ -45,7 +45,7 @@ pub struct AsmFault {
     pub why: Why,
 }
 
-/// A fault of the expansion.
+/// Converts an error of the expansion.
 pub(crate) fn of_macro(line: u32, why: MacroFault) -> AsmFault
     ensures { result ≡ record { line = line; why = macro_why why } }
 {
@@ -56,7 +56,7 @@ pub(crate) fn of_macro(line: u32, why: MacroFault) -> AsmFault
     AsmFault { line, why }
 }
 
-/// A line that spells nothing. (Each line of an expansion scans.)
+/// Converts the error of a line that cannot be parsed. (Each line of an expansion can be tokenized.)
 pub(crate) fn of_line(line: u32, why: LineFault) -> AsmFault
     ensures { result ≡ record { line = line; why = line_why why } }
 {
@@ -67,7 +67,7 @@ pub(crate) fn of_line(line: u32, why: LineFault) -> AsmFault
     AsmFault { line, why }
 }
 
-/// A line that may not define what it defines.
+/// Converts the error of a line that may not define its name.
 pub(crate) fn of_name(line: u32, why: NameFault) -> AsmFault
     ensures { result ≡ record { line = line; why = name_why why } }
 {
@@ -80,7 +80,7 @@ pub(crate) fn of_name(line: u32, why: NameFault) -> AsmFault
     AsmFault { line, why }
 }
 
-/// A faulty EQU.
+/// Converts the error of an EQU line.
 pub(crate) fn of_equ(line: u32, why: EquFault) -> AsmFault
     ensures { result ≡ record { line = line; why = equ_why why } }
 {
@@ -92,7 +92,7 @@ pub(crate) fn of_equ(line: u32, why: EquFault) -> AsmFault
     AsmFault { line, why }
 }
 
-/// Another faulty line.
+/// Converts the error of any other line.
 pub(crate) fn of_state(line: u32, why: StateFault) -> AsmFault
     ensures { result ≡ record { line = line; why = state_why why } }
 {

@@ -1,4 +1,4 @@
-//! The last line that a listing has.
+//! Finds the last line that the listing shows.
 
 ghost use Rattle.std.specs.Prelude.{◌≡◌, ◌<◌, ◌^◌, ℕ, if◌then◌else◌, length};
 ghost use Rattle.asm_macro.specs.Texts.{source_lines};
@@ -12,7 +12,7 @@ use asm_names::SourceLine;
 use asm_spell::{Body, Line};
 use bstr::ByteSlice;
 
-/// How many lines a text has.
+/// Answers how many lines a source has.
 fn line_count(text: &[u8]) -> u32
     requires { length text.now < 2 ^ 32 }
     ensures { result ≡ length (source_lines text.now) }
@@ -20,7 +20,7 @@ fn line_count(text: &[u8]) -> u32
     source_part(text).lines().count() as u32
 }
 
-/// Whether a line has END.
+/// Whether a line is an END.
 fn is_end(line: &Line) -> bool
     ensures { (number other : ℕ) → end_or number other (line_of line.now) ≡ if result then number else other }
 {
@@ -33,7 +33,7 @@ fn is_end(line: &Line) -> bool
     )
 }
 
-/// The number of the first line with END, else of the text's last line.
+/// Answers the number of the first END line, or of the source's last line if there is none.
 pub(crate) fn last_listed(lines: &[SourceLine], text: &[u8]) -> u32
     requires { length text.now < 2 ^ 32 }
     ensures { result ≡ source.last_listed (length (source_lines text.now)) (lines_of lines.now) }

@@ -1,4 +1,4 @@
-//! Laws, as functions that do nothing: their calls bring the clauses.
+//! Laws about sources. A law is a function that does nothing and whose clause is a theorem: whoever calls it may use the clause.
 
 mod answer;
 mod holding;

@@ -1,9 +1,8 @@
 //! Assembles one source.
 //!
-//! [`assemble`] answers the module that a source is, or its first error; [`assemble_listed`] also says from which lines its
-//! statements come; [`assemble_with`] lets a written `JR` grow. [`read_source`] answers the lines of a source's expansion up to
-//! the first that is no line of the language, and [`labels_of`], [`externals_of`], [`publics_of`], [`begins`] and [`entry_of`]
-//! what a module has besides its statements.
+//! [`assemble`] answers the module of a source, or its first error; [`assemble_listed`] also says which lines its statements come from;
+//! [`assemble_with`] lets a written `JR` grow. [`read_source`] answers the lines of a source's expansion up to the first that cannot be
+//! parsed, and [`labels_of`], [`externals_of`], [`publics_of`], [`begins`] and [`entry_of`] what a module has besides its statements.
 #![tactic(auto)]
 
 mod assembling;

@@ -1,10 +1,10 @@
-//! Why a line spells nothing.
+//! Why a line cannot be parsed.
 
 use asm_scan::ScanFault;
 use asm_spell::StmtFault;
 use thiserror::Error;
 
-/// Why a line spells nothing.
+/// Why a line cannot be parsed.
 #[derive(Clone, Copy, Debug, PartialEq, Eq, Error)]
 pub enum LineFault {
     #[error("{0}")]

@@ -1,13 +1,13 @@
-//! The lines of a source to a module.
+//! Assembles the lines of a source to a module.
 
 ghost use Rattle.std.specs.Prelude.{◌≡◌, ◌<◌, ◌^◌, [], ℕ, All, Bool, List, None, IfOk, length, take};
 ghost use Rattle.zmo_module.specs.declared.module.TheConstants.{LONGEST_NAME};
 ghost use Rattle.asm_expr.specs.Names.{found};
 ghost use Rattle.asm_names.specs.Layout.{layout_of};
 ghost use Rattle.asm_statements.specs.Layouts.Laid.{HasFew};
-ghost use Rattle.asm_names.specs.Faults.{first_fault};
+ghost use Rattle.asm_names.specs.Faults.{first_name_fault};
 ghost use Rattle.asm_names.specs.Lines.{lines_of};
-ghost use Rattle.asm_names.specs.Names.{kind_of, names};
+ghost use Rattle.asm_names.specs.Names.{kind_of_name, names};
 ghost use Rattle.asm_statements.specs.Rules.Fitting.{IsReadLine};
 ghost use Rattle.asm_spell.specs.Names.{line_names};
 ghost use Rattle.zmo_module.specs.Modules.{module_of};
@@ -24,7 +24,7 @@ use asm_statements::{Stated, fit_words, state_lines};
 use std::alloc::{AllocError, Global};
 use zmo_module::{LONGEST_NAME, Module};
 
-/// The statements of lines, or the first line other than an EQU that is faulty.
+/// Answers the statements of lines, or the error of the first line other than an EQU that has one.
 fn state(
     alloc: Global,
     lines: Vec<SourceLine>,
@@ -33,7 +33,7 @@ fn state(
     layout: &Layout,
     grow: bool,
 ) -> Result<Stated, AsmFault>
-    requires { (name : List ℕ) → found names name ≡ None → kind_of table.now name ≡ None }
+    requires { (name : List ℕ) → found names name ≡ None → kind_of_name table.now name ≡ None }
     ensures { States grow table.now names (layout_of layout.now) (lines_of lines.items) result }
 {
     match state_lines(alloc, lines, table, names, layout, grow) {
@@ -42,7 +42,7 @@ fn state(
     }
 }
 
-/// The first 255 bytes of a name.
+/// Answers the first 255 bytes of a name.
 fn short_name(alloc: Global, name: &[u8]) -> Result<Vec<u8>, AllocError>
     ensures { IfOk result (λ short. short.items ≡ take LONGEST_NAME name.now) }
 {
@@ -51,7 +51,7 @@ fn short_name(alloc: Global, name: &[u8]) -> Result<Vec<u8>, AllocError>
     Ok(short)
 }
 
-/// The module of lines, without its statements.
+/// Answers the module of lines without its statements.
 fn hold(
     alloc: Global,
     name: &[u8],
@@ -61,7 +61,7 @@ fn hold(
     grow: bool,
 ) -> Result<Module, AllocError>
     requires names { table.now ≡ names (lines_of lines.now) }
-    requires sound { first_fault (lines_of lines.now) ≡ None }
+    requires sound { first_name_fault (lines_of lines.now) ≡ None }
     ensures { IfOk result (λ m. module_of m ≡ held name.now grow (lines_of lines.now) (layout_of layout.now) []) }
 {
     asm_names::laws::few();
@@ -80,7 +80,7 @@ fn hold(
     })
 }
 
-/// The module of lines that define names soundly, and the line of each statement.
+/// Answers the module of lines that passed the first pass, and the line of each statement.
 pub(crate) fn assemble_lines(
     alloc: Global,
     name: &[u8],
@@ -88,7 +88,7 @@ pub(crate) fn assemble_lines(
     table: &NameTable,
     grow: bool,
 ) -> Result<(Module, Vec<u32>), AsmFault>
-    requires sound { first_fault (lines_of lines.items) ≡ None }
+    requires sound { first_name_fault (lines_of lines.items) ≡ None }
     requires names { table.now ≡ names (lines_of lines.items) }
     requires few { length lines.items < 2 ^ 32 }
     requires data { All HasFew (lines_of lines.items) }

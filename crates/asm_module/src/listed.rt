@@ -1,4 +1,4 @@
-//! Names that are looked up.
+//! A set of names.
 
 ghost use Rattle.std.specs.Prelude.{◌≡◌, ◌||◌, [], ℕ, List, OnOk};
 ghost use Rattle.std.specs.List.{list_any};
@@ -9,7 +9,7 @@ use indexmap::IndexSet;
 use std::alloc::{AllocError, Global};
 use std::marker::Model;
 
-/// Some names, each looked up at once.
+/// A set of names, in which each is looked up by its hash.
 #[derive(Drop)]
 pub struct Listed<'a> {
     set: IndexSet<&'a [u8], NameKey>,
@@ -24,7 +24,7 @@ impl<'a> Model for Listed<'a> {
 }
 
 impl<'a> Listed<'a> {
-    /// No names, which are to be looked up by a key.
+    /// Makes an empty set, which hashes names with `key`.
     pub(crate) fn new(alloc: Global, key: NameKey) -> Listed<'a>
         ensures { result ≡ [] }
     {
@@ -41,7 +41,7 @@ impl<'a> Listed<'a> {
         Ok(())
     }
 
-    /// Whether a name is among them.
+    /// Whether a name is in the set.
     pub(crate) fn has(&self, name: &[u8]) -> bool
         ensures { result ≡ list_any (bytes_eq name.now) self.now }
     {

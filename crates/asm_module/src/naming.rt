@@ -1,4 +1,4 @@
-//! The first pass.
+//! The first pass over the lines of a source.
 
 ghost use Rattle.asm_names.specs.Lines.{lines_of};
 ghost use Rattle.asm_module.specs.Private.Steps.{Passes};
@@ -8,7 +8,7 @@ use crate::source::SourceText;
 use asm_names::{NameTable, names_of};
 use std::alloc::Global;
 
-/// The names of a source, or the first line that may not define what it defines or spells nothing.
+/// Answers the names of a source, or the error of the first line that may not define its name or cannot be parsed.
 pub(crate) fn first_pass(alloc: Global, source: &SourceText) -> Result<NameTable, AsmFault>
     ensures { Passes (lines_of source.now.lines.items) source.now.unread result }
 {

@@ -1,16 +1,16 @@
-//! What a module holds besides its statements: labels, what it passes on, and its entry.
+//! Collects what a module has besides its statements: labels, public labels, externals and an entry.
 
 ghost use Rattle.std.specs.Prelude.{◌≡◌, ◌≤◌, ◌++◌, ◌||◌, [], ℕ, List, IfOk, OnOk, length, map};
 ghost use Rattle.std.specs.List.{cons_option, list_any};
 ghost use Rattle.std.specs.Option.{option_map};
 ghost use Rattle.std.specs.Str.{bytes_eq};
 ghost use Rattle.common.specs.declared.limits.TheConstants.{MOST_NAMES};
-ghost use Rattle.asm_spell.specs.Line.{line_of, listed_of};
+ghost use Rattle.asm_spell.specs.Line.{line_of, listed_names};
 ghost use Rattle.asm_names.specs.Layout.{layout_of};
 ghost use Rattle.asm_names.specs.Meanings.{external_in, externals};
 ghost use Rattle.asm_names.specs.Lines.{lines_of};
 ghost use Rattle.zmo_module.specs.Modules.{label_of};
-ghost use Rattle.asm_module.specs.Holding.{begins, entry, entry_name, is_origin, label_in, labels, listed, publics};
+ghost use Rattle.asm_module.specs.Holding.{begins, entry, entry_name, is_origin_line, label_in, labels, listed, publics};
 
 use crate::listed::Listed;
 use asm_names::{Kind, Layout, NameTable, SourceLine};
@@ -19,7 +19,7 @@ use common::{KeyMixer, NameKey};
 use std::alloc::{AllocError, Global};
 use zmo_module::Label;
 
-/// The label that a name is, if it is one.
+/// Answers the label of this name, if the name is a label.
 fn label_in(
     alloc: Global,
     layout: &Layout,
@@ -37,7 +37,7 @@ fn label_in(
     }
 }
 
-/// Puts something behind others, if there is something.
+/// Appends an item, if there is one.
 fn put<T: Drop>(items: &mut Vec<T>, one: Option<T>) -> Result<(), AllocError>
     ensures { OnOk result (items.new.items ≡ items.old.items ++ cons_option one []) }
 {
@@ -47,7 +47,7 @@ fn put<T: Drop>(items: &mut Vec<T>, one: Option<T>) -> Result<(), AllocError>
     Ok(())
 }
 
-/// The labels, in the order in which they are defined.
+/// Answers the labels, in the order in which they are defined.
 pub fn labels_of(
     alloc: Global,
     table: &NameTable,
@@ -65,7 +65,7 @@ pub fn labels_of(
     Ok(labels)
 }
 
-/// The external that a name is, if it is one.
+/// Answers the external of this name, if the name is an external.
 fn external_in(alloc: Global, name: &[u8], kind: Kind) -> Result<Option<Vec<u8>>, AllocError>
     ensures { IfOk result (λ one. option_map (λ name. name.items) one ≡ external_in (name.now, kind)) }
 {
@@ -75,7 +75,7 @@ fn external_in(alloc: Global, name: &[u8], kind: Kind) -> Result<Option<Vec<u8>>
     }
 }
 
-/// The externals, in the order in which they are declared.
+/// Answers the externals, in the order in which they are declared.
 pub fn externals_of(alloc: Global, table: &NameTable) -> Result<Vec<Vec<u8>>, AllocError>
     ensures { IfOk result (λ all. map (λ name. name.items) all.items ≡ externals table.now) }
 {
@@ -90,7 +90,7 @@ pub fn externals_of(alloc: Global, table: &NameTable) -> Result<Vec<Vec<u8>>, Al
 }
 
 fn is_origin(line: &Line) -> bool
-    ensures { result ≡ is_origin (line_of line.now) }
+    ensures { result ≡ is_origin_line (line_of line.now) }
 {
     matches!(
         line,
@@ -101,14 +101,14 @@ fn is_origin(line: &Line) -> bool
     )
 }
 
-/// Whether one of the lines has an ORG.
+/// Whether one of the lines is an ORG.
 pub fn begins(lines: &[SourceLine]) -> bool
     ensures { result ≡ begins (lines_of lines.now) }
 {
     lines.iter().any(|line| is_origin(&line.line))
 }
 
-/// Mixes in the names that a line passes on.
+/// Mixes the names that a PUBLIC line lists into the key.
 fn mix(mixer: &mut KeyMixer, line: &Line) {
     if let Line::Statement {
         label: _,
@@ -121,7 +121,7 @@ fn mix(mixer: &mut KeyMixer, line: &Line) {
     }
 }
 
-/// The key of the names that PUBLIC lines list, which need be defined nowhere.
+/// Answers the key with which the names in PUBLIC lines are hashed. These names need not be defined anywhere.
 fn key_of(lines: &[SourceLine]) -> NameKey {
     let mut mixer = KeyMixer::new();
     for line in lines {
@@ -130,9 +130,9 @@ fn key_of(lines: &[SourceLine]) -> NameKey {
     mixer.key()
 }
 
-/// Adds the names that a PUBLIC lists.
+/// Adds the names that a PUBLIC line lists.
 fn list_names<'a>(names: &'a [KeptName], listed: &mut Listed<'a>) -> Result<(), AllocError>
-    ensures { OnOk result ((name : List ℕ) → list_any (bytes_eq name) listed.new ≡ (list_any (bytes_eq name) listed.old || list_any (bytes_eq name) (listed_of names.now))) }
+    ensures { OnOk result ((name : List ℕ) → list_any (bytes_eq name) listed.new ≡ (list_any (bytes_eq name) listed.old || list_any (bytes_eq name) (listed_names names.now))) }
 {
     for name in names {
         listed.add(name)?;
@@ -140,7 +140,7 @@ fn list_names<'a>(names: &'a [KeptName], listed: &mut Listed<'a>) -> Result<(), 
     Ok(())
 }
 
-/// The names that PUBLIC lines list.
+/// Answers the names that PUBLIC lines list.
 fn listed_by<'a>(alloc: Global, lines: &'a [SourceLine]) -> Result<Listed<'a>, AllocError>
     ensures { IfOk result (λ all. (name : List ℕ) → list_any (bytes_eq name) all ≡ list_any (bytes_eq name) (listed (lines_of lines.now))) }
 {
@@ -157,7 +157,7 @@ fn listed_by<'a>(alloc: Global, lines: &'a [SourceLine]) -> Result<Listed<'a>, A
     Ok(all)
 }
 
-/// The numbers of the labels that PUBLIC lines list, ascending, each once.
+/// Answers the numbers of the labels that PUBLIC lines list, ascending, each once.
 pub fn publics_of(
     alloc: Global,
     labels: &[Label],
@@ -176,7 +176,7 @@ pub fn publics_of(
     Ok(publics)
 }
 
-/// The name that END has.
+/// Answers the name that END has.
 fn entry_name(lines: &[SourceLine]) -> Option<&[u8]>
     ensures { option_map (λ name. name.now) result ≡ entry_name (lines_of lines.now) }
 {
@@ -192,7 +192,7 @@ fn entry_name(lines: &[SourceLine]) -> Option<&[u8]>
     None
 }
 
-/// The number of the label that END names.
+/// Answers the number of the label that END names.
 pub fn entry_of(labels: &[Label], lines: &[SourceLine]) -> Option<u16>
     requires { length labels.now ≤ MOST_NAMES }
     ensures { result ≡ entry (map label_of labels.now) (lines_of lines.now) }

@@ -1,11 +1,11 @@
-//! What names stand for, and where statements stand.
+//! Settles the names of a source and lays out its statements.
 
 ghost use Rattle.std.specs.Prelude.{◌≡◌, ◌≤◌, [], All, IfOk, None, length};
 ghost use Rattle.asm_names.specs.Orders.Order.{IsOrder};
 ghost use Rattle.asm_names.specs.Circles.{lines_named};
 ghost use Rattle.asm_names.specs.Layout.{layout_of};
 ghost use Rattle.asm_statements.specs.Layouts.Laid.{HasFew};
-ghost use Rattle.asm_names.specs.Faults.{first_fault};
+ghost use Rattle.asm_names.specs.Faults.{first_name_fault};
 ghost use Rattle.asm_names.specs.Lines.{lines_of};
 ghost use Rattle.asm_names.specs.Names.{names};
 ghost use Rattle.asm_module.specs.Private.Steps.{IsPlaced};
@@ -15,7 +15,7 @@ use asm_names::{Layout, NameTable, SettledNames, SourceLine, Turn, settle_names}
 use asm_statements::lay;
 use std::alloc::{AllocError, Global};
 
-/// Before anything is known of places.
+/// Answers the layout before any statement is laid out.
 fn no_layout(alloc: Global) -> Layout
     ensures { layout_of result ≡ no_layout }
 {
@@ -25,8 +25,8 @@ fn no_layout(alloc: Global) -> Layout
     }
 }
 
-/// What the names of a source stand for, and where its statements stand. The sizes of these hang on constants alone, so they are laid
-/// before any name has its place.
+/// Answers what the names of a source stand for, and the layout of its statements. The sizes of statements depend only on constants, so the
+/// statements are laid out before any name has its address.
 pub(crate) fn place(
     alloc: Global,
     lines: &[SourceLine],
@@ -34,7 +34,7 @@ pub(crate) fn place(
     turns: &[Turn],
     grow: bool,
 ) -> Result<(SettledNames, Layout), AllocError>
-    requires sound { first_fault (lines_of lines.now) ≡ None }
+    requires sound { first_name_fault (lines_of lines.now) ≡ None }
     requires names { table.now ≡ names (lines_of lines.now) }
     requires turns { IsOrder (length lines.now) (lines_named table.now (lines_of lines.now)) turns.now }
     requires data { All HasFew (lines_of lines.now) }

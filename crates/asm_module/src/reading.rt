@@ -1,4 +1,4 @@
-//! Lines, as far as they spell something.
+//! Reads the lines of an expansion, up to the first that cannot be parsed.
 
 ghost use Rattle.std.specs.Prelude.{◌≡◌, ◌++◌, ◌∷◌, [], List, OnOk};
 ghost use Rattle.asm_macro.specs.Ahead.{seen};
@@ -26,7 +26,7 @@ fn is_memory(why: LineFault) -> bool
     )
 }
 
-/// What the tokens of a line spell, or why they spell nothing.
+/// Answers what the tokens of a line parse as, or why they cannot be parsed.
 fn read_tokens(alloc: Global, tokens: &[Token<'_>]) -> Result<Line, LineFault>
     ensures { ReadsLine result (lines.spelled_by (spelled (lexemes tokens.entry.now))) }
 {
@@ -36,7 +36,7 @@ fn read_tokens(alloc: Global, tokens: &[Token<'_>]) -> Result<Line, LineFault>
     }
 }
 
-/// What a line spells, or why it spells nothing, by its tokens where they are kept.
+/// Answers what a line parses as, or why it cannot be parsed. It uses the tokens that the expander kept, if it kept them.
 fn read_line(alloc: Global, text: &[u8], kept: Option<Vec<Token<'_>>>) -> Result<Line, LineFault>
     requires { AreOf text.now kept }
     ensures { ReadsLine result (lines.read_line text.now) }
@@ -50,17 +50,17 @@ fn read_line(alloc: Global, text: &[u8], kept: Option<Vec<Token<'_>>>) -> Result
     }
 }
 
-/// What some lines spell.
+/// What lines parse as.
 #[derive(Debug, Drop)]
 pub(crate) struct Reading {
-    /// The lines before the first that spells nothing.
+    /// The lines before the first that cannot be parsed.
     pub(crate) lines: Vec<SourceLine>,
-    /// That line, by the number that it bears, and why it spells nothing.
+    /// The number of that line, and why it cannot be parsed.
     pub(crate) unread: Option<(u32, LineFault)>,
 }
 
 impl Reading {
-    /// Reads a line behind the others, unless one of these spells nothing.
+    /// Parses a line and appends it, unless a line before it cannot be parsed.
     fn take(
         &mut self,
         alloc: Global,
@@ -87,12 +87,12 @@ impl Reading {
     }
 }
 
-/// Expands a text, and reads the lines of its expansion up to the first that spells nothing. The expansion is gone through
-/// to its end all the same, since it may stop.
+/// Expands a source, and reads the lines of its expansion up to the first that cannot be parsed. It continues the expansion to its end even
+/// then, since that may stop with an error.
 ///
 /// # Errors
 ///
-/// The line on which the expansion stops, and why; or the line for which memory was out.
+/// The line at which the expansion stops, and why; or the line at which memory ran out.
 pub(crate) fn read_lines(alloc: Global, text: &[u8]) -> Result<Reading, (u32, MacroFault)>
     ensures { IsReading text.now result }
 {

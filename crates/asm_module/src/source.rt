@@ -1,4 +1,4 @@
-//! The lines of a source text.
+//! Reads the lines of a source.
 
 ghost use Rattle.asm_module.specs.Reads.Source.{IsSourceText};
 
@@ -9,22 +9,23 @@ use asm_macro::MacroFault;
 use asm_names::SourceLine;
 use std::alloc::Global;
 
-/// What a source text says.
+/// What the lines of a source parse as.
 #[derive(Debug, Drop)]
 pub struct SourceText {
-    /// The lines of its expansion that come before the first that spells nothing.
+    /// The lines of its expansion before the first that cannot be parsed.
     pub lines: Vec<SourceLine>,
-    /// That line, by the number that it bears, and why it spells nothing.
+    /// The number of that line, and why it cannot be parsed.
     pub unread: Option<(u32, LineFault)>,
-    /// The number of the last line that a listing has: that of END, else of the text's last line; 0 for a text without lines.
+    /// The number of the last line that the listing shows: that of END, or of the source's last line if there is none; 0 if the source has
+    /// no lines.
     pub last: u32,
 }
 
-/// Expands a source text and reads its lines.
+/// Expands a source and reads its lines.
 ///
 /// # Errors
 ///
-/// The line on which the expansion stops, and why; or [`MacroFault::NoMemory`].
+/// The line at which the expansion stops, and why; or [`MacroFault::NoMemory`].
 pub fn read_source(alloc: Global, text: &[u8]) -> Result<SourceText, (u32, MacroFault)>
     ensures { IsSourceText text.now result }
 {

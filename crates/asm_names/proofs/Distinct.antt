@@ -9,7 +9,7 @@ use Rattle.std.proofs.lemmas.Map.{NonePasses, none_passes_from_lookup}
 use Rattle.std.proofs.lemmas.Slice.Eq.{bytes_eq-Decides}
 use Rattle.asm_names.specs.declared.kind.Kind.{Kind}
 use Rattle.asm_names.specs.Lines.{Taken}
-use Rattle.asm_names.specs.Names.{Names, definitions, kind_of, names, with_name, with_names}
+use Rattle.asm_names.specs.Names.{Names, definitions, kind_of_name, names, with_name, with_names}
 
 abbrev Key : Type 0
 Key = List ℕ
@@ -18,7 +18,7 @@ not_true : (b : Bool) → (b ≡ true → ⊥) → b ≡ false
 not_true true no_way = absurd (no_way refl)
 not_true false no_way = refl
 
--- that two names differ can be said of either first
+-- If x differs from y, y differs from x.
 differ_back : (x y : Key) → bytes_eq x y ≡ false → bytes_eq y x ≡ false
 differ_back x y e = not_true (bytes_eq y x) (λ same. let back : bytes_eq x y ≡ true = (bytes_eq-Decides x y).1 (sym ((bytes_eq-Decides y x).0 same)) in cc)
 
@@ -40,7 +40,7 @@ distinct_behind (x ∷ xs) y d none = (all_behind (λ k. bytes_eq x k ≡ false)
 
 one_more : (names : Names) (d : Key × Kind) → IsDistinct bytes_eq (keys names) → IsDistinct bytes_eq (keys (with_name names d))
 one_more names d was =
-    elim (kind_of names d.0) as (λ k. kind_of names d.0 ≡ k → IsDistinct bytes_eq (keys (cond (is_some k) names (names ++ d ∷ [])))) [
+    elim (kind_of_name names d.0) as (λ k. kind_of_name names d.0 ≡ k → IsDistinct bytes_eq (keys (cond (is_some k) names (names ++ d ∷ [])))) [
       | Some kind ↦ λ is. was
       | None ↦ λ is. subst (IsDistinct bytes_eq) (sym (map-append (λ e. e.0) names (d ∷ [])))
           (distinct_behind (keys names) d.0 was (none_keys d.0 names (none_passes_from_lookup (bytes_eq d.0) names is)))

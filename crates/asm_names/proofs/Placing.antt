@@ -1,4 +1,4 @@
--- Labels and externals, defined one after the other.
+-- Defining labels and externals, one after the other.
 use Rattle.std.proofs.Common.{◌≡◌, ◌<◌, ◌≤◌, ◌+◌, ◌∙◌, sym, ap, refl, subst, ℕ, zero, suc, Bool, true, false, cond, List, [], ◌∷◌, ◌++◌, Option, Some, None, length, map, take, arith}
 use Rattle.std.specs.List.{AllByRecursion, IsDistinct, cons_option, position_from, slice_get}
 use Rattle.std.specs.Map.{lookup}
@@ -12,7 +12,7 @@ use Rattle.std.proofs.lemmas.Slice.Eq.{bytes_eq-Decides}
 use Rattle.asm_expr.specs.declared.meaning.Meaning.{Meaning}
 use Rattle.asm_expr.specs.Names.{found}
 use Rattle.asm_names.specs.declared.kind.Kind.{Kind}
-use Rattle.asm_names.specs.Names.{Names, kind_of}
+use Rattle.asm_names.specs.Names.{Names, kind_of_name}
 use Rattle.asm_names.specs.declared.places.Places.{Places}
 use Rattle.asm_names.specs.Layout.{Layout, next_at}
 use Rattle.asm_names.specs.Meanings.{Entries, external_in, external_ref, externals}
@@ -28,7 +28,7 @@ absurd_bool : {A : Type 0} (b : Bool) → b ≡ true → b ≡ false → A
 absurd_bool true one other = absurd cc
 absurd_bool false one other = absurd cc
 
--- the name behind some others is none of them
+-- If a name differs from all others, it differs from each.
 differs : (e : Key) (es : Names) (i : ℕ) (d : Key × Kind) → AllByRecursion (λ k. bytes_eq e k ≡ false) (keys es) → slice_get es i ≡ Some d → bytes_eq e d.0 ≡ false
 differs e [] i d all is = absurd cc
 differs e (x ∷ es) zero d all is = (let same : x ≡ d = cc in subst (λ y. bytes_eq e y.0 ≡ false) same all.0)
@@ -40,14 +40,14 @@ differs_back x y e = elim (bytes_eq y x) as (λ b. bytes_eq y x ≡ b → b ≡ 
   | false ↦ λ other. refl
 ] refl
 
--- a name is found where it stands
-found_there : (names : Names) (i : ℕ) (d : Key × Kind) → IsDistinct bytes_eq (keys names) → slice_get names i ≡ Some d → kind_of names d.0 ≡ Some d.1
+-- Looking up a name finds its own entry.
+found_there : (names : Names) (i : ℕ) (d : Key × Kind) → IsDistinct bytes_eq (keys names) → slice_get names i ≡ Some d → kind_of_name names d.0 ≡ Some d.1
 unfolding IsDistinct
 found_there [] i d distinct is = absurd cc
-found_there (e ∷ es) zero d distinct is = (let same : e ≡ d = cc in subst (λ x. kind_of (e ∷ es) x.0 ≡ Some x.1) same (let here : bytes_eq e.0 e.0 ≡ true = (bytes_eq-Decides e.0 e.0).1 refl in rw here refl))
+found_there (e ∷ es) zero d distinct is = (let same : e ≡ d = cc in subst (λ x. kind_of_name (e ∷ es) x.0 ≡ Some x.1) same (let here : bytes_eq e.0 e.0 ≡ true = (bytes_eq-Decides e.0 e.0).1 refl in rw here refl))
 found_there (e ∷ es) (suc i) d distinct is = rw (differs_back e.0 d.0 (differs e.0 es i d distinct.0 is)) (found_there es i d distinct.1 is)
 
--- .. and in what is placed too
+-- The same for the labels and externals that are defined.
 
 abbrev Place : Type 0
 Place = Key × Meaning
@@ -64,11 +64,11 @@ first_placed : (x : Key) (what : Option Meaning) (rest : List Place) → lookup 
 first_placed x None rest none = none
 first_placed x (Some m) rest none = (let here : bytes_eq x x ≡ true = (bytes_eq-Decides x x).1 refl in rw here refl)
 
-pub placed_lookup : (names : Names) (layout : Layout) (some : Names) (x : Key) → IsDistinct bytes_eq (keys some) → lookup (bytes_eq x) (placed_of names layout some) ≡ place_by names layout x (kind_of some x)
+pub placed_lookup : (names : Names) (layout : Layout) (some : Names) (x : Key) → IsDistinct bytes_eq (keys some) → lookup (bytes_eq x) (placed_of names layout some) ≡ place_by names layout x (kind_of_name some x)
 unfolding IsDistinct
 placed_lookup names layout [] x distinct = refl
 placed_lookup names layout (e ∷ es) x distinct =
-    elim (bytes_eq x e.0) as (λ b. bytes_eq x e.0 ≡ b → lookup (bytes_eq x) (placed_of names layout (e ∷ es)) ≡ place_by names layout x (cond b (Some e.1) (kind_of es x))) [
+    elim (bytes_eq x e.0) as (λ b. bytes_eq x e.0 ≡ b → lookup (bytes_eq x) (placed_of names layout (e ∷ es)) ≡ place_by names layout x (cond b (Some e.1) (kind_of_name es x))) [
       | true ↦ λ same.
           let is : e.0 ≡ x = sym ((bytes_eq-Decides x e.0).0 same) in
           let none : lookup (bytes_eq x) (placed_of names layout es) ≡ None = none_placed names layout es x (subst (λ k. AllByRecursion (λ y. bytes_eq k y ≡ false) (keys es)) is distinct.0) in
@@ -77,7 +77,7 @@ placed_lookup names layout (e ∷ es) x distinct =
       | false ↦ λ other. lookup_placed x e.0 (place_of names layout e.0 e.1) (placed_of names layout es) other ∙ placed_lookup names layout es x distinct.1
     ] refl
 
--- a name is new behind those before it
+-- a name is not among those before it
 pub new_place : (names : Names) (layout : Layout) (all : Names) (i : ℕ) (d : Key × Kind) → IsDistinct bytes_eq (keys all) → slice_get all i ≡ Some d
     → lookup (bytes_eq d.0) (placed_of names layout (take i all)) ≡ None
 unfolding IsDistinct
@@ -87,7 +87,7 @@ new_place names layout (e ∷ es) (suc i) d distinct is =
     lookup_placed d.0 e.0 (place_of names layout e.0 e.1) (placed_of names layout (take i es)) (differs_back e.0 d.0 (differs e.0 es i d distinct.0 is))
     ∙ new_place names layout es i d distinct.1 is
 
--- the position of an external is how many stand before it
+-- the position of an external is how many externals come before it
 external_at : (n i : ℕ) (all : Names) (name : Key) → IsDistinct bytes_eq (keys all) → slice_get all i ≡ Some (name, Kind.External) → position_from (bytes_eq name) n (externals all) ≡ Some (n + length (externals (take i all)))
 unfolding IsDistinct
 external_at n i [] name distinct is = absurd cc
@@ -100,8 +100,7 @@ external_at n (suc i) ((x, Kind.External) ∷ es) name distinct is =
 external_at n (suc i) ((x, Kind.Label l) ∷ es) name distinct is = external_at n i es name distinct.1 is
 external_at n (suc i) ((x, Kind.Equ l) ∷ es) name distinct is = external_at n i es name distinct.1 is
 
--- What is defined so far.
--- one more name
+-- What is defined so far. The first lemma adds one name.
 take_one : (names : Names) (i : ℕ) (d : Key × Kind) → slice_get names i ≡ Some d → take (suc i) names ≡ take i names ++ d ∷ []
 take_one [] i d is = absurd cc
 take_one (e ∷ es) zero d is = (let same : e ≡ d = cc in ap (λ x. x ∷ []) same)
@@ -115,7 +114,7 @@ pub record PlacedSoFar (names : Names) (layout : Layout) (at : ℕ) (p : Places)
   pub statements : p.names.statements ≡ layout.statements
   pub next : p.external ≡ (length layout.statements + 1) + length (externals (take at names))
 
--- .. where a name more is defined
+-- the entries once one more name is defined
 entries_more : (names : Names) (layout : Layout) (at : ℕ) (d : Key × Kind) (es : Entries) → slice_get names at ≡ Some d → es ≡ placed_of names layout (take at names) ++ placed_of names layout (d ∷ [])
     → es ≡ placed_of names layout (take (at + 1) names)
 entries_more names layout at d es is e = e ∙ sym (filter_map-append (placed names layout) (take at names) (d ∷ [])) ∙ ap (placed_of names layout) (sym (take_more_names names at d is))
@@ -123,7 +122,7 @@ entries_more names layout at d es is e = e ∙ sym (filter_map-append (placed na
 externals_more : (names : Names) (at : ℕ) (d : Key × Kind) → slice_get names at ≡ Some d → externals (take (at + 1) names) ≡ externals (take at names) ++ externals (d ∷ [])
 externals_more names at d is = ap externals (take_more_names names at d is) ∙ filter_map-append external_in (take at names) (d ∷ [])
 
--- an external has the number that comes next
+-- an external has the next number
 external_is : (names : Names) (layout : Layout) (at : ℕ) (name : Key) (p : Places) → IsDistinct bytes_eq (keys names) → slice_get names at ≡ Some (name, Kind.External) → PlacedSoFar names layout at p
     → p.external ≡ external_ref names layout name
 external_is names layout at name p distinct is was = was.next ∙ ap (λ n. (length layout.statements + 1) + unwrap_or n 0) (sym (external_at 0 at names name distinct is ∙ ap Some (omega arith)))
@@ -152,7 +151,7 @@ more_placed names layout at name (Kind.Equ l) old new distinct is done was = rec
   next = ap (λ p. p.external) done ∙ was.next ∙ ap (λ es. (length layout.statements + 1) + length es) (sym (append-nil (externals (take at names))) ∙ sym (externals_more names at (name, Kind.Equ l) is));
 }
 
--- a name that a look-up gave
+-- what holds after one more name, which a look-up found
 pub goes_on : (names : Names) (layout : Layout) (at : ℕ) (name : Key) (kind : Kind) (old new : Places) → IsDistinct bytes_eq (keys names) → Some (name, kind) ≡ slice_get names at
     → Defines layout name kind old new → PlacedSoFar names layout at old → PlacedSoFar names layout (at + 1) new
 goes_on names layout at name kind old new distinct is done was = more_placed names layout at name kind old new distinct (sym is) done was

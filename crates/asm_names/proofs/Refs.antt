@@ -1,4 +1,4 @@
--- Names stand for refs below a count: those of statements, and those of externals behind them.
+-- Names stand for refs less than a count: those of statements, and after them those of externals.
 use Rattle.std.proofs.Common.{◌≡◌, ◌<◌, ◌≤◌, ◌+◌, ◌∙◌, sym, ap, refl, subst, ℕ, zero, suc, Bool, true, false, cond, List, [], ◌∷◌, Option, Some, None, Ok, Err, length, map, nat_lt, arith}
 use Rattle.std.specs.List.{position_from}
 use Rattle.std.specs.Map.{lookup}
@@ -16,14 +16,14 @@ use Rattle.asm_parse.specs.Expression as parsed
 use Rattle.asm_parse.specs.Source.{Operand}
 use Rattle.asm_names.specs.declared.kind.Kind.{Kind}
 use Rattle.asm_names.specs.Lines.{Taken}
-use Rattle.asm_names.specs.Names.{Names, kind_of}
+use Rattle.asm_names.specs.Names.{Names, kind_of_name}
 use Rattle.asm_names.specs.declared.equ_fault.EquFault.{EquFault}
 use Rattle.asm_names.specs.Circles.{items_at}
 use Rattle.asm_names.specs.Layout.{Layout, next_at}
-use Rattle.asm_names.specs.Meanings.{after_rounds, entries, equ_fault, externals, meaning, meaning_by, table_at}
+use Rattle.asm_names.specs.Meanings.{after_rounds, name_meanings, equ_fault, externals, meaning, meaning_by, table_at}
 use Rattle.asm_names.proofs.Rounds.{found_after}
 
--- an external that is found is among the externals
+-- an external that a look-up finds is among the externals
 external_among : (p : List ℕ → Bool) (n : ℕ) (names : Names) → lookup p names ≡ Some Kind.External → (k : ℕ) × (position_from p n (externals names) ≡ Some k) × (k < n + length (externals names))
 external_among p n [] is = cc
 external_among p n ((x, Kind.External) ∷ names) is =
@@ -52,7 +52,7 @@ nothing_yet p (d ∷ ds) what is =
       | false ↦ λ more. nothing_yet p ds what more
     ] is
 
--- A ref is below a count, as a test and as a property.
+-- A ref is less than `count`, as a test that is true.
 abbrev IsBelow : ℕ → ℕ → Type 0
 IsBelow count r = nat_lt r count ≡ true
 
@@ -68,7 +68,7 @@ below_count count Meaning.UnknownConstant below = tt
 below_count count (Meaning.Equ equated) below = below_refs count equated.settled below
 below_count count Meaning.Faulty below = tt
 
--- what a law of expressions says of an EQU's
+-- what a law of `asm_expr` says about the value of an EQU: it has no other refs than the names in its expression
 abbrev BringsNoOther : Type 0
 BringsNoOther = (p : ℕ → Bool) (t : Table) → AllBring (λ r. p r ≡ true) t → (e : parsed.Expression Operand) (what : Meaning) → equated t e ≡ Ok what → Brings (λ r. p r ≡ true) what
 
@@ -92,7 +92,7 @@ module _ (no_other : BringsNoOther) (names : Names) (lines : List Taken) (circle
   abbrev known : ℕ → List (List ℕ × Meaning)
   known n = after_rounds n names lines circle layout
 
-  by_kind : (n : ℕ) (x : List ℕ) (k : Option Kind) (what : Meaning) → kind_of names x ≡ k → ((name : List ℕ) (m : Meaning) → lookup (bytes_eq name) (known n) ≡ Some m → Brings (IsBelow count) m)
+  by_kind : (n : ℕ) (x : List ℕ) (k : Option Kind) (what : Meaning) → kind_of_name names x ≡ k → ((name : List ℕ) (m : Meaning) → lookup (bytes_eq name) (known n) ≡ Some m → Brings (IsBelow count) m)
       → option_map (meaning names lines circle layout (known n) x) k ≡ Some what → Brings (IsBelow count) what
   by_kind n x None what kind before is = cc
   by_kind n x (Some (Kind.Label at)) what kind before is =
@@ -112,7 +112,7 @@ module _ (no_other : BringsNoOther) (names : Names) (lines : List Taken) (circle
 
   rounds_below : (n : ℕ) (x : List ℕ) (what : Meaning) → lookup (bytes_eq x) (known n) ≡ Some what → Brings (IsBelow count) what
   rounds_below zero x what is = subst (Brings (IsBelow count)) (sym (nothing_yet (bytes_eq x) names what is)) tt
-  rounds_below (suc n) x what is = by_kind n x (kind_of names x) what refl (rounds_below n) (sym (found_after n names lines circle layout x) ∙ is)
+  rounds_below (suc n) x what is = by_kind n x (kind_of_name names x) what refl (rounds_below n) (sym (found_after n names lines circle layout x) ∙ is)
 
-  pub refs_below : (x : List ℕ) (what : Meaning) → lookup (bytes_eq x) (entries names lines circle layout) ≡ Some what → Brings (λ r. r < count) what
+  pub refs_below : (x : List ℕ) (what : Meaning) → lookup (bytes_eq x) (name_meanings names lines circle layout) ≡ Some what → Brings (λ r. r < count) what
   refs_below x what is = below_count count what (rounds_below (suc (length lines)) x what is)

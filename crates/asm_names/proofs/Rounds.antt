@@ -1,8 +1,8 @@
--- Rounds of what is known of names: each EQU line has its last meaning once those that it uses have theirs.
+-- The rounds: each EQU line has its last value once the lines that it uses have theirs.
 use Rattle.std.proofs.Common.{◌≡◌, ◌<◌, ◌≤◌, ◌+◌, ◌∙◌, sym, ap, refl, subst, ℕ, zero, suc, Bool, true, false, cond, List, [], ◌∷◌, Option, Some, None, Result, map, take, length, slice_index_or, inl, inr, ◌⊎◌, arith}
 use Rattle.std.specs.List.{Contains, cons_option, filter_map}
 use Rattle.asm_names.specs.declared.walk.Turn.{Turn}
-use Rattle.asm_names.specs.Orders.Order.{AreInOrder, definitions}
+use Rattle.asm_names.specs.Orders.Order.{AreInOrder, turn_definitions}
 use Rattle.std.specs.Map.{lookup}
 use Rattle.std.specs.Option.{option_map}
 use Rattle.std.specs.Str.{bytes_eq}
@@ -14,10 +14,10 @@ use Rattle.asm_expr.specs.declared.meaning.Meaning.{Meaning}
 use Rattle.asm_expr.specs.Names.{Table}
 use Rattle.asm_expr.specs.Equating.{equated}
 use Rattle.asm_expr.specs.Below.{only, run, source}
-use Rattle.asm_spell.specs.Line.{Expression}
+use Rattle.asm_spell.specs.Line.{ExpressionItems}
 use Rattle.asm_names.specs.declared.kind.Kind.{Kind}
 use Rattle.asm_names.specs.Lines.{Taken}
-use Rattle.asm_names.specs.Names.{Names, kind_of}
+use Rattle.asm_names.specs.Names.{Names, kind_of_name}
 use Rattle.asm_names.specs.Circles.{equ_line, items_at, line_named, lines_named}
 use Rattle.asm_names.specs.Layout.{Layout}
 use Rattle.asm_names.specs.Meanings.{after_rounds, circular, equ_meaning, meaning, meaning_by, table_at, undefined, value_by}
@@ -27,7 +27,7 @@ use Rattle.asm_parse.specs.declared.fault.ExprFault.{ExprFault}
 use Rattle.asm_expr.proofs.ByNames.{equated_by_names}
 use Rattle.asm_expr.proofs.Below.{run-one}
 
--- what is found among names that are mapped
+-- looking up a name in a mapped table
 found_mapped : (f : List ℕ → Kind → Meaning) (p : List ℕ → Bool) (names : Names) → ((d : List ℕ) (e : List ℕ) → p d ≡ true → p e ≡ true → d ≡ e)
     → (x : List ℕ) → p x ≡ true → lookup p (map (λ d. (d.0, f d.0 d.1)) names) ≡ option_map (f x) (lookup p names)
 found_mapped f p [] one x is = refl
@@ -39,19 +39,19 @@ found_mapped f p (d ∷ ds) one x is =
 
 -- what a name stands for after one round more
 pub found_after : (n : ℕ) (names : Names) (lines : List Taken) (circle : ℕ → Bool) (layout : Layout) (x : List ℕ)
-    → lookup (bytes_eq x) (after_rounds (suc n) names lines circle layout) ≡ option_map (meaning names lines circle layout (after_rounds n names lines circle layout) x) (kind_of names x)
+    → lookup (bytes_eq x) (after_rounds (suc n) names lines circle layout) ≡ option_map (meaning names lines circle layout (after_rounds n names lines circle layout) x) (kind_of_name names x)
 found_after n names lines circle layout x =
     found_mapped (meaning names lines circle layout (after_rounds n names lines circle layout)) (bytes_eq x) names (λ d e same also. sym ((bytes_eq-Decides x d).0 same) ∙ (bytes_eq-Decides x e).0 also) x ((bytes_eq-Decides x x).1 refl)
 
--- what an EQU line is worth after some rounds
+-- the value of the EQU in line `at` after some rounds
 abbrev pub round_value : ℕ → Names → List Taken → (ℕ → Bool) → Layout → ℕ → Meaning
 round_value n names lines circle layout at = equ_meaning names circle (table_at layout (after_rounds n names lines circle layout) at) at (items_at lines at)
 
-by_worth : (names : Names) (circle : ℕ → Bool) (at : ℕ) (e : Expression) (t u : Table) → equated t (source e) ≡ equated u (source e) → equ_meaning names circle t at e ≡ equ_meaning names circle u at e
+by_worth : (names : Names) (circle : ℕ → Bool) (at : ℕ) (e : ExpressionItems) (t u : Table) → equated t (source e) ≡ equated u (source e) → equ_meaning names circle t at e ≡ equ_meaning names circle u at e
 by_worth names circle at e t u is = ap (λ r. meaning_by (first (undefined names e ∷ circular circle at ∷ value_by r ∷ [])) r) is
 
--- the names of what some items make are among them
-pub read_names : (items : Expression) (x : List ℕ) → Contains (postfix (source items)) (Item.Leaf (Name x)) → Contains items (Item.Leaf (Name x))
+-- the names of the expression that some items make are among these items
+pub read_names : (items : ExpressionItems) (x : List ℕ) → Contains (postfix (source items)) (Item.Leaf (Name x)) → Contains items (Item.Leaf (Name x))
 read_names items x has =
     elim (run items []) as (λ r. run items [] ≡ r → Contains (postfix (only Here r)) (Item.Leaf (Name x)) → Contains items (Item.Leaf (Name x))) [
       | None ↦ λ _ here. absurd (no_name here)
@@ -64,7 +64,7 @@ read_names items x has =
     no_name (zero, lt, e) = cc
     no_name (suc k, lt, e) = omega (arith, lt)
 
--- lines whose names stand for the same are worth the same
+-- A line has the same value in two rounds if its names stand for the same.
 agreed : (n m : ℕ) (names : Names) (lines : List Taken) (circle : ℕ → Bool) (layout : Layout) (at : ℕ)
     → ((x : List ℕ) → Contains (items_at lines at) (Item.Leaf (Name x)) → lookup (bytes_eq x) (after_rounds n names lines circle layout) ≡ lookup (bytes_eq x) (after_rounds m names lines circle layout))
     → round_value n names lines circle layout at ≡ round_value m names lines circle layout at
@@ -78,7 +78,7 @@ by_fault (Some why) c r is = refl
 by_fault None true r is = refl
 by_fault None false r is = absurd (cc)
 
--- a line on a circle is worth nothing
+-- a line on a circle has no value
 circle_value : (n : ℕ) (names : Names) (lines : List Taken) (circle : ℕ → Bool) (layout : Layout) (at : ℕ) → circle at ≡ true → round_value n names lines circle layout at ≡ Meaning.Faulty
 circle_value n names lines circle layout at is =
     by_fault (undefined names (items_at lines at)) (circle at) (equated (table_at layout (after_rounds n names lines circle layout) at) (source (items_at lines at))) is
@@ -89,8 +89,8 @@ in_cons None rest b (inr more) = more
 in_cons (Some a) rest b (inl same) = (let e : a ≡ b = cc in (0, omega arith, e))
 in_cons (Some a) rest b (inr (k, lt, e)) = (suc k, omega (arith, lt), e)
 
--- the name of a line is used by another
-pub used_line : (names : Names) (items : Expression) (x : List ℕ) (b : ℕ) → Contains items (Item.Leaf (Name x)) → kind_of names x ≡ Some (Kind.Equ b) → Contains (filter_map (line_named names) items) b
+-- a line uses another one if it uses its name
+pub used_line : (names : Names) (items : ExpressionItems) (x : List ℕ) (b : ℕ) → Contains items (Item.Leaf (Name x)) → kind_of_name names x ≡ Some (Kind.Equ b) → Contains (filter_map (line_named names) items) b
 used_line names [] x b (k, lt, e) is = absurd (omega (arith, lt))
 used_line names (i ∷ items) x b (zero, lt, e) is = in_cons (line_named names i) (filter_map (line_named names) items) b (inl (ap (line_named names) e ∙ ap equ_line is))
 used_line names (i ∷ items) x b (suc k, lt, e) is =
@@ -104,11 +104,11 @@ by_kind n m names lines circle layout x (Some (Kind.Label at)) same = refl
 by_kind n m names lines circle layout x (Some Kind.External) same = refl
 by_kind n m names lines circle layout x (Some (Kind.Equ b)) same = ap Some (same b refl)
 
--- a turn's line
+-- the turn with index q
 abbrev pub turn_at : List Turn → ℕ → Turn
 turn_at turns q = slice_index_or turns q (record { definition = 0; on_circle = false })
 
-pub placed_turn : (turns : List Turn) (q b : ℕ) → Contains (definitions (take q turns)) b → (r : ℕ) × (r < q) × (r < length turns) × ((turn_at turns r).definition ≡ b)
+pub placed_turn : (turns : List Turn) (q b : ℕ) → Contains (turn_definitions (take q turns)) b → (r : ℕ) × (r < q) × (r < length turns) × ((turn_at turns r).definition ≡ b)
 placed_turn turns zero b (k, lt, e) = absurd (omega (arith, lt))
 placed_turn [] (suc q) b (k, lt, e) = absurd (omega (arith, lt))
 placed_turn (t ∷ turns) (suc q) b (zero, lt, e) = (0, omega arith, omega arith, e)
@@ -123,7 +123,7 @@ stable names lines circle layout turns order tells (suc bound) q below room zero
 stable names lines circle layout turns order tells (suc bound) q below room (suc n) le =
     let t : Turn = turn_at turns q in
     let at : ℕ = t.definition in
-    let earlier : (b : ℕ) → Contains (definitions (take q turns)) b → (m : ℕ) → q ≤ m → round_value m names lines circle layout b ≡ round_value q names lines circle layout b = λ b has m qm.
+    let earlier : (b : ℕ) → Contains (turn_definitions (take q turns)) b → (m : ℕ) → q ≤ m → round_value m names lines circle layout b ≡ round_value q names lines circle layout b = λ b has m qm.
     let r = placed_turn turns q b has in
     let last : (k : ℕ) → r.0 + 1 ≤ k → round_value k names lines circle layout (turn_at turns r.0).definition ≡ round_value (r.0 + 1) names lines circle layout (turn_at turns r.0).definition = λ k rk. stable names lines circle layout turns order tells bound r.0 (let a = r.1 in omega arith) r.2 k rk in
     subst (λ l. round_value m names lines circle layout l ≡ round_value q names lines circle layout l) r.3 (last m (let a = r.1 in omega arith) ∙ sym (last q (let a = r.1 in omega arith))) in
@@ -134,7 +134,7 @@ stable names lines circle layout turns order tells (suc bound) q below room (suc
           let same : (x : List ℕ) → Contains (items_at lines at) (Item.Leaf (Name x))
           → lookup (bytes_eq x) (after_rounds (suc n) names lines circle layout) ≡ lookup (bytes_eq x) (after_rounds (suc q) names lines circle layout) = λ x has.
           found_after n names lines circle layout x
-          ∙ by_kind n q names lines circle layout x (kind_of names x)
+          ∙ by_kind n q names lines circle layout x (kind_of_name names x)
           (λ b k. earlier b ((order q (record { definition = 0; on_circle = false }) room).behind is b (used_line names (items_at lines at) x b has k)) n (omega arith))
           ∙ sym (found_after q names lines circle layout x) in
           subst (λ k. round_value (suc n) names lines circle layout at ≡ round_value k names lines circle layout at) next

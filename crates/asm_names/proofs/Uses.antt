@@ -1,4 +1,4 @@
--- The lines that lines use, one list for each.
+-- For each line, the list of the lines that it uses.
 use Rattle.std.proofs.Common.{◌≡◌, ◌<◌, ◌∙◌, sym, ap, refl, ℕ, zero, suc, List, [], ◌∷◌, Option, Some, None, Vec, length, map, get_or, arith}
 use Rattle.std.specs.List.{filter_map, slice_get, cons_option}
 use Rattle.std.specs.Option.{unwrap_or}
@@ -8,7 +8,7 @@ use Rattle.std.proofs.lemmas.List.{length-map}
 use Rattle.asm_parse.specs.declared.item.Item.{Item}
 use Rattle.asm_parse.specs.Source.{Operand}
 use Rattle.asm_names.specs.declared.walk.Turn.{Turn}
-use Rattle.asm_names.specs.Orders.Order.{AreDefined, IsOrder, named_by}
+use Rattle.asm_names.specs.Orders.Order.{NameOnlyDefinitions, IsOrder, named_by}
 use Rattle.asm_names.specs.Lines.{Taken}
 use Rattle.asm_names.specs.Names.{Names}
 use Rattle.asm_names.specs.Circles.{equ_items, line_named, lines_named}
@@ -21,7 +21,7 @@ used names l = filter_map (line_named names) (equ_items l.line)
 abbrev pub uses_in : Names → List Taken → List (List ℕ)
 uses_in names lines = map (used names) lines
 
--- what the list of lists has for a line
+-- the entry of the list of lists for line k
 named_items : (uses : List (Vec ℕ Global)) (k : ℕ) → named_by uses k ≡ unwrap_or (slice_get (map (λ some. some.items) uses) k) []
 named_items [] k = refl
 named_items (u ∷ us) zero = refl
@@ -38,7 +38,7 @@ same_uses uses names lines is = fun_ext (λ k. named_items uses k ∙ ap (λ all
 same_length : (uses : List (Vec ℕ Global)) (names : Names) (lines : List Taken) → map (λ some. some.items) uses ≡ uses_in names lines → length uses ≡ length lines
 same_length uses names lines is = sym (length-map uses (λ some. some.items)) ∙ ap length is ∙ length-map lines (used names)
 
--- each is one of the lines
+-- each number in the list is that of a line
 with_one : (n d : ℕ) (o : Option ℕ) (rest : List ℕ) → ((at : ℕ) → o ≡ Some at → at < n) → ((k : ℕ) → k < length rest → get_or rest k d < n)
     → (k : ℕ) → k < length (cons_option o rest) → get_or (cons_option o rest) k d < n
 with_one n d None rest one all k lt = all k lt
@@ -60,7 +60,7 @@ items_at_map [] j d lt = absurd (omega (arith, lt))
 items_at_map (u ∷ us) zero d lt = refl
 items_at_map (u ∷ us) (suc j) d lt = items_at_map us j d (omega arith)
 
-pub are_defined : (uses : List (Vec ℕ Global)) (names : Names) (lines : List Taken) → map (λ some. some.items) uses ≡ uses_in names lines → AreBelow (length lines) names → AreDefined uses
+pub are_defined : (uses : List (Vec ℕ Global)) (names : Names) (lines : List Taken) → map (λ some. some.items) uses ≡ uses_in names lines → AreBelow (length lines) names → NameOnlyDefinitions uses
 are_defined uses names lines is below j d room k e lt =
     let at : (get_or uses j d).items ≡ get_or (uses_in names lines) j [] = items_at_map uses j d room ∙ ap (λ all. get_or all j []) is in
     let len = same_length uses names lines is in

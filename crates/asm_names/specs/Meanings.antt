@@ -1,4 +1,4 @@
--- What the names of a source stand for, whatever the order of its lines, and what EQU lines have against them.
+-- What the names of a source stand for, whatever the order of its lines, and which errors EQU lines have.
 use Rattle.std.specs.Prelude.{ℕ, zero, suc, ◌+◌, Bool, List, [], ◌∷◌, Option, Some, None, Result, Ok, Err, map, length, is_none}
 use Rattle.std.specs.Option.{option_map, unwrap_or}
 use Rattle.std.specs.List.{filter_map, list_any, position_from}
@@ -8,28 +8,28 @@ use Rattle.asm_expr.specs.declared.meaning.Meaning.{Meaning}
 use Rattle.asm_expr.specs.Equating.{equated}
 use Rattle.asm_expr.specs.Names.{Table}
 use Rattle.asm_expr.specs.Below.{source}
-use Rattle.asm_spell.specs.Line.{Expression, Line, Equ}
+use Rattle.asm_spell.specs.Line.{ExpressionItems, Line, Equ}
 use Rattle.asm_names.specs.declared.kind.Kind.{Kind}
 use Rattle.asm_names.specs.Faults.{first, if_so}
 use Rattle.asm_names.specs.Lines.{Taken, placed}
-use Rattle.asm_names.specs.Names.{Names, kind_of}
+use Rattle.asm_names.specs.Names.{Names, kind_of_name}
 use Rattle.asm_names.specs.declared.equ_fault.EquFault.{EquFault}
 use Rattle.asm_names.specs.Circles.{items_at, names_in}
 use Rattle.asm_names.specs.Layout.{Layout, next_at}
 
--- names with what they stand for
+-- names, and what each stands for
 abbrev pub Entries : Type 0
 Entries = List (List ℕ × Meaning)
 
--- what names and `$` stand for behind some number of lines
+-- what names and `$` stand for in line `at`
 abbrev pub table_at : Layout → Entries → ℕ → Table
 table_at layout entries at = record { entries = entries; here = next_at layout at; statements = layout.statements }
 
--- The faults of an EQU line by what names stand for, in order.
+-- The errors of an EQU line, given what names stand for, in the order in which they are reported.
 
--- a name is used that is nowhere defined
-abbrev pub undefined : Names → Expression → Option EquFault
-undefined names e = if_so EquFault.Undefined (list_any (λ name. is_none (kind_of names name)) (names_in e))
+-- the expression uses a name that is not defined anywhere
+abbrev pub undefined : Names → ExpressionItems → Option EquFault
+undefined names e = if_so EquFault.Undefined (list_any (λ name. is_none (kind_of_name names name)) (names_in e))
 
 -- the line leads back to itself
 abbrev pub circular : (ℕ → Bool) → ℕ → Option EquFault
@@ -39,12 +39,12 @@ abbrev pub value_by : {A : Type 0} → Result A ExprFault → Option EquFault
 value_by (Ok what) = None
 value_by (Err why) = Some (EquFault.Expr why)
 
--- the expression has a fault of its own
-abbrev pub valueless : Table → Expression → Option EquFault
+-- the expression has an error of its own
+abbrev pub valueless : Table → ExpressionItems → Option EquFault
 valueless t e = value_by (equated t (source e))
 
--- the first fault of the EQU behind so many lines
-abbrev pub equ_fault : Names → (ℕ → Bool) → Table → ℕ → Expression → Option EquFault
+-- the first error of the EQU in line `at`
+abbrev pub equ_fault : Names → (ℕ → Bool) → Table → ℕ → ExpressionItems → Option EquFault
 equ_fault names circle t at e = first (undefined names e ∷ circular circle at ∷ valueless t e ∷ [])
 
 -- What a name stands for.
@@ -53,44 +53,46 @@ abbrev pub meaning_by : Option EquFault → Result Meaning ExprFault → Meaning
 meaning_by None (Ok what) = what
 meaning_by _ _ = Meaning.Faulty
 
--- .. that EQU gives an expression: what that is worth, if the line is without fault
-abbrev pub equ_meaning : Names → (ℕ → Bool) → Table → ℕ → Expression → Meaning
+-- what a name stands for that EQU defines: the value of the expression, if the line has no error
+abbrev pub equ_meaning : Names → (ℕ → Bool) → Table → ℕ → ExpressionItems → Meaning
 equ_meaning names circle t at e = meaning_by (equ_fault names circle t at e) (equated t (source e))
 
 abbrev pub external_in : List ℕ × Kind → Option (List ℕ)
 external_in (name, Kind.External) = Some name
 external_in _ = None
 
--- the externals, in the order in which they are declared
+-- the externals, in the order in which they are first declared
 abbrev pub externals : Names → List (List ℕ)
 externals names = filter_map external_in names
 
--- Externals are numbered behind the statements and their end.
+-- the ref of an external: externals are numbered after the statements and their end
 abbrev pub external_ref : Names → Layout → List ℕ → ℕ
 external_ref names layout name = (length layout.statements + 1) + unwrap_or (position_from (bytes_eq name) 0 (externals names)) 0
 
--- .. by what is known of all names
+-- what a name stands for, given what is known about all names
 abbrev pub meaning : Names → List Taken → (ℕ → Bool) → Layout → Entries → List ℕ → Kind → Meaning
 meaning names lines circle layout known name (Kind.Label at) = Meaning.Label (next_at layout at)
 meaning names lines circle layout known name Kind.External = Meaning.External (external_ref names layout name)
 meaning names lines circle layout known name (Kind.Equ at) = equ_meaning names circle (table_at layout known at) at (items_at lines at)
 
--- What is known of names after some rounds. Before the first nothing is; a round asks of each name what it stands for by what is known.
+-- What is known about names after some rounds. Before the first round nothing is known. Each round finds what every name stands for
+-- from what was known before it.
 abbrev pub after_rounds : ℕ → Names → List Taken → (ℕ → Bool) → Layout → Entries
 after_rounds zero names lines circle layout = map (λ d. (d.0, Meaning.Faulty)) names
 after_rounds (suc n) names lines circle layout = map (λ d. (d.0, meaning names lines circle layout (after_rounds n names lines circle layout) d.0 d.1)) names
 
--- What names stand for: after one round more than there are lines, nothing new is known, since what is on a circle stays without a value.
-abbrev pub entries : Names → List Taken → (ℕ → Bool) → Layout → Entries
-entries names lines circle layout = after_rounds (suc (length lines)) names lines circle layout
+-- What names stand for: what is known after one round more than there are lines. Further rounds change nothing, since lines on a
+-- circle never get a value.
+abbrev pub name_meanings : Names → List Taken → (ℕ → Bool) → Layout → Entries
+name_meanings names lines circle layout = after_rounds (suc (length lines)) names lines circle layout
 
--- The faults of lines.
+-- The errors of lines.
 
-abbrev pub line_fault : Names → (ℕ → Bool) → Layout → Entries → ℕ → Line → Option EquFault
-line_fault names circle layout known at (Equ name e) = equ_fault names circle (table_at layout known at) at e
-line_fault names circle layout known at _ = None
+abbrev pub equ_line_fault : Names → (ℕ → Bool) → Layout → Entries → ℕ → Line → Option EquFault
+equ_line_fault names circle layout known at (Equ name e) = equ_fault names circle (table_at layout known at) at e
+equ_line_fault names circle layout known at _ = None
 
--- The first fault of the EQU lines, in their order, with the number of its line.
-abbrev pub first_fault : Names → List Taken → (ℕ → Bool) → Layout → Option (ℕ × EquFault)
-first_fault names lines circle layout =
-    first (map (λ l. option_map (λ why. (l.1.number, why)) (line_fault names circle layout (entries names lines circle layout) l.0 l.1.line)) (placed lines))
+-- The first error of the EQU lines, in their order, with the number of its line.
+abbrev pub first_equ_fault : Names → List Taken → (ℕ → Bool) → Layout → Option (ℕ × EquFault)
+first_equ_fault names lines circle layout =
+    first (map (λ l. option_map (λ why. (l.1.number, why)) (equ_line_fault names circle layout (name_meanings names lines circle layout) l.0 l.1.line)) (placed lines))

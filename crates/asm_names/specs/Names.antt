@@ -8,51 +8,51 @@ use Rattle.asm_spell.specs.Line.{Body, Line}
 use Rattle.asm_names.specs.declared.kind.Kind.{Kind}
 use Rattle.asm_names.specs.Lines.{Taken, placed}
 
--- names with what they are, in order
+-- names, and what each is, in order
 abbrev pub Names : Type 0
 Names = List (List ℕ × Kind)
 
--- what a name is
-abbrev pub kind_of : Names → List ℕ → Option Kind
-kind_of names name = lookup (bytes_eq name) names
+-- what a name is, if it is among these
+abbrev pub kind_of_name : Names → List ℕ → Option Kind
+kind_of_name names name = lookup (bytes_eq name) names
 
--- a label, behind some number of lines
-abbrev pub labelled : ℕ → Option (List ℕ) → Names
-labelled at None = []
-labelled at (Some name) = (name, Kind.Label at) ∷ []
+-- the label of line `at`, if it has one
+abbrev pub label_definition : ℕ → Option (List ℕ) → Names
+label_definition at None = []
+label_definition at (Some name) = (name, Kind.Label at) ∷ []
 
 -- the names of an EXTRN
 abbrev pub declared : Option Body → Names
 declared (Some (line.External names)) = map (λ name. (name, Kind.External)) names
 declared _ = []
 
--- the names that a line defines, from left to right, behind some number of lines
+-- the names that line `at` defines, from left to right
 abbrev pub defines : ℕ → Line → Names
 defines at (line.Equ name e) = (name, Kind.Equ at) ∷ []
-defines at (line.Statement label body) = labelled at label ++ declared body
+defines at (line.Statement label body) = label_definition at label ++ declared body
 
--- all that lines define, in order
+-- all definitions of the lines, in order
 abbrev pub definitions : List Taken → Names
 definitions lines = flat_map (λ l. defines l.0 l.1.line) (placed lines)
 
--- names with one more; one that is there stays as it is
+-- the names with one more added; a name that is there already stays as it is
 abbrev pub with_name : Names → List ℕ × Kind → Names
-with_name names d = if is_some (kind_of names d.0) then names else names ++ d ∷ []
+with_name names d = if is_some (kind_of_name names d.0) then names else names ++ d ∷ []
 
 abbrev pub with_names : Names → Names → Names
 with_names names more = fold with_name names more
 
--- The names of lines, in the order in which they are first defined.
+-- The names of the lines, in the order in which they are first defined.
 abbrev pub names : List Taken → Names
 names lines = with_names [] (definitions lines)
 
--- An external may be declared again. Any other name is defined once.
+-- Whether a definition clashes with an earlier one: an external may be declared again, and any other name is defined once.
 abbrev pub clashes : Kind → Option Kind → Bool
 clashes kind None = false
 clashes Kind.External (Some Kind.External) = false
 clashes kind (Some other) = true
 
--- whether one of some definitions clashes with a name before it
-abbrev pub repeats : Names → Names → Bool
-repeats names [] = false
-repeats names (d ∷ ds) = clashes d.1 (kind_of names d.0) || repeats (with_name names d) ds
+-- whether one of these definitions clashes with a name before it
+abbrev pub has_clash : Names → Names → Bool
+has_clash names [] = false
+has_clash names (d ∷ ds) = clashes d.1 (kind_of_name names d.0) || has_clash (with_name names d) ds

@@ -1,4 +1,4 @@
--- What is answered of names: what each stands for, and the first fault of the EQU lines.
+-- What `settle_names` answers: what each name stands for, and the first error of the EQU lines.
 use Rattle.std.specs.Prelude.{◌≡◌, ℕ, Bool, ◌==◌, ◌&&◌, List}
 use Rattle.std.specs.List.{list_any}
 use Rattle.std.specs.Map.{lookup}
@@ -9,15 +9,15 @@ use Rattle.asm_names.specs.Lines.{Taken}
 use Rattle.asm_names.specs.Names.{Names}
 use Rattle.asm_names.specs.declared.settling.SettledNames.{SettledNames}
 use Rattle.asm_names.specs.Layout.{Layout}
-use Rattle.asm_names.specs.Meanings.{entries, first_fault}
+use Rattle.asm_names.specs.Meanings.{name_meanings, first_equ_fault}
 
--- the lines that turns tell to be on a circle
-abbrev pub told : List Turn → ℕ → Bool
-told turns at = list_any (λ t. (t.definition == at) && t.on_circle) turns
+-- whether the turns mark a line as on a circle
+abbrev pub is_marked_circular : List Turn → ℕ → Bool
+is_marked_circular turns at = list_any (λ t. (t.definition == at) && t.on_circle) turns
 
--- Each name stands for what it means; the statements are those of the layout; and the fault is the first of the EQU lines, with the
--- number of its line.
+-- The answer of `settle_names` is right. Each name stands for what the definitions say, the statements are those of the layout, and
+-- the error is the first of the EQU lines, with the number of its line.
 pub record Settles (names : Names) (lines : List Taken) (circle : ℕ → Bool) (layout : Layout) (s : SettledNames) : Type 0 where
-  pub found : (name : List ℕ) → found s.names name ≡ lookup (bytes_eq name) (entries names lines circle layout)
+  pub found : (name : List ℕ) → found s.names name ≡ lookup (bytes_eq name) (name_meanings names lines circle layout)
   pub statements : s.names.statements ≡ layout.statements
-  pub fault : s.fault ≡ first_fault names lines circle layout
+  pub fault : s.fault ≡ first_equ_fault names lines circle layout

@@ -1,4 +1,4 @@
-//! The EQU lines of a source, in an order in which they can be settled.
+//! Orders the lines of a source so that each EQU line comes after those whose names it uses.
 
 ghost use Rattle.std.specs.Prelude.{◌≡◌, ◌<◌, ◌^◌, IfOk, length, map, All};
 ghost use Rattle.std.specs.List.{filter_map};
@@ -18,7 +18,7 @@ use asm_expr::{Item, Term, TermView, Tree};
 use asm_spell::Line;
 use std::alloc::{AllocError, Global};
 
-/// The EQU line whose name an item of an expression is, if it is one.
+/// The EQU line that defines the name in an item of an expression; None if the item is no name, or if no EQU defines it.
 fn line_named(names: &NameTable, item: &Item<Term>) -> Option<usize>
     ensures { result ≡ line_named names.now (source_item item.now) }
 {
@@ -31,7 +31,7 @@ fn line_named(names: &NameTable, item: &Item<Term>) -> Option<usize>
     }
 }
 
-/// The EQU lines whose names stand in an expression.
+/// The EQU lines that define the names in an expression, from left to right.
 fn lines_in(alloc: Global, names: &NameTable, value: &Tree) -> Result<Vec<u32>, AllocError>
     requires { AreBelow (2 ^ 32) names.now }
     ensures { IfOk result (λ uses. uses.items ≡ filter_map (line_named names.now) value.now) }
@@ -45,7 +45,7 @@ fn lines_in(alloc: Global, names: &NameTable, value: &Tree) -> Result<Vec<u32>, 
     Ok(uses)
 }
 
-/// The EQU lines whose names a line's expression has.
+/// The EQU lines that define the names in a line's expression. A line that is no EQU uses none.
 fn uses_of(alloc: Global, names: &NameTable, line: &Line) -> Result<Vec<u32>, AllocError>
     requires { AreBelow (2 ^ 32) names.now }
     ensures { IfOk result (λ uses. uses.items ≡ filter_map (line_named names.now) (equ_items (line_of line.now))) }
@@ -56,8 +56,8 @@ fn uses_of(alloc: Global, names: &NameTable, line: &Line) -> Result<Vec<u32>, Al
     }
 }
 
-/// The lines of a source, each on no circle behind the EQU lines whose names it uses, and those on a circle marked. A line without
-/// an EQU uses none.
+/// Orders all lines of a source. Each line that does not lead back to itself comes after the EQU lines whose names it uses, and the
+/// lines that do lead back to themselves are marked. A line that is no EQU uses no other.
 pub fn turns_of(
     alloc: Global,
     lines: &[SourceLine],

@@ -1,4 +1,4 @@
-//! What an EQU line may have against it.
+//! The errors of an EQU line.
 
 use asm_expr::ExprFault;
 use thiserror::Error;
@@ -6,10 +6,10 @@ use thiserror::Error;
 /// Why a name that EQU defines has no value.
 #[derive(Clone, Copy, Debug, PartialEq, Eq, Error)]
 pub enum EquFault {
-    /// A name in its expression is nowhere defined.
+    /// A name in its expression is not defined anywhere.
     #[error("a name is not defined")]
     Undefined,
-    /// It is defined by way of itself.
+    /// Its expression uses the name itself, directly or through other EQU lines.
     #[error("a name is defined by itself")]
     EquCircle,
     #[error("{0}")]

@@ -1,17 +1,17 @@
-//! Why a line may not define what it defines.
+//! The errors of a line that defines a name.
 
 use std::alloc::{AllocError, AllocFailed};
 use thiserror::Error;
 
-/// Why a line is faulty, by the lines before it.
+/// Why a line has an error, given the lines before it.
 #[derive(Clone, Copy, Debug, PartialEq, Eq, Error)]
 pub enum NameFault {
     #[error("a name is defined twice")]
     Duplicate,
-    /// 20,000 statements stand before it; each `DS` counts.
+    /// The line has a statement, and 20,000 statements come before it. Each `DS` counts, whatever its number is.
     #[error("too many statements")]
     TooManyStatements,
-    /// With it there are more than 40,000 labels, externals and names that EQU defines.
+    /// With this line there are more than 40,000 labels, externals and names that EQU defines.
     #[error("too many names")]
     TooManyNames,
     #[error("out of memory")]

@@ -1,4 +1,4 @@
-//! One EQU line.
+//! Judging one EQU line: what its name stands for, or its error.
 
 ghost use Rattle.std.specs.Prelude.{◌≡◌, true, false, IfOk, Some};
 ghost use Rattle.std.specs.List.{AllPass, list_all};
@@ -13,7 +13,7 @@ use crate::table::NameTable;
 use asm_expr::{ExprFault, Item, Meaning, Names, Term, TermView, Tree, equate};
 use std::alloc::{AllocError, Global};
 
-/// Whether an item is no name that is nowhere defined.
+/// Whether an item of an expression is a defined name, or no name at all.
 fn is_named(names: &NameTable, item: &Item<Term>) -> bool
     ensures { result ≡ is_named names.now (source_item item.now) }
 {
@@ -29,21 +29,21 @@ fn all_named(names: &NameTable, items: &[Item<Term>]) -> bool
     items.iter().all(|item| is_named(names, item))
 }
 
-/// Whether each name of an expression is defined.
+/// Whether each name in an expression is defined.
 fn are_named(names: &NameTable, value: &Tree) -> bool
     ensures { result ≡ list_all (is_named names.now) value.now }
 {
     all_named(names, value.items())
 }
 
-/// What an EQU gives its name, and the first fault of its line.
+/// What an EQU defines its name to stand for, and the first error of its line.
 #[derive(Debug, Drop)]
 pub(crate) struct Judged {
     pub(crate) meaning: Meaning,
     pub(crate) fault: Option<EquFault>,
 }
 
-/// A line with a fault gives its name nothing that is known.
+/// The judgement of a line with this error: its name may stand for anything.
 fn refused(why: EquFault) -> Judged
     ensures meaning { result.meaning ≡ Meaning.Faulty }
     ensures fault { result.fault ≡ Some why }
@@ -54,7 +54,7 @@ fn refused(why: EquFault) -> Judged
     }
 }
 
-/// Judges an EQU by what the names stand for.
+/// Judges an EQU line, given what the names in its expression stand for.
 pub(crate) fn judge(
     alloc: Global,
     value: &Tree,

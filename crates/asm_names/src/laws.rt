@@ -1,4 +1,4 @@
-//! Laws, as functions that do nothing: their calls bring the clauses.
+//! Laws, as functions that do nothing. A caller calls one to use its clauses.
 
 mod meanings;
 mod names;

@@ -1,12 +1,12 @@
-//! Where the statements of a source stand.
+//! Where the statements of a source are, among its lines.
 
 ghost use Rattle.std.specs.Prelude.{◌≡◌};
 ghost use Rattle.asm_names.specs.Layout.{layout_of, next_at};
 
 use asm_expr::Statement;
 
-/// The statements of a source in order, as far as their sizes are known, and for each line the number of the next statement
-/// behind the lines before it.
+/// The statements of a source in order, as far as their sizes are known. For each line, `next` has the number of the first
+/// statement in it or after it.
 #[derive(Debug, Drop)]
 pub struct Layout {
     pub next: Vec<u16>,
@@ -14,7 +14,7 @@ pub struct Layout {
 }
 
 impl Layout {
-    /// The number of the next statement behind so many lines; 0 past the end.
+    /// The number of the first statement in line `at` or after it. 0 if there is no such line.
     pub fn next_at(&self, at: usize) -> u16
         ensures { result ≡ next_at (layout_of self.now) at }
     {

@@ -1,9 +1,9 @@
 //! The names of a source: what each is (a label, an external, or a name that EQU defines), and what it stands for, whatever the
 //! order of the lines.
 //!
-//! [`names_of`] answers what each name is, or the first line that defines a name again or is one too many. [`turns_of`] answers
-//! the EQU lines in an order in which they can be settled, and [`settle_names`] what all names stand for by it. [`order`] takes
-//! for each definition, by its number, those that it names.
+//! [`names_of`] answers what each name is, or the first line that defines a name again or is one too many. [`turns_of`] orders the
+//! lines so that each EQU line comes after those whose names it uses. [`settle_names`] takes that order and answers what each name
+//! stands for. [`order`] orders any definitions, given for each the numbers of those that it names.
 #![tactic(auto)]
 
 mod circles;

@@ -1,4 +1,4 @@
-//! The names of all lines.
+//! Finds the names of all lines of a source.
 
 ghost use Rattle.std.specs.Prelude.{◌≡◌, List};
 ghost use Rattle.asm_spell.specs.Line.{body_of, line_of};
@@ -13,7 +13,7 @@ use asm_spell::{Body, Line};
 use common::{KeyMixer, MOST_NAMES, MOST_STATEMENTS, NameKey};
 use std::alloc::Global;
 
-/// Whether a word takes a place in the program, as far as its own line tells: `DS 0` too.
+/// Whether a word makes a statement, as far as its own line tells. `DS 0` is one too.
 fn is_statement(body: &Body) -> bool
     ensures { result ≡ is_statement (body_of body.now) }
 {
@@ -23,7 +23,7 @@ fn is_statement(body: &Body) -> bool
     )
 }
 
-/// Whether a line has such a word.
+/// Whether a line has a statement.
 fn has_statement(line: &Line) -> bool
     ensures { result ≡ has_statement (line_of line.now) }
 {
@@ -36,7 +36,7 @@ fn has_statement(line: &Line) -> bool
     }
 }
 
-/// The names of the lines so far, and how many statements these have.
+/// The names that the lines so far define, and how many statements these lines have.
 #[derive(Drop)]
 pub(crate) struct Naming {
     table: NameTable,
@@ -44,7 +44,7 @@ pub(crate) struct Naming {
 }
 
 impl Naming {
-    /// Counts the statement of a line, if it has one.
+    /// Counts the statement of a line, if it has one. Refuses it if there are already as many as a module may have.
     fn count(&mut self, line: &Line) -> Result<(), NameFault>
         ensures { Counts self.old (line_of line.now) result self.new }
     {
@@ -57,7 +57,7 @@ impl Naming {
         Ok(())
     }
 
-    /// Takes the line behind so many lines.
+    /// Adds the names of line `at` and counts its statement, or answers its first error.
     fn take(&mut self, at: usize, line: &SourceLine) -> Result<(), NameFault>
         ensures { (before : List Taken) → IsBehind before at self.old → Goes before (taken_of line.now) result self.new }
     {
@@ -70,7 +70,7 @@ impl Naming {
     }
 }
 
-/// Mixes in the names that a line defines.
+/// Mixes the names that a line defines into a key.
 fn mix(mixer: &mut KeyMixer, line: &Line) {
     match line {
         Line::Equ { name, .. } => mixer.mix(name),
@@ -87,7 +87,7 @@ fn mix(mixer: &mut KeyMixer, line: &Line) {
     }
 }
 
-/// The key of the names that lines define.
+/// The key for a table of the names that these lines define.
 fn key_of(lines: &[SourceLine]) -> NameKey {
     let mut mixer = KeyMixer::new();
     for line in lines {
@@ -96,11 +96,11 @@ fn key_of(lines: &[SourceLine]) -> NameKey {
     mixer.key()
 }
 
-/// The names of a source's lines.
+/// Finds the names that the lines of a source define, and what each is.
 ///
 /// # Errors
 ///
-/// The number of the first line that is faulty by the lines before it, and its first fault.
+/// The number of the first line that has an error given the lines before it, and the first error of that line.
 pub fn names_of(alloc: Global, lines: &[SourceLine]) -> Result<NameTable, (u32, NameFault)>
     ensures { IsNamed (lines_of lines.now) result }
 {

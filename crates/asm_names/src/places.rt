@@ -1,4 +1,4 @@
-//! Labels and externals, which stand for places whatever EQU lines say.
+//! Settles labels and externals first: what they stand for does not depend on EQU lines.
 
 ghost use Rattle.std.specs.Prelude.{◌≡◌, ◌<◌, ◌+◌, IfOk, None, OnOk, length, map};
 ghost use Rattle.std.specs.List.{IsDistinct};
@@ -14,7 +14,7 @@ use asm_expr::{Meaning, Names, Statement};
 use common::NameKey;
 use std::alloc::{AllocError, Global};
 
-/// Passes a statement.
+/// Appends a statement to those of the table.
 fn pass(names: &mut Names, statement: Statement) -> Result<(), AllocError>
     ensures { OnOk result (names.new ≡ with_statement statement names.old) }
 {
@@ -25,7 +25,7 @@ fn pass(names: &mut Names, statement: Statement) -> Result<(), AllocError>
     }
 }
 
-/// No names, which are to be looked up by a key, with room for so many, and the statements.
+/// An empty table of names that will be looked up by this key, with room for `count` names, and with all statements.
 fn passed(
     alloc: Global,
     key: NameKey,
@@ -41,7 +41,7 @@ fn passed(
     Ok(names)
 }
 
-/// The labels and externals so far, and the ref of the next external.
+/// The labels and externals so far, and the ref of the next external. A ref is a number that stands for an address.
 #[derive(Debug, Drop)]
 struct Places {
     names: Names,
@@ -49,7 +49,7 @@ struct Places {
 }
 
 impl Places {
-    /// Defines a name, unless EQU gives it.
+    /// Defines a label or an external. Does nothing for a name that EQU defines.
     fn define(
         &mut self,
         alloc: Global,
@@ -78,7 +78,8 @@ impl Places {
     }
 }
 
-/// The labels and externals with their places, and the statements. Externals are numbered behind the end of the statements.
+/// What each label and external stands for, and the statements. The refs of externals come after those of the statements and of
+/// their end.
 pub(crate) fn places_of(
     alloc: Global,
     table: &NameTable,

@@ -1,15 +1,15 @@
-//! All names of a source.
+//! Settles all names of a source: finds what each stands for.
 
 ghost use Rattle.std.specs.Prelude.{◌≡◌, ◌≤◌, IfOk, OnOk, None, length, replicate};
 ghost use Rattle.common.specs.declared.limits.TheConstants.{MOST_STATEMENTS};
 ghost use Rattle.asm_spell.specs.Line.{line_of};
 ghost use Rattle.asm_names.specs.Orders.Order.{IsOrder};
-ghost use Rattle.asm_names.specs.Faults.{first, first_fault};
+ghost use Rattle.asm_names.specs.Faults.{first, first_name_fault};
 ghost use Rattle.asm_names.specs.Lines.{lines_of};
 ghost use Rattle.asm_names.specs.Names as defined;
 ghost use Rattle.asm_names.specs.Circles.{lines_named};
 ghost use Rattle.asm_names.specs.Layout.{layout_of};
-ghost use Rattle.asm_names.specs.Settles.{Settles, told};
+ghost use Rattle.asm_names.specs.Settles.{Settles, is_marked_circular};
 ghost use Rattle.asm_names.specs.Private.Turned.{CanTake, Takes, numbered};
 
 use crate::equ_fault::EquFault;
@@ -28,11 +28,11 @@ use std::alloc::{AllocError, Global};
 #[derive(Debug, Drop)]
 pub struct SettledNames {
     pub names: Names,
-    /// The first EQU line that is faulty, by the number that it bears, and its first fault.
+    /// The number of the first EQU line that has an error, and its first error.
     pub fault: Option<(u32, EquFault)>,
 }
 
-/// The names that are settled so far, and of each line its fault.
+/// The names that are settled so far, and the error of each line, if it has one.
 #[derive(Debug, Drop)]
 pub(crate) struct Settling {
     names: Names,
@@ -40,7 +40,7 @@ pub(crate) struct Settling {
 }
 
 impl Settling {
-    /// Settles the name that a line gives, if it is an EQU.
+    /// Settles the name that a line defines, if the line is an EQU.
     fn take(
         &mut self,
         alloc: Global,
@@ -64,7 +64,7 @@ impl Settling {
     }
 }
 
-/// So many lines without a fault.
+/// The errors of `count` lines when no line has one yet.
 fn no_faults(alloc: Global, count: usize) -> Result<Vec<Option<EquFault>>, AllocError>
     ensures { IfOk result (λ faults. faults.items ≡ replicate count None) }
 {
@@ -75,7 +75,7 @@ fn no_faults(alloc: Global, count: usize) -> Result<Vec<Option<EquFault>>, Alloc
     Ok(faults)
 }
 
-/// The first fault, with the number of its line.
+/// The first error, with the number of its line.
 fn first_of(lines: &[SourceLine], faults: &[Option<EquFault>]) -> Option<(u32, EquFault)>
     requires { length faults.now ≡ length lines.now }
     ensures { result ≡ first (numbered (lines_of lines.now) faults.now) }
@@ -88,10 +88,11 @@ fn first_of(lines: &[SourceLine], faults: &[Option<EquFault>]) -> Option<(u32, E
     None
 }
 
-/// What the names of a source stand for, whatever the order of its lines, and the first fault of its EQU lines: a name that is nowhere
-/// defined, an EQU that leads back to itself, or a fault of its expression. A name whose own line has a fault may stand for anything.
+/// Finds what each name of a source stands for, whatever the order of its lines, and the first error of its EQU lines. An EQU line
+/// has an error if a name in its expression is not defined anywhere, if it leads back to itself, or if its expression has an error.
+/// A name whose own line has an error may stand for anything.
 ///
-/// `turns` is what [`turns_of`](crate::turns_of) answers of these lines.
+/// `turns` is what [`turns_of`](crate::turns_of) answers for these lines.
 pub fn settle_names(
     alloc: Global,
     lines: &[SourceLine],
@@ -99,11 +100,11 @@ pub fn settle_names(
     turns: &[Turn],
     layout: &Layout,
 ) -> Result<SettledNames, AllocError>
-    requires sound { first_fault (lines_of lines.now) ≡ None }
+    requires sound { first_name_fault (lines_of lines.now) ≡ None }
     requires names { table.now ≡ defined.names (lines_of lines.now) }
     requires turns { IsOrder (length lines.now) (lines_named table.now (lines_of lines.now)) turns.now }
     requires few { length layout.now.statements.items ≤ MOST_STATEMENTS }
-    ensures { IfOk result (Settles table.now (lines_of lines.now) (told turns.now) (layout_of layout.now)) }
+    ensures { IfOk result (Settles table.now (lines_of lines.now) (is_marked_circular turns.now) (layout_of layout.now)) }
 {
     laws::few();
     laws::distinct();

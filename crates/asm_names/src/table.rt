@@ -1,10 +1,10 @@
-//! The names of a source, looked up.
+//! A table of the names of a source.
 
 ghost use Rattle.std.specs.Prelude.{◌≡◌, List, [], ◌∷◌, ◌++◌, ℕ, Option, None, OnOk, length, map, option_copied, slice_get, Vec};
 ghost use Rattle.std.specs.Option.{option_map};
-ghost use Rattle.asm_spell.specs.Line.{body_of, line_of, listed_of};
+ghost use Rattle.asm_spell.specs.Line.{body_of, line_of, listed_names};
 ghost use Rattle.asm_names.specs.declared.kind.Kind.{Kind};
-ghost use Rattle.asm_names.specs.Names.{Names, declared, defines, kind_of, labelled};
+ghost use Rattle.asm_names.specs.Names.{Names, declared, defines, kind_of_name, label_definition};
 ghost use Rattle.asm_names.specs.Private.Steps.{TakesUp, externals};
 
 use crate::fault::NameFault;
@@ -15,7 +15,7 @@ use indexmap::IndexMap;
 use std::alloc::{AllocError, Global};
 use std::marker::Model;
 
-/// The names of a source with what they are, in the order in which they are first defined.
+/// The names of a source, in upper case, and what each is, in the order in which they are first defined.
 #[derive(Debug, Drop)]
 pub struct NameTable {
     alloc: Global,
@@ -32,7 +32,7 @@ impl Model for NameTable {
 }
 
 impl NameTable {
-    /// No names, which are to be looked up by a key.
+    /// An empty table whose names will be looked up by this key.
     pub(crate) fn new(alloc: Global, key: NameKey) -> NameTable
         ensures { result ≡ [] }
     {
@@ -42,7 +42,7 @@ impl NameTable {
         }
     }
 
-    /// The key of the names, by which they may be looked up in other tables too.
+    /// The key of this table. Other tables of the same names may use it too.
     pub fn key(&self) -> NameKey {
         *self.kinds.hasher()
     }
@@ -54,14 +54,14 @@ impl NameTable {
         self.kinds.len()
     }
 
-    /// What a name in upper case is, if it is defined.
+    /// What a name is, or None if it is not defined. The name is in upper case.
     pub fn kind(&self, name: &[u8]) -> Option<Kind>
-        ensures { result ≡ kind_of self.now name.now }
+        ensures { result ≡ kind_of_name self.now name.now }
     {
         self.kinds.get(name).copied()
     }
 
-    /// The name that is first defined behind so many others, in upper case, and what it is.
+    /// The name with this index in the order of first definitions, in upper case, and what it is; None if there are fewer names.
     pub fn get(&self, index: usize) -> Option<(&[u8], Kind)>
         ensures { option_map (λ d. (d.0.now, d.1)) result ≡ slice_get self.now index }
     {
@@ -69,16 +69,17 @@ impl NameTable {
         Some((name, *kind))
     }
 
-    /// Adds a name that is not there.
+    /// Adds a name that is not in the table yet.
     fn insert(&mut self, name: &[u8], kind: Kind) -> Result<(), AllocError>
-        requires { kind_of self.old name.now ≡ None }
+        requires { kind_of_name self.old name.now ≡ None }
         ensures { OnOk result (self.new ≡ self.old ++ (name.now, kind) ∷ []) }
     {
         self.kinds.insert(name.to_vec(self.alloc)?, kind)?;
         Ok(())
     }
 
-    /// Adds a name with what it is, but for an external that is there.
+    /// Adds a name, and what it is. An external that is in the table already may be declared again; any other name that is there is
+    /// an error.
     fn add(&mut self, name: &[u8], kind: Kind) -> Result<(), NameFault>
         ensures { TakesUp self.old ((name.now, kind) ∷ []) result self.new }
     {
@@ -94,7 +95,7 @@ impl NameTable {
 
     /// Adds the names of an EXTRN.
     fn declare(&mut self, names: &[KeptName]) -> Result<(), NameFault>
-        ensures { TakesUp self.old (externals (listed_of names.now)) result self.new }
+        ensures { TakesUp self.old (externals (listed_names names.now)) result self.new }
     {
         for name in names {
             self.add(name, Kind::External)?;
@@ -102,9 +103,9 @@ impl NameTable {
         Ok(())
     }
 
-    /// Adds the label of a line, behind so many lines.
+    /// Adds the label of line `at`, if it has one.
     fn label(&mut self, at: usize, label: Option<&Vec<u8>>) -> Result<(), NameFault>
-        ensures { TakesUp self.old (labelled at (option_map (λ name. name.items) (option_copied label.entry))) result self.new }
+        ensures { TakesUp self.old (label_definition at (option_map (λ name. name.items) (option_copied label.entry))) result self.new }
     {
         match label {
             Some(name) => self.add(name, Kind::Label(at)),
@@ -112,7 +113,7 @@ impl NameTable {
         }
     }
 
-    /// Adds the names that a line defines, behind so many lines.
+    /// Adds the names that line `at` defines.
     pub(crate) fn define(&mut self, at: usize, line: &Line) -> Result<(), NameFault>
         ensures { TakesUp self.old (defines at (line_of line.now)) result self.new }
     {

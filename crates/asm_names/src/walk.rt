@@ -3,44 +3,44 @@
 ghost use Rattle.std.specs.Prelude.{◌≡◌, ◌<◌, ◌≤◌, ◌+◌, ◌*◌, ◌-◌, ◌≢◌, ◌↔◌, true, MatchOption, [], ℕ, OnOk, IfOk, All, length, reverse, slice_index, List};
 ghost use Rattle.std.specs.List.{Contains, push};
 ghost use Rattle.asm_names.specs.declared.walk.Seen.{Seen};
-ghost use Rattle.asm_names.specs.Orders.Order.{AreDefined, named_by};
+ghost use Rattle.asm_names.specs.Orders.Order.{NameOnlyDefinitions, named_by};
 ghost use Rattle.asm_names.specs.Private.Standing.{AreOnCircle, Closing, IsDraining, Keeps, Turned, IsFinished, IsTop, Reaches, lowered, work, Standing, Visited, left, seen_at, IsFollowed, low_of};
 
 use std::alloc::{AllocError, Global};
 
-/// A definition's turn to be settled.
+/// One entry of the order in which definitions are settled.
 #[derive(Clone, Copy, Debug, PartialEq, Eq)]
 pub struct Turn {
     pub definition: u32,
-    /// Whether it leads back to itself.
+    /// Whether the definition leads back to itself, directly or through others.
     pub on_circle: bool,
 }
 
-/// How far the walk is with a definition.
+/// How far the walk has come with a definition.
 #[derive(Clone, Copy, Debug, PartialEq, Eq)]
 pub(crate) enum Seen {
     Not,
-    /// It stands on the path, at this place.
+    /// It is on the path, at this index.
     Open(usize),
-    /// It has its turn.
+    /// It is in the order already.
     Done,
 }
 
-/// A definition on the path whose names are still followed.
+/// A definition on the path whose names are still being followed.
 #[derive(Clone, Copy, Debug)]
 pub(crate) struct Frame {
-    /// Its place on the path.
+    /// Its index on the path.
     start: usize,
-    /// The lowest place to which it leads, and what stands behind it up to the next frame.
+    /// The lowest index on the path to which it leads, or to which a definition after it and before the next frame leads.
     low: usize,
 }
 
-/// Tarjan's walk: a definition stays on the path until all that it leads to is followed; where that leads to nothing before it on
-/// the path, it and all behind it lead to one another, and have their turns.
+/// Tarjan's walk for strongly connected components. A definition stays on the path until all that it leads to has been followed. If
+/// none of that is before it on the path, then it and all after it lead to one another, and go into the order together.
 #[derive(Drop)]
 pub(crate) struct Walk {
     seen: Vec<Seen>,
-    /// How many names of each definition are followed.
+    /// For each definition, how many of the names that it uses have been followed.
     followed: Vec<usize>,
     path: Vec<u32>,
     frames: Vec<Frame>,
@@ -57,7 +57,7 @@ pub(crate) fn named_by(uses: &[Vec<u32>], definition: u32) -> &[u32]
     }
 }
 
-/// Whether a definition names itself.
+/// Whether a definition names itself directly.
 fn names_itself(uses: &[Vec<u32>], definition: u32) -> bool
     ensures { (result ≡ true) ↔ Contains (named_by uses.now definition) definition }
 {
@@ -65,7 +65,7 @@ fn names_itself(uses: &[Vec<u32>], definition: u32) -> bool
 }
 
 impl Walk {
-    /// Nothing is seen yet.
+    /// A walk that has seen no definition yet.
     pub(crate) fn new(alloc: Global, uses: &[Vec<u32>]) -> Result<Walk, AllocError>
         ensures standing { IfOk result (Standing uses.now) }
         ensures empty { IfOk result (λ w. w.path.items ≡ []) }
@@ -79,7 +79,7 @@ impl Walk {
         })
     }
 
-    /// Whether a definition was not seen yet.
+    /// Whether the walk has not seen a definition yet.
     fn is_new(&self, definition: u32) -> bool
         requires { definition < length self.now.seen.items }
         ensures { (result ≡ true) ↔ (seen_at self.now.seen.items definition ≡ Seen.Not) }
@@ -87,7 +87,7 @@ impl Walk {
         self.seen[definition as usize] == Seen::Not
     }
 
-    /// Puts a definition on the path.
+    /// Puts a new definition on the path, with a frame of its own.
     fn open(&mut self, uses: &[Vec<u32>], definition: u32) -> Result<(), AllocError>
         requires standing { Standing uses.now self.old }
         requires few { definition < length uses.now }
@@ -110,7 +110,7 @@ impl Walk {
         Ok(())
     }
 
-    /// Notes that the last frame leads to a place.
+    /// Notes that the last frame leads to index `place` of the path.
     fn lower(&mut self, place: usize)
         ensures frames { reverse self.new.frames.items ≡ lowered place (reverse self.old.frames.items) }
         ensures kept { self.new ≡ record self.old { frames = self.new.frames } }
@@ -120,7 +120,7 @@ impl Walk {
         }
     }
 
-    /// Goes on to what the definition at a place names, where the last frame begins.
+    /// Follows one name, from the definition of the last frame, at index `start` of the path, to the definition `to`.
     fn visit(&mut self, uses: &[Vec<u32>], start: usize, to: u32) -> Result<(), AllocError>
         requires standing { Standing uses.now self.old }
         requires few { to < length uses.now }
@@ -141,7 +141,7 @@ impl Walk {
         }
     }
 
-    /// Gives the last definition on the path its turn.
+    /// Moves the last definition of the path to the end of the order.
     fn turn(&mut self, on_circle: bool) -> Result<(), AllocError>
         requires some { 0 < length self.old.path.items }
         requires within { All (λ k. k < length self.old.seen.items) self.old.path.items }
@@ -157,7 +157,8 @@ impl Walk {
         Ok(())
     }
 
-    /// Gives a turn to the one definition on the path from a place on, which leads to nothing else on it.
+    /// Moves the definition at index `start`, the last of the path, to the order. It leads to no other on the path, so it is on a
+    /// circle only if it names itself.
     fn close_one(&mut self, uses: &[Vec<u32>], start: usize) -> Result<(), AllocError>
         requires closing { Closing uses.now start self.old }
         requires one { length self.old.path.items ≡ start + 1 }
@@ -171,7 +172,7 @@ impl Walk {
         Ok(())
     }
 
-    /// Gives turns to all on the path from a place on, which lead to one another.
+    /// Moves all definitions of the path from index `start` on to the order. They lead to one another, so each is on a circle.
     fn close_circle(&mut self, uses: &[Vec<u32>], start: usize) -> Result<(), AllocError>
         requires draining { IsDraining uses.now start self.old }
         requires circle { AreOnCircle uses.now start self.old.path.items }
@@ -186,7 +187,8 @@ impl Walk {
         Ok(())
     }
 
-    /// Gives turns to all on the path from a place on, where the last frame began.
+    /// Moves all definitions of the path from index `start` on to the order. The last frame began there, and leads to nothing
+    /// before it.
     fn close(&mut self, uses: &[Vec<u32>], start: usize) -> Result<(), AllocError>
         requires { Closing uses.now start self.old }
         ensures standing { OnOk result (Standing uses.now self.new) }
@@ -201,7 +203,8 @@ impl Walk {
         }
     }
 
-    /// Takes away the last frame, whose names are all followed.
+    /// Removes the last frame, all of whose names have been followed. If it leads to something before it, its definitions stay on
+    /// the path.
     fn leave(&mut self, uses: &[Vec<u32>]) -> Result<(), AllocError>
         requires standing { Standing uses.now self.old }
         requires finished { (start : ℕ) → IsTop start (reverse self.old.frames.items) → IsFinished uses.now self.old.followed.items self.old.path.items start }
@@ -221,10 +224,10 @@ impl Walk {
         }
     }
 
-    /// Follows one more name of the last frame's definition, or leaves it.
+    /// Follows one more name of the last frame's definition, or leaves the frame if there is none.
     fn step(&mut self, uses: &[Vec<u32>], start: usize) -> Result<(), AllocError>
         requires standing { Standing uses.now self.old }
-        requires defined { AreDefined uses.now }
+        requires defined { NameOnlyDefinitions uses.now }
         requires top { IsTop start (reverse self.old.frames.items) }
         ensures standing { OnOk result (Standing uses.now self.new) }
         ensures seen { OnOk result (Keeps self.old.seen.items self.new.seen.items) }
@@ -242,17 +245,17 @@ impl Walk {
         }
     }
 
-    /// Where the last frame begins, if there is one.
+    /// The index of the path at which the last frame begins, if there is a frame.
     fn top(&self) -> Option<usize>
         ensures { MatchOption result (reverse self.now.frames.items ≡ []) (λ start. IsTop start (reverse self.now.frames.items)) }
     {
         Some(self.frames.last()?.start)
     }
 
-    /// Goes on until nothing stands on the path.
+    /// Continues the walk until the path is empty.
     fn finish(&mut self, uses: &[Vec<u32>]) -> Result<(), AllocError>
         requires standing { Standing uses.now self.old }
-        requires defined { AreDefined uses.now }
+        requires defined { NameOnlyDefinitions uses.now }
         ensures standing { OnOk result (Standing uses.now self.new) }
         ensures seen { OnOk result (Keeps self.old.seen.items self.new.seen.items) }
         ensures empty { OnOk result (self.new.path.items ≡ []) }
@@ -263,10 +266,10 @@ impl Walk {
         Ok(())
     }
 
-    /// Gives a definition its turn, and all that it leads to.
+    /// Puts a definition into the order, and before it or with it all definitions that it leads to.
     pub(crate) fn begin(&mut self, uses: &[Vec<u32>], definition: u32) -> Result<(), AllocError>
         requires standing { Standing uses.now self.old }
-        requires defined { AreDefined uses.now }
+        requires defined { NameOnlyDefinitions uses.now }
         requires few { definition < length uses.now }
         requires empty { self.old.path.items ≡ [] }
         ensures standing { OnOk result (Standing uses.now self.new) }
@@ -281,7 +284,7 @@ impl Walk {
         Ok(())
     }
 
-    /// The turns that were given.
+    /// The order of the definitions that were walked.
     pub(crate) fn into_turns(self) -> Vec<Turn>
         ensures { result ≡ self.turns }
     {

@@ -1,11 +1,11 @@
--- What a token spells that stands alone.
+-- An expression of one token.
 use Rattle.std.proofs.Common.{◌≡◌, ◌≤◌, ◌<◌, ◌⊎◌, inl, inr, List, [], ◌∷◌, Result, Err, refl, sym, subst, length, map, get_or, arith}
 use Rattle.asm_scan.specs.Tokens.{lexeme, lexemes}
 use Rattle.asm_scan.specs.declared.token.Token.{Token}
 use Rattle.asm_parse.specs.declared.fault.ExprFault.{ExprFault}
 use Rattle.asm_parse.specs.declared.item.Item.{Item}
 use Rattle.asm_parse.specs.Source.{Operand}
-use Rattle.asm_parse.specs.Grammar.{IsParsed, Symbol, symbol}
+use Rattle.asm_parse.specs.Grammar.{IsParsed, GrammarSymbol, symbol}
 use Rattle.asm_parse.specs.Parsed.{parsed_symbols}
 use Rattle.asm_parse.proofs.Parsed.{is_parsed}
 
@@ -14,7 +14,7 @@ one [] d least below = absurd (omega (arith, least))
 one (t ∷ []) d least below = refl
 one (t ∷ u ∷ tokens) d least below = absurd (omega (arith, below))
 
-is_answer : (symbols : List Symbol) (r : Result (List (Item Operand)) ExprFault) → (r ≡ parsed_symbols symbols) ⊎ (r ≡ Err ExprFault.NoMemory) → IsParsed symbols r
+is_answer : (symbols : List GrammarSymbol) (r : Result (List (Item Operand)) ExprFault) → (r ≡ parsed_symbols symbols) ⊎ (r ≡ Err ExprFault.NoMemory) → IsParsed symbols r
 is_answer symbols r (inl e) = subst (IsParsed symbols) (sym e) (is_parsed symbols)
 is_answer symbols r (inr e) = subst (IsParsed symbols) (sym e) tt
 

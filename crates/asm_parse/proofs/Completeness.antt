@@ -1,4 +1,4 @@
--- What the code reads is what the grammar says.
+-- The code reads each expression of the grammar.
 use Rattle.std.proofs.Common.{◌≡◌, ◌⊎◌, inl, inr, ◌≤◌, ◌<◌, ℕ, List, [], ◌∷◌, ◌++◌, Some, None, if◌then◌else◌, refl, sym, ap, ◌∙◌, arith, append_assoc, append-nil}
 use Rattle.std.proofs.lemmas.Bool.{le-leb, lt-leb}
 use Rattle.asm_parse.specs.declared.operator.Unary.{Unary}
@@ -6,10 +6,10 @@ use Rattle.asm_parse.specs.declared.operator.Binary.{Binary}
 use Rattle.asm_parse.specs.declared.sign.Sign.{Sign}
 use Rattle.asm_parse.specs.declared.sign.Prefix.{Prefix}
 use Rattle.asm_parse.specs.Expression.{and_then}
-use Rattle.asm_parse.specs.Grammar.{Symbol, Marked, Phrase, Single, Enclosed, Prefixed, Joined, prefix_level, infix_level, looseness, IsGrouped, prefix_sign, infix_sign, spelling, Spells}
+use Rattle.asm_parse.specs.Grammar.{GrammarSymbol, Marked, Phrase, Single, Enclosed, Prefixed, Joined, prefix_level, infix_level, looseness, IsGrouped, prefix_sign, infix_sign, spelling, SpellsPhrase}
 use Rattle.asm_parse.specs.Private.Parsing.{Frame, Inside, Under, RightOf, State, room, reduce, under_prefix, right_of, enclosed, sign_before, sign_behind, ended, reading, start}
 
--- The levels of infix operators are none of those of prefix operators, and all are 7 at most.
+-- No infix operator has the level of a prefix operator, and all levels are at most 7.
 pub infix_two : (o : Binary) → 2 ≤ infix_level o
 infix_two Binary.Add = omega arith
 infix_two Binary.Subtract = omega arith
@@ -84,7 +84,7 @@ loose_seven (Enclosed a) = omega arith
 loose_seven (Prefixed p a) = prefix_seven p
 loose_seven (Joined o a b) = infix_seven o
 
--- A sign is the operator that it spells.
+-- The sign of an operator is read as that operator.
 before_prefix : (p : Prefix) (frames : List Frame) → sign_before (prefix_sign p) frames ≡ under_prefix (Some p) frames
 before_prefix Prefix.Plus frames = refl
 before_prefix (Prefix.Operator Unary.Negate) frames = refl
@@ -110,7 +110,7 @@ behind_infix Binary.LessOrEqual frames a = refl
 behind_infix Binary.Greater frames a = refl
 behind_infix Binary.GreaterOrEqual frames a = refl
 
--- Down the right side of a phrase, to what is complete there.
+-- The frames and the operand after a phrase is read: down its right side to what is complete there.
 descend : List Frame → Phrase → List Frame × Phrase
 descend frames (Single t) = (frames, Single t)
 descend frames (Enclosed a) = (frames, Enclosed a)
@@ -130,7 +130,7 @@ reduce-descend level frames (Enclosed a) g h = refl
 reduce-descend level frames (Prefixed p a) g h = reduce-descend level (Under p ∷ frames) a g.1 (omega (arith, g.0, h)) ∙ taking p level frames a h
 reduce-descend level frames (Joined o a b) g h = reduce-descend level (RightOf o a ∷ frames) b g.3 (omega (arith, g.1, h)) ∙ joining o level frames a b h
 
--- An operator takes nothing from a frame in whose room it is.
+-- An operator that fits in a frame's room does not close that frame.
 reduce_stops : (o : Binary) (frames : List Frame) (a : Phrase) → infix_level o ≤ room frames → reduce (infix_level o) frames a ≡ (frames, a)
 reduce_stops o [] a h = refl
 reduce_stops o (Inside ∷ frames) a h = refl
@@ -143,7 +143,7 @@ having at = record { frames = at.0; operand = Some at.1 }
 abbrev wanting : List Frame → State
 wanting frames = record { frames = frames; operand = None }
 
-reads : (a : Phrase) → IsGrouped a → (frames : List Frame) → looseness a ≤ room frames → (rest : List Symbol) → reading (spelling a ++ rest) (wanting frames) ≡ reading rest (having (descend frames a))
+reads : (a : Phrase) → IsGrouped a → (frames : List Frame) → looseness a ≤ room frames → (rest : List GrammarSymbol) → reading (spelling a ++ rest) (wanting frames) ≡ reading rest (having (descend frames a))
 unfolding descend
 reads (Single t) g frames h rest = refl
 reads (Enclosed a) g frames h rest =
@@ -163,14 +163,14 @@ reads (Joined o a b) g frames h rest =
     ∙ ap (λ done. reading (spelling b ++ rest) (wanting (RightOf o done.1 ∷ done.0))) reduced
     ∙ reads b g.3 (RightOf o a ∷ frames) (omega (arith, g.1)) rest
 
--- What is spelled is read.
-pub complete : (symbols : List Symbol) (phrase : Phrase) → Spells symbols phrase → reading symbols start ≡ Some phrase
+-- The symbols of a phrase are read as that phrase.
+pub complete : (symbols : List GrammarSymbol) (phrase : Phrase) → SpellsPhrase symbols phrase → reading symbols start ≡ Some phrase
 complete symbols phrase s =
     ap (λ xs. reading xs start) (s.spelled ∙ sym (append-nil (spelling phrase)))
     ∙ reads phrase s.grouped [] (loose_seven phrase) []
     ∙ ap ended (reduce-descend 7 [] phrase s.grouped (loose_seven phrase))
 
-pub one_phrase : (symbols : List Symbol) (a b : Phrase) → Spells symbols a → Spells symbols b → a ≡ b
+pub one_phrase : (symbols : List GrammarSymbol) (a b : Phrase) → SpellsPhrase symbols a → SpellsPhrase symbols b → a ≡ b
 one_phrase symbols a b s t =
     let both : Some a ≡ Some b = sym (complete symbols a s) ∙ complete symbols b t in
     cc

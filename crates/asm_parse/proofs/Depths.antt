@@ -1,4 +1,4 @@
--- How deep what is read is.
+-- How deep the phrase is that has been read.
 use Rattle.std.proofs.Common.{◌≡◌, ℕ, ◌+◌, max, Bool, true, false, List, [], ◌∷◌, if◌then◌else◌, nat_le, refl, sym, ap, ◌∙◌, arith}
 use Rattle.asm_parse.specs.Grammar.{Phrase, Prefixed, Joined, prefix_level, infix_level, depth}
 use Rattle.asm_parse.specs.Private.Parsing.{Frame, Inside, Under, RightOf, reduce}
@@ -22,7 +22,7 @@ depth_max (Inside ∷ frames) x y = ap (depth_around frames) (max_plus x y) ∙ 
 depth_max (Under p ∷ frames) x y = ap (depth_around frames) (max_plus x y) ∙ depth_max frames (x + 1) (y + 1)
 depth_max (RightOf o a ∷ frames) x y = ap (depth_around frames) (max_both (depth a) x y) ∙ depth_max frames (max (depth a) x) (max (depth a) y)
 
--- One level more is as deep as before, or as many as are open and these.
+-- With an operand one level deeper, the whole is as deep as before, or as deep as this operand makes it.
 pub depth_more : (frames : List Frame) (d : ℕ) → depth_around frames (d + 1) ≡ max (depth_around frames d) (opened frames + (d + 1))
 depth_more [] d = omega arith
 depth_more (Inside ∷ frames) d =
@@ -40,7 +40,7 @@ either : {A : Type 0} (P : A → Type 0) (b : Bool) (x y : A) → P x → P y �
 either P true x y p q = p
 either P false x y p q = q
 
--- Taking operands makes nothing deeper.
+-- When operators take their operands, the depth of the whole stays the same.
 pub depth_reduced : (level : ℕ) (frames : List Frame) (a : Phrase) → depth_around (reduce level frames a).0 (depth (reduce level frames a).1) ≡ depth_around frames (depth a)
 depth_reduced level [] a = refl
 depth_reduced level (Inside ∷ frames) a = refl

@@ -1,4 +1,4 @@
--- The state of the code that reads symbols, one step on.
+-- The state of the code that reads symbols, after one step.
 use Rattle.std.proofs.Common.{◌≡◌, ◌≤◌, ◌<◌, ℕ, ◌+◌, ◌-◌, max, Bool, true, false, List, [], ◌∷◌, ◌++◌, Option, Some, None, Ok, Err, length, map, drop, get_or, if◌then◌else◌, is_some, refl, sym, ap, subst, ◌∙◌, arith, append-nil, length-append}
 use Rattle.std.specs.Prelude.{slice_get}
 use Rattle.std.proofs.lemmas.Bool.{le-leb, lt-leb, true≢false, eqb-true, eq-eqb}
@@ -8,7 +8,7 @@ use Rattle.asm_parse.specs.declared.reader.Reader.{Reader}
 use Rattle.asm_scan.specs.declared.token.Token.{Token}
 use Rattle.asm_scan.specs.Tokens.{lexeme, lexemes}
 use Rattle.asm_parse.specs.Expression.{and_then}
-use Rattle.asm_parse.specs.Source.{IsSource, source_item}
+use Rattle.asm_parse.specs.Source.{AreExpressionItems, source_item}
 use Rattle.asm_parse.specs.declared.fault.ExprFault.{ExprFault}
 use Rattle.asm_parse.specs.declared.item.Item.{Item}
 use Rattle.asm_parse.specs.declared.sign.Prefix.{Prefix}
@@ -18,7 +18,7 @@ use Rattle.asm_parse.specs.declared.reader.Operator.{Operator}
 use Rattle.asm_parse.specs.declared.reader.Pending.{Pending}
 use Rattle.asm_parse.specs.Expression.{postfix}
 use Rattle.asm_parse.specs.Source.{Operand}
-use Rattle.asm_parse.specs.Grammar.{Phrase, Prefixed, Joined, prefix_level, infix_level, depth, expression, Symbol, Spells, IsParsed, symbol}
+use Rattle.asm_parse.specs.Grammar.{Phrase, Prefixed, Joined, prefix_level, infix_level, depth, expression, GrammarSymbol, SpellsPhrase, IsParsed, symbol}
 use Rattle.asm_parse.specs.Private.Parsing.{Frame, Inside, Under, RightOf, State, reduce, room, enclosed, sign_before, sign_behind, under_prefix, right_of, ended, finish, finish_by, reading, step, start}
 use Rattle.asm_parse.specs.Words.{prefix_of, infix_of}
 use Rattle.asm_parse.specs.Private.Stacks.{open_in, open_of, opened, pendings, written, items_of, depth_around, depth_of, Holds, Answers, IsReduced}
@@ -53,7 +53,7 @@ opened_few (Inside ∷ frames) = omega (arith, opened_few frames, length-append 
 opened_few (Under p ∷ frames) = omega (arith, opened_few frames, length-append (pendings frames) (record { operator = Operator.Under p; count = opened frames + 1 } ∷ []))
 opened_few (RightOf o a ∷ frames) = omega (arith, opened_few frames, length-append (pendings frames) (record { operator = Operator.RightOf o; count = opened frames } ∷ []))
 
--- one operator more before its operand
+-- after one more prefix operator or parenthesis
 pub begun : (operator : Operator) (frames : List Frame) (pending new : List Pending) (items : List (Item Operand)) (deepest count : ℕ) (complete : Bool) → opens operator ≡ true
     → Holds (record { frames = frames; operand = None }) pending items deepest complete → count ≡ opened frames + 1 → new ≡ pending ++ (record { operator = operator; count = count }) ∷ []
     → Holds (record { frames = frame_of operator ∷ frames; operand = None }) new items (max deepest count) complete
@@ -93,7 +93,7 @@ in_room s frames p other is tight =
     before_other s frames other ∙ ap (λ o. under_prefix o frames) (sym is)
     ∙ ap (λ b. if b then Some (record { frames = Under p ∷ frames; operand = None }) else None) (le-leb (prefix_level p) (room frames) tight)
 
--- Everything is taken down to a parenthesis.
+-- The innermost frame is a parenthesis, or there is none.
 Top : List Frame → Type 0
 Top [] = Unit {0}
 Top (Inside ∷ frames) = Unit {0}
@@ -145,29 +145,29 @@ right_done s op frames a old pending new before items deepest count complete oth
       whole = refl;
     })
 
--- What the end of the symbols comes to.
-ended_done : (symbols : List Symbol) (at : List Frame × Phrase) (pending : List Pending) (items : List (Item Operand)) (deepest : ℕ) → deepest ≡ depth_around at.0 (depth at.1) → IsReduced at pending items → pending ≡ []
-    → ended at ≡ reading symbols start → (phrase : Phrase) × Spells symbols phrase × (deepest ≡ depth phrase) × (items ≡ postfix (expression phrase))
+-- What the code answers at the end of the symbols.
+ended_done : (symbols : List GrammarSymbol) (at : List Frame × Phrase) (pending : List Pending) (items : List (Item Operand)) (deepest : ℕ) → deepest ≡ depth_around at.0 (depth at.1) → IsReduced at pending items → pending ≡ []
+    → ended at ≡ reading symbols start → (phrase : Phrase) × SpellsPhrase symbols phrase × (deepest ≡ depth phrase) × (items ≡ postfix (expression phrase))
 ended_done symbols ([], a) pending items deepest deep r none is = (a, sound symbols a (sym is), deep, r.1)
 ended_done symbols (Inside ∷ frames, a) pending items deepest deep r none is = absurd (not_empty (pendings frames) _ (sym r.0 ∙ none))
 ended_done symbols (Under p ∷ frames, a) pending items deepest deep r none is = absurd (not_empty (pendings frames) _ (sym r.0 ∙ none))
 ended_done symbols (RightOf o b ∷ frames, a) pending items deepest deep r none is = absurd (not_empty (pendings frames) _ (sym r.0 ∙ none))
 
-pub finished : (symbols : List Symbol) (state : State) (old pending : List Pending) (before items : List (Item Operand)) (deepest : ℕ) → Holds state old before deepest true
+pub finished : (symbols : List GrammarSymbol) (state : State) (old pending : List Pending) (before items : List (Item Operand)) (deepest : ℕ) → Holds state old before deepest true
     → ((frames : List Frame) (a : Phrase) → old ≡ pendings frames → before ≡ written frames ++ postfix (expression a) → IsReduced (reduce 7 frames a) pending items) → pending ≡ []
-    → finish state ≡ reading symbols start → (phrase : Phrase) × Spells symbols phrase × (deepest ≡ depth phrase) × (items ≡ postfix (expression phrase))
+    → finish state ≡ reading symbols start → (phrase : Phrase) × SpellsPhrase symbols phrase × (deepest ≡ depth phrase) × (items ≡ postfix (expression phrase))
 finished symbols state old pending before items deepest h reduces none is =
-    elim state.operand as (λ o. state.operand ≡ o → (phrase : Phrase) × Spells symbols phrase × (deepest ≡ depth phrase) × (items ≡ postfix (expression phrase))) [
+    elim state.operand as (λ o. state.operand ≡ o → (phrase : Phrase) × SpellsPhrase symbols phrase × (deepest ≡ depth phrase) × (items ≡ postfix (expression phrase))) [
       | None ↦ λ bad. absurd (true≢false (h.whole ∙ ap is_some bad))
       | Some a ↦ λ there.
           ended_done symbols (reduce 7 state.frames a) pending items deepest (h.deep ∙ ap (λ o. depth_around state.frames (depth_of o)) there ∙ sym (depth_reduced 7 state.frames a))
           (reduces state.frames a h.waiting (h.writing ∙ ap (λ o. written state.frames ++ items_of o) there)) none (sym (ap (finish_by state.frames) there) ∙ is)
     ] refl
 
-pub unread : (symbols : List Symbol) → reading symbols start ≡ None → (phrase : Phrase) → Spells symbols phrase → ⊥
+pub unread : (symbols : List GrammarSymbol) → reading symbols start ≡ None → (phrase : Phrase) → SpellsPhrase symbols phrase → ⊥
 unread symbols none phrase s = let bad : None ≡ Some phrase = sym none ∙ complete symbols phrase s in cc
 
-pub unfinished : (symbols : List Symbol) (state : State) (old : List Pending) (items : List (Item Operand)) (deepest : ℕ) → Holds state old items deepest false → finish state ≡ reading symbols start → reading symbols start ≡ None
+pub unfinished : (symbols : List GrammarSymbol) (state : State) (old : List Pending) (items : List (Item Operand)) (deepest : ℕ) → Holds state old items deepest false → finish state ≡ reading symbols start → reading symbols start ≡ None
 unfinished symbols state old items deepest h is =
     elim state.operand as (λ o. state.operand ≡ o → finish_by state.frames o ≡ reading symbols start → reading symbols start ≡ None) [
       | None ↦ λ _ e. sym e
@@ -178,7 +178,7 @@ left_over : (at : List Frame × Phrase) (pending : List Pending) (items : List (
 left_over ([], a) pending items r some = absurd (some r.0)
 left_over (f ∷ frames, a) pending items r some = refl
 
-pub open_end : (symbols : List Symbol) (state : State) (old pending : List Pending) (before items : List (Item Operand)) (deepest : ℕ) → Holds state old before deepest true
+pub open_end : (symbols : List GrammarSymbol) (state : State) (old pending : List Pending) (before items : List (Item Operand)) (deepest : ℕ) → Holds state old before deepest true
     → ((frames : List Frame) (a : Phrase) → old ≡ pendings frames → before ≡ written frames ++ postfix (expression a) → IsReduced (reduce 7 frames a) pending items) → (pending ≡ [] → ⊥)
     → finish state ≡ reading symbols start → reading symbols start ≡ None
 open_end symbols state old pending before items deepest h reduces some is =
@@ -194,22 +194,22 @@ none_waiting (x ∷ xs) n len e = absurd (omega (arith, len, eqb-true n 0 e))
 pub some_waiting : (xs : List Pending) (n : ℕ) → n ≡ length xs → (n == 0) ≡ false → xs ≡ [] → ⊥
 some_waiting xs n len e is = let zero_is : n ≡ 0 = len ∙ ap length is in true≢false (sym (eq-eqb n 0 zero_is) ∙ e)
 
--- A reader takes one symbol more, or stops.
-pub read_start : (symbols : List Symbol) (r : Reader) → r.pending.items ≡ [] → r.items.items ≡ [] → r.deepest ≡ 0 → r.complete ≡ false → ReadIn symbols 0 r
+-- A reader reads one more symbol, or stops.
+pub read_start : (symbols : List GrammarSymbol) (r : Reader) → r.pending.items ≡ [] → r.items.items ≡ [] → r.deepest ≡ 0 → r.complete ≡ false → ReadIn symbols 0 r
 read_start symbols r p i d w = record { state = start; holds = record { waiting = p; writing = ap (map source_item) i; deep = d; whole = w }; left = refl }
 
-left_step : (symbols : List Symbol) (k : ℕ) (d : Symbol) (state : State) (next : Option State) → k < length symbols → step (get_or symbols k d) state ≡ next → reading (drop k symbols) state ≡ and_then next (λ s. reading (drop (k + 1) symbols) s)
+left_step : (symbols : List GrammarSymbol) (k : ℕ) (d : GrammarSymbol) (state : State) (next : Option State) → k < length symbols → step (get_or symbols k d) state ≡ next → reading (drop k symbols) state ≡ and_then next (λ s. reading (drop (k + 1) symbols) s)
 left_step symbols k d state next h is = at_drop_more (λ xs. reading xs state) symbols k d h ∙ ap (λ n. and_then n (λ s. reading (drop (k + 1) symbols) s)) is
 
-read_by : (symbols : List Symbol) (k : ℕ) (d : Symbol) (new : Reader) (state : State) (next : Option State) → k < length symbols → reading (drop k symbols) state ≡ reading symbols start → step (get_or symbols k d) state ≡ next
+read_by : (symbols : List GrammarSymbol) (k : ℕ) (d : GrammarSymbol) (new : Reader) (state : State) (next : Option State) → k < length symbols → reading (drop k symbols) state ≡ reading symbols start → step (get_or symbols k d) state ≡ next
     → Reads next {A = Unit {0}} (Ok tt) new → ReadIn symbols (k + 1) new
 read_by symbols k d new state None h left is reads = absurd reads
 read_by symbols k d new state (Some s) h left is reads = record { state = s; holds = reads; left = sym (left_step symbols k d state (Some s) h is) ∙ left }
 
-pub read_next : (symbols : List Symbol) (k : ℕ) (d : Symbol) (old new : Reader) → k < length symbols → (r : ReadIn symbols k old) → Reads (step (get_or symbols k d) r.state) {A = Unit {0}} (Ok tt) new → ReadIn symbols (k + 1) new
+pub read_next : (symbols : List GrammarSymbol) (k : ℕ) (d : GrammarSymbol) (old new : Reader) → k < length symbols → (r : ReadIn symbols k old) → Reads (step (get_or symbols k d) r.state) {A = Unit {0}} (Ok tt) new → ReadIn symbols (k + 1) new
 read_next symbols k d old new h r reads = read_by symbols k d new r.state (step (get_or symbols k d) r.state) h r.left refl reads
 
-stopped_by : (symbols : List Symbol) (k : ℕ) (d : Symbol) (new : Reader) (state : State) (next : Option State) (why : ExprFault) → k < length symbols → reading (drop k symbols) state ≡ reading symbols start
+stopped_by : (symbols : List GrammarSymbol) (k : ℕ) (d : GrammarSymbol) (new : Reader) (state : State) (next : Option State) (why : ExprFault) → k < length symbols → reading (drop k symbols) state ≡ reading symbols start
     → step (get_or symbols k d) state ≡ next → Reads next {A = Unit {0}} (Err why) new → IsParsed symbols (Err why)
 stopped_by symbols k d new state None ExprFault.Syntax h left is reads = unread symbols (sym left ∙ left_step symbols k d state None h is)
 stopped_by symbols k d new state (Some s) ExprFault.Syntax h left is reads = absurd reads
@@ -223,26 +223,26 @@ stopped_by symbols k d new state (Some s) ExprFault.LabelDivisor h left is reads
 stopped_by symbols k d new state (Some s) ExprFault.TooDeep h left is reads = absurd reads
 stopped_by symbols k d new state (Some s) ExprFault.TooLarge h left is reads = absurd reads
 
-pub read_stops : (symbols : List Symbol) (k : ℕ) (d : Symbol) (old new : Reader) (why : ExprFault) → k < length symbols → (r : ReadIn symbols k old) → Reads (step (get_or symbols k d) r.state) {A = Unit {0}} (Err why) new → IsParsed symbols (Err why)
+pub read_stops : (symbols : List GrammarSymbol) (k : ℕ) (d : GrammarSymbol) (old new : Reader) (why : ExprFault) → k < length symbols → (r : ReadIn symbols k old) → Reads (step (get_or symbols k d) r.state) {A = Unit {0}} (Err why) new → IsParsed symbols (Err why)
 read_stops symbols k d old new why h r reads = stopped_by symbols k d new r.state (step (get_or symbols k d) r.state) why h r.left refl reads
 
-pub read_end : (symbols : List Symbol) (k : ℕ) (r : Reader) → length symbols ≤ k → (s : ReadIn symbols k r) → finish s.state ≡ reading symbols start
+pub read_end : (symbols : List GrammarSymbol) (k : ℕ) (r : Reader) → length symbols ≤ k → (s : ReadIn symbols k r) → finish s.state ≡ reading symbols start
 read_end symbols k r h s = sym (at_drop_all (λ xs. reading xs s.state) symbols k h) ∙ s.left
 
-whole_items : (at : List Frame × Phrase) (pending : List Pending) (items : List (Item Operand)) → IsReduced at pending items → pending ≡ [] → IsSource items
+whole_items : (at : List Frame × Phrase) (pending : List Pending) (items : List (Item Operand)) → IsReduced at pending items → pending ≡ [] → AreExpressionItems items
 whole_items ([], a) pending items r none = record { expression = expression a; spelled = sym r.1 }
 whole_items (Inside ∷ frames, a) pending items r none = absurd (not_empty (pendings frames) _ (sym r.0 ∙ none))
 whole_items (Under p ∷ frames, a) pending items r none = absurd (not_empty (pendings frames) _ (sym r.0 ∙ none))
 whole_items (RightOf o b ∷ frames, a) pending items r none = absurd (not_empty (pendings frames) _ (sym r.0 ∙ none))
 
 pub whole_source : (state : State) (old pending : List Pending) (before items : List (Item Operand)) (deepest : ℕ) → Holds state old before deepest true
-    → ((frames : List Frame) (a : Phrase) → old ≡ pendings frames → before ≡ written frames ++ postfix (expression a) → IsReduced (reduce 7 frames a) pending items) → pending ≡ [] → IsSource items
+    → ((frames : List Frame) (a : Phrase) → old ≡ pendings frames → before ≡ written frames ++ postfix (expression a) → IsReduced (reduce 7 frames a) pending items) → pending ≡ [] → AreExpressionItems items
 whole_source state old pending before items deepest h reduces none =
-    elim state.operand as (λ o. state.operand ≡ o → IsSource items) [
+    elim state.operand as (λ o. state.operand ≡ o → AreExpressionItems items) [
       | None ↦ λ bad. absurd (true≢false (h.whole ∙ ap is_some bad))
       | Some a ↦ λ there. whole_items (reduce 7 state.frames a) pending items (reduces state.frames a h.waiting (h.writing ∙ ap (λ o. written state.frames ++ items_of o) there)) none
     ] refl
 
-pub symbol_at : (tokens : List Token) (k : ℕ) (d : Token) (part : Symbol) → k < length tokens → part ≡ symbol (lexeme (get_or tokens k d)) → get_or (map symbol (lexemes tokens)) k part ≡ part
+pub symbol_at : (tokens : List Token) (k : ℕ) (d : Token) (part : GrammarSymbol) → k < length tokens → part ≡ symbol (lexeme (get_or tokens k d)) → get_or (map symbol (lexemes tokens)) k part ≡ part
 symbol_at tokens k d part h same =
     get_or-map symbol (lexemes tokens) k (lexeme d) part (omega (arith, h, length-map tokens lexeme)) ∙ ap symbol (get_or-map lexeme tokens k d (lexeme d) h) ∙ sym same

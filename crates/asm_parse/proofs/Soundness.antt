@@ -1,4 +1,4 @@
--- What the code reads is spelled by the symbols that it has read.
+-- A phrase that the code reads is that of the symbols that it has read.
 use Rattle.std.proofs.Common.{◌≡◌, ◌≤◌, ℕ, Bool, true, false, List, [], ◌∷◌, ◌++◌, Option, Some, None, if◌then◌else◌, nat_le, refl, sym, ap, subst, ◌∙◌, arith, append_assoc, append-nil}
 use Rattle.std.proofs.lemmas.Bool.{leb-true, leb-false}
 use Rattle.asm_parse.specs.declared.operator.Unary.{Unary}
@@ -7,33 +7,33 @@ use Rattle.asm_parse.specs.declared.sign.Sign.{Sign}
 use Rattle.asm_parse.specs.declared.sign.Prefix.{Prefix}
 use Rattle.asm_parse.specs.Expression.{and_then}
 use Rattle.asm_parse.specs.Words.{prefix_of, infix_of}
-use Rattle.asm_parse.specs.Grammar.{Symbol, Term, Marked, Foreign, Phrase, Single, Enclosed, Prefixed, Joined, prefix_level, infix_level, looseness, IsGrouped, prefix_sign, infix_sign, spelling, Spells}
+use Rattle.asm_parse.specs.Grammar.{GrammarSymbol, Term, Marked, Foreign, Phrase, Single, Enclosed, Prefixed, Joined, prefix_level, infix_level, looseness, IsGrouped, prefix_sign, infix_sign, spelling, SpellsPhrase}
 use Rattle.asm_parse.specs.Private.Parsing.{Frame, Inside, Under, RightOf, State, room, reduce, under_prefix, right_of, enclosed, sign_before, sign_behind, step_by, step, ended, finish_by, reading, start}
 use Rattle.asm_parse.proofs.Completeness.{infix_two, infix_seven}
 
--- what frames have read
-abbrev pub read_by : List Frame → List Symbol
+-- the symbols that frames have read
+abbrev pub read_by : List Frame → List GrammarSymbol
 read_by [] = []
 read_by (Inside ∷ frames) = read_by frames ++ Marked Sign.Open ∷ []
 read_by (Under p ∷ frames) = read_by frames ++ Marked (prefix_sign p) ∷ []
 read_by (RightOf o a ∷ frames) = (read_by frames ++ spelling a) ++ Marked (infix_sign o) ∷ []
 
--- Each frame stands in the room that the ones around it leave.
+-- Each frame fits in the room that the frames around it leave.
 abbrev pub Nested : List Frame → Type 0
 Nested [] = Unit {0}
 Nested (Inside ∷ frames) = Nested frames
 Nested (Under p ∷ frames) = (prefix_level p ≤ room frames) × Nested frames
 Nested (RightOf o a ∷ frames) = (looseness a ≤ infix_level o) × IsGrouped a × (infix_level o ≤ room frames) × Nested frames
 
--- A phrase stands complete behind frames, after these symbols.
-pub record Behind (symbols : List Symbol) (frames : List Frame) (a : Phrase) (level : ℕ) : Type 0 where
+-- The symbols are those of some frames and then of a complete phrase, which is tight enough for the level.
+pub record Behind (symbols : List GrammarSymbol) (frames : List Frame) (a : Phrase) (level : ℕ) : Type 0 where
   pub read : symbols ≡ read_by frames ++ spelling a
   pub nested : Nested frames
   pub grouped : IsGrouped a
   pub fits : looseness a ≤ room frames
   pub tight : looseness a ≤ level
 
-abbrev pub ReadUpTo : List Symbol → List Frame → Option Phrase → Type 0
+abbrev pub ReadUpTo : List GrammarSymbol → List Frame → Option Phrase → Type 0
 ReadUpTo symbols frames None = (symbols ≡ read_by frames) × Nested frames
 ReadUpTo symbols frames (Some a) = Behind symbols frames a 0
 
@@ -41,12 +41,12 @@ choose : {A : Type 0} (P : A → Type 0) (b : Bool) (x y : A) → (b ≡ true �
 choose P true x y holds fails = holds refl
 choose P false x y holds fails = fails refl
 
--- Taking operands keeps what is read; afterwards the level fits in the room that is left.
-pub record Reduced (symbols : List Symbol) (level : ℕ) (at : List Frame × Phrase) : Type 0 where
+-- When operators take their operands, the symbols stay the same; afterwards the level fits in the room that is left.
+pub record Reduced (symbols : List GrammarSymbol) (level : ℕ) (at : List Frame × Phrase) : Type 0 where
   pub behind : Behind symbols at.0 at.1 level
   pub left : level ≤ room at.0
 
-pub reduced : (symbols : List Symbol) (level : ℕ) → level ≤ 7 → (frames : List Frame) (a : Phrase) → Behind symbols frames a level → Reduced symbols level (reduce level frames a)
+pub reduced : (symbols : List GrammarSymbol) (level : ℕ) → level ≤ 7 → (frames : List Frame) (a : Phrase) → Behind symbols frames a level → Reduced symbols level (reduce level frames a)
 reduced symbols level h [] a b = record { behind = b; left = h }
 reduced symbols level h (Inside ∷ frames) a b = record { behind = b; left = h }
 reduced symbols level h (Under p ∷ frames) a b =
@@ -70,8 +70,8 @@ reduced symbols level h (RightOf o a ∷ frames) c b =
     }))
     (λ fails. record { behind = b; left = omega (arith, leb-false (infix_level o) level fails) })
 
--- looser is still tight enough
-loosen : (symbols : List Symbol) (level : ℕ) (frames : List Frame) (a : Phrase) → Behind symbols frames a 0 → Behind symbols frames a level
+-- a phrase that is tight enough for level 0 is so for each level
+loosen : (symbols : List GrammarSymbol) (level : ℕ) (frames : List Frame) (a : Phrase) → Behind symbols frames a 0 → Behind symbols frames a level
 loosen symbols level frames a b = record { read = b.read; nested = b.nested; grouped = b.grouped; fits = b.fits; tight = omega (arith, b.tight) }
 
 prefix_back : (s : Sign) (p : Prefix) → prefix_of s ≡ Some p → prefix_sign p ≡ s
@@ -101,7 +101,7 @@ infix_back Sign.Gt o e = let is : Binary.Greater ≡ o = cc in ap infix_sign (sy
 infix_back Sign.Ge o e = let is : Binary.GreaterOrEqual ≡ o = cc in ap infix_sign (sym is)
 infix_back s o e = cc
 
-under_sound : (symbols : List Symbol) (s : Sign) (frames : List Frame) (next : State) → (symbols ≡ read_by frames) × Nested frames → (o : Option Prefix) → prefix_of s ≡ o → under_prefix o frames ≡ Some next
+under_sound : (symbols : List GrammarSymbol) (s : Sign) (frames : List Frame) (next : State) → (symbols ≡ read_by frames) × Nested frames → (o : Option Prefix) → prefix_of s ≡ o → under_prefix o frames ≡ Some next
     → ReadUpTo (symbols ++ Marked s ∷ []) next.frames next.operand
 under_sound symbols s frames next h None is e = cc
 under_sound symbols s frames next h (Some p) is e =
@@ -114,7 +114,7 @@ under_sound symbols s frames next h (Some p) is e =
     (λ fails same. cc)
     e
 
-right_sound : (symbols : List Symbol) (s : Sign) (frames : List Frame) (a : Phrase) (next : State) → Behind symbols frames a 0 → (i : Option Binary) → infix_of s ≡ i → right_of i frames a ≡ Some next
+right_sound : (symbols : List GrammarSymbol) (s : Sign) (frames : List Frame) (a : Phrase) (next : State) → Behind symbols frames a 0 → (i : Option Binary) → infix_of s ≡ i → right_of i frames a ≡ Some next
     → ReadUpTo (symbols ++ Marked s ∷ []) next.frames next.operand
 right_sound symbols s frames a next h None is e = cc
 right_sound symbols s frames a next h (Some o) is e =
@@ -126,7 +126,7 @@ right_sound symbols s frames a next h (Some o) is e =
     let now : ReadUpTo (symbols ++ Marked s ∷ []) (RightOf o done.1 ∷ done.0) None = (read, (r.behind.tight, r.behind.grouped, r.left, r.behind.nested)) in
     subst (λ (st : State). ReadUpTo (symbols ++ Marked s ∷ []) st.frames st.operand) there now
 
-enclosed_sound : (symbols : List Symbol) (at : List Frame × Phrase) (next : State) → Behind symbols at.0 at.1 7 → enclosed at ≡ Some next → ReadUpTo (symbols ++ Marked Sign.Close ∷ []) next.frames next.operand
+enclosed_sound : (symbols : List GrammarSymbol) (at : List Frame × Phrase) (next : State) → Behind symbols at.0 at.1 7 → enclosed at ≡ Some next → ReadUpTo (symbols ++ Marked Sign.Close ∷ []) next.frames next.operand
 enclosed_sound symbols ([], a) next b e = cc
 enclosed_sound symbols (Under p ∷ frames, a) next b e = cc
 enclosed_sound symbols (RightOf o c ∷ frames, a) next b e = cc
@@ -137,19 +137,19 @@ enclosed_sound symbols (Inside ∷ frames, a) next b e =
     let now : ReadUpTo (symbols ++ Marked Sign.Close ∷ []) frames (Some (Enclosed a)) = record { read = read; nested = b.nested; grouped = b.grouped; fits = omega arith; tight = omega arith } in
     subst (λ (st : State). ReadUpTo (symbols ++ Marked Sign.Close ∷ []) st.frames st.operand) there now
 
-before_sound : (symbols : List Symbol) (s : Sign) (frames : List Frame) (next : State) → (symbols ≡ read_by frames) × Nested frames → sign_before s frames ≡ Some next → ReadUpTo (symbols ++ Marked s ∷ []) next.frames next.operand
+before_sound : (symbols : List GrammarSymbol) (s : Sign) (frames : List Frame) (next : State) → (symbols ≡ read_by frames) × Nested frames → sign_before s frames ≡ Some next → ReadUpTo (symbols ++ Marked s ∷ []) next.frames next.operand
 before_sound symbols Sign.Open frames next h e =
     let there : record { frames = Inside ∷ frames; operand = None } ≡ next = cc in
     let now : ReadUpTo (symbols ++ Marked Sign.Open ∷ []) (Inside ∷ frames) None = (ap (λ xs. xs ++ Marked Sign.Open ∷ []) h.0, h.1) in
     subst (λ (st : State). ReadUpTo (symbols ++ Marked Sign.Open ∷ []) st.frames st.operand) there now
 before_sound symbols s frames next h e = under_sound symbols s frames next h (prefix_of s) refl e
 
-behind_sound : (symbols : List Symbol) (s : Sign) (frames : List Frame) (a : Phrase) (next : State) → Behind symbols frames a 0 → sign_behind s frames a ≡ Some next → ReadUpTo (symbols ++ Marked s ∷ []) next.frames next.operand
+behind_sound : (symbols : List GrammarSymbol) (s : Sign) (frames : List Frame) (a : Phrase) (next : State) → Behind symbols frames a 0 → sign_behind s frames a ≡ Some next → ReadUpTo (symbols ++ Marked s ∷ []) next.frames next.operand
 behind_sound symbols Sign.Close frames a next h e =
     enclosed_sound symbols (reduce 7 frames a) next (reduced symbols 7 (omega arith) frames a (loosen symbols 7 frames a h)).behind e
 behind_sound symbols s frames a next h e = right_sound symbols s frames a next h (infix_of s) refl e
 
-step_sound : (symbols : List Symbol) (x : Symbol) (frames : List Frame) (operand : Option Phrase) (next : State) → ReadUpTo symbols frames operand → step_by x frames operand ≡ Some next
+step_sound : (symbols : List GrammarSymbol) (x : GrammarSymbol) (frames : List Frame) (operand : Option Phrase) (next : State) → ReadUpTo symbols frames operand → step_by x frames operand ≡ Some next
     → ReadUpTo (symbols ++ x ∷ []) next.frames next.operand
 step_sound symbols (Term t) frames None next h e =
     let there : record { frames = frames; operand = Some (Single t) } ≡ next = cc in
@@ -162,26 +162,26 @@ step_sound symbols (Term t) frames (Some a) next h e = cc
 step_sound symbols Foreign frames None next h e = cc
 step_sound symbols Foreign frames (Some a) next h e = cc
 
-ended_sound : (symbols : List Symbol) (at : List Frame × Phrase) (phrase : Phrase) → Behind symbols at.0 at.1 7 → ended at ≡ Some phrase → Spells symbols phrase
-ended_sound symbols ([], a) phrase b e = let there : a ≡ phrase = cc in subst (Spells symbols) there (record { grouped = b.grouped; spelled = b.read })
+ended_sound : (symbols : List GrammarSymbol) (at : List Frame × Phrase) (phrase : Phrase) → Behind symbols at.0 at.1 7 → ended at ≡ Some phrase → SpellsPhrase symbols phrase
+ended_sound symbols ([], a) phrase b e = let there : a ≡ phrase = cc in subst (SpellsPhrase symbols) there (record { grouped = b.grouped; spelled = b.read })
 ended_sound symbols (Inside ∷ frames, a) phrase b e = cc
 ended_sound symbols (Under p ∷ frames, a) phrase b e = cc
 ended_sound symbols (RightOf o c ∷ frames, a) phrase b e = cc
 
-finish_sound : (symbols : List Symbol) (frames : List Frame) (operand : Option Phrase) (phrase : Phrase) → ReadUpTo symbols frames operand → finish_by frames operand ≡ Some phrase → Spells symbols phrase
+finish_sound : (symbols : List GrammarSymbol) (frames : List Frame) (operand : Option Phrase) (phrase : Phrase) → ReadUpTo symbols frames operand → finish_by frames operand ≡ Some phrase → SpellsPhrase symbols phrase
 finish_sound symbols frames None phrase h e = cc
 finish_sound symbols frames (Some a) phrase h e = ended_sound symbols (reduce 7 frames a) phrase (reduced symbols 7 (omega arith) frames a (loosen symbols 7 frames a h)).behind e
 
-reading_sound : (before symbols : List Symbol) (state : State) (phrase : Phrase) → ReadUpTo before state.frames state.operand → reading symbols state ≡ Some phrase → Spells (before ++ symbols) phrase
-reading_sound before [] state phrase h e = subst (λ xs. Spells xs phrase) (sym (append-nil before)) (finish_sound before state.frames state.operand phrase h e)
+reading_sound : (before symbols : List GrammarSymbol) (state : State) (phrase : Phrase) → ReadUpTo before state.frames state.operand → reading symbols state ≡ Some phrase → SpellsPhrase (before ++ symbols) phrase
+reading_sound before [] state phrase h e = subst (λ xs. SpellsPhrase xs phrase) (sym (append-nil before)) (finish_sound before state.frames state.operand phrase h e)
 reading_sound before (x ∷ symbols) state phrase h e =
-    elim (step x state) as (λ r. step x state ≡ r → and_then r (λ next. reading symbols next) ≡ Some phrase → Spells (before ++ x ∷ symbols) phrase) [
+    elim (step x state) as (λ r. step x state ≡ r → and_then r (λ next. reading symbols next) ≡ Some phrase → SpellsPhrase (before ++ x ∷ symbols) phrase) [
       | None ↦ λ _ bad. cc
       | Some next ↦ λ is more.
-          subst (λ xs. Spells xs phrase) (append_assoc before (x ∷ []) symbols)
+          subst (λ xs. SpellsPhrase xs phrase) (append_assoc before (x ∷ []) symbols)
           (reading_sound (before ++ x ∷ []) symbols next phrase (step_sound before x state.frames state.operand next h is) more)
     ] refl e
 
--- What is read is spelled.
-pub sound : (symbols : List Symbol) (phrase : Phrase) → reading symbols start ≡ Some phrase → Spells symbols phrase
+-- If symbols are read as a phrase, they are the symbols of that phrase.
+pub sound : (symbols : List GrammarSymbol) (phrase : Phrase) → reading symbols start ≡ Some phrase → SpellsPhrase symbols phrase
 sound symbols phrase e = reading_sound [] symbols start phrase (refl, tt) e

@@ -1,4 +1,4 @@
--- The stacks of what waits.
+-- The stacks of waiting operators.
 use Rattle.std.proofs.Common.{◌≡◌, ◌≤◌, ◌<◌, ℕ, zero, suc, ◌-◌, List, [], ◌∷◌, ◌++◌, Some, None, length, take, if◌then◌else◌, refl, sym, ap, subst, ◌∙◌, arith, append_assoc, append-nil}
 use Rattle.std.proofs.lemmas.Bool.{lt-leb}
 use Rattle.std.specs.Prelude.{slice_get}
@@ -13,7 +13,7 @@ use Rattle.asm_parse.specs.Private.Parsing.{Frame, Inside, Under, RightOf, reduc
 use Rattle.asm_parse.proofs.Completeness.{taking, joining}
 use Rattle.asm_parse.specs.Private.Stacks.{level_of, pendings, written, closed_item, closed_by, IsReduced}
 
--- What is left to take while the stacks hold some frames.
+-- What is left to do while the stacks hold some frames.
 pub record Reducing (level : ℕ) (whole : List Frame × Phrase) (pending : List Pending) (items : List (Item Operand)) : Type 0 where
   pub frames : List Frame
   pub operand : Phrase

@@ -10,7 +10,7 @@ pub data Expression (L : Type 0) : Type 0 where
   Prefix : Unary → Expression L → Expression L
   Infix : Binary → Expression L → Expression L → Expression L
 
--- its items: each operator behind its operands
+-- the items of an expression in postfix order: each operator comes after its operands
 abbrev pub postfix : {L : Type 0} → Expression L → List (Item L)
 postfix (Leaf l) = Item.Leaf l ∷ []
 postfix (Prefix op a) = postfix a ++ Item.Unary op ∷ []

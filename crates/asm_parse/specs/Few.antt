@@ -1,4 +1,4 @@
--- A list that mostly holds one thing.
+-- A list that mostly has one element.
 use Rattle.std.specs.Prelude.{List}
 use Rattle.asm_parse.specs.declared.few.Few.{Few}
 

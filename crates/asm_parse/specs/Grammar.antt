@@ -1,4 +1,4 @@
--- Which expression tokens spell, and how deep it is.
+-- Which tokens make which expression, and how deep it is.
 use Rattle.std.specs.Prelude.{◌≡◌, ◌≤◌, ◌<◌, ℕ, ◌+◌, max, List, [], ◌∷◌, ◌++◌, Option, Some, None, Result, Ok, Err, if◌then◌else◌, ◌==◌}
 use Rattle.asm_scan.specs.declared.token.Kind.{Kind}
 use Rattle.asm_scan.specs.declared.token.Mark.{Mark}
@@ -16,27 +16,27 @@ use Rattle.asm_parse.specs.Source.{Operand, Number, Name, Here}
 use Rattle.common.specs.Words.{upper, is_reserved}
 use Rattle.asm_parse.specs.Words.{sign_of}
 
--- A token as an expression reads it: a term, a sign, or what stands in no expression.
-pub data Symbol : Type 0 where
-  Term : Operand → Symbol
-  Marked : Sign → Symbol
-  Foreign : Symbol
+-- What a token is in an expression: a term, a sign (an operator or parenthesis), or neither.
+pub data GrammarSymbol : Type 0 where
+  Term : Operand → GrammarSymbol
+  Marked : Sign → GrammarSymbol
+  Foreign : GrammarSymbol
 
--- the byte of a string of one character, by the text of a string: a quote in it is doubled
+-- the byte of a string of one character, given its text with the quotes; a quote in it is doubled
 abbrev pub character : List ℕ → Option ℕ
 character (q ∷ c ∷ r ∷ []) = Some c
 character (q ∷ c ∷ d ∷ r ∷ []) = if c == q then Some c else None
 character _ = None
 
-abbrev pub symbol_of_name : Option Sign → List ℕ → Symbol
+abbrev pub symbol_of_name : Option Sign → List ℕ → GrammarSymbol
 symbol_of_name (Some sign) name = Marked sign
 symbol_of_name None name = if is_reserved name then Foreign else Term (Name name)
 
-abbrev pub symbol_of_string : Option ℕ → Symbol
+abbrev pub symbol_of_string : Option ℕ → GrammarSymbol
 symbol_of_string (Some c) = Term (Number c)
 symbol_of_string None = Foreign
 
-abbrev pub symbol_by : Kind → List ℕ → Symbol
+abbrev pub symbol_by : Kind → List ℕ → GrammarSymbol
 symbol_by Kind.Name text = symbol_of_name (sign_of (upper text)) (upper text)
 symbol_by (Kind.Number n) text = Term (Number n)
 symbol_by Kind.Quoted text = symbol_of_string (character text)
@@ -49,17 +49,17 @@ symbol_by (Kind.Mark Mark.Star) text = Marked Sign.Star
 symbol_by (Kind.Mark Mark.Slash) text = Marked Sign.Slash
 symbol_by _ text = Foreign
 
-abbrev pub symbol : Lexeme → Symbol
+abbrev pub symbol : Lexeme → GrammarSymbol
 symbol token = symbol_by token.kind token.text
 
--- What is spelled: a term, a phrase in parentheses, or an operator with its operands.
+-- An expression with its parentheses: a term, a phrase in parentheses, or an operator with its operands.
 pub data Phrase : Type 0 where
   Single : Operand → Phrase
   Enclosed : Phrase → Phrase
   Prefixed : Prefix → Phrase → Phrase
   Joined : Binary → Phrase → Phrase → Phrase
 
--- how loosely each operator binds, the tightest first
+-- how loosely each operator binds; the smallest number binds most tightly
 abbrev pub prefix_level : Prefix → ℕ
 prefix_level Prefix.Plus = 1
 prefix_level (Prefix.Operator Unary.Negate) = 1
@@ -91,7 +91,8 @@ looseness (Enclosed a) = 0
 looseness (Prefixed p a) = prefix_level p
 looseness (Joined o a b) = infix_level o
 
--- The operands bind as tightly as their operator at least; the right one of two tighter, so that they group to the left.
+-- Operands bind at least as tightly as their operator. The right operand of an infix operator binds more tightly, so operators of
+-- equal precedence group to the left.
 abbrev pub IsGrouped : Phrase → Type 0
 IsGrouped (Single t) = Unit {0}
 IsGrouped (Enclosed a) = IsGrouped a
@@ -123,20 +124,20 @@ infix_sign Binary.LessOrEqual = Sign.Le
 infix_sign Binary.Greater = Sign.Gt
 infix_sign Binary.GreaterOrEqual = Sign.Ge
 
-abbrev pub spelling : Phrase → List Symbol
+abbrev pub spelling : Phrase → List GrammarSymbol
 spelling (Single t) = Term t ∷ []
 spelling (Enclosed a) = Marked Sign.Open ∷ spelling a ++ Marked Sign.Close ∷ []
 spelling (Prefixed p a) = Marked (prefix_sign p) ∷ spelling a
 spelling (Joined o a b) = spelling a ++ Marked (infix_sign o) ∷ spelling b
 
--- how many parentheses and prefix operators are open at one point, at most
+-- the most parentheses and prefix operators that are open at one point
 abbrev pub depth : Phrase → ℕ
 depth (Single t) = 0
 depth (Enclosed a) = depth a + 1
 depth (Prefixed p a) = depth a + 1
 depth (Joined o a b) = max (depth a) (depth b)
 
--- a prefix `+` leaves nothing behind
+-- an expression after a prefix operator; a prefix `+` has no effect
 abbrev pub under : Prefix → Expression Operand → Expression Operand
 under Prefix.Plus e = e
 under (Prefix.Operator op) e = tree.Prefix op e
@@ -147,15 +148,16 @@ expression (Enclosed a) = expression a
 expression (Prefixed p a) = under p (expression a)
 expression (Joined o a b) = tree.Infix o (expression a) (expression b)
 
--- The symbols spell this phrase.
-pub record Spells (symbols : List Symbol) (phrase : Phrase) : Type 0 where
+-- The symbols are those of this phrase, and the phrase is grouped as precedence demands.
+pub record SpellsPhrase (symbols : List GrammarSymbol) (phrase : Phrase) : Type 0 where
   pub grouped : IsGrouped phrase
   pub spelled : symbols ≡ spelling phrase
 
--- What is answered of symbols: the items of the expression that they spell, where it is not too deep; that it is; or that they spell none.
-abbrev pub IsParsed : List Symbol → Result (List (Item Operand)) ExprFault → Type 0
-IsParsed symbols (Ok items) = (phrase : Phrase) × Spells symbols phrase × (depth phrase ≤ MOST_OPEN) × (items ≡ postfix (expression phrase))
-IsParsed symbols (Err ExprFault.Syntax) = (phrase : Phrase) → Spells symbols phrase → ⊥
-IsParsed symbols (Err ExprFault.TooDeep) = (phrase : Phrase) × Spells symbols phrase × (MOST_OPEN < depth phrase)
+-- What the code answers for symbols: the items of their expression, if it is not too deep; `TooDeep` if it is; `Syntax` if they
+-- make none; or that memory ran out.
+abbrev pub IsParsed : List GrammarSymbol → Result (List (Item Operand)) ExprFault → Type 0
+IsParsed symbols (Ok items) = (phrase : Phrase) × SpellsPhrase symbols phrase × (depth phrase ≤ MOST_OPEN) × (items ≡ postfix (expression phrase))
+IsParsed symbols (Err ExprFault.Syntax) = (phrase : Phrase) → SpellsPhrase symbols phrase → ⊥
+IsParsed symbols (Err ExprFault.TooDeep) = (phrase : Phrase) × SpellsPhrase symbols phrase × (MOST_OPEN < depth phrase)
 IsParsed symbols (Err ExprFault.NoMemory) = Unit {0}
 IsParsed symbols (Err _) = ⊥

@@ -1,4 +1,4 @@
--- What private contracts alone cite: no reviewer need believe it.
+-- Only private contracts use these definitions. A reviewer may skip them.
 pub mod Parsing
 pub mod Stacks
 pub mod Readers

@@ -1,4 +1,4 @@
--- Expressions as a source has them.
+-- Expressions of a source.
 use Rattle.std.specs.Prelude.{◌≡◌, ℕ, List}
 use Rattle.asm_parse.specs.declared.item.Item.{Item}
 use Rattle.asm_parse.specs.declared.item.TermView.{TermView}
@@ -22,7 +22,7 @@ source_item (Item.Leaf t) = Item.Leaf (operand t)
 source_item (Item.Unary op) = Item.Unary op
 source_item (Item.Binary op) = Item.Binary op
 
--- the leaf and the item of a source that a view shows
+-- the leaf of a source that the code's view shows
 abbrev pub view_operand : TermView → Operand
 view_operand (TermView.Number n) = Number n
 view_operand (TermView.Name name) = Name name.now
@@ -33,7 +33,7 @@ view_item (Item.Leaf t) = Item.Leaf (view_operand t)
 view_item (Item.Unary op) = Item.Unary op
 view_item (Item.Binary op) = Item.Binary op
 
--- The items of an expression.
-pub record IsSource (items : List (Item Operand)) : Type 0 where
+-- These are the items of an expression, in postfix order.
+pub record AreExpressionItems (items : List (Item Operand)) : Type 0 where
   pub expression : Expression Operand
   pub spelled : postfix expression ≡ items

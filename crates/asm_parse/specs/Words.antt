@@ -1,4 +1,4 @@
--- The words and marks of the language that stand in expressions.
+-- The operators and parentheses of expressions, as words and marks.
 use Rattle.std.specs.Prelude.{ℕ, List, [], ◌∷◌, Option, Some, None, codes}
 use Rattle.common.specs.Words.{first_word}
 use Rattle.asm_parse.specs.declared.operator.Unary.{Unary}
@@ -6,13 +6,13 @@ use Rattle.asm_parse.specs.declared.operator.Binary.{Binary}
 use Rattle.asm_parse.specs.declared.sign.Sign.{Sign}
 use Rattle.asm_parse.specs.declared.sign.Prefix.{Prefix}
 
--- the word of an expression that a name in upper case is
+-- the operator that a word in upper case names
 abbrev pub sign_of : List ℕ → Option Sign
 sign_of = first_word ((codes "HIGH", Sign.High) ∷ (codes "LOW", Sign.Low) ∷ (codes "NOT", Sign.Not) ∷ (codes "MOD", Sign.Mod) ∷ (codes "SHL", Sign.Shl) ∷ (codes "SHR", Sign.Shr)
     ∷ (codes "AND", Sign.And) ∷ (codes "OR", Sign.Or) ∷ (codes "XOR", Sign.Xor)
     ∷ (codes "EQ", Sign.Eq) ∷ (codes "NE", Sign.Ne) ∷ (codes "LT", Sign.Lt) ∷ (codes "LE", Sign.Le) ∷ (codes "GT", Sign.Gt) ∷ (codes "GE", Sign.Ge) ∷ [])
 
--- the operator that a sign is before an operand
+-- the prefix operator that a sign is before an operand
 abbrev pub prefix_of : Sign → Option Prefix
 prefix_of Sign.Plus = Some Prefix.Plus
 prefix_of Sign.Minus = Some (Prefix.Operator Unary.Negate)
@@ -21,7 +21,7 @@ prefix_of Sign.Low = Some (Prefix.Operator Unary.Low)
 prefix_of Sign.Not = Some (Prefix.Operator Unary.Not)
 prefix_of _ = None
 
--- the operator that a sign is between operands
+-- the infix operator that a sign is between operands
 abbrev pub infix_of : Sign → Option Binary
 infix_of Sign.Plus = Some Binary.Add
 infix_of Sign.Minus = Some Binary.Subtract

@@ -1,4 +1,4 @@
-//! Why an expression is refused.
+//! The errors of expressions.
 
 ghost use Rattle.std.specs.Prelude.{◌≡◌};
 ghost use Rattle.asm_parse.specs.declared.fault.ExprFault.TheVariants.{NoMemory};
@@ -9,7 +9,7 @@ use thiserror::Error;
 /// Why tokens are no expression, or an expression has no value.
 #[derive(Clone, Copy, Debug, PartialEq, Eq, Error)]
 pub enum ExprFault {
-    /// The tokens spell no expression.
+    /// The tokens make no expression.
     #[error("no expression of the language")]
     Syntax,
     #[error("a division by 0")]

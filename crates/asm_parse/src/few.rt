@@ -1,9 +1,9 @@
-//! A list that mostly holds one thing.
+//! A list that mostly has one element.
 
 ghost use Rattle.std.specs.Prelude.{◌≡◌};
 ghost use Rattle.asm_parse.specs.Few.{all};
 
-/// A list of things. One alone lies in place, and takes no memory of its own.
+/// A list. A single element is kept in place and takes no other memory.
 #[derive(Debug, Drop)]
 pub enum Few<T> {
     One([T; 1]),
@@ -11,7 +11,7 @@ pub enum Few<T> {
 }
 
 impl<T> Few<T> {
-    /// All of them, in order.
+    /// All elements, in order.
     pub fn as_slice(&self) -> &[T]
         ensures { result.now ≡ all self.now }
     {

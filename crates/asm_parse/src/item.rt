@@ -9,10 +9,10 @@ use crate::short_name::ShortName;
 use smallvec::SmallVec;
 use std::alloc::{AllocError, Global};
 
-/// A name that is kept: up to sixteen bytes lie in place, and take no memory of their own.
+/// A name as a parsed line keeps it: up to sixteen bytes are kept in place and take no other memory.
 pub type KeptName = SmallVec<u8, 16>;
 
-/// An item of an expression in postfix order: a leaf, or an operator, which stands behind its operands.
+/// An item of an expression in postfix order: a leaf, or an operator, which comes after its operands.
 #[derive(Clone, Copy, Debug, PartialEq, Eq)]
 pub enum Item<L> {
     Leaf(L),
@@ -20,20 +20,20 @@ pub enum Item<L> {
     Binary(Binary),
 }
 
-/// A leaf of an expression of a source, as a tree keeps it. What a tree takes is its items, so a short name lies in place, and a
-/// longer one in memory of its own.
+/// A leaf of a source's expression, as a tree keeps it. A tree is mainly a list of these, so a short name is kept in place, and
+/// only a longer one takes memory of its own.
 #[derive(Debug, Drop)]
 pub enum Term {
     Number(u16),
-    /// A name in upper case.
+    /// A name in upper case, of up to fourteen bytes.
     Short(ShortName),
     /// A name in upper case of more than fourteen bytes.
     Long(Box<Vec<u8>>),
-    /// `$`: the place of the statement.
+    /// `$`: the address of the statement.
     Here,
 }
 
-/// What a term is, wherever its name lies.
+/// What a term is, wherever its name is in memory.
 #[derive(Clone, Copy, Debug)]
 pub enum TermView<'a> {
     Number(u16),
@@ -42,7 +42,7 @@ pub enum TermView<'a> {
 }
 
 impl Term {
-    /// A name as it is.
+    /// A term of a name, exactly as given.
     pub(crate) fn name(alloc: Global, text: &[u8]) -> Result<Term, AllocError>
         ensures { IfOk result (λ term. operand term ≡ Name text.now) }
     {
@@ -52,7 +52,7 @@ impl Term {
         }
     }
 
-    /// A name in upper case.
+    /// A term of a name, put into upper case.
     pub(crate) fn upper(alloc: Global, text: &[u8]) -> Result<Term, AllocError>
         ensures { IfOk result (λ term. operand term ≡ Name (upper text.now)) }
     {
@@ -65,7 +65,7 @@ impl Term {
         }
     }
 
-    /// What it is, wherever its name lies.
+    /// What the term is, wherever its name is in memory.
     pub fn view(&self) -> TermView<'_>
         ensures { view_operand result ≡ operand self.now }
     {
@@ -79,7 +79,7 @@ impl Term {
 }
 
 impl Item<Term> {
-    /// What it is, wherever a name lies.
+    /// What the item is, wherever its name is in memory.
     pub fn view(&self) -> Item<TermView<'_>>
         ensures { view_item result ≡ source_item self.now }
     {

@@ -1,4 +1,4 @@
-//! Expressions of Z80 assembler source: the tree that tokens spell.
+//! Parses expressions of Z80 assembler source: tokens become a tree.
 #![tactic(auto)]
 
 mod fault;

@@ -10,7 +10,7 @@ ghost use Rattle.asm_parse.specs.Private.Named.{is_one_name, is_upper};
 use asm_scan::{begins_name, continues_name};
 use common::is_reserved;
 
-/// Whether all bytes can stand behind the first of a name.
+/// Whether all bytes can come after the first byte of a name.
 fn continues(bytes: &[u8]) -> bool
     ensures { result ≡ list_all continues_name bytes.now }
 {
@@ -33,7 +33,7 @@ fn is_upper(text: &[u8]) -> bool
     text.iter().all(|b| b.to_ascii_uppercase() == *b)
 }
 
-/// Whether the text passes each test.
+/// Whether the text passes each of the three tests.
 fn passes(text: &[u8]) -> bool
     ensures { result ≡ (is_one_name text.now && is_upper text.now && not (is_reserved text.now)) }
 {

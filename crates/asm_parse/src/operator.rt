@@ -3,7 +3,7 @@
 ghost use Rattle.std.specs.Prelude.{◌≡◌};
 ghost use Rattle.asm_parse.specs.Operators.{divides};
 
-/// An operator before its operand. (A prefix `+` is none: it leaves its operand as it is.)
+/// A prefix operator. (A prefix `+` is not among these, since it leaves its operand as it is.)
 #[derive(Clone, Copy, Debug, PartialEq, Eq)]
 pub enum Unary {
     /// `-`
@@ -12,11 +12,11 @@ pub enum Unary {
     Not,
     /// `HIGH`: the number divided by 256.
     High,
-    /// `LOW`: its remainder.
+    /// `LOW`: the remainder of that division.
     Low,
 }
 
-/// An operator between two operands.
+/// An infix operator.
 #[derive(Clone, Copy, Debug, PartialEq, Eq)]
 pub enum Binary {
     /// `+`
@@ -54,7 +54,7 @@ pub enum Binary {
 }
 
 impl Binary {
-    /// Whether it divides, so that its right side may not be 0.
+    /// Whether the operator divides, and so needs a right operand other than 0.
     pub fn divides(self) -> bool
         ensures { result ≡ divides self }
     {

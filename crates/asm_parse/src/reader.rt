@@ -1,5 +1,5 @@
-//! From tokens to expressions: operators wait on a stack until what binds less tightly follows, and are then put behind
-//! their operands.
+//! Parses tokens by operator precedence: operators wait on a stack until an operator that binds less tightly follows, and are then
+//! written after their operands.
 
 ghost use Rattle.std.specs.Prelude.{◌≡◌, ◌≤◌, ◌⊎◌, ◌∷◌, [], List, ◌++◌, map, max, Some, Ok, Err, IfOk, IfErr};
 ghost use Rattle.asm_scan.specs.Tokens.{lexeme, lexemes};
@@ -26,10 +26,10 @@ use std::alloc::Global;
 /// The most parentheses and prefix operators that may be open at one point.
 pub const MOST_OPEN: usize = 32;
 
-/// The level of what binds least tightly.
+/// The level of the operators that bind least tightly.
 const LOOSEST: u8 = 7;
 
-/// What a token is to an expression.
+/// What a token is in an expression.
 #[derive(Debug, Drop)]
 enum Part {
     Term(Term),
@@ -37,7 +37,7 @@ enum Part {
     Foreign,
 }
 
-/// The byte of a string of one character.
+/// The byte of a string of one character; None for any other string. A quote in a string is doubled.
 fn character(text: &[u8]) -> Option<u8>
     ensures { result ≡ character text.now }
 {
@@ -48,7 +48,7 @@ fn character(text: &[u8]) -> Option<u8>
     }
 }
 
-/// What a term is to an expression: a name in upper case may be a sign, or reserved.
+/// What a term is in an expression: a name in upper case may be an operator, or reserved.
 fn named(term: Term) -> Part
     ensures { part_symbol result ≡ named_symbol (operand term) }
 {
@@ -66,7 +66,7 @@ fn named(term: Term) -> Part
     Part::Term(term)
 }
 
-/// What a token is to an expression, its name in upper case.
+/// What a token is in an expression, with a name put into upper case.
 fn part_of(alloc: Global, token: &Token<'_>) -> Result<Part, ExprFault>
     ensures part { IfOk result (λ part. part_symbol part ≡ symbol (lexeme token.now)) }
     ensures fault { IfErr result (λ why. why ≡ ExprFault.NoMemory) }
@@ -92,7 +92,7 @@ fn part_of(alloc: Global, token: &Token<'_>) -> Result<Part, ExprFault>
     }
 }
 
-/// What waits for its last operand.
+/// What waits for its last operand: an open parenthesis, a prefix operator or an infix operator.
 #[derive(Clone, Copy, Debug, Default)]
 enum Operator {
     #[default]
@@ -101,17 +101,17 @@ enum Operator {
     RightOf(Binary),
 }
 
-/// An operator that waits, and how many parentheses and prefix operators are open with it.
+/// An operator that waits, and how many parentheses and prefix operators are open up to it.
 #[derive(Clone, Copy, Debug, Default)]
 struct Pending {
     operator: Operator,
     count: usize,
 }
 
-/// The operators that wait, the innermost last. In most expressions few do at once, and these lie in place.
+/// The operators that wait, the innermost last. In most expressions only a few do at a time, and these are kept in place.
 type Waiting = SmallVec<Pending, 4>;
 
-/// How loosely an operator binds; a parenthesis takes all.
+/// How loosely an operator binds. An open parenthesis binds more loosely than all operators.
 fn level_of(operator: Operator) -> u8
     ensures { result ≡ level_of operator }
 {
@@ -141,7 +141,7 @@ fn open_in(pending: &[Pending]) -> usize
     }
 }
 
-/// Puts an operator behind its operands.
+/// Writes an operator after its operands. A parenthesis and a prefix `+` write nothing.
 fn write_operator(items: &mut Vec<Item<Term>>, operator: Operator) -> Result<(), ExprFault>
     ensures written { IfOk result (λ _. map source_item items.new.items ≡ map source_item items.old.items ++ closed_item operator) }
     ensures fault { IfErr result (λ why. why ≡ ExprFault.NoMemory) }
@@ -154,7 +154,7 @@ fn write_operator(items: &mut Vec<Item<Term>>, operator: Operator) -> Result<(),
     Ok(())
 }
 
-/// Lets the operators that bind at least as tightly as a level take their operands.
+/// Writes all waiting operators that bind at least as tightly as `level`, from the innermost on: their operands are complete.
 fn reduce(pending: &mut Waiting, items: &mut Vec<Item<Term>>, level: u8) -> Result<(), ExprFault>
     requires { level ≤ 7 }
     ensures reduced { IfOk result (λ _. (frames : List Frame) (a : Phrase) → pending.old.items ≡ pendings frames →
@@ -173,8 +173,8 @@ fn reduce(pending: &mut Waiting, items: &mut Vec<Item<Term>>, level: u8) -> Resu
     Ok(())
 }
 
-/// How loosely what comes next may bind: an operator to the left takes what binds more tightly than itself, so that equal
-/// ones group to the left.
+/// How loosely the next operator may bind. The right operand of an infix operator may contain only operators that bind more
+/// tightly, so operators of equal precedence group to the left.
 fn room_in(pending: &[Pending]) -> u8
     ensures { result ≡ room_in pending.now }
 {
@@ -188,13 +188,13 @@ fn room_in(pending: &[Pending]) -> u8
     }
 }
 
-/// What is read so far.
+/// The state after some tokens.
 #[derive(Debug, Drop)]
 struct Reader {
     pending: Waiting,
-    /// The items that are written, in postfix order.
+    /// The items that are written so far, in postfix order.
     items: Vec<Item<Term>>,
-    /// The most parentheses and prefix operators that were open at one point.
+    /// The most parentheses and prefix operators that were open at one point so far.
     deepest: usize,
     /// Whether an operand is complete, so that an infix operator or a closing parenthesis may follow.
     complete: bool,
@@ -203,10 +203,10 @@ struct Reader {
 impl Reader {
     ghost use Rattle.std.specs.Prelude.{◌∷◌, None, is_some, true};
     ghost use Rattle.asm_parse.specs.Private.Parsing.{State, finish, reading, sign_before, sign_behind, start, step};
-    ghost use Rattle.asm_parse.specs.Grammar.{Symbol};
+    ghost use Rattle.asm_parse.specs.Grammar.{GrammarSymbol};
     ghost use Rattle.asm_parse.specs.Private.Readers.{HoldsIn, IsReading, Reads, frame_of, opens};
 
-    /// An operator before its operand, or an open parenthesis.
+    /// Reads a prefix operator or an open parenthesis.
     fn begin(&mut self, operator: Operator) -> Result<(), ExprFault>
         ensures { (frames : List Frame) → HoldsIn frames None self.old → opens operator ≡ true →
             Reads (Some (record { frames = frame_of operator ∷ frames; operand = None })) result self.new }
@@ -217,7 +217,7 @@ impl Reader {
         Ok(())
     }
 
-    /// A sign where an operand is wanted.
+    /// Reads an operator or parenthesis where an operand is expected.
     fn sign_before(&mut self, sign: Sign) -> Result<(), ExprFault>
         ensures { (frames : List Frame) → HoldsIn frames None self.old → Reads (sign_before sign frames) result self.new }
     {
@@ -234,7 +234,7 @@ impl Reader {
         self.begin(operator)
     }
 
-    /// A sign where an operand is complete.
+    /// Reads an operator or parenthesis after a complete operand.
     fn sign_behind(&mut self, sign: Sign) -> Result<(), ExprFault>
         ensures { (frames : List Frame) (a : Phrase) → HoldsIn frames (Some a) self.old → Reads (sign_behind sign frames a) result self.new }
     {
@@ -256,7 +256,7 @@ impl Reader {
         Ok(())
     }
 
-    /// What a token is to an expression.
+    /// Reads one token, given what it is in an expression.
     fn take(&mut self, part: Part) -> Result<(), ExprFault>
         ensures { (state : State) → HoldsIn state.frames state.operand self.old → Reads (step (part_symbol part) state) result self.new }
     {
@@ -280,10 +280,10 @@ impl Reader {
         }
     }
 
-    /// What is read, where it is whole and not too deep.
+    /// Answers the tree of all tokens, or an error if the expression is incomplete or too deep.
     fn finish(mut self) -> Result<Tree, ExprFault>
         requires { IsReading self }
-        ensures { (symbols : List Symbol) (state : State) → HoldsIn state.frames state.operand self → finish state ≡ reading symbols start →
+        ensures { (symbols : List GrammarSymbol) (state : State) → HoldsIn state.frames state.operand self → finish state ≡ reading symbols start →
             IsParsed symbols result }
     {
         if !self.complete {
@@ -300,7 +300,7 @@ impl Reader {
     }
 }
 
-/// The expression that a token alone spells: most have one token, and need none of the reader's lists.
+/// Parses an expression of one token. Most expressions have only one, and need none of the reader's lists.
 fn term_alone(alloc: Global, token: &Token<'_>) -> Result<Tree, ExprFault>
     ensures { (result ≡ parsed_symbols (symbol (lexeme token.now) ∷ [])) ⊎ (result ≡ Err ExprFault.NoMemory) }
 {
@@ -310,15 +310,15 @@ fn term_alone(alloc: Global, token: &Token<'_>) -> Result<Tree, ExprFault>
     Ok(Tree::known(Few::One([Item::Leaf(term)])))
 }
 
-/// The expression that the tokens spell.
+/// Parses tokens as one expression.
 ///
 /// # Errors
 ///
-/// [`ExprFault::Syntax`] where they spell none, and else [`ExprFault::TooDeep`] where more than 32 parentheses and prefix
-/// operators are open at one point; [`ExprFault::NoMemory`] where a name or the items cannot grow.
+/// [`ExprFault::Syntax`] if the tokens make no expression; otherwise [`ExprFault::TooDeep`] if more than 32 parentheses and prefix
+/// operators are open at one point; [`ExprFault::NoMemory`] if memory runs out.
 pub fn parse(alloc: Global, tokens: &[Token<'_>]) -> Result<Tree, ExprFault>
     ensures spelled { IsParsed (map symbol (lexemes tokens.entry.now)) result }
-    // Tokens spell one thing alone.
+    // There is only one answer that the clause before allows, except that memory may run out.
     ensures parsed { (result ≡ parsed (lexemes tokens.entry.now)) ⊎ (result ≡ Err ExprFault.NoMemory) }
 {
     if let [token] = tokens {

@@ -1,4 +1,4 @@
-//! Names that lie in place.
+//! Short names, kept in place.
 
 ghost use Rattle.std.specs.Prelude.{◌≡◌, ◌<◌, IfSome, IfNone, length};
 ghost use Rattle.common.specs.Words.{upper};
@@ -6,7 +6,7 @@ ghost use Rattle.asm_parse.specs.declared.short_name.TheConstants.{MOST_SHORT};
 
 use std::marker::Model;
 
-/// The most bytes of a name that lies in place: with them an item of an expression takes three words.
+/// The most bytes of a name that is kept in place. With fourteen, an item of an expression takes three words.
 pub(crate) const MOST_SHORT: usize = 14;
 
 /// A name of up to fourteen bytes, which takes no memory of its own.
@@ -28,7 +28,7 @@ impl Model for ShortName {
 }
 
 impl ShortName {
-    /// The text, where it has fourteen bytes at most.
+    /// The name with this text, if it has at most fourteen bytes; None otherwise.
     pub(crate) fn new(text: &[u8]) -> Option<ShortName>
         ensures short { IfSome result (λ name. name ≡ text.now) }
         ensures long { IfNone result (MOST_SHORT < length text.now) }
@@ -44,14 +44,14 @@ impl ShortName {
         })
     }
 
-    /// Its bytes.
+    /// The bytes of the name.
     pub(crate) fn as_slice(&self) -> &[u8]
         ensures { result.now ≡ self.now }
     {
         &self.bytes[..usize::from(self.length)]
     }
 
-    /// Makes it upper case.
+    /// Puts the name into upper case.
     pub(crate) fn make_upper(&mut self)
         ensures { self.new ≡ upper self.old }
     {

@@ -1,11 +1,11 @@
-//! The words and marks of the language that stand in expressions.
+//! The operators and parentheses of expressions, as words and marks.
 
 ghost use Rattle.std.specs.Prelude.{◌≡◌};
 ghost use Rattle.asm_parse.specs.Words.{sign_of};
 
 use crate::operator::{Binary, Unary};
 
-/// A mark or a word of an expression that is no term.
+/// A mark or word in an expression that is no term: a parenthesis or an operator.
 #[derive(Clone, Copy, Debug)]
 pub(crate) enum Sign {
     Open,
@@ -31,7 +31,7 @@ pub(crate) enum Sign {
     Ge,
 }
 
-/// An operator before its operand; a `+` leaves nothing behind.
+/// A prefix operator. A prefix `+` has no effect.
 #[derive(Clone, Copy, Debug)]
 pub(crate) enum Prefix {
     Plus,
@@ -41,7 +41,7 @@ pub(crate) enum Prefix {
 impl Sign {
     ghost use Rattle.asm_parse.specs.Words.{infix_of, prefix_of};
 
-    /// The operator that it is before an operand.
+    /// The prefix operator that a sign is before an operand, if it is one.
     pub(crate) fn prefix(self) -> Option<Prefix>
         ensures { result ≡ prefix_of self }
     {
@@ -55,7 +55,7 @@ impl Sign {
         }
     }
 
-    /// The operator that it is between operands.
+    /// The infix operator that a sign is between operands, if it is one.
     pub(crate) fn infix(self) -> Option<Binary>
         ensures { result ≡ infix_of self }
     {
@@ -81,7 +81,7 @@ impl Sign {
     }
 }
 
-/// The operator that a word in upper case is.
+/// The operator that a word in upper case names, if it names one.
 pub(crate) fn sign_of(word: &[u8]) -> Option<Sign>
     ensures { result ≡ sign_of word.now }
 {

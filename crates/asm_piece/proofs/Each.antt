@@ -1,4 +1,4 @@
--- What is read of each element, from left to right: some of it is read, and the rest is to come.
+-- The elements are read from left to right: those in `done` are read, and `rest` is still to come.
 use Rattle.std.proofs.Common.{◌≡◌, List, [], ◌∷◌, ◌++◌, Result, Ok, Err, refl, sym, ap, subst, ◌∙◌, append_assoc, append-nil}
 use Rattle.common.specs.Results.{◌>>=◌}
 use Rattle.asm_spell.specs.declared.fault.StmtFault.{StmtFault}
@@ -6,12 +6,12 @@ use Rattle.std.proofs.lemmas.List.Concat.{flat_map-append}
 use Rattle.asm_spell.specs.Faults.{Fails, each}
 use Rattle.asm_piece.specs.declared.cell.Cell.{Cell}
 use Rattle.asm_piece.specs.declared.data.Laid.{Laid}
-use Rattle.asm_piece.specs.Made.{Fillings, Made, all_laid, laid, number_filled}
+use Rattle.asm_piece.specs.Made.{Fillings, Made, all_laid, laid_cells, number_filled}
 use Rattle.asm_piece.specs.Private.Laying.{Codes, Lays, Puts}
 use Rattle.asm_piece.specs.declared.code.Coded.{Coded}
 use Rattle.asm_piece.proofs.Making.{flat}
 use Rattle.asm_expr.specs.Names.{Table}
-use Rattle.asm_spell.specs.Line.{Expression}
+use Rattle.asm_spell.specs.Line.{ExpressionItems}
 use Rattle.z80_instr.specs.declared.Instr.{Instr}
 use Rattle.z80_form.specs.declared.field.Field.{Field}
 
@@ -38,7 +38,7 @@ refused read all rest done x why is goes = goes ∙ ap (λ r. (r >>= λ z. each 
 pub ended : {A B : Type 0} (read : A → Result B StmtFault) (all : List A) (done : List B) → Goes read all done [] → each read all ≡ Ok done
 ended read all done goes = goes ∙ ap (λ xs. Ok xs) (append-nil done)
 
--- What fails hands its fault on.
+-- If an error of the first call means the same error of the second, then the first call's failure is the second one's.
 pub fails_so : {B C : Type 0} (why : StmtFault) (r : Result B StmtFault) (s : Result C StmtFault) → (r ≡ Err why → s ≡ Err why) → Fails why r → Fails why s
 fails_so StmtFault.NoMemory r s so f = tt
 fails_so StmtFault.UnknownWord r s so f = so f
@@ -52,7 +52,7 @@ fails_so StmtFault.NeedsNumber r s so f = so f
 fails_so StmtFault.ReservedName r s so f = so f
 fails_so (StmtFault.Expr why) r s so f = so f
 
--- The fields that are read, laid end to end.
+-- The fields read so far are in `l`, one after the other.
 pub record Reads {A : Type 0} (read : A → Result (List Cell) StmtFault) (all rest : List A) (l : Laid) : Type 0 where
   pub done : List (List Cell)
   pub goes : Goes read all done rest
@@ -71,11 +71,11 @@ reads_step read all rest x old new r p = record {
 pub reads_refused : {A : Type 0} (read : A → Result (List Cell) StmtFault) (all rest : List A) (x : A) (l : Laid) (why : StmtFault) → Reads read all (x ∷ rest) l → Fails why (read x) → Fails why (all_laid (each read all))
 reads_refused read all rest x l why r f = fails_so why (read x) (all_laid (each read all)) (λ is. ap all_laid (refused read all rest r.done x why is r.goes)) f
 
-pub reads_end : {A : Type 0} (read : A → Result (List Cell) StmtFault) (all : List A) (l : Laid) (m : Made) → (r : Reads read all [] l) → m ≡ laid (flat r.done) → all_laid (each read all) ≡ Ok m
+pub reads_end : {A : Type 0} (read : A → Result (List Cell) StmtFault) (all : List A) (l : Laid) (m : Made) → (r : Reads read all [] l) → m ≡ laid_cells (flat r.done) → all_laid (each read all) ≡ Ok m
 reads_end read all l m r is = ap all_laid (ended read all r.done r.goes) ∙ ap (λ x. Ok x) (sym is)
 
--- The numbers that are read, put into an instruction.
-pub record Numbered (t : Table) (instr : Instr) (all rest : List (Field × Expression)) (c : Coded) : Type 0 where
+-- The numbers read so far are put into the instruction.
+pub record Numbered (t : Table) (instr : Instr) (all rest : List (Field × ExpressionItems)) (c : Coded) : Type 0 where
   pub done : Fillings
   pub goes : Goes (number_filled t) all done rest
   pub codes : Codes instr done c

@@ -1,4 +1,4 @@
--- What calls of expressions answer, as a statement sees it.
+-- What calls of `asm_expr` answer, as answers about a statement.
 use Rattle.std.proofs.Common.{◌≡◌, ◌⊎◌, inl, inr, Some, None, Result, Ok, Err, refl, sym, ap, subst, ◌∙◌}
 use Rattle.common.specs.Results.{◌>>=◌}
 use Rattle.asm_parse.specs.declared.fault.ExprFault.{ExprFault}
@@ -12,10 +12,10 @@ use Rattle.asm_expr.specs.Settling.{fault}
 use Rattle.asm_spell.specs.declared.fault.StmtFault.{StmtFault}
 use Rattle.asm_spell.specs.Faults.{Fails, Gives, of_expression}
 use Rattle.asm_piece.specs.declared.cell.Filling.{Filling}
-use Rattle.asm_piece.specs.Fields.{as_stmt, distance, distance_or}
+use Rattle.asm_piece.specs.Fields.{as_stmt, distance_filling, distance_or}
 use Rattle.asm_piece.specs.Private.Views.{same}
 
--- the fault of an expression
+-- the error of an expression is the statement's error
 fails_by : {B : Type 0} (why : ExprFault) (read : Result B StmtFault) → read ≡ Err (of_expression why) → Fails (of_expression why) read
 fails_by ExprFault.NoMemory read is = tt
 fails_by ExprFault.Syntax read is = is
@@ -35,7 +35,7 @@ pub answered : (s : Settled) (read : Result Settled ExprFault) → (Ok s ≡ rea
 answered s read (inl is) = ap as_stmt (sym is)
 answered s read (inr memory) = cc
 
--- a fault hands itself on
+-- if the first step fails, both steps together fail with the same error
 pub first_fails : {A B : Type 0} (why : StmtFault) (read : Result A StmtFault) (more : A → Result B StmtFault) → Fails why read → Fails why (read >>= more)
 first_fails StmtFault.NoMemory read more is = tt
 first_fails StmtFault.UnknownWord read more is = ap (λ r. r >>= more) is
@@ -49,7 +49,7 @@ first_fails StmtFault.NeedsNumber read more is = ap (λ r. r >>= more) is
 first_fails StmtFault.ReservedName read more is = ap (λ r. r >>= more) is
 first_fails (StmtFault.Expr why) read more is = ap (λ r. r >>= more) is
 
--- An operand that begins at `$`.
+-- An operand of JR or DJNZ that begins with `$`.
 or_fault : (why : ExprFault) (o : Offset) → (o ≡ Offset.Other → ⊥) → distance_or (Some why) o ≡ Err (of_expression why)
 or_fault why (Offset.Number n) not_other = refl
 or_fault why Offset.Unknown not_other = refl
@@ -67,13 +67,13 @@ offset_refused t e why is = by_fault why is
     by_fault ExprFault.TooDeep is = ap (λ f. distance_or f (offset t e)) is.0 ∙ or_fault ExprFault.TooDeep (offset t e) is.1
     by_fault ExprFault.TooLarge is = ap (λ f. distance_or f (offset t e)) is.0 ∙ or_fault ExprFault.TooLarge (offset t e) is.1
 
-pub offset_answered : (t : Table) (e : Expression Operand) (o : Offset) → IsOffset t e (Ok o) → distance_or (fault t e) (offset t e) ≡ distance o
+pub offset_answered : (t : Table) (e : Expression Operand) (o : Offset) → IsOffset t e (Ok o) → distance_or (fault t e) (offset t e) ≡ distance_filling o
 offset_answered t e (Offset.Number n) is = ap (λ f. distance_or f (offset t e)) is.0 ∙ ap (distance_or None) is.1
 offset_answered t e Offset.Unknown is = ap (λ f. distance_or f (offset t e)) is.0 ∙ ap (distance_or None) is.1
 offset_answered t e Offset.NotConstant is = ap (λ f. distance_or f (offset t e)) is.0 ∙ ap (distance_or None) is.1
 offset_answered t e Offset.Other is = ap (distance_or (fault t e)) is
 
--- What a function answers is given.
+-- What the function answers is what reading gives.
 pub given : (r read : Result Filling StmtFault) → read ≡ r → Gives same r read
 given (Ok f) read is = is
 given (Err why) read is = by_fault why is

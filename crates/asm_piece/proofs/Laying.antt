@@ -1,28 +1,28 @@
--- Fields and numbers put in, one behind the other.
+-- Fields and numbers are put in, one after the other.
 use Rattle.std.proofs.Common.{◌≡◌, ◌<◌, ℕ, suc, ◌+◌, ◌%◌, slice_index, Bool, true, false, ◌&&◌, List, [], ◌∷◌, ◌++◌, length, map, refl, sym, ap, ◌∙◌, arith, append_assoc, append-nil, length-append}
 use Rattle.std.proofs.lemmas.List.Concat.{flat_map-append}
 use Rattle.std.proofs.lemmas.List.Folds.{list_all-append}
 use Rattle.asm_piece.specs.declared.cell.Cell.{Cell}
 use Rattle.zmo_module.specs.declared.hole.Width.{Width}
 use Rattle.asm_piece.specs.Cells.{all_told, bytes, cell_bytes, hole, holes, is_told, number_or_0, written}
-use Rattle.zmo_module.specs.Holes.{size_of}
+use Rattle.zmo_module.specs.Holes.{width_size}
 use Rattle.asm_piece.specs.declared.data.Laid.{Laid}
 use Rattle.asm_piece.specs.Private.Laying.{Lays}
 use Rattle.asm_piece.specs.Made.{text_cell}
 
-cell_length : (c : Cell) → length (cell_bytes c) ≡ size_of c.width
-cell_length c = elim c.width as (λ w. length (written w (number_or_0 c.filling)) ≡ size_of w) [
+cell_length : (c : Cell) → length (cell_bytes c) ≡ width_size c.width
+cell_length c = elim c.width as (λ w. length (written w (number_or_0 c.filling)) ≡ width_size w) [
   | Width.Byte ↦ refl
   | Width.Word ↦ refl
 ]
 
--- the holes of fields that stand behind others
+-- the fix-ups of two lists of fields, one list after the other
 pub holes-append : (at : ℕ) (xs ys : List Cell) → holes at (xs ++ ys) ≡ holes at xs ++ holes (at + length (bytes xs)) ys
 holes-append at [] ys = ap (λ n. holes n ys) (omega arith)
 holes-append at (c ∷ cs) ys =
-    let behind : (at + size_of c.width) + length (bytes cs) ≡ at + length (cell_bytes c ++ bytes cs) = omega (arith, cell_length c, length-append (cell_bytes c) (bytes cs)) in
-    ap (λ hs. hole at c.width c.filling ++ hs) (holes-append (at + size_of c.width) cs ys ∙ ap (λ n. holes (at + size_of c.width) cs ++ holes n ys) behind)
-    ∙ sym (append_assoc (hole at c.width c.filling) (holes (at + size_of c.width) cs) _)
+    let behind : (at + width_size c.width) + length (bytes cs) ≡ at + length (cell_bytes c ++ bytes cs) = omega (arith, cell_length c, length-append (cell_bytes c) (bytes cs)) in
+    ap (λ hs. hole at c.width c.filling ++ hs) (holes-append (at + width_size c.width) cs ys ∙ ap (λ n. holes (at + width_size c.width) cs ++ holes n ys) behind)
+    ∙ sym (append_assoc (hole at c.width c.filling) (holes (at + width_size c.width) cs) _)
 
 pub bytes-append : (xs : List Cell) (c : Cell) → bytes (xs ++ c ∷ []) ≡ bytes xs ++ cell_bytes c
 bytes-append xs c = flat_map-append cell_bytes xs (c ∷ []) ∙ ap (λ bs. bytes xs ++ bs) (append-nil (cell_bytes c))
@@ -39,7 +39,7 @@ and_true false = refl
 pub told-append : (xs : List Cell) (c : Cell) → all_told (xs ++ c ∷ []) ≡ (all_told xs && is_told c.filling)
 told-append xs c = list_all-append (λ d. is_told d.filling) xs (c ∷ []) ∙ ap (λ b. all_told xs && b) (and_true (is_told c.filling))
 
--- One field more.
+-- One more field is put in.
 pub one_more : (cells : List Cell) (c : Cell) (old new : Laid) → Lays cells old → new.bytes.items ≡ old.bytes.items ++ cell_bytes c
     → new.holes.items ≡ old.holes.items ++ hole (length old.bytes.items) c.width c.filling → new.told ≡ (old.told && is_told c.filling) → Lays (cells ++ c ∷ []) new
 one_more cells c old new l put holed told = record {

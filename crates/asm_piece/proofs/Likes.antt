@@ -1,4 +1,4 @@
--- The size of a statement hangs on the kinds of its names alone.
+-- The size of a statement depends only on the kinds of its names.
 use Rattle.std.proofs.Common.{◌≡◌, ℕ, ◌&&◌, Bool, true, false, List, [], ◌∷◌, ◌++◌, Option, Some, None, Result, Ok, Err, if◌then◌else◌, refl, sym, ap, ◌∙◌}
 use Rattle.std.specs.List.{Contains, list_all}
 use Rattle.std.proofs.lemmas.Bool.{false≢true}
@@ -28,7 +28,7 @@ use Rattle.asm_piece.specs.Sized as size
 use Rattle.asm_piece.specs.Sized.{IsLike, Kind, jump_sized, kind, size_in, space_sized}
 use Rattle.asm_piece.proofs.Making.{answered_items, number_in_ok, space_settled}
 
--- Jumps.
+-- The size of a JP, by the kind of its target.
 abbrev jump_by : Kind → Statement
 jump_by size.Place = Statement.Relaxable
 jump_by (size.Number n) = Statement.Sized 3
@@ -43,7 +43,7 @@ jump_kind (Some Meaning.UnknownConstant) = refl
 jump_kind (Some (Meaning.Equ equated)) = refl
 jump_kind (Some Meaning.Faulty) = refl
 
--- Names that are numbers in one table are so in the other.
+-- If both tables give each name the same kind, a name that is a number in one is the same number in the other.
 abbrev is_number : Kind → Bool
 is_number size.Place = false
 is_number (size.Number n) = true
@@ -107,13 +107,13 @@ numbers_constant t (x ∷ xs) all =
     let parts = and_parts (is_number_item t x) (list_all (is_number_item t) xs) all in
     ap (λ b. b && list_all (is_constant_item t) xs) (number_constant t x parts.0) ∙ numbers_constant t xs parts.1
 
--- What the laws of expressions say.
+-- The laws of `asm_expr` that are used here.
 pub record Laws : Type 0 where
   pub names : (t u : Table) (e : Expression Operand) → AgreeOn (postfix e) t u → settled t e ≡ settled u e
   pub anywhere : (t : Table) (e : Expression Operand) → list_all (is_constant_item t) (postfix e) ≡ true → (here : ℕ) (statements : List Statement)
       → settled (record t { here = here; statements = statements }) e ≡ settled t e
 
--- Tables in which each name is of the same kind agree on an expression of numbers.
+-- If both tables give each name the same kind, they agree on an expression in which each name is a number.
 pub agree_like : (t u : Table) → IsLike t u → (e : Expression Operand) → list_all (is_number_item t) (postfix e) ≡ true
     → AgreeOn (postfix e) t (record u { here = t.here; statements = t.statements })
 agree_like t u like e all = record { here = refl; statements = refl; names = λ name there. same_number (found t name) (found u name) (like name) (in_list name there) }
@@ -128,7 +128,7 @@ same_settled laws t u like e all =
     let among = numbers_constant u (postfix e) (sym (items_like t u like (postfix e)) ∙ all) in
     laws.names t (record u { here = t.here; statements = t.statements }) e (agree_like t u like e all) ∙ laws.anywhere u e among t.here t.statements
 
--- A constant expression of items that are known is of numbers alone.
+-- In a constant expression that has a value, each name is a number.
 module _ (t : Table) where
   no_value : (m : Option Meaning) (w : Expression Atom) → meant m ≡ known w → is_constant_name m ≡ true → is_number_name m ≡ true
   no_value (Some (Meaning.Constant a)) w is constant = refl
@@ -170,7 +170,7 @@ module _ (t : Table) where
       list_all-append (is_number_item t) (postfix a ++ postfix b) (Item.Binary op ∷ [])
       ∙ ap (λ p. p && true) (list_all-append (is_number_item t) (postfix a) (postfix b) ∙ ap (λ p. p && list_all (is_number_item t) (postfix b)) (of_numbers a x left sides.0) ∙ of_numbers b y right sides.1)
 
--- the whole of which items are known
+-- if the expression has a value, so has each part of it
 pub whole_known : (t : Table) (e : Expression Operand) (items : List (Item Atom)) → settled t e ≡ Ok (Settled.Known items) → (w : Expression Atom) × (replaced t e ≡ known w)
 whole_known t e items is =
     let found = answered_items (fault t e) (items_known (postfix (reduced t (replaced t e)))) (unknown_of (reduced t (replaced t e))) items is in
@@ -178,8 +178,8 @@ whole_known t e items is =
     let whole = same t (replaced t e) object.0 object.1 in
     (whole.whole, whole.known)
 
--- The number of a DS is known where its names are numbers alone.
-known_of_numbers : (t : Table) (e : line.Expression) (n : ℕ) → size_in (space_size t e) ≡ Some n → list_all (is_number_item t) (postfix (source e)) ≡ true
+-- If the size of a DS is known, each name in it is a number.
+known_of_numbers : (t : Table) (e : line.ExpressionItems) (n : ℕ) → size_in (space_size t e) ≡ Some n → list_all (is_number_item t) (postfix (source e)) ≡ true
 known_of_numbers t e n is = by_answer (space_size t e) refl is
   where
     by_answer : (r : Result Settled StmtFault) → space_size t e ≡ r → size_in r ≡ Some n → list_all (is_number_item t) (postfix (source e)) ≡ true
@@ -190,13 +190,13 @@ known_of_numbers t e n is = by_answer (space_size t e) refl is
         let whole = whole_known t (source e) items.0 (so.0 ∙ ap (λ x. Ok x) items.1) in
         of_numbers t (source e) whole.0 whole.1 so.1
 
-space_same : Laws → (t u : Table) → IsLike t u → (e : line.Expression) → list_all (is_number_item t) (postfix (source e)) ≡ true → space_size t e ≡ space_size u e
+space_same : Laws → (t u : Table) → IsLike t u → (e : line.ExpressionItems) → list_all (is_number_item t) (postfix (source e)) ≡ true → space_size t e ≡ space_size u e
 space_same laws t u like e all =
     let there = sym (items_like t u like (postfix (source e))) ∙ all in
     ap (λ r. as_stmt r >>= λ s. if list_all (is_constant_item t) (postfix (source e)) then Ok s else Err StmtFault.SizeNamesLabel) (same_settled laws t u like (source e) all)
     ∙ ap (λ b. as_stmt (settled u (source e)) >>= λ s. if b then Ok s else Err StmtFault.SizeNamesLabel) (numbers_constant t (postfix (source e)) all ∙ sym (numbers_constant u (postfix (source e)) there))
 
-size_same : Laws → (t u : Table) → IsLike t u → (e : line.Expression) → size_in (space_size t e) ≡ size_in (space_size u e)
+size_same : Laws → (t u : Table) → IsLike t u → (e : line.ExpressionItems) → size_in (space_size t e) ≡ size_in (space_size u e)
 size_same laws t u like e = by_test (list_all (is_number_item t) (postfix (source e))) refl
   where
     none : (v : Table) → list_all (is_number_item v) (postfix (source e)) ≡ false → (o : Option ℕ) → size_in (space_size v e) ≡ o → o ≡ None

@@ -1,4 +1,4 @@
--- Names that stand for something, as a test and as a fact.
+-- The test whether names stand for something, and the fact that they do.
 use Rattle.std.proofs.Common.{◌≡◌, ◌≢◌, ◌↔◌, Bool, true, false, ◌&&◌, List, Option, Some, None, All, is_some, refl, sym}
 use Rattle.std.specs.List.{list_all}
 use Rattle.std.specs.Option.{IfSome}
@@ -7,11 +7,11 @@ use Rattle.std.proofs.lemmas.List.Sums.{AllPass-from_list_all, list_all-from_All
 use Rattle.asm_expr.specs.Names.{Table, found}
 use Rattle.asm_expr.specs.Settling.{is_known}
 use Rattle.asm_spell.specs.Line as line
-use Rattle.asm_spell.specs.Line.{Body, Expression, Value}
+use Rattle.asm_spell.specs.Line.{Body, ExpressionItems, Value}
 use Rattle.asm_piece.specs.Made.{AreDefined, IsDefined, ValueDefined}
 use Rattle.asm_piece.specs.Private.Defined.{fill_defined, is_defined, operands_defined, value_defined}
 
--- A test that says what is the case says it as a fact does.
+-- Two tests are equal if each is true when the other is.
 pub by_fact : (a b : Bool) → (a ≡ true → b ≡ true) → (b ≡ true → a ≡ true) → a ≡ b
 by_fact true true there back = refl
 by_fact true false there back = sym (there refl)
@@ -24,7 +24,7 @@ each_passes p P is xs = (
   λ all. list_all-from_AllPass p xs (All-weaker P (λ x. p x ≡ true) (λ x. (is x).1) xs all),
 )
 
-tree_passes : (t : Table) (e : Expression) → (is_defined t e ≡ true) ↔ IsDefined t e
+tree_passes : (t : Table) (e : ExpressionItems) → (is_defined t e ≡ true) ↔ IsDefined t e
 tree_passes t e = (AllPass-from_list_all (is_known t) e, list_all-from_AllPass (is_known t) e)
 
 value_passes : (t : Table) (v : Value) → (value_defined t v ≡ true) ↔ ValueDefined t v
@@ -39,7 +39,7 @@ both_pass : (a b : Bool) (P Q : Type 0) → (a ≡ true) ↔ P → (b ≡ true) 
 both_pass true b P Q p q = (λ h. (p.0 refl, q.0 h), λ h. q.1 h.1)
 both_pass false b P Q p q = (λ h. cc, λ h. p.1 h.0)
 
-fill_passes : (t : Table) (fill : Option Expression) → (fill_defined t fill ≡ true) ↔ IfSome fill (IsDefined t)
+fill_passes : (t : Table) (fill : Option ExpressionItems) → (fill_defined t fill ≡ true) ↔ IfSome fill (IsDefined t)
 fill_passes t None = (λ _. tt, λ _. refl)
 fill_passes t (Some e) = tree_passes t e
 

@@ -1,4 +1,4 @@
--- The size of a statement is that of its piece, and hangs on the kinds of its names alone.
+-- The size of a statement is that of its piece, and depends only on the kinds of its names.
 use Rattle.std.proofs.Common.{◌≡◌, ◌≤◌, ℕ, ◌+◌, ◌*◌, List, [], ◌∷◌, Option, Some, None, Result, Ok, length, map, refl, sym, ap, subst, ◌∙◌, arith, length-append}
 use Rattle.std.specs.List.{sum_by}
 use Rattle.std.proofs.lemmas.List.Concat.{flat_map-append}
@@ -26,11 +26,11 @@ use Rattle.asm_piece.specs.Sized.{IsLike, jump_sized, Kind, kind, piece_sized, P
 use Rattle.asm_piece.specs.Sized as size
 use Rattle.asm_piece.proofs.Making.{bind_ok, code_made, code_something, data_made, each_holds, flat, is_space, jump_something, laid_something, no_space, origin_nothing, short_something, size_kept, space_made}
 
--- Numbers put in leave the count of bytes.
+-- The law of `z80_form` that putting in a number does not change how many bytes an instruction has.
 abbrev pub AreKept : Type 0
 AreKept = (field : Field) (value : ℕ) (instr : Instr) → length (canonical (with_number field value instr)) ≡ length (canonical instr)
 
-code_size : AreKept → (t : Table) (instr : Instr) (numbers : List (Field × line.Expression)) (p : Piece) → made.code t instr numbers ≡ Ok (Some_piece p)
+code_size : AreKept → (t : Table) (instr : Instr) (numbers : List (Field × line.ExpressionItems)) (p : Piece) → made.code t instr numbers ≡ Ok (Some_piece p)
     → Statement.Sized (length (canonical instr)) ≡ piece_sized p
 code_size kept t instr numbers p is =
     let c = code_made t instr numbers p is in
@@ -45,7 +45,7 @@ jump_size kept t condition target p (Some r) is = let same : made.Jump condition
 jump_size kept t condition target p None is =
     ap (λ n. Statement.Sized n) (sym (jump_bytes condition)) ∙ code_size kept t (long_jump condition 0) ((Field.Word, Item.Leaf (Name target) ∷ []) ∷ []) p is
 
--- Data takes as many bytes as its items.
+-- DB and DW take as many bytes as their items together.
 sum_of : {A : Type 0} (size : A → ℕ) (read : A → Result (List Cell) StmtFault) → ((x : A) (cs : List Cell) → read x ≡ Ok cs → length (bytes cs) ≡ size x)
     → (xs : List A) (all : List (List Cell)) → each read xs ≡ Ok all → length (bytes (flat all)) ≡ sum_by size xs
 sum_of size read one xs all is =
@@ -59,13 +59,13 @@ text_size (b ∷ text) = omega (arith, text_size text)
 value_sized : (t : Table) (v : line.Value) (cs : List Cell) → value_cells t v ≡ Ok cs → length (bytes cs) ≡ value_size v
 value_sized t (line.Text text) cs is = let same : map text_cell text ≡ cs = cc in ap (λ xs. length (bytes xs)) (sym same) ∙ text_size text
 value_sized t (line.Byte e) cs is =
-    let b = bind_ok (field.filled t Field.Byte e) _ cs is in
+    let b = bind_ok (field.field_filling t Field.Byte e) _ cs is in
     let same : (record { width = Width.Byte; filling = b.0 }) ∷ [] ≡ cs = cc in
     ap (λ xs. length (bytes xs)) (sym same)
 
-word_sized : (t : Table) (e : line.Expression) (cs : List Cell) → word_cells t e ≡ Ok cs → length (bytes cs) ≡ 2
+word_sized : (t : Table) (e : line.ExpressionItems) (cs : List Cell) → word_cells t e ≡ Ok cs → length (bytes cs) ≡ 2
 word_sized t e cs is =
-    let b = bind_ok (field.filled t Field.Word e) _ cs is in
+    let b = bind_ok (field.field_filling t Field.Word e) _ cs is in
     let same : (record { width = Width.Word; filling = b.0 }) ∷ [] ≡ cs = cc in
     ap (λ xs. length (bytes xs)) (sym same)
 
@@ -79,19 +79,19 @@ twice : {A : Type 0} (xs : List A) → 2 * length xs ≡ sum_by (λ (_ : A). 2) 
 twice [] = refl
 twice (x ∷ xs) = omega (arith, twice xs, sum_by-cons (λ _. 2) x xs)
 
--- Space.
-space_piece : (t : Table) (e : line.Expression) (fill : Option line.Expression) (p : Piece) → made.space t e fill ≡ Ok (Some_piece p) → space_sized (size_in (space_size t e)) ≡ Some (piece_sized p)
+-- The size of a DS.
+space_piece : (t : Table) (e : line.ExpressionItems) (fill : Option line.ExpressionItems) (p : Piece) → made.space_made t e fill ≡ Ok (Some_piece p) → space_sized (size_in (space_size t e)) ≡ Some (piece_sized p)
 space_piece t e fill p is =
     let m = space_made t e fill (Some_piece p) is in
     let s = is_space (number_in m.settled) m.filling p m.is in
     ap (λ r. space_sized (size_in r)) m.size ∙ ap space_sized s.size ∙ ap (λ q. Some (piece_sized q)) s.piece
 
-space_nothing : (t : Table) (e : line.Expression) (fill : Option line.Expression) → made.space t e fill ≡ Ok Nothing → space_sized (size_in (space_size t e)) ≡ None
+space_nothing : (t : Table) (e : line.ExpressionItems) (fill : Option line.ExpressionItems) → made.space_made t e fill ≡ Ok Nothing → space_sized (size_in (space_size t e)) ≡ None
 space_nothing t e fill is =
     let m = space_made t e fill Nothing is in
     ap (λ r. space_sized (size_in r)) m.size ∙ ap space_sized (no_space (number_in m.settled) m.filling m.is)
 
--- The whole.
+-- The size of a statement of any kind.
 pub piece : AreKept → (t : Table) (b : line.Body) (p : Piece) → made.made t b ≡ Ok (Some_piece p) → size.sized t b ≡ Some (piece_sized p)
 piece kept t (line.Code instr numbers) p is = ap (λ s. Some s) (code_size kept t instr numbers p is)
 piece kept t (line.Jump condition target) p is = ap (λ s. Some s) (jump_size kept t condition target p (ref_of (found t target)) is)
@@ -115,7 +115,7 @@ nothing t (line.Words fields) is = absurd (laid_something (word_cells t) fields 
 nothing t (line.Space e fill) is = space_nothing t e fill is
 nothing t b is = refl
 
--- Few bytes of data are few bytes of its piece, and those of an instruction are.
+-- The laws about the lengths of instructions: 1 to 4 bytes.
 pub record Lengths : Type 0 where
   pub least : (instr : Instr) → 1 ≤ length (canonical instr)
   pub most : (instr : Instr) → length (canonical instr) ≤ 4

@@ -1,19 +1,19 @@
--- Fields laid end to end.
+-- Fields of one or two bytes, put one after the other.
 use Rattle.std.specs.Prelude.{ℕ, ◌+◌, ◌%◌, Bool, true, false, List, [], ◌∷◌, ◌++◌}
 use Rattle.std.specs.List.{flat_map, list_all}
 use Rattle.z80_instr.specs.Table.{word}
 use Rattle.asm_piece.specs.declared.cell.Cell.{Cell}
 use Rattle.asm_piece.specs.declared.cell.Filling.{Filling}
-use Rattle.zmo_module.specs.Holes.{size_of}
+use Rattle.zmo_module.specs.Holes.{width_size}
 use Rattle.zmo_module.specs.declared.hole.Hole.{Hole}
 use Rattle.zmo_module.specs.declared.hole.Width.{Width}
 
--- a number as the bytes of a field, a word's low byte first
+-- a number as the bytes of a field; of a word, the low byte first
 abbrev pub written : Width → ℕ → List ℕ
 written Width.Byte n = n % 256 ∷ []
 written Width.Word n = word n
 
--- what stands there before places are known: 0 for a value that hangs on them
+-- what the field has in the object file: its value, or 0 if the value depends on addresses
 abbrev pub number_or_0 : Filling → ℕ
 number_or_0 (Filling.Number n) = n
 number_or_0 _ = 0
@@ -24,14 +24,14 @@ cell_bytes c = written c.width (number_or_0 c.filling)
 abbrev pub bytes : List Cell → List ℕ
 bytes cells = flat_map cell_bytes cells
 
--- the hole of a field that has one, behind some number of bytes
+-- the fix-up of a field whose value depends on addresses, at this offset
 abbrev pub hole : ℕ → Width → Filling → List Hole
 hole at width (Filling.Varying e) = (record { offset = at; width = width; value = e }) ∷ []
 hole at width _ = []
 
 abbrev pub holes : ℕ → List Cell → List Hole
 holes at [] = []
-holes at (c ∷ cs) = hole at c.width c.filling ++ holes (at + size_of c.width) cs
+holes at (c ∷ cs) = hole at c.width c.filling ++ holes (at + width_size c.width) cs
 
 abbrev pub is_told : Filling → Bool
 is_told Filling.Unknown = false

@@ -1,4 +1,4 @@
--- What names make of a statement, or the first fault of its values.
+-- What a statement makes once its names are replaced, or the first error of its values.
 use Rattle.std.specs.Prelude.{◌≢◌, ℕ, zero, suc, ◌-◌, ◌%◌, ◌==◌, ◌&&◌, Bool, false, List, [], ◌∷◌, Option, Some, None, Result, Ok, Err, if◌then◌else◌, All, length, map}
 use Rattle.std.specs.List.{AllPass, flat_map, list_all}
 use Rattle.std.specs.Option.{IfSome}
@@ -22,7 +22,7 @@ use Rattle.asm_spell.specs.declared.fault.StmtFault.{StmtFault}
 use Rattle.z80_instr.specs.declared.Branch.{Branch}
 use Rattle.asm_spell.specs.Faults.{each}
 use Rattle.asm_spell.specs.Line as line
-use Rattle.asm_spell.specs.Line.{Body, Expression, Value}
+use Rattle.asm_spell.specs.Line.{Body, ExpressionItems, Value}
 use Rattle.asm_piece.specs.declared.cell.Cell.{Cell}
 use Rattle.asm_piece.specs.declared.cell.Filling.{Filling}
 use Rattle.zmo_module.specs.declared.hole.Hole.{Hole}
@@ -30,31 +30,31 @@ use Rattle.asm_piece.specs.declared.piece.Made as answer
 use Rattle.asm_piece.specs.declared.piece.Piece as piece
 use Rattle.zmo_module.specs.declared.hole.Width.{Width}
 use Rattle.asm_piece.specs.Cells.{all_told, bytes, hole, holes, is_told, number_or_0}
-use Rattle.zmo_module.specs.Holes.{size_of}
-use Rattle.asm_piece.specs.Fields.{filled, fixed, is_number_unknown, number, settled_in}
+use Rattle.zmo_module.specs.Holes.{width_size}
+use Rattle.asm_piece.specs.Fields.{field_filling, fixed, is_number_unknown, number, settled_in}
 
--- what one statement takes up in a program: bytes with holes, a jump to the place of a ref, one that is always short, or space
+-- what a statement is in a program: bytes with fix-ups, a relaxable jump to a ref, a jump to a ref that is always short, or space
 pub data Piece : Type 0 where
   Bytes : List ℕ → List Hole → Piece
   Jump : Option ShortCond → ℕ → Piece
   Short : Branch → ℕ → Piece
   Space : ℕ → ℕ → Piece
 
--- nothing; a piece; or one of which a value is not known
+-- what a statement makes: nothing, a piece, or something whose value is not known because another line has an error
 pub data Made : Type 0 where
   Nothing : Made
   Some_piece : Piece → Made
   Unknown : Made
 
--- Data.
+-- DB and DW.
 
--- the field of a byte of a string
+-- a byte of a string, as a field
 abbrev pub text_cell : ℕ → Cell
 text_cell b = record { width = Width.Byte; filling = Filling.Number b }
 
--- the field of an expression
-abbrev pub cells : Table → Width → Field → Expression → Result (List Cell) StmtFault
-cells t width field e = filled t field e >>= λ f. Ok ((record { width = width; filling = f }) ∷ [])
+-- the one field of an expression
+abbrev pub cells : Table → Width → Field → ExpressionItems → Result (List Cell) StmtFault
+cells t width field e = field_filling t field e >>= λ f. Ok ((record { width = width; filling = f }) ∷ [])
 
 -- the fields of an item of DB
 abbrev pub value_cells : Table → Value → Result (List Cell) StmtFault
@@ -62,41 +62,41 @@ value_cells t (line.Text text) = Ok (map text_cell text)
 value_cells t (line.Byte e) = cells t Width.Byte Field.Byte e
 
 -- the field of an item of DW
-abbrev pub word_cells : Table → Expression → Result (List Cell) StmtFault
+abbrev pub word_cells : Table → ExpressionItems → Result (List Cell) StmtFault
 word_cells t e = cells t Width.Word Field.Word e
 
-abbrev pub laid : List Cell → Made
-laid cells = if all_told cells then Some_piece (Bytes (bytes cells) (holes 0 cells)) else Unknown
+abbrev pub laid_cells : List Cell → Made
+laid_cells cells = if all_told cells then Some_piece (Bytes (bytes cells) (holes 0 cells)) else Unknown
 
 abbrev pub all_laid : Result (List (List Cell)) StmtFault → Result Made StmtFault
-all_laid read = read >>= λ cells. Ok (laid (flat_map (λ some. some) cells))
+all_laid read = read >>= λ cells. Ok (laid_cells (flat_map (λ some. some) cells))
 
 abbrev pub bytes_made : Table → List Value → Result Made StmtFault
 bytes_made t values = all_laid (each (value_cells t) values)
 
-abbrev pub words_made : Table → List Expression → Result Made StmtFault
+abbrev pub words_made : Table → List ExpressionItems → Result Made StmtFault
 words_made t fields = all_laid (each (word_cells t) fields)
 
 -- Instructions.
 
--- the numbers of an instruction with what fills them
+-- the numbers of an instruction, each with what fills it
 abbrev pub Fillings : Type 0
 Fillings = List (Field × Filling)
 
-abbrev pub number_filled : Table → Field × Expression → Result (Field × Filling) StmtFault
-number_filled t n = filled t n.0 n.1 >>= λ f. Ok (n.0, f)
+abbrev pub number_filled : Table → Field × ExpressionItems → Result (Field × Filling) StmtFault
+number_filled t n = field_filling t n.0 n.1 >>= λ f. Ok (n.0, f)
 
-abbrev pub fillings : Table → List (Field × Expression) → Result Fillings StmtFault
+abbrev pub fillings : Table → List (Field × ExpressionItems) → Result Fillings StmtFault
 fillings t numbers = each (number_filled t) numbers
 
--- how many bytes a number takes that may vary
-abbrev pub width_of : Field → Width
-width_of Field.Word = Width.Word
-width_of field = Width.Byte
+-- how many bytes a number takes, if its value may depend on addresses
+abbrev pub field_width : Field → Width
+field_width Field.Word = Width.Word
+field_width field = Width.Byte
 
--- A number that varies stands last in the bytes of an instruction.
+-- A number that depends on addresses takes the last bytes of the instruction.
 abbrev pub code_hole : ℕ → Field × Filling → List Hole
-code_hole size n = hole (size - size_of (width_of n.0)) (width_of n.0) n.1
+code_hole size n = hole (size - width_size (field_width n.0)) (field_width n.0) n.1
 
 abbrev pub coded : Instr → Fillings → Made
 coded instr numbers =
@@ -104,12 +104,12 @@ coded instr numbers =
     then Some_piece (Bytes (canonical (with_numbers (map (λ n. (n.0, number_or_0 n.1)) numbers) instr)) (flat_map (code_hole (length (canonical instr))) numbers))
     else Unknown
 
-abbrev pub code : Table → Instr → List (Field × Expression) → Result Made StmtFault
+abbrev pub code : Table → Instr → List (Field × ExpressionItems) → Result Made StmtFault
 code t instr numbers = fillings t numbers >>= λ read. Ok (coded instr read)
 
 -- Jumps.
 
--- the condition of a short jump as one of a long jump
+-- the condition of a short jump, as a condition of a long jump
 abbrev pub widened : ShortCond → Cond
 widened ShortCond.NotZero = Cond.NotZero
 widened ShortCond.Zero = Cond.Zero
@@ -121,13 +121,13 @@ abbrev pub long_jump : Option ShortCond → ℕ → Instr
 long_jump None to = Instr.Jump to
 long_jump (Some condition) to = Instr.JumpIf (widened condition) to
 
--- a label's or an external's place
+-- the ref of a label or an external
 abbrev pub ref_of : Option Meaning → Option ℕ
 ref_of (Some (Meaning.Label r)) = Some r
 ref_of (Some (Meaning.External r)) = Some r
 ref_of _ = None
 
--- A JP to a name that EQU gives keeps three bytes.
+-- If the target of a JP is not a label or an external but a name that EQU defines, the jump keeps its three bytes.
 abbrev pub jump_by : Option ℕ → Table → Option ShortCond → List ℕ → Result Made StmtFault
 jump_by (Some r) t condition target = Ok (Some_piece (Jump condition r))
 jump_by None t condition target = code t (long_jump condition 0) ((Field.Word, Item.Leaf (Name target) ∷ []) ∷ [])
@@ -136,35 +136,35 @@ abbrev pub short_by : Option ℕ → Branch → Result Made StmtFault
 short_by (Some r) branch = Ok (Some_piece (Short branch r))
 short_by None branch = Err StmtFault.ShortNeedsLabel
 
--- Space.
+-- DS.
 
--- what fills a DS; without a fill, 0
-abbrev pub space_fill : Table → Option Expression → Result Filling StmtFault
+-- the fill byte of a DS, 0 if there is none
+abbrev pub space_fill : Table → Option ExpressionItems → Result Filling StmtFault
 space_fill t None = Ok (Filling.Number 0)
 space_fill t (Some e) = settled_in t e >>= fixed Field.Byte
 
--- the number of a DS, which is constant
-abbrev pub space_size : Table → Expression → Result Settled StmtFault
+-- the size of a DS, which may only contain constants
+abbrev pub space_size : Table → ExpressionItems → Result Settled StmtFault
 space_size t e = settled_in t e >>= λ s. if list_all (is_constant_item t) (postfix (source e)) then Ok s else Err StmtFault.SizeNamesLabel
 
--- DS 0 takes nothing up.
+-- DS 0 makes nothing.
 abbrev pub spaced_by : ℕ → Filling → Made
 spaced_by zero fill = Nothing
 spaced_by (suc n) (Filling.Number fill) = Some_piece (Space (suc n) (fill % 256))
 spaced_by (suc n) fill = Unknown
 
-abbrev pub sized_by : Option ℕ → Filling → Made
-sized_by (Some n) fill = spaced_by n fill
-sized_by None fill = Unknown
+abbrev pub space_of_size : Option ℕ → Filling → Made
+space_of_size (Some n) fill = spaced_by n fill
+space_of_size None fill = Unknown
 
 abbrev pub number_in : Settled → Option ℕ
 number_in (Settled.Known items) = number items
 number_in (Settled.Unknown what) = None
 
-abbrev pub space : Table → Expression → Option Expression → Result Made StmtFault
-space t size fill = space_size t size >>= λ s. space_fill t fill >>= λ f. Ok (sized_by (number_in s) f)
+abbrev pub space_made : Table → ExpressionItems → Option ExpressionItems → Result Made StmtFault
+space_made t size fill = space_size t size >>= λ s. space_fill t fill >>= λ f. Ok (space_of_size (number_in s) f)
 
--- An ORG is where a program begins, before any statement. One of which no number is known may be that.
+-- An ORG has to be 0100H and come before any statement. If its number is not known, because another line has an error, that may be so.
 abbrev pub origin_by : Option ℕ → Bool
 origin_by (Some n) = n == FIRST_PLACE
 origin_by None = false
@@ -173,10 +173,10 @@ abbrev pub is_origin : Settled → Bool
 is_origin (Settled.Known items) = origin_by (number items)
 is_origin (Settled.Unknown what) = is_number_unknown what
 
-abbrev pub origin : Table → Expression → Result Made StmtFault
+abbrev pub origin : Table → ExpressionItems → Result Made StmtFault
 origin t e = settled_in t e >>= λ s. if (t.here == 0) && is_origin s then Ok Nothing else Err StmtFault.BadOrg
 
--- The whole.
+-- Statements of any kind.
 
 abbrev pub made : Table → Body → Result Made StmtFault
 made t (line.Code instr numbers) = code t instr numbers
@@ -184,12 +184,12 @@ made t (line.Jump condition target) = jump_by (ref_of (found t target)) t condit
 made t (line.Short branch target) = short_by (ref_of (found t target)) branch
 made t (line.Bytes values) = bytes_made t values
 made t (line.Words fields) = words_made t fields
-made t (line.Space size fill) = space t size fill
+made t (line.Space size fill) = space_made t size fill
 made t (line.Origin e) = origin t e
 made t _ = Ok Nothing
 
--- Each name of a statement's operands stands for something.
-abbrev pub IsDefined : Table → Expression → Type 0
+-- Each name in a statement's operands stands for something.
+abbrev pub IsDefined : Table → ExpressionItems → Type 0
 IsDefined t e = AllPass (is_known t) e
 
 abbrev pub ValueDefined : Table → Value → Type 0
@@ -206,7 +206,7 @@ AreDefined t (line.Space size fill) = IsDefined t size × IfSome fill (IsDefined
 AreDefined t (line.Origin e) = IsDefined t e
 AreDefined t _ = Unit {0}
 
--- What the code's types hold.
+-- What the values of the code's types are in the definitions.
 
 abbrev pub piece_of : piece.Piece → Piece
 piece_of (piece.TheVariants.Bytes bytes holes) = Bytes bytes.items holes.items

@@ -1,4 +1,4 @@
--- What private contracts alone cite: no reviewer need believe it.
+-- Only private contracts cite these definitions, so a reviewer may skip them.
 pub mod Views
 pub mod Laying
 pub mod Defined

@@ -1,4 +1,4 @@
-//! Fields, and what fills them: definitions speak of them, and no call hands them out.
+//! Fields, and what fills them. Only definitions use these types; no call answers them.
 
 use asm_expr::Expr;
 use zmo_module::Width;
@@ -7,13 +7,13 @@ use zmo_module::Width;
 #[derive(Drop)]
 pub enum Filling {
     Number(u16),
-    /// An expression whose value hangs on places.
+    /// An expression whose value depends on addresses.
     Varying(Expr),
-    /// No value is known, since another line is faulty.
+    /// The value is not known, because another line has an error.
     Unknown,
 }
 
-/// A field of one byte or two.
+/// A field of one or two bytes.
 #[derive(Drop)]
 pub struct Cell {
     pub width: Width,

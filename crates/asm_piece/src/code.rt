@@ -1,11 +1,11 @@
-//! Instructions and jumps.
+//! What instructions and jumps make.
 
 ghost use Rattle.std.specs.Prelude.{◌≡◌, ◌≢◌, ◌++◌, ◌∷◌, [], All, List, None, OnOk, option_copied};
 ghost use Rattle.z80_form.specs.declared.field.Field.{Field};
 ghost use Rattle.asm_expr.specs.Names.{found};
 ghost use Rattle.asm_spell.specs.Faults.{Gives};
-ghost use Rattle.asm_piece.specs.Made.{Fillings, IsDefined, code, coded, jump_by, long_jump, made_of, ref_of, short_by, widened, width_of};
-ghost use Rattle.zmo_module.specs.Holes.{size_of};
+ghost use Rattle.asm_piece.specs.Made.{Fillings, IsDefined, code, coded, jump_by, long_jump, made_of, ref_of, short_by, widened, field_width};
+ghost use Rattle.zmo_module.specs.Holes.{width_size};
 ghost use Rattle.asm_piece.specs.Fields.{IsAllowed};
 ghost use Rattle.asm_piece.specs.Private.Laying.{Codes};
 
@@ -21,9 +21,9 @@ use z80_form::{Field, with_number};
 use z80_instr::{Cond, Instr, ShortCond};
 use zmo_module::{Hole, Width};
 
-/// How many bytes a number takes that may vary.
+/// Answers how many bytes a number takes, if its value may depend on addresses.
 fn width_of(field: Field) -> Width
-    ensures { result ≡ width_of field }
+    ensures { result ≡ field_width field }
 {
     match field {
         Field::Word => Width::Word,
@@ -32,7 +32,7 @@ fn width_of(field: Field) -> Width
 }
 
 fn size_of(width: Width) -> usize
-    ensures { result ≡ size_of width }
+    ensures { result ≡ width_size width }
 {
     match width {
         Width::Byte => 1,
@@ -46,7 +46,7 @@ struct Coded {
     instr: Instr,
     size: usize,
     holes: Vec<Hole>,
-    /// Whether each number's value is known, or hangs on places.
+    /// Whether the value of each number is known, or a fix-up stands for it.
     told: bool,
 }
 
@@ -69,7 +69,7 @@ impl Coded {
         }
     }
 
-    /// Puts a number in; what hangs on places stands last in the bytes.
+    /// Puts a number in. One that depends on addresses takes the last bytes of the instruction.
     fn put(&mut self, field: Field, filling: Filling) -> Result<(), AllocError>
         requires { IsAllowed field filling }
         ensures { (instr : Instr) (numbers : Fillings) → Codes instr numbers self.old → OnOk result (Codes instr (numbers ++ (field, filling) ∷ []) self.new) }
@@ -82,7 +82,7 @@ impl Coded {
         Ok(())
     }
 
-    /// What the instruction makes.
+    /// Answers what the instruction makes.
     fn made(self, alloc: Global) -> Result<Made, AllocError>
         ensures { (instr : Instr) (numbers : Fillings) → Codes instr numbers self → IfOk result (λ made. made_of made ≡ coded instr numbers) }
     {
@@ -99,7 +99,7 @@ impl Coded {
     }
 }
 
-/// What an instruction makes with the values of its numbers.
+/// Answers what an instruction makes, given its numbers.
 pub(crate) fn code(
     alloc: Global,
     instr: Instr,
@@ -116,7 +116,7 @@ pub(crate) fn code(
     Ok(coded.made(alloc)?)
 }
 
-/// The condition of a short jump as one of a long jump.
+/// Answers the condition of a short jump as a condition of a long jump.
 fn widened(condition: ShortCond) -> Cond
     ensures { result ≡ widened condition }
 {
@@ -128,7 +128,7 @@ fn widened(condition: ShortCond) -> Cond
     }
 }
 
-/// JP to a place.
+/// Answers the JP to an address.
 pub fn long_jump(condition: Option<ShortCond>, to: u16) -> Instr
     ensures { result ≡ long_jump condition to }
 {
@@ -138,7 +138,7 @@ pub fn long_jump(condition: Option<ShortCond>, to: u16) -> Instr
     }
 }
 
-/// A label's or an external's place.
+/// Answers the ref of a label or an external, or None for any other name.
 pub(crate) fn ref_of(meaning: Option<&Meaning>) -> Option<u16>
     ensures { result ≡ ref_of (option_copied meaning.entry) }
 {
@@ -148,7 +148,7 @@ pub(crate) fn ref_of(meaning: Option<&Meaning>) -> Option<u16>
     }
 }
 
-/// What JP to a name makes: a jump to a label or an external, which may be coded as JR, else an instruction of three bytes.
+/// Answers what JP to a name makes: a relaxable jump if the name is a label or an external, otherwise an instruction of three bytes.
 pub(crate) fn jump(
     alloc: Global,
     condition: Option<ShortCond>,
@@ -172,7 +172,7 @@ pub(crate) fn jump(
     }
 }
 
-/// What JR or DJNZ to a name makes.
+/// Answers what JR or DJNZ to a name makes.
 pub(crate) fn short(branch: Branch, target: &[u8], names: &Names) -> Result<Made, StmtFault>
     ensures { Gives made_of result (short_by (ref_of (found names.now target.now)) branch) }
 {

@@ -1,4 +1,4 @@
-//! DB and DW: fields laid end to end.
+//! What DB and DW make: fields, one after the other.
 
 ghost use Rattle.std.specs.Prelude.{◌≡◌, ◌&&◌, ◌++◌, All, List, OnOk, map};
 ghost use Rattle.asm_spell.specs.Faults.{Gives};
@@ -17,7 +17,7 @@ use std::alloc::{AllocError, Global};
 use z80_form::Field;
 use zmo_module::{Hole, Width};
 
-/// What stands in a field before places are known.
+/// Answers the number that a field has in the object file: 0 if its value depends on addresses.
 pub(crate) fn number_or_0(filling: &Filling) -> u16
     ensures { result ≡ number_or_0 filling.now }
 {
@@ -33,14 +33,14 @@ pub(crate) fn is_told(filling: &Filling) -> bool
     !matches!(filling, Filling::Unknown)
 }
 
-/// Whether this is told, and all before it.
+/// Whether this value is known, and all values before it.
 pub(crate) fn still_told(before: bool, filling: &Filling) -> bool
     ensures { result ≡ (before && is_told filling.now) }
 {
     before && is_told(filling)
 }
 
-/// Puts a number behind other bytes.
+/// Appends a number as one or two bytes.
 fn put_number(bytes: &mut Vec<u8>, width: Width, number: u16) -> Result<(), AllocError>
     ensures { OnOk result (bytes.new.items ≡ bytes.old.items ++ written width number) }
 {
@@ -57,7 +57,7 @@ fn put_number(bytes: &mut Vec<u8>, width: Width, number: u16) -> Result<(), Allo
     }
 }
 
-/// Puts the hole of a field that has one behind other holes.
+/// Appends the fix-up of a field, if the field has one.
 pub(crate) fn put_hole(
     holes: &mut Vec<Hole>,
     offset: usize,
@@ -79,19 +79,19 @@ pub(crate) fn put_hole(
     }
 }
 
-/// Fields laid end to end.
+/// Fields that were put one after the other.
 #[derive(Drop)]
 struct Laid {
     bytes: Vec<u8>,
     holes: Vec<Hole>,
-    /// Whether each field's value is known, or hangs on places.
+    /// Whether the value of each field is known, or a fix-up stands for it.
     told: bool,
 }
 
 impl Laid {
     ghost use Rattle.std.specs.Prelude.{◌≡◌, ◌++◌, ◌∷◌, [], List, OnOk, map};
     ghost use Rattle.asm_piece.specs.declared.cell.Cell.{Cell};
-    ghost use Rattle.asm_piece.specs.Made.{laid, made_of, text_cell};
+    ghost use Rattle.asm_piece.specs.Made.{laid_cells, made_of, text_cell};
     ghost use Rattle.asm_piece.specs.Private.Laying.{Lays};
 
     fn new(alloc: Global) -> Laid
@@ -104,7 +104,7 @@ impl Laid {
         }
     }
 
-    /// Puts a field behind the others.
+    /// Appends a field.
     fn put(&mut self, cell: Cell) -> Result<(), AllocError>
         ensures { (cells : List Cell) → Lays cells self.old → OnOk result (Lays (cells ++ cell ∷ []) self.new) }
     {
@@ -116,7 +116,7 @@ impl Laid {
         Ok(())
     }
 
-    /// Puts the bytes of a string behind the others.
+    /// Appends the bytes of a string.
     fn put_text(&mut self, text: &[u8]) -> Result<(), AllocError>
         ensures { (cells : List Cell) → Lays cells self.old → OnOk result (Lays (cells ++ map text_cell text.now) self.new) }
     {
@@ -124,9 +124,9 @@ impl Laid {
         Ok(())
     }
 
-    /// What the fields make.
+    /// Answers what the fields make.
     fn made(self) -> Made
-        ensures { (cells : List Cell) → Lays cells self → made_of result ≡ laid cells }
+        ensures { (cells : List Cell) → Lays cells self → made_of result ≡ laid_cells cells }
     {
         if self.told {
             Made::Piece(Piece::Bytes {
@@ -139,7 +139,7 @@ impl Laid {
     }
 }
 
-/// Puts the field of an expression behind the others.
+/// Appends the field of an expression.
 fn put_cell(
     alloc: Global,
     laid: &mut Laid,
@@ -156,7 +156,7 @@ fn put_cell(
     Ok(())
 }
 
-/// Puts the fields of an item of DB behind the others.
+/// Appends the fields of an item of DB.
 fn put_value(alloc: Global, laid: &mut Laid, value: &Value, names: &Names) -> Result<(), StmtFault>
     requires { ValueDefined names.now (value_of value.now) }
     ensures { (before : List Cell) → Lays before laid.old → Puts before (value_cells names.now (value_of value.now)) result laid.new }
@@ -170,7 +170,7 @@ fn put_value(alloc: Global, laid: &mut Laid, value: &Value, names: &Names) -> Re
     }
 }
 
-/// What the items of DB make.
+/// Answers what the items of DB make.
 pub(crate) fn bytes(alloc: Global, values: &[Value], names: &Names) -> Result<Made, StmtFault>
     requires { All (λ v. ValueDefined names.now (value_of v)) values.now }
     ensures { Gives made_of result (bytes_made names.now (map value_of values.entry.now)) }
@@ -182,7 +182,7 @@ pub(crate) fn bytes(alloc: Global, values: &[Value], names: &Names) -> Result<Ma
     Ok(laid.made())
 }
 
-/// What the items of DW make.
+/// Answers what the items of DW make.
 pub(crate) fn words(alloc: Global, fields: &[Tree], names: &Names) -> Result<Made, StmtFault>
     requires { All (IsDefined names.now) fields.now }
     ensures { Gives made_of result (words_made names.now fields.entry.now) }

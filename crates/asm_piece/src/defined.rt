@@ -1,4 +1,4 @@
-//! Whether the names of operands stand for something.
+//! Tests whether the names in operands stand for something.
 
 ghost use Rattle.std.specs.Prelude.{◌≡◌, ◌↔◌, IsTrue, option_copied};
 ghost use Rattle.std.specs.List.{list_all};
@@ -73,8 +73,8 @@ fn operands_defined(body: &Body, names: &Names) -> bool
     }
 }
 
-/// Whether each name of the operands stands for something, which [`settle`](crate::settle) asks for. The names that `PUBLIC`, `EXTRN` and
-/// `END` list are no operands here.
+/// Whether each name in the operands stands for something, as [`settle`](crate::settle) requires. The names that `PUBLIC`, `EXTRN` and
+/// `END` list are not operands.
 pub fn are_defined(body: &Body, names: &Names) -> bool
     ensures { IsTrue result ↔ AreDefined names.now (body_of body.now) }
 {

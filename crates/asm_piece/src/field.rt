@@ -1,4 +1,4 @@
-//! Values of fields, and the rule of each for its range.
+//! Fills fields with values, and checks that each value is in the field's range.
 
 ghost use Rattle.std.specs.Prelude.{◌≡◌, ◌∷◌, [], IfOk, true};
 ghost use Rattle.std.specs.List.{AllPass};
@@ -8,7 +8,7 @@ ghost use Rattle.asm_spell.specs.Faults.{Gives};
 ghost use Rattle.asm_parse.specs.declared.item.Item.{Item};
 ghost use Rattle.asm_expr.specs.Below.{Atom};
 ghost use Rattle.asm_expr.specs.declared.answer.Settled.{Settled};
-ghost use Rattle.asm_piece.specs.Fields.{IsAllowed, byte, distance, filled, fixed, is_number_unknown, number, settled_in, word};
+ghost use Rattle.asm_piece.specs.Fields.{IsAllowed, byte, distance_filling, field_filling, fixed, is_number_unknown, number, settled_in, word_filling};
 ghost use Rattle.asm_piece.specs.Private.Filled.{filled_by};
 ghost use Rattle.asm_piece.specs.Private.Views.{same};
 
@@ -22,7 +22,7 @@ use std::alloc::Global;
 use z80_form::Field;
 use zmo_module::ends_in_byte;
 
-/// The number that items are.
+/// Answers the number if the items are just one number.
 fn number_of(items: &[Item<Atom>]) -> Option<u16>
     ensures { result ≡ number items.now }
 {
@@ -32,7 +32,8 @@ fn number_of(items: &[Item<Atom>]) -> Option<u16>
     }
 }
 
-/// The same of an expression whose items do not lie side by side. Few are such, and the room for its items takes time to make.
+/// Answers the same for an expression whose items are not one slice in memory. Such expressions are rare, and clearing the room for their
+/// items takes time, so this is a function of its own, which is not inlined.
 #[inline(never)]
 fn number_gathered(expr: &Expr) -> Option<u16>
     ensures { result ≡ number expr.now }
@@ -40,7 +41,7 @@ fn number_gathered(expr: &Expr) -> Option<u16>
     number_of(items(expr, &mut Room::new()))
 }
 
-/// The number that an expression is; None where it varies.
+/// Answers the number if the expression is just one number, or None if its value depends on addresses.
 pub(crate) fn number(expr: &Expr) -> Option<u16>
     ensures { result ≡ number expr.now }
 {
@@ -50,14 +51,14 @@ pub(crate) fn number(expr: &Expr) -> Option<u16>
     }
 }
 
-/// Whether what has no value is one number all the same, as far as is known.
+/// Whether an expression without a value may turn out to be one number.
 fn is_number(what: Unknown) -> bool
     ensures { result ≡ is_number_unknown what }
 {
     matches!(what, Unknown::Anything | Unknown::Number)
 }
 
-/// What fills a byte: a number in range, or HIGH or LOW of what varies.
+/// Fills a byte: with a number in range, or with HIGH or LOW of something that depends on addresses.
 fn byte(settled: Settled) -> Result<Filling, StmtFault>
     ensures { result ≡ byte settled }
 {
@@ -73,9 +74,9 @@ fn byte(settled: Settled) -> Result<Filling, StmtFault>
     }
 }
 
-/// What fills a word: any value.
+/// Fills a word: with any value.
 fn word(settled: Settled) -> Filling
-    ensures { result ≡ word settled }
+    ensures { result ≡ word_filling settled }
 {
     match settled {
         Settled::Known(expr) => match number(&expr) {
@@ -86,7 +87,7 @@ fn word(settled: Settled) -> Filling
     }
 }
 
-/// What fills a field that takes a number in its range alone.
+/// Fills a field that takes only a number in its range.
 pub(crate) fn fixed(field: Field, settled: Settled) -> Result<Filling, StmtFault>
     ensures { result ≡ fixed field settled }
 {
@@ -106,9 +107,9 @@ pub(crate) fn fixed(field: Field, settled: Settled) -> Result<Filling, StmtFault
     }
 }
 
-/// What an operand of JR or DJNZ fills, which is no name: the distance from the instruction's end.
+/// Fills the distance of a JR or DJNZ whose operand is not a name: the distance from the end of the instruction.
 fn distance(offset: Offset) -> Result<Filling, StmtFault>
-    ensures { result ≡ distance offset }
+    ensures { result ≡ distance_filling offset }
 {
     match offset {
         Offset::Number(n) => {
@@ -124,7 +125,7 @@ fn distance(offset: Offset) -> Result<Filling, StmtFault>
     }
 }
 
-/// What fills a field other than a distance, by what its expression is settled to.
+/// Fills a field other than a distance, given the value of its expression.
 fn of_settled(field: Field, settled: Settled) -> Result<Filling, StmtFault>
     ensures { result ≡ filled_by field settled }
 {
@@ -135,7 +136,7 @@ fn of_settled(field: Field, settled: Settled) -> Result<Filling, StmtFault>
     }
 }
 
-/// The same of a number.
+/// Does the same if the value is a number.
 fn of_number(field: Field, n: u16) -> Result<Filling, StmtFault>
     ensures { result ≡ filled_by field (Settled.Known (Item.Leaf (Atom.Number n) ∷ [])) }
 {
@@ -146,7 +147,7 @@ fn of_number(field: Field, n: u16) -> Result<Filling, StmtFault>
     }
 }
 
-/// What names make of an expression.
+/// Replaces the names in an expression by what they stand for.
 pub(crate) fn settle_expr(alloc: Global, tree: &Tree, names: &Names) -> Result<Settled, StmtFault>
     requires { AllPass (is_known names.now) tree.now }
     ensures { Gives same result (settled_in names.now tree.now) }
@@ -154,7 +155,7 @@ pub(crate) fn settle_expr(alloc: Global, tree: &Tree, names: &Names) -> Result<S
     Ok(asm_expr::settle(alloc, tree, names)?)
 }
 
-/// What fills a field of an instruction, or a byte or word of data.
+/// Fills a field of an instruction, or a byte or word of data.
 pub(crate) fn fill(
     alloc: Global,
     field: Field,
@@ -162,13 +163,13 @@ pub(crate) fn fill(
     names: &Names,
 ) -> Result<Filling, StmtFault>
     requires { AllPass (is_known names.now) tree.now }
-    ensures filled { Gives same result (filled names.now field tree.now) }
+    ensures filled { Gives same result (field_filling names.now field tree.now) }
     ensures allowed { IfOk result (IsAllowed field) }
 {
     if let Field::Distance = field {
         return distance(offset_from_here(alloc, tree, names)?);
     }
-    // Most fields are one number, which needs no list of items.
+    // Most fields are just one number, which needs no list of items.
     match number_alone(tree, names) {
         Some(n) => of_number(field, n),
         None => of_settled(field, settle_expr(alloc, tree, names)?),

@@ -1,4 +1,4 @@
-//! Laws of pieces, as functions that do nothing: their calls bring the clauses.
+//! Laws about what statements make. A law is a function that does nothing and whose clause is a theorem.
 
 ghost use Rattle.std.specs.Prelude.{◌≡◌, ℕ, List, None, Ok, Some};
 ghost use Rattle.asm_expr.specs.Names.{Table, found};
@@ -7,8 +7,8 @@ ghost use Rattle.asm_spell.specs.Line.{Body};
 ghost use Rattle.asm_piece.specs.Made.{Nothing, Piece, Some_piece, made};
 ghost use Rattle.asm_piece.specs.Sized.{IsLike, TakesFew, piece_sized, sized};
 
-/// The size that names give a statement is that of its piece, and where they make nothing of it there is none. It is the same by all
-/// tables in which each name is of the same kind, whatever places there are, and wherever the statement stands.
+/// The size of a statement is the size of the piece that it makes, and if it makes nothing it has no size. Any two tables that give each
+/// name the same kind give the statement the same size, whatever the addresses, and wherever the statement is.
 pub fn sizes()
     ensures piece { (t : Table) (b : Body) (p : Piece) → made t b ≡ Ok (Some_piece p) → sized t b ≡ Some (piece_sized p) }
     ensures nothing { (t : Table) (b : Body) → made t b ≡ Ok Nothing → sized t b ≡ None }
@@ -19,7 +19,7 @@ pub fn sizes()
     asm_expr::laws::constant_anywhere();
 }
 
-/// The bytes of a piece are from 1 to 65,535 where those of data are, as they are in each line, and space is a byte at least.
+/// A piece of bytes has 1 to 65,535 of them if the line has as many, which every line has. Space has one byte at least.
 pub fn few()
     ensures { (t : Table) (b : Body) (p : Piece) → IsFew b → made t b ≡ Ok (Some_piece p) → TakesFew p }
 {
@@ -27,7 +27,7 @@ pub fn few()
     z80_encode::laws::length();
 }
 
-/// What names make of a statement hangs on what they stand for, on `$` and on the statements alone.
+/// What a statement makes depends only on what its names stand for, on `$` and on the statements of the module.
 pub fn by_names()
     ensures { (t u : Table) (b : Body) → ((name : List ℕ) → found t name ≡ found u name) → t.here ≡ u.here → t.statements ≡ u.statements → made t b ≡ made u b }
 {

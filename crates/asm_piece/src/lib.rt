@@ -1,7 +1,7 @@
-//! What names make of a statement: its bytes, with holes where a value hangs on places.
+//! Says what a statement makes once its names are known: bytes, with a fix-up for each value that depends on addresses; a jump; or space.
 //!
-//! [`settle`] returns the piece of a program that a word and its operands make, or the first fault of
-//! their values. Names are those handed in, and each name of the operands is one of them.
+//! [`settle`] answers the piece of a program that a statement and its operands make, or the first error of their values. The caller gives
+//! the names, and each name in the operands is one of them.
 #![tactic(auto)]
 
 mod cell;

@@ -1,39 +1,39 @@
-//! Pieces of a program.
+//! The pieces of a program.
 
 use z80_instr::{Branch, ShortCond};
 use zmo_module::Hole;
 
-/// What one statement takes up in a program.
+/// What one statement is in a program.
 #[derive(Debug, Drop)]
 pub enum Piece {
-    /// Bytes, 0 in each hole.
+    /// Bytes, which are 0 where a fix-up is.
     Bytes {
         bytes: Vec<u8>,
         holes: Vec<Hole>,
     },
-    /// A `JP` that may be coded as a `JR`, to the place of a ref.
+    /// A relaxable jump to a ref: a `JP` that may be written as `JR`.
     Jump {
         condition: Option<ShortCond>,
         target: u16,
     },
-    /// A jump that is always short.
+    /// A jump to a ref that is always short.
     Short {
         branch: Branch,
         target: u16,
     },
-    /// As many bytes of one value.
+    /// `size` bytes, all of them `fill`.
     Space {
         size: u16,
         fill: u8,
     },
 }
 
-/// What names make of a statement without a fault.
+/// What a statement without an error makes.
 #[derive(Debug, Drop)]
 pub enum Made {
-    /// It takes nothing up in the program: `DS 0`, and each directive but `DB`, `DW` and `DS`.
+    /// It makes no bytes: `DS 0`, and each directive other than `DB`, `DW` and `DS`.
     Nothing,
     Piece(Piece),
-    /// A value in it is not known, since another line is faulty.
+    /// A value in it is not known, because another line has an error.
     Unknown,
 }

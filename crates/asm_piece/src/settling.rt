@@ -1,4 +1,4 @@
-//! What names make of a statement.
+//! Says what a statement makes once its names are known.
 
 ghost use Rattle.asm_spell.specs.Faults.{Gives};
 ghost use Rattle.asm_spell.specs.Line.{body_of};
@@ -12,17 +12,17 @@ use asm_expr::Names;
 use asm_spell::{Body, StmtFault};
 use std::alloc::Global;
 
-/// What the names make of a statement: the piece of a program that it is, with a hole for each value that hangs on places.
-/// Each name of its operands stands for something. `$` is the place of the statement.
+/// Answers what a statement makes: the piece of a program that it is, with a fix-up for each value that depends on addresses. Each name in
+/// its operands has to stand for something. `$` is the address of the statement.
 ///
 /// # Errors
 ///
-/// The first fault of the operands, from left to right. Of one operand, those of its expression come first
-/// ([`StmtFault::Expr`]), then that of its range: [`StmtFault::ByteRange`]; [`StmtFault::NeedsLowOrHigh`] where a byte varies, and
-/// [`StmtFault::NeedsNumber`] where another field does that takes a number alone; [`StmtFault::ShortNeedsLabel`] where JR or DJNZ
-/// have neither a label nor `$` with a constant (an operand of theirs that is none of `$`, `$+n` and `$-n` is judged for nothing
-/// else); [`StmtFault::SizeNamesLabel`] where the number of a DS is not constant; [`StmtFault::BadOrg`] for an ORG other than
-/// 0100H before any statement. [`StmtFault::NoMemory`] where memory is refused.
+/// The first error of the operands, from left to right. For one operand, the errors of its expression come first ([`StmtFault::Expr`]),
+/// then those of its value: [`StmtFault::ByteRange`] if it is out of range; [`StmtFault::NeedsLowOrHigh`] if a byte depends on addresses,
+/// and [`StmtFault::NeedsNumber`] if another field does that takes only a number; [`StmtFault::ShortNeedsLabel`] if the operand of JR or
+/// DJNZ is neither a label nor `$` with a constant (if it is not one of `$`, `$+n` and `$-n`, no other error of it is reported);
+/// [`StmtFault::SizeNamesLabel`] if the size of a DS is not constant; [`StmtFault::BadOrg`] for an ORG that is not 0100H, or comes after a
+/// statement. [`StmtFault::NoMemory`] if memory ran out.
 pub fn settle(alloc: Global, body: &Body, names: &Names) -> Result<Made, StmtFault>
     requires { AreDefined names.now (body_of body.now) }
     ensures { Gives made_of result (made names.now (body_of body.now)) }

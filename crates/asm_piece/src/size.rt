@@ -1,4 +1,4 @@
-//! How many bytes a statement takes.
+//! Says how many bytes a statement takes.
 
 ghost use Rattle.std.specs.Prelude.{◌≡◌, ◌*◌, ◌%◌, IfOk, length, map};
 ghost use Rattle.std.specs.List.{sum_by};
@@ -15,7 +15,7 @@ use asm_spell::{Body, StmtFault, Value};
 use std::alloc::{AllocError, Global};
 use z80_encode::size;
 
-/// JP to a name, by the place that this is.
+/// Answers the size of a JP to a name, which has a ref if it is a label or an external.
 fn jump_sized(place: Option<u16>) -> Statement
     ensures { result ≡ jump_sized place }
 {
@@ -50,7 +50,7 @@ fn words_size(fields: &[Tree]) -> u16
     ((fields.len() % 32_768) * 2) as u16
 }
 
-/// DS, by its number where one is known.
+/// Answers the size of a DS, given its number if it is known.
 fn space_sized(size: Option<u16>) -> Option<Statement>
     ensures { result ≡ space_sized size }
 {
@@ -61,12 +61,12 @@ fn space_sized(size: Option<u16>) -> Option<Statement>
     }
 }
 
-/// The number of a DS, where one is known.
+/// Answers the number of a DS, if it is known.
 fn size_in(alloc: Global, size: &Tree, names: &Names) -> Result<Option<u16>, AllocError>
     ensures { IfOk result (λ n. n ≡ size_in (space_size names.now size.now)) }
 {
     laws::lacking();
-    // Called for what it says: the items are those of an expression.
+    // The result is not used: the call's contract says that the items are those of an expression.
     size.items();
     if !is_defined(size, names) {
         return Ok(None);
@@ -78,16 +78,15 @@ fn size_in(alloc: Global, size: &Tree, names: &Names) -> Result<Option<u16>, All
     }
 }
 
-/// The statement that a word and its operands make, as far as its size matters: None for `DS 0`, and for each directive but `DB`,
-/// `DW` and `DS`. No place in the program decides it, so that places may be laid by
-/// it: a label or an external may stand for any ref.
+/// Answers the size of the statement that a line makes: None for `DS 0`, and for each directive other than `DB`, `DW` and `DS`. The size
+/// does not depend on addresses, so addresses can be computed from it: a label or an external may stand for any ref.
 ///
-/// A `DS` of which no number is known, since it is faulty or a name in it stands for nothing or has no value, is
-/// [`Statement::Unsized`]. Of data that takes no byte or more than 65,535, which no line has, nothing is said.
+/// A `DS` has the size [`Statement::Unsized`] if its number is not known: because it has an error, or because a name in it is undefined or
+/// has no value. Nothing is claimed for data of no bytes or of more than 65,535, which no line has.
 ///
 /// # Errors
 ///
-/// Where memory is refused.
+/// `AllocError` if memory ran out.
 pub fn size_of(alloc: Global, body: &Body, names: &Names) -> Result<Option<Statement>, AllocError>
     ensures { IsFew (body_of body.now) → IfOk result (λ size. size ≡ sized names.now (body_of body.now)) }
 {

@@ -1,9 +1,9 @@
-//! DS and ORG.
+//! What DS and ORG make.
 
 ghost use Rattle.std.specs.Prelude.{◌≡◌, option_copied};
 ghost use Rattle.std.specs.Option.{IfSome};
 ghost use Rattle.asm_spell.specs.Faults.{Gives};
-ghost use Rattle.asm_piece.specs.Made.{IsDefined, is_origin, made_of, number_in, origin, sized_by, space, space_fill, space_size};
+ghost use Rattle.asm_piece.specs.Made.{IsDefined, is_origin, made_of, number_in, origin, space_of_size, space_made, space_fill, space_size};
 ghost use Rattle.asm_piece.specs.Private.Views.{same};
 
 use crate::cell::Filling;
@@ -15,7 +15,7 @@ use common::FIRST_PLACE;
 use std::alloc::Global;
 use z80_form::Field;
 
-/// The number that is settled, if one is.
+/// Answers the number if the expression has a value and this is just one number.
 pub(crate) fn number_in(settled: &Settled) -> Option<u16>
     ensures { result ≡ number_in settled.now }
 {
@@ -25,7 +25,7 @@ pub(crate) fn number_in(settled: &Settled) -> Option<u16>
     }
 }
 
-/// The number of a DS.
+/// Answers the number of a DS.
 pub(crate) fn space_size(alloc: Global, size: &Tree, names: &Names) -> Result<Settled, StmtFault>
     requires { IsDefined names.now size.now }
     ensures { Gives same result (space_size names.now size.now) }
@@ -38,7 +38,7 @@ pub(crate) fn space_size(alloc: Global, size: &Tree, names: &Names) -> Result<Se
     }
 }
 
-/// What fills a DS.
+/// Answers the fill byte of a DS.
 fn space_fill(alloc: Global, fill: Option<&Tree>, names: &Names) -> Result<Filling, StmtFault>
     requires { IfSome (option_copied fill) (IsDefined names.now) }
     ensures { Gives same result (space_fill names.now (option_copied fill.entry)) }
@@ -49,9 +49,9 @@ fn space_fill(alloc: Global, fill: Option<&Tree>, names: &Names) -> Result<Filli
     }
 }
 
-/// The space of a number that is known; 0 of it takes nothing up.
+/// Answers the space if its size is known. Size 0 makes nothing.
 fn sized(size: Option<u16>, fill: Filling) -> Made
-    ensures { made_of result ≡ sized_by size fill }
+    ensures { made_of result ≡ space_of_size size fill }
 {
     match (size, fill) {
         (Some(0), _) => Made::Nothing,
@@ -63,7 +63,7 @@ fn sized(size: Option<u16>, fill: Filling) -> Made
     }
 }
 
-/// What DS makes.
+/// Answers what DS makes.
 pub(crate) fn space(
     alloc: Global,
     size: &Tree,
@@ -72,14 +72,14 @@ pub(crate) fn space(
 ) -> Result<Made, StmtFault>
     requires size { IsDefined names.now size.now }
     requires fill { IfSome (option_copied fill) (IsDefined names.now) }
-    ensures { Gives made_of result (space names.now size.now (option_copied fill.entry)) }
+    ensures { Gives made_of result (space_made names.now size.now (option_copied fill.entry)) }
 {
     let settled = space_size(alloc, size, names)?;
     let fill = space_fill(alloc, fill, names)?;
     Ok(sized(number_in(&settled), fill))
 }
 
-/// Whether an expression is where a program begins, as far as is known.
+/// Whether an expression is 0100H, or may be because its value is not known.
 fn is_origin(settled: &Settled) -> bool
     ensures { result ≡ is_origin settled.now }
 {
@@ -89,7 +89,7 @@ fn is_origin(settled: &Settled) -> bool
     }
 }
 
-/// What ORG makes.
+/// Answers what ORG makes.
 pub(crate) fn origin(alloc: Global, tree: &Tree, names: &Names) -> Result<Made, StmtFault>
     requires { IsDefined names.now tree.now }
     ensures { Gives made_of result (origin names.now tree.now) }

@@ -1,4 +1,4 @@
--- A line whose first tokens are left as they are begins with them when it is replaced.
+-- If the first tokens of a line are not replaced, the replaced line begins with these tokens.
 use Rattle.std.proofs.Common.{◌≡◌, ◌<◌, ◌≤◌, ◌+◌, ◌∙◌, sym, ap, refl, subst, ℕ, Bool, true, false, List, [], ◌∷◌, ◌++◌, Result, Ok, Err, inl, inr, ◌==◌, append_assoc, arith, drop, length, length-append, length-drop}
 use Rattle.std.specs.List.{prefix_len}
 use Rattle.std.proofs.Math.Numerals.{one-add}
@@ -9,16 +9,16 @@ use Rattle.asm_scan.specs.declared.fault.ScanFault.{ScanFault}
 use Rattle.asm_scan.specs.declared.token.Kind.{Kind}
 use Rattle.asm_scan.specs.Classes.{begins_name, continues_name, is_blank}
 use Rattle.asm_scan.specs.Tokens.{BeginsWithout, IsToken, Lexeme}
-use Rattle.asm_scan.specs.Lines.{BeginsToken, BeginsTokens, Cut, Scans, Stops, without_blanks}
+use Rattle.asm_scan.specs.Lines.{BeginsToken, BeginsTokens, Cut, Scans, HasScanFault, without_blanks}
 use Rattle.asm_scan.specs.Scanned.{scanned}
 use Rattle.asm_scan.proofs.Cuts.{one_answer, scans, scans_stop, token_some}
 use Rattle.asm_line.specs.Tokens.{is_name, is_name_kind}
 use Rattle.asm_replace.specs.Fronts.{AreLeft, Begins, IsLeft, NextIsLeft, goes_on}
-use Rattle.asm_replace.specs.Pieces.{gap, behind}
-use Rattle.asm_replace.specs.Replaced.{Table, replaced, swapped}
+use Rattle.asm_replace.specs.Pieces.{gap, after_first_token}
+use Rattle.asm_replace.specs.Replaced.{ReplacementTable, replaced_tokens, swapped}
 use Rattle.asm_replace.proofs.Lines.{after_token, kept}
 
--- Bytes that begin with the same one, or are none.
+-- Both lists begin with the same byte, or both are empty.
 abbrev BeginAlike : List ℕ → List ℕ → Type 0
 BeginAlike [] [] = Unit {0}
 BeginAlike [] (b ∷ bs) = ⊥
@@ -50,7 +50,7 @@ token_stays Kind.Quoted text after now same t = record {
 }
 token_stays (Kind.Mark m) text after now same t = t
 
--- Blanks at a front.
+-- Blanks at the beginning of a line.
 
 unblank : (xs : List ℕ) → BeginsWithout is_blank xs → without_blanks xs ≡ xs
 unblank [] w = refl
@@ -75,7 +75,7 @@ skipped (b ∷ bs) rest w =
       | inr other ↦ ap (λ g. without_blanks (g ++ rest)) (take_while-cons is_blank b bs ∙ cond-false (is_blank b) (b ∷ gap bs) [] other) ∙ unblank rest w
     ]
 
--- A line around its first token.
+-- A line consists of the blanks before its first token, the token, and the rest.
 
 pub whole_line : (line : List ℕ) (token : Lexeme) (after : List ℕ) → BeginsToken line token after → line ≡ (gap line ++ token.text) ++ after
 whole_line line token after b = sym (take-append-drop (prefix_len is_blank line) line) ∙ ap (λ r. gap line ++ r) b.bytes_are ∙ sym (append_assoc (gap line) token.text after)
@@ -83,29 +83,29 @@ whole_line line token after b = sym (take-append-drop (prefix_len is_blank line)
 some_front : (line : List ℕ) (token : Lexeme) (after : List ℕ) → BeginsToken line token after → 0 < length (gap line ++ token.text)
 some_front line token after b = omega (arith, length-append (gap line) token.text, token_some token.kind token.text after b.token_is)
 
--- the same token, before something else
+-- the same token, followed by something else
 token_before : (line : List ℕ) (token : Lexeme) (after now : List ℕ) → BeginsToken line token after → IsToken token.kind token.text now → BeginsToken ((gap line ++ token.text) ++ now) token now
 token_before line token after now b is =
     let some = token_some token.kind token.text after b.token_is in
     let front : BeginsWithout is_blank (token.text ++ now) = without_stays is_blank (token.text ++ after) (token.text ++ now) (alike_front token.text after now some) (subst (BeginsWithout is_blank) b.bytes_are (not_blank line)) in
     record { bytes_are = ap without_blanks (append_assoc (gap line) token.text now) ∙ skipped line (token.text ++ now) front; token_is = is }
 
--- what is replaced from a token on that is left begins as it did
-next_alike : (table : Table) (rest : List ℕ) (token : Lexeme) (tokens : List Lexeme) (after : List ℕ) → BeginsToken rest token after → IsLeft table token → BeginAlike rest (replaced table rest (token ∷ tokens))
+-- if the next token is not replaced, what is replaced from there on begins with the same byte
+next_alike : (table : ReplacementTable) (rest : List ℕ) (token : Lexeme) (tokens : List Lexeme) (after : List ℕ) → BeginsToken rest token after → IsLeft table token → BeginAlike rest (replaced_tokens table rest (token ∷ tokens))
 next_alike table rest token tokens after b left =
-    let now = replaced table (behind rest token) tokens in
-    let text : (gap rest ++ token.text) ++ now ≡ replaced table rest (token ∷ tokens) = ap (λ t. (gap rest ++ t) ++ now) (sym (kept table token left)) in
-    subst (λ xs. BeginAlike xs (replaced table rest (token ∷ tokens))) (sym (whole_line rest token after b))
+    let now = replaced_tokens table (after_first_token rest token) tokens in
+    let text : (gap rest ++ token.text) ++ now ≡ replaced_tokens table rest (token ∷ tokens) = ap (λ t. (gap rest ++ t) ++ now) (sym (kept table token left)) in
+    subst (λ xs. BeginAlike xs (replaced_tokens table rest (token ∷ tokens))) (sym (whole_line rest token after b))
     (subst (BeginAlike ((gap rest ++ token.text) ++ after)) text (alike_front (gap rest ++ token.text) after now (some_front rest token after b)))
 
--- Two names do not touch.
+-- Two names cannot follow each other without something between them.
 
 no_touch : (text after : List ℕ) → IsToken Kind.Name text after → BeginsWithout continues_name (text ++ after) → ⊥
 no_touch [] after t w = t.0
 no_touch (b ∷ text) after t w = false≢true (sym w ∙ or_left (begins_name b) _ t.0.0)
 
-name_alike : (table : Table) (rest : List ℕ) (token : Lexeme) (tokens : List Lexeme) (after blanks : List ℕ) → BeginsToken rest token after → is_name token ≡ true → BeginsWithout continues_name rest → gap rest ≡ blanks
-    → BeginAlike rest (replaced table rest (token ∷ tokens))
+name_alike : (table : ReplacementTable) (rest : List ℕ) (token : Lexeme) (tokens : List Lexeme) (after blanks : List ℕ) → BeginsToken rest token after → is_name token ≡ true → BeginsWithout continues_name rest → gap rest ≡ blanks
+    → BeginAlike rest (replaced_tokens table rest (token ∷ tokens))
 name_alike table rest token tokens after [] b named w none = absurd (no_touch token.text after (is_name_token token.kind token.text after named b.token_is) (subst (BeginsWithout continues_name) (whole_line rest token after b ∙ ap (λ g. (g ++ token.text) ++ after) none) w)) where
   is_name_token : (k : Kind) (text after : List ℕ) → is_name_kind k ≡ true → IsToken k text after → IsToken Kind.Name text after
   is_name_token Kind.Name text after named t = t
@@ -114,56 +114,56 @@ name_alike table rest token tokens after [] b named w none = absurd (no_touch to
   is_name_token Kind.Quoted text after named t = absurd (false≢true named)
   is_name_token (Kind.Mark m) text after named t = absurd (false≢true named)
 name_alike table rest token tokens after (g ∷ gs) b named w some =
-    let now = replaced table (behind rest token) tokens in
+    let now = replaced_tokens table (after_first_token rest token) tokens in
     let front : rest ≡ g ∷ ((gs ++ token.text) ++ after) = whole_line rest token after b ∙ ap (λ x. (x ++ token.text) ++ after) some in
-    let also : replaced table rest (token ∷ tokens) ≡ g ∷ ((gs ++ swapped table token) ++ now) = ap (λ x. (x ++ swapped table token) ++ now) some in
-    subst (λ xs. BeginAlike xs (replaced table rest (token ∷ tokens))) (sym front) (subst (BeginAlike (g ∷ ((gs ++ token.text) ++ after))) (sym also) refl)
+    let also : replaced_tokens table rest (token ∷ tokens) ≡ g ∷ ((gs ++ swapped table token) ++ now) = ap (λ x. (x ++ swapped table token) ++ now) some in
+    subst (λ xs. BeginAlike xs (replaced_tokens table rest (token ∷ tokens))) (sym front) (subst (BeginAlike (g ∷ ((gs ++ token.text) ++ after))) (sym also) refl)
 
--- The last of the tokens that are left ends where it did.
+-- The last of the tokens that are not replaced ends where it did.
 
-name_stays : (table : Table) (text rest end : List ℕ) (more : List Lexeme) → BeginsTokens rest more end → IsToken Kind.Name text rest → IsToken Kind.Name text (replaced table rest more)
+name_stays : (table : ReplacementTable) (text rest end : List ℕ) (more : List Lexeme) → BeginsTokens rest more end → IsToken Kind.Name text rest → IsToken Kind.Name text (replaced_tokens table rest more)
 name_stays table text rest end [] b t = t
 name_stays table text rest end (token ∷ tokens) b t =
     elim (cases_Bool (is_name token)) [
-      | inl named ↦ token_stays Kind.Name text rest (replaced table rest (token ∷ tokens)) (name_alike table rest token tokens b.0 (gap rest) b.1 named t.1 refl) t
-      | inr other ↦ token_stays Kind.Name text rest (replaced table rest (token ∷ tokens)) (next_alike table rest token tokens b.0 b.1 (λ named. absurd (false≢true (sym other ∙ named)))) t
+      | inl named ↦ token_stays Kind.Name text rest (replaced_tokens table rest (token ∷ tokens)) (name_alike table rest token tokens b.0 (gap rest) b.1 named t.1 refl) t
+      | inr other ↦ token_stays Kind.Name text rest (replaced_tokens table rest (token ∷ tokens)) (next_alike table rest token tokens b.0 b.1 (λ named. absurd (false≢true (sym other ∙ named)))) t
     ]
 
-next_stays : (table : Table) (k : Kind) (text rest end : List ℕ) (more : List Lexeme) → BeginsTokens rest more end → NextIsLeft table more → IsToken k text rest → IsToken k text (replaced table rest more)
+next_stays : (table : ReplacementTable) (k : Kind) (text rest end : List ℕ) (more : List Lexeme) → BeginsTokens rest more end → NextIsLeft table more → IsToken k text rest → IsToken k text (replaced_tokens table rest more)
 next_stays table k text rest end [] b left t = t
-next_stays table k text rest end (token ∷ tokens) b left t = token_stays k text rest (replaced table rest (token ∷ tokens)) (next_alike table rest token tokens b.0 b.1 left) t
+next_stays table k text rest end (token ∷ tokens) b left t = token_stays k text rest (replaced_tokens table rest (token ∷ tokens)) (next_alike table rest token tokens b.0 b.1 left) t
 
-last_stays : (table : Table) (k : Kind) (text rest end : List ℕ) (more : List Lexeme) → BeginsTokens rest more end → (goes_on k ≡ true → NextIsLeft table more) → IsToken k text rest → IsToken k text (replaced table rest more)
+last_stays : (table : ReplacementTable) (k : Kind) (text rest end : List ℕ) (more : List Lexeme) → BeginsTokens rest more end → (goes_on k ≡ true → NextIsLeft table more) → IsToken k text rest → IsToken k text (replaced_tokens table rest more)
 last_stays table Kind.Name text rest end more b left t = name_stays table text rest end more b t
 last_stays table Kind.OtherAf text rest end more b left t = t
 last_stays table (Kind.Number n) text rest end more b left t = next_stays table (Kind.Number n) text rest end more b (left refl) t
 last_stays table Kind.Quoted text rest end more b left t = next_stays table Kind.Quoted text rest end more b (left refl) t
 last_stays table (Kind.Mark m) text rest end more b left t = t
 
--- What a line comes to from its first token on, where that is left.
-one_left : (table : Table) (line : List ℕ) (token : Lexeme) (tokens : List Lexeme) (after : List ℕ) → BeginsToken line token after → IsLeft table token
-    → replaced table line (token ∷ tokens) ≡ (gap line ++ token.text) ++ replaced table after tokens
+-- What a line becomes from its first token on, if that token is not replaced.
+one_left : (table : ReplacementTable) (line : List ℕ) (token : Lexeme) (tokens : List Lexeme) (after : List ℕ) → BeginsToken line token after → IsLeft table token
+    → replaced_tokens table line (token ∷ tokens) ≡ (gap line ++ token.text) ++ replaced_tokens table after tokens
 one_left table line token tokens after b left =
-    ap (λ t. (gap line ++ t) ++ replaced table (behind line token) tokens) (kept table token left) ∙ ap (λ l. (gap line ++ token.text) ++ replaced table l tokens) (after_token line token after b)
+    ap (λ t. (gap line ++ t) ++ replaced_tokens table (after_first_token line token) tokens) (kept table token left) ∙ ap (λ l. (gap line ++ token.text) ++ replaced_tokens table l tokens) (after_token line token after b)
 
-stays : (table : Table) (line rest end : List ℕ) (front more : List Lexeme) → BeginsTokens line front rest → BeginsTokens rest more end → AreLeft table front more
-    → BeginsTokens (replaced table line (front ++ more)) front (replaced table rest more)
-stays table line rest end [] more b m left = ap (λ l. replaced table l more) b
+stays : (table : ReplacementTable) (line rest end : List ℕ) (front more : List Lexeme) → BeginsTokens line front rest → BeginsTokens rest more end → AreLeft table front more
+    → BeginsTokens (replaced_tokens table line (front ++ more)) front (replaced_tokens table rest more)
+stays table line rest end [] more b m left = ap (λ l. replaced_tokens table l more) b
 stays table line rest end (token ∷ []) more b m left =
     let whole = one_left table line token more b.0 b.1 left.0 in
     let same : b.0 ≡ rest = b.2 in
     let is = last_stays table token.kind token.text rest end more m left.1 (subst (IsToken token.kind token.text) same b.1.token_is) in
-    (replaced table rest more, subst (λ l. BeginsToken l token (replaced table rest more)) (sym (whole ∙ ap (λ l. (gap line ++ token.text) ++ replaced table l more) same)) (token_before line token b.0 (replaced table rest more) b.1 is), refl)
+    (replaced_tokens table rest more, subst (λ l. BeginsToken l token (replaced_tokens table rest more)) (sym (whole ∙ ap (λ l. (gap line ++ token.text) ++ replaced_tokens table l more) same)) (token_before line token b.0 (replaced_tokens table rest more) b.1 is), refl)
 stays table line rest end (token ∷ other ∷ front) more b m left =
     let whole = one_left table line token (other ∷ front ++ more) b.0 b.1 left.0 in
-    let now = replaced table b.0 (other ∷ front ++ more) in
+    let now = replaced_tokens table b.0 (other ∷ front ++ more) in
     let is = token_stays token.kind token.text b.0 now (next_alike table b.0 other (front ++ more) b.2.0 b.2.1 (first_left table other front more left.1)) b.1.token_is in
     (now, subst (λ l. BeginsToken l token now) (sym whole) (token_before line token b.0 now b.1 is), stays table b.0 rest end (other ∷ front) more b.2 m left.1) where
-      first_left : (table : Table) (other : Lexeme) (front more : List Lexeme) → AreLeft table (other ∷ front) more → IsLeft table other
+      first_left : (table : ReplacementTable) (other : Lexeme) (front more : List Lexeme) → AreLeft table (other ∷ front) more → IsLeft table other
       first_left table other [] more left = left.0
       first_left table other (u ∷ us) more left = left.0
 
--- A line that begins with tokens, and comes to them and others.
+-- A line that begins with some tokens consists of these and of the rest, which begins with the others.
 
 divided : (line end : List ℕ) (front more : List Lexeme) → BeginsTokens line (front ++ more) end → (rest : List ℕ) × BeginsTokens line front rest × BeginsTokens rest more end
 divided line end [] more b = (line, refl, b)
@@ -178,7 +178,7 @@ shorter line rest [] b = omega (arith, ap length b)
 shorter line rest (token ∷ front) b =
     omega (arith, shorter b.0 rest front b.2, ap length b.1.bytes_are, length-append token.text b.0, length-drop (prefix_len is_blank line) line)
 
-stops_of : (f : ScanFault) (rest : List ℕ) → Scans rest (Err f) → length rest ≤ 255 → Stops rest f
+stops_of : (f : ScanFault) (rest : List ℕ) → Scans rest (Err f) → length rest ≤ 255 → HasScanFault rest f
 stops_of ScanFault.BadByte rest s short = s.1
 stops_of ScanFault.OpenString rest s short = s.1
 stops_of ScanFault.LineTooLong rest s short = absurd (omega (arith, s, short))
@@ -199,8 +199,8 @@ begins_by line rest front b (Ok tokens) (Err f) s t =
       no_fault : (xs : List Lexeme) (f : ScanFault) → ◌≡◌ {A = Result (List Lexeme) ScanFault} (Ok xs) (Err f) → ⊥
       no_fault xs f e = cc
 
-pub front_stays : (table : Table) (line : List ℕ) (front more : List Lexeme) → Cut line (front ++ more) → AreLeft table front more → Begins front (scanned (replaced table line (front ++ more)))
+pub front_stays : (table : ReplacementTable) (line : List ℕ) (front more : List Lexeme) → Cut line (front ++ more) → AreLeft table front more → Begins front (scanned (replaced_tokens table line (front ++ more)))
 front_stays table line front more cut left =
     let parts = divided line cut.rest front more cut.begins in
-    let now = replaced table line (front ++ more) in
-    begins_by now (replaced table parts.0 more) front (stays table line parts.0 cut.rest front more parts.1 parts.2 left) (scanned now) (scanned (replaced table parts.0 more)) (scans now) (scans (replaced table parts.0 more))
+    let now = replaced_tokens table line (front ++ more) in
+    begins_by now (replaced_tokens table parts.0 more) front (stays table line parts.0 cut.rest front more parts.1 parts.2 left) (scanned now) (scanned (replaced_tokens table parts.0 more)) (scans now) (scans (replaced_tokens table parts.0 more))

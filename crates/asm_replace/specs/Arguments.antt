@@ -3,22 +3,22 @@ use Rattle.std.specs.Prelude.{ℕ, ◌==◌, ◌&&◌, List, [], ◌∷◌, ◌+
 use Rattle.asm_scan.specs.Tokens.{Lexeme}
 use Rattle.asm_line.specs.Commas.{open_behind}
 use Rattle.asm_line.specs.Tokens.{is_comma}
-use Rattle.asm_replace.specs.Pieces.{gap, behind}
+use Rattle.asm_replace.specs.Pieces.{gap, after_first_token}
 
--- a text with a token behind it; blanks before the first token are no part of it
-abbrev pub with_token : List ℕ → List ℕ → List ℕ → List ℕ
-with_token [] blanks token = token
-with_token (b ∷ text) blanks token = ((b ∷ text) ++ blanks) ++ token
+-- an argument with one more token; blanks before its first token do not belong to it
+abbrev pub text_with_token : List ℕ → List ℕ → List ℕ → List ℕ
+text_with_token [] blanks token = token
+text_with_token (b ∷ text) blanks token = ((b ∷ text) ++ blanks) ++ token
 
--- the arguments that are left, of which the first begins with a text, at a depth of parentheses
+-- the rest of the arguments; the first of them begins with `text`, and this many parentheses are open
 abbrev pub arguments_from : ℕ → List ℕ → List ℕ → List Lexeme → List (List ℕ)
 arguments_from depth text line [] = text ∷ []
 arguments_from depth text line (token ∷ tokens) =
-    if (depth == 0) && is_comma token then text ∷ arguments_from 0 [] (behind line token) tokens
-    else arguments_from (open_behind depth token.kind) (with_token text (gap line) token.text) (behind line token) tokens
+    if (depth == 0) && is_comma token then text ∷ arguments_from 0 [] (after_first_token line token) tokens
+    else arguments_from (open_behind depth token.kind) (text_with_token text (gap line) token.text) (after_first_token line token) tokens
 
--- what stands behind a macro's name, separated at commas outside of strings and parentheses, without blanks at both ends; no
--- arguments where nothing stands there
+-- the arguments after a macro's name: they are separated by commas outside of strings and parentheses, and have no blanks at either end; if
+-- nothing follows the name, there are no arguments
 abbrev pub arguments : List ℕ → List Lexeme → List (List ℕ)
 arguments line [] = []
 arguments line (token ∷ tokens) = arguments_from 0 [] line (token ∷ tokens)

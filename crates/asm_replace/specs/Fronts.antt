@@ -1,4 +1,4 @@
--- Lines whose first tokens are left as they are.
+-- Lines whose first tokens are not replaced.
 use Rattle.std.specs.Prelude.{◌≡◌, Bool, true, false, List, [], ◌∷◌, ◌++◌, None, Result, Ok, Err}
 use Rattle.std.specs.Map.{lookup}
 use Rattle.std.specs.Str.{bytes_eq}
@@ -7,29 +7,29 @@ use Rattle.asm_scan.specs.declared.token.Kind.{Kind}
 use Rattle.asm_scan.specs.Tokens.{Lexeme}
 use Rattle.common.specs.Words.{upper}
 use Rattle.asm_line.specs.Tokens.{is_name}
-use Rattle.asm_replace.specs.Replaced.{Table}
+use Rattle.asm_replace.specs.Replaced.{ReplacementTable}
 
--- a token is no name of the table
-abbrev pub IsLeft : Table → Lexeme → Type 0
+-- the token is not a name of the table
+abbrev pub IsLeft : ReplacementTable → Lexeme → Type 0
 IsLeft table token = is_name token ≡ true → lookup (bytes_eq (upper token.text)) table ≡ None
 
-abbrev pub NextIsLeft : Table → List Lexeme → Type 0
+abbrev pub NextIsLeft : ReplacementTable → List Lexeme → Type 0
 NextIsLeft table [] = Unit {0}
 NextIsLeft table (token ∷ tokens) = IsLeft table token
 
--- a token of this kind may go on in what stands in the place of the next one
+-- a token of this kind may become longer if what replaces the next token begins with the right byte
 abbrev pub goes_on : Kind → Bool
 goes_on (Kind.Number n) = true
 goes_on Kind.Quoted = true
 goes_on _ = false
 
--- The first tokens of a line are left as they are, and so is the next, where the last of them may go on in it.
-abbrev pub AreLeft : Table → List Lexeme → List Lexeme → Type 0
+-- The first tokens of a line are not replaced; nor is the next one if the last of them could become longer.
+abbrev pub AreLeft : ReplacementTable → List Lexeme → List Lexeme → Type 0
 AreLeft table [] more = Unit {0}
 AreLeft table (token ∷ []) more = IsLeft table token × (goes_on token.kind ≡ true → NextIsLeft table more)
 AreLeft table (token ∷ other ∷ front) more = IsLeft table token × AreLeft table (other ∷ front) more
 
--- What is read of a line begins with these tokens, if it is tokens.
+-- If the line can be tokenized, its tokens begin with these.
 abbrev pub Begins : List Lexeme → Result (List Lexeme) ScanFault → Type 0
 Begins front (Ok tokens) = (others : List Lexeme) × (tokens ≡ front ++ others)
 Begins front (Err fault) = Unit {0}

@@ -1,8 +1,8 @@
-//! The arguments of a call.
+//! Finds the arguments of a call.
 
 ghost use Rattle.std.specs.Prelude.{◌≡◌, IfOk, OnOk};
 ghost use Rattle.asm_scan.specs.Tokens.{lexemes};
-ghost use Rattle.asm_replace.specs.Arguments.{arguments, with_token};
+ghost use Rattle.asm_replace.specs.Arguments.{arguments, text_with_token};
 ghost use Rattle.asm_replace.specs.Pieces.{gap};
 ghost use Rattle.asm_replace.specs.Views.{texts};
 
@@ -11,9 +11,9 @@ use asm_line::{is_comma, open_behind};
 use asm_scan::{Token, blank_len};
 use std::alloc::{AllocError, Global};
 
-/// Writes the first token of what is left of a line behind an argument's text, with the blanks between.
+/// Appends the first token of the rest of a line to an argument, with the blanks before it unless the argument is empty.
 fn put_token(rest: &[u8], token: &Token<'_>, argument: &mut Vec<u8>) -> Result<(), AllocError>
-    ensures { OnOk result (argument.new.items ≡ with_token argument.old.items (gap rest.now) token.now.text.now) }
+    ensures { OnOk result (argument.new.items ≡ text_with_token argument.old.items (gap rest.now) token.now.text.now) }
 {
     if !argument.is_empty() {
         let (blanks, _) = rest.split_at(blank_len(rest));
@@ -23,8 +23,8 @@ fn put_token(rest: &[u8], token: &Token<'_>, argument: &mut Vec<u8>) -> Result<(
     Ok(())
 }
 
-/// The arguments that stand behind a macro's name, separated at commas outside of strings and parentheses, without the
-/// blanks at their ends. `tokens` are those of the line that is left.
+/// Answers the arguments after a macro's name. They are separated by commas outside of strings and parentheses, and have no blanks at
+/// either end. `line` is the rest of the line after the name, and `tokens` are its tokens.
 pub fn arguments(
     alloc: Global,
     line: &[u8],

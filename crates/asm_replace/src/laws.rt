@@ -1,4 +1,4 @@
-//! Laws about lines with whole names replaced, as functions that do nothing.
+//! Laws about lines with whole names replaced. A law is a function that does nothing and whose clause is a theorem.
 
 ghost use Rattle.std.specs.Prelude.{◌≡◌, ◌++◌, ℕ, All, List, None, true};
 ghost use Rattle.std.specs.Map.{lookup};
@@ -9,22 +9,22 @@ ghost use Rattle.asm_scan.specs.Scanned.{scanned};
 ghost use Rattle.asm_scan.specs.Tokens.{Lexeme};
 ghost use Rattle.asm_line.specs.Tokens.{is_name};
 ghost use Rattle.asm_replace.specs.Fronts.{AreLeft, Begins};
-ghost use Rattle.asm_replace.specs.Replaced.{SaySame, Table, replaced};
+ghost use Rattle.asm_replace.specs.Replaced.{SaySame, ReplacementTable, replaced_tokens};
 
-/// A line none of whose names stands in the table is left as it is.
+/// If no name of a line is in the table, the line stays as it is.
 pub fn unreplaced()
-    ensures { (table : Table) (line : List ℕ) (tokens : List Lexeme) → Cut line tokens →
-        All (λ token. is_name token ≡ true → lookup (bytes_eq (upper token.text)) table ≡ None) tokens → replaced table line tokens ≡ line }
+    ensures { (table : ReplacementTable) (line : List ℕ) (tokens : List Lexeme) → Cut line tokens →
+        All (λ token. is_name token ≡ true → lookup (bytes_eq (upper token.text)) table ≡ None) tokens → replaced_tokens table line tokens ≡ line }
 {}
 
-/// A line whose first tokens are left as they are begins with them when it is replaced, if it scans.
+/// If the first tokens of a line are not replaced, the replaced line begins with them, if it can be tokenized.
 pub fn front_stays()
-    ensures { (table : Table) (line : List ℕ) (front more : List Lexeme) → Cut line (front ++ more) → AreLeft table front more →
-        Begins front (scanned (replaced table line (front ++ more))) }
+    ensures { (table : ReplacementTable) (line : List ℕ) (front more : List Lexeme) → Cut line (front ++ more) → AreLeft table front more →
+        Begins front (scanned (replaced_tokens table line (front ++ more))) }
 {}
 
-/// Tables that say the same of each name replace alike.
+/// Two tables that replace each name by the same replace a line alike.
 pub fn by_names()
-    ensures { (t u : Table) → SaySame t u → (line : List ℕ) (tokens : List Lexeme) →
-        replaced t line tokens ≡ replaced u line tokens }
+    ensures { (t u : ReplacementTable) → SaySame t u → (line : List ℕ) (tokens : List Lexeme) →
+        replaced_tokens t line tokens ≡ replaced_tokens u line tokens }
 {}

@@ -1,4 +1,4 @@
-//! A line of a macro's body with its names replaced, and the arguments of a call.
+//! Replaces the names in the lines of a macro's body, and finds the arguments of a call.
 #![tactic(auto)]
 
 mod called;

@@ -1,41 +1,41 @@
-//! The names of a macro, by their places.
+//! The names of a macro, and the place of each.
 
 ghost use Rattle.std.specs.Prelude.{◌≡◌, ◌<◌, ◌++◌, ◌∷◌, [], IfOk, List, OnOk, length, slice_index_or, ℕ};
 ghost use Rattle.asm_replace.specs.Replaced.{SaySame};
-ghost use Rattle.asm_replace.specs.Views.{seen, texts};
+ghost use Rattle.asm_replace.specs.Views.{names_seen, texts};
 ghost use Rattle.asm_replace.specs.Private.Places.{placed};
 
 use common::{KeyMixer, NameKey};
 use indexmap::IndexMap;
 use std::alloc::{AllocError, Global};
 
-/// What a name of a macro is.
+/// Which kind of name of a macro it is.
 #[derive(Clone, Copy, Debug)]
 pub(crate) enum NameKind {
     Parameter,
     Local,
 }
 
-/// Where a name stands, from 0: among the parameters, or among the names of LOCAL lines.
+/// The position of a name, from 0, among the parameters or among the LOCAL names.
 #[derive(Clone, Copy, Debug)]
 pub(crate) struct Place {
     pub kind: NameKind,
     pub at: usize,
 }
 
-/// Names in upper case, each with its place. Of equal names the first counts, and parameters stand before LOCAL names.
+/// Names in upper case, each with its place. If a name occurs twice, the first one counts, and parameters come before LOCAL names.
 #[derive(Debug, Drop)]
 pub struct Names {
     pub(crate) places: IndexMap<Vec<u8>, Place, NameKey>,
 }
 
-/// Adds a name, if it is not there.
+/// Adds a name, unless it is there already.
 fn add(
     places: &mut IndexMap<Vec<u8>, Place, NameKey>,
     name: Vec<u8>,
     place: Place,
 ) -> Result<(), AllocError>
-    ensures { OnOk result ((f : Place → List ℕ) → SaySame (seen f places.new.entries) (seen f places.old.entries ++ (name.items, f place) ∷ [])) }
+    ensures { OnOk result ((f : Place → List ℕ) → SaySame (names_seen f places.new.entries) (names_seen f places.old.entries ++ (name.items, f place) ∷ [])) }
 {
     if places.get(name.as_slice()).is_some() {
         return Ok(());
@@ -44,7 +44,7 @@ fn add(
     Ok(())
 }
 
-/// A copy of one of some names.
+/// Answers a copy of the name at this index.
 fn name_at(names: &[Vec<u8>], at: usize) -> Result<Vec<u8>, AllocError>
     requires { at < length names.now }
     ensures { IfOk result (λ name. name.items ≡ slice_index_or (texts names.now) at []) }
@@ -58,7 +58,7 @@ fn add_all(
     kind: NameKind,
     names: &[Vec<u8>],
 ) -> Result<(), AllocError>
-    ensures { OnOk result ((f : Place → List ℕ) → SaySame (seen f places.new.entries) (seen f places.old.entries ++ placed f kind 0 (texts names.now))) }
+    ensures { OnOk result ((f : Place → List ℕ) → SaySame (names_seen f places.new.entries) (names_seen f places.old.entries ++ placed f kind 0 (texts names.now))) }
 {
     let mut at = 0;
     while at < names.len() {
@@ -75,9 +75,9 @@ impl Names {
     ghost use Rattle.std.specs.Option.{option_map};
     ghost use Rattle.std.specs.Str.{bytes_eq};
     ghost use Rattle.asm_replace.specs.Replaced.{SaySame, arguments_of, local_names};
-    ghost use Rattle.asm_replace.specs.Views.{in_call, seen, texts};
+    ghost use Rattle.asm_replace.specs.Views.{in_call, names_seen, texts};
 
-    /// The names of a macro's parameters and of its LOCAL lines, both in upper case.
+    /// Collects the names of a macro's parameters and of its LOCAL lines, all in upper case.
     pub fn new(
         alloc: Global,
         parameters: &[Vec<u8>],
@@ -94,14 +94,14 @@ impl Names {
         Ok(Names { places })
     }
 
-    /// The place of a name in upper case.
+    /// Answers the place of a name in upper case.
     pub(crate) fn place_of(&self, name: &[u8]) -> Option<Place>
-        ensures { (f : Place → List ℕ) → option_map f result ≡ lookup (bytes_eq name.now) (seen f self.now.places.entries) }
+        ensures { (f : Place → List ℕ) → option_map f result ≡ lookup (bytes_eq name.now) (names_seen f self.now.places.entries) }
     {
         self.places.get(name).copied()
     }
 
-    /// Whether a name in upper case is one of these.
+    /// Whether a name in upper case is one of the macro's.
     pub fn has(&self, name: &[u8]) -> bool
         ensures { (some : List (List ℕ)) (counter : ℕ) → result ≡ is_some (lookup (bytes_eq name.now) (in_call self.now some counter)) }
     {

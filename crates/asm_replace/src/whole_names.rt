@@ -1,11 +1,11 @@
-//! Whole names replaced.
+//! Replaces whole names in a line.
 
 ghost use Rattle.std.specs.Prelude.{◌≡◌, ◌++◌, OnOk};
 ghost use Rattle.asm_scan.specs.Tokens.{lexeme, lexemes};
 ghost use Rattle.common.specs.Words.{upper};
-ghost use Rattle.asm_replace.specs.Pieces.{behind};
-ghost use Rattle.asm_replace.specs.Replaced.{replaced, swapped};
-ghost use Rattle.asm_replace.specs.Views.{table, text_of, texts};
+ghost use Rattle.asm_replace.specs.Pieces.{after_first_token};
+ghost use Rattle.asm_replace.specs.Replaced.{replaced_tokens, swapped};
+ghost use Rattle.asm_replace.specs.Views.{replacement_table, replacement_at, texts};
 
 use crate::local::put_local_name;
 use crate::names::{NameKind, Names, Place};
@@ -14,25 +14,25 @@ use asm_scan::{Token, blank_len};
 use std::alloc::AllocError;
 use std::rc::Rc;
 
-/// What the names of a macro are replaced by in a call of it.
+/// What a call replaces the names of a macro by.
 #[derive(Debug, Drop)]
 pub struct Replacements {
     pub names: Rc<Names>,
-    /// What the parameters are replaced by, in their order: a missing one is empty, one too many counts for nothing.
+    /// What the parameters are replaced by, in their order. A missing argument counts as empty, and one too many is ignored.
     pub arguments: Vec<Vec<u8>>,
     /// The number of the first LOCAL name.
     pub counter: u64,
 }
 
-/// What stands behind the first token of a line.
+/// Answers the rest of a line after its first token.
 pub fn after<'a>(line: &'a [u8], token: &Token<'_>) -> &'a [u8]
-    ensures { result.now ≡ behind line.now (lexeme token.now) }
+    ensures { result.now ≡ after_first_token line.now (lexeme token.now) }
 {
     let (_, start) = line.split_at(blank_len(line));
     start.get(token.text.len()..).unwrap_or(&[])
 }
 
-/// Writes a name in upper case behind what was written.
+/// Appends a name in upper case.
 fn put_upper(name: &[u8], out: &mut Vec<u8>) -> Result<(), AllocError>
     ensures { OnOk result (out.new.items ≡ out.old.items ++ upper name.now) }
 {
@@ -42,10 +42,10 @@ fn put_upper(name: &[u8], out: &mut Vec<u8>) -> Result<(), AllocError>
     Ok(())
 }
 
-/// Writes what is put in the place of a name behind what was written. A LOCAL name whose number is no u64 is none that memory
-/// has room for.
+/// Appends what replaces the name at a place. If the number of a LOCAL name does not fit a u64, the answer is that memory ran out, since no
+/// memory holds as many names.
 fn put_text(names: &Replacements, place: Place, out: &mut Vec<u8>) -> Result<(), AllocError>
-    ensures { OnOk result (out.new.items ≡ out.old.items ++ text_of (texts names.now.arguments.items) names.now.counter place) }
+    ensures { OnOk result (out.new.items ≡ out.old.items ++ replacement_at (texts names.now.arguments.items) names.now.counter place) }
 {
     match place.kind {
         NameKind::Parameter => match names.arguments.get(place.at) {
@@ -59,15 +59,15 @@ fn put_text(names: &Replacements, place: Place, out: &mut Vec<u8>) -> Result<(),
     }
 }
 
-/// Writes a token behind what was written, or what its name is replaced by.
-#[tactic(auto, unfolding(crate::specs::Views::table))]
+/// Appends a token, or what its name is replaced by.
+#[tactic(auto, unfolding(crate::specs::Views::replacement_table))]
 fn put_swapped(names: &Replacements, token: &Token<'_>, out: &mut Vec<u8>) -> Result<(), AllocError>
-    ensures { OnOk result (out.new.items ≡ out.old.items ++ swapped (table names.now) (lexeme token.now)) }
+    ensures { OnOk result (out.new.items ≡ out.old.items ++ swapped (replacement_table names.now) (lexeme token.now)) }
 {
     if !is_name(token) {
         return out.extend_from_slice(token.text);
     }
-    // The name stands in upper case where its text is to stand, so that no memory is taken for it alone.
+    // The name in upper case is written to `out`, looked up there and removed again, so that looking it up needs no memory of its own.
     let start = out.len();
     put_upper(token.text, out)?;
     let place = names.names.place_of(out.get(start..).unwrap_or(&[]));
@@ -78,14 +78,14 @@ fn put_swapped(names: &Replacements, token: &Token<'_>, out: &mut Vec<u8>) -> Re
     }
 }
 
-/// Writes a line behind what was written, with each whole name of the table replaced. `tokens` are the line's.
+/// Appends a line with each whole name of the table replaced. `tokens` are the tokens of the line.
 pub fn replace(
     names: &Replacements,
     line: &[u8],
     tokens: &[Token<'_>],
     out: &mut Vec<u8>,
 ) -> Result<(), AllocError>
-    ensures { OnOk result (out.new.items ≡ out.old.items ++ replaced (table names.now) line.now (lexemes tokens.entry.now)) }
+    ensures { OnOk result (out.new.items ≡ out.old.items ++ replaced_tokens (replacement_table names.now) line.now (lexemes tokens.entry.now)) }
 {
     let mut rest = line;
     for token in tokens {

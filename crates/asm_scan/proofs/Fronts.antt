@@ -1,4 +1,4 @@
--- What the code reads at a front is the token or the fault that stands there, and nothing else does.
+-- The code reads at the front exactly the token or the error that is there.
 use Rattle.std.proofs.Common.{◌≡◌, ◌≢◌, ℕ, ◌+◌, List, [], ◌∷◌, ◌++◌, Bool, true, false, ◌==◌, ◌&&◌, nat_eq, Ok, Err, Option, Some, None, cond, codes, refl, sym, subst, ◌∙◌, ap, take, drop, length, arith, find, ◌⊎◌, inl, inr}
 use Rattle.std.specs.List.{prefix_len, AllPass, starts_with}
 use Rattle.std.specs.Char.{is_ascii_digit, is_ascii_alphanumeric, to_ascii_uppercase}
@@ -11,7 +11,7 @@ use Rattle.std.proofs.lemmas.Option.{same_Some, none-some}
 use Rattle.asm_scan.specs.Types.{Kind, Mark, ScanFault}
 use Rattle.asm_scan.specs.Classes.{begins_name, continues_name, is_quote, is_control}
 use Rattle.asm_scan.specs.Numbers.{number_of}
-use Rattle.asm_scan.specs.Tokens.{BeginsWithout, IsName, IsNumber, IsToken, IsString, IsOpenString, IsBrokenString, IsStrayByte, BeginsFault, ArePlain, IsAf, doubled, mark_byte}
+use Rattle.asm_scan.specs.Tokens.{BeginsWithout, IsName, IsNumber, IsToken, IsString, IsOpenString, IsBrokenString, IsStrayByte, BeginsFault, HasNoControlByte, IsAf, doubled, mark_byte}
 use Rattle.asm_scan.specs.Private.Reading.{is_af, first_token, every_mark, first_name, first_number, number_or_fault, quoted_or_fault, mark_or_fault, mark_of, string_len, longer_by}
 use Rattle.asm_scan.proofs.Strings.{len_after, len_at_end, len_at_control, EndsContent, divides}
 
@@ -24,7 +24,7 @@ module _ (p : ℕ → Bool) where
       cond-true (p b) (1 + prefix_len p (text ++ after)) 0 (All-head (λ x. p x ≡ true) b text all)
       ∙ ap (λ n. 1 + n) (run_len text after (All-tail (λ x. p x ≡ true) b text all) ended) ∙ one-add (length text)
 
-  -- a list is its run and what follows it
+  -- a list is its run and what follows that
   record Runs (bs : List ℕ) : Type 0 where
     pub text : List ℕ
     pub after : List ℕ
@@ -61,7 +61,7 @@ IsAf-from_test (a ∷ f ∷ []) af =
     let letters = and_parts (to_ascii_uppercase a == 0x41) (to_ascii_uppercase f == 0x46) af in
     ap (λ x. x ∷ to_ascii_uppercase f ∷ []) (eqb-true _ 0x41 letters.0) ∙ ap (λ x. 0x41 ∷ x ∷ []) (eqb-true _ 0x46 letters.1)
 
--- the test answers yes of each AF
+-- the test is true for each AF
 test-from_IsAf : (name : List ℕ) → IsAf name → is_af name ≡ true
 test-from_IsAf [] af = absurd (cc)
 test-from_IsAf (a ∷ []) af = absurd (cc)
@@ -128,7 +128,7 @@ number_read (b ∷ more) after o number ended value =
 quote_cases : (q : ℕ) → is_quote q ≡ true → (q ≡ 0x27) ⊎ (q ≡ 0x22)
 quote_cases q quoted = grind (arith, nat_tests)
 
--- a test answers no of either quote
+-- a test that is false for both quotes is false for each quote
 no_quote : (test : ℕ → Bool) → test 0x27 ≡ false → test 0x22 ≡ false → (q : ℕ) → is_quote q ≡ true → test q ≡ false
 no_quote test single double q quoted =
     elim (quote_cases q quoted) [
@@ -136,7 +136,7 @@ no_quote test single double q quoted =
       | inr e ↦ ap test e ∙ double
     ]
 
-string_read : (q : ℕ) (content rest : List ℕ) → is_quote q ≡ true → ArePlain content → first_token (q ∷ doubled q content ++ rest) ≡ quoted_or_fault (longer_by (length (doubled q content)) (string_len q rest))
+string_read : (q : ℕ) (content rest : List ℕ) → is_quote q ≡ true → HasNoControlByte content → first_token (q ∷ doubled q content ++ rest) ≡ quoted_or_fault (longer_by (length (doubled q content)) (string_len q rest))
 string_read q content rest quoted plain =
     cond-false (begins_name q) _ _ (no_quote begins_name refl refl q quoted)
     ∙ cond-false (is_ascii_digit q) _ _ (no_quote is_ascii_digit refl refl q quoted)
@@ -208,7 +208,7 @@ stray_read bs s =
     (cond-false (begins_name s.byte) _ _ s.no_name ∙ cond-false (is_ascii_digit s.byte) _ _ s.no_number ∙ cond-false (is_quote s.byte) _ _ s.no_string
     ∙ ap mark_or_fault (find_none (λ m. s.byte == mark_byte m) every_mark (λ m. ne_eqb s.byte (mark_byte m) (s.no_mark m))))
 
--- A token at a front is what is read there, and so is a fault.
+-- The code reads a token at the front as that token, and an error as that error.
 
 pub token_read : (k : Kind) (text after : List ℕ) → IsToken k text after → first_token (text ++ after) ≡ Ok (k, length text)
 token_read Kind.Name text after t = name_read text after t.0 t.1 t.2
@@ -225,7 +225,7 @@ fault_read ScanFault.BadNumber bs s = rw s.bytes_are (number_read s.text s.after
 fault_read ScanFault.LineTooLong bs s = absurd s
 fault_read ScanFault.NoMemory bs s = absurd s
 
--- At each front that is no comment stands a token or a fault.
+-- Each front that is no comment begins with a token or an error.
 pub data AtFront (bs : List ℕ) : Type 0 where
   token : (k : Kind) (text after : List ℕ) → bs ≡ text ++ after → IsToken k text after → AtFront bs
   fault : (f : ScanFault) → BeginsFault f bs → AtFront bs
@@ -255,7 +255,7 @@ at_number b more begun =
     let run = runs is_ascii_alphanumeric more in
     at_number_of b more run.text run.after (number_of (b ∷ run.text)) run.bytes (begun, run.all) run.ended refl
 
-at_string_rest : (q : ℕ) (more content rest : List ℕ) → more ≡ doubled q content ++ rest → is_quote q ≡ true → ArePlain content → EndsContent q rest → AtFront (q ∷ more)
+at_string_rest : (q : ℕ) (more content rest : List ℕ) → more ≡ doubled q content ++ rest → is_quote q ≡ true → HasNoControlByte content → EndsContent q rest → AtFront (q ∷ more)
 at_string_rest q more content [] bytes quoted plain ended =
     fault ScanFault.OpenString (record { quote = q; content = content; quoted = quoted; plain = plain; bytes_are = ap (λ x. q ∷ x) (bytes ∙ append-nil (doubled q content)) })
 at_string_rest q more content (b ∷ after) bytes quoted plain (inl closed) =

@@ -5,7 +5,7 @@ use Rattle.std.proofs.lemmas.List.{drop_more}
 use Rattle.std.proofs.lemmas.List.Elements.{All-nil, All-cons, All-head, All-tail}
 use Rattle.asm_scan.specs.Types.{ScanFault}
 use Rattle.asm_scan.specs.Classes.{is_control}
-use Rattle.asm_scan.specs.Tokens.{BeginsWithout, ArePlain, doubled}
+use Rattle.asm_scan.specs.Tokens.{BeginsWithout, HasNoControlByte, doubled}
 use Rattle.asm_scan.specs.Private.Reading.{string_len, longer_by}
 
 pub len_at_end : (q : ℕ) (more : List ℕ) → BeginsWithout (λ c. c == q) more → string_len q (q ∷ more) ≡ Ok 1
@@ -27,7 +27,7 @@ longer_by_both : (m n : ℕ) (r : Result ℕ ScanFault) → longer_by m (longer_
 longer_by_both m n (Ok len) = let e : m + (n + len) ≡ m + n + len = omega arith in ap (λ k. Ok k) e
 longer_by_both m n (Err fault) = refl
 
--- a byte that a string may hold
+-- a string may contain this byte
 abbrev pub IsPlain : ℕ → Type 0
 IsPlain c = is_control c ≡ false
 
@@ -46,7 +46,7 @@ module _ (q : ℕ) (bs : List ℕ) (i : ℕ) (same : string_len q bs ≡ longer_
   pub at_control : i < length bs → (get_or bs i 0 ≡ q → ⊥) → is_control (get_or bs i 0) ≡ true → Err ScanFault.BadByte ≡ string_len q bs
   at_control lt other control = sym (same ∙ ap (λ r. longer_by i r) (ap (λ x. string_len q x) (drop_more bs i 0 lt) ∙ len_at_control q (get_or bs i 0) (drop (i + 1) bs) (ne_eqb (get_or bs i 0) q other) control))
 
--- what the content takes, and then what is left
+-- the length of the content, and then of what is left
 len_after_one : (q c : ℕ) (ds rest : List ℕ) (v : Bool) → (c == q) ≡ v → is_control c ≡ false → string_len q (ds ++ rest) ≡ longer_by (length ds) (string_len q rest) → string_len q ((cond v (q ∷ q ∷ []) (c ∷ []) ++ ds) ++ rest) ≡ longer_by (length (cond v (q ∷ q ∷ []) (c ∷ []) ++ ds)) (string_len q rest)
 len_after_one q c ds rest true e plain more =
     let size : 2 + length ds ≡ length (q ∷ q ∷ ds) = omega arith in
@@ -59,11 +59,11 @@ longer_by_none : (r : Result ℕ ScanFault) → r ≡ longer_by 0 r
 longer_by_none (Ok len) = let e : len ≡ 0 + len = omega arith in ap (λ k. Ok k) e
 longer_by_none (Err fault) = refl
 
-pub len_after : (q : ℕ) (content rest : List ℕ) → ArePlain content → string_len q (doubled q content ++ rest) ≡ longer_by (length (doubled q content)) (string_len q rest)
+pub len_after : (q : ℕ) (content rest : List ℕ) → HasNoControlByte content → string_len q (doubled q content ++ rest) ≡ longer_by (length (doubled q content)) (string_len q rest)
 len_after q [] rest plain = longer_by_none (string_len q rest)
 len_after q (c ∷ cs) rest plain = len_after_one q c (doubled q cs) rest (c == q) refl (All-head IsPlain c cs plain) (len_after q cs rest (All-tail IsPlain c cs plain))
 
--- Content, and what ends it: the end of the line, a quote that is not doubled, or a control byte.
+-- What ends the content of a string: the end of the line, a quote that is not doubled, or a control byte.
 abbrev pub EndsContent : ℕ → List ℕ → Type 0
 EndsContent q [] = Unit {0}
 EndsContent q (b ∷ after) = ((b ≡ q) × BeginsWithout (λ c. c == q) after) ⊎ (((b == q) ≡ false) × (is_control b ≡ true))
@@ -71,7 +71,7 @@ EndsContent q (b ∷ after) = ((b ≡ q) × BeginsWithout (λ c. c == q) after) 
 pub record Divides (q : ℕ) (bs : List ℕ) : Type 0 where
   pub content : List ℕ
   pub rest : List ℕ
-  pub plain : ArePlain content
+  pub plain : HasNoControlByte content
   pub bytes : bs ≡ doubled q content ++ rest
   pub ended : EndsContent q rest
 
@@ -93,7 +93,7 @@ divides_pair q bs plain d = record {
   ended = d.ended;
 }
 
--- the content ends before it begins
+-- the content is empty
 divides_none : (q : ℕ) (bs : List ℕ) → EndsContent q bs → Divides q bs
 divides_none q bs ended = record { content = []; rest = bs; plain = All-nil IsPlain; bytes = refl; ended = ended }
 

@@ -9,12 +9,12 @@ use Rattle.asm_scan.specs.Tokens.{Lexeme, IsToken, BeginsFault}
 abbrev pub without_blanks : List ℕ → List ℕ
 without_blanks bytes = drop (prefix_len is_blank bytes) bytes
 
--- The line is blanks, this token, and what comes after it.
+-- The line is blanks, then this token, then `after`.
 pub record BeginsToken (line : List ℕ) (token : Lexeme) (after : List ℕ) : Type 0 where
   pub bytes_are : without_blanks line ≡ token.text ++ after
   pub token_is : IsToken token.kind token.text after
 
--- The line is these tokens, with blanks between, and then the rest.
+-- The line is these tokens, with blanks before each, and then the rest.
 abbrev pub BeginsTokens : List ℕ → List Lexeme → List ℕ → Type 0
 BeginsTokens line [] rest = line ≡ rest
 BeginsTokens line (token ∷ tokens) rest = (after : List ℕ) × BeginsToken line token after × BeginsTokens after tokens rest
@@ -24,27 +24,28 @@ abbrev pub IsEnd : List ℕ → Type 0
 IsEnd [] = Unit {0}
 IsEnd (b ∷ _) = b ≡ semicolon
 
--- The line is these tokens, with blanks between and at most one comment last.
+-- The line is these tokens, with blanks between them and at most one comment at the end.
 pub record Cut (line : List ℕ) (tokens : List Lexeme) : Type 0 where
   pub rest : List ℕ
   pub begins : BeginsTokens line tokens rest
   pub ended : IsEnd (without_blanks rest)
 
--- The line is tokens, with blanks between, and then begins what has this fault.
-pub record Stops (line : List ℕ) (fault : ScanFault) : Type 0 where
+-- The line is some tokens, with blanks between them, and then the beginning of what has this error.
+pub record HasScanFault (line : List ℕ) (fault : ScanFault) : Type 0 where
   pub tokens : List Lexeme
   pub rest : List ℕ
   pub begins : BeginsTokens line tokens rest
   pub stopped : BeginsFault fault (without_blanks rest)
 
--- What a line comes to: its tokens, or its one fault, which is never NoMemory. Above the longest line it is too long,
--- whatever it holds.
+-- The answer of a line: its tokens, or its one error, which is never NoMemory. A line above 255 bytes is too long, whatever it
+-- contains.
 abbrev pub Scans : List ℕ → Result (List Lexeme) ScanFault → Type 0
 Scans line (Ok tokens) = (length line ≤ LONGEST_LINE) × Cut line tokens
 Scans line (Err ScanFault.LineTooLong) = LONGEST_LINE < length line
-Scans line (Err fault) = (length line ≤ LONGEST_LINE) × Stops line fault
+Scans line (Err fault) = (length line ≤ LONGEST_LINE) × HasScanFault line fault
 
--- The texts are slices of the line, from left to right and apart, the first not before this offset.
+-- The texts of the tokens are slices of the line, from left to right. None overlap, and the first does not begin before this
+-- offset.
 abbrev pub AreSpans : List ℕ → ℕ → List Lexeme → Type 0
 AreSpans line from [] = Unit {0}
 AreSpans line from (token ∷ tokens) =

@@ -1,2 +1,2 @@
--- What private contracts alone cite: no reviewer need believe it.
+-- Only private contracts use these definitions. A reviewer may skip them.
 pub mod Reading

@@ -1,4 +1,4 @@
--- What a token is, and what is wrong where there is none.
+-- What a token is, and which error there is if there is no token.
 use Rattle.std.specs.Prelude.{◌≡◌, ◌≢◌, ◌⊎◌, ℕ, List, [], ◌∷◌, ◌++◌, Some, None, Result, Ok, Err, Vec, Bool, true, false, ◌==◌, if◌then◌else◌, map, codes, All}
 use Rattle.std.specs.Global.{Global}
 use Rattle.std.specs.List.{AllPass, flat_map}
@@ -7,7 +7,7 @@ use Rattle.asm_scan.specs.Types.{Kind, Mark, ScanFault, Token}
 use Rattle.asm_scan.specs.Classes.{begins_name, continues_name, apostrophe, semicolon, is_quote, is_control}
 use Rattle.asm_scan.specs.Numbers.{number_of}
 
--- a token without where its bytes lie
+-- a token, without where its bytes are in memory
 pub record Lexeme : Type 0 where
   pub kind : Kind
   pub text : List ℕ
@@ -18,44 +18,44 @@ lexeme t = record { kind = t.kind; text = t.text.now }
 abbrev pub lexemes : List Token → List Lexeme
 lexemes tokens = map lexeme tokens
 
--- what a call answered, its tokens as lexemes
-abbrev pub answered : Result (Vec Token Global) ScanFault → Result (List Lexeme) ScanFault
-answered (Ok found) = Ok (lexemes found.items)
-answered (Err fault) = Err fault
+-- the answer of a call, with its tokens as lexemes
+abbrev pub answered_tokens : Result (Vec Token Global) ScanFault → Result (List Lexeme) ScanFault
+answered_tokens (Ok found) = Ok (lexemes found.items)
+answered_tokens (Err fault) = Err fault
 
--- The bytes do not begin with one of the class.
+-- The bytes do not begin with a byte of the class.
 abbrev pub BeginsWithout : (ℕ → Bool) → List ℕ → Type 0
 BeginsWithout class [] = Unit {0}
 BeginsWithout class (b ∷ _) = class b ≡ false
 
--- a letter, `_`, `?`, `@` or `.`, then these and digits
+-- The text is a name: a letter, `_`, `?`, `@` or `.`, and then more of these and digits.
 abbrev pub IsName : List ℕ → Type 0
 IsName [] = ⊥
 IsName (b ∷ more) = (begins_name b ≡ true) × AllPass continues_name more
 
--- the name AF, in either case
+-- The name is AF, in upper or lower case.
 abbrev pub IsAf : List ℕ → Type 0
 IsAf name = map to_ascii_uppercase name ≡ codes "AF"
 
--- a digit, then letters and digits
+-- The text is a number: a digit, and then letters and digits.
 abbrev pub IsNumber : List ℕ → Type 0
 IsNumber [] = ⊥
 IsNumber (b ∷ more) = (is_ascii_digit b ≡ true) × AllPass is_ascii_alphanumeric more
 
--- the content of a string as it stands between quotes of this kind: each of them in it is doubled
+-- the content of a string as it is written between these quotes: each such quote in it is doubled
 abbrev pub doubled : ℕ → List ℕ → List ℕ
 doubled quote content = flat_map (λ c. if c == quote then quote ∷ quote ∷ [] else c ∷ []) content
 
--- no control byte is among them
-abbrev pub ArePlain : List ℕ → Type 0
-ArePlain content = All (λ c. is_control c ≡ false) content
+-- None of the bytes is a control byte.
+abbrev pub HasNoControlByte : List ℕ → Type 0
+HasNoControlByte content = All (λ c. is_control c ≡ false) content
 
--- the content between its quotes, where the quote that ends it is not doubled
+-- The text is a string: its content between quotes. The quote that ends it is not doubled.
 pub record IsString (text after : List ℕ) : Type 0 where
   pub quote : ℕ
   pub content : List ℕ
   pub quoted : is_quote quote ≡ true
-  pub plain : ArePlain content
+  pub plain : HasNoControlByte content
   pub text_is : text ≡ quote ∷ doubled quote content ++ quote ∷ []
   pub ended : BeginsWithout (λ b. b == quote) after
 
@@ -71,7 +71,7 @@ mark_byte Mark.Star = 0x2A
 mark_byte Mark.Slash = 0x2F
 mark_byte Mark.Dollar = 0x24
 
--- The text is a token of this kind, as long as its class allows before what comes after it.
+-- The text is a token of this kind, as long as it can be before what comes after it.
 abbrev pub IsToken : Kind → List ℕ → List ℕ → Type 0
 IsToken Kind.Name text after = IsName text × BeginsWithout continues_name after × (IsAf text → BeginsWithout (λ b. b == apostrophe) after)
 IsToken Kind.OtherAf text after = (name : List ℕ) × IsAf name × (text ≡ name ++ apostrophe ∷ [])
@@ -79,7 +79,7 @@ IsToken (Kind.Number n) text after = IsNumber text × BeginsWithout is_ascii_alp
 IsToken Kind.Quoted text after = IsString text after
 IsToken (Kind.Mark m) text after = text ≡ mark_byte m ∷ []
 
--- a number whose text stands for none
+-- The bytes begin with a number whose text has no value.
 pub record IsBadNumber (bytes : List ℕ) : Type 0 where
   pub text : List ℕ
   pub after : List ℕ
@@ -88,26 +88,26 @@ pub record IsBadNumber (bytes : List ℕ) : Type 0 where
   pub longest : BeginsWithout is_ascii_alphanumeric after
   pub no_value : number_of text ≡ None
 
--- a string without an end
+-- The bytes are a string without an end.
 pub record IsOpenString (bytes : List ℕ) : Type 0 where
   pub quote : ℕ
   pub content : List ℕ
   pub quoted : is_quote quote ≡ true
-  pub plain : ArePlain content
+  pub plain : HasNoControlByte content
   pub bytes_are : bytes ≡ quote ∷ doubled quote content
 
--- a string with a control byte in it
+-- The bytes begin with a string with a control byte in it.
 pub record IsBrokenString (bytes : List ℕ) : Type 0 where
   pub quote : ℕ
   pub content : List ℕ
   pub byte : ℕ
   pub more : List ℕ
   pub quoted : is_quote quote ≡ true
-  pub plain : ArePlain content
+  pub plain : HasNoControlByte content
   pub bytes_are : bytes ≡ quote ∷ doubled quote content ++ byte ∷ more
   pub control : is_control byte ≡ true
 
--- a byte with which no token and no comment begins
+-- The bytes begin with a byte with which no token and no comment begins.
 pub record IsStrayByte (bytes : List ℕ) : Type 0 where
   pub byte : ℕ
   pub more : List ℕ
@@ -118,7 +118,7 @@ pub record IsStrayByte (bytes : List ℕ) : Type 0 where
   pub no_mark : (m : Mark) → byte ≢ mark_byte m
   pub no_comment : byte ≢ semicolon
 
--- The bytes begin with what has this fault.
+-- The bytes begin with something that has this error.
 abbrev pub BeginsFault : ScanFault → List ℕ → Type 0
 BeginsFault ScanFault.BadByte bytes = IsBrokenString bytes ⊎ IsStrayByte bytes
 BeginsFault ScanFault.OpenString bytes = IsOpenString bytes

@@ -1,4 +1,4 @@
--- The public types, in one place for this crate and those above it.
+-- The public types, in one module for this crate and those above it.
 pub use Rattle.asm_scan.specs.declared.fault.ScanFault.{ScanFault}
 pub use Rattle.asm_scan.specs.declared.token.Kind.{Kind}
 pub use Rattle.asm_scan.specs.declared.token.Mark.{Mark}

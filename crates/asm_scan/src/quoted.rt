@@ -1,4 +1,4 @@
-//! Strings.
+//! Finds the end of a string.
 
 ghost use Rattle.std.specs.Prelude.{◌≡◌, ◌≤◌, length, IfOk};
 ghost use Rattle.asm_scan.specs.Private.Reading.{string_len};
@@ -6,7 +6,7 @@ ghost use Rattle.asm_scan.specs.Private.Reading.{string_len};
 use crate::classes::is_control;
 use crate::fault::ScanFault;
 
-/// How many bytes a string takes behind its first quote, its last quote included.
+/// How many bytes a string takes after its first quote, with its last quote, or the error of the string.
 pub(crate) fn string_len(quote: u8, bytes: &[u8]) -> Result<usize, ScanFault>
     ensures len { result ≡ string_len quote bytes.now }
     ensures within { IfOk result (λ len. len ≤ length bytes.now) }
@@ -14,7 +14,7 @@ pub(crate) fn string_len(quote: u8, bytes: &[u8]) -> Result<usize, ScanFault>
     let mut len = 0;
     while len < bytes.len() {
         if bytes[len] == quote {
-            // Its own quote ends a string, but not where it is doubled.
+            // A quote ends the string, unless it is doubled.
             if len + 1 == bytes.len() || bytes[len + 1] != quote {
                 return Ok(len + 1);
             }

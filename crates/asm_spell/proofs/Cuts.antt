@@ -11,11 +11,11 @@ no_split : (front : List Lexeme) (t : Lexeme) (back : List Lexeme) → [] ≡ fr
 no_split [] t back e = cc
 no_split (u ∷ front) t back e = cc
 
--- whether a comma separates here
+-- whether a token is a comma that separates
 abbrev cuts : ℕ → Lexeme → Bool
 cuts depth t = (depth == 0) && is_comma t
 
--- One token more before a piece that none separates.
+-- A piece without a separating comma, with one more token before it.
 uncut_more : (depth : ℕ) (t : Lexeme) (ts : List Lexeme) → cuts depth t ≡ false → IsUncut (open_behind depth t.kind) ts → IsUncut depth (t ∷ ts)
 uncut_more depth t ts other uncut [] comma back e is zero_open =
     let same : t ≡ comma = cc in
@@ -28,7 +28,7 @@ uncut_more depth t ts other uncut (u ∷ front) comma back e is zero_open =
     let rest : ts ≡ front ++ comma ∷ back = cc in
     uncut front comma back rest is (ap (λ v. open_after (open_behind depth v.kind) front) same ∙ zero_open)
 
--- .. and one less.
+-- The same with one token less.
 uncut_rest : (depth : ℕ) (t : Lexeme) (ts : List Lexeme) → IsUncut depth (t ∷ ts) → IsUncut (open_behind depth t.kind) ts
 uncut_rest depth t ts uncut front comma back e is = uncut (t ∷ front) comma back (ap (λ xs. t ∷ xs) e) is
 
@@ -59,7 +59,7 @@ are_cut depth (t ∷ ts) = either_cut depth t ts (cuts depth t) ([] ∷ pieces 0
     (λ both. cut_here depth t ts (pieces 0 ts) both (are_cut 0 ts))
     (λ other. put_first depth t ts (pieces (open_behind depth t.kind) ts) other (are_cut (open_behind depth t.kind) ts))
 
--- No others.
+-- There are no other pieces.
 one_piece : (depth : ℕ) (p : List Lexeme) → IsUncut depth p → pieces depth p ≡ p ∷ []
 one_piece depth [] uncut = refl
 one_piece depth (t ∷ p) uncut = rw (uncut_first depth t p uncut) (ap (with_first t) (one_piece (open_behind depth t.kind) p (uncut_rest depth t p uncut)))

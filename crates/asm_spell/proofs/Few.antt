@@ -1,4 +1,4 @@
--- A line has few tokens, so its data takes few bytes.
+-- A line has few tokens, and so its DB or DW takes few bytes.
 use Rattle.std.proofs.Common.{◌≡◌, ◌≢◌, ◌≤◌, ◌*◌, ◌==◌, ◌&&◌, ℕ, suc, Bool, true, false, List, [], ◌∷◌, Option, Some, None, Result, Ok, Err, All, cond, length, codes, refl, sym, ap, subst, arith, length-append, length-drop}
 use Rattle.std.specs.List.{list_any, prefix_len, sum_by}
 use Rattle.std.proofs.lemmas.List.Elements.{All-head, All-tail}
@@ -17,14 +17,14 @@ use Rattle.asm_spell.specs.declared.fault.StmtFault.{StmtFault}
 use Rattle.asm_spell.specs.Faults.{each}
 use Rattle.asm_spell.specs.Few.{IsFew, value_size}
 use Rattle.asm_spell.specs.Line as line
-use Rattle.asm_spell.specs.Line.{Body, Expression, Statement, Value}
-use Rattle.asm_spell.specs.Directives.{content, is_empty_text, text_alone, text_by, text_or, undoubled, value}
-use Rattle.asm_spell.specs.Operands.{answered, operands, pieces, with_first}
+use Rattle.asm_spell.specs.Line.{Body, ExpressionItems, Statement, Value}
+use Rattle.asm_spell.specs.Directives.{content, is_empty_text, text_alone, text_by, text_or, undoubled, data_item}
+use Rattle.asm_spell.specs.Operands.{parsed_expression, operands, pieces, with_first}
 use Rattle.asm_spell.specs.Spelling.{spelled}
 use Rattle.asm_spell.proofs.Named.{HasName, HaveNames, IsShort, ScanAnswers, each_parts, form_named, operands_named, scanned_have}
 use Rattle.asm_spell.proofs.Walk.{BodyFound, Found, line_found}
 
--- No more tokens than bytes.
+-- A line has no more tokens than bytes.
 fewer_begun : (line : List ℕ) (ts : List Lexeme) (rest : List ℕ) → BeginsTokens line ts rest → length ts ≤ length line
 fewer_begun line [] rest begins = omega arith
 fewer_begun line (t ∷ ts) rest begins =
@@ -37,7 +37,7 @@ few_tokens scans line ts is =
     let fewer = fewer_begun line ts s.1.rest s.1.begins in
     omega (arith, fewer, s.0)
 
--- What stands behind a line's word are not more.
+-- There are no more tokens after a line's word.
 abbrev Within : ℕ → front.Form → Type 0
 Within n f = length f.rest ≤ n
 
@@ -66,7 +66,7 @@ form_within (name ∷ second ∷ rest) =
     either_within n (is_name name && is_word (codes "EQU") second) _ _ (omega arith)
     (either_within n (is_name name && is_colon second) _ _ behind (headed_within None (name ∷ second ∷ rest)))
 
--- Not more than one operand more.
+-- One more token adds at most one operand.
 first_count : (t : Lexeme) (ps : List (List Lexeme)) (n : ℕ) → length ps ≤ suc n → length (with_first t ps) ≤ suc (suc n)
 first_count t [] n few = omega arith
 first_count t (p ∷ ps) n few = omega (arith, few)
@@ -91,7 +91,7 @@ each_count read (x ∷ xs) ys is =
     let parts = each_parts read x xs ys is in
     omega (arith, ap length parts.4, each_count read xs parts.1 parts.3)
 
--- An item of DB has as many bytes as its token, at most.
+-- An item of DB has no more bytes than its token.
 undoubled_short : (quote : ℕ) (bytes : List ℕ) → length (undoubled quote bytes) ≤ length bytes
 undoubled_short quote [] = omega arith
 undoubled_short quote (b ∷ []) = omega arith
@@ -116,10 +116,10 @@ text_short (t ∷ []) text have is = by_kind t.kind is
     by_kind (Kind.Number n) is = cc
     by_kind (Kind.Mark m) is = cc
 
-value_short : (ts : List Lexeme) (v : Value) → HaveNames ts → value ts ≡ Ok v → value_size v ≤ 255
+value_short : (ts : List Lexeme) (v : Value) → HaveNames ts → data_item ts ≡ Ok v → value_size v ≤ 255
 value_short ts v have is = by_text (text_alone ts) refl is
   where
-    of_byte : (r : Result Expression StmtFault) → (r >>= λ e. Ok (line.Byte e)) ≡ Ok v → value_size v ≤ 255
+    of_byte : (r : Result ExpressionItems StmtFault) → (r >>= λ e. Ok (line.Byte e)) ≡ Ok v → value_size v ≤ 255
     of_byte (Ok e) is = let same : line.Byte e ≡ v = cc in subst (λ w. value_size w ≤ 255) same (omega arith)
     of_byte (Err why) is = cc
 
@@ -128,17 +128,17 @@ value_short ts v have is = by_text (text_alone ts) refl is
         let same : line.Text (content text) ≡ v = cc in
         let short = text_short ts text have was in
         subst (λ w. value_size w ≤ 255) same (omega (arith, short, content_short text))
-    by_text None was is = of_byte (answered ts) is
+    by_text None was is = of_byte (parsed_expression ts) is
 
-values_short : (ps : List (List Lexeme)) (values : List Value) → All HaveNames ps → each value ps ≡ Ok values → sum_by value_size values ≤ 255 * length ps
+values_short : (ps : List (List Lexeme)) (values : List Value) → All HaveNames ps → each data_item ps ≡ Ok values → sum_by value_size values ≤ 255 * length ps
 values_short [] values have is = let same : [] ≡ values = cc in subst (λ vs. sum_by value_size vs ≤ 0) same (omega arith)
 values_short (p ∷ ps) values have is =
-    let parts = each_parts value p ps values is in
+    let parts = each_parts data_item p ps values is in
     let first = value_short p parts.0 (All-head HaveNames p ps have) parts.2 in
     let others = values_short ps parts.1 (All-tail HaveNames p ps have) parts.3 in
     omega (arith, first, others, ap (sum_by value_size) parts.4, sum_by-cons value_size parts.0 parts.1)
 
--- One byte at least.
+-- DB has at least one byte.
 some_byte : (values : List Value) → values ≢ [] → list_any is_empty_text values ≡ false → 1 ≤ sum_by value_size values
 some_byte [] some full = absurd (some refl)
 some_byte (line.Byte e ∷ values) some full = omega (arith, sum_by-cons value_size (line.Byte e) values)
@@ -155,7 +155,7 @@ body_few rest (line.Bytes values) few have found =
     (some_byte values found.1 found.2, omega (arith, most, operands_count rest, few))
 body_few rest (line.Words fields) few have found =
     let some = some_field fields found.1 in
-    (omega (arith, some), omega (arith, each_count answered (operands rest) fields found.0, operands_count rest, few))
+    (omega (arith, some), omega (arith, each_count parsed_expression (operands rest) fields found.0, operands_count rest, few))
 body_few rest b few have found = tt
 
 pub few : ScanAnswers → (line : List ℕ) (ts : List Lexeme) (label : Option (List ℕ)) (b : Body) → scanned line ≡ Ok ts → spelled ts ≡ Ok (Statement label (Some b)) → IsFew b

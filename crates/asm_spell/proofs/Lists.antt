@@ -7,7 +7,7 @@ use Rattle.std.proofs.lemmas.Bool.{cases_Bool, eqb-true, eq-eqb}
 use Rattle.asm_scan.specs.Tokens.{doubled}
 use Rattle.asm_spell.specs.Directives.{content, undoubled}
 
--- Whether one of those that are left passes.
+-- Whether one of the elements that are left passes a test.
 
 pub passes_here : {A B : Type 0} (p : B → Bool) (f : A → B) (xs : List A) (k : ℕ) (d : A) → k < length xs → p (f (get_or xs k d)) ≡ true → list_any p (map f (drop k xs)) ≡ true
 passes_here p f xs k d h e = at_drop_more (λ ys. list_any p (map f ys)) xs k d h ∙ rw e refl
@@ -34,7 +34,7 @@ two_left q (a ∷ b ∷ more) (suc k) h =
     let one : suc k + 1 ≡ suc (k + 1) = omega arith in
     rw (two, one) (two_left q (b ∷ more) k (omega arith))
 
--- a byte is written
+-- one more byte of the content is written
 pub content_goes_on : (q : ℕ) (text before now whole : List ℕ) (k b : ℕ) → k + 1 < length text → b ≡ get_or text k 0 → now ≡ before ++ b ∷ []
     → whole ≡ before ++ undoubled q (drop k text) → whole ≡ now ++ undoubled q (drop (k + cond (b == q) 2 1) text)
 content_goes_on q text before now whole k b h is e w =
@@ -52,7 +52,7 @@ nothing_left q (b ∷ c ∷ more) h = absurd (omega arith)
 pub content_written : (q : ℕ) (text bytes whole : List ℕ) (k : ℕ) → length text ≤ k + 1 → whole ≡ bytes ++ undoubled q (drop k text) → bytes ≡ whole
 content_written q text bytes whole k h w = sym (w ∙ ap (λ xs. bytes ++ xs) (nothing_left q (drop k text) (omega (arith, length-drop k text))) ∙ append-nil bytes)
 
--- The content of a string is what is doubled between its quotes.
+-- The content of a string is what is between its quotes, with quotes doubled.
 
 once_more : (q c : ℕ) (rest : List ℕ) → 1 ≤ length rest → undoubled q ((if c == q then q ∷ q ∷ [] else c ∷ []) ++ rest) ≡ c ∷ undoubled q rest
 once_more q c [] h = absurd (omega arith)

@@ -1,4 +1,4 @@
--- A directive is looked up among the words of its length.
+-- A directive can be looked up among the words of its length.
 use Rattle.std.proofs.Common.{◌≡◌, ◌≢◌, ℕ, ◌==◌, ◌&&◌, Bool, true, false, not, inl, inr, List, [], ◌∷◌, Some, cond, length, refl, ap, sym, ◌∙◌, arith}
 use Rattle.std.specs.List.{filter}
 use Rattle.std.specs.Map.{lookup}
@@ -10,13 +10,13 @@ use Rattle.std.proofs.lemmas.List.{length-map}
 use Rattle.asm_spell.specs.Directives.{directive, directives}
 use Rattle.asm_spell.specs.Private.Choices.{of_two, of_three, of_four, of_more}
 
--- Words that are the same but for case are as long.
+-- Words that differ only in case have the same length.
 as_long : (name word : List ℕ) → str_eq_ignore_ascii_case name word ≡ true → length word ≡ length name
 as_long name word same =
     let lower : length (str_to_ascii_lowercase name) ≡ length (str_to_ascii_lowercase word) = ap length ((bytes_eq-Decides (str_to_ascii_lowercase name) (str_to_ascii_lowercase word)).0 same) in
     omega (arith, lower, length-map name to_ascii_lowercase, length-map word to_ascii_lowercase)
 
--- Entries whose words are of another length may be left out.
+-- Entries with words of another length may be left out of a look-up.
 among : {A : Type 0} (name : List ℕ) (p : List ℕ → Bool) (entries : List (List ℕ × A)) → ((word : List ℕ) → length word ≡ length name → p word ≡ true)
     → lookup (str_eq_ignore_ascii_case name) entries ≡ lookup (str_eq_ignore_ascii_case name) (filter (λ e. p e.0) entries)
 among name p [] keeps = refl

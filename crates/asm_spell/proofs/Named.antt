@@ -1,4 +1,4 @@
--- The names of a line, from the tokens of a line that scans.
+-- The names of a line, given the tokens of a line that scans.
 use Rattle.std.proofs.Common.{◌≡◌, ◌≤◌, ◌+◌, length, length-append, length-drop, ◌||◌, not, arith, ℕ, Bool, true, false, List, [], ◌∷◌, Option, Some, None, Result, Ok, Err, All, cond, ◌==◌, ◌&&◌, ◌⊎◌, ◌++◌, map, refl, sym, ap, ◌∙◌, inl, inr, subst, codes}
 use Rattle.std.specs.Option.{IfSome, option_map}
 use Rattle.std.specs.Result.{IfOk}
@@ -18,28 +18,28 @@ use Rattle.asm_scan.specs.Tokens.{IsName, IsToken, Lexeme}
 use Rattle.asm_scan.specs.Lines.{BeginsTokens, Scans, without_blanks}
 use Rattle.asm_scan.specs.Scanned.{scanned}
 use Rattle.asm_line.specs.Forms as front
-use Rattle.asm_line.specs.Lists.{names}
+use Rattle.asm_line.specs.Lists.{name_list}
 use Rattle.asm_line.specs.Tokens.{is_colon, is_comma, is_name, is_name_kind, is_word}
 use Rattle.asm_line.specs.Commas.{open_behind}
 use Rattle.asm_parse.specs.declared.fault.ExprFault.{ExprFault}
 use Rattle.asm_parse.specs.declared.item.Item.{Item}
 use Rattle.asm_parse.specs.Expression.{postfix}
 use Rattle.asm_parse.specs.Source.{Operand, Number, Name, Here}
-use Rattle.asm_parse.specs.Grammar.{IsParsed, Phrase, Single, Enclosed, Prefixed, Joined, Symbol, Foreign, Term, expression, spelling, symbol, symbol_by, symbol_of_name}
+use Rattle.asm_parse.specs.Grammar.{IsParsed, Phrase, Single, Enclosed, Prefixed, Joined, GrammarSymbol, Foreign, Term, expression, spelling, symbol, symbol_by, symbol_of_name}
 use Rattle.asm_parse.specs.Words.{sign_of}
 use Rattle.asm_parse.specs.Parsed.{parsed_symbols}
 use Rattle.z80_form.specs.declared.form.Form.{Form}
 use Rattle.asm_spell.specs.declared.fault.StmtFault.{StmtFault}
 use Rattle.asm_spell.specs.Faults.{each}
-use Rattle.asm_spell.specs.Line.{Expression, Body, Jump, Short, Public, External, End, Line, Equ, Statement}
+use Rattle.asm_spell.specs.Line.{ExpressionItems, Body, Jump, Short, Public, External, End, Line, Equ, Statement}
 use Rattle.asm_spell.specs.Operands as cut
-use Rattle.asm_spell.specs.Operands.{Written, answered, answered_by, is_one_name, pieces, with_first, written}
-use Rattle.asm_spell.specs.Spelling.{body_names, name_in, option_names, spelled, statement_names, target, target_by}
+use Rattle.asm_spell.specs.Operands.{WrittenOperand, parsed_expression, answered_by, is_one_name, pieces, with_first, written_operand}
+use Rattle.asm_spell.specs.Spelling.{body_names, only_name, option_names, spelled, statement_names, target, target_by}
 use Rattle.asm_parse.specs.Names.{IsDefinable}
 use Rattle.asm_spell.specs.Names.{body_targets, line_names, line_targets}
 use Rattle.asm_spell.proofs.Walk.{Answers, BodyFound, Found, IsTarget, OptionFound, line_found, written_answers}
 
--- Tokens are short, and those that are names have the text of one.
+-- Tokens are short, and a token that is a name has the text of a name.
 
 abbrev pub IsShort : List ℕ → Type 0
 IsShort text = length text ≤ 255
@@ -105,7 +105,7 @@ upper_short text short = omega (arith, length-map text to_ascii_uppercase, short
 upper_named : (text : List ℕ) → IsShortName text → IsUpperName (upper text)
 upper_named text name = record { name = (name_upper text name.0, upper_short text name.1); upper_case = upper_twice text }
 
--- What a line says first.
+-- The label and head of a line.
 
 abbrev pub HeadNamed : front.Head → Type 0
 HeadNamed (front.Equ name) = IsShortName name
@@ -171,17 +171,17 @@ more_listed true name (Some found) list named behind e =
     let same : upper name ∷ found ≡ list = cc in
     subst (All IsUpperName) same (All-cons IsUpperName (upper name) found (upper_named name (named refl)) (behind found refl))
 
-names_listed : (ts : List Lexeme) (list : List (List ℕ)) → HaveNames ts → names ts ≡ Some list → All IsUpperName list
+names_listed : (ts : List Lexeme) (list : List (List ℕ)) → HaveNames ts → name_list ts ≡ Some list → All IsUpperName list
 names_listed [] list have e = absurd cc
 names_listed (name ∷ []) list have e = one_listed (is_name name) name.text list (All-head HasName name [] have).1 e
 names_listed (name ∷ comma ∷ rest) list have e =
     let first = All-head HasName name (comma ∷ rest) have in
-    more_listed (is_name name && is_comma comma) name.text (names rest) list (λ both. first.1 (and_parts (is_name name) _ both).0)
+    more_listed (is_name name && is_comma comma) name.text (name_list rest) list (λ both. first.1 (and_parts (is_name name) _ both).0)
     (λ found is. names_listed rest found (All-tail HasName comma rest (All-tail HasName name (comma ∷ rest) have)) is) e
 
--- The target of a jump: one token, which is a name. What spells an expression of one symbol is that symbol.
+-- The target of a jump is one token, which is a name. If tokens make an expression of one name, they are that one token.
 
-no_end : (xs : List Symbol) (y : Symbol) (ys : List Symbol) → [] ≡ xs ++ y ∷ ys → ⊥
+no_end : (xs : List GrammarSymbol) (y : GrammarSymbol) (ys : List GrammarSymbol) → [] ≡ xs ++ y ∷ ys → ⊥
 no_end [] y ys e = cc
 no_end (x ∷ xs) y ys e = cc
 
@@ -191,32 +191,32 @@ some_symbol (Enclosed a) e = cc
 some_symbol (Prefixed p a) e = cc
 some_symbol (Joined o a b) e = no_end (spelling a) _ _ e
 
-no_second : (s : Symbol) (xs : List Symbol) (y : Symbol) (ys : List Symbol) → ([] ≡ xs → ⊥) → s ∷ [] ≡ xs ++ y ∷ ys → ⊥
+no_second : (s : GrammarSymbol) (xs : List GrammarSymbol) (y : GrammarSymbol) (ys : List GrammarSymbol) → ([] ≡ xs → ⊥) → s ∷ [] ≡ xs ++ y ∷ ys → ⊥
 no_second s [] y ys some e = some refl
 no_second s (x ∷ xs) y ys some e = let rest : [] ≡ xs ++ y ∷ ys = cc in no_end xs y ys rest
 
-abbrev IsSingle : Symbol → Phrase → Type 0
+abbrev IsSingle : GrammarSymbol → Phrase → Type 0
 IsSingle s a = (t : Operand) × (a ≡ Single t) × (s ≡ Term t)
 
-one_symbol : (s : Symbol) (a : Phrase) → s ∷ [] ≡ spelling a → IsSingle s a
+one_symbol : (s : GrammarSymbol) (a : Phrase) → s ∷ [] ≡ spelling a → IsSingle s a
 one_symbol s (Single t) e = (t, refl, first)
   where
     first : s ≡ Term t
     first = cc
 one_symbol s (Enclosed a) e = absurd (no_end (spelling a) _ _ (tail_of e))
   where
-    tail_of : {x y : Symbol} {xs ys : List Symbol} → x ∷ xs ≡ y ∷ ys → xs ≡ ys
+    tail_of : {x y : GrammarSymbol} {xs ys : List GrammarSymbol} → x ∷ xs ≡ y ∷ ys → xs ≡ ys
     tail_of same = cc
 one_symbol s (Prefixed p a) e = absurd (some_symbol a (tail_of e))
   where
-    tail_of : {x y : Symbol} {xs ys : List Symbol} → x ∷ xs ≡ y ∷ ys → xs ≡ ys
+    tail_of : {x y : GrammarSymbol} {xs ys : List GrammarSymbol} → x ∷ xs ≡ y ∷ ys → xs ≡ ys
     tail_of same = cc
 one_symbol s (Joined o a b) e = absurd (no_second s (spelling a) _ _ (some_symbol a) e)
 
 abbrev pub Parses : Type 0
-Parses = (symbols : List Symbol) → IsParsed symbols (parsed_symbols symbols)
+Parses = (symbols : List GrammarSymbol) → IsParsed symbols (parsed_symbols symbols)
 
-parsed_ok : (r : Result Expression ExprFault) (e : Expression) → answered_by r ≡ Ok e → r ≡ Ok e
+parsed_ok : (r : Result ExpressionItems ExprFault) (e : ExpressionItems) → answered_by r ≡ Ok e → r ≡ Ok e
 parsed_ok (Ok x) e is = cc
 parsed_ok (Err why) e is = absurd cc
 
@@ -234,12 +234,12 @@ named_symbol (Kind.Number n) text op name is = absurd cc
 named_symbol Kind.Quoted text op name is = absurd cc
 named_symbol (Kind.Mark m) text op name is = absurd cc
 
-named_leaf : (op : Operand) (name : List ℕ) → name_in (Some (Item.Leaf op ∷ [])) ≡ Some name → op ≡ Name name
+named_leaf : (op : Operand) (name : List ℕ) → only_name (Some (Item.Leaf op ∷ [])) ≡ Some name → op ≡ Name name
 named_leaf (Number n) name e = absurd cc
 named_leaf (Name n) name e = let same : n ≡ name = cc in ap Name same
 named_leaf Here name e = absurd cc
 
-one_name : Parses → (t : Lexeme) (e : Expression) (name : List ℕ) → is_name t ≡ true → answered (t ∷ []) ≡ Ok e → name_in (Some e) ≡ Some name → (name ≡ upper t.text) × (is_reserved name ≡ false)
+one_name : Parses → (t : Lexeme) (e : ExpressionItems) (name : List ℕ) → is_name t ≡ true → parsed_expression (t ∷ []) ≡ Ok e → only_name (Some e) ≡ Some name → (name ≡ upper t.text) × (is_reserved name ≡ false)
 one_name parses t e name is answer found =
     let read : IsParsed (symbol t ∷ []) (Ok e) = subst (IsParsed (symbol t ∷ [])) (parsed_ok (parsed_symbols (symbol t ∷ [])) e answer) (parses (symbol t ∷ [])) in
     let one = one_symbol (symbol t) read.0 read.1.spelled in
@@ -256,25 +256,25 @@ IsShortDefinable text = IsDefinable text × IsShort text
 definable : (text : List ℕ) → IsUpperName text → is_reserved text ≡ false → IsShortDefinable text
 definable text named free = (record { name = named.name.0; upper_case = named.upper_case; free = free }, named.name.1)
 
-abbrev IsNamed : List Lexeme → Written → Type 0
+abbrev IsNamed : List Lexeme → WrittenOperand → Type 0
 IsNamed ts w = (name : List ℕ) → target_by w ≡ Some name → HaveNames ts → IsShortDefinable name
 
-number_named : Parses → (ts : List Lexeme) (e : Expression) → answered ts ≡ Ok e → IsNamed ts (record { form = Form.Number; expression = Some e; is_name = is_one_name ts })
+number_named : Parses → (ts : List Lexeme) (e : ExpressionItems) → parsed_expression ts ≡ Ok e → IsNamed ts (record { form = Form.Number; expression = Some e; is_name = is_one_name ts })
 number_named parses [] e answer name found have = absurd cc
 number_named parses (t ∷ u ∷ ts) e answer name found have = absurd cc
 number_named parses (t ∷ []) e answer name found have = elim (cases_Bool (is_name t)) as (λ _. IsShortDefinable name) [
   | inl is ↦
-      let here : cond (is_name t) (name_in (Some e)) None ≡ Some name = found in
+      let here : cond (is_name t) (only_name (Some e)) None ≡ Some name = found in
       let one = one_name parses t e name is answer (rw is at here) in
       let upper_name : IsUpperName (upper t.text) = upper_named t.text ((All-head HasName t [] have).1 is) in
       definable name (subst IsUpperName (sym one.0) upper_name) one.1
   | inr other ↦
-      let here : cond (is_name t) (name_in (Some e)) None ≡ Some name = found in
+      let here : cond (is_name t) (only_name (Some e)) None ≡ Some name = found in
       let none : None ≡ Some name = rw other at here in
       absurd cc
 ]
 
-written_named : Parses → (ts : List Lexeme) → Answers (IsNamed ts) (written ts)
+written_named : Parses → (ts : List Lexeme) → Answers (IsNamed ts) (written_operand ts)
 written_named parses ts = written_answers (IsNamed ts) (λ form e fits name none have. absurd cc) ts (number_named parses ts)
 
 -- Operand by operand.
@@ -310,20 +310,20 @@ each_parts {A} {B} read x xs ys e = by_first (read x) refl (each read xs) refl e
     by_first (Ok y) one (Err fault) others e = absurd cc
     by_first (Err fault) one s others e = absurd cc
 
-last_or_later : (w : Written) (rest : List Written) (name : List ℕ) → target (w ∷ rest) ≡ Some name → (target_by w ≡ Some name) ⊎ (target rest ≡ Some name)
+last_or_later : (w : WrittenOperand) (rest : List WrittenOperand) (name : List ℕ) → target (w ∷ rest) ≡ Some name → (target_by w ≡ Some name) ⊎ (target rest ≡ Some name)
 last_or_later w [] name e = inl e
 last_or_later w (v ∷ more) name e = inr e
 
-named_target : Parses → (ps : List (List Lexeme)) (read : List Written) (name : List ℕ) → All HaveNames ps → each written ps ≡ Ok read → target read ≡ Some name → IsShortDefinable name
+named_target : Parses → (ps : List (List Lexeme)) (read : List WrittenOperand) (name : List ℕ) → All HaveNames ps → each written_operand ps ≡ Ok read → target read ≡ Some name → IsShortDefinable name
 named_target parses [] read name have e found =
     let same : [] ≡ read = cc in
     let none : None ≡ Some name = ap target same ∙ found in
     absurd cc
 named_target parses (p ∷ ps) read name have e found =
-    let parts = each_parts written p ps read e in
+    let parts = each_parts written_operand p ps read e in
     elim (last_or_later parts.0 parts.1 name (ap target (sym parts.4) ∙ found)) as (λ _. IsShortDefinable name) [
       | inl last ↦
-          let named : IsNamed p parts.0 = subst (λ (r : Result Written StmtFault). IfOk r (IsNamed p)) parts.2 (written_named parses p).value in
+          let named : IsNamed p parts.0 = subst (λ (r : Result WrittenOperand StmtFault). IfOk r (IsNamed p)) parts.2 (written_named parses p).value in
           named name last (All-head HaveNames p ps have)
       | inr later ↦ named_target parses ps parts.1 name (All-tail HaveNames p ps have) parts.3 later
     ]
@@ -396,7 +396,7 @@ names_defined scans line ts l e s = All-weaker IsShortDefinable IsDefinable (λ 
 pub targets_defined : ScanAnswers → Parses → (line : List ℕ) (ts : List Lexeme) (l : Line) → scanned line ≡ Ok ts → spelled ts ≡ Ok l → All IsDefinable (line_targets l)
 targets_defined scans parses line ts l e s = All-weaker IsShortDefinable IsDefinable (λ x is. is.0) (line_targets l) (targets_short scans parses line ts l e s)
 
--- .. and have as many bytes as a line, at most.
+-- The names of a line have no more bytes than a line may have.
 pub names_short : ScanAnswers → (line : List ℕ) (ts : List Lexeme) (l : Line) → scanned line ≡ Ok ts → spelled ts ≡ Ok l → All IsShort (line_names l)
 names_short scans line ts l e s = All-weaker IsShortDefinable IsShort (λ x is. is.1) (line_names l) (line_short scans line ts l e s)
 

@@ -1,4 +1,4 @@
--- Operands, cut from left to right.
+-- Cutting operands from left to right.
 use Rattle.std.proofs.Common.{◌≡◌, ◌≤◌, ◌<◌, ◌+◌, ◌-◌, ◌&&◌, ◌==◌, ℕ, suc, nat_eq, inl, inr, true, false, List, [], ◌∷◌, ◌++◌, Option, Some, None, Result, Ok, Err, length, take, drop, get_or, cond, refl, ap, sym, ◌∙◌, append_assoc, arith}
 use Rattle.std.specs.Borrow.{Bor}
 use Rattle.std.proofs.lemmas.List.{take_all, drop_all, at_drop_more, length-drop}
@@ -13,12 +13,12 @@ use Rattle.asm_spell.specs.Faults.{Fails, each}
 use Rattle.asm_spell.specs.Operands.{pieces, with_first, closed_by_last, is_last}
 use Rattle.asm_spell.specs.Private.Cutting.{first_len, behind}
 
--- how many times the loop can go on
+-- how many more times the loop can run
 abbrev pub room : Option (Bor (List Token)) → ℕ
 room None = 0
 room (Some rest) = length rest.now + 1
 
--- The tokens behind a comma, if there is one.
+-- The pieces after a comma, if there is one.
 abbrev behind_comma : List Lexeme → List (List Lexeme)
 behind_comma [] = []
 behind_comma (comma ∷ rest) = pieces 0 rest
@@ -32,11 +32,11 @@ cut depth (t ∷ ts) =
       | false ↦ ap (with_first (lexeme t)) (cut (open_behind depth t.kind) ts)
     ]
 
--- There is a first operand, if it be empty.
+-- There is always a first operand, which may be empty.
 pub some_piece : (ts : List Token) → (p : List Lexeme) × (ps : List (List Lexeme)) × (pieces 0 (lexemes ts) ≡ p ∷ ps)
 some_piece ts = (_, _, cut 0 ts)
 
--- The first operand, and what is behind it.
+-- The first operand, and the pieces after it.
 parted : (ts front back : List Token) (n : ℕ) → n ≡ first_len 0 (lexemes ts) → front ≡ take n ts → back ≡ drop n ts → pieces 0 (lexemes ts) ≡ lexemes front ∷ behind_comma (lexemes back)
 parted ts front back n e f b = cut 0 ts ∙ rw (← e, ← f, ← b) refl
 
@@ -55,7 +55,7 @@ pub more_operands : (ts front back : List Token) (n : ℕ) → n ≡ first_len 0
     → pieces 0 (lexemes ts) ≡ lexemes front ∷ pieces 0 (lexemes (take (length back - 1) (drop 1 back)))
 more_operands ts front back n e f b some = parted ts front back n e f b ∙ ap (λ ps. lexemes front ∷ ps) (others back some)
 
--- What is read, operand by operand.
+-- Reading one operand after the other.
 joined : {B : Type 0} (before : List B) (y : B) (rest : Result (List B) StmtFault) → behind before (rest >>= λ ys. Ok (y ∷ ys)) ≡ behind (before ++ y ∷ []) rest
 joined before y (Ok ys) = ap Ok (sym (append_assoc before (y ∷ []) ys))
 joined before y (Err fault) = refl

@@ -1,4 +1,4 @@
--- A line that begins with no word.
+-- A line that does not begin with a word.
 use Rattle.std.proofs.Common.{◌≡◌, ◌≤◌, ℕ, List, [], ◌∷◌, Option, Err, length, refl, arith}
 use Rattle.std.specs.Option.{option_map}
 use Rattle.asm_scan.specs.declared.token.Token.{Token}

@@ -1,4 +1,4 @@
--- What stands between the parentheses of an operand.
+-- The tokens between the parentheses of an operand.
 use Rattle.std.proofs.Common.{◌≡◌, ◌-◌, List, length, take, drop, ap, sym, ◌∙◌, arith}
 use Rattle.std.proofs.lemmas.List.{take-map, drop-map, length-map}
 use Rattle.asm_scan.specs.declared.token.Token.{Token}

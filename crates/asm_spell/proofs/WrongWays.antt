@@ -1,4 +1,4 @@
--- What the public definition says where wrong bodies would say otherwise.
+-- What the public definition says of lines for which some wrong bodies would say something else.
 use Rattle.std.proofs.Common.{◌≡◌, ℕ, List, [], ◌∷◌, None, Some, Ok, refl, codes}
 use Rattle.asm_scan.specs.declared.token.Kind.{Kind}
 use Rattle.asm_scan.specs.declared.token.Mark.{Mark}
@@ -27,7 +27,7 @@ mark m = record { kind = Kind.Mark m; text = [] }
 abbrev number : ℕ → Lexeme
 number n = record { kind = Kind.Number n; text = [] }
 
--- JP PE,X is no jump that may be short
+-- JP PE,X is no relaxable jump
 pub jump_on_pe : spelled (name (codes "JP") ∷ name (codes "PE") ∷ mark Mark.Comma ∷ name (codes "X") ∷ []) ≡ Ok (Statement None (Some (Code (Instr.JumpIf Cond.ParityEven 0) ((Field.Word, Item.Leaf (Name (codes "X")) ∷ []) ∷ []))))
 unfolding mnemonic_named name_named instruction_of
 jump_on_pe = refl
@@ -37,7 +37,7 @@ pub jump_to_offset : spelled (name (codes "JP") ∷ name (codes "X") ∷ mark Ma
 unfolding mnemonic_named name_named instruction_of
 jump_to_offset = refl
 
--- JR NZ,X branches on NZ
+-- JR NZ,X jumps on NZ
 pub branch_on_nz : spelled (name (codes "JR") ∷ name (codes "NZ") ∷ mark Mark.Comma ∷ name (codes "X") ∷ []) ≡ Ok (Statement None (Some (Short (Branch.Relative (Some ShortCond.NotZero)) (codes "X"))))
 unfolding mnemonic_named name_named instruction_of
 branch_on_nz = refl

@@ -1,16 +1,16 @@
--- What the cut of operands and the partner of a parenthesis are, by what is open at each place. laws::cut and laws::enclosed say that
--- specs/Operands.antt says the same, so that nobody need believe how its words walk.
+-- What the cut into operands and the partner of a parenthesis are, given how many parentheses are open at each token. laws::cut and
+-- laws::enclosed say that specs/Operands.antt means the same, so nobody has to follow how its definitions walk over the tokens.
 use Rattle.std.specs.Prelude.{◌≡◌, ◌≢◌, ℕ, true, List, [], ◌∷◌, ◌++◌}
 use Rattle.asm_scan.specs.Tokens.{Lexeme}
 use Rattle.asm_line.specs.Commas.{open_behind}
 use Rattle.asm_line.specs.Tokens.{is_comma}
 
--- how many parentheses are open behind tokens, before which so many are
+-- how many parentheses are open after these tokens, if `depth` are open before them
 abbrev pub open_after : ℕ → List Lexeme → ℕ
 open_after depth [] = depth
 open_after depth (t ∷ ts) = open_after (open_behind depth t.kind) ts
 
--- Each comma among the tokens stands within parentheses.
+-- Each comma among the tokens is within parentheses.
 abbrev pub IsUncut : ℕ → List Lexeme → Type 0
 IsUncut depth tokens = (front : List Lexeme) (comma : Lexeme) (back : List Lexeme) → tokens ≡ front ++ comma ∷ back → is_comma comma ≡ true → open_after depth front ≢ 0
 

@@ -1,4 +1,4 @@
--- Lines, without where they lie in memory. Names are in upper case.
+-- Parsed lines, without where they are in memory. Names are in upper case.
 use Rattle.std.specs.Prelude.{ℕ, List, Option, map, Vec}
 use Rattle.std.specs.Option.{option_map}
 use Rattle.std.specs.Global.{Global}
@@ -15,45 +15,45 @@ use Rattle.asm_spell.specs.declared.line.Body as body
 use Rattle.asm_spell.specs.declared.line.Line as line
 
 -- the items of an expression, in postfix order
-abbrev pub Expression : Type 0
-Expression = List (Item Operand)
+abbrev pub ExpressionItems : Type 0
+ExpressionItems = List (Item Operand)
 
 -- an item of DB: the bytes of a string, or one byte
 pub data Value : Type 0 where
   Text : List ℕ → Value
-  Byte : Expression → Value
+  Byte : ExpressionItems → Value
 
--- A word and its operands: an instruction, with zeros in place of its numbers and the expressions of these; a jump to a name, which may
--- be coded both ways; one that is always short; or a directive.
+-- A word and its operands: an instruction with zeros in place of its numbers, and their expressions; a relaxable jump to a name; a
+-- jump to a name that is always short; or a directive.
 pub data Body : Type 0 where
-  Code : Instr → List (Field × Expression) → Body
+  Code : Instr → List (Field × ExpressionItems) → Body
   Jump : Option ShortCond → List ℕ → Body
   Short : Branch → List ℕ → Body
   Bytes : List Value → Body
-  Words : List Expression → Body
-  Space : Expression → Option Expression → Body
+  Words : List ExpressionItems → Body
+  Space : ExpressionItems → Option ExpressionItems → Body
   Public : List (List ℕ) → Body
   External : List (List ℕ) → Body
-  Origin : Expression → Body
+  Origin : ExpressionItems → Body
   End : Option (List ℕ) → Body
   Z80 : Body
 
--- The definition of a name, or a label and a statement, each if the line has one.
+-- The definition of a name by EQU; or a label and a statement, each if the line has one.
 pub data Line : Type 0 where
-  Equ : List ℕ → Expression → Line
+  Equ : List ℕ → ExpressionItems → Line
   Statement : Option (List ℕ) → Option Body → Line
 
--- What the code's types hold.
+-- The code's types in these terms.
 
 abbrev pub value_of : value.Value → Value
 value_of (value.TheVariants.Text bytes) = Text bytes.items
 value_of (value.TheVariants.Byte e) = Byte e
 
-abbrev pub names_of : List (Vec ℕ Global) → List (List ℕ)
-names_of names = map (λ name. name.items) names
+abbrev pub name_texts : List (Vec ℕ Global) → List (List ℕ)
+name_texts names = map (λ name. name.items) names
 
-abbrev pub listed_of : List (SmallVec ℕ) → List (List ℕ)
-listed_of names = map (λ name. name.items) names
+abbrev pub listed_names : List (SmallVec ℕ) → List (List ℕ)
+listed_names names = map (λ name. name.items) names
 
 abbrev pub body_of : body.Body → Body
 body_of (body.TheVariants.Code instr numbers) = Code instr (all numbers)
@@ -62,8 +62,8 @@ body_of (body.TheVariants.Short branch target) = Short branch target.items
 body_of (body.TheVariants.Bytes values) = Bytes (map value_of values.items)
 body_of (body.TheVariants.Words fields) = Words fields.items
 body_of (body.TheVariants.Space size fill) = Space size fill
-body_of (body.TheVariants.Public names) = Public (listed_of names.items)
-body_of (body.TheVariants.External names) = External (listed_of names.items)
+body_of (body.TheVariants.Public names) = Public (listed_names names.items)
+body_of (body.TheVariants.External names) = External (listed_names names.items)
 body_of (body.TheVariants.Origin e) = Origin e
 body_of (body.TheVariants.End entry) = End (option_map (λ name. name.items) entry)
 body_of body.TheVariants.Z80 = Z80

@@ -1,4 +1,4 @@
--- The names that a line has.
+-- The names of a line.
 use Rattle.std.specs.Prelude.{ℕ, List, [], ◌∷◌, Some}
 use Rattle.asm_spell.specs.Line.{Body, Jump, Short, Line, Equ, Statement}
 use Rattle.asm_spell.specs.Spelling.{statement_names}
@@ -8,7 +8,7 @@ abbrev pub line_names : Line → List (List ℕ)
 line_names (Equ name e) = name ∷ []
 line_names (Statement label body) = statement_names label body
 
--- the name that the jump of a line branches to, if there is one
+-- the target of a line's jump, if it is a jump to a name
 abbrev pub body_targets : Body → List (List ℕ)
 body_targets (Jump condition target) = target ∷ []
 body_targets (Short branch target) = target ∷ []

@@ -1,4 +1,4 @@
--- Operands: how they are cut, and what each is.
+-- Operands: how tokens are cut into them, and what each is.
 use Rattle.std.specs.Prelude.{ℕ, ◌-◌, ◌==◌, ◌&&◌, Bool, true, false, List, [], ◌∷◌, Option, Some, None, Result, Ok, Err, if◌then◌else◌, length, take, drop}
 use Rattle.asm_scan.specs.declared.token.Kind.{Kind}
 use Rattle.asm_scan.specs.declared.token.Mark.{Mark}
@@ -15,7 +15,7 @@ use Rattle.z80_form.specs.declared.form.Pointed.{Pointed}
 use Rattle.z80_form.specs.declared.form.Form.{Form}
 use Rattle.asm_spell.specs.declared.fault.StmtFault.{StmtFault}
 use Rattle.asm_spell.specs.Faults.{of_expression}
-use Rattle.asm_spell.specs.Line.{Expression}
+use Rattle.asm_spell.specs.Line.{ExpressionItems}
 
 -- Commas.
 
@@ -23,55 +23,55 @@ abbrev pub with_first : Lexeme → List (List Lexeme) → List (List Lexeme)
 with_first t [] = (t ∷ []) ∷ []
 with_first t (piece ∷ pieces) = (t ∷ piece) ∷ pieces
 
--- what commas outside of parentheses separate, where so many parentheses are open at first
+-- the pieces that commas outside of parentheses separate, if `depth` parentheses are open at first
 abbrev pub pieces : ℕ → List Lexeme → List (List Lexeme)
 pieces depth [] = [] ∷ []
 pieces depth (t ∷ ts) = if (depth == 0) && is_comma t then [] ∷ pieces 0 ts else with_first t (pieces (open_behind depth t.kind) ts)
 
--- the operands behind a word; no tokens are none
+-- the operands after a word; no tokens are no operands
 abbrev pub operands : List Lexeme → List (List Lexeme)
 operands [] = []
 operands (t ∷ ts) = pieces 0 (t ∷ ts)
 
 -- Expressions.
 
-abbrev pub answered_by : Result Expression ExprFault → Result Expression StmtFault
+abbrev pub answered_by : Result ExpressionItems ExprFault → Result ExpressionItems StmtFault
 answered_by (Ok e) = Ok e
 answered_by (Err why) = Err (of_expression why)
 
--- the expression that tokens spell, or its fault
-abbrev pub answered : List Lexeme → Result Expression StmtFault
-answered tokens = answered_by (parsed tokens)
+-- the tokens parsed as an expression, or the error
+abbrev pub parsed_expression : List Lexeme → Result ExpressionItems StmtFault
+parsed_expression tokens = answered_by (parsed tokens)
 
 -- Operands of instructions.
 
--- an operand: its form, its expression, where it has one, and whether it is one name, which is no register and no condition
-pub record Written : Type 0 where
+-- an operand: its form, its expression if it has one, and whether it is only one name that is no register and no condition
+pub record WrittenOperand : Type 0 where
   pub form : Form
-  pub expression : Option Expression
+  pub expression : Option ExpressionItems
   pub is_name : Bool
 
-abbrev pub alone : Form → Written
+abbrev pub alone : Form → WrittenOperand
 alone form = record { form = form; expression = None; is_name = false }
 
 abbrev pub is_one_name : List Lexeme → Bool
 is_one_name (t ∷ []) = is_name t
 is_one_name _ = false
 
-abbrev pub with_expression : Form → Bool → List Lexeme → Result Written StmtFault
-with_expression form is_name tokens = answered tokens >>= λ e. Ok (record { form = form; expression = Some e; is_name = is_name })
+abbrev pub with_expression : Form → Bool → List Lexeme → Result WrittenOperand StmtFault
+with_expression form is_name tokens = parsed_expression tokens >>= λ e. Ok (record { form = form; expression = Some e; is_name = is_name })
 
--- a register or a condition
+-- the register or condition that a token names, if it names one
 abbrev pub name_by : Kind → List ℕ → Option Name
 name_by Kind.Name text = name_named text
 name_by Kind.OtherAf text = Some Name.OtherAf
 name_by _ text = None
 
-abbrev pub name_of : Lexeme → Option Name
-name_of t = name_by t.kind t.text
+abbrev pub token_name : Lexeme → Option Name
+token_name t = name_by t.kind t.text
 
 abbrev pub name_alone : List Lexeme → Option Name
-name_alone (t ∷ []) = name_of t
+name_alone (t ∷ []) = token_name t
 name_alone _ = None
 
 -- Memory operands.
@@ -80,17 +80,17 @@ abbrev pub is_last : List Lexeme → Bool
 is_last [] = true
 is_last (t ∷ ts) = false
 
--- whether as many parentheses as are open are closed by the last token, and not before
+-- whether the last token closes all open parentheses, and no token before it does
 abbrev pub closed_by_last : ℕ → List Lexeme → Bool
 closed_by_last depth [] = false
 closed_by_last depth (t ∷ ts) = if open_behind depth t.kind == 0 then is_last ts else closed_by_last (open_behind depth t.kind) ts
 
--- begins with `(` whose partner is the last token
+-- whether the tokens begin with `(` and its partner is the last token
 abbrev pub is_memory : List Lexeme → Bool
 is_memory [] = false
 is_memory (t ∷ ts) = (open_behind 0 t.kind == 1) && closed_by_last 1 ts
 
--- what stands between the first token and the last
+-- the tokens between the first and the last
 abbrev pub inner : List Lexeme → List Lexeme
 inner tokens = take (length tokens - 2) (drop 1 tokens)
 
@@ -104,11 +104,11 @@ is_sign_kind (Kind.Mark Mark.Plus) = true
 is_sign_kind (Kind.Mark Mark.Minus) = true
 is_sign_kind _ = false
 
-abbrev pub at_expression : List Lexeme → Result Written StmtFault
+abbrev pub at_expression : List Lexeme → Result WrittenOperand StmtFault
 at_expression tokens = with_expression Form.AtNumber false tokens
 
--- `(IX)`, or `(IX+d)` and `(IX-d)`, whose sign is the expression's prefix operator
-abbrev pub indexed : IndexRegister → Lexeme → List Lexeme → Result Written StmtFault
+-- `(IX)`, or `(IX+d)` and `(IX-d)`, in which the sign is the prefix operator of the expression; otherwise an expression
+abbrev pub indexed : IndexRegister → Lexeme → List Lexeme → Result WrittenOperand StmtFault
 indexed x register [] = Ok (alone (Form.AtIndex x))
 indexed x register (sign ∷ more) =
     if is_sign_kind sign.kind then with_expression (Form.Displaced x) false (sign ∷ more)
@@ -122,25 +122,25 @@ pointed (Some Name.Sp) = Some Pointed.Sp
 pointed (Some Name.C) = Some Pointed.C
 pointed _ = None
 
--- `(HL)`, else `(e)`
-abbrev pub pointed_or : Option Pointed → List Lexeme → Result Written StmtFault
+-- `(HL)` and the like, or else `(e)`
+abbrev pub pointed_or : Option Pointed → List Lexeme → Result WrittenOperand StmtFault
 pointed_or (Some p) tokens = Ok (alone (Form.At p))
 pointed_or None tokens = at_expression tokens
 
-abbrev pub indexed_or : Option IndexRegister → Lexeme → List Lexeme → Result Written StmtFault
+abbrev pub indexed_or : Option IndexRegister → Lexeme → List Lexeme → Result WrittenOperand StmtFault
 indexed_or (Some x) first rest = indexed x first rest
 indexed_or None first rest = pointed_or (pointed (name_alone (first ∷ rest))) (first ∷ rest)
 
--- by what stands between the parentheses
-abbrev pub memory : List Lexeme → Result Written StmtFault
-memory [] = at_expression []
-memory (first ∷ rest) = indexed_or (index_named (name_of first)) first rest
+-- a memory operand, given the tokens between its parentheses
+abbrev pub memory_operand : List Lexeme → Result WrittenOperand StmtFault
+memory_operand [] = at_expression []
+memory_operand (first ∷ rest) = indexed_or (index_named (token_name first)) first rest
 
-abbrev pub named_or : Option Name → List Lexeme → Result Written StmtFault
+abbrev pub named_or : Option Name → List Lexeme → Result WrittenOperand StmtFault
 named_or (Some n) tokens = Ok (alone (Form.Name n))
 named_or None tokens =
-    if is_memory tokens then memory (inner tokens) else with_expression Form.Number (is_one_name tokens) tokens
+    if is_memory tokens then memory_operand (inner tokens) else with_expression Form.Number (is_one_name tokens) tokens
 
--- what an operand of an instruction is: a register or a condition, a memory operand, or an expression
-abbrev pub written : List Lexeme → Result Written StmtFault
-written tokens = named_or (name_alone tokens) tokens
+-- an operand of an instruction: a register or condition, a memory operand, or an expression
+abbrev pub written_operand : List Lexeme → Result WrittenOperand StmtFault
+written_operand tokens = named_or (name_alone tokens) tokens

@@ -1,4 +1,4 @@
-//! Operands, which commas outside of parentheses separate.
+//! Cuts the tokens after a word into operands, which commas outside of parentheses separate.
 
 ghost use Rattle.std.specs.Prelude.{◌≡◌, ◌≤◌, ◌<◌, ◌∷◌, List, Result, Some, IfSome, length, map};
 ghost use Rattle.asm_scan.specs.Tokens.{Lexeme, lexemes};
@@ -12,21 +12,21 @@ use asm_line::{is_comma, open_behind};
 use asm_scan::Token;
 use std::alloc::Global;
 
-/// What is read of an operand by its tokens alone.
+/// A type that can be read from the tokens of one operand.
 pub(crate) trait Operand: Sized {
     ghost Seen: { Type 0 };
 
-    /// What it is, without where it lies in memory.
+    /// The value as plain data, without where it is in memory.
     ghost seen: { Self → Seen };
 
-    /// What is read of tokens.
+    /// What the tokens of an operand are read as, or the first error.
     ghost reads: { List Lexeme → Result Seen StmtFault };
 
     fn read(alloc: Global, tokens: &[Token<'_>]) -> Result<Self, StmtFault>
         ensures { Gives seen result (reads (lexemes tokens.entry.now)) };
 }
 
-/// How many tokens stand before the first comma outside of parentheses.
+/// How many tokens come before the first comma outside of parentheses.
 fn first_len(tokens: &[Token<'_>]) -> usize
     ensures len { result ≡ first_len 0 (lexemes tokens.entry.now) }
     ensures within { result ≤ length tokens.entry.now }
@@ -41,7 +41,7 @@ fn first_len(tokens: &[Token<'_>]) -> usize
     tokens.len()
 }
 
-/// The first operand, and the tokens behind its comma, if it has one.
+/// The first operand, and the tokens after its comma, if it has one.
 pub(crate) fn first_operand<'t, 'a>(
     tokens: &'t [Token<'a>],
 ) -> (&'t [Token<'a>], Option<&'t [Token<'a>]>)
@@ -55,7 +55,7 @@ pub(crate) fn first_operand<'t, 'a>(
     }
 }
 
-/// What is read of each operand that is left, from left to right.
+/// Reads the remaining operands from left to right, or answers the first error.
 pub(crate) fn each_left<T: Operand + Drop>(
     alloc: Global,
     tokens: Option<&[Token<'_>]>,
@@ -72,7 +72,7 @@ pub(crate) fn each_left<T: Operand + Drop>(
     Ok(all)
 }
 
-/// What is read of each operand, from left to right.
+/// Reads all operands from left to right, or answers the first error. No tokens are no operands.
 pub(crate) fn each<T: Operand + Drop>(
     alloc: Global,
     tokens: &[Token<'_>],
@@ -85,7 +85,7 @@ pub(crate) fn each<T: Operand + Drop>(
     each_left(alloc, Some(tokens))
 }
 
-/// Whether the one parenthesis that is open is closed by the last token, and not before.
+/// Whether the last token closes the one parenthesis that is open, and no token before it does.
 fn closed_by_last(tokens: &[Token<'_>]) -> bool
     requires { length tokens.now < usize.MAX }
     ensures { result ≡ closed_by_last 1 (lexemes tokens.entry.now) }
@@ -100,7 +100,7 @@ fn closed_by_last(tokens: &[Token<'_>]) -> bool
     false
 }
 
-/// Whether the tokens begin with `(` whose partner is the last of them.
+/// Whether the tokens begin with `(` and its matching `)` is the last of them.
 pub(crate) fn is_memory(tokens: &[Token<'_>]) -> bool
     ensures { result ≡ is_memory (lexemes tokens.entry.now) }
 {

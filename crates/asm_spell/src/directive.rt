@@ -1,4 +1,4 @@
-//! Directives.
+//! Parses directives.
 
 ghost use Rattle.std.specs.Prelude.{◌≡◌, ◌==◌, if◌then◌else◌, IfOk, map};
 ghost use Rattle.std.specs.Option.{option_map};
@@ -7,8 +7,8 @@ ghost use Rattle.std.specs.Map.{lookup};
 ghost use Rattle.std.specs.Str.{str_eq_ignore_ascii_case};
 ghost use Rattle.asm_scan.specs.Tokens.{lexemes};
 ghost use Rattle.asm_spell.specs.Faults.{Gives};
-ghost use Rattle.asm_spell.specs.Line.{body_of, listed_of, names_of, value_of};
-ghost use Rattle.asm_spell.specs.Directives.{content, directive, end, entry, is_empty_text, nameless, names_in, of_bytes, of_nothing, of_origin, of_space, of_words, text_alone, text_by};
+ghost use Rattle.asm_spell.specs.Line.{body_of, listed_names, name_texts, value_of};
+ghost use Rattle.asm_spell.specs.Directives.{content, directive, end, end_body, is_empty_text, nameless, names_listed, of_bytes, of_nothing, of_origin, of_space, of_words, text_alone, text_by};
 ghost use Rattle.asm_spell.specs.Private.Choices as choices;
 ghost use Rattle.asm_spell.specs.Private.Choices.{directs};
 
@@ -20,7 +20,7 @@ use asm_parse::{KeptName, Tree};
 use asm_scan::{Kind, Token};
 use std::alloc::{AllocError, Global};
 
-/// A word that is no mnemonic.
+/// A directive.
 #[derive(Clone, Copy, Debug, PartialEq, Eq)]
 pub(crate) enum Directive {
     /// `DB`, `DEFB`, `DEFM`
@@ -43,7 +43,7 @@ pub(crate) enum Directive {
     Equ,
 }
 
-/// The directive that a word of two letters is.
+/// The directive that a word of two letters names, if it names one.
 fn of_two(name: &[u8]) -> Option<Directive>
     ensures { option_map directs result ≡ lookup (str_eq_ignore_ascii_case name.now) choices.of_two }
 {
@@ -58,7 +58,7 @@ fn of_two(name: &[u8]) -> Option<Directive>
     }
 }
 
-/// The directive that a word of three letters is.
+/// The directive that a word of three letters names, if it names one.
 fn of_three(name: &[u8]) -> Option<Directive>
     ensures { option_map directs result ≡ lookup (str_eq_ignore_ascii_case name.now) choices.of_three }
 {
@@ -73,7 +73,7 @@ fn of_three(name: &[u8]) -> Option<Directive>
     }
 }
 
-/// The directive that a word of four letters is.
+/// The directive that a word of four letters names, if it names one.
 fn of_four(name: &[u8]) -> Option<Directive>
     ensures { option_map directs result ≡ lookup (str_eq_ignore_ascii_case name.now) choices.of_four }
 {
@@ -92,7 +92,7 @@ fn of_four(name: &[u8]) -> Option<Directive>
     }
 }
 
-/// The directive that a word of more letters is.
+/// The directive that a longer word names, if it names one.
 fn of_more(name: &[u8]) -> Option<Directive>
     ensures { option_map directs result ≡ lookup (str_eq_ignore_ascii_case name.now) choices.of_more }
 {
@@ -109,7 +109,7 @@ fn of_more(name: &[u8]) -> Option<Directive>
     }
 }
 
-/// The directive that a word is, in either case. Its length leaves at most five words to compare it with.
+/// The directive that a word names, in upper or lower case. There are at most five directives of its length to compare it with.
 pub(crate) fn directive_named(name: &[u8]) -> Option<Directive>
     ensures { option_map directs result ≡ directive name.now }
 {
@@ -125,14 +125,14 @@ pub(crate) fn directive_named(name: &[u8]) -> Option<Directive>
     }
 }
 
-/// How many bytes stand for one in a string.
+/// How many bytes of a string's text stand for this byte: a quote is doubled.
 fn width(byte: u8, quote: u8) -> usize
     ensures { result ≡ (if byte == quote then 2 else 1) }
 {
     if byte == quote { 2 } else { 1 }
 }
 
-/// The content of a string, by its text with the quotes.
+/// The content of a string, given its text with the quotes.
 fn content(alloc: Global, text: &[u8]) -> Result<Vec<u8>, AllocError>
     ensures { IfOk result (λ bytes. bytes.items ≡ content text.now) }
 {
@@ -147,7 +147,7 @@ fn content(alloc: Global, text: &[u8]) -> Result<Vec<u8>, AllocError>
     Ok(bytes)
 }
 
-/// The text of the string that a token is.
+/// The text of a token if it is a string.
 fn text_of<'a>(token: &Token<'a>) -> Option<&'a [u8]>
     ensures { option_map (λ text. text.now) result ≡ text_by token.now.kind token.now.text.now }
 {
@@ -157,7 +157,7 @@ fn text_of<'a>(token: &Token<'a>) -> Option<&'a [u8]>
     }
 }
 
-/// The text of the one string that the tokens are.
+/// The text of the only token, if it is a string; None for other tokens.
 fn text_alone<'a>(tokens: &[Token<'a>]) -> Option<&'a [u8]>
     ensures { option_map (λ text. text.now) result ≡ text_alone (lexemes tokens.now) }
 {
@@ -169,13 +169,13 @@ fn text_alone<'a>(tokens: &[Token<'a>]) -> Option<&'a [u8]>
 
 impl Operand for Value {
     ghost use Rattle.asm_spell.specs.Line as line;
-    ghost use Rattle.asm_spell.specs.Directives.{value};
+    ghost use Rattle.asm_spell.specs.Directives.{data_item};
 
     ghost Seen = { line.Value };
 
     ghost seen = { line.value_of };
 
-    ghost reads = { value };
+    ghost reads = { data_item };
 
     fn read(alloc: Global, tokens: &[Token<'_>]) -> Result<Value, StmtFault> {
         match text_alone(tokens) {
@@ -205,7 +205,7 @@ fn any_empty(values: &[Value]) -> bool
     false
 }
 
-/// `DB`
+/// Parses the items of `DB`.
 fn bytes(alloc: Global, tokens: &[Token<'_>]) -> Result<Body, StmtFault>
     ensures { Gives body_of result (of_bytes (lexemes tokens.entry.now)) }
 {
@@ -216,7 +216,7 @@ fn bytes(alloc: Global, tokens: &[Token<'_>]) -> Result<Body, StmtFault>
     Ok(Body::Bytes(values))
 }
 
-/// `DW`
+/// Parses the items of `DW`.
 fn words(alloc: Global, tokens: &[Token<'_>]) -> Result<Body, StmtFault>
     ensures { Gives body_of result (of_words (lexemes tokens.entry.now)) }
 {
@@ -227,7 +227,7 @@ fn words(alloc: Global, tokens: &[Token<'_>]) -> Result<Body, StmtFault>
     Ok(Body::Words(fields))
 }
 
-/// `DS`
+/// Parses the operands of `DS`.
 fn space(alloc: Global, tokens: &[Token<'_>]) -> Result<Body, StmtFault>
     ensures { Gives body_of result (of_space (lexemes tokens.entry.now)) }
 {
@@ -241,7 +241,7 @@ fn space(alloc: Global, tokens: &[Token<'_>]) -> Result<Body, StmtFault>
     }
 }
 
-/// `ORG`
+/// Parses the operand of `ORG`.
 fn origin(alloc: Global, tokens: &[Token<'_>]) -> Result<Body, StmtFault>
     ensures { Gives body_of result (of_origin (lexemes tokens.entry.now)) }
 {
@@ -252,7 +252,7 @@ fn origin(alloc: Global, tokens: &[Token<'_>]) -> Result<Body, StmtFault>
     }
 }
 
-/// `.Z80`
+/// Parses `.Z80`, which has no operands.
 fn nothing(alloc: Global, tokens: &[Token<'_>]) -> Result<Body, StmtFault>
     ensures { Gives body_of result (of_nothing (lexemes tokens.entry.now)) }
 {
@@ -264,7 +264,7 @@ fn nothing(alloc: Global, tokens: &[Token<'_>]) -> Result<Body, StmtFault>
     }
 }
 
-/// `EQU` without a name: its operands are read for their faults.
+/// Refuses `EQU` without a name, after its operands are read for their errors.
 fn nameless(alloc: Global, tokens: &[Token<'_>]) -> Result<Body, StmtFault>
     ensures { Gives body_of result (nameless (lexemes tokens.entry.now)) }
 {
@@ -272,20 +272,20 @@ fn nameless(alloc: Global, tokens: &[Token<'_>]) -> Result<Body, StmtFault>
     Err(StmtFault::BadOperands)
 }
 
-/// An operand where a name is wanted: one that is no name is read for its faults.
+/// An operand where a name is needed. If it is not one name, it is read as an expression for its errors.
 #[derive(Debug, Drop)]
 struct Judged(Option<Tree>);
 
 impl Operand for Judged {
     ghost use Rattle.std.specs.Prelude.{Option};
-    ghost use Rattle.asm_spell.specs.Line.{Expression};
-    ghost use Rattle.asm_spell.specs.Directives.{judged};
+    ghost use Rattle.asm_spell.specs.Line.{ExpressionItems};
+    ghost use Rattle.asm_spell.specs.Directives.{name_or_expression};
 
-    ghost Seen = { Option Expression };
+    ghost Seen = { Option ExpressionItems };
 
     ghost seen = { λ operand. operand.0 };
 
-    ghost reads = { judged };
+    ghost reads = { name_or_expression };
 
     fn read(alloc: Global, tokens: &[Token<'_>]) -> Result<Judged, StmtFault> {
         if is_one_name(tokens) {
@@ -295,9 +295,9 @@ impl Operand for Judged {
     }
 }
 
-/// Names separated by commas, one at least, in upper case.
+/// Parses one or more names separated by commas. The names are put into upper case.
 fn names(alloc: Global, tokens: &[Token<'_>]) -> Result<Vec<Vec<u8>>, StmtFault>
-    ensures { Gives (λ all. names_of all.items) result (names_in (lexemes tokens.entry.now)) }
+    ensures { Gives (λ all. name_texts all.items) result (names_listed (lexemes tokens.entry.now)) }
 {
     match asm_line::names(alloc, tokens)? {
         Some(names) => Ok(names),
@@ -308,9 +308,9 @@ fn names(alloc: Global, tokens: &[Token<'_>]) -> Result<Vec<Vec<u8>>, StmtFault>
     }
 }
 
-/// The names of a list that is kept.
+/// Copies a list of names into the form in which a line keeps them.
 fn listed(alloc: Global, names: &[Vec<u8>]) -> Result<Vec<KeptName>, AllocError>
-    ensures { IfOk result (λ all. listed_of all.items ≡ names_of names.now) }
+    ensures { IfOk result (λ all. listed_names all.items ≡ name_texts names.now) }
 {
     let mut all = Vec::with_capacity(alloc, names.len())?;
     for name in names {
@@ -319,9 +319,9 @@ fn listed(alloc: Global, names: &[Vec<u8>]) -> Result<Vec<KeptName>, AllocError>
     Ok(all)
 }
 
-/// `END` with names.
+/// `END` with these names. It takes only one.
 fn entry(mut names: Vec<Vec<u8>>) -> Result<Body, StmtFault>
-    ensures { Gives body_of result (entry (names_of names.items)) }
+    ensures { Gives body_of result (end_body (name_texts names.items)) }
 {
     if names.len() != 1 {
         return Err(StmtFault::BadOperands);
@@ -329,7 +329,7 @@ fn entry(mut names: Vec<Vec<u8>>) -> Result<Body, StmtFault>
     Ok(Body::End(names.pop()))
 }
 
-/// `END`
+/// Parses the operand of `END`: nothing, or one name.
 fn end(alloc: Global, tokens: &[Token<'_>]) -> Result<Body, StmtFault>
     ensures { Gives body_of result (end (lexemes tokens.entry.now)) }
 {
@@ -339,7 +339,7 @@ fn end(alloc: Global, tokens: &[Token<'_>]) -> Result<Body, StmtFault>
     }
 }
 
-/// What a directive and the tokens behind it spell.
+/// Parses a directive, given the tokens after it.
 pub(crate) fn spell_directive(
     alloc: Global,
     found: Directive,

@@ -1,4 +1,4 @@
-//! Why a line is no statement.
+//! The errors of statements.
 
 ghost use Rattle.std.specs.Prelude.{◌≡◌};
 ghost use Rattle.asm_spell.specs.Faults.{of_expression};
@@ -8,7 +8,7 @@ use asm_parse::ExprFault;
 use std::alloc::{AllocError, AllocFailed};
 use thiserror::Error;
 
-/// Why a line is no statement: its tokens spell none, or its names and values are not those of one.
+/// Why a line is no statement: its tokens make none, or its names and values do not fit.
 #[derive(Clone, Copy, Debug, PartialEq, Eq, Error)]
 pub enum StmtFault {
     #[error("no such word")]
@@ -17,22 +17,22 @@ pub enum StmtFault {
     BadOperands,
     #[error("a value that does not fit into its byte")]
     ByteRange,
-    /// A byte whose value is not known before the program is laid out, and that is no HIGH or LOW.
+    /// A byte whose value is not known before the program is laid out, without HIGH or LOW.
     #[error("a byte that needs HIGH or LOW")]
     NeedsLowOrHigh,
     #[error("a short jump to what is no label")]
     ShortNeedsLabel,
     #[error("a size that names a label")]
     SizeNamesLabel,
-    /// An ORG other than 0100H before any statement.
+    /// Any ORG but 0100H before the first statement.
     #[error("an ORG that is not 0100H at the beginning")]
     BadOrg,
     #[error("a value that is no fixed number")]
     NeedsNumber,
-    /// A register, a condition or an operator where a name is defined or passed on.
+    /// A register, condition or operator where a name is defined or passed on.
     #[error("a reserved name")]
     ReservedName,
-    /// An operand that is no form of an instruction is no expression either, or has no value.
+    /// An operand that should be an expression is none, or the expression has no value.
     #[error("{0}")]
     Expr(ExprFault),
     #[error("out of memory")]

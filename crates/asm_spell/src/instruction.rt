@@ -1,4 +1,4 @@
-//! Instructions.
+//! Parses instructions.
 
 ghost use Rattle.std.specs.Prelude.{◌≡◌, ◌∷◌, [], IfOk, Some};
 ghost use Rattle.std.specs.List.{cons_option};
@@ -8,8 +8,8 @@ ghost use Rattle.z80_form.specs.Numbers.{field_of};
 ghost use Rattle.asm_parse.specs.Few.{all};
 ghost use Rattle.asm_spell.specs.Faults.{Gives, each};
 ghost use Rattle.asm_spell.specs.Line.{body_of};
-ghost use Rattle.asm_spell.specs.Operands.{pieces, written};
-ghost use Rattle.asm_spell.specs.Spelling.{instruction, instruction_by, jump_to, name_in, number, target_by};
+ghost use Rattle.asm_spell.specs.Operands.{pieces, written_operand};
+ghost use Rattle.asm_spell.specs.Spelling.{instruction, instruction_by, jump_to, only_name, field_expression, target_by};
 ghost use Rattle.asm_spell.specs.Private.Choices.{jumps};
 ghost use Rattle.asm_spell.specs.Private.Cutting.{holds, with_others};
 
@@ -24,9 +24,9 @@ use std::alloc::{AllocError, Global};
 use z80_form::{Field, Mnemonic, field_of};
 use z80_instr::Instr;
 
-/// The name that an expression is.
+/// The name, if an expression is only one name.
 fn name_in(tree: &Tree) -> Option<&[u8]>
-    ensures { option_map (λ name. name.now) result ≡ name_in (Some tree.now) }
+    ensures { option_map (λ name. name.now) result ≡ only_name (Some tree.now) }
 {
     match tree.items() {
         [Item::Leaf(term)] => match term.view() {
@@ -37,7 +37,7 @@ fn name_in(tree: &Tree) -> Option<&[u8]>
     }
 }
 
-/// The name that an operand is, where it is one.
+/// The name, if an operand is only one name.
 fn target_by(operand: &Written) -> Option<&[u8]>
     ensures { option_map (λ name. name.now) result ≡ target_by (holds operand.now) }
 {
@@ -47,7 +47,7 @@ fn target_by(operand: &Written) -> Option<&[u8]>
     }
 }
 
-/// The jump to one name that an instruction is with its last operand.
+/// The kind of jump and its target, if the instruction with this last operand is a jump to one name.
 fn jump(instr: Instr, last: &Written) -> Option<(Jump, &[u8])>
     ensures { option_map (λ to. jumps to.0 to.1.now) result ≡ option_and_then (jump_to instr) (target_by (holds last.now)) }
 {
@@ -57,9 +57,9 @@ fn jump(instr: Instr, last: &Written) -> Option<(Jump, &[u8])>
     }
 }
 
-/// The expression of an operand, with what it fills.
+/// The expression of an operand and the field of the instruction that it fills, if it has one.
 fn number(instr: Instr, operand: Written) -> Option<(Field, Tree)>
-    ensures { result ≡ number (field_of instr operand.form) operand.expression }
+    ensures { result ≡ field_expression (field_of instr operand.form) operand.expression }
 {
     match (field_of(instr, operand.form), operand.expression) {
         (Some(field), Some(tree)) => Some((field, tree)),
@@ -67,7 +67,7 @@ fn number(instr: Instr, operand: Written) -> Option<(Field, Tree)>
     }
 }
 
-/// The expressions of two operands, with what they fill.
+/// The expressions of two operands and the fields that they fill.
 fn numbers(
     alloc: Global,
     first: Option<(Field, Tree)>,
@@ -82,7 +82,7 @@ fn numbers(
     }
 }
 
-/// What a mnemonic spells without operands.
+/// The instruction that a mnemonic without operands names.
 fn bare(alloc: Global, mnemonic: Mnemonic) -> Result<Body, StmtFault>
     ensures { Gives body_of result (instruction_by mnemonic []) }
 {
@@ -95,7 +95,7 @@ fn bare(alloc: Global, mnemonic: Mnemonic) -> Result<Body, StmtFault>
     }
 }
 
-/// What a mnemonic spells with one operand.
+/// The instruction or jump that a mnemonic with one operand names.
 fn with_one(alloc: Global, mnemonic: Mnemonic, only: Written) -> Result<Body, StmtFault>
     ensures { Gives body_of result (instruction_by mnemonic (holds only ∷ [])) }
 {
@@ -112,7 +112,7 @@ fn with_one(alloc: Global, mnemonic: Mnemonic, only: Written) -> Result<Body, St
     Ok(Body::Code { instr, numbers })
 }
 
-/// What a mnemonic spells with two operands.
+/// The instruction or jump that a mnemonic with two operands names.
 fn with_two(
     alloc: Global,
     mnemonic: Mnemonic,
@@ -131,28 +131,28 @@ fn with_two(
     Ok(Body::Code { instr, numbers })
 }
 
-/// What a mnemonic spells with an operand, and with those that tokens are behind its comma.
+/// Parses the remaining operands of a mnemonic, after the comma of the first, and answers the instruction or jump.
 fn with_more(
     alloc: Global,
     mnemonic: Mnemonic,
     left: Written,
     tokens: &[Token<'_>],
 ) -> Result<Body, StmtFault>
-    ensures { Gives body_of result (with_others mnemonic (holds left) (each written (pieces 0 (lexemes tokens.entry.now)))) }
+    ensures { Gives body_of result (with_others mnemonic (holds left) (each written_operand (pieces 0 (lexemes tokens.entry.now)))) }
 {
     let (operand, behind) = first_operand(tokens);
     let right = Written::read(alloc, operand)?;
     if behind.is_none() {
         return with_two(alloc, mnemonic, left, right);
     }
-    // A fault of theirs comes before that of their number.
+    // An error in an operand is reported before the error that there are too many.
     let _others: Vec<Written> = each_left(alloc, behind)?;
-    // Called for what it says: no instruction has three operands.
+    // Called for its clause: no instruction has three operands.
     z80_form::laws::spelled();
     Err(StmtFault::BadOperands)
 }
 
-/// What a mnemonic and the tokens behind it spell.
+/// Parses an instruction, given its mnemonic and the tokens after it.
 pub(crate) fn instruction(
     alloc: Global,
     mnemonic: Mnemonic,

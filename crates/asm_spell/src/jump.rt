@@ -8,12 +8,12 @@ ghost use Rattle.asm_spell.specs.Private.Choices.{jumps};
 use crate::line::Body;
 use z80_instr::{Branch, Cond, Instr, ShortCond};
 
-/// How a jump to one name is coded.
+/// Which forms a jump to one name may take.
 #[derive(Clone, Copy, Debug)]
 pub(crate) enum Jump {
-    /// `JP`, without a condition or on one that `JR` can take too: it may be coded both ways.
+    /// `JP` without a condition, or on one that `JR` can test too: it may be long or short.
     Relaxable(Option<ShortCond>),
-    /// `JR` and `DJNZ`: it is always short.
+    /// `JR` and `DJNZ`: always short.
     Always(Branch),
 }
 
@@ -32,7 +32,7 @@ impl Jump {
     }
 }
 
-/// The condition that `JR` can take too.
+/// The condition as one of `JR`, if `JR` can test it.
 fn short_condition(condition: Cond) -> Option<ShortCond>
     ensures { result ≡ short_condition condition }
 {
@@ -45,7 +45,7 @@ fn short_condition(condition: Cond) -> Option<ShortCond>
     }
 }
 
-/// The jump that an instruction is with one name as its target.
+/// The kind of jump that an instruction is if its target is one name; None if it is no such jump.
 pub(crate) fn jump_of(instr: Instr) -> Option<Jump>
     ensures { (name : List ℕ) → option_map (λ jump. jumps jump name) result ≡ jump_to instr name }
 {

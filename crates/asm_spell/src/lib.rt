@@ -1,7 +1,7 @@
-//! What the tokens of a line spell: a label, a word and its operands, with names still names.
+//! Parses the tokens of a line: its label, its word and its operands, with names as written.
 //!
-//! [`statement`] answers the one line that tokens spell, or the first fault. What names stand for, and
-//! whether values fit, is not judged here.
+//! [`statement`] answers the one line that the tokens are, or the first error. What names stand for, and whether values fit, is
+//! checked elsewhere.
 #![tactic(auto)]
 
 mod cut;

@@ -1,13 +1,13 @@
-//! The forms of a line.
+//! Parsed lines.
 
 use asm_parse::{Few, KeptName, Tree};
 use z80_form::Field;
 use z80_instr::{Branch, Instr, ShortCond};
 
-/// A value of `DB`.
+/// An item of `DB`.
 #[derive(Debug, Drop)]
 pub enum Value {
-    /// The bytes of a string, at least one.
+    /// The bytes of a string; there is at least one.
     Text(Vec<u8>),
     Byte(Tree),
 }
@@ -15,17 +15,17 @@ pub enum Value {
 /// A word and its operands. Names are in upper case.
 #[derive(Debug, Drop)]
 pub enum Body {
-    /// An instruction with zeros in place of its numbers, and the expressions of these.
+    /// An instruction with zeros in place of its numbers, and for each number its field and its expression.
     Code {
         instr: Instr,
         numbers: Few<(Field, Tree)>,
     },
-    /// `JP`, to one name, without a condition or on one that `JR` can take too.
+    /// A relaxable jump: `JP` to one name, without a condition or on one that `JR` can test too.
     Jump {
         condition: Option<ShortCond>,
         target: Vec<u8>,
     },
-    /// `JR` or `DJNZ`, to one name.
+    /// `JR` or `DJNZ` to one name.
     Short {
         branch: Branch,
         target: Vec<u8>,
@@ -34,7 +34,7 @@ pub enum Body {
     Bytes(Vec<Value>),
     /// `DW`
     Words(Vec<Tree>),
-    /// `DS`, with its fill if it has one.
+    /// `DS`, and the byte that fills the space, if there is one.
     Space {
         size: Tree,
         fill: Option<Tree>,
@@ -45,13 +45,13 @@ pub enum Body {
     External(Vec<KeptName>),
     /// `ORG`
     Origin(Tree),
-    /// `END`, with the name of the entry if it has one.
+    /// `END`, and the name of the entry, if there is one.
     End(Option<Vec<u8>>),
     /// `.Z80`
     Z80,
 }
 
-/// What a line spells.
+/// A parsed line.
 #[derive(Debug, Drop)]
 pub enum Line {
     /// `name EQU e`
@@ -59,7 +59,7 @@ pub enum Line {
         name: Vec<u8>,
         value: Tree,
     },
-    /// A label and a statement, each if it has one.
+    /// A label and a statement, each if the line has one.
     Statement {
         label: Option<Vec<u8>>,
         body: Option<Body>,

@@ -1,9 +1,9 @@
-//! The operands of instructions.
+//! Parses the operands of instructions.
 
 ghost use Rattle.std.specs.Prelude.{◌≡◌, ◌∷◌, None};
 ghost use Rattle.asm_scan.specs.Tokens.{lexeme, lexemes};
 ghost use Rattle.asm_spell.specs.Faults.{Gives};
-ghost use Rattle.asm_spell.specs.Operands.{alone, answered, indexed, index_named, is_one_name, is_sign_kind, memory, name_alone, name_of, named_or, pointed, pointed_or, with_expression, written};
+ghost use Rattle.asm_spell.specs.Operands.{alone, parsed_expression, indexed, index_named, is_one_name, is_sign_kind, memory_operand, name_alone, token_name, named_or, pointed, pointed_or, with_expression, written_operand};
 ghost use Rattle.asm_spell.specs.Private.Cutting.{holds};
 
 use crate::cut::{Operand, is_memory};
@@ -14,7 +14,7 @@ use std::alloc::Global;
 use z80_form::{Form, Name, Pointed, name_of};
 use z80_instr::IndexRegister;
 
-/// An operand: its form, its expression where it has one, and whether it is one name, which is no register and no condition.
+/// An operand: its form, its expression if it has one, and whether it is only one name that is no register and no condition.
 #[derive(Debug, Drop)]
 pub(crate) struct Written {
     pub(crate) form: Form,
@@ -22,9 +22,9 @@ pub(crate) struct Written {
     pub(crate) is_name: bool,
 }
 
-/// The expression that tokens spell.
+/// Parses tokens as an expression.
 pub(crate) fn expression(alloc: Global, tokens: &[Token<'_>]) -> Result<Tree, StmtFault>
-    ensures { Gives (λ e. e) result (answered (lexemes tokens.entry.now)) }
+    ensures { Gives (λ e. e) result (parsed_expression (lexemes tokens.entry.now)) }
 {
     match parse(alloc, tokens) {
         Ok(tree) => Ok(tree),
@@ -34,14 +34,14 @@ pub(crate) fn expression(alloc: Global, tokens: &[Token<'_>]) -> Result<Tree, St
 
 impl Operand for Tree {
     ghost use Rattle.std.specs.Prelude.{List};
-    ghost use Rattle.asm_spell.specs.Line.{Expression};
-    ghost use Rattle.asm_spell.specs.Operands.{answered};
+    ghost use Rattle.asm_spell.specs.Line.{ExpressionItems};
+    ghost use Rattle.asm_spell.specs.Operands.{parsed_expression};
 
-    ghost Seen = { Expression };
+    ghost Seen = { ExpressionItems };
 
     ghost seen = { λ e. e };
 
-    ghost reads = { answered };
+    ghost reads = { parsed_expression };
 
     fn read(alloc: Global, tokens: &[Token<'_>]) -> Result<Tree, StmtFault> {
         expression(alloc, tokens)
@@ -75,9 +75,9 @@ fn with_expression(
     })
 }
 
-/// The register or condition that a token is.
+/// The register or condition that a token names, if it names one.
 fn name_in(token: &Token<'_>) -> Option<Name>
-    ensures { result ≡ name_of (lexeme token.now) }
+    ensures { result ≡ token_name (lexeme token.now) }
 {
     match token.kind {
         Kind::Name => name_of(token.text),
@@ -86,7 +86,7 @@ fn name_in(token: &Token<'_>) -> Option<Name>
     }
 }
 
-/// The register or condition that the tokens are.
+/// The register or condition that the only token names, if it names one; None for other tokens.
 fn name_alone(tokens: &[Token<'_>]) -> Option<Name>
     ensures { result ≡ name_alone (lexemes tokens.entry.now) }
 {
@@ -135,8 +135,8 @@ fn is_sign(token: &Token<'_>) -> bool
     matches!(token.kind, Kind::Mark(Mark::Plus | Mark::Minus))
 }
 
-/// A memory operand that begins with an index register. `inner` is what stands between its parentheses, `rest` what stands
-/// behind the register.
+/// Parses a memory operand that begins with an index register. `inner` are the tokens between its parentheses, and `rest` those of
+/// them after the register.
 fn indexed(
     alloc: Global,
     x: IndexRegister,
@@ -159,7 +159,7 @@ fn indexed(
     }
 }
 
-/// A memory operand that begins with no index register.
+/// Parses a memory operand that does not begin with an index register, given the tokens between its parentheses.
 fn unindexed(alloc: Global, inner: &[Token<'_>]) -> Result<Written, StmtFault>
     ensures { Gives holds result (pointed_or (pointed (name_alone (lexemes inner.entry.now))) (lexemes inner.entry.now)) }
 {
@@ -169,9 +169,9 @@ fn unindexed(alloc: Global, inner: &[Token<'_>]) -> Result<Written, StmtFault>
     }
 }
 
-/// A memory operand, by what stands between its parentheses.
+/// Parses a memory operand, given the tokens between its parentheses.
 fn memory(alloc: Global, inner: &[Token<'_>]) -> Result<Written, StmtFault>
-    ensures { Gives holds result (memory (lexemes inner.entry.now)) }
+    ensures { Gives holds result (memory_operand (lexemes inner.entry.now)) }
 {
     match inner {
         [] => with_expression(alloc, Form::AtNumber, false, inner),
@@ -182,7 +182,7 @@ fn memory(alloc: Global, inner: &[Token<'_>]) -> Result<Written, StmtFault>
     }
 }
 
-/// An operand that is no register and no condition.
+/// Parses an operand that is no register and no condition.
 fn unnamed(alloc: Global, tokens: &[Token<'_>]) -> Result<Written, StmtFault>
     ensures { Gives holds result (named_or None (lexemes tokens.entry.now)) }
 {
@@ -197,11 +197,11 @@ impl Operand for Written {
     ghost use Rattle.asm_spell.specs.Operands as operands;
     ghost use Rattle.asm_spell.specs.Private.Cutting.{holds};
 
-    ghost Seen = { operands.Written };
+    ghost Seen = { operands.WrittenOperand };
 
     ghost seen = { holds };
 
-    ghost reads = { operands.written };
+    ghost reads = { operands.written_operand };
 
     fn read(alloc: Global, tokens: &[Token<'_>]) -> Result<Written, StmtFault> {
         match name_alone(tokens) {

@@ -1,4 +1,4 @@
-//! From tokens to a line.
+//! Parses the tokens of a line.
 
 ghost use Rattle.std.specs.Prelude.{◌≡◌, IfErr, IfOk, None, Some};
 ghost use Rattle.std.specs.Option.{option_map};
@@ -6,8 +6,8 @@ ghost use Rattle.asm_scan.specs.Tokens.{lexemes};
 ghost use Rattle.std.specs.List.{list_any};
 ghost use Rattle.common.specs.Words.{upper, is_reserved};
 ghost use Rattle.asm_spell.specs.Faults.{Gives, IsOfTokens};
-ghost use Rattle.asm_spell.specs.Line.{body_of, line_of, listed_of};
-ghost use Rattle.asm_spell.specs.Spelling.{body_names, defined, has_reserved, labelled, operation, spelled};
+ghost use Rattle.asm_spell.specs.Line.{body_of, line_of, listed_names};
+ghost use Rattle.asm_spell.specs.Spelling.{body_names, equ_definition, has_reserved, labelled_line, operation, spelled};
 
 use crate::directive::{directive_named, spell_directive};
 use crate::fault::StmtFault;
@@ -21,7 +21,7 @@ use common::is_reserved;
 use std::alloc::{AllocError, Global};
 use z80_form::mnemonic_of;
 
-/// What a word and the tokens behind it spell.
+/// Parses a statement, given its word and the tokens after it.
 fn operation(alloc: Global, name: &[u8], tokens: &[Token<'_>]) -> Result<Body, StmtFault>
     ensures { Gives body_of result (operation name.now (lexemes tokens.entry.now)) }
 {
@@ -35,7 +35,7 @@ fn operation(alloc: Global, name: &[u8], tokens: &[Token<'_>]) -> Result<Body, S
 }
 
 fn any_reserved(names: &[KeptName]) -> bool
-    ensures { result ≡ list_any is_reserved (listed_of names.now) }
+    ensures { result ≡ list_any is_reserved (listed_names names.now) }
 {
     for name in names {
         if is_reserved(name) {
@@ -56,7 +56,7 @@ fn passes_reserved(body: &Body) -> bool
     }
 }
 
-/// Whether a line has a label that is reserved.
+/// Whether a line has a label that is a reserved name.
 fn is_reserved_label(label: &Option<Vec<u8>>) -> bool
     ensures { result ≡ has_reserved (option_map (λ name. name.items) label.now) None }
 {
@@ -66,7 +66,7 @@ fn is_reserved_label(label: &Option<Vec<u8>>) -> bool
     }
 }
 
-/// A label in upper case, if there is one.
+/// The label in upper case, if there is one.
 fn label_of(alloc: Global, name: Option<&[u8]>) -> Result<Option<Vec<u8>>, AllocError>
     ensures { IfOk result (λ label. option_map (λ name. name.items) label ≡ option_map (λ name. upper name.now) name.entry) }
 {
@@ -76,9 +76,9 @@ fn label_of(alloc: Global, name: Option<&[u8]>) -> Result<Option<Vec<u8>>, Alloc
     }
 }
 
-/// A label alone, if the line has one.
+/// A line without a statement, and its label if it has one. Refuses a reserved label.
 fn unstated(alloc: Global, name: Option<&[u8]>) -> Result<Line, StmtFault>
-    ensures { Gives line_of result (labelled (option_map (λ name. upper name.now) name.entry) None) }
+    ensures { Gives line_of result (labelled_line (option_map (λ name. upper name.now) name.entry) None) }
 {
     let label = label_of(alloc, name)?;
     if is_reserved_label(&label) {
@@ -87,9 +87,9 @@ fn unstated(alloc: Global, name: Option<&[u8]>) -> Result<Line, StmtFault>
     Ok(Line::Statement { label, body: None })
 }
 
-/// A label, if the line has one, and a statement.
+/// A line with a statement, and its label if it has one. Refuses reserved names.
 fn labelled(alloc: Global, name: Option<&[u8]>, body: Body) -> Result<Line, StmtFault>
-    ensures { Gives line_of result (labelled (option_map (λ name. upper name.now) name.entry) (Some (body_of body))) }
+    ensures { Gives line_of result (labelled_line (option_map (λ name. upper name.now) name.entry) (Some (body_of body))) }
 {
     let label = label_of(alloc, name)?;
     if is_reserved_label(&label) || passes_reserved(&body) {
@@ -101,9 +101,9 @@ fn labelled(alloc: Global, name: Option<&[u8]>, body: Body) -> Result<Line, Stmt
     })
 }
 
-/// The definition of a name.
+/// Parses an EQU line, given its name and the tokens after EQU.
 fn defined(alloc: Global, name: &[u8], tokens: &[Token<'_>]) -> Result<Line, StmtFault>
-    ensures { Gives line_of result (defined (upper name.now) (lexemes tokens.entry.now)) }
+    ensures { Gives line_of result (equ_definition (upper name.now) (lexemes tokens.entry.now)) }
 {
     let value = expression(alloc, tokens)?;
     let name = name.to_ascii_uppercase(alloc)?;
@@ -113,7 +113,7 @@ fn defined(alloc: Global, name: &[u8], tokens: &[Token<'_>]) -> Result<Line, Stm
     Ok(Line::Equ { name, value })
 }
 
-/// The line that the tokens spell, by what it says first.
+/// Parses a line, given the label and head with which it begins.
 fn read(alloc: Global, tokens: &[Token<'_>]) -> Result<Line, StmtFault>
     ensures { Gives line_of result (spelled (lexemes tokens.entry.now)) }
 {
@@ -129,14 +129,13 @@ fn read(alloc: Global, tokens: &[Token<'_>]) -> Result<Line, StmtFault>
     }
 }
 
-/// The line that the tokens spell.
+/// Parses the tokens of a line.
 ///
 /// # Errors
 ///
-/// [`StmtFault::UnknownWord`] where the word is none; else [`StmtFault::Expr`] of the first operand
-/// that is no expression; else [`StmtFault::BadOperands`] where the word does not take these
-/// operands; else [`StmtFault::ReservedName`]; [`StmtFault::NoMemory`] where a list or a name cannot
-/// grow.
+/// The first of these that applies: [`StmtFault::UnknownWord`] if the word is unknown; [`StmtFault::Expr`] of the first operand
+/// that is not an expression; [`StmtFault::BadOperands`] if the word does not take these operands; [`StmtFault::ReservedName`].
+/// Also [`StmtFault::NoMemory`] if memory runs out.
 pub fn statement(alloc: Global, tokens: &[Token<'_>]) -> Result<Line, StmtFault>
     ensures spelled { Gives line_of result (spelled (lexemes tokens.entry.now)) }
     ensures faults { IfErr result IsOfTokens }

@@ -1,18 +1,18 @@
-//! Why a line states nothing.
+//! Why a line makes no statement.
 
 use asm_spell::StmtFault;
 use std::alloc::{AllocError, AllocFailed};
 use thiserror::Error;
 
-/// Why a line other than an EQU states nothing, though it spells something.
+/// The error of a line that parses and is not an EQU.
 #[derive(Clone, Copy, Debug, PartialEq, Eq, Error)]
 pub enum StateFault {
-    /// A name in it is nowhere defined.
+    /// A name in it is defined nowhere.
     #[error("a name is not defined")]
     Undefined,
     #[error("{0}")]
     Stmt(StmtFault),
-    /// `PUBLIC` or `END` has a name that is no label.
+    /// `PUBLIC` or `END` lists a name that is not a label.
     #[error("a name is no label")]
     PublicNotLabel,
     #[error("out of memory")]

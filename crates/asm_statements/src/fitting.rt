@@ -1,4 +1,4 @@
-//! What the types of statements say.
+//! States what the types of statements guarantee.
 
 ghost use Rattle.std.specs.Prelude.{All, map};
 ghost use Rattle.zmo_module.specs.Modules.{statement_of};
@@ -6,7 +6,7 @@ ghost use Rattle.asm_statements.specs.Rules.Fitting.{FitsWord};
 
 use zmo_module::Statement;
 
-/// A statement's number of bytes of one value fits a word.
+/// Does nothing. Its contract says that the size of space fits a word.
 fn fits_word(statement: &Statement)
     ensures { FitsWord (statement_of statement.now) }
 {
@@ -15,7 +15,7 @@ fn fits_word(statement: &Statement)
     }
 }
 
-/// .. and so does that of each.
+/// Does nothing. Its contract says the same of each statement.
 pub fn fit_words(statements: &[Statement])
     ensures { All FitsWord (map statement_of statements.now) }
 {

@@ -1,9 +1,9 @@
-//! One line.
+//! Judges one line.
 
 ghost use Rattle.std.specs.Prelude.{◌≡◌, ℕ, List, None, Ok};
 ghost use Rattle.std.specs.Option.{option_map};
 ghost use Rattle.asm_expr.specs.Names.{found};
-ghost use Rattle.asm_names.specs.Names.{kind_of};
+ghost use Rattle.asm_names.specs.Names.{kind_of_name};
 ghost use Rattle.asm_piece.specs.Made as pieces;
 ghost use Rattle.asm_piece.specs.Made.{made_of, piece_of};
 ghost use Rattle.asm_spell.specs.Line.{body_of, line_of};
@@ -21,7 +21,7 @@ use std::alloc::Global;
 use z80_instr::Branch;
 use zmo_module::Statement;
 
-/// A fault of values as one of a line.
+/// Converts an error of values to one of a line.
 fn of_values(why: StmtFault) -> StateFault
     ensures { result ≡ of_values why }
 {
@@ -31,7 +31,7 @@ fn of_values(why: StmtFault) -> StateFault
     }
 }
 
-/// A jump that JR or DJNZ writes: a JR is a marked one where it may grow.
+/// Answers the jump that a JR or DJNZ is. If `grow` is true, a JR is a relaxable jump, marked as written as JR.
 fn branch_statement(branch: Branch, target: u16, grow: bool) -> Statement
     ensures { statement_of result ≡ statement_by grow (pieces.Short branch target) }
 {
@@ -45,7 +45,7 @@ fn branch_statement(branch: Branch, target: u16, grow: bool) -> Statement
     }
 }
 
-/// A piece as a module has it.
+/// Answers a piece as a statement of a module.
 fn statement(piece: Piece, grow: bool) -> Statement
     ensures { statement_of result ≡ statement_by grow (piece_of piece) }
 {
@@ -61,7 +61,7 @@ fn statement(piece: Piece, grow: bool) -> Statement
     }
 }
 
-/// The statement that what names make comes to, if it does.
+/// Answers the statement of what a line makes, if it makes a piece.
 fn stated(made: Made, grow: bool) -> Option<Statement>
     ensures { option_map statement_of result ≡ of_made grow (Ok (made_of made)) }
 {
@@ -71,7 +71,7 @@ fn stated(made: Made, grow: bool) -> Option<Statement>
     }
 }
 
-/// Judges a word and its operands by what the names stand for: the statement that they come to, if they do.
+/// Judges a statement and its operands, given what names stand for. Answers the statement of the module, if there is one.
 fn judge_body(
     alloc: Global,
     body: &Body,
@@ -79,7 +79,7 @@ fn judge_body(
     names: &Names,
     grow: bool,
 ) -> Result<Option<Statement>, StateFault>
-    requires { (name : List ℕ) → found names.now name ≡ None → kind_of table.now name ≡ None }
+    requires { (name : List ℕ) → found names.now name ≡ None → kind_of_name table.now name ≡ None }
     ensures { JudgesBody grow table.now names.now (body_of body.now) result }
 {
     if is_undefined(table, body) {
@@ -92,7 +92,7 @@ fn judge_body(
     }
 }
 
-/// Judges a line. An EQU comes to no statement.
+/// Judges a line. An EQU makes no statement.
 pub(crate) fn judge(
     alloc: Global,
     line: &Line,
@@ -100,7 +100,7 @@ pub(crate) fn judge(
     names: &Names,
     grow: bool,
 ) -> Result<Option<Statement>, StateFault>
-    requires { (name : List ℕ) → found names.now name ≡ None → kind_of table.now name ≡ None }
+    requires { (name : List ℕ) → found names.now name ≡ None → kind_of_name table.now name ≡ None }
     ensures { JudgesLine grow table.now names.now (line_of line.now) result }
 {
     match line {

@@ -1,4 +1,4 @@
-//! The statements of lines.
+//! Finds which statements lines have, and how many come before each line.
 
 ghost use Rattle.std.specs.Prelude.{◌≡◌, ◌≤◌, ◌++◌, [], All, IfOk, OnOk, count_by, is_some};
 ghost use Rattle.std.specs.List.{cons_option};
@@ -26,7 +26,7 @@ fn is_place(names: &Names, name: &[u8]) -> bool
     )
 }
 
-/// Where a written `JR` may grow, one to a label or an external is a relaxable jump.
+/// If `grow` is true, answers that a `JR` to a label or an external is a relaxable jump.
 fn may_grow(grow: bool, body: &Body, names: &Names, statement: Statement) -> Statement
     ensures { result ≡ may_grow grow names.now (body_of body.now) statement }
 {
@@ -39,7 +39,7 @@ fn may_grow(grow: bool, body: &Body, names: &Names, statement: Statement) -> Sta
     }
 }
 
-/// The statement of a line, if it has one.
+/// Answers the size of a line's statement, if the line has one.
 fn line_sized(
     alloc: Global,
     line: &Line,
@@ -62,7 +62,7 @@ fn line_sized(
     }
 }
 
-/// Puts a statement behind others, if there is one.
+/// Appends a statement, if there is one.
 fn put(statements: &mut Vec<Statement>, one: Option<Statement>) -> Result<(), AllocError>
     ensures { OnOk result (statements.new.items ≡ statements.old.items ++ cons_option one []) }
 {
@@ -72,8 +72,9 @@ fn put(statements: &mut Vec<Statement>, one: Option<Statement>) -> Result<(), Al
     Ok(())
 }
 
-/// The statements of lines in order, as far as their sizes are known, and for each line the number of the next one: by what names
-/// stand for, whatever places labels and externals have. Where a written `JR` may grow it counts as relaxable.
+/// Answers the sizes of the statements of all lines, as far as they are known, and for each line the number of the next statement. The
+/// answer depends on what names stand for, but not on the addresses of labels and externals. If `grow` is true, a written `JR` counts as
+/// relaxable.
 pub fn lay(
     alloc: Global,
     lines: &[SourceLine],

@@ -1,8 +1,8 @@
-//! From the lines of a source to the statements of its module, and that these are right.
+//! Makes the statements of a module from the lines of its source, and proves that they are right.
 //!
 //! [`lay`] answers which lines have a statement and how many bytes each takes, as far as that is known before names have their
 //! addresses. [`state_lines`] answers the statements of a module, or the first line other than an EQU that has an error.
-//! [`fit_words`] says what the types of statements say. The [`laws`] say that the statements have the sizes that were laid out,
+//! [`fit_words`] states what the types of statements guarantee. The [`laws`] say that the statements have the sizes that were laid out,
 //! keep the rules of an object file, and become at all addresses the bytes that the lines describe.
 #![tactic(auto)]
 

@@ -1,4 +1,4 @@
-//! Names that are nowhere defined, and names that are no labels.
+//! Looks for names that are defined nowhere, and for names that are not labels.
 
 ghost use Rattle.std.specs.Prelude.{◌≡◌, option_copied};
 ghost use Rattle.std.specs.List.{list_any};
@@ -12,21 +12,21 @@ use asm_names::{Kind, NameTable};
 use asm_spell::{Body, KeptName, Value};
 use z80_form::Field;
 
-/// Whether a name is nowhere defined.
+/// Whether a name is defined nowhere.
 fn is_missing(table: &NameTable, name: &[u8]) -> bool
     ensures { result ≡ is_missing table.now name.now }
 {
     table.kind(name).is_none()
 }
 
-/// Whether one of some names is nowhere defined.
+/// Whether one of the names is defined nowhere.
 fn names_miss(table: &NameTable, names: &[KeptName]) -> bool
     ensures { result ≡ list_any (λ name. is_missing table.now name.items) names.now }
 {
     names.iter().any(|name| is_missing(table, name))
 }
 
-/// Whether an item of an expression is a name that is nowhere defined.
+/// Whether an item of an expression is a name that is defined nowhere.
 fn item_misses(table: &NameTable, item: &Item<Term>) -> bool
     ensures { result ≡ item_misses table.now (source_item item.now) }
 {
@@ -42,7 +42,7 @@ fn items_miss(table: &NameTable, items: &[Item<Term>]) -> bool
     items.iter().any(|item| item_misses(table, item))
 }
 
-/// Whether an expression has a name that is nowhere defined.
+/// Whether an expression has a name that is defined nowhere.
 fn tree_misses(table: &NameTable, tree: &Tree) -> bool
     ensures { result ≡ tree_misses table.now tree.now }
 {
@@ -85,7 +85,7 @@ fn fill_misses(table: &NameTable, fill: Option<&Tree>) -> bool
     }
 }
 
-/// Whether a word and its operands use a name that is nowhere defined.
+/// Whether a statement and its operands use a name that is defined nowhere.
 pub(crate) fn is_undefined(table: &NameTable, body: &Body) -> bool
     ensures { result ≡ list_any (is_missing table.now) (used (body_of body.now)) }
 {
@@ -108,7 +108,7 @@ pub(crate) fn is_undefined(table: &NameTable, body: &Body) -> bool
     }
 }
 
-/// Whether a name is no label.
+/// Whether a name is not a label.
 fn is_no_label(table: &NameTable, name: &[u8]) -> bool
     ensures { result ≡ is_no_label table.now name.now }
 {
@@ -121,7 +121,7 @@ fn one_is_no_label(table: &NameTable, names: &[KeptName]) -> bool
     names.iter().any(|name| is_no_label(table, name))
 }
 
-/// Whether `PUBLIC` or `END` has a name that is no label.
+/// Whether `PUBLIC` or `END` lists a name that is not a label.
 pub(crate) fn lacks_label(table: &NameTable, body: &Body) -> bool
     ensures { result ≡ list_any (is_no_label table.now) (passed_on (body_of body.now)) }
 {

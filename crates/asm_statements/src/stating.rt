@@ -1,11 +1,11 @@
-//! All lines.
+//! Makes the statements of all lines.
 
 ghost use Rattle.std.specs.Prelude.{◌≡◌, ℕ, List, None};
 ghost use Rattle.asm_expr.specs.Names.{found};
 ghost use Rattle.asm_names.specs.Lines.{lines_of};
-ghost use Rattle.asm_names.specs.Names.{kind_of};
+ghost use Rattle.asm_names.specs.Names.{kind_of_name};
 ghost use Rattle.asm_names.specs.Layout.{layout_of};
-ghost use Rattle.asm_statements.specs.Module.Stated.{IsStated};
+ghost use Rattle.asm_statements.specs.Module.Stated.{AreStated};
 
 use crate::fault::StateFault;
 use crate::judging::judge;
@@ -14,11 +14,11 @@ use asm_names::{Layout, NameTable, SourceLine};
 use std::alloc::Global;
 use zmo_module::Statement;
 
-/// What lines state.
+/// The statements of the lines of a module.
 #[derive(Debug, Drop)]
 pub struct Stated {
     pub statements: Vec<Statement>,
-    /// Of each statement the number that its line bears.
+    /// For each statement the number of its line.
     pub lines: Vec<u32>,
 }
 
@@ -26,10 +26,10 @@ impl Stated {
     ghost use Rattle.std.specs.Prelude.{◌≡◌, ℕ, [], List, None};
     ghost use Rattle.asm_expr.specs.Names.{found};
     ghost use Rattle.asm_names.specs.Lines.{taken_of};
-    ghost use Rattle.asm_names.specs.Names.{kind_of};
+    ghost use Rattle.asm_names.specs.Names.{kind_of_name};
     ghost use Rattle.asm_statements.specs.Private.Steps.{Takes};
 
-    /// Nothing, and room for so many statements where memory for it is left: else the lists grow as they are filled.
+    /// Answers empty lists, with room for `count` statements if memory allows it. If not, the lists grow as they are filled.
     fn nothing(alloc: Global, count: usize) -> Stated
         ensures statements { result.statements.items ≡ [] }
         ensures lines { result.lines.items ≡ [] }
@@ -43,7 +43,7 @@ impl Stated {
         stated
     }
 
-    /// Puts what a line comes to behind the others.
+    /// Appends the statement of a line, if it has one.
     fn take(
         &mut self,
         alloc: Global,
@@ -52,7 +52,7 @@ impl Stated {
         names: &Names,
         grow: bool,
     ) -> Result<(), StateFault>
-        requires { (name : List ℕ) → found names.now name ≡ None → kind_of table.now name ≡ None }
+        requires { (name : List ℕ) → found names.now name ≡ None → kind_of_name table.now name ≡ None }
         ensures { Takes grow table.now names.now (taken_of line.now) self.old result self.new }
     {
         if let Some(statement) = judge(alloc, &line.line, table, names, grow)? {
@@ -63,13 +63,13 @@ impl Stated {
     }
 }
 
-/// The statements of lines, by what the names stand for. Where a written `JR` may grow it is a marked jump. Each line is given back as
-/// soon as its statement stands.
+/// Answers the statements of lines, given what names stand for. If `grow` is true, a written `JR` is a relaxable jump that is marked. The
+/// memory of each line is freed as soon as its statement is made.
 ///
 /// # Errors
 ///
-/// The number of the first line other than an EQU that is faulty, and its first fault: a name that is nowhere defined, then the faults of its
-/// values from left to right, then a name in PUBLIC or END that is no label.
+/// The number of the first line other than an EQU that has an error, and its first error: a name that is defined nowhere; then the errors
+/// of its values, from left to right; then a name in PUBLIC or END that is not a label.
 pub fn state_lines(
     alloc: Global,
     lines: Vec<SourceLine>,
@@ -78,8 +78,8 @@ pub fn state_lines(
     layout: &Layout,
     grow: bool,
 ) -> Result<Stated, (u32, StateFault)>
-    requires { (name : List ℕ) → found names name ≡ None → kind_of table.now name ≡ None }
-    ensures { IsStated grow table.now names (layout_of layout.now) (lines_of lines.items) result }
+    requires { (name : List ℕ) → found names name ≡ None → kind_of_name table.now name ≡ None }
+    ensures { AreStated grow table.now names (layout_of layout.now) (lines_of lines.items) result }
 {
     let mut names = names;
     let mut stated = Stated::nothing(alloc, layout.statements.len());
@@ -88,7 +88,7 @@ pub fn state_lines(
         names.set_here(layout.next_at(at));
         let number = line.number;
         let taken = stated.take(alloc, &line, table, &names, grow);
-        // Here, and not at the end of the turn, where each form of a line would be a way of its own.
+        // The line is dropped here, and not at the end of the loop body, where each form of line would need code of its own.
         drop(line);
         if let Err(why) = taken {
             return Err((number, why));

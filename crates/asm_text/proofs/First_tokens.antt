@@ -1,4 +1,4 @@
--- Lines that are no word of blocks by their first token, and the lines that are asked where all texts that are put in are plain.
+-- Lines whose first token gives them no role, and lines that keep their role when all replacements are plain.
 use Rattle.std.proofs.Common.{◌≡◌, ◌⊎◌, inl, inr, ◌∙◌, ◌&&◌, sym, ap, refl, subst, ℕ, true, false, Bool, List, [], ◌∷◌, ◌++◌, Some, None, Result, Ok, Err, codes, get_or, take}
 use Rattle.std.specs.List.{Contains, filter, list_any}
 use Rattle.std.proofs.lemmas.Bool.{cases_Bool, cond-false, cond-true, false≢true, or_parts}
@@ -13,7 +13,7 @@ use Rattle.asm_line.specs.Forms.{form}
 use Rattle.asm_line.specs.Tokens.{is_colon, is_colon_kind, is_name, is_word}
 use Rattle.asm_text.specs.declared.matching.Role.{Role}
 use Rattle.asm_replace.specs.Fronts.{AreLeft, Begins, goes_on}
-use Rattle.asm_replace.specs.Replaced.{Table, replaced}
+use Rattle.asm_replace.specs.Replaced.{ReplacementTable, replaced_tokens}
 use Rattle.asm_text.specs.declared.signs.Sign.{Sign}
 use Rattle.asm_text.specs.declared.varying.Varying.{Varying}
 use Rattle.asm_text.specs.Calls.{replaced_by, replaced_line}
@@ -38,7 +38,7 @@ no_colon : (k : Kind) (text after : List ℕ) → IsToken k text after → found
 no_colon (Kind.Mark Mark.Colon) text after is none = absurd (false≢true (sym none ∙ ap (λ t. found Sign.Second [] (t ++ after)) is ∙ found_out Sign.Second [] 0x3A after refl))
 no_colon _ text after is none = refl
 
--- Without a colon and MACRO, the first token says what a line is to blocks.
+-- Without a colon and MACRO, the first token decides the role of a line.
 form_first : (line : List ℕ) (a : Lexeme) (others : List Lexeme) (rest : List ℕ) → BeginsTokens line (a ∷ others) rest → has_sign Sign.Second line ≡ false → IsOther (form (a ∷ [])) → IsOther (form (a ∷ others))
 form_first line a [] rest begins none other = other
 form_first line a (b ∷ more) rest begins none other =
@@ -61,7 +61,7 @@ read_first line a (Err fault) cut begins none other = refl
 read_first line a (Ok tokens) cut begins none other =
     ap (λ ts. role (form ts)) begins.1 ∙ form_first line a begins.0 cut.1.rest (subst (λ ts. BeginsTokens line ts cut.1.rest) begins.1 cut.1.begins) none other
 
-module _ (keeps : Keeps) (t table : Table) (only : HasOnly t table) where
+module _ (keeps : Keeps) (t table : ReplacementTable) (only : HasOnly t table) where
   first_stays : ArePlain Sign.Second t → (line : List ℕ) → has_sign Sign.Second line ≡ false → (r : Result (List Lexeme) ScanFault) → scanned line ≡ r → first_of_line_varies table (tokens_in r) ≡ false
       → role (form_of (replaced_by t line (tokens_in r))) ≡ role (form_by (tokens_in r))
   first_stays plain line none (Err fault) is e = ap (λ h. role (form_by h)) (ap tokens_in is)
@@ -70,19 +70,19 @@ module _ (keeps : Keeps) (t table : Table) (only : HasOnly t table) where
       let two = or_parts (is_of_blocks (role (form (a ∷ [])))) (list_any (is_held table) (take (with_next (goes_on a.kind) 1) (a ∷ more))) e in
       let other = is_other (role (form (a ∷ []))) two.0 in
       let scan = subst (Scans line) is (scans line) in
-      let shown = replaced t line (a ∷ more) in
+      let shown = replaced_tokens t line (a ∷ more) in
       let left : AreLeft t (a ∷ []) more = last_left t table only a more (goes_on a.kind) refl two.1 in
       read_first shown a (scanned shown) (scans shown) (keeps t line (a ∷ []) more scan.1 left) (line_apart Sign.Second t plain line (Ok (a ∷ more)) scan none) other
       ∙ sym (form_first line a more scan.1.rest scan.1.begins none other)
 
-  -- Such a line is to blocks what it is as it stands: no word.
+  -- A line that cannot vary has the role that it has as written, if all replacements are plain.
   stays_where : (s : Sign) → ArePlain s t → (line : List ℕ) → may_vary_plain s table line ≡ false → role_in (Some t) line ≡ role_in None line
   stays_where Sign.Word plain line none = no_words (replaced_line t line) (stays_plain Sign.Word t plain line none) ∙ sym (no_words line none)
   stays_where Sign.Second plain line e =
       let two = or_parts (has_sign Sign.Second line) (first_of_line_varies table (heard line)) e in
       first_stays plain line two.0 (scanned line) refl two.1
 
-  -- fewer places
+  -- If all replacements are plain, the filtered places suffice where all places do.
   fewer : (s : Sign) → ArePlain s t → (texts : List (List ℕ)) (from to : ℕ) (places some : List ℕ) → some ≡ filter (λ k. may_vary_plain s table (get_or texts k [])) places → Suffice texts from to places t → Suffice texts from to some t
   fewer s plain texts from to places some is all = λ k after before within. by k (all k after before within) where
     by : (k : ℕ) → Contains places k ⊎ Stands texts (Some t) k → Contains some k ⊎ Stands texts (Some t) k

@@ -1,4 +1,4 @@
--- The lines of a text, found by where each of them ends.
+-- The lines of a source, found from the offset at which each ends.
 use Rattle.std.proofs.Common.{◌≡◌, ◌≤◌, ◌<◌, ◌+◌, ◌-◌, ◌∙◌, ◌++◌, ◌∷◌, [], ap, sym, refl, ℕ, zero, suc, List, get_or, length, map, take, drop, arith}
 use Rattle.std.specs.List.{concat}
 use Rattle.std.proofs.lemmas.List.{append_assoc, drop-drop, length-append, length-drop}
@@ -17,7 +17,7 @@ line_by text from [] k h = absurd (omega arith)
 line_by text from (end ∷ ends) zero h = refl
 line_by text from (end ∷ ends) (suc k) h = line_by text end ends k (omega arith)
 
--- These are the ends of a text's first lines, the last of which ends here; and these lines are left.
+-- `ends` are the ends of the first lines of the text, `end` is that of the last of these, and `left` are the lines after them.
 pub record Found (text ends : List ℕ) (end : ℕ) (left : List (List ℕ)) : Type 0 where
   pub within : end ≤ length text
   pub rest : concat left ≡ drop end text

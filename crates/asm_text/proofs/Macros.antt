@@ -1,4 +1,4 @@
--- The macros that are kept, by their names.
+-- Looking up a macro by its name.
 use Rattle.std.proofs.Common.{◌≡◌, ◌∙◌, All, IfSome, cond, subst, sym, refl, ℕ, true, false, List, [], ◌∷◌, Option, Some, None, Vec, Bor, map, option_copied}
 use Rattle.std.proofs.lemmas.List.Elements.{All-head, All-tail}
 use Rattle.std.specs.Global.{Global}
@@ -44,6 +44,6 @@ lent : {V : Type 0} (P : V → Type 0) (o : Option (Bor V)) → IfSome (option_c
 lent P None all = tt
 lent P (Some v) all = all
 
--- what holds of each value holds of one that is found
+-- What holds of each value of a table holds of the value that a name finds.
 pub of_entry : {V : Type 0} (P : V → Type 0) (entries : List (Vec ℕ Global × V)) (name : List ℕ) (o : Option (Bor V)) → option_copied o ≡ lookup (λ k. bytes_eq name k.items) entries → All (λ e. P e.1) entries → IfSome o (λ v. P v.now)
 of_entry P entries name o e all = lent P o (subst (λ x. IfSome x P) (sym e) (found_entry P entries name all))

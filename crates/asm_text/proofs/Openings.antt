@@ -1,9 +1,9 @@
--- The body that is opened for a call.
+-- Opening the body of a macro, and the arguments of its call.
 use Rattle.std.proofs.Common.{◌≡◌, ◌<◌, ◌+◌, ◌-◌, ◌∙◌, sym, ap, refl, ℕ, suc, List, [], ◌∷◌, ◌++◌, Option, Some, None, Vec, take, drop, length, get_or, arith, append_assoc, append-nil}
 use Rattle.std.specs.Global.{Global}
 use Rattle.std.proofs.lemmas.List.{drop_more}
 use Rattle.asm_scan.specs.Tokens.{Lexeme}
-use Rattle.asm_replace.specs.Pieces.{behind, behind_all}
+use Rattle.asm_replace.specs.Pieces.{after_first_token, behind_all}
 use Rattle.asm_replace.specs.Views as replaced
 use Rattle.asm_text.specs.declared.span.Span.{Span}
 use Rattle.asm_text.specs.declared.open.Local.{Local}
@@ -39,10 +39,10 @@ opened_names all body s locals names now i h k some e =
     i ∙ ap (λ ts. with_locals (Some locals) (opened ts)) (body_step all s h k) ∙ ap (with_locals (Some locals)) (some (body_texts all (record s { at = s.at + 1 })))
     ∙ joined locals (replaced.texts names.items) (opened (body_texts all (record s { at = s.at + 1 }))) ∙ ap (λ ls. with_locals (Some ls) (opened (body_texts all (record s { at = s.at + 1 })))) (sym e)
 
--- what stands behind one token more
+-- the line after one token more
 pub behind_step : (line : List ℕ) (tokens : List Lexeme) (count at : ℕ) (token : Lexeme) (e : Lexeme) → at < count → at < length tokens → get_or tokens at e ≡ token
-    → behind_all line (take (count - at) (drop at tokens)) ≡ behind_all (behind line token) (take (count - (at + 1)) (drop (at + 1) tokens))
+    → behind_all line (take (count - at) (drop at tokens)) ≡ behind_all (after_first_token line token) (take (count - (at + 1)) (drop (at + 1) tokens))
 behind_step line tokens count at token d h k e =
     let more : count - at ≡ suc (count - (at + 1)) = omega arith in
     ap (λ n. behind_all line (take n (drop at tokens))) more ∙ ap (λ ts. behind_all line (take (suc (count - (at + 1))) ts)) (drop_more tokens at d k)
-    ∙ ap (λ t. behind_all (behind line t) (take (count - (at + 1)) (drop (at + 1) tokens))) e
+    ∙ ap (λ t. behind_all (after_first_token line t) (take (count - (at + 1)) (drop (at + 1) tokens))) e

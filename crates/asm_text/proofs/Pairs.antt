@@ -1,4 +1,4 @@
--- A text without a pair of letters of a word of blocks has no such word.
+-- A text without a pair of letters that block words contain has no block word.
 use Rattle.std.proofs.Common.{◌≡◌, inl, inr, ◌∙◌, not, sym, ap, refl, ℕ, true, false, List, [], ◌∷◌, ◌++◌, append_assoc, codes}
 use Rattle.std.specs.Char.{to_ascii_lowercase}
 use Rattle.std.specs.List.{list_any}
@@ -43,7 +43,7 @@ front_none xs ys none = without (has_pair xs) (λ p. false≢true (sym none ∙ 
 behind_none : (xs ys : List ℕ) → has_pair (xs ++ ys) ≡ false → has_pair ys ≡ false
 behind_none xs ys none = without (has_pair ys) (λ p. false≢true (sym none ∙ ap (paired 0) (lower_append xs ys) ∙ behind 0 (str_to_ascii_lowercase xs) (str_to_ascii_lowercase ys) p))
 
--- A word that a text without a pair is not.
+-- A text without a pair is not a word that contains one.
 not_word : (text word : List ℕ) → has_pair word ≡ true → has_pair text ≡ false → str_eq_ignore_ascii_case text word ≡ false
 not_word text word has none =
     without (str_eq_ignore_ascii_case text word) (λ same. false≢true (sym none ∙ ap (paired 0) ((bytes_eq-Decides (str_to_ascii_lowercase text) (str_to_ascii_lowercase word)).0 same) ∙ has))

@@ -1,4 +1,4 @@
--- Signs of a line, token by token.
+-- Whether the rest of a line has a sign, token by token.
 use Rattle.std.proofs.Common.{◌≡◌, ◌⊎◌, inl, inr, ◌==◌, ◌∙◌, ◌||◌, sym, ap, refl, subst, ℕ, true, false, List, [], ◌∷◌, ◌++◌, append_assoc, arith}
 use Rattle.std.specs.Char.{is_ascii_alphabetic, is_ascii_alphanumeric, is_ascii_digit}
 use Rattle.std.specs.Int.{is_in_range}
@@ -18,7 +18,7 @@ use Rattle.asm_text.specs.declared.signs.Sign.{Sign}
 use Rattle.asm_text.specs.Signs.{is_sign}
 use Rattle.asm_text.proofs.Words.{afresh, empty, ended, found, found_end, found_out, is_mark, name_letter, out, out_from, run_on}
 
--- Bytes of names, and others.
+-- Bytes that continue a name, and bytes that do not.
 
 alphanumeric_named : (b : ℕ) → is_ascii_alphanumeric b ≡ true → continues_name b ≡ true
 alphanumeric_named b passes =
@@ -79,7 +79,7 @@ mark_named Mark.Star = refl
 mark_named Mark.Slash = refl
 mark_named Mark.Dollar = refl
 
--- Texts of tokens.
+-- How the text of a token ends.
 
 pub all_named : (text : List ℕ) → IsName text → AllPass continues_name text
 all_named [] never = absurd never
@@ -100,11 +100,11 @@ number_no_letter : (text : List ℕ) → BeginsWithout is_ascii_alphanumeric tex
 number_no_letter [] other = tt
 number_no_letter (b ∷ bs) other = no_alphanumeric b other
 
--- a text that ends with a byte that continues no name
+-- The text ends with a byte that continues no name.
 abbrev pub Ends : List ℕ → Type 0
 Ends text = (front : List ℕ) × (e : ℕ) × (text ≡ front ++ e ∷ []) × (continues_name e ≡ false)
 
--- a text that goes on with no letter behind bytes of a word
+-- All bytes of the text continue a name, and no letter follows it.
 abbrev pub Runs : List ℕ → List ℕ → Type 0
 Runs text after = AllPass continues_name text × BeginsWithout is_ascii_alphabetic after
 
@@ -126,7 +126,7 @@ module _ (s : Sign) where
   ended_text word text ys ends =
       ap (λ t. found s word (t ++ ys)) ends.2 ∙ ended s word ends.0 ends.1 ys ends.3 ∙ ap (λ t. found s word t || found s [] ys) (sym ends.2)
 
-  -- what stands behind a token of a text without a sign has none
+  -- If a text without a sign begins with a token, what follows the token has no sign.
   pub behind_token : (k : Kind) (text after : List ℕ) → IsToken k text after → found s [] (text ++ after) ≡ false → found s [] after ≡ false
   behind_token k text after is none =
       elim (ends_or_runs k text after is) [
@@ -134,7 +134,7 @@ module _ (s : Sign) where
         | inr runs ↦ afresh s text after runs.1 (sym (run_on s [] text after runs.0) ∙ none)
       ]
 
-  -- a word that ends is none
+  -- If a text has no sign and its first word has ended, that word is no sign.
   pub word_none : (word text : List ℕ) → BeginsWithout continues_name text → found s word text ≡ false → is_sign s word ≡ false
   word_none word [] other none = sym (found_end s word) ∙ none
   word_none word (b ∷ bs) other none = (out s word b bs other none).0
@@ -142,7 +142,7 @@ module _ (s : Sign) where
   pub name_none : (text after : List ℕ) → IsToken Kind.Name text after → found s [] (text ++ after) ≡ false → is_sign s text ≡ false
   name_none text after is none = word_none text after is.1 (sym (run_on s [] text after (all_named text is.0)) ∙ none)
 
-  -- Blanks before a token.
+  -- Blanks in front of a token.
 
   abbrev Blanks : List ℕ → Type 0
   Blanks blanks = AllPass is_blank blanks
@@ -164,7 +164,7 @@ module _ (s : Sign) where
       ∙ ap (λ m. m || found s [] (bs ++ text)) (blank_mark s b blank)
       ∙ past_blanks bs text (All-tail (λ x. is_blank x ≡ true) b bs all)
 
-  -- blanks, which end a word
+  -- Blanks end a word; without blanks, the word continues in the text.
   pub through_blanks : (word blanks text : List ℕ) → Blanks blanks → is_sign s word ≡ false → (blanks ≡ [] → found s word text ≡ false) → found s [] text ≡ false → found s word (blanks ++ text) ≡ false
   through_blanks word [] text all none first on = first refl
   through_blanks word (b ∷ bs) text all none first on =

@@ -1,4 +1,4 @@
--- Lines that have no sign, in which plain texts are put.
+-- A line without a sign has none either once plain texts replace its names.
 use Rattle.std.proofs.Common.{◌≡◌, ◌⊎◌, inl, inr, ◌<◌, ◌+◌, ◌-◌, ◌^◌, ◌==◌, ◌∙◌, ◌||◌, ◌&&◌, not, sym, ap, refl, subst, ℕ, zero, suc, Bool, true, false, if◌then◌else◌, List, [], ◌∷◌, ◌++◌, Option, Some, None, IfSome, Result, Ok, Err, cond, codes, decimal, arith, drop, get_or, append_assoc, length}
 use Rattle.std.specs.Char.{is_ascii_alphabetic, is_ascii_digit}
 use Rattle.std.specs.List.{Contains, filter, list_any}
@@ -22,8 +22,8 @@ use Rattle.common.specs.Words.{upper}
 use Rattle.asm_line.specs.Tokens.{is_name}
 use Rattle.asm_replace.proofs.Fronts.{whole_line}
 use Rattle.asm_replace.proofs.Lines.{after_token}
-use Rattle.asm_replace.specs.Pieces.{gap, behind}
-use Rattle.asm_replace.specs.Replaced.{SaySame, Table, arguments_of, local_name, local_names, replaced, swapped}
+use Rattle.asm_replace.specs.Pieces.{gap, after_first_token}
+use Rattle.asm_replace.specs.Replaced.{SaySame, ReplacementTable, arguments_of, local_name, local_names, replaced_tokens, swapped}
 use Rattle.asm_text.specs.Calls.{replaced_by, replaced_line}
 use Rattle.asm_text.specs.Lines.{tokens_in}
 use Rattle.asm_text.specs.declared.signs.Sign.{Sign}
@@ -41,7 +41,7 @@ isnt : (b : Bool) → not b ≡ true → b ≡ false
 isnt false e = refl
 isnt true e = absurd (false≢true e)
 
--- a name, or a number, stands first
+-- Text that begins with a byte that continues no name does not begin with a name, nor with a number.
 name_first : (text after : List ℕ) → IsName text → BeginsWithout continues_name (text ++ after) → ⊥
 name_first [] after never other = never
 name_first (b ∷ text) after name other = false≢true (sym other ∙ or_left (begins_name b) (is_ascii_digit b) name.0)
@@ -54,8 +54,8 @@ front_without : (text after : List ℕ) → BeginsWithout continues_name (text +
 front_without [] after other = tt
 front_without (b ∷ text) after other = other
 
--- What stands before a line makes no sign with what it begins with, nor with a plain text in the place of a name there: a word so far
--- that begins with no letter, as a number does, or one that ends there and is none.
+-- A word read before a line makes no sign with the front of the line, nor with a plain text in the place of a name there. Either it
+-- begins with no letter, as a number does, or it ends where the line begins and is no sign.
 abbrev Apart : Sign → List ℕ → List ℕ → Type 0
 Apart s word line = BeginsWithout is_ascii_alphabetic word ⊎ ((is_sign s word ≡ false) × BeginsWithout continues_name line)
 
@@ -72,7 +72,7 @@ module _ (s : Sign) where
   fewer word text after (inl free) = inl free
   fewer word text after (inr ends) = inr (ends.0, front_without text after ends.1)
 
-  -- A token that is left, before something else.
+  -- A token that is not replaced, when what follows it changes.
 
   name_on : (word text after : List ℕ) → IsToken Kind.Name text after → Apart s word (text ++ after) → found s [] (text ++ after) ≡ false → is_sign s (word ++ text) ≡ false
   name_on word text after is (inr ends) none = absurd (name_first text after is.0 ends.1)
@@ -85,7 +85,7 @@ module _ (s : Sign) where
   number_on [] (b ∷ text) after number (inl free) = digit_no_letter b number.0
   number_on (b ∷ word) text after number (inl free) = free
 
-  -- a text that ends with a byte of no name
+  -- a text that ends with a byte that continues no name
   ended_over : (word text after ys : List ℕ) → Ends text → Apart s word (text ++ after) → found s [] (text ++ after) ≡ false → found s [] ys ≡ false → found s word (text ++ ys) ≡ false
   ended_over word text after ys ends apart none on =
       let alone = or_parts (found s [] text) (found s [] after) (sym (ended_text s [] text after ends) ∙ none) in
@@ -101,10 +101,10 @@ module _ (s : Sign) where
   token_over Kind.Quoted word text after ys is apart none on = ended_over word text after ys (quoted_ends text after is) apart none (on [] (inl tt))
   token_over (Kind.Mark m) word text after ys is apart none on = ended_over word text after ys (mark_ends m text is) apart none (on [] (inl tt))
 
-  -- A plain text in the place of a name.
+  -- A name that a plain text replaces.
 
-  -- a token is left, or it is a name, and a plain text stands in its place
-  swapped_plain : (t : Table) → ArePlain s t → (token : Lexeme) → (swapped t token ≡ token.text) ⊎ ((is_name token ≡ true) × (is_plain s (swapped t token) ≡ true))
+  -- A token stays as it is, or it is a name and a plain text replaces it.
+  swapped_plain : (t : ReplacementTable) → ArePlain s t → (token : Lexeme) → (swapped t token ≡ token.text) ⊎ ((is_name token ≡ true) × (is_plain s (swapped t token) ≡ true))
   swapped_plain t plain token = by (is_name token) (lookup (bytes_eq (upper token.text)) t) (plain (upper token.text)) where
     by : (named : Bool) (found : Option (List ℕ)) → IfSome found (λ text. is_plain s text ≡ true)
         → ((if named then unwrap_or found token.text else token.text) ≡ token.text) ⊎ ((named ≡ true) × (is_plain s (if named then unwrap_or found token.text else token.text) ≡ true))
@@ -117,9 +117,9 @@ module _ (s : Sign) where
   plain_over word name after text ys is (inl free) plain on =
       over s word text ys (free_front s word text free (sym (read s text) ∙ isnt (has_sign s text) plain)) (λ w none. on w (inr (none, is.1)))
 
--- A line in which plain texts stand has a sign only where it had one.
+-- A line in which plain texts replace names has a sign only if it had one before.
 
-module _ (s : Sign) (t : Table) (plain : ArePlain s t) where
+module _ (s : Sign) (t : ReplacementTable) (plain : ArePlain s t) where
   token_apart : (token : Lexeme) (after ys word : List ℕ) → IsToken token.kind token.text after → found s [] (token.text ++ after) ≡ false → Apart s word (token.text ++ after) → On s after ys → found s word (swapped t token ++ ys) ≡ false
   token_apart token after ys word is none apart on =
       elim (swapped_plain s t plain token) [
@@ -127,15 +127,15 @@ module _ (s : Sign) (t : Table) (plain : ArePlain s t) where
         | inr text ↦ plain_over s word token.text after (swapped t token) ys (is_name_token token.kind token.text after text.0 is) apart text.1 on
       ]
 
-  replaced_apart : (line : List ℕ) (tokens : List Lexeme) (rest : List ℕ) → BeginsTokens line tokens rest → found s [] line ≡ false → (word : List ℕ) → Apart s word line → found s word (replaced t line tokens) ≡ false
+  replaced_apart : (line : List ℕ) (tokens : List Lexeme) (rest : List ℕ) → BeginsTokens line tokens rest → found s [] line ≡ false → (word : List ℕ) → Apart s word line → found s word (replaced_tokens t line tokens) ≡ false
   replaced_apart line [] rest begins none word apart = front_apart s word line apart none
   replaced_apart line (token ∷ tokens) rest begins none word apart =
       let after = begins.0 in
-      let now = replaced t (behind line token) tokens in
+      let now = replaced_tokens t (after_first_token line token) tokens in
       let whole : line ≡ gap line ++ (token.text ++ after) = whole_line line token after begins.1 ∙ append_assoc (gap line) token.text after in
       let here = from_token s line token after begins.1 none in
       let later = behind_token s token.kind token.text after begins.1.token_is here in
-      let on : On s after now = λ w beside. ap (λ l. found s w (replaced t l tokens)) (after_token line token after begins.1) ∙ replaced_apart after tokens rest begins.2 later w beside in
+      let on : On s after now = λ w beside. ap (λ l. found s w (replaced_tokens t l tokens)) (after_token line token after begins.1) ∙ replaced_apart after tokens rest begins.2 later w beside in
       let is = token_apart token after now in
       let first : gap line ≡ [] → found s word (swapped t token ++ now) ≡ false = λ none_before. is word begins.1.token_is here (subst (Apart s word) (whole ∙ ap (λ g. g ++ (token.text ++ after)) none_before) apart) on in
       ap (found s word) (append_assoc (gap line) (swapped t token) now)
@@ -143,12 +143,12 @@ module _ (s : Sign) (t : Table) (plain : ArePlain s t) where
 
   pub line_apart : (line : List ℕ) (answer : Result (List Lexeme) ScanFault) → Scans line answer → has_sign s line ≡ false → has_sign s (replaced_by t line (tokens_in answer)) ≡ false
   line_apart line (Err fault) cut none = none
-  line_apart line (Ok tokens) cut none = read s (replaced t line tokens) ∙ replaced_apart line tokens cut.1.rest cut.1.begins (sym (read s line) ∙ none) [] (inl tt)
+  line_apart line (Ok tokens) cut none = read s (replaced_tokens t line tokens) ∙ replaced_apart line tokens cut.1.rest cut.1.begins (sym (read s line) ∙ none) [] (inl tt)
 
   pub stays_plain : (line : List ℕ) → has_sign s line ≡ false → has_sign s (replaced_line t line) ≡ false
   stays_plain line none = line_apart line (scanned line) (scans line) none
 
--- Those that are left out do not pass.
+-- Elements that a filter leaves out do not satisfy its test.
 
 with_first : (p : ℕ → Bool) (x : ℕ) (xs : List ℕ) (k : ℕ) → Contains (filter p xs) k → Contains (filter p (x ∷ xs)) k
 with_first p x xs k there =
@@ -173,9 +173,9 @@ left_at p (x ∷ xs) k (suc i) h e =
 pub left_out : (p : ℕ → Bool) (places : List ℕ) (k : ℕ) → Contains places k → Contains (filter p places) k ⊎ (p k ≡ false)
 left_out p places k there = left_at p places k there.0 there.1 there.2
 
--- The texts of a call are plain where its arguments are.
+-- The replacements of a call are plain if its arguments are.
 
--- a letter, or a colon: nothing else makes a sign
+-- whether a byte is a letter or a colon: each sign contains one of these
 abbrev is_signer : ℕ → Bool
 is_signer b = is_ascii_alphabetic b || (b == 0x3A)
 
@@ -265,5 +265,5 @@ plain_call s (p ∷ ps) (a ∷ more) counter locals fits are name =
       | inr other ↦ subst (λ o. IfSome o (λ text. is_plain s text ≡ true)) (sym (cond-false (bytes_eq name p) (Some a) _ other)) (plain_call s ps more counter locals fits parts.1 name)
     ]
 
-pub plain_alike : (s : Sign) (t u : Table) → SaySame t u → ArePlain s u → ArePlain s t
+pub plain_alike : (s : Sign) (t u : ReplacementTable) → SaySame t u → ArePlain s u → ArePlain s t
 plain_alike s t u same plain name = subst (λ o. IfSome o (λ text. is_plain s text ≡ true)) (sym (same name)) (plain name)

@@ -1,4 +1,4 @@
--- A line without a sign of words has no word of blocks.
+-- A line without a sign of words has no block word.
 use Rattle.std.proofs.Common.{◌≡◌, ◌∙◌, sym, ap, refl, ℕ, Bool, true, false, ◌&&◌, List, [], ◌∷◌, Option, Some, None, Result, Ok, Err, inl, inr, codes, if◌then◌else◌}
 use Rattle.std.specs.Str.{str_eq_ignore_ascii_case}
 use Rattle.std.proofs.lemmas.Bool.{cases_Bool, cond-false, cond-true, false≢true, or_parts}
@@ -26,7 +26,7 @@ is_name_token (Kind.Number n) text after named t = absurd (false≢true named)
 is_name_token Kind.Quoted text after named t = absurd (false≢true named)
 is_name_token (Kind.Mark m) text after named t = absurd (false≢true named)
 
--- No name is a sign.
+-- If the token is a name, it is no sign.
 abbrev pub NoSign : Sign → Lexeme → Type 0
 NoSign s token = is_name token ≡ true → is_sign s token.text ≡ false
 
@@ -48,7 +48,7 @@ pub and_false : (a b : Bool) → b ≡ false → (a && b) ≡ false
 and_false true b isnt = isnt
 and_false false b isnt = refl
 
--- a name that is none of these words
+-- a name that is no sign is none of the block words
 words_none : (name : List ℕ) → is_sign Sign.Word name ≡ false
     → (str_eq_ignore_ascii_case name (codes "IF") ≡ false) × (str_eq_ignore_ascii_case name (codes "ENDIF") ≡ false) × (str_eq_ignore_ascii_case name (codes "ELSE") ≡ false) × (str_eq_ignore_ascii_case name (codes "MACRO") ≡ false) × (str_eq_ignore_ascii_case name (codes "REPT") ≡ false) × (str_eq_ignore_ascii_case name (codes "ENDM") ≡ false)
 words_none name none =
@@ -64,7 +64,7 @@ no_macro_word : (s : Sign) (text : List ℕ) → is_sign s text ≡ false → st
 no_macro_word Sign.Word text none = (words_none text none).3
 no_macro_word Sign.Second text none = none
 
--- a name that is no MACRO
+-- a name that is no sign of this kind is not MACRO
 pub no_macro : (s : Sign) (name word : Lexeme) → NoSign s word → (is_name name && is_word (codes "MACRO") word) ≡ false
 no_macro s name word none = and_false (is_name name) (is_word (codes "MACRO") word) (unnamed (is_name word) (str_eq_ignore_ascii_case word.text (codes "MACRO")) (λ named. no_macro_word s word.text (none named))) where
   unnamed : (b same : Bool) → (b ≡ true → same ≡ false) → (b && same) ≡ false
@@ -74,11 +74,11 @@ no_macro s name word none = and_false (is_name name) (is_word (codes "MACRO") wo
 abbrev pub role : Form → Role
 role f = role_of_head f.head
 
--- The head of a line is to blocks no word.
+-- A line with this form has no role.
 abbrev pub IsOther : Form → Type 0
 IsOther f = role f ≡ Role.Other
 
--- a choice by one test after the other, each false
+-- one test after the other fails, so the choice is the last
 unless : (b : Bool) (x y : Option BlockWord) (name : List ℕ) → b ≡ false → role_of_head (head_of_block name y) ≡ Role.Other → role_of_head (head_of_block name (if b then x else y)) ≡ Role.Other
 unless b x y name isnt other = ap (λ c. role_of_head (head_of_block name c)) (cond-false b x y isnt) ∙ other
 

@@ -1,4 +1,4 @@
--- Lines that are to blocks what they are as they stand, whatever their names are replaced by.
+-- Lines that have the role that they have as written, whatever replaces their names.
 use Rattle.std.proofs.Common.{◌≡◌, ◌⊎◌, inl, inr, ◌<◌, ◌≤◌, ◌+◌, ◌∙◌, ◌||◌, ◌&&◌, sym, ap, refl, subst, ℕ, suc, Bool, true, false, is_some, if◌then◌else◌, List, [], ◌∷◌, ◌++◌, Option, Some, None, Result, Ok, Err, IfOk, Vec, All, cond, codes, arith, take, length}
 use Rattle.std.specs.Global.{Global}
 use Rattle.std.specs.List.{Contains, list_any}
@@ -19,8 +19,8 @@ use Rattle.asm_replace.specs.Fronts.{AreLeft, Begins, IsLeft, goes_on}
 use Rattle.asm_replace.specs.declared.names.Names.{Names}
 use Rattle.asm_replace.specs.declared.names.Place.{Place}
 use Rattle.asm_replace.specs.declared.whole_names.Replacements.{Replacements}
-use Rattle.asm_replace.specs.Replaced.{Table, replaced}
-use Rattle.asm_replace.specs.Views.{in_call, seen, table, text_of, texts as texts_of}
+use Rattle.asm_replace.specs.Replaced.{ReplacementTable, replaced_tokens}
+use Rattle.asm_replace.specs.Views.{in_call, names_seen, replacement_table, replacement_at, texts as texts_of}
 use Rattle.asm_text.specs.Roles.{role_of_head}
 use Rattle.asm_text.specs.declared.call.Call.{Call}
 use Rattle.asm_text.specs.declared.open.Opened.{Opened}
@@ -34,14 +34,15 @@ use Rattle.asm_text.specs.Lines.{form_by, form_of, heard, tokens_in}
 use Rattle.asm_text.specs.Plain.{ArePlain}
 use Rattle.asm_text.specs.Private.Varying.{asked, asked_labelled, asked_of, is_held, may_vary, with_next}
 
--- What the laws on replaced lines say.
+-- What two laws of `asm_replace` say: a line none of whose names is replaced stays as it is, and the first tokens stay if no name
+-- in them is.
 abbrev pub Leaves : Type 0
-Leaves = (table : Table) (line : List ℕ) (tokens : List Lexeme) → Cut line tokens → All (λ token. is_name token ≡ true → lookup (bytes_eq (upper token.text)) table ≡ None) tokens → replaced table line tokens ≡ line
+Leaves = (table : ReplacementTable) (line : List ℕ) (tokens : List Lexeme) → Cut line tokens → All (λ token. is_name token ≡ true → lookup (bytes_eq (upper token.text)) table ≡ None) tokens → replaced_tokens table line tokens ≡ line
 
 abbrev pub Keeps : Type 0
-Keeps = (table : Table) (line : List ℕ) (front more : List Lexeme) → Cut line (front ++ more) → AreLeft table front more → Begins front (scanned (replaced table line (front ++ more)))
+Keeps = (table : ReplacementTable) (line : List ℕ) (front more : List Lexeme) → Cut line (front ++ more) → AreLeft table front more → Begins front (scanned (replaced_tokens table line (front ++ more)))
 
--- The head of a line is said by its first tokens.
+-- The first tokens of a line decide its head.
 
 same_choice : (b : Bool) (f g h k : Form) → f.head ≡ h.head → g.head ≡ k.head → (if b then f else g).head ≡ (if b then h else k).head
 same_choice true f g h k one other = one
@@ -79,7 +80,7 @@ four_say a b c d x y =
 
 -- Tokens that are no names of a table.
 
-not_held : (t table : Table) → HasOnly t table → (token : Lexeme) → is_held table token ≡ false → IsLeft t token
+not_held : (t table : ReplacementTable) → HasOnly t table → (token : Lexeme) → is_held table token ≡ false → IsLeft t token
 not_held t table only token none named = only (upper token.text) (no_entry (lookup (bytes_eq (upper token.text)) table) (sym (ap (λ b. b && is_some (lookup (bytes_eq (upper token.text)) table)) named) ∙ none)) where
   no_entry : (o : Option (List ℕ)) → is_some o ≡ false → o ≡ None
   no_entry None e = refl
@@ -91,15 +92,15 @@ none_first p x xs e = both (p x) (list_any p xs) e where
   both true b e = absurd (false≢true (sym e))
   both false b e = (refl, e)
 
-all_left : (t table : Table) → HasOnly t table → (tokens : List Lexeme) → list_any (is_held table) tokens ≡ false → All (IsLeft t) tokens
+all_left : (t table : ReplacementTable) → HasOnly t table → (tokens : List Lexeme) → list_any (is_held table) tokens ≡ false → All (IsLeft t) tokens
 all_left t table only [] e = All-nil (IsLeft t)
 all_left t table only (token ∷ tokens) e =
     let first = none_first (is_held table) token tokens e in
     All-cons (IsLeft t) token tokens (not_held t table only token first.0) (all_left t table only tokens first.1)
 
--- A token that is asked, and one more where it may go on in that.
+-- The last token that matters, and the one after it if replacing that may make the last one longer.
 
-pub last_left : (t table : Table) → HasOnly t table → (token : Lexeme) (more : List Lexeme) (g : Bool) → goes_on token.kind ≡ g → list_any (is_held table) (take (with_next g 1) (token ∷ more)) ≡ false → AreLeft t (token ∷ []) more
+pub last_left : (t table : ReplacementTable) → HasOnly t table → (token : Lexeme) (more : List Lexeme) (g : Bool) → goes_on token.kind ≡ g → list_any (is_held table) (take (with_next g 1) (token ∷ more)) ≡ false → AreLeft t (token ∷ []) more
 last_left t table only token [] true is e = (not_held t table only token (none_first (is_held table) token [] e).0, λ g. tt)
 last_left t table only token (m ∷ more) true is e =
     let one = none_first (is_held table) token (m ∷ take 0 more) e in
@@ -112,13 +113,13 @@ one_more : (g : Bool) (n : ℕ) → with_next g (suc n) ≡ suc (with_next g n)
 one_more true n = let e : suc n + 1 ≡ suc (n + 1) = omega arith in e
 one_more false n = refl
 
-two_left : (t table : Table) → HasOnly t table → (a b : Lexeme) (more : List Lexeme) → list_any (is_held table) (take (with_next (goes_on b.kind) 2) (a ∷ b ∷ more)) ≡ false → AreLeft t (a ∷ b ∷ []) more
+two_left : (t table : ReplacementTable) → HasOnly t table → (a b : Lexeme) (more : List Lexeme) → list_any (is_held table) (take (with_next (goes_on b.kind) 2) (a ∷ b ∷ more)) ≡ false → AreLeft t (a ∷ b ∷ []) more
 two_left t table only a b more e =
     let g = goes_on b.kind in
     let one = none_first (is_held table) a (take (with_next g 1) (b ∷ more)) (sym (ap (λ n. list_any (is_held table) (take n (a ∷ b ∷ more))) (one_more g 1)) ∙ e) in
     (not_held t table only a one.0, last_left t table only b more g refl one.1)
 
-four_left : (t table : Table) → HasOnly t table → (a b c d : Lexeme) (more : List Lexeme) → list_any (is_held table) (take (with_next (goes_on d.kind) 4) (a ∷ b ∷ c ∷ d ∷ more)) ≡ false → AreLeft t (a ∷ b ∷ c ∷ d ∷ []) more
+four_left : (t table : ReplacementTable) → HasOnly t table → (a b c d : Lexeme) (more : List Lexeme) → list_any (is_held table) (take (with_next (goes_on d.kind) 4) (a ∷ b ∷ c ∷ d ∷ more)) ≡ false → AreLeft t (a ∷ b ∷ c ∷ d ∷ []) more
 four_left t table only a b c d more e =
     let g = goes_on d.kind in
     let p = is_held table in
@@ -127,11 +128,11 @@ four_left t table only a b c d more e =
     let three = none_first p c (take (with_next g 1) (d ∷ more)) (sym (ap (λ n. list_any p (take n (c ∷ d ∷ more))) (one_more g 1)) ∙ two.1) in
     (not_held t table only a one.0, (not_held t table only b two.0, (not_held t table only c three.0, last_left t table only d more g refl three.1)))
 
--- What a line is to blocks.
+-- The role of a line whose first tokens are not replaced.
 
-module _ (leaves : Leaves) (keeps : Keeps) (t table : Table) (only : HasOnly t table) (line : List ℕ) where
+module _ (leaves : Leaves) (keeps : Keeps) (t table : ReplacementTable) (only : HasOnly t table) (line : List ℕ) where
   abbrev Unchanged : List Lexeme → Type 0
-  Unchanged tokens = role_of_head (form_of (replaced t line tokens)).head ≡ role_of_head (form tokens).head
+  Unchanged tokens = role_of_head (form_of (replaced_tokens t line tokens)).head ≡ role_of_head (form tokens).head
 
   whole_stays : (tokens : List Lexeme) → heard line ≡ Some tokens → Cut line tokens → list_any (is_held table) tokens ≡ false → Unchanged tokens
   whole_stays tokens is cut e =
@@ -142,7 +143,7 @@ module _ (leaves : Leaves) (keeps : Keeps) (t table : Table) (only : HasOnly t t
   read_stays front more (Err fault) says begins other = refl
 
   front_stays : (front more : List Lexeme) → Cut line (front ++ more) → SaysHead front → AreLeft t front more → role_of_head (form (front ++ more)).head ≡ Role.Other → Unchanged (front ++ more)
-  front_stays front more cut says left other = read_stays front more (scanned (replaced t line (front ++ more))) says (keeps t line front more cut left) other ∙ sym other
+  front_stays front more cut says left other = read_stays front more (scanned (replaced_tokens t line (front ++ more))) says (keeps t line front more cut left) other ∙ sym other
 
   labelled_stays : (a b : Lexeme) (rest : List Lexeme) → heard line ≡ Some (a ∷ b ∷ rest) → Cut line (a ∷ b ∷ rest) → role_of_head (form (a ∷ b ∷ rest)).head ≡ Role.Other
       → list_any (is_held table) (take (asked_labelled rest) (a ∷ b ∷ rest)) ≡ false → Unchanged (a ∷ b ∷ rest)
@@ -175,23 +176,23 @@ module _ (leaves : Leaves) (keeps : Keeps) (t table : Table) (only : HasOnly t t
   pub stays : may_vary table (heard line) ≡ false → role_in (Some t) line ≡ role_in None line
   stays e = stays_by (scanned line) refl e
 
--- One line more is asked.
+-- One line more is known to vary or not.
 
-abbrev Told : List (List ℕ) → Table → List ℕ → ℕ → ℕ → Type 0
+abbrev Told : List (List ℕ) → ReplacementTable → List ℕ → ℕ → ℕ → Type 0
 Told texts t places from at = (k : ℕ) → from ≤ k → k < at → k < length texts → Contains places k ⊎ Stands texts (Some t) k
 
-pub unnamed : (texts : List (List ℕ)) (t : Table) (places now : List ℕ) (from at : ℕ) → Told texts t places from at → now ≡ places → Stands texts (Some t) at → Told texts t now from (at + 1)
+pub unnamed : (texts : List (List ℕ)) (t : ReplacementTable) (places now : List ℕ) (from at : ℕ) → Told texts t places from at → now ≡ places → Stands texts (Some t) at → Told texts t now from (at + 1)
 unnamed texts t places now from at told e stands = λ k after before within.
     elim (cases_eq k at) [
       | inl same ↦ inr (subst (Stands texts (Some t)) (sym same) stands)
       | inr other ↦ let less : k < at = omega (arith, before, other) in subst (λ ps. Contains ps k ⊎ Stands texts (Some t) k) (sym e) (told k after less within)
     ]
 
-with_place : (texts : List (List ℕ)) (t : Table) (places : List ℕ) (at k : ℕ) → Contains places k ⊎ Stands texts (Some t) k → Contains (places ++ at ∷ []) k ⊎ Stands texts (Some t) k
+with_place : (texts : List (List ℕ)) (t : ReplacementTable) (places : List ℕ) (at k : ℕ) → Contains places k ⊎ Stands texts (Some t) k → Contains (places ++ at ∷ []) k ⊎ Stands texts (Some t) k
 with_place texts t places at k (inl there) = inl (Contains-append_left places (at ∷ []) k there)
 with_place texts t places at k (inr stands) = inr stands
 
-pub named : (texts : List (List ℕ)) (t : Table) (places now : List ℕ) (from at : ℕ) → Told texts t places from at → now ≡ places ++ at ∷ [] → Told texts t now from (at + 1)
+pub named : (texts : List (List ℕ)) (t : ReplacementTable) (places now : List ℕ) (from at : ℕ) → Told texts t places from at → now ≡ places ++ at ∷ [] → Told texts t now from (at + 1)
 named texts t places now from at told e = λ k after before within.
     subst (λ ps. Contains ps k ⊎ Stands texts (Some t) k) (sym e)
     (elim (cases_eq k at) [
@@ -199,17 +200,17 @@ named texts t places now from at told e = λ k after before within.
       | inr other ↦ let less : k < at = omega (arith, before, other) in with_place texts t places at k (told k after less within)
     ])
 
--- what is found of the lines of an opened body
+-- What is found for the range of an opened body holds of that body.
 pub in_opened : {E : Type 0} (texts : List (List ℕ)) (names : Names) (o : Opened) (r : Result Varying E) → IfOk r (IsVarying texts (in_call names [] 0)) → IfOk r (λ v. (v.at ≡ o.rest.at) × (v.end ≡ o.rest.end))
     → IfOk r (VariesIn texts names (Some o))
 in_opened texts names o (Ok v) varying range = (range.0, range.1, varying)
 in_opened texts names o (Err e) varying range = tt
 
--- Names say the same of what is replaced, whatever their arguments and LOCAL names are.
+-- Which names are replaced does not depend on the arguments and LOCAL names.
 
-has_only : (f g : Place → List ℕ) (entries : List (Vec ℕ Global × Place)) → HasOnly (seen f entries) (seen g entries)
+has_only : (f g : Place → List ℕ) (entries : List (Vec ℕ Global × Place)) → HasOnly (names_seen f entries) (names_seen g entries)
 has_only f g [] name none = refl
-has_only f g (e ∷ es) name none = by_first (bytes_eq name e.0.items) (f e.1) (g e.1) (lookup (bytes_eq name) (seen f es)) (lookup (bytes_eq name) (seen g es)) none (has_only f g es name) where
+has_only f g (e ∷ es) name none = by_first (bytes_eq name e.0.items) (f e.1) (g e.1) (lookup (bytes_eq name) (names_seen f es)) (lookup (bytes_eq name) (names_seen g es)) none (has_only f g es name) where
   some_none : (x : List ℕ) → ◌≡◌ {A = Option (List ℕ)} (Some x) None → ⊥
   some_none x e = cc
 
@@ -217,19 +218,19 @@ has_only f g (e ∷ es) name none = by_first (bytes_eq name e.0.items) (f e.1) (
   by_first true x y o p none next = absurd (some_none y none)
   by_first false x y o p none next = next none
 
-said_of : (r : Replacements) → table r ≡ in_call r.names.value (texts_of r.arguments.items) r.counter
-unfolding table
+said_of : (r : Replacements) → replacement_table r ≡ in_call r.names.value (texts_of r.arguments.items) r.counter
+unfolding replacement_table
 said_of r = refl
 
--- what a call puts in the place of its names
+-- what a call replaces its names by
 pub said_in : (c : Call) (names : Names) → c.names.names.value ≡ names → said c ≡ in_call names (texts_of c.names.arguments.items) c.names.counter
 said_in c names is = said_of c.names ∙ ap (λ n. in_call n (texts_of c.names.arguments.items) c.names.counter) is
 
--- a call of a macro, whose texts are plain where it says so
+-- A call is right if its replacements are plain to the signs for which it says so.
 pub call_of : (texts : List (List ℕ)) (c : Call) (names : Names) (v : Varying) (some : List (List ℕ)) (counter : ℕ) → said c ≡ in_call names some counter
     → (c.plain.word ≡ true → ArePlain Sign.Word (in_call names some counter)) → (c.plain.second ≡ true → ArePlain Sign.Second (in_call names some counter))
     → IsVarying texts (in_call names [] 0) v → c.varying.value ≡ v → IsCall texts c
 call_of texts c names v some counter same word second varying is =
     let asks : Varying → List ℕ = places_where c.plain.word c.plain.second in
-    let told = varying (in_call names some counter) (has_only (text_of some counter) (text_of [] 0) names.places.entries) c.plain.word c.plain.second word second in
+    let told = varying (in_call names some counter) (has_only (replacement_at some counter) (replacement_at [] 0) names.places.entries) c.plain.word c.plain.second word second in
     subst (λ w. Suffice texts w.at w.end (asks w) (said c)) (sym is) (subst (Suffice texts v.at v.end (asks v)) (sym same) told)

@@ -1,4 +1,4 @@
--- The signs of a text, read byte by byte, and at a front of a line.
+-- Whether a text has a sign, read byte by byte, and at the front of a line.
 use Rattle.std.proofs.Common.{◌≡◌, inl, inr, ◌==◌, ◌∙◌, ◌||◌, not, sym, ap, refl, ℕ, Bool, true, false, List, [], ◌∷◌, ◌++◌, if◌then◌else◌, append_assoc, arith, codes, get_or}
 use Rattle.std.specs.Char.{is_ascii_alphabetic, is_ascii_digit, to_ascii_lowercase}
 use Rattle.std.specs.List.{AllPass, list_any, onto_first}
@@ -26,7 +26,7 @@ pub turned : (b : Bool) → b ≡ true → not b ≡ false
 turned true e = refl
 turned false e = absurd (false≢true e)
 
--- a byte that is a sign by itself
+-- whether a byte is a sign by itself
 abbrev pub is_mark : Sign → ℕ → Bool
 is_mark Sign.Word b = false
 is_mark Sign.Second b = b == 0x3A
@@ -35,7 +35,7 @@ no_mark : (s : Sign) (b : ℕ) → continues_name b ≡ true → is_mark s b ≡
 no_mark Sign.Word b named = refl
 no_mark Sign.Second b named = without (b == 0x3A) (λ colon. false≢true (ap continues_name (sym (eqb-true b 0x3A colon)) ∙ named))
 
--- whether a word so far, or what comes behind it, has a sign
+-- whether a text has a sign, given the word that was read before it
 pub found : Sign → List ℕ → List ℕ → Bool
 found s word [] = is_sign s word
 found s word (b ∷ bs) = if continues_name b then found s (word ++ b ∷ []) bs else (is_sign s word || is_mark s b) || found s [] bs
@@ -52,7 +52,7 @@ pub found_out : (s : Sign) (word : List ℕ) (b : ℕ) (bs : List ℕ) → conti
 unfolding found
 found_out s word b bs other = cond-false (continues_name b) _ _ other
 
--- That is whether a text has one.
+-- Reading byte by byte answers the same as `has_sign`.
 
 pub empty : (s : Sign) → is_sign s [] ≡ false
 empty Sign.Word = refl
@@ -118,7 +118,7 @@ pub read : (s : Sign) (text : List ℕ) → has_sign s text ≡ found s [] text
 read Sign.Word text = sym (found_words Sign.Word [] text ∙ ap (λ w. w || list_any (is_mark Sign.Word) text) (put_none Sign.Word (words text)) ∙ ap (λ m. has_sign Sign.Word text || m) (none_marked text) ∙ or_none (has_sign Sign.Word text))
 read Sign.Second text = sym (found_words Sign.Second [] text ∙ ap (λ w. w || list_any (is_mark Sign.Second) text) (put_none Sign.Second (words text)))
 
--- A word that begins with no letter is none of blocks.
+-- A word that does not begin with a letter is no sign.
 
 other_letter : (b c : ℕ) (more word : List ℕ) → is_ascii_alphabetic b ≡ false → is_ascii_alphabetic (to_ascii_lowercase c) ≡ true → str_eq_ignore_ascii_case (b ∷ more) (c ∷ word) ≡ false
 other_letter b c more word other letter =
@@ -137,13 +137,13 @@ no_letter Sign.Word b more other =
     (or_from _ _ (other_letter b 0x45 more (codes "NDM") other refl) refl)))))
 no_letter Sign.Second b more other = other_letter b 0x4D more (codes "ACRO") other refl
 
--- What stands before a text, and what behind.
+-- Signs in a text after a word, and in what follows a text.
 
 pub name_letter : (b : ℕ) → continues_name b ≡ false → is_ascii_alphabetic b ≡ false
 name_letter b other = (or_parts (is_ascii_alphabetic b) _ (or_parts (begins_name b) (is_ascii_digit b) other).0).0
 
 module _ (s : Sign) where
-  -- behind a byte that continues no name
+  -- after a byte that continues no name, a new word begins
   pub out : (word : List ℕ) (b : ℕ) (bs : List ℕ) → continues_name b ≡ false → found s word (b ∷ bs) ≡ false → (is_sign s word ≡ false) × (is_mark s b ≡ false) × (found s [] bs ≡ false)
   out word b bs other none =
       let two = or_parts (is_sign s word || is_mark s b) (found s [] bs) (sym (found_out s word b bs other) ∙ none) in
@@ -153,7 +153,7 @@ module _ (s : Sign) where
   pub out_from : (word : List ℕ) (b : ℕ) (bs : List ℕ) → continues_name b ≡ false → is_sign s word ≡ false → is_mark s b ≡ false → found s [] bs ≡ false → found s word (b ∷ bs) ≡ false
   out_from word b bs other none mark on = found_out s word b bs other ∙ or_from (is_sign s word || is_mark s b) (found s [] bs) (or_from (is_sign s word) (is_mark s b) none mark) on
 
-  -- A word so far that begins with no letter makes none with what comes.
+  -- A word that does not begin with a letter makes no sign with what follows.
   other_word : (word : List ℕ) (b : ℕ) (more text : List ℕ) → is_ascii_alphabetic b ≡ false → found s word text ≡ false → found s (b ∷ more) text ≡ false
   other_word word b more [] other none = found_end s (b ∷ more) ∙ no_letter s b more other
   other_word word b more (x ∷ xs) other none =
@@ -162,7 +162,7 @@ module _ (s : Sign) where
         | inr not_named ↦ let parts = out word x xs not_named none in out_from (b ∷ more) x xs not_named (no_letter s b more other) parts.1 parts.2
       ]
 
-  -- nor does a word so far with a text that begins with no letter
+  -- A text that does not begin with a letter has no sign by itself if it has none after some word.
   pub afresh : (word text : List ℕ) → BeginsWithout is_ascii_alphabetic text → found s word text ≡ false → found s [] text ≡ false
   afresh word [] other none = found_end s [] ∙ empty s
   afresh word (x ∷ xs) other none =
@@ -171,7 +171,7 @@ module _ (s : Sign) where
         | inr not_named ↦ let parts = out word x xs not_named none in out_from [] x xs not_named (empty s) parts.1 parts.2
       ]
 
-  -- A word so far that begins with no letter, or none.
+  -- The word is empty or does not begin with a letter.
   abbrev pub Free : List ℕ → Type 0
   Free word = BeginsWithout is_ascii_alphabetic word
 
@@ -183,12 +183,12 @@ module _ (s : Sign) where
   free_front [] text free none = none
   free_front (b ∷ more) text free none = other_word [] b more text free none
 
-  -- a word that ends before a text
+  -- A word that is no sign and ends before a text adds no sign to it.
   pub before : (word text : List ℕ) → is_sign s word ≡ false → BeginsWithout continues_name text → found s [] text ≡ false → found s word text ≡ false
   before word [] none other on = found_end s word ∙ none
   before word (x ∷ xs) none other on = let parts = out [] x xs other on in out_from word x xs other none parts.1 parts.2
 
-  -- what comes has none behind any word that is none
+  -- If what follows has no sign after any word that is no sign, the whole has none.
   pub over : (word xs ys : List ℕ) → found s word xs ≡ false → ((w : List ℕ) → is_sign s w ≡ false → found s w ys ≡ false) → found s word (xs ++ ys) ≡ false
   over word [] ys none on = on word (sym (found_end s word) ∙ none)
   over word (x ∷ xs) ys none on =
@@ -197,7 +197,7 @@ module _ (s : Sign) where
         | inr other ↦ let parts = out word x xs other none in out_from word x (xs ++ ys) other parts.0 parts.1 (over [] xs ys parts.2 on)
       ]
 
-  -- bytes that continue a word
+  -- bytes that continue a word belong to it
   pub run_on : (word text ys : List ℕ) → AllPass continues_name text → found s word (text ++ ys) ≡ found s (word ++ text) ys
   run_on word [] ys all = ap (λ w. found s w ys) (sym (append-nil word))
   run_on word (b ∷ bs) ys all =
@@ -205,7 +205,7 @@ module _ (s : Sign) where
       ∙ run_on (word ++ b ∷ []) bs ys (All-tail (λ x. continues_name x ≡ true) b bs all)
       ∙ ap (λ w. found s w ys) (append_assoc word (b ∷ []) bs)
 
-  -- a text that ends with a byte that continues no name
+  -- A text that ends with a byte that continues no name can be read apart from what follows it.
   pub ended : (word front : List ℕ) (e : ℕ) (ys : List ℕ) → continues_name e ≡ false → found s word ((front ++ e ∷ []) ++ ys) ≡ (found s word (front ++ e ∷ []) || found s [] ys)
   ended word [] e ys other =
       let m = is_sign s word || is_mark s e in

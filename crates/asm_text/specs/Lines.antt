@@ -1,4 +1,4 @@
--- Lines, and what they say first.
+-- Lines, and the label and head with which they begin.
 use Rattle.std.specs.Prelude.{ℕ, List, [], Option, Some, None, Result, Ok, Err}
 use Rattle.asm_scan.specs.declared.fault.ScanFault.{ScanFault}
 use Rattle.asm_scan.specs.Tokens.{Lexeme}
@@ -14,11 +14,11 @@ abbrev pub tokens_in : Result (List Lexeme) ScanFault → Option (List Lexeme)
 tokens_in (Ok tokens) = Some tokens
 tokens_in (Err fault) = None
 
--- the tokens of a line, if it scans
+-- the tokens of a line, or None if it has a scan error
 abbrev pub heard : List ℕ → Option (List Lexeme)
 heard text = tokens_in (scanned text)
 
--- what a line says first; one that does not scan says nothing
+-- the label and head of a line, and the tokens after them; none of these if the line has a scan error
 abbrev pub form_by : Option (List Lexeme) → Form
 form_by (Some tokens) = form tokens
 form_by None = record { label = None; head = Nothing; rest = [] }

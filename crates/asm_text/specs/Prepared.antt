@@ -1,9 +1,9 @@
--- A call of a macro, made ready.
+-- A call of a macro that is ready for expansion.
 use Rattle.std.specs.Prelude.{◌≡◌, ◌+◌, ◌-◌, ◌∷◌, ◌++◌, [], ℕ, List, Option, Some, None, Vec, length, map, take, drop}
 use Rattle.std.specs.Global.{Global}
 use Rattle.asm_scan.specs.Tokens.{Lexeme}
 pub use Rattle.asm_replace.specs.Replaced.{SaySame}
-use Rattle.asm_replace.specs.Replaced.{Table, arguments_of, local_names}
+use Rattle.asm_replace.specs.Replaced.{ReplacementTable, arguments_of, local_names}
 use Rattle.asm_replace.specs.Views as replaced
 use Rattle.asm_text.specs.declared.span.Span.{Span}
 use Rattle.asm_text.specs.declared.call.Macro as kept
@@ -13,13 +13,13 @@ use Rattle.asm_text.specs.Lines.{Numbered}
 use Rattle.asm_text.specs.Calls.{Macro, Opened, arguments_in, opened}
 use Rattle.asm_text.specs.Spans.{text_of}
 
--- the lines of a span as they stand
+-- the lines of a span as written
 abbrev pub body_texts : List (List ℕ) → Span → List (List ℕ)
 body_texts all s = take (s.end - s.at) (drop s.at all)
 
--- what the names of a call are replaced by
-abbrev pub said : Call → Table
-said c = replaced.table c.names
+-- what a call replaces each name by
+abbrev pub said : Call → ReplacementTable
+said c = replaced.replacement_table c.names
 
 abbrev pub macro_seen : List (List ℕ) → kept.Macro → Macro
 macro_seen texts m = record { parameters = replaced.texts m.parameters.items; body = map (λ l. l.text) (text_of texts None m.body) }
@@ -27,12 +27,14 @@ macro_seen texts m = record { parameters = replaced.texts m.parameters.items; bo
 abbrev pub macros_seen : List (List ℕ) → List (Vec ℕ Global × kept.Macro) → List (List ℕ × Macro)
 macros_seen texts entries = map (λ m. (m.0.items, macro_seen texts m.1)) entries
 
--- the line of a label, if there is one
-abbrev pub labels : ℕ → Option (Vec ℕ Global) → List Numbered
-labels number None = []
-labels number (Some text) = record { number = number; text = text.items } ∷ []
+-- the label as a line of its own, if there is one
+abbrev pub label_line : ℕ → Option (Vec ℕ Global) → List Numbered
+label_line number None = []
+label_line number (Some text) = record { number = number; text = text.items } ∷ []
 
--- What is made ready of a call, by its macro, the line with its tokens, and those behind the macro's name.
+-- What `prepare` answers for a call, given its macro, the calling line, all its tokens, those after the macro's name, and the
+-- number of the next LOCAL name. None: a LOCAL line is malformed. Otherwise the replacements, the next number and the lines are
+-- those of the call.
 abbrev pub Prepares : List (List ℕ) → kept.Macro → List ℕ → List Lexeme → List Lexeme → ℕ → Option Prepared → Type 0
 Prepares all m text tokens rest counter None = opened (body_texts all m.body) ≡ None
 Prepares all m text tokens rest counter (Some p) =

@@ -1,4 +1,4 @@
--- What lines are to blocks.
+-- The roles of lines: whether they open, divide or close a block.
 use Rattle.std.specs.Prelude.{Bool, not, ◌&&◌, is_some, nat_le, length, List, map}
 use Rattle.asm_line.specs.declared.forms.BlockWord.{BlockWord}
 use Rattle.asm_line.specs.Forms as line
@@ -15,7 +15,7 @@ role_of_word BlockWord.EndIf = Role.EndIf
 role_of_word BlockWord.EndM = Role.EndBody
 role_of_word BlockWord.Local = Role.Other
 
--- what a line is to blocks, with or without a label
+-- the role of a line by its head, whether or not it has a label
 abbrev pub role_of_head : line.Head → Role
 role_of_head (line.Macro name) = Role.OpensBody
 role_of_head (line.Block word) = role_of_word word
@@ -24,6 +24,6 @@ role_of_head _ = Role.Other
 abbrev pub roles : List Numbered → List Role
 roles lines = map (λ l. role_of_head (form_of l.text).head) lines
 
--- an ELSE, ENDIF or ENDM of an open block: it stands alone on its line
+-- The line has only a head: no label, and nothing after the head. An ELSE, ENDIF or ENDM of an open block has to be so.
 abbrev pub is_alone : Form → Bool
 is_alone form = not (is_some form.label) && nat_le (length form.rest) 0

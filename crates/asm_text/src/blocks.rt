@@ -1,9 +1,9 @@
-//! The blocks with which texts begin.
+//! The block that the line before a span opens: the body of a MACRO or REPT, or the branches of an IF.
 
 ghost use Rattle.std.specs.Prelude.{◌≡◌, ◌<◌, ◌≤◌, ◌+◌, IfOk, IfSome, None, length};
 ghost use Rattle.std.specs.Option.{option_map};
 ghost use Rattle.common.specs.declared.limits.TheConstants.{LONGEST_TEXT};
-ghost use Rattle.asm_text.specs.Sections.Blocks.{body_of, branches_of};
+ghost use Rattle.asm_text.specs.Sections.Blocks.{block_body, branches_of};
 ghost use Rattle.asm_text.specs.Sections.Books.{IsBook};
 ghost use Rattle.asm_text.specs.Kept.{IsCall};
 ghost use Rattle.asm_text.specs.Prepared.{said};
@@ -19,7 +19,7 @@ use crate::span::Span;
 use crate::stretch::{Block, Choice, Place, Stretch};
 use std::alloc::{AllocError, Global};
 
-/// The first lines of a text, up to one of them.
+/// The first `len` lines of a span, and the line after them, which ends them.
 fn front(span: Span, len: usize) -> Stretch
     requires { span.at + len < LONGEST_TEXT }
     ensures { result ≡ front_of span len }
@@ -35,7 +35,7 @@ fn front(span: Span, len: usize) -> Stretch
     }
 }
 
-/// The lines behind one of a text.
+/// The lines of a span after its first `len + 1` lines.
 fn behind(span: Span, len: usize) -> Span
     requires { span.at + len < LONGEST_TEXT }
     ensures { result ≡ behind_of span len }
@@ -46,7 +46,9 @@ fn behind(span: Span, len: usize) -> Span
     }
 }
 
-/// Looks through the lines of a text, unless that is done; whether they stand in the book of the source as well as in the call.
+/// Finds the roles of the lines of a span and where their blocks end, unless a book has them already. Answers true if the book of
+/// the source has them, because there is no call, or each line has the same role in the call as in the source. Answers false if the
+/// call's own book has them.
 fn open(
     alloc: Global,
     lines: &Lines<'_>,
@@ -75,15 +77,17 @@ fn open(
     Ok(false)
 }
 
-/// The book of the source, or the other.
+/// The book of the source if `plain` is true, or else the call's own book.
 fn opened<'a>(plain: bool, source: &'a Book, book: &'a Book) -> &'a Book
     ensures { result.now ≡ opened plain source.now book.now }
 {
     if plain { source } else { book }
 }
 
-/// The body with which a text begins, if an ENDM closes it. The books are of lines around the
-/// text, or of none: one of the source's as they stand, and one of the call's.
+/// The body of a MACRO or REPT whose first line is the first line of a span, or None if no ENDM of the span closes it.
+///
+/// `source` is a book of the source's lines as written, and `book` one of its lines as the call shows them. Each may be empty, and
+/// the function fills the one that it needs.
 pub fn body_of(
     alloc: Global,
     lines: &Lines<'_>,
@@ -99,7 +103,7 @@ pub fn body_of(
     ensures source { IsBook lines.now None source.new }
     ensures book { IsBook lines.now (option_map (λ c. said c.now) call.entry) book.new }
     ensures body { IfOk result (λ found. option_map (body_seen lines.now (option_map (λ c. said c.now) call.entry)) found
-        ≡ body_of (text_of lines.now (option_map (λ c. said c.now) call.entry) span)) }
+        ≡ block_body (text_of lines.now (option_map (λ c. said c.now) call.entry) span)) }
 {
     let plain = open(alloc, lines, call, span, source, book)?;
     let book = opened(plain, source, book);
@@ -114,8 +118,10 @@ pub fn body_of(
     }
 }
 
-/// The branches of an IF with which a text begins, if an ENDIF closes it. The books are of lines around the
-/// text, or of none: one of the source's as they stand, and one of the call's.
+/// The branches of an IF whose first line is the first line of a span, or None if no ENDIF of the span closes the IF.
+///
+/// `source` is a book of the source's lines as written, and `book` one of its lines as the call shows them. Each may be empty, and
+/// the function fills the one that it needs.
 pub fn branches_of(
     alloc: Global,
     lines: &Lines<'_>,

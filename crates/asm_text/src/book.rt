@@ -1,10 +1,10 @@
-//! Where the blocks of a text end, once that is looked for.
+//! A `Book` keeps where the blocks in some lines end, so that these lines are looked through only once.
 
 ghost use Rattle.std.specs.Prelude.{◌≡◌, ◌≤◌, ◌-◌, ◌<◌, ℕ, IfOk, List, OnOk, Option, Some, length, true};
 ghost use Rattle.std.specs.Option.{option_map};
 ghost use Rattle.common.specs.declared.limits.TheConstants.{LONGEST_TEXT};
 ghost use Rattle.asm_text.specs.Nesting.Blocks.{between};
-ghost use Rattle.asm_replace.specs.Replaced.{Table};
+ghost use Rattle.asm_replace.specs.Replaced.{ReplacementTable};
 ghost use Rattle.asm_text.specs.Kept.{IsCall};
 ghost use Rattle.asm_text.specs.Prepared.{said};
 ghost use Rattle.asm_text.specs.Roles.{roles};
@@ -21,18 +21,18 @@ use crate::span::Span;
 use crate::varying::all_stand;
 use std::alloc::{AllocError, Global};
 
-/// Where the blocks end in some lines of a source, as a call shows them.
+/// Where the blocks end in some consecutive lines of a source, as a call shows them or as written.
 #[derive(Debug, Drop)]
 pub struct Book {
-    /// The first of these lines, by its place in the source.
+    /// The index of the first of these lines in the source.
     pub at: usize,
     pub links: Links,
-    /// The lines from one on and before another are to blocks what they are as they stand.
+    /// Each line from `from` to the one before `to` has the role in the call that it has as written.
     pub from: usize,
     pub to: usize,
 }
 
-/// What each line of a text is to blocks.
+/// Finds the role of each line of a span, as the call shows it.
 fn roles_of(
     alloc: Global,
     lines: &Lines<'_>,
@@ -52,9 +52,9 @@ fn roles_of(
 }
 
 impl Book {
-    /// One of no lines. It takes no memory.
+    /// A book of no lines. It takes no memory.
     pub fn new(alloc: Global) -> Book
-        ensures { (texts : List (List ℕ)) (names : Option Table) → IsBook texts names result }
+        ensures { (texts : List (List ℕ)) (names : Option ReplacementTable) → IsBook texts names result }
     {
         Book {
             at: 0,
@@ -64,15 +64,16 @@ impl Book {
         }
     }
 
-    /// Whether the lines of a text are looked through.
+    /// Whether the lines of a span are among those of this book.
     fn has(&self, span: Span) -> bool
         ensures { result ≡ true → (self.now.at ≤ span.at) × (span.end - self.now.at ≤ length self.now.links) }
     {
         self.at <= span.at && span.end.saturating_sub(self.at) <= self.links.len()
     }
 
-    /// Whether the lines of a text of a call are to blocks what they are as they stand. That is looked for once, and not where
-    /// this book has them already.
+    /// Answers true if each line of a span has the role in the call that it has as written, and keeps that answer, so that the same
+    /// lines are not read again. If this book has the lines already, answers false without reading them, since the source's book is
+    /// not needed then.
     pub(crate) fn is_plain(
         &mut self,
         alloc: Global,
@@ -99,7 +100,7 @@ impl Book {
         Ok(true)
     }
 
-    /// Looks through the lines of a text, unless that is done.
+    /// Makes this the book of a span's lines, unless they are in it already.
     pub(crate) fn open(
         &mut self,
         alloc: Global,

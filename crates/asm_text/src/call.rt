@@ -6,7 +6,7 @@ ghost use Rattle.std.specs.Map.{lookup};
 ghost use Rattle.std.specs.Str.{bytes_eq};
 ghost use Rattle.asm_text.specs.Prepared.{macro_seen, macros_seen};
 ghost use Rattle.asm_replace.specs.Views.{texts};
-ghost use Rattle.asm_text.specs.Kept.{AreNames, IsKept, VariesIn};
+ghost use Rattle.asm_text.specs.Kept.{AreNames, IsKeptMacro, VariesIn};
 
 use crate::lines::Lines;
 use crate::open::{Opened, open};
@@ -19,19 +19,19 @@ use indexmap::IndexMap;
 use std::alloc::{AllocError, Global};
 use std::rc::Rc;
 
-/// A macro: its parameters in upper case, the lines of its body, and what is found out of these once.
+/// A macro: its parameters in upper case, the lines of its body, and what `Macro::new` finds in them once for all calls.
 #[derive(Debug, Drop)]
 pub struct Macro {
     pub parameters: Vec<Vec<u8>>,
     pub body: Span,
-    /// None where a LOCAL line has another form.
+    /// The LOCAL names and the lines after them; None if a LOCAL line is malformed.
     pub(crate) opened: Option<Opened>,
-    /// The parameters and the LOCAL names of the opened body.
+    /// The parameters, then the LOCAL names of the body.
     pub(crate) names: Rc<Names>,
     pub(crate) varying: Rc<Varying>,
 }
 
-/// What names are replaced by in a call, and which lines may be other things to blocks there.
+/// What a call replaces names by, and which lines of the body may have another role there than they have as written.
 #[derive(Debug, Drop)]
 pub struct Call {
     pub(crate) names: Replacements,
@@ -39,7 +39,7 @@ pub struct Call {
     pub(crate) plain: Plain,
 }
 
-/// The names of an opened body: parameters before LOCAL names.
+/// The names that each call of a macro replaces: its parameters, then its LOCAL names.
 fn names_in(
     alloc: Global,
     parameters: &[Vec<u8>],
@@ -53,7 +53,7 @@ fn names_in(
     }
 }
 
-/// Which lines of an opened body may be other things to blocks in a call.
+/// Finds which lines of a body, after its LOCAL lines, may have another role in a call than they have as written.
 fn varying_in(
     alloc: Global,
     lines: &Lines<'_>,
@@ -70,16 +70,17 @@ fn varying_in(
 
 impl Macro {
     ghost use Rattle.std.specs.Prelude.{◌≡◌, IfOk};
-    ghost use Rattle.asm_text.specs.Kept.{IsKept};
+    ghost use Rattle.asm_text.specs.Kept.{IsKeptMacro};
 
-    /// Looks through a body, whose lines are not looked through again by each call.
+    /// Makes a macro. Looks through its body once for its LOCAL lines and for the lines whose role may vary, so that its calls need
+    /// not.
     pub fn new(
         alloc: Global,
         lines: &Lines<'_>,
         parameters: Vec<Vec<u8>>,
         body: Span,
     ) -> Result<Macro, AllocError>
-        ensures kept { IfOk result (λ m. IsKept lines.now m) }
+        ensures kept { IfOk result (λ m. IsKeptMacro lines.now m) }
         ensures parts { IfOk result (λ m. (m.parameters ≡ parameters) × (m.body ≡ body)) }
     {
         let opened = open(alloc, lines, body)?;
@@ -95,10 +96,10 @@ impl Macro {
     }
 }
 
-/// The macro of a name in upper case.
+/// The macro with this name, which is in upper case, or None if there is none.
 pub fn macro_of<'a>(macros: &'a IndexMap<Vec<u8>, Macro, NameKey>, name: &[u8]) -> Option<&'a Macro>
     ensures found { (texts : List (List ℕ)) → option_map (λ m. macro_seen texts m.now) result ≡ lookup (bytes_eq name.now) (macros_seen texts macros.now.entries) }
-    ensures kept { (texts : List (List ℕ)) → All (λ e. IsKept texts e.1) macros.now.entries → IfSome result (λ m. IsKept texts m.now) }
+    ensures kept { (texts : List (List ℕ)) → All (λ e. IsKeptMacro texts e.1) macros.now.entries → IfSome result (λ m. IsKeptMacro texts m.now) }
 {
     macros.get(name)
 }

@@ -1,23 +1,23 @@
-//! Where the blocks end that begin before a line.
+//! For each line: where a block that begins with this line ends.
 
 ghost use Rattle.std.specs.Prelude.{◌≡◌, ◌<◌, ◌≤◌, ◌^◌, length};
 ghost use Rattle.asm_text.specs.Private.Nesting.{behind, no_ends, turn};
 
 use crate::matching::Role;
 
-/// Where the blocks end of which this line is the first behind MACRO, REPT, IF or ELSE, by the numbers of lines; the count of
-/// all lines where nothing ends them. Each is as if no body around it ended.
+/// Where a block ends if the line before this one opens it, as an index of a line. The count of all lines means that nothing closes
+/// the block. A block around this line is ignored: its ENDM does not end the search.
 #[derive(Clone, Copy, Debug)]
 pub(crate) struct Ends {
-    /// The ENDM of a body.
+    /// The ENDM, if the line before is MACRO or REPT.
     pub body: u32,
-    /// The next ELSE or the ENDIF of an IF that is closed.
+    /// The end of the branch, if the line before is IF or ELSE: the next ELSE or the ENDIF. Only if an ENDIF closes the IF.
     pub next: u32,
-    /// Its ENDIF.
+    /// The ENDIF, if the line before is IF or ELSE.
     pub last: u32,
 }
 
-/// Those of no block.
+/// The ends that mean that no line closes a block, among `len` lines.
 pub(crate) fn no_ends(len: usize) -> Ends
     requires { len < 2 ^ 32 }
     ensures { result ≡ no_ends len }
@@ -30,7 +30,7 @@ pub(crate) fn no_ends(len: usize) -> Ends
     }
 }
 
-/// Those behind a line.
+/// The ends for the line after `line`.
 fn behind(ends: &[Ends], line: u32) -> Ends
     requires { length ends.now < 2 ^ 32 }
     ensures { result ≡ behind ends.now line }
@@ -43,7 +43,7 @@ fn behind(ends: &[Ends], line: u32) -> Ends
     }
 }
 
-/// Those of a line, by those behind it.
+/// Finds the ends for line `at` from its role and the ends for the lines after it.
 pub(crate) fn turn(role: Role, at: u32, ends: &[Ends]) -> Ends
     requires { length ends.now < 2 ^ 32 }
     ensures { result ≡ turn role at ends.now }

@@ -1,28 +1,28 @@
-//! What follows the texts of blocks, and what they are gone on with.
+//! What follows the body of a call or block, and where expansion continues.
 
 use crate::span::Span;
 use crate::stretch::{Block, Choice};
 
-/// What follows a text in the one around it.
+/// What follows some lines once they have been expanded, in the lines around them.
 #[derive(Debug, Drop)]
 pub enum Following {
-    /// Of a call: the rest of the text around.
+    /// After the body of a call: the lines after the call.
     Rest(Span),
-    /// Of the first branch of an IF.
+    /// After the first branch of an IF: the rest of that IF, and the lines after it.
     BehindFirst(Choice),
-    /// Of the second branch of an IF.
+    /// After the second branch of an IF.
     BehindSecond(Choice),
-    /// Of a REPT: the turns left, the number that its lines bear, and its body.
+    /// After one repetition of a REPT: how many are left, the number that its lines bear, and the block.
     Turns(u16, u32, Block),
 }
 
-/// What is gone on with where a block opens, or where a text is over.
+/// Where expansion continues when a block opens, or when some lines have been expanded.
 #[derive(Debug, Drop)]
 pub enum Onward {
-    /// Nothing: the line of this number may not stand there.
+    /// Nowhere: the line with this number is misplaced.
     Stray(u32),
-    /// The rest of the text.
+    /// With these lines, instead of the current ones.
     On(Span),
-    /// A text within it, and then what follows that.
+    /// With the lines of a body or branch, and then with what follows them.
     Into(Span, Following),
 }

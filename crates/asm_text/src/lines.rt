@@ -1,4 +1,4 @@
-//! A text as the list of its lines.
+//! A source as the list of its lines.
 
 ghost use Rattle.std.specs.Prelude.{◌≡◌, ◌≤◌, ◌∷◌, [], IfOk, length, map, slice_index_or};
 ghost use Rattle.bstr.specs.Text.{lines_of, part, without_terminator};
@@ -7,11 +7,12 @@ use bstr::ByteSlice;
 use std::alloc::{AllocError, Global};
 use std::marker::Model;
 
-/// The lines of a text, which stay there. Each takes four bytes beside it. Clauses see the list of them.
+/// The lines of a source, which it borrows. It keeps four bytes for each line. Clauses see the list of the lines, without their LF
+/// or CR LF.
 #[derive(Debug, Drop)]
 pub struct Lines<'a> {
     text: &'a [u8],
-    /// The place behind each line and its LF.
+    /// For each line, the offset at which it ends, after its LF.
     ends: Vec<u32>,
 }
 
@@ -24,7 +25,7 @@ impl<'a> Model for Lines<'a> {
     ghost view = { λ l. lines_by l.text.now 0 l.ends.items };
 }
 
-/// The bytes of a text from one place on and before another, as far as there are any.
+/// The bytes of `text` from offset `from` to the one before `to`, as far as there are any.
 fn part(text: &[u8], from: usize, to: usize) -> &[u8]
     ensures { result.now ≡ part from to text.now }
 {
@@ -33,7 +34,7 @@ fn part(text: &[u8], from: usize, to: usize) -> &[u8]
     &text[from..to]
 }
 
-/// A line without the LF or CR LF that ends it.
+/// A line without the LF or CR LF that ends it, if one does.
 fn without_terminator(line: &[u8]) -> &[u8]
     ensures { result.now ≡ without_terminator line.now }
 {
@@ -44,7 +45,7 @@ fn without_terminator(line: &[u8]) -> &[u8]
     }
 }
 
-/// Where the line at a place begins: where the one before it ends.
+/// The offset at which line `at` begins, which is where the line before it ends.
 fn begin_at(ends: &[u32], at: usize) -> usize
     requires { at ≤ length ends.now }
     ensures { result ≡ slice_index_or (0 ∷ ends.now) at 0 }
@@ -53,11 +54,11 @@ fn begin_at(ends: &[u32], at: usize) -> usize
 }
 
 impl<'a> Lines<'a> {
-    /// Finds the lines of a text, each of which ends with LF or CR LF, or with the text.
+    /// Finds the lines of a source. LF or CR LF ends each, or the end of the source.
     ///
     /// # Errors
     ///
-    /// Memory has run out, or the text has 2^32 bytes or more.
+    /// `AllocError` if memory has run out, or if the source has 2^32 bytes or more.
     pub fn of(alloc: Global, text: &'a [u8]) -> Result<Lines<'a>, AllocError>
         ensures lines { IfOk result (λ found. found ≡ map without_terminator (lines_of text.now)) }
         ensures few { IfOk result (λ found. length found ≤ length text.now) }
@@ -74,14 +75,14 @@ impl<'a> Lines<'a> {
         Ok(Lines { text, ends })
     }
 
-    /// How many there are.
+    /// How many lines the source has.
     pub fn len(&self) -> usize
         ensures { result ≡ length self.now }
     {
         self.ends.len()
     }
 
-    /// The line at a place, from 0, without the LF or CR LF that ends it; an empty one where there is none.
+    /// The line with index `at`, from 0, without the LF or CR LF that ends it; an empty line if there is none.
     pub fn line(&self, at: usize) -> &'a [u8]
         ensures { result.now ≡ slice_index_or self.now at [] }
     {

@@ -1,4 +1,4 @@
-//! The lines of a text, and where each block of it ends.
+//! The roles of some lines, and where each block in them ends.
 
 ghost use Rattle.std.specs.Prelude.{◌≡◌, ◌<◌, ◌^◌, IfOk, [], length};
 ghost use Rattle.asm_text.specs.declared.matching.Role.{Role};
@@ -8,14 +8,14 @@ use crate::matching::Role;
 use std::alloc::{AllocError, Global};
 use std::marker::Model;
 
-/// How many lines the branches of an IF have: the first, and each that an ELSE begins.
+/// How many lines each branch of an IF has: the first, and each that follows an ELSE.
 #[derive(Debug, Drop)]
 pub struct Branches {
     pub first: usize,
     pub others: Vec<usize>,
 }
 
-/// What each line of a text is to blocks, and where each block of it ends. Clauses see the first.
+/// The role of each of some lines, and where each block in them ends. Clauses see the roles.
 #[derive(Debug, Drop)]
 pub struct Links {
     roles: Vec<Role>,
@@ -34,7 +34,7 @@ impl Model for Links {
     ghost invariant = { λ l. IsMatched l.roles.items l.ends.items };
 }
 
-/// Finds where each block of a text ends. It takes a time in the order of the count of its lines.
+/// Finds where each block in some lines ends, from the roles of the lines. Takes time linear in their count.
 pub fn links_of(alloc: Global, roles: Vec<Role>) -> Result<Links, AllocError>
     requires { length roles.items < 2 ^ 32 }
     ensures { IfOk result (λ links. links ≡ roles.items) }
@@ -57,7 +57,7 @@ impl Links {
     ghost use Rattle.asm_text.specs.Nesting.Views.{lengths_seen};
     ghost use Rattle.asm_text.specs.Private.Nesting.{ends_of};
 
-    /// Those of a text without lines. It takes no memory.
+    /// The links of no lines. They take no memory.
     pub fn none(alloc: Global) -> Links
         ensures { result ≡ [] }
     {
@@ -67,14 +67,14 @@ impl Links {
         }
     }
 
-    /// How many lines the text has.
+    /// How many lines these links are of.
     pub fn len(&self) -> usize
         ensures { result ≡ length self.now }
     {
         self.roles.len()
     }
 
-    /// The ends of the blocks that begin before a line.
+    /// Where a block that begins with line `line` ends.
     fn ends(&self, line: usize) -> Ends
         ensures { result ≡ ends_of (length self.now) line (drop line self.now) }
     {
@@ -85,8 +85,8 @@ impl Links {
         }
     }
 
-    /// How many lines the body has whose first line is `from`, in a text that ends before `to`; None where no ENDM of that text closes
-    /// it. It takes the same time for every body.
+    /// How many lines the body of a MACRO or REPT has that begins at line `from`; None if no ENDM before line `to` closes it. Takes
+    /// constant time, however long the body is.
     pub fn body(&self, from: usize, to: usize) -> Option<usize>
         ensures is { result ≡ body_length 0 (between from to self.now) }
         ensures within { IfSome result (λ n. n < length (between from to self.now)) }
@@ -99,8 +99,8 @@ impl Links {
         }
     }
 
-    /// How many lines the branches have of the IF behind which `from` is the first line, in a text that ends before `to`; None
-    /// where no ENDIF of that text closes it. It takes a time in the order of their count.
+    /// How many lines each branch of an IF has whose first branch begins at line `from`; None if no ENDIF before line `to` closes
+    /// the IF. Takes time linear in the count of its branches.
     pub fn branches(
         &self,
         alloc: Global,

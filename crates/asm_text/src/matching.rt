@@ -1,15 +1,15 @@
-//! What lines are to blocks.
+//! The roles of lines: whether they open, divide or close a block.
 
-/// What a line is to the blocks of its text.
+/// What a line does to the blocks around it.
 #[derive(Clone, Copy, Debug, PartialEq, Eq)]
 pub enum Role {
-    /// MACRO or REPT, with which a body begins.
+    /// MACRO or REPT: a body begins after this line.
     OpensBody,
     OpensIf,
     Else,
     EndIf,
     /// ENDM.
     EndBody,
-    /// No word of blocks.
+    /// Any other line.
     Other,
 }

@@ -1,13 +1,13 @@
-//! What is gone on with where a block opens, or where a text is over.
+//! Where expansion continues when a block opens, or when some lines have been expanded.
 
 ghost use Rattle.std.specs.Prelude.{◌≡◌, IfOk, List, Option, map, ℕ};
 ghost use Rattle.std.specs.Option.{option_map};
-ghost use Rattle.asm_replace.specs.Replaced.{Table};
+ghost use Rattle.asm_replace.specs.Replaced.{ReplacementTable};
 ghost use Rattle.asm_text.specs.Prepared.{said};
 ghost use Rattle.asm_text.specs.Spans.{text_of};
-ghost use Rattle.asm_text.specs.Sections.Onward.{On, behind, branch, stray, stray_in, unless};
+ghost use Rattle.asm_text.specs.Sections.Onward.{On, behind, branch, stray, stray_in, stray_or};
 ghost use Rattle.asm_text.specs.Sections.Onward as onward;
-ghost use Rattle.asm_text.specs.Sections.Sections.{branches_seen, line_of, section_of};
+ghost use Rattle.asm_text.specs.Sections.Sections.{branches_seen, numbered_line, section_of};
 ghost use Rattle.asm_text.specs.Sections.Views.{next_of, onward_seen};
 
 use crate::call::Call;
@@ -18,14 +18,14 @@ use crate::span::Span;
 use crate::stretch::{Choice, Place, Stretch};
 use std::alloc::{AllocError, Global};
 
-/// The number of a line that closes or divides a block, unless it stands alone.
+/// The number of a line that closes or divides a block, if the line has something else in it and so is misplaced.
 pub fn stray(
     alloc: Global,
     lines: &Lines<'_>,
     call: Option<&Call>,
     end: Place,
 ) -> Result<Option<u32>, AllocError>
-    ensures { IfOk result (λ number. number ≡ stray (line_of lines.now (option_map (λ c. said c.now) call.entry) end)) }
+    ensures { IfOk result (λ number. number ≡ stray (numbered_line lines.now (option_map (λ c. said c.now) call.entry) end)) }
 {
     let mut text = Vec::new(alloc);
     put_shown(alloc, call, lines.line(end.at), &mut text)?;
@@ -36,7 +36,8 @@ pub fn stray(
     }
 }
 
-/// The number of the first line that may not stand behind the first branch of an IF, where there is one branch more at most.
+/// The number of the first misplaced line among those that end the branches after the first one. An IF has two branches at most: a
+/// second ELSE is misplaced, and so is a line that has something else in it.
 fn stray_in(
     alloc: Global,
     lines: &Lines<'_>,
@@ -52,9 +53,9 @@ fn stray_in(
     }
 }
 
-/// The rest of a text, unless the line of a number may not stand.
+/// Continues with the lines `after`, unless there is the number of a misplaced line.
 fn on(number: Option<u32>, after: Span) -> Onward
-    ensures { (texts : List (List ℕ)) (names : Option Table) → onward_seen texts names result ≡ unless number (On (text_of texts names after)) }
+    ensures { (texts : List (List ℕ)) (names : Option ReplacementTable) → onward_seen texts names result ≡ stray_or number (On (text_of texts names after)) }
 {
     match number {
         Some(number) => Onward::Stray(number),
@@ -62,9 +63,9 @@ fn on(number: Option<u32>, after: Span) -> Onward
     }
 }
 
-/// Goes on with the second branch of an IF, if there is one.
+/// Continues with the second branch of an IF, or after the IF if there is none.
 fn second(choice: Choice) -> Onward
-    ensures { (texts : List (List ℕ)) (names : Option Table) → onward_seen texts names result ≡ onward.second_of (branches_seen texts names choice).others (branches_seen texts names choice).after }
+    ensures { (texts : List (List ℕ)) (names : Option ReplacementTable) → onward_seen texts names result ≡ onward.second_of (branches_seen texts names choice).others (branches_seen texts names choice).after }
 {
     let text = match choice.others.as_slice() {
         [] => return Onward::On(choice.after),
@@ -73,7 +74,8 @@ fn second(choice: Choice) -> Onward
     Onward::Into(text, Following::BehindSecond(choice))
 }
 
-/// What an IF is gone on with, by what its expression is worth.
+/// Where expansion continues at an IF, given the value of its expression: 0 chooses the second branch, and each other value the
+/// first.
 pub fn branch(
     alloc: Global,
     lines: &Lines<'_>,
@@ -94,7 +96,8 @@ pub fn branch(
     Ok(Onward::Into(text, Following::BehindFirst(choice)))
 }
 
-/// What a text that is over is gone on with, by what follows it; and a REPT that is met, by its turns.
+/// Where expansion continues once some lines have been expanded, given what follows them. At a REPT, `following` is the number of
+/// its repetitions.
 pub fn behind(
     alloc: Global,
     lines: &Lines<'_>,

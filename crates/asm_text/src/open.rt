@@ -1,11 +1,11 @@
-//! The body of a macro, opened for a call.
+//! Opening the body of a macro for its calls: its LOCAL names, and the lines after them.
 
 ghost use Rattle.std.specs.Prelude.{◌≡◌, IfOk};
 ghost use Rattle.std.specs.Option.{option_map};
 ghost use Rattle.asm_scan.specs.Tokens.{lexemes};
 ghost use Rattle.asm_line.specs.Views.{head_seen};
 ghost use Rattle.asm_replace.specs.Views.{texts};
-ghost use Rattle.asm_text.specs.Calls.{arguments_in, label_text, opened};
+ghost use Rattle.asm_text.specs.Calls.{arguments_in, label_as_written, opened};
 ghost use Rattle.asm_text.specs.Kept.{opened_seen};
 ghost use Rattle.asm_text.specs.Private.Openings.{IsLocal, is_local};
 ghost use Rattle.asm_text.specs.Prepared.{body_texts};
@@ -18,32 +18,32 @@ use asm_replace::{after, arguments};
 use asm_scan::{Token, blank_len};
 use std::alloc::{AllocError, Global};
 
-/// What a line at the beginning of a body is.
+/// What the first line of a body is.
 #[derive(Debug, Drop)]
 pub(crate) enum Local {
-    /// LOCAL, with its names in upper case.
+    /// A LOCAL line with its names, in upper case.
     Names(Vec<Vec<u8>>),
-    /// LOCAL in another form.
+    /// A malformed LOCAL line: it has a label, or something other than names after LOCAL.
     Bad,
     Other,
 }
 
-/// A body that is opened.
+/// A body without its first LOCAL lines.
 #[derive(Debug, Drop)]
 pub(crate) struct Opened {
     pub locals: Vec<Vec<u8>>,
-    /// The lines behind the LOCAL lines.
+    /// The lines after the LOCAL lines.
     pub rest: Span,
 }
 
-/// Whether a head is LOCAL.
+/// Whether a line begins with LOCAL, by its head.
 fn is_local(head: Head<'_>) -> bool
     ensures { result ≡ is_local (head_seen head.entry) }
 {
     matches!(head, Head::Block(BlockWord::Local))
 }
 
-/// What a line at the beginning of a body is.
+/// Answers whether a line is a LOCAL line, and with which names.
 fn local_line(alloc: Global, line: &[u8]) -> Result<Local, AllocError>
     ensures { IfOk result (λ local. IsLocal line.now local) }
 {
@@ -63,7 +63,8 @@ fn local_line(alloc: Global, line: &[u8]) -> Result<Local, AllocError>
     }
 }
 
-/// Opens a body: the names of its LOCAL lines, and the lines behind them; None where one of these has another form.
+/// Opens a body: finds the names of the LOCAL lines with which it begins, and the lines after them. Answers None if one of these
+/// LOCAL lines is malformed.
 pub(crate) fn open(
     alloc: Global,
     lines: &Lines<'_>,
@@ -92,7 +93,8 @@ pub(crate) fn open(
     }))
 }
 
-/// The arguments of a call: what stands behind the macro's name, behind which the last tokens of the line stand.
+/// Cuts the arguments of a call, which follow the macro's name in `line`. `tokens` are all tokens of the line, and `rest` the last
+/// of them, which follow the macro's name.
 pub(crate) fn arguments_of(
     alloc: Global,
     line: &[u8],
@@ -111,13 +113,13 @@ pub(crate) fn arguments_of(
     arguments(alloc, behind, rest)
 }
 
-/// A line's label as it stands, from its name to the colon.
+/// A line's label as written, from its name to the colon.
 pub(crate) fn label_of(
     alloc: Global,
     line: &[u8],
     tokens: &[Token<'_>],
 ) -> Result<Vec<u8>, AllocError>
-    ensures { IfOk result (λ label. label.items ≡ label_text line.now (lexemes tokens.entry.now)) }
+    ensures { IfOk result (λ label. label.items ≡ label_as_written line.now (lexemes tokens.entry.now)) }
 {
     let mut label = Vec::new(alloc);
     let [name, colon, ..] = tokens else {

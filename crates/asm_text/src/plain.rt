@@ -1,4 +1,4 @@
-//! Texts that bring no sign of blocks where they are put in the place of names.
+//! Arguments that contain no sign, and so give a line no new role when they replace names.
 
 ghost use Rattle.std.specs.Prelude.{◌≡◌};
 ghost use Rattle.asm_replace.specs.Views.{texts};
@@ -6,14 +6,14 @@ ghost use Rattle.asm_text.specs.Plain.{are_plain};
 
 use crate::signs::{Sign, has_sign};
 
-/// Whether all texts that are put in are plain to each sign.
+/// For each sign, whether no argument of a call contains it.
 #[derive(Clone, Copy, Debug)]
 pub(crate) struct Plain {
     pub word: bool,
     pub second: bool,
 }
 
-/// Whether each parameter's argument has no such sign. A missing one is empty, and so has none.
+/// Whether no parameter's argument contains a sign. A missing argument is empty, and so contains none.
 fn are_plain(sign: Sign, parameters: &[Vec<u8>], arguments: &[Vec<u8>]) -> bool
     ensures { result ≡ are_plain sign (texts parameters.now) (texts arguments.now) }
 {
@@ -27,7 +27,7 @@ fn are_plain(sign: Sign, parameters: &[Vec<u8>], arguments: &[Vec<u8>]) -> bool
     true
 }
 
-/// To which signs each parameter's argument is plain.
+/// Which signs no parameter's argument contains.
 pub(crate) fn plain_to(parameters: &[Vec<u8>], arguments: &[Vec<u8>]) -> Plain
     ensures word { result.word ≡ are_plain Sign.Word (texts parameters.now) (texts arguments.now) }
     ensures second { result.second ≡ are_plain Sign.Second (texts parameters.now) (texts arguments.now) }

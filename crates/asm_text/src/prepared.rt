@@ -1,11 +1,11 @@
-//! A call of a macro, made ready.
+//! Making a call of a macro ready for expansion.
 
 ghost use Rattle.std.specs.Prelude.{◌≡◌, IfOk, IfSome, List, ℕ};
 ghost use Rattle.asm_scan.specs.Tokens.{lexemes};
 ghost use Rattle.asm_line.specs.Views.{form_seen};
 ghost use Rattle.asm_text.specs.Calls.{label_lines};
-ghost use Rattle.asm_text.specs.Prepared.{Prepares, labels};
-ghost use Rattle.asm_text.specs.Kept.{IsCall, IsKept};
+ghost use Rattle.asm_text.specs.Prepared.{Prepares, label_line};
+ghost use Rattle.asm_text.specs.Kept.{IsCall, IsKeptMacro};
 
 use crate::call::{Call, Macro};
 use crate::open::{arguments_of, label_of};
@@ -17,7 +17,7 @@ use asm_scan::Token;
 use std::alloc::{AllocError, Global};
 use std::rc::Rc;
 
-/// The call, the lines of the body, and the number of the next LOCAL name.
+/// A call that is ready: what it replaces names by, the lines of the body, and the number of the next LOCAL name.
 #[derive(Debug, Drop)]
 pub struct Prepared {
     pub call: Call,
@@ -25,8 +25,10 @@ pub struct Prepared {
     pub counter: u64,
 }
 
-/// Makes a call ready; None where a LOCAL line of its body has another form. `tokens` are those of the line, and `rest` those
-/// behind the macro's name.
+/// Makes a call ready, or answers None if a LOCAL line of the macro's body is malformed.
+///
+/// `tokens` are those of the calling line, and `rest` those of them that follow the macro's name. `counter` is the number of the
+/// first LOCAL name of the call.
 pub fn prepare(
     alloc: Global,
     called: &Macro,
@@ -35,8 +37,8 @@ pub fn prepare(
     rest: &[Token<'_>],
     counter: u64,
 ) -> Result<Option<Prepared>, AllocError>
-    ensures prepares { (texts : List (List ℕ)) → IsKept texts called.now → IfOk result (λ found. Prepares texts called.now line.now (lexemes tokens.entry.now) (lexemes rest.entry.now) counter found) }
-    ensures call { (texts : List (List ℕ)) → IsKept texts called.now → IfOk result (λ found. IfSome found (λ p. IsCall texts p.call)) }
+    ensures prepares { (texts : List (List ℕ)) → IsKeptMacro texts called.now → IfOk result (λ found. Prepares texts called.now line.now (lexemes tokens.entry.now) (lexemes rest.entry.now) counter found) }
+    ensures call { (texts : List (List ℕ)) → IsKeptMacro texts called.now → IfOk result (λ found. IfSome found (λ p. IsCall texts p.call)) }
 {
     let Some(opened) = &called.opened else {
         return Ok(None);
@@ -63,14 +65,14 @@ pub fn prepare(
     }))
 }
 
-/// The label of a line, as it stands.
+/// The label of a line as written, or None if it has none.
 pub fn label_before(
     alloc: Global,
     line: &[u8],
     tokens: &[Token<'_>],
     form: Form<'_>,
 ) -> Result<Option<Vec<u8>>, AllocError>
-    ensures { IfOk result (λ label. (number : ℕ) → labels number label ≡ label_lines (form_seen form.entry).label (record { number = number; text = line.now }) (lexemes tokens.entry.now)) }
+    ensures { IfOk result (λ label. (number : ℕ) → label_line number label ≡ label_lines (form_seen form.entry).label (record { number = number; text = line.now }) (lexemes tokens.entry.now)) }
 {
     match form.label {
         None => Ok(None),

@@ -1,8 +1,8 @@
-//! Lines that are looked at but not taken up.
+//! Reads lines to find their role or to show them in a call, without assembling them.
 
 ghost use Rattle.std.specs.Prelude.{◌≡◌, IfOk, OnOk, Some};
 ghost use Rattle.asm_line.specs.Views.{head_seen};
-ghost use Rattle.asm_replace.specs.Views.{table};
+ghost use Rattle.asm_replace.specs.Views.{replacement_table};
 ghost use Rattle.std.specs.Option.{option_map};
 ghost use Rattle.asm_scan.specs.Tokens.{lexemes};
 ghost use Rattle.asm_text.specs.Lines.{form_of, heard};
@@ -18,7 +18,7 @@ use asm_replace::{Replacements, replace};
 use asm_scan::{ScanFault, Token, tokens};
 use std::alloc::{AllocError, Global};
 
-/// What a line's head is to blocks.
+/// The role of a line with this head.
 pub(crate) fn role_of_head(head: Head<'_>) -> Role
     ensures { result ≡ role_of_head (head_seen head.entry) }
 {
@@ -36,7 +36,7 @@ pub(crate) fn role_of_head(head: Head<'_>) -> Role
     }
 }
 
-/// The tokens of a line; None where it does not scan.
+/// The tokens of a line, or None if it has a scan error.
 pub(crate) fn heard(alloc: Global, line: &[u8]) -> Result<Option<Vec<Token<'_>>>, AllocError>
     ensures { IfOk result (λ found. option_map (λ tokens. lexemes tokens.items) found ≡ heard line.now) }
 {
@@ -50,7 +50,7 @@ pub(crate) fn heard(alloc: Global, line: &[u8]) -> Result<Option<Vec<Token<'_>>>
     }
 }
 
-/// What a line is to blocks. One that does not scan has no word.
+/// The role of a line. A line with a scan error has none: its role is `Other`.
 pub(crate) fn role_of(alloc: Global, line: &[u8]) -> Result<Role, AllocError>
     ensures { IfOk result (λ role. role ≡ role_of_head (form_of line.now).head) }
 {
@@ -63,7 +63,7 @@ pub(crate) fn role_of(alloc: Global, line: &[u8]) -> Result<Role, AllocError>
     }
 }
 
-/// Whether a line has nothing but a word of blocks or another head: no label, and nothing behind the head.
+/// Whether a line has only a head: no label, and nothing after the head. True of a line with a scan error as well.
 pub fn is_alone(alloc: Global, line: &[u8]) -> Result<bool, AllocError>
     ensures { IfOk result (λ alone. alone ≡ is_alone (form_of line.now)) }
 {
@@ -76,14 +76,14 @@ pub fn is_alone(alloc: Global, line: &[u8]) -> Result<bool, AllocError>
     }
 }
 
-/// Writes a line with its names replaced in the place of what was written; one that does not scan as it stands.
+/// Replaces what `out` holds by a line with its names replaced. A line with a scan error is copied as written.
 fn put_replaced(
     alloc: Global,
     names: &Replacements,
     line: &[u8],
     out: &mut Vec<u8>,
 ) -> Result<(), AllocError>
-    ensures { OnOk result (out.new.items ≡ shown (Some (table names.now)) line.now) }
+    ensures { OnOk result (out.new.items ≡ shown (Some (replacement_table names.now)) line.now) }
 {
     out.clear();
     match heard(alloc, line)? {
@@ -92,7 +92,7 @@ fn put_replaced(
     }
 }
 
-/// Writes a line as it stands in a call, or in none, in the place of what was written.
+/// Replaces what `out` holds by a line as the call shows it, or as written if there is no call.
 pub fn put_shown(
     alloc: Global,
     call: Option<&Call>,
@@ -110,7 +110,8 @@ pub fn put_shown(
     }
 }
 
-/// What a line is to blocks, as it stands in a call or in none. What the buffer holds has no meaning.
+/// The role of a line as the call shows it, or as written if there is no call. `buffer` is only working memory: its contents have
+/// no meaning before or after.
 pub fn role_shown(
     alloc: Global,
     call: Option<&Call>,

@@ -1,4 +1,4 @@
-//! Signs: words and a byte without which a line is none of blocks.
+//! Signs: words, and a byte, without which a line has no role.
 
 ghost use Rattle.std.specs.Prelude.{◌≡◌};
 ghost use Rattle.std.specs.List.{list_any};
@@ -7,16 +7,16 @@ ghost use Rattle.asm_text.specs.Signs.{has_sign, is_sign, words};
 
 use asm_scan::continues_name;
 
-/// What is looked for in a line, in either case.
+/// What a line is searched for, in upper or lower case.
 #[derive(Clone, Copy, Debug)]
 pub(crate) enum Sign {
-    /// A whole word of blocks: IF, ENDIF, ELSE, MACRO, REPT or ENDM.
+    /// A whole block word: IF, ENDIF, ELSE, MACRO, REPT or ENDM.
     Word,
-    /// What makes a line one of blocks whose first token is no such word: the word MACRO, or a colon.
+    /// What the second token has to be if a line has a role and its first token is no block word: the word MACRO, or a colon.
     Second,
 }
 
-/// Whether a word is such a sign.
+/// Whether a word is a sign of this kind.
 fn is_sign(sign: Sign, word: &[u8]) -> bool
     ensures { result ≡ is_sign sign word.now }
 {
@@ -33,11 +33,12 @@ fn is_sign(sign: Sign, word: &[u8]) -> bool
     }
 }
 
-/// Whether two small letters are one of the pairs of which each word of blocks has one: IF and ENDIF, ELSE, MACRO, REPT, ENDM.
+/// Whether two lower-case letters are one of the pairs IF, LS, CR, PT and DM. Each block word contains one of them: IF and ENDIF
+/// contain IF, ELSE contains LS, MACRO contains CR, REPT contains PT, and ENDM contains DM.
 fn is_pair(a: u8, b: u8) -> bool
     ensures { result ≡ is_pair a b }
 {
-    // By the second letter, since most bytes are none of these.
+    // Matches the second letter first, since most bytes are none of these five.
     match b {
         b'f' => a == b'i',
         b's' => a == b'l',
@@ -48,7 +49,7 @@ fn is_pair(a: u8, b: u8) -> bool
     }
 }
 
-/// Whether two letters of which each word of blocks has some stand side by side in a text, in either case.
+/// Whether a line contains one of these pairs of letters, in upper or lower case. If it contains none, it contains no block word.
 fn has_pair(text: &[u8]) -> bool
     ensures { result ≡ has_pair text.now }
 {
@@ -63,8 +64,8 @@ fn has_pair(text: &[u8]) -> bool
     false
 }
 
-/// Whether a word of a text is a sign. Few lines have a pair of letters of one, and to look for those takes half of what it takes to
-/// cut a line into words.
+/// Whether a word of a line is a sign of this kind. Most lines have none of the pairs of letters, and searching for these takes
+/// half as long as cutting the line into words.
 fn has_word(sign: Sign, text: &[u8]) -> bool
     ensures { result ≡ list_any (is_sign sign) (words text.now) }
 {
@@ -75,8 +76,8 @@ fn has_word(sign: Sign, text: &[u8]) -> bool
         .any(|word| is_sign(sign, word))
 }
 
-/// Whether a text has such a sign: few lines that are none of blocks have one, and to look for them costs much less than to cut the
-/// line.
+/// Whether a line or argument contains a sign of this kind. Most lines without a role contain none, and searching for one costs
+/// much less than cutting the line into tokens.
 pub(crate) fn has_sign(sign: Sign, text: &[u8]) -> bool
     ensures { result ≡ has_sign sign text.now }
 {

@@ -1,12 +1,12 @@
 //! Spans of the lines of a source.
 
-/// Lines of the source that follow one another.
+/// Consecutive lines of a source.
 #[derive(Clone, Copy, Debug)]
 pub struct Span {
-    /// The first, by its place in the source from 0.
+    /// The index of the first line in the source, from 0.
     pub at: usize,
-    /// The place behind the last.
+    /// The index after that of the last line.
     pub end: usize,
-    /// The number that each bears; None where each bears its own.
+    /// The number that each line bears; None if each bears its own.
     pub number: Option<u32>,
 }

@@ -1,10 +1,10 @@
-//! Lines of a body that may be other things to blocks in a call than they are as they stand.
+//! Lines of a macro's body that may have another role in a call than they have as written.
 
 ghost use Rattle.std.specs.Prelude.{◌≡◌, ◌≤◌, ◌<◌, [], IfOk, Some, length, slice_index_or, true};
 ghost use Rattle.std.specs.List.{filter, list_any};
 ghost use Rattle.asm_scan.specs.Tokens.{lexeme, lexemes};
 ghost use Rattle.asm_replace.specs.Fronts.{goes_on};
-ghost use Rattle.asm_replace.specs.Replaced.{Table};
+ghost use Rattle.asm_replace.specs.Replaced.{ReplacementTable};
 ghost use Rattle.asm_replace.specs.Views.{in_call};
 ghost use Rattle.asm_text.specs.Kept.{HasOnly, IsCall, IsVarying, Suffice};
 ghost use Rattle.asm_text.specs.Lines.{heard};
@@ -23,22 +23,23 @@ use asm_replace::Names;
 use asm_scan::{Kind, Mark, Token};
 use std::alloc::{AllocError, Global};
 
-/// Of the lines from one on and before another those that may be other things to blocks in a call, by their places.
+/// Which of the lines from `at` to the one before `end` may have another role in a call than they have as written, by their
+/// indexes.
 #[derive(Debug, Drop)]
 pub(crate) struct Varying {
     pub at: usize,
     pub end: usize,
     pub places: Vec<u32>,
-    /// Of these places those of lines that may be other things even where all texts that are put in are plain to `Sign::Word`.
+    /// Those of `places` whose lines may have another role even if no argument contains `Sign::Word`.
     pub with_word: Vec<u32>,
-    /// The same where they are plain to `Sign::Second`.
+    /// Those of `places` whose lines may have another role even if no argument contains `Sign::Second`.
     pub with_second: Vec<u32>,
-    /// And where they are plain to both.
+    /// Those of `places` whose lines may have another role even if no argument contains either sign.
     pub with_both: Vec<u32>,
 }
 
 impl Varying {
-    /// Of no lines.
+    /// The varying lines of an empty range: there are none.
     pub fn none(alloc: Global) -> Varying {
         Varying {
             at: 0,
@@ -51,7 +52,7 @@ impl Varying {
     }
 }
 
-/// Whether a token is a name that is replaced.
+/// Whether a token is one of these names, which a call replaces.
 fn is_held(alloc: Global, names: &Names, token: &Token<'_>) -> Result<bool, AllocError>
     ensures { IfOk result (λ held. held ≡ is_held (in_call names.now [] 0) (lexeme token.now)) }
 {
@@ -62,7 +63,7 @@ fn is_held(alloc: Global, names: &Names, token: &Token<'_>) -> Result<bool, Allo
     Ok(names.has(&key))
 }
 
-/// Whether some of these tokens is one.
+/// Whether one of these tokens is one of these names.
 fn any_held(alloc: Global, names: &Names, tokens: &[Token<'_>]) -> Result<bool, AllocError>
     ensures { IfOk result (λ held. held ≡ list_any (is_held (in_call names.now [] 0)) (lexemes tokens.now)) }
 {
@@ -74,7 +75,8 @@ fn any_held(alloc: Global, names: &Names, tokens: &[Token<'_>]) -> Result<bool, 
     Ok(false)
 }
 
-/// So many tokens, and one more where this one, the last of them, may go on in it.
+/// `count`, plus one if `token` is a number or a string. When the next token is replaced, a number or string before it may become
+/// longer, so the next token matters too.
 fn with_next(token: &Token<'_>, count: usize) -> usize
     requires { count < 5 }
     ensures { result ≡ with_next (goes_on token.now.kind) count }
@@ -85,7 +87,7 @@ fn with_next(token: &Token<'_>, count: usize) -> usize
     }
 }
 
-/// How many of a line's first tokens say its head, by those behind a name and a colon.
+/// How many first tokens decide the head of a line that begins with a name and a colon, given its tokens after these two.
 fn asked_labelled(rest: &[Token<'_>]) -> usize
     ensures { result ≡ asked_labelled (lexemes rest.now) }
 {
@@ -95,7 +97,8 @@ fn asked_labelled(rest: &[Token<'_>]) -> usize
     }
 }
 
-/// How many of a line's first tokens say its head, and one more where the last of them may go on in that.
+/// How many first tokens of a line decide its head, plus one if the last of these may become longer when the next is replaced. If
+/// the line has too few tokens to say, the answer is 5, which is more than it has.
 fn asked(tokens: &[Token<'_>]) -> usize
     ensures { result ≡ asked (lexemes tokens.now) }
 {
@@ -109,7 +112,8 @@ fn asked(tokens: &[Token<'_>]) -> usize
     }
 }
 
-/// The tokens of a line that are asked for names. Of a word of blocks all are, since it is none where its line is too long.
+/// Those tokens of a line that may change its role if they are replaced. If the line begins with a block word, these are all its
+/// tokens, since the line loses its role when replacement makes it too long.
 fn asked_of<'a, 'b>(role: Role, tokens: &'b [Token<'a>]) -> &'b [Token<'a>]
     ensures { lexemes result.now ≡ asked_of role (lexemes tokens.now) }
 {
@@ -119,7 +123,7 @@ fn asked_of<'a, 'b>(role: Role, tokens: &'b [Token<'a>]) -> &'b [Token<'a>]
     }
 }
 
-/// Whether what a line is to blocks may hang on what these names are replaced by.
+/// Whether the role of a line may depend on what these names are replaced by.
 fn may_vary(alloc: Global, names: &Names, line: &[u8]) -> Result<bool, AllocError>
     ensures { IfOk result (λ varies. varies ≡ may_vary (in_call names.now [] 0) (heard line.now)) }
 {
@@ -132,7 +136,7 @@ fn may_vary(alloc: Global, names: &Names, line: &[u8]) -> Result<bool, AllocErro
     }
 }
 
-/// The place of a line in four bytes, as places in a text of less than 2^32 bytes fit.
+/// The index of a line in four bytes. It fits, since a source has fewer than 2^32 bytes.
 fn place_of(at: usize) -> Result<u32, AllocError>
     ensures { IfOk result (λ place. place ≡ at) }
 {
@@ -142,14 +146,14 @@ fn place_of(at: usize) -> Result<u32, AllocError>
     Ok(place)
 }
 
-/// The places of lines of a body that may be other things to blocks in a call, whatever these names are replaced by.
+/// The indexes of the lines of a body that may have another role in a call than they have as written, whatever the arguments are.
 fn places_of(
     alloc: Global,
     lines: &Lines<'_>,
     names: &Names,
     body: Span,
 ) -> Result<Vec<u32>, AllocError>
-    ensures { IfOk result (λ places. (t : Table) → HasOnly t (in_call names.now [] 0) → Suffice lines.now body.at body.end places.items t) }
+    ensures { IfOk result (λ places. (t : ReplacementTable) → HasOnly t (in_call names.now [] 0) → Suffice lines.now body.at body.end places.items t) }
 {
     asm_replace::laws::unreplaced();
     asm_replace::laws::front_stays();
@@ -164,14 +168,15 @@ fn places_of(
     Ok(places)
 }
 
-/// Whether a role is one of blocks.
+/// Whether a line with this role opens, divides or closes a block.
 fn is_of_blocks(role: Role) -> bool
     ensures { result ≡ is_of_blocks role }
 {
     !matches!(role, Role::Other)
 }
 
-/// Whether a line's first token may be a word of blocks in a call: it is one, or it is replaced, or goes on in what is.
+/// Whether a line's first token may be a block word in a call: it is a block word or one of these names, or it is a number or
+/// string and the next token is one of these names.
 fn first_varies(alloc: Global, names: &Names, tokens: &[Token<'_>]) -> Result<bool, AllocError>
     ensures { IfOk result (λ varies. varies ≡ first_varies (in_call names.now [] 0) (lexemes tokens.now)) }
 {
@@ -185,8 +190,8 @@ fn first_varies(alloc: Global, names: &Names, tokens: &[Token<'_>]) -> Result<bo
     any_held(alloc, names, front)
 }
 
-/// Whether what a line is to blocks may hang on what these names are replaced by, where all these texts are plain to a sign. Behind
-/// a first token that stays and is no word of blocks, nothing makes a line one of blocks but a colon or MACRO.
+/// Whether the role of a line may depend on what these names are replaced by if no argument contains this sign. If the first token
+/// of a line stays as it is and is no block word, only a colon or MACRO as the second token can give the line a role.
 fn may_vary_plain(alloc: Global, names: &Names, sign: Sign, line: &[u8]) -> Result<bool, AllocError>
     ensures { IfOk result (λ varies. varies ≡ may_vary_plain sign (in_call names.now [] 0) line.now) }
 {
@@ -202,7 +207,7 @@ fn may_vary_plain(alloc: Global, names: &Names, sign: Sign, line: &[u8]) -> Resu
     }
 }
 
-/// Of some places those of lines that may be other things to blocks even where all texts that are put in are plain to a sign.
+/// Those of `places` whose lines may have another role in a call even if no argument contains this sign.
 fn places_with(
     alloc: Global,
     lines: &Lines<'_>,
@@ -221,7 +226,7 @@ fn places_with(
     Ok(some)
 }
 
-/// Which lines of a body may be other things to blocks in a call, where these names are replaced.
+/// Finds which lines of a body may have another role in a call that replaces these names.
 pub(crate) fn varying_of(
     alloc: Global,
     lines: &Lines<'_>,
@@ -250,7 +255,7 @@ impl Call {
     ghost use Rattle.std.specs.Prelude.{◌≡◌};
     ghost use Rattle.asm_text.specs.Kept.{asked_places};
 
-    /// The places of the lines that are asked.
+    /// The indexes of the lines that may have another role in this call, given which signs its arguments contain.
     fn asked_places(&self) -> &[u32]
         ensures { result.now ≡ asked_places self.now }
     {
@@ -264,7 +269,7 @@ impl Call {
     }
 }
 
-/// Whether a line, if it is one of a text, is to blocks what it is as it stands.
+/// Whether line `at` has the role in the call that it has as written. Answers true if the line is outside of the span.
 fn stands(
     alloc: Global,
     lines: &Lines<'_>,
@@ -284,8 +289,8 @@ fn stands(
     Ok(shown == plain)
 }
 
-/// Whether all lines of a text of a call are to blocks what they are as they stand. Those alone are read that may be something
-/// else.
+/// Whether each line of a span has the role in the call that it has as written. Reads only the lines that may have another one.
+/// Answers false for a span that is not within the lines that were looked at for this call's macro.
 pub fn all_stand(
     alloc: Global,
     lines: &Lines<'_>,

@@ -1,4 +1,4 @@
--- Which items make an expression, as the code judges them.
+-- The code's test of whether items make an expression.
 use Rattle.std.proofs.Common.{◌≡◌, ◌≢◌, ℕ, Bool, true, false, List, [], ◌∷◌, ◌++◌, Option, Some, None, length, nat_eq, nat_le, ◌&&◌, refl, sym, ap, ◌∙◌, arith}
 use Rattle.std.specs.List.{list_any}
 use Rattle.std.specs.Option.{option_map, option_eq}
@@ -28,7 +28,7 @@ option_is : (o : Option ℕ) → option_eq nat_eq o (Some 1) ≡ true → o ≡ 
 option_is None e = cc
 option_is (Some n) e = ap Some (eqb-true n 1 e)
 
--- The code's test is true of what makes an expression,
+-- The test is true only if the items make an expression,
 pub taken : (items : List (Item Atom)) → is_expr items ≡ true → IsExpr items
 taken items holds =
     let parts = and_parts _ _ holds in
@@ -36,7 +36,7 @@ taken items holds =
     let one = one_of (run items []) (option_is _ front.1) in
     record { tree = one.0; spelled = run-one items one.0 one.1; few = leb-true (length items) 64 front.0; guarded = parts.1 }
 
--- and of all of it.
+-- and it is true if they do.
 pub refused : (items : List (Item Atom)) → is_expr items ≡ false → IsExpr items → ⊥
 refused items fails expr =
     let few : nat_le (length items) 64 ≡ true = le-leb (length items) 64 expr.few in
@@ -65,7 +65,7 @@ empty_parts (x ∷ xs) ys e = cc
 refs-append : (xs ys : List (Item Atom)) → refs (xs ++ ys) ≡ refs xs ++ refs ys
 refs-append xs ys = flat_map-append refs_in xs ys
 
--- The value of an expression without refs is the same at any places.
+-- The value of an expression without refs is the same at any addresses.
 unplaced : (p q : ℕ → ℕ) (e : Expression Atom) → refs (postfix e) ≡ [] → value p e ≡ value q e
 unplaced p q (Leaf (Atom.Number n)) none = refl
 unplaced p q (Leaf (Atom.Ref r)) none = cc

@@ -1,11 +1,11 @@
--- Items in postfix order spell one expression.
+-- Items in postfix order make one expression.
 use Rattle.std.proofs.Common.{◌≡◌, List, [], ◌∷◌, ◌++◌, Some, None, ℕ, ◌+◌, ◌<◌, length, drop, get_or, refl, sym, ap, ◌∙◌, append_assoc, append-nil}
 use Rattle.std.proofs.lemmas.List.{at_drop_more}
 use Rattle.asm_value.specs.Types.{Item, Atom}
 use Rattle.asm_parse.specs.Expression.{Expression, Leaf, Prefix, Infix, postfix, and_then}
 use Rattle.asm_value.specs.Postfix.{put, run, spread, only, tree}
 
--- The items of an expression leave it.
+-- The items of an expression leave that expression.
 pub run-postfix : {L : Type 0} (e : Expression L) (rest : List (Item L)) (before : List (Expression L)) → run (postfix e ++ rest) before ≡ run rest (e ∷ before)
 run-postfix (Leaf l) rest before = refl
 run-postfix (Prefix op a) rest before = rw append_assoc (run-postfix a (Item.Unary op ∷ rest) before)
@@ -24,7 +24,7 @@ put-spread (Item.Binary op) (b ∷ a ∷ before) now e =
     let s : Infix op a b ∷ before ≡ now = cc in
     ap spread (sym s) ∙ simp append_assoc
 
--- What items leave are expressions of just these items.
+-- The expressions that items leave have just these items.
 pub run-spread : {L : Type 0} (items : List (Item L)) (before now : List (Expression L)) → run items before ≡ Some now → spread now ≡ spread before ++ items
 run-spread [] before now e = let s : before ≡ now = cc in ap spread (sym s) ∙ sym (append-nil (spread before))
 run-spread (item ∷ items) before now e =
@@ -33,24 +33,24 @@ run-spread (item ∷ items) before now e =
       | Some middle ↦ λ was more. run-spread items middle now more ∙ ap (λ xs. xs ++ items) (put-spread item before middle was) ∙ append_assoc (spread before) (item ∷ []) items
     ] refl e
 
--- Items that leave one expression alone are its items,
+-- If items leave only one expression, they are its items,
 pub run-one : {L : Type 0} (items : List (Item L)) (e : Expression L) → run items [] ≡ Some (e ∷ []) → postfix e ≡ items
 run-one items e left = run-spread items [] (e ∷ []) left
 
--- and an expression's items leave it alone.
+-- and the items of an expression leave only that expression.
 pub run-whole : {L : Type 0} (items : List (Item L)) (e : Expression L) → postfix e ≡ items → run items [] ≡ Some (e ∷ [])
 run-whole items e spelled = ap (λ xs. run xs []) (sym spelled ∙ sym (append-nil (postfix e))) ∙ run-postfix e [] []
 
 pub tree-postfix : (items : List (Item Atom)) (e : Expression Atom) → postfix e ≡ items → tree items ≡ e
 tree-postfix items e spelled = ap (only (Atom.Number 0)) (run-whole items e spelled)
 
--- One expression at most is spelled.
+-- Items make at most one expression.
 pub one_expression : {L : Type 0} (d e : Expression L) → postfix d ≡ postfix e → d ≡ e
 one_expression d e same =
     let two : Some (d ∷ []) ≡ Some (e ∷ []) = sym (run-whole (postfix d) d refl) ∙ run-whole (postfix d) e (sym same) in
     cc
 
--- What one item more leaves, where in the end some expressions are left.
+-- What one more item leaves, if all items leave some expressions in the end.
 pub next : {L : Type 0} (items : List (Item L)) (k : ℕ) (d : Item L) (values left : List (Expression L)) → run items [] ≡ Some left → run (drop k items) values ≡ run items [] → k < length items
     → (now : List (Expression L)) × (put (get_or items k d) values ≡ Some now) × (run (drop (k + 1) items) now ≡ run items [])
 next {L = L} items k d values left whole runs h =

@@ -13,14 +13,14 @@ use Rattle.asm_value.specs.Items.{value, IsExpr, refs, refs_in}
 use Rattle.asm_value.specs.Private.Steps.{Stacked, arity}
 use Rattle.asm_value.proofs.Postfix.{run-whole, tree-postfix}
 
--- Some items of an expression are read.
+-- The first `read` items of an expression have been read.
 pub record Valued (places : ℕ → ℕ) (items : List (Item Atom)) (stack : List ℕ) (read len : ℕ) : Type 0 where
   pub values : List (Expression Atom)
   pub runs : run (drop read items) values ≡ run items []
   pub stacked : Stacked places values stack len
   pub few : len ≤ read
 
--- A write above the stack changes nothing of it.
+-- A write above the used part of the stack does not change that part.
 pub above : (places : ℕ → ℕ) (values : List (Expression Atom)) (stack : List ℕ) (len at x : ℕ) → len ≤ at → Stacked places values stack len → Stacked places values (set stack at x) len
 above places [] stack len at x h s = s
 above places (e ∷ before) stack len at x h s =
@@ -68,7 +68,7 @@ binary_stacked places op (b ∷ a ∷ before) now stack len x h e s p =
       above places before stack (len - 2) (len - 2) x (omega arith) (subst (Stacked places before stack) (sym second) t.3),
     )
 
--- The stack has what an item takes.
+-- The stack has the operands that an item takes.
 pub enough : (places : ℕ → ℕ) (item : Item Atom) (values now : List (Expression Atom)) (stack : List ℕ) (len : ℕ) → Stacked places values stack len → put item values ≡ Some now → arity item ≤ len
 enough places (Item.Leaf a) values now stack len s p = omega arith
 enough places (Item.Unary op) [] now stack len s p = cc
@@ -80,7 +80,7 @@ enough places (Item.Binary op) (b ∷ a ∷ before) now stack len s p = let t = 
 pub start : (places : ℕ → ℕ) (items : List (Item Atom)) (stack : List ℕ) → Valued places items stack 0 0
 start places items stack = record { values = []; runs = refl; stacked = refl; few = omega arith }
 
--- At the end the lowest number is the value of the whole.
+-- At the end the first number of the stack is the value of the whole.
 pub end : (places : ℕ → ℕ) (items : List (Item Atom)) (stack : List ℕ) (read len : ℕ) → IsExpr items → length items ≤ read → Valued places items stack read len → get_or stack 0 0 ≡ value places (tree items)
 end places items stack read len expr h v =
     let all : Some v.values ≡ Some (expr.tree ∷ []) = sym (at_drop_all (λ is. run is v.values) items read h) ∙ v.runs ∙ run-whole items expr.tree expr.spelled in
@@ -88,7 +88,7 @@ end places items stack read len expr h v =
     let s = subst (λ vs. Stacked places vs stack len) one v.stacked in
     ap (λ k. get_or stack k 0) (sym s.3) ∙ s.2 ∙ ap (value places) (sym (tree-postfix items expr.tree expr.spelled))
 
--- What holds of all refs holds of those in one item.
+-- What holds for all refs holds for those in one item.
 pub refs_at : (P : ℕ → Type 0) (items : List (Item Atom)) (k : ℕ) (d : Item Atom) → k < length items → All P (refs items) → All P (refs_in (get_or items k d))
 refs_at P items k d h all = λ j e within.
     subst P (get_or-flat_map refs_in items k j d e h within)

@@ -1,4 +1,4 @@
--- What stands before each statement, summed up.
+-- Sums of what comes before each statement.
 use Rattle.std.proofs.Common.{◌≡◌, ◌≤◌, ◌<◌, ℕ, zero, suc, ◌+◌, ◌-◌, ◌%◌, Bool, true, false, cond, List, [], ◌∷◌, ◌++◌, Some, length, get_or, inl, inr, length-append, take, drop, slice_get, nat_eq, nat_lt, nat_le, if◌then◌else◌, ◌||◌, refl, sym, ap, subst, ◌∙◌, arith}
 use Rattle.std.specs.List.{list_any, count_by, sum_by}
 use Rattle.std.proofs.lemmas.List.{take-take, drop-take, map-append, length-map, take-append-le, get_or_append_left, get_or-append_right}
@@ -10,15 +10,15 @@ use Rattle.asm_value.specs.Types.{Statement, Worth}
 use Rattle.asm_value.specs.declared.layout.Before.{Before}
 use Rattle.asm_value.specs.declared.layout.Passed.{Passed}
 use Rattle.asm_value.specs.Arithmetic.{modulus}
-use Rattle.asm_value.specs.Distances.{is_relaxable, is_unsized, bytes_of, between, bytes, backwards, distance}
+use Rattle.asm_value.specs.Distances.{is_relaxable, is_unsized, statement_bytes, statements_between, bytes_taken, backwards, distance}
 use Rattle.asm_value.specs.Private.Sums.{IsBefore, AreSummed, statements_of, gap}
 
-split : (f : Statement → ℕ) (s : List Statement) (low high : ℕ) → low ≤ high → sum_by f (take high s) ≡ sum_by f (take low s) + sum_by f (between s low high)
+split : (f : Statement → ℕ) (s : List Statement) (low high : ℕ) → low ≤ high → sum_by f (take high s) ≡ sum_by f (take low s) + sum_by f (statements_between s low high)
 split f s low high h =
     let high_is : low + (high - low) ≡ high = omega (arith, h) in
     let all = sum_by-take-drop f (take high s) low in
     let front = ap (sum_by f) (take-take low high s h) in
-    let back : drop low (take high s) ≡ between s low high = ap (λ k. drop low (take k s)) (sym high_is) ∙ drop-take low (high - low) s in
+    let back : drop low (take high s) ≡ statements_between s low high = ap (λ k. drop low (take k s)) (sym high_is) ∙ drop-take low (high - low) s in
     let back = ap (sum_by f) back in
     omega (arith, all, front, back)
 
@@ -39,14 +39,14 @@ counted p (x ∷ s) =
       | false ↦ λ is. ap (λ b. b || list_any p s) is ∙ counted p s ∙ ap some (sym (let first : cond (p x) 1 0 ≡ 0 = ap (λ b. cond {A = ℕ} b 1 0) is in let same : count_by p (x ∷ s) ≡ count_by p s = omega (arith, sum, first) in same))
     ] refl
 
--- what three sums say
+-- what is known of a size, given three sums
 abbrev tallied : ℕ → ℕ → ℕ → Worth
 tallied relaxable unknown n = if some relaxable then Worth.Varies else if some unknown then Worth.Unknown else Worth.Number (n % modulus)
 
-tally : (s : List Statement) → bytes s ≡ tallied (count_by is_relaxable s) (count_by is_unsized s) (sum_by bytes_of s)
+tally : (s : List Statement) → bytes_taken s ≡ tallied (count_by is_relaxable s) (count_by is_unsized s) (sum_by statement_bytes s)
 tally s =
-    ap (λ b. if b then Worth.Varies else if list_any is_unsized s then Worth.Unknown else Worth.Number (sum_by bytes_of s % modulus)) (counted is_relaxable s)
-    ∙ ap (λ b. if some (count_by is_relaxable s) then Worth.Varies else if b then Worth.Unknown else Worth.Number (sum_by bytes_of s % modulus)) (counted is_unsized s)
+    ap (λ b. if b then Worth.Varies else if list_any is_unsized s then Worth.Unknown else Worth.Number (sum_by statement_bytes s % modulus)) (counted is_relaxable s)
+    ∙ ap (λ b. if some (count_by is_relaxable s) then Worth.Varies else if b then Worth.Unknown else Worth.Number (sum_by statement_bytes s % modulus)) (counted is_unsized s)
 
 neq : (a b : ℕ) → (a ≡ b → ⊥) → nat_eq a b ≡ false
 neq a b differ = elim (nat_eq a b) as (λ r. nat_eq a b ≡ r → r ≡ false) [
@@ -54,7 +54,7 @@ neq a b differ = elim (nat_eq a b) as (λ r. nat_eq a b ≡ r → r ≡ false) [
   | true ↦ λ is. absurd (differ (eqb-true a b is))
 ] refl
 
--- a gap by what its two tests say
+-- a distance, given the results of its two tests
 tested : Before → Before → Bool → Bool → Worth
 tested x y steady known = if steady then (if known then Worth.Number ((x.bytes + (modulus - y.bytes)) % modulus) else Worth.Unknown) else Worth.Varies
 
@@ -78,28 +78,28 @@ back_gap x y (suc r) u n m er eu ex ey = ap (λ b. tested x y b (nat_eq x.unknow
 
 pub gap_distance : (s : List Statement) (p q : ℕ) (x y : Before) → p ≤ length s → q ≤ length s → IsBefore (take p s) x → IsBefore (take q s) y → gap x y ≡ distance s p q
 gap_distance s p q x y hp hq bx by =
-    let inside : distance s p q ≡ (if nat_le q p then bytes (between s q p) else backwards (bytes (between s p q))) =
-    ap (λ b. if b || nat_lt (length s) q then Worth.Varies else if nat_le q p then bytes (between s q p) else backwards (bytes (between s p q))) (le-ltb (length s) p hp)
-    ∙ ap (λ b. if b then Worth.Varies else if nat_le q p then bytes (between s q p) else backwards (bytes (between s p q))) (le-ltb (length s) q hq) in
-    sym (inside ∙ elim (nat_le q p) as (λ b. nat_le q p ≡ b → (if b then bytes (between s q p) else backwards (bytes (between s p q))) ≡ gap x y) [
+    let inside : distance s p q ≡ (if nat_le q p then bytes_taken (statements_between s q p) else backwards (bytes_taken (statements_between s p q))) =
+    ap (λ b. if b || nat_lt (length s) q then Worth.Varies else if nat_le q p then bytes_taken (statements_between s q p) else backwards (bytes_taken (statements_between s p q))) (le-ltb (length s) p hp)
+    ∙ ap (λ b. if b then Worth.Varies else if nat_le q p then bytes_taken (statements_between s q p) else backwards (bytes_taken (statements_between s p q))) (le-ltb (length s) q hq) in
+    sym (inside ∙ elim (nat_le q p) as (λ b. nat_le q p ≡ b → (if b then bytes_taken (statements_between s q p) else backwards (bytes_taken (statements_between s p q))) ≡ gap x y) [
       | true ↦ λ le.
           let le = leb-true q p le in
-          tally (between s q p) ∙ sym (forth_gap x y _ _ _ _ (bx.relaxable ∙ split (λ z. cond (is_relaxable z) 1 0) s q p le ∙ ap (λ k. k + count_by is_relaxable (between s q p)) (sym by.relaxable))
-          (bx.unknown ∙ split (λ z. cond (is_unsized z) 1 0) s q p le ∙ ap (λ k. k + count_by is_unsized (between s q p)) (sym by.unknown))
-          by.bytes (bx.bytes ∙ ap (λ k. k % modulus) (split bytes_of s q p le)))
+          tally (statements_between s q p) ∙ sym (forth_gap x y _ _ _ _ (bx.relaxable ∙ split (λ z. cond (is_relaxable z) 1 0) s q p le ∙ ap (λ k. k + count_by is_relaxable (statements_between s q p)) (sym by.relaxable))
+          (bx.unknown ∙ split (λ z. cond (is_unsized z) 1 0) s q p le ∙ ap (λ k. k + count_by is_unsized (statements_between s q p)) (sym by.unknown))
+          by.bytes (bx.bytes ∙ ap (λ k. k % modulus) (split statement_bytes s q p le)))
       | false ↦ λ lt.
           let less = leb-false q p lt in
           let le : p ≤ q = omega (arith, less) in
-          ap backwards (tally (between s p q)) ∙ sym (back_gap x y _ _ _ _ (by.relaxable ∙ split (λ z. cond (is_relaxable z) 1 0) s p q le ∙ ap (λ k. k + count_by is_relaxable (between s p q)) (sym bx.relaxable))
-          (by.unknown ∙ split (λ z. cond (is_unsized z) 1 0) s p q le ∙ ap (λ k. k + count_by is_unsized (between s p q)) (sym bx.unknown))
-          bx.bytes (by.bytes ∙ ap (λ k. k % modulus) (split bytes_of s p q le)))
+          ap backwards (tally (statements_between s p q)) ∙ sym (back_gap x y _ _ _ _ (by.relaxable ∙ split (λ z. cond (is_relaxable z) 1 0) s p q le ∙ ap (λ k. k + count_by is_relaxable (statements_between s p q)) (sym bx.relaxable))
+          (by.unknown ∙ split (λ z. cond (is_unsized z) 1 0) s p q le ∙ ap (λ k. k + count_by is_unsized (statements_between s p q)) (sym bx.unknown))
+          bx.bytes (by.bytes ∙ ap (λ k. k % modulus) (split statement_bytes s p q le)))
     ] refl)
 
--- One statement more is passed.
-pub pushed : (s : List Statement) (x : Statement) (b after : Before) → IsBefore s b → after.bytes ≡ (b.bytes + bytes_of x) % modulus → after.relaxable ≡ b.relaxable + cond (is_relaxable x) 1 0
+-- One statement more is appended.
+pub pushed : (s : List Statement) (x : Statement) (b after : Before) → IsBefore s b → after.bytes ≡ (b.bytes + statement_bytes x) % modulus → after.relaxable ≡ b.relaxable + cond (is_relaxable x) 1 0
     → after.unknown ≡ b.unknown + cond (is_unsized x) 1 0 → IsBefore (s ++ x ∷ []) after
 pushed s x b after before bytes relaxable unknown = record {
-  bytes = omega (arith, bytes, before.bytes, sum_by_push bytes_of s x);
+  bytes = omega (arith, bytes, before.bytes, sum_by_push statement_bytes s x);
   relaxable = relaxable ∙ ap (λ k. k + cond (is_relaxable x) 1 0) before.relaxable ∙ sym (sum_by_push (λ y. cond (is_relaxable y) 1 0) s x);
   unknown = unknown ∙ ap (λ k. k + cond (is_unsized x) 1 0) before.unknown ∙ sym (sum_by_push (λ y. cond (is_unsized y) 1 0) s x);
 }

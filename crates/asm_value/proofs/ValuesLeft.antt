@@ -4,7 +4,7 @@ use Rattle.asm_value.specs.Types.{Item}
 use Rattle.asm_parse.specs.Expression.{Expression}
 use Rattle.asm_value.specs.Postfix.{run}
 
--- Some items of a list are read, and this many values are left.
+-- The first `read` items of a list have been read, and `left` values are left.
 pub record Leaves {L : Type 0} (items : List (Item L)) (read left : ℕ) : Type 0 where
   pub values : List (Expression L)
   pub runs : run (drop read items) values ≡ run items []

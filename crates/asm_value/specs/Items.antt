@@ -1,4 +1,4 @@
--- Which items make an expression of an object, and what it is worth.
+-- Which items make an expression of an object file, and what its value is.
 use Rattle.std.specs.Prelude.{◌≡◌, ◌≢◌, ◌≤◌, ◌%◌, ℕ, suc, Bool, true, false, not, ◌&&◌, ◌||◌, List, [], ◌∷◌, Option, Some, None, length, nat_lt}
 use Rattle.std.specs.List.{flat_map}
 use Rattle.asm_parse.specs.declared.item.Item.{Item}
@@ -9,7 +9,7 @@ use Rattle.asm_value.specs.Arithmetic.{modulus, unary, binary}
 use Rattle.asm_parse.specs.Expression.{Expression, Leaf, Prefix, Infix, postfix}
 use Rattle.asm_value.specs.Postfix.{tree}
 
--- The value of an expression, modulo 65,536, where each ref has its place.
+-- The value of an expression, modulo 65,536, given the address of each ref.
 abbrev pub value : (ℕ → ℕ) → Expression Atom → ℕ
 value places (Leaf (Atom.Number n)) = n
 value places (Leaf (Atom.Ref r)) = places r % modulus
@@ -20,12 +20,12 @@ abbrev pub is_division : Item Atom → Bool
 is_division (Item.Binary op) = divides op
 is_division _ = false
 
--- a number that is not 0
+-- whether an item is a number other than 0
 abbrev pub is_divisor : Item Atom → Bool
 is_divisor (Item.Leaf (Atom.Number (suc n))) = true
 is_divisor _ = false
 
--- Each division stands directly behind a number that is not 0. The first item here stands behind some item.
+-- Whether each division comes directly after a number other than 0, given the item before the first one here.
 abbrev pub is_guarded_behind : Item Atom → List (Item Atom) → Bool
 is_guarded_behind before [] = true
 is_guarded_behind before (item ∷ items) = (not (is_division item) || is_divisor before) && is_guarded_behind item items
@@ -34,7 +34,8 @@ abbrev pub is_guarded : List (Item Atom) → Bool
 is_guarded [] = true
 is_guarded (item ∷ items) = is_guarded_behind item items
 
--- The items of an expression in an object: they leave one value, are not more than the most items, and divide only by numbers that are not 0.
+-- These are the items of an expression of an object file: they leave one value, are at most `MOST_ITEMS`, and divide only by
+-- numbers other than 0.
 pub record IsExpr (items : List (Item Atom)) : Type 0 where
   pub tree : Expression Atom
   pub spelled : postfix tree ≡ items
@@ -53,12 +54,12 @@ refs_in _ = []
 abbrev pub refs : List (Item Atom) → List ℕ
 refs items = flat_map refs_in items
 
--- The number is the value at any places, and there is no ref; or there is one.
+-- There is no ref, and the number is the value at any addresses; or there is a ref.
 abbrev pub IsConstant : List (Item Atom) → Option ℕ → Type 0
 IsConstant items (Some n) = (refs items ≡ []) × ((places : ℕ → ℕ) → value places (tree items) ≡ n)
 IsConstant items None = refs items ≢ []
 
--- An item is no ref that is this number or above.
+-- Whether an item is no ref, or one that is less than `count`.
 abbrev pub is_within : ℕ → Item Atom → Bool
 is_within count (Item.Leaf (Atom.Ref r)) = nat_lt r count
 is_within count _ = true

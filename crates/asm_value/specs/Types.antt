@@ -1,4 +1,4 @@
--- The types of items and of statements, in one place for this crate.
+-- The types of items and of statements, in one module for this crate.
 pub use Rattle.asm_parse.specs.declared.operator.Unary.{Unary}
 pub use Rattle.asm_parse.specs.declared.operator.Binary.{Binary}
 pub use Rattle.asm_parse.specs.declared.item.Item.{Item}

@@ -1,11 +1,11 @@
-//! What the operators make of numbers of 16 bits.
+//! The operators on numbers of 16 bits.
 
 ghost use Rattle.std.specs.Prelude.{◌≡◌};
 ghost use Rattle.asm_value.specs.Arithmetic.{binary, truth, unary};
 
 use asm_parse::{Binary, Unary};
 
-/// What an operator makes of the number behind it, modulo 65,536.
+/// The result of a prefix operator, modulo 65,536.
 pub fn apply_unary(op: Unary, number: u16) -> u16
     ensures { result ≡ unary op number }
 {
@@ -17,14 +17,14 @@ pub fn apply_unary(op: Unary, number: u16) -> u16
     }
 }
 
-/// What a comparison gives.
+/// The result of a comparison: FFFFH if it holds, 0 otherwise.
 fn truth(holds: bool) -> u16
     ensures { result ≡ truth holds }
 {
     if holds { u16::MAX } else { 0 }
 }
 
-/// What an operator makes of two numbers, unsigned and modulo 65,536. A division by 0 gives 0.
+/// The result of an infix operator on two numbers, unsigned and modulo 65,536. A division by 0 gives 0.
 pub fn apply_binary(op: Binary, a: u16, b: u16) -> u16
     ensures { result ≡ binary op a b }
 {

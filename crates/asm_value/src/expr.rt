@@ -22,8 +22,8 @@ use std::rc::Rc;
 /// The most items that an expression may have.
 pub const MOST_ITEMS: usize = 64;
 
-/// An expression whose names are replaced: its items in postfix order, 64 at most. They leave one value, and a
-/// division stands only directly behind a number that is not 0.
+/// An expression whose names are replaced: at most 64 items in postfix order. They leave one value, and a division comes only
+/// directly after a number that is not 0.
 #[derive(Debug, Drop)]
 pub struct Expr {
     items: Kept,
@@ -44,7 +44,7 @@ impl Model for Expr {
     ghost invariant = { λ e. IsExpr (kept e.items) };
 }
 
-/// How many values the items leave, or None where an operator lacks an operand.
+/// How many values the items leave; None if an operator lacks an operand.
 pub fn values_left<L>(items: &[Item<L>]) -> Option<usize>
     ensures { result ≡ option_map length (run items.now []) }
 {
@@ -77,7 +77,7 @@ fn is_division(item: &Item<Atom>) -> bool
     }
 }
 
-/// Whether the item is a number that is not 0.
+/// Whether the item is a number other than 0.
 fn is_divisor(item: &Item<Atom>) -> bool
     ensures { result ≡ is_divisor item.now }
 {
@@ -87,7 +87,7 @@ fn is_divisor(item: &Item<Atom>) -> bool
     }
 }
 
-/// Whether each division stands directly behind a number that is not 0.
+/// Whether each division comes directly after a number other than 0.
 fn is_guarded(items: &[Item<Atom>]) -> bool
     ensures { result ≡ is_guarded items.now }
 {
@@ -112,7 +112,7 @@ fn is_expr(items: &[Item<Atom>]) -> bool
 }
 
 impl Expr {
-    /// The expression of items that are known to make one, kept as they are. [`Expr::of`] looks whether a list makes one.
+    /// The expression of items that are known to make one, kept as they are. [`Expr::of`] tests whether a list makes one.
     pub fn known(items: Kept) -> Expr
         requires { IsExpr (kept items) }
         ensures { result ≡ kept items }
@@ -129,7 +129,7 @@ impl Expr {
         }
     }
 
-    /// The expression of these items, or None where they make none.
+    /// The expression of these items; None if they make none.
     pub fn of(items: Vec<Item<Atom>>) -> Option<Expr>
         ensures { MatchOption result (IsExpr items.items → ⊥) (λ expr. (expr ≡ items.items) × IsExpr items.items) }
     {
@@ -142,14 +142,14 @@ impl Expr {
         }
     }
 
-    /// The items in postfix order, where they lie side by side. Those of most expressions do.
+    /// The items in postfix order, if they are side by side in memory, as those of most expressions are.
     pub fn side_by_side(&self) -> Option<&[Item<Atom>]>
         ensures { IfSome result (λ items. (items.now ≡ self.now) × IsExpr self.now) }
     {
         self.items.side_by_side()
     }
 
-    /// The same expression, so kept that others may have its items.
+    /// The same expression, with its items kept so that other expressions can share them.
     pub fn into_shared(self, alloc: Global) -> Result<Expr, AllocError>
         ensures { IfOk result (λ shared. shared ≡ self) }
     {
@@ -159,12 +159,12 @@ impl Expr {
         })
     }
 
-    /// The same expression once more, where that copies no list: it has one item, or its items are so kept that others may have
-    /// them. None where it would.
+    /// The same expression once more, if that copies no list: if it has one item, or its items are kept so that others can share
+    /// them. None otherwise.
     ///
     /// # Errors
     ///
-    /// Where no more expressions can have these items.
+    /// `AllocError` if the items already have as many owners as a list can have.
     pub fn again(&self) -> Result<Option<Expr>, AllocError>
         ensures { IfOk result (λ answer. IfSome answer (λ expr. expr ≡ self.now)) }
     {
@@ -179,7 +179,7 @@ impl Expr {
         }
     }
 
-    /// The items in postfix order, where they are so kept that other expressions may have them; None where they are not.
+    /// The items in postfix order, if they are kept so that other expressions can share them; None otherwise.
     pub fn shared(&self) -> Option<&Rc<Vec<Item<Atom>>>>
         ensures { IfSome result (λ items. items.now.value.items ≡ self.now) }
     {
@@ -190,7 +190,7 @@ impl Expr {
     }
 }
 
-/// The items in postfix order. Where they do not lie side by side, they are written into the room.
+/// The items in postfix order. If they are not side by side in memory, they are written into the room.
 pub fn items<'a>(expr: &'a Expr, room: &'a mut Room) -> &'a [Item<Atom>]
     ensures items { result.now ≡ expr.now }
     ensures expr { IsExpr expr.now }
@@ -198,7 +198,8 @@ pub fn items<'a>(expr: &'a Expr, room: &'a mut Room) -> &'a [Item<Atom>]
     laid(&expr.items, room)
 }
 
-/// Takes one item more: the first `len` numbers of the stack are in use, and afterwards as many as are answered.
+/// Evaluates one more item. The first `len` numbers of the stack are in use before, and as many as the answer says are in use
+/// after.
 fn take_item(stack: &mut [u16], len: usize, item: Item<Atom>, places: &[u16]) -> usize
     requires room { len < length stack.old }
     requires operands { arity item ≤ len }
@@ -227,7 +228,7 @@ fn take_item(stack: &mut [u16], len: usize, item: Item<Atom>, places: &[u16]) ->
     }
 }
 
-/// The value of some items where each ref has its place in `places`, modulo 65,536.
+/// The value of some items, modulo 65,536, with the address of each ref in `places`.
 fn value_of(items: &[Item<Atom>], places: &[u16]) -> u16
     requires expr { IsExpr items.now }
     requires placed { All (λ r. r < length places.now) (refs items.now) }
@@ -241,8 +242,8 @@ fn value_of(items: &[Item<Atom>], places: &[u16]) -> u16
     stack[0]
 }
 
-/// The value of an expression whose items do not lie side by side, where each ref has its place in `places`. Few are such, and the
-/// room for its items takes time to make.
+/// The value of an expression whose items are not side by side in memory, with the address of each ref in `places`. Few expressions
+/// are like that, and only they need the time to make room for the items.
 #[inline(never)]
 fn value_gathered(expr: &Expr, places: &[u16]) -> u16
     requires { All (λ r. r < length places.now) (refs expr.now) }
@@ -251,7 +252,7 @@ fn value_gathered(expr: &Expr, places: &[u16]) -> u16
     value_of(items(expr, &mut Room::new()), places)
 }
 
-/// The value of an expression where each ref has its place in `places`, modulo 65,536.
+/// The value of an expression, modulo 65,536, with the address of each ref in `places`.
 pub fn value(expr: &Expr, places: &[u16]) -> u16
     requires { All (λ r. r < length places.now) (refs expr.now) }
     ensures { result ≡ value (λ r. slice_index places.now r) (tree expr.now) }
@@ -271,14 +272,14 @@ fn is_within(item: &Item<Atom>, count: usize) -> bool
     }
 }
 
-/// Whether all refs are below a count.
+/// Whether all refs in these items are less than `count`.
 fn are_within(items: &[Item<Atom>], count: usize) -> bool
     ensures { result ≡ list_all (is_within count) items.now }
 {
     items.iter().all(|item| is_within(item, count))
 }
 
-/// Whether all refs of an expression whose items do not lie side by side are below a count.
+/// Whether all refs are less than `count`, in an expression whose items are not side by side in memory.
 #[inline(never)]
 fn are_within_gathered(expr: &Expr, count: usize) -> bool
     ensures { result ≡ list_all (is_within count) expr.now }
@@ -286,7 +287,7 @@ fn are_within_gathered(expr: &Expr, count: usize) -> bool
     are_within(items(expr, &mut Room::new()), count)
 }
 
-/// Whether each ref has a place among so many.
+/// Whether each ref of an expression is less than `count`, so that `count` addresses are enough.
 pub fn has_places(expr: &Expr, count: usize) -> bool
     ensures { IsTrue result ↔ All (λ r. r < count) (refs expr.now) }
 {
@@ -308,7 +309,7 @@ fn has_ref(items: &[Item<Atom>]) -> bool
     items.iter().any(is_ref)
 }
 
-/// The value of an expression without refs, which is the same at any places; None where it has a ref.
+/// The value of an expression without refs, which is the same at any addresses; None if it has a ref.
 pub fn constant(expr: &Expr) -> Option<u16>
     ensures { IsConstant expr.now result }
 {

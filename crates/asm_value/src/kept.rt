@@ -1,4 +1,4 @@
-//! How the items of an expression are kept.
+//! How the items of an expression are kept in memory.
 
 ghost use Rattle.std.specs.Prelude.{◌≡◌, ◌≤◌, IfErr, IfOk, IfSome, length, take};
 ghost use Rattle.std.specs.List.{flat_map};
@@ -11,33 +11,33 @@ use asm_parse::Item;
 use std::alloc::{AllocError, Global};
 use std::rc::Rc;
 
-/// A part of the items of an expression: one, or those of an EQU's expression, which all that name it have in common.
+/// A part of the items of an expression: one item, or all items of an EQU's expression, which all expressions that name it share.
 #[derive(Debug, Drop)]
 pub enum Piece {
     One([Item<Atom>; 1]),
     Shared(Rc<Vec<Item<Atom>>>),
 }
 
-/// The items of an expression. One alone lies in place.
+/// The items of an expression. A single item is kept in place.
 #[derive(Debug, Drop)]
 pub enum Kept {
     One([Item<Atom>; 1]),
-    /// A list that no other expression has.
+    /// A list that no other expression shares.
     Many(Vec<Item<Atom>>),
     /// The list of an EQU's expression.
     Shared(Rc<Vec<Item<Atom>>>),
-    /// Some of them are those of EQU names' expressions.
+    /// Pieces. Some are the shared lists of EQU names.
     Pieces(Vec<Piece>),
 }
 
-/// Room for the items of an expression that do not lie side by side.
+/// Room for the items of an expression that are not side by side in memory.
 #[derive(Debug, Drop)]
 pub struct Room {
     items: [Item<Atom>; MOST_ITEMS],
 }
 
 impl Piece {
-    /// The items, in order.
+    /// The items of a piece, in order.
     pub fn items(&self) -> &[Item<Atom>]
         ensures { result.now ≡ items_in self.now }
     {
@@ -48,7 +48,7 @@ impl Piece {
     }
 }
 
-/// The items of some pieces, in order, as a list of its own.
+/// The items of some pieces, in order, as one new list.
 fn joined(alloc: Global, pieces: &[Piece]) -> Result<Vec<Item<Atom>>, AllocError>
     ensures { IfOk result (λ items. items.items ≡ flat_map items_in pieces.now) }
 {
@@ -60,7 +60,7 @@ fn joined(alloc: Global, pieces: &[Piece]) -> Result<Vec<Item<Atom>>, AllocError
 }
 
 impl Kept {
-    /// The items, in order, where they lie side by side; else the pieces of which they are.
+    /// The items, in order, if they are side by side in memory; otherwise the pieces that they consist of.
     fn list_or_pieces(&self) -> Result<&[Item<Atom>], &[Piece]>
         ensures list { IfOk result (λ items. items.now ≡ kept self.now) }
         ensures pieces { IfErr result (λ pieces. flat_map items_in pieces.now ≡ kept self.now) }
@@ -73,14 +73,14 @@ impl Kept {
         }
     }
 
-    /// The items, in order, where they lie side by side.
+    /// The items, in order, if they are side by side in memory.
     pub(crate) fn side_by_side(&self) -> Option<&[Item<Atom>]>
         ensures { IfSome result (λ items. items.now ≡ kept self.now) }
     {
         self.list_or_pieces().ok()
     }
 
-    /// The same items, so kept that other expressions may have them.
+    /// The same items, kept so that other expressions can share them.
     pub(crate) fn into_shared(self, alloc: Global) -> Result<Kept, AllocError>
         ensures { IfOk result (λ shared. kept shared ≡ kept self) }
     {
@@ -93,7 +93,7 @@ impl Kept {
 }
 
 impl Room {
-    /// Room into which nothing is written yet.
+    /// A room into which nothing has been written yet.
     pub fn new() -> Room {
         Room {
             items: [Item::Leaf(Atom::Number(0)); MOST_ITEMS],
@@ -101,7 +101,7 @@ impl Room {
     }
 }
 
-/// Writes the items of some pieces into the room, in order, and returns how many there are.
+/// Writes the items of some pieces into the room, in order, and answers how many there are.
 fn gather(pieces: &[Piece], room: &mut Room) -> usize
     requires { length (flat_map items_in pieces.now) ≤ MOST_ITEMS }
     ensures gathered { take result room.new.items ≡ flat_map items_in pieces.now }
@@ -116,7 +116,7 @@ fn gather(pieces: &[Piece], room: &mut Room) -> usize
     len
 }
 
-/// The items, in order. Where they do not lie side by side, they are written into the room.
+/// The items, in order. If they are not side by side in memory, they are written into the room.
 pub(crate) fn laid<'a>(items: &'a Kept, room: &'a mut Room) -> &'a [Item<Atom>]
     requires { length (kept items.now) ≤ MOST_ITEMS }
     ensures { result.now ≡ kept items.now }

@@ -10,8 +10,8 @@ use crate::worth::Worth;
 use std::alloc::{AllocError, Global};
 use std::marker::Model;
 
-/// What stands before a place: how many bytes of known sizes, modulo 65,536, how many relaxable jumps, and how many
-/// statements of a size that is not known.
+/// What comes before an address: how many bytes of known sizes, modulo 65,536, how many relaxable jumps, and how many statements of
+/// unknown size.
 #[derive(Clone, Copy, Debug)]
 struct Before {
     bytes: u16,
@@ -19,7 +19,7 @@ struct Before {
     unknown: usize,
 }
 
-/// How far a place lies behind another, by what stands before each.
+/// How far the address p is after the address q, given what comes before each.
 fn gap(p: Before, q: Before) -> Worth
     ensures { result ≡ gap p q }
 {
@@ -32,15 +32,15 @@ fn gap(p: Before, q: Before) -> Worth
     }
 }
 
-/// A statement, and what stands before it.
+/// A statement, and what comes before it.
 #[derive(Clone, Copy, Debug)]
 struct Passed {
     statement: Statement,
     before: Before,
 }
 
-/// Statements in order, each as its size, and the distances between their places. Clauses see the list of statements. A distance
-/// takes the same time whatever stands between.
+/// Statements in order, each as its size, and the distances between their addresses. Clauses see the list of statements. Finding a
+/// distance takes constant time, whatever is between.
 #[derive(Debug, Drop)]
 pub struct Layout {
     passed: Vec<Passed>,
@@ -60,7 +60,7 @@ impl Model for Layout {
 }
 
 impl Layout {
-    /// No statements.
+    /// A layout of no statements.
     pub fn new(alloc: Global) -> Layout
         ensures { result ≡ [] }
     {
@@ -74,7 +74,7 @@ impl Layout {
         }
     }
 
-    /// No statements, with room for so many.
+    /// A layout of no statements, with room for this many.
     pub fn with_capacity(alloc: Global, count: usize) -> Result<Layout, AllocError>
         ensures { IfOk result (λ layout. layout ≡ []) }
     {
@@ -88,14 +88,14 @@ impl Layout {
         })
     }
 
-    /// How many statements have passed.
+    /// How many statements there are so far.
     pub fn len(&self) -> usize
         ensures { result ≡ length self.now }
     {
         self.passed.len()
     }
 
-    /// Passes a statement, which stands behind all others. Where memory is lacking the statements are as they were.
+    /// Appends a statement. If memory runs out, the statements stay as they were.
     pub fn pass(&mut self, statement: Statement) -> Result<(), AllocError>
         ensures ok { OnOk result (self.new ≡ self.old ++ statement ∷ []) }
         ensures err { OnErr result (self.new ≡ self.old) }
@@ -112,7 +112,7 @@ impl Layout {
         Ok(())
     }
 
-    /// What stands before a statement, or before the end; None of a number past it.
+    /// What comes before a statement, or before the end; None for a number past the end.
     fn before(&self, statement: u16) -> Option<Before>
         ensures { MatchOption result (length self.now < statement) (λ b. (statement ≤ length self.now) × IsBefore (take statement self.now) b) }
     {
@@ -124,9 +124,10 @@ impl Layout {
         }
     }
 
-    /// How far statement `p` lies behind statement `q`, modulo 65,536, each by its number from 0: a number where each size between them
-    /// is known, no number is known over one that is not, and it varies where a relaxable jump stands between, whatever else. The
-    /// number of all statements is the place of their end. A number past that is no statement's: the distance from it varies.
+    /// How far statement `p` is after statement `q`, modulo 65,536. Both are numbers from 0, and the number of all statements means
+    /// their end. The answer is a number if no relaxable jump is between the two and each size between them is known. It is
+    /// `Varies` if a relaxable jump is between them, whatever else is, and otherwise `Unknown` if a size is not known. It is also
+    /// `Varies` if `p` or `q` is past the end, since then it is no statement.
     pub fn distance(&self, p: u16, q: u16) -> Worth
         ensures { result ≡ distance self.now p q }
     {
@@ -136,7 +137,7 @@ impl Layout {
         }
     }
 
-    /// How far statement `p` lies from a place that is not known: it varies for a number past the end, else no number is known.
+    /// How far statement `p` is from an address that is not known: `Varies` if `p` is past the end, otherwise `Unknown`.
     pub fn some_distance(&self, p: u16) -> Worth
         ensures { result ≡ some_distance self.now p }
     {

@@ -1,4 +1,4 @@
--- The sizes of statements, the bytes before one, and whether a short jump reaches its target.
+-- The sizes of statements, the bytes before a statement, and whether a short jump reaches its target.
 use Rattle.std.proofs.Common.{◌≡◌, ℕ, zero, suc, ◌+◌, ◌-◌, ◌^◌, ◌<◌, ◌≤◌, Bool, true, false, List, [], ◌∷◌, All, length, refl, ap, sym, subst, ◌∙◌, arith, get_or, get_or-set_same, get_or-set_other, add-one, inl, inr, MatchBool, ◌⊎◌, not, sum, take, drop, nat_le}
 use Rattle.std.specs.Option.{option_map_or}
 use Rattle.std.specs.Prelude.{slice_set as set, slice_get}
@@ -16,7 +16,7 @@ use Rattle.cert_check.specs.Private.Following.{IsLayout, IsSize}
 
 -- Sums of sizes.
 
--- not too many of them are added up within a machine's number
+-- the sum of all sizes fits 32 bits
 pub bytes_fit : (sizes : List ℕ) → All IsSize sizes → length sizes ≤ MOST_STATEMENTS → sum sizes < 2 ^ 32
 bytes_fit sizes bytes few = let le = sum_by-le (λ x. x) MOST_BYTES sizes (λ k d lt. (bytes k d lt).1) in omega arith
 
@@ -27,7 +27,7 @@ at_least (n ∷ ns) bytes =
     let rest = at_least ns (All-tail IsSize n ns bytes) in
     omega (arith, sum_by-cons (λ (x : ℕ). x) n ns)
 
--- more statements than a limit take more bytes than it
+-- more than `limit` statements take more than `limit` bytes
 pub too_many : (sizes : List ℕ) (limit : ℕ) → All IsSize sizes → limit < length sizes → MatchBool (nat_le (length sizes) limit) (sum sizes ≤ limit) (limit < sum sizes)
 too_many sizes limit bytes lt = by_test (nat_le (length sizes) limit) refl
   where
@@ -35,7 +35,7 @@ too_many sizes limit bytes lt = by_test (nat_le (length sizes) limit) refl
     by_test true e = let le = leb-true (length sizes) limit e in absurd (omega arith)
     by_test false e = let least = at_least sizes bytes in omega arith
 
--- a part is the difference of two sums
+-- the bytes from a to b are the difference of two sums
 part : (sizes : List ℕ) (a b : ℕ) → a ≤ b → sum (take a sizes) + sum (take (b - a) (drop a sizes)) ≡ sum (take b sizes)
 part sizes a b le =
     let whole = sum_by-take-drop (λ (x : ℕ). x) (take (a + (b - a)) sizes) a in
@@ -48,19 +48,19 @@ ahead sizes k t lt within short =
     let whole = part sizes (k + 1) t (omega arith) in
     omega arith
 
--- the bytes up to a target ahead tell whether it is reached
+-- if the target comes after the jump, the bytes between them say whether the jump reaches it
 pub reached_ahead : (sizes : List ℕ) (k t : ℕ) (r : Bool) → k < t → k < length sizes → get_or sizes k 0 ≡ 2 → MatchBool r (sum (take (t - (k + 1)) (drop (k + 1) sizes)) ≤ 127) (127 < sum (take (t - (k + 1)) (drop (k + 1) sizes))) → MatchBool r (IsNear (sum (take k sizes)) (sum (take t sizes))) (¬ IsNear (sum (take k sizes)) (sum (take t sizes)))
 reached_ahead sizes k t true lt within short near = let e = ahead sizes k t lt within short in (omega arith, omega arith)
 reached_ahead sizes k t false lt within short far = λ near. (let e = ahead sizes k t lt within short in let high = near.1 in absurd (omega arith))
 
--- and so do those from a target behind
+-- if the target comes first, the bytes from there to the jump say whether the jump reaches it
 pub reached_back : (sizes : List ℕ) (k t : ℕ) (r : Bool) → t ≤ k → MatchBool r (sum (take (k - t) (drop t sizes)) ≤ 126) (126 < sum (take (k - t) (drop t sizes))) → MatchBool r (IsNear (sum (take k sizes)) (sum (take t sizes))) (¬ IsNear (sum (take k sizes)) (sum (take t sizes)))
 reached_back sizes k t true le near = let e = part sizes t k le in (omega arith, omega arith)
 reached_back sizes k t false le far = λ near. (let e = part sizes t k le in let low = near.0 in absurd (omega arith))
 
 -- The bytes before a statement.
 
--- the sum of the sizes before a statement is what the choice takes there
+-- the sum of the sizes before a statement is what the choice takes up to there
 pub sum_before : (c : Choice) (shape : List Statement) (sizes : List ℕ) → ((k : ℕ) → get_or sizes k 0 ≡ size_at c shape k) → (k : ℕ) → k ≤ length sizes → sum (take k sizes) ≡ bytes_before c shape k
 unfolding bytes_before
 sum_before c shape sizes each zero le = refl
@@ -96,12 +96,12 @@ module _ (shape : List Statement) (long : List Bool) (sizes : List ℕ) (layout 
   same_target u (inr a) (inl b) = let jump = a.0 in absurd (cc)
   same_target u (inr a) (inr b) = let one = a.0 in let other = b.0 in cc
 
-  -- a jump that is short is still short where it does not reach its target
+  -- a short jump that does not reach its target is still short
   pub still : (r : Bool) → IsShort shape k t ⊎ (IsJump shape k t × (chosen long k ≡ false)) → MatchBool r (IsNear (sum (take k sizes)) (sum (take t sizes))) (¬ IsNear (sum (take k sizes)) (sum (take t sizes))) → MatchBool (not r) (IsStillShort (chosen long) shape k) (¬ IsStillShort (chosen long) shape k)
   still true jump near = λ s. s.misses (subst (λ u. Reaches (chosen long) shape k u) (sym (same_target s.target jump s.jump)) (reaches near))
   still false jump far = record { target = t; jump = jump; misses = λ near. far (reached near) }
 
--- a size for each statement is a layout
+-- flags and the sizes that go with them are a layout
 pub laid : (shape : List Statement) (long : List Bool) (sizes : List ℕ) → IsShape shape → length long ≡ length shape → length sizes ≡ length shape → ((k : ℕ) → k < length shape → get_or sizes k 0 ≡ size_at (chosen long) shape k) → All IsSize sizes → IsLayout shape long sizes
 laid shape long sizes is_shape len count each bytes = record {
   is_shape = is_shape;
@@ -114,7 +114,7 @@ laid shape long sizes is_shape len count each bytes = record {
   bytes = bytes;
 }
 
--- and once a jump more is long
+-- after one more jump becomes long, they still are
 pub longer : (shape : List Statement) (long : List Bool) (sizes : List ℕ) (k t : ℕ) → IsLayout shape long sizes → IsJump shape k t → IsLayout shape (set long k true) (set sizes k 3)
 longer shape long sizes k t layout jump =
     let within = slice_get_within shape k (Jump t) jump in

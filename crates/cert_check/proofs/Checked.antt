@@ -1,4 +1,4 @@
--- What two texts come to, and that it is one thing.
+-- What two files prove, or their first error; there is only one such answer.
 use Rattle.std.proofs.Common.{◌≡◌, ℕ, Bool, List, Result, Ok, Err, refl, ap, sym, subst, ◌∙◌, ◌⊎◌, inl, inr, length}
 use Rattle.std.proofs.Math.Path.{fun_ext}
 use Rattle.certificate.specs.declared.shape.Statement.{Statement}
@@ -12,19 +12,19 @@ use Rattle.certificate.specs.Texts.{ReadsSizes, ReadsCert}
 use Rattle.certificate.specs.Accepts.{Accepts}
 use Rattle.cert_check.specs.Types.{CheckFault}
 use Rattle.cert_check.specs.declared.fault.CheckFault.TheVariants.{BadSizes, BadCertificate, NotForced, NotAJump, Repeated, StillShort, WrongTotal, NotOutOfRange, NoMemory}
-use Rattle.cert_check.specs.Faults.{Stands, verdict_faults, faults, FirstOf}
+use Rattle.cert_check.specs.Faults.{HasCheckFault, verdict_faults, faults, FirstOf}
 use Rattle.cert_check.specs.Checks.{HasBadCertificate, HasFirstFault, Checks, IsChecked}
 use Rattle.cert_check.specs.Private.Following.{Follows, IsFollowed, IsJudged}
 use Rattle.cert_check.proofs.FirstFaults.{first_one, first_none, not_a_jump, repeated, not_forced, judged_fault, none_wrong}
 
--- that a text comes to one thing alone
+-- the law that a sizes file has one shape
 abbrev pub IsOneShape : Type 0
 IsOneShape = (text : List ℕ) (a b : Result (List Statement) TextFault) → ReadsSizes text a → ReadsSizes text b → a ≡ b
 
 abbrev pub IsOneCert : Type 0
 IsOneCert = (text : List ℕ) (a b : Result (List ℕ × Verdict) TextFault) → ReadsCert text a → ReadsCert text b → a ≡ b
 
--- an answer by its form
+-- the forms that an answer may have
 data View (sizes cert : List ℕ) (a : Result Verdict CheckFault) : Type 0 where
   accepted : (v : Verdict) → a ≡ Ok v → Accepts sizes cert v → View sizes cert a
   bad_sizes : (line : ℕ) → a ≡ Err (BadSizes line) → ReadsSizes sizes (Err (BadLine line)) → View sizes cert a
@@ -56,16 +56,16 @@ module _ (one_shape : IsOneShape) (one_cert : IsOneCert) (sizes cert : List ℕ)
       let pair : ◌≡◌ {A = List ℕ × Verdict} (o, v) (p, w) = cc in
       (ap (λ (x : List ℕ × Verdict). x.0) pair, ap (λ (x : List ℕ × Verdict). x.1) pair)
 
-  same_first : (f : CheckFault) (h : HasFirstFault sizes cert f) (shape : List Statement) (order : List ℕ) (verdict : Verdict) → ReadsSizes sizes (Ok shape) → ReadsCert cert (Ok (order, verdict)) → FirstOf (Stands shape order verdict) (faults shape order verdict) f
+  same_first : (f : CheckFault) (h : HasFirstFault sizes cert f) (shape : List Statement) (order : List ℕ) (verdict : Verdict) → ReadsSizes sizes (Ok shape) → ReadsCert cert (Ok (order, verdict)) → FirstOf (HasCheckFault shape order verdict) (faults shape order verdict) f
   same_first f h shape order verdict p q =
       let certs = same_cert h.order order h.verdict verdict h.cert_is q in
-      subst (λ v. FirstOf (Stands shape order v) (faults shape order v) f) certs.1
-      (subst (λ o. FirstOf (Stands shape o h.verdict) (faults shape o h.verdict) f) certs.0
-      (subst (λ s. FirstOf (Stands s h.order h.verdict) (faults s h.order h.verdict) f) (same_shape h.shape shape h.sizes_are p) h.first))
+      subst (λ v. FirstOf (HasCheckFault shape order v) (faults shape order v) f) certs.1
+      (subst (λ o. FirstOf (HasCheckFault shape o h.verdict) (faults shape o h.verdict) f) certs.0
+      (subst (λ s. FirstOf (HasCheckFault s h.order h.verdict) (faults s h.order h.verdict) f) (same_shape h.shape shape h.sizes_are p) h.first))
 
   good_or_refused : (v : Verdict) (f : CheckFault) → Accepts sizes cert v → HasFirstFault sizes cert f → ⊥
   good_or_refused v f a h =
-      first_none (Stands a.shape a.order v) (faults a.shape a.order v) f (none_wrong a.shape a.order v a.forcing a.shown) (same_first f h a.shape a.order v (a.is_shape, a.sizes_are) (a.is_cert, a.cert_is))
+      first_none (HasCheckFault a.shape a.order v) (faults a.shape a.order v) f (none_wrong a.shape a.order v a.forcing a.shown) (same_first f h a.shape a.order v (a.is_shape, a.sizes_are) (a.is_cert, a.cert_is))
 
   one_view : (a b : Result Verdict CheckFault) → View sizes cert a → View sizes cert b → a ≡ b
   one_view a b (accepted v e p) (accepted w d q) = e ∙ ap Ok (same_cert p.order q.order v w (p.is_cert, p.cert_is) (q.is_cert, q.cert_is)).1 ∙ sym d
@@ -90,12 +90,12 @@ module _ (one_shape : IsOneShape) (one_cert : IsOneCert) (sizes cert : List ℕ)
   one_view a b (refused f e p) (bad_sizes n d q) = absurd (no_ok _ _ (one_shape sizes (Ok p.shape) (Err (BadLine n)) p.sizes_are q))
   one_view a b (refused f e p) (bad_cert n d q) = absurd (no_ok _ _ (one_cert cert (Ok (p.order, p.verdict)) (Err (BadLine n)) p.cert_is q.bad))
   one_view a b (refused f e p) (refused g d q) =
-      e ∙ ap Err (first_one (Stands p.shape p.order p.verdict) (faults p.shape p.order p.verdict) f g p.first (same_first g q p.shape p.order p.verdict p.sizes_are p.cert_is)) ∙ sym d
+      e ∙ ap Err (first_one (HasCheckFault p.shape p.order p.verdict) (faults p.shape p.order p.verdict) f g p.first (same_first g q p.shape p.order p.verdict p.sizes_are p.cert_is)) ∙ sym d
 
   pub one_answer : (a b : Result Verdict CheckFault) → Checks sizes cert a → Checks sizes cert b → a ≡ b
   one_answer a b p q = one_view a b (view sizes cert a p) (view sizes cert b q)
 
--- What is found on the way is what the texts come to.
+-- What `check` finds on its way is the answer for the two files.
 
 pub follow_fault : (sizes cert : List ℕ) (shape : List Statement) (order : List ℕ) (verdict : Verdict) (f : CheckFault) → ReadsSizes sizes (Ok shape) → ReadsCert cert (Ok (order, verdict)) → IsFollowed shape order (Err f) → IsChecked sizes cert (Err f)
 follow_fault sizes cert shape order verdict (NotAJump line) p q w = record { shape = shape; order = order; verdict = verdict; sizes_are = p; cert_is = q; first = not_a_jump shape order verdict line (verdict_faults (length shape) verdict) w }
@@ -108,7 +108,7 @@ follow_fault sizes cert shape order verdict (StillShort k) p q w = absurd w
 follow_fault sizes cert shape order verdict WrongTotal p q w = absurd w
 follow_fault sizes cert shape order verdict (NotOutOfRange k) p q w = absurd w
 
--- judged in the choice after the order
+-- what is judged with the flags holds of the choice after the order
 in_order : (shape : List Statement) (order : List ℕ) (long : List Bool) (verdict : Verdict) (r : Result (Unit {0}) CheckFault) → Follows shape order long → IsJudged (chosen long) shape verdict r → IsJudged (after order) shape verdict r
 in_order shape order long verdict r follows judged = let same : chosen long ≡ after order = fun_ext follows.flags in subst (λ c. IsJudged c shape verdict r) same judged
 
@@ -125,7 +125,7 @@ judge_fault sizes cert shape order long verdict f p q follows judged =
     none_of_texts (TooLarge n) line (inl w) = w
     none_of_texts (TooLarge n) line (inr w) = w
 
-    checked : (f : CheckFault) → IsJudged (after order) shape verdict (Err f) → FirstOf (Stands shape order verdict) (faults shape order verdict) f → IsChecked sizes cert (Err f)
+    checked : (f : CheckFault) → IsJudged (after order) shape verdict (Err f) → FirstOf (HasCheckFault shape order verdict) (faults shape order verdict) f → IsChecked sizes cert (Err f)
     checked NoMemory w first = tt
     checked (BadSizes line) w first = absurd (none_of_texts verdict line (inl w))
     checked (BadCertificate line) w first = absurd (none_of_texts verdict line (inr w))
@@ -148,7 +148,7 @@ passed sizes cert shape order long verdict u p q follows judged = record {
   shown = in_order shape order long verdict (Ok u) follows judged;
 }
 
--- so that, or want of memory, is what is answered
+-- so `check` answers this, or that memory ran out
 pub only : (sizes cert : List ℕ) → ((a b : Result Verdict CheckFault) → Checks sizes cert a → Checks sizes cert b → a ≡ b) → (given : Result Verdict CheckFault) → IsChecked sizes cert given → (answer : Result Verdict CheckFault) → Checks sizes cert answer → (given ≡ answer) ⊎ (given ≡ Err NoMemory)
 only sizes cert one (Err NoMemory) checks answer there = inr refl
 only sizes cert one (Ok v) checks answer there = inl (one (Ok v) answer checks there)

@@ -1,4 +1,4 @@
--- A forcing order gone along, member by member.
+-- A forcing order, followed member by member.
 use Rattle.std.proofs.Common.{◌≡◌, ℕ, ◌+◌, ◌<◌, ◌≤◌, Bool, true, false, List, [], ◌∷◌, ◌++◌, length, refl, ap, sym, subst, ◌∙◌, arith, inl, inr, get_or, take, eqb, ◌||◌, get_or-set_same, get_or-set_other, sum}
 use Rattle.std.specs.Prelude.{slice_set as set}
 use Rattle.std.proofs.lemmas.Bool.{cases_lt, cases_eq, eq-eqb, ne_eqb}
@@ -14,11 +14,11 @@ use Rattle.certificate.specs.Forcing.{after, Misses, IsForcing}
 use Rattle.cert_check.specs.Private.Following.{FailsAt, Follows, IsLayout}
 use Rattle.cert_check.proofs.Bytes.{reached, reaches}
 
--- one member more
+-- one more member
 after_more : (order : List ℕ) (i k : ℕ) → i < length order → after (take (i + 1) order) k ≡ (after (take i order) k || eqb (get_or order i 0) k)
 after_more order i k lt = list_any_more (λ j. eqb j k) order i 0 lt
 
--- a fact of each member of a list and those before it, once more is put at the end
+-- a fact about each member of a list, given those before it, still holds once one more member is appended
 each_push : (P : List ℕ → ℕ → Type 0) (order : List ℕ) (j : ℕ) → ((i : ℕ) → i < length order → P (take i order) (get_or order i 0)) → P order j → (i : ℕ) → i < length (order ++ j ∷ []) → P (take i (order ++ j ∷ [])) (get_or (order ++ j ∷ []) i 0)
 each_push P order j each here i lt =
     elim (cases_lt i (length order)) [
@@ -41,7 +41,7 @@ flags_more long order i lt within flags k =
       | inr ne ↦ get_or-set_other long j k true false ne ∙ flags k ∙ sym (more ∙ ap (λ b. after (take i order) k || b) (ne_eqb j k (λ e. ne (sym e))) ∙ or-false (after (take i order) k))
     ]
 
--- a jump of a shape goes to one of its statements, or to the end
+-- a jump of a shape goes to one of its statements or to the end
 target_within : (shape : List Statement) (k t : ℕ) → IsShape shape → IsJump shape k t → t ≤ length shape
 target_within shape k t is_shape jump =
     let here : get_or shape k (Jump t) ≡ Jump t = get_or_from_slice_get shape k (Jump t) (Jump t) jump in

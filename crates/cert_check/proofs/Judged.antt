@@ -17,7 +17,7 @@ still_within c shape k still = elim (still.jump) [
   | inr jump ↦ slice_get_within shape k (Jump still.target) jump.0
 ]
 
--- where no statement below the end misses its target, none does
+-- if no statement below the end misses its target, none does
 pub none_misses : (c : Choice) (shape : List Statement) (k : ℕ) → length shape ≤ k → ((j : ℕ) → j < k → ¬ IsStillShort c shape j) → (j : ℕ) → ¬ IsStillShort c shape j
 none_misses c shape k le none j still = let lt = still_within c shape j still in none j (omega arith) still
 
@@ -37,7 +37,7 @@ settled c shape none k t jump short = near_or_not (place c shape k) (place c sha
 shorts_reach : (c : Choice) (shape : List Statement) → IsFirstMiss c shape None → ShortsReach c shape
 shorts_reach c shape none k t jump = near_or_not (place c shape k) (place c shape t) (λ misses. none k (record { target = t; jump = inl jump; misses = misses }))
 
--- where none misses its target, the total is all that is left to judge
+-- if no jump misses its target, only the total is left to judge
 pub best_judged : (c : Choice) (shape : List Statement) (n : ℕ) (r : Result (Unit {0}) CheckFault) → IsFirstMiss c shape None → IsTotalChecked (total c shape) (Best n) r → IsJudged c shape (Best n) r
 best_judged c shape n (Ok _) none checked = (record { settled = settled c shape none; shorts = shorts_reach c shape none; fits = checked.1 }, checked.0)
 best_judged c shape n (Err WrongTotal) none checked = (none, checked)
@@ -50,7 +50,7 @@ best_judged c shape n (Err (StillShort k)) none checked = absurd checked
 best_judged c shape n (Err (NotOutOfRange k)) none checked = absurd checked
 best_judged c shape n (Err NoMemory) none checked = absurd checked
 
--- and so it is where the program is too large
+-- and if the program is too large, too
 pub large_judged : (c : Choice) (shape : List Statement) (n : ℕ) (r : Result (Unit {0}) CheckFault) → IsTotalChecked (total c shape) (TooLarge n) r → IsJudged c shape (TooLarge n) r
 large_judged c shape n (Ok _) checked = let (same, above) = checked in (same, omega arith)
 large_judged c shape n (Err WrongTotal) checked = checked

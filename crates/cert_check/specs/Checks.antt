@@ -6,26 +6,26 @@ use Rattle.certificate.specs.Texts.{ReadsSizes, ReadsCert}
 use Rattle.certificate.specs.Accepts.{Accepts}
 use Rattle.cert_check.specs.Types.{CheckFault}
 use Rattle.cert_check.specs.declared.fault.CheckFault.TheVariants.{BadSizes, BadCertificate, NoMemory}
-use Rattle.cert_check.specs.Faults.{Stands, faults, FirstOf}
+use Rattle.cert_check.specs.Faults.{HasCheckFault, faults, FirstOf}
 
--- What two texts come to: a verdict, or their first fault.
+-- What two files prove: a verdict, or their first error.
 
--- the certificate text has its first bad line, where the sizes text has none
+-- the sizes file is good, and the certificate has its first bad line here
 pub record HasBadCertificate (sizes cert : List ℕ) (line : ℕ) : Type 0 where
   pub shape : List Statement
   pub sizes_are : ReadsSizes sizes (Ok shape)
   pub bad : ReadsCert cert (Err (BadLine line))
 
--- neither text has a bad line, and this is the first fault of what they spell
+-- both files can be read, and this is the first error of what they say
 pub record HasFirstFault (sizes cert : List ℕ) (fault : CheckFault) : Type 0 where
   pub shape : List Statement
   pub order : List ℕ
   pub verdict : Verdict
   pub sizes_are : ReadsSizes sizes (Ok shape)
   pub cert_is : ReadsCert cert (Ok (order, verdict))
-  pub first : FirstOf (Stands shape order verdict) (faults shape order verdict) fault
+  pub first : FirstOf (HasCheckFault shape order verdict) (faults shape order verdict) fault
 
--- what two texts come to
+-- what two files prove: a verdict, or their first error
 abbrev pub Checks : List ℕ → List ℕ → Result Verdict CheckFault → Type 0
 Checks sizes cert (Ok verdict) = Accepts sizes cert verdict
 Checks sizes cert (Err (BadSizes line)) = ReadsSizes sizes (Err (BadLine line))
@@ -33,7 +33,7 @@ Checks sizes cert (Err (BadCertificate line)) = HasBadCertificate sizes cert lin
 Checks sizes cert (Err NoMemory) = ⊥
 Checks sizes cert (Err fault) = HasFirstFault sizes cert fault
 
--- what is answered: that, or that memory ran out
+-- what `check` answers: that, or that memory ran out
 abbrev pub IsChecked : List ℕ → List ℕ → Result Verdict CheckFault → Type 0
 IsChecked sizes cert (Err NoMemory) = Unit {0}
 IsChecked sizes cert answer = Checks sizes cert answer

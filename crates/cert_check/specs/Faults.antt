@@ -10,7 +10,7 @@ use Rattle.certificate.specs.Accepts.{IsOutOfRange}
 use Rattle.cert_check.specs.Types.{CheckFault}
 use Rattle.cert_check.specs.declared.fault.CheckFault.TheVariants.{BadSizes, BadCertificate, NotForced, NotAJump, Repeated, StillShort, WrongTotal, NotOutOfRange, NoMemory}
 
--- What may be wrong with a forcing order and its verdict. Each fault is said by itself, and then which comes first.
+-- What may be wrong with a forcing order and its verdict: each error, and then which of them is reported.
 
 -- The first line of a certificate is line 1, so line 2 names the first member of the order.
 
@@ -28,40 +28,40 @@ pub record IsStillShort (c : Choice) (shape : List Statement) (k : ℕ) : Type 0
   pub jump : IsShort shape k target ⊎ (IsJump shape k target × (c k ≡ false))
   pub misses : ¬ Reaches c shape k target
 
--- the total is that of the verdict, and on the right side of the most bytes that there is room for
+-- the total is that of the verdict, and is at most 64,512 for BEST and more than that for SIZE
 abbrev pub HasTotal : ℕ → Verdict → Type 0
 HasTotal bytes (Best n) = (bytes ≡ n) × (bytes ≤ LONGEST_PROGRAM)
 HasTotal bytes (Range k) = Unit {0}
 HasTotal bytes (TooLarge n) = (bytes ≡ n) × (LONGEST_PROGRAM < bytes)
 
--- what is so where there is a fault
-abbrev pub Stands : List Statement → List ℕ → Verdict → CheckFault → Type 0
-Stands shape order verdict (NotAJump line) = ¬ IsAnyJump shape (member order line)
-Stands shape order verdict (Repeated line) = after (members_before order line) (member order line) ≡ true
-Stands shape order verdict (NotForced line) = Fits (after (members_before order line)) shape (member order line)
-Stands shape order verdict (StillShort k) = IsStillShort (after order) shape k
-Stands shape order verdict WrongTotal = ¬ HasTotal (total (after order) shape) verdict
-Stands shape order verdict (NotOutOfRange k) = ¬ IsOutOfRange (after order) shape k
-Stands shape order verdict (BadSizes line) = ⊥
-Stands shape order verdict (BadCertificate line) = ⊥
-Stands shape order verdict NoMemory = ⊥
+-- what has to be true for this error
+abbrev pub HasCheckFault : List Statement → List ℕ → Verdict → CheckFault → Type 0
+HasCheckFault shape order verdict (NotAJump line) = ¬ IsAnyJump shape (member order line)
+HasCheckFault shape order verdict (Repeated line) = after (members_before order line) (member order line) ≡ true
+HasCheckFault shape order verdict (NotForced line) = Fits (after (members_before order line)) shape (member order line)
+HasCheckFault shape order verdict (StillShort k) = IsStillShort (after order) shape k
+HasCheckFault shape order verdict WrongTotal = ¬ HasTotal (total (after order) shape) verdict
+HasCheckFault shape order verdict (NotOutOfRange k) = ¬ IsOutOfRange (after order) shape k
+HasCheckFault shape order verdict (BadSizes line) = ⊥
+HasCheckFault shape order verdict (BadCertificate line) = ⊥
+HasCheckFault shape order verdict NoMemory = ⊥
 
--- the faults that lines of members may have, in order, from a line on
+-- the errors that the lines of members may have, in order, from a line on
 abbrev pub line_faults : ℕ → List ℕ → List CheckFault
 line_faults line [] = []
 line_faults line (k ∷ order) = NotAJump line ∷ Repeated line ∷ NotForced line ∷ line_faults (line + 1) order
 
--- the faults that the verdict may have, in order
+-- the errors that the verdict may have, in order
 abbrev pub verdict_faults : ℕ → Verdict → List CheckFault
 verdict_faults count (Best n) = map StillShort (range_with_len 0 count) ++ WrongTotal ∷ []
 verdict_faults count (Range k) = NotOutOfRange k ∷ []
 verdict_faults count (TooLarge n) = WrongTotal ∷ []
 
--- all of them, in order
+-- all errors, in order
 abbrev pub faults : List Statement → List ℕ → Verdict → List CheckFault
 faults shape order verdict = line_faults 2 order ++ verdict_faults (length shape) verdict
 
--- the first of a list that is so
+-- the first of a list that is true
 abbrev pub FirstOf : (CheckFault → Type 0) → List CheckFault → CheckFault → Type 0
 FirstOf IsSo [] fault = ⊥
 FirstOf IsSo (f ∷ fs) fault = (IsSo f × (fault ≡ f)) ⊎ (¬ IsSo f × FirstOf IsSo fs fault)

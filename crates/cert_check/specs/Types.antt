@@ -1,2 +1,2 @@
--- The public type, in one place for this crate.
+-- The public type, in one place for definitions of this crate.
 pub use Rattle.cert_check.specs.declared.fault.CheckFault.{CheckFault}

@@ -1,11 +1,11 @@
-//! The check of two texts.
+//! Checks a sizes file and a certificate against each other.
 
 ghost use Rattle.std.specs.Prelude.{◌≡◌, ◌⊎◌, List, Result, IfOk};
 ghost use Rattle.certificate.specs.declared.shape.Statement.{Statement};
 ghost use Rattle.certificate.specs.declared.cert.Verdict.{Verdict};
 ghost use Rattle.certificate.specs.Choice.{IsShape};
 ghost use Rattle.certificate.specs.Texts.{sizes_text};
-ghost use Rattle.certificate.specs.Accepts.{Holds};
+ghost use Rattle.certificate.specs.Accepts.{HoldsOfEveryChoice};
 ghost use Rattle.cert_check.specs.Types.{CheckFault};
 ghost use Rattle.cert_check.specs.Checks.{Checks, IsChecked};
 
@@ -18,7 +18,7 @@ use certificate::laws::accepted;
 use certificate::{TextFault, Verdict, read_cert, read_sizes};
 use std::alloc::Global;
 
-/// The verdict that the texts show, or their first fault.
+/// Answers the verdict that the files prove, or their first error.
 fn judged(alloc: Global, sizes: &[u8], cert: &[u8]) -> Result<Verdict, CheckFault>
     ensures { IsChecked sizes.now cert.now result }
 {
@@ -39,28 +39,29 @@ fn judged(alloc: Global, sizes: &[u8], cert: &[u8]) -> Result<Verdict, CheckFaul
     Ok(cert.verdict)
 }
 
-/// Checks a certificate against the sizes of a program, and answers what it shows. Each of its lines is tested in a time
-/// that depends on neither text: the whole takes one in the order of the lengths of the texts.
+/// Checks a certificate against the sizes of a program, and answers what it proves. Testing one line takes constant
+/// time, so the whole check takes time in proportion to the lengths of the two files.
 ///
 /// # Errors
 ///
-/// The first of these that is found: a bad line of the sizes, then of the certificate; then, for each member of the
-/// order, that it is no jump whose size may be chosen, is named twice, or is not forced by those before it; then, for
-/// `BEST`, the lowest jump that is short and does not reach its target, and a wrong total; for `RANGE`, a statement that
-/// is not out of range; for `SIZE`, a wrong total. [`CheckFault::NoMemory`] where memory runs out, at whatever point.
+/// The first of these that is found: a bad line of the sizes file, then of the certificate; then, for each member of
+/// the order, that it is not a relaxable jump, is named twice, or is not forced by those before it; then, for `BEST`,
+/// the lowest jump that is short and does not reach its target, and a wrong total; for `RANGE`, a statement that is not
+/// out of range; for `SIZE`, a wrong total. [`CheckFault::NoMemory`] if memory ran out, at any point.
 pub fn check(alloc: Global, sizes: &[u8], cert: &[u8]) -> Result<Verdict, CheckFault>
-    // What is answered is what the texts come to, but for memory: a verdict that the certificate shows, or the first fault.
+    // The answer is what the files prove, unless memory ran out: a verdict that the certificate shows, or the first
+    // error.
     ensures answer { IsChecked sizes.now cert.now result }
 
-    // The texts come to one thing alone, so no other is answered.
+    // The files prove one thing only, so nothing else is answered.
     ensures only { (answer : Result Verdict CheckFault) → Checks sizes.now cert.now answer →
         (result ≡ answer) ⊎ (result ≡ Err CheckFault.NoMemory) }
 
-    // Whoever made the texts, a verdict holds of every choice of the shape that the sizes spell.
+    // Whoever made the files, a verdict holds of every choice of the shape that the sizes file has.
     ensures verdict { IfOk result (λ verdict. (shape : List Statement) → IsShape shape → sizes.now ≡ sizes_text shape →
-        Holds shape verdict) }
+        HoldsOfEveryChoice shape verdict) }
 {
-    // Laws, which do nothing: their contracts are what the clauses `only` and `verdict` follow from.
+    // Laws: they do nothing, and the clauses `only` and `verdict` follow from their contracts.
     one_answer();
     accepted();
     judged(alloc, sizes, cert)

@@ -1,4 +1,4 @@
-//! The members of a forcing order, one after the other.
+//! Follows a forcing order, one member after the other.
 
 ghost use Rattle.std.specs.Prelude.{◌≡◌, ◌<◌, ◌≤◌, All, MatchBool, length, slice_index, sum, take};
 ghost use Rattle.certificate.specs.Choice.{IsNear, IsShape};
@@ -9,7 +9,7 @@ use crate::layout::{LONG, reaches, sizes_of};
 use certificate::Statement;
 use std::alloc::Global;
 
-/// Whether a jump has to be long where statements take so much: it would not reach its target if it were short.
+/// Whether a jump has to be long if statements have these sizes: it would not reach its target as a short jump.
 fn is_forced(sizes: &[u32], k: usize, target: usize) -> bool
     requires bytes { All IsSize sizes.now }
     requires jump { k < length sizes.now }
@@ -21,7 +21,8 @@ fn is_forced(sizes: &[u32], k: usize, target: usize) -> bool
     !reaches(sizes, k, target)
 }
 
-/// A flag for each statement, set for the members of the order, or the first of its lines that is wrong.
+/// Answers a flag for each statement, which is set if the statement is in the order; or the first line of the order
+/// that is wrong.
 pub(crate) fn follow(
     alloc: Global,
     statements: &[Statement],

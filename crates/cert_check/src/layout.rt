@@ -1,4 +1,4 @@
-//! The bytes of statements, and which jumps reach their targets.
+//! Computes the sizes of statements, and which jumps reach their targets.
 
 ghost use Rattle.std.specs.Prelude.{◌≡◌, ◌<◌, ◌≤◌, ◌^◌, All, IfOk, MatchBool, length, slice_index, sum, take};
 ghost use Rattle.cert_check.specs.declared.layout.TheConstants.{MOST_AHEAD};
@@ -10,15 +10,15 @@ ghost use Rattle.cert_check.specs.Private.Following.{IsFirstMiss, IsLayout, IsSi
 use certificate::Statement;
 use std::alloc::{AllocError, Global};
 
-/// The most bytes between a short jump and a target ahead of it.
+/// The most bytes between a short jump and a target after it.
 const MOST_AHEAD: u32 = 127;
-/// The most bytes from a target behind a short jump up to the jump, which takes two more.
+/// The most bytes from a target up to a short jump that comes after it; the jump takes two more.
 const MOST_BEHIND: u32 = 126;
 
 /// The bytes of a long jump.
 pub(crate) const LONG: u32 = 3;
 
-/// How many bytes a statement takes, as a long jump or not.
+/// Answers how many bytes a statement takes, given whether it is long.
 fn size(statement: Statement, long: bool) -> u32
     ensures value { result ≡ size_of long statement }
     ensures bound { result ≤ MOST_BYTES }
@@ -30,7 +30,7 @@ fn size(statement: Statement, long: bool) -> u32
     }
 }
 
-/// How many bytes each statement takes where these jumps are long.
+/// Answers how many bytes each statement takes if these jumps are long.
 pub(crate) fn sizes_of(
     alloc: Global,
     statements: &[Statement],
@@ -47,7 +47,7 @@ pub(crate) fn sizes_of(
     Ok(sizes)
 }
 
-/// How many bytes all statements take.
+/// Answers how many bytes all statements take.
 pub(crate) fn total(sizes: &[u32]) -> u32
     requires { sum sizes.now < 2 ^ 32 }
     ensures { result ≡ sum sizes.now }
@@ -55,7 +55,8 @@ pub(crate) fn total(sizes: &[u32]) -> u32
     sizes.iter().sum()
 }
 
-/// Whether statements of these sizes take at most some bytes. Each takes one at least, so no more than that are added up.
+/// Whether statements of these sizes take at most `limit` bytes. Each takes one at least, so no more than `limit` sizes
+/// are added up.
 fn take_at_most(sizes: &[u32], limit: u32) -> bool
     requires bytes { All IsSize sizes.now }
     requires limit { limit ≤ MOST_AHEAD }
@@ -94,7 +95,7 @@ pub(crate) fn misses(statements: &[Statement], long: &[bool], sizes: &[u32], k: 
     }
 }
 
-/// The lowest of these.
+/// Answers the lowest statement that is a short jump and does not reach its target.
 pub(crate) fn first_miss(statements: &[Statement], long: &[bool], sizes: &[u32]) -> Option<u32>
     requires { IsLayout statements.now long.now sizes.now }
     ensures { IsFirstMiss (chosen long.now) statements.now result }

@@ -1,4 +1,4 @@
-//! The verdict after the whole order.
+//! Judges the verdict after the whole order.
 
 ghost use Rattle.std.specs.Prelude.{◌<◌, ◌^◌, MatchBool, sum};
 ghost use Rattle.certificate.specs.Choice.{chosen};
@@ -21,7 +21,8 @@ fn is_out_of_range(statements: &[Statement], long: &[bool], sizes: &[u32], k: us
     }
 }
 
-/// Whether the program takes as many bytes as a verdict says, and they are few or too many, as it says.
+/// Checks that the program takes as many bytes as the verdict says, and that they are at most 64,512, or more, as the
+/// verdict says.
 fn check_total(sizes: &[u32], verdict: Verdict) -> Result<(), CheckFault>
     requires { sum sizes.now < 2 ^ 32 }
     ensures { IsTotalChecked (sum sizes.now) verdict result }
@@ -36,7 +37,7 @@ fn check_total(sizes: &[u32], verdict: Verdict) -> Result<(), CheckFault>
     }
 }
 
-/// Judges a verdict where these jumps are long.
+/// Judges a verdict in the choice in which these jumps are long.
 pub(crate) fn judge(
     statements: &[Statement],
     long: &[bool],

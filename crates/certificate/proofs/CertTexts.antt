@@ -1,4 +1,4 @@
--- A certificate text comes to one thing alone.
+-- A certificate has one value only.
 use Rattle.std.proofs.Common.{◌≡◌, ℕ, ◌^◌, ◌<◌, List, [], ◌∷◌, ◌++◌, false, ◌==◌, Result, Ok, Err, refl, sym, subst, ◌∙◌, ap, map, arith, codes, decimal, rules}
 use Rattle.std.specs.List.{AllByRecursion}
 use Rattle.std.specs.Str.Parse.{AllDigits}

@@ -1,4 +1,5 @@
--- Every member of a forcing order is long in every settled choice, so what is shown after it holds of all choices.
+-- Every member of a forcing order is long in every settled choice, so what is shown after that order holds of all
+-- choices.
 use Rattle.std.proofs.Common.{◌≡◌, ℕ, zero, suc, ◌+◌, ◌<◌, ◌≤◌, Bool, true, false, List, length, Option, Some, None, arith, inl, inr, get_or, eqb, take, subst, add-one, ◌||◌, refl}
 use Rattle.std.specs.List.{slice_get}
 use Rattle.std.specs.Option.{option_map_or}
@@ -10,9 +11,9 @@ use Rattle.certificate.specs.declared.shape.Statement.TheVariants.{Fixed, Jump, 
 use Rattle.certificate.specs.declared.cert.Verdict.TheVariants.{Best, Range, TooLarge}
 use Rattle.certificate.specs.Choice.{Choice, size_of, size_at, bytes_before, total, Reaches, IsSettled}
 use Rattle.certificate.specs.Forcing.{after, Misses, IsForcing}
-use Rattle.certificate.specs.Accepts.{Shows, Holds}
+use Rattle.certificate.specs.Accepts.{IsVerdictOf, HoldsOfEveryChoice}
 
--- each choice of the second kind is long wherever the first is
+-- each jump that is long in the first choice is long in the second
 abbrev pub Within : Choice → Choice → Type 0
 Within c d = (k : ℕ) → c k ≡ true → d k ≡ true
 
@@ -31,7 +32,7 @@ option-le a b h (Some s) = size_of-le a b h s
 size_at-le : (c d : Choice) → Within c d → (shape : List Statement) (k : ℕ) → size_at c shape k ≤ size_at d shape k
 size_at-le c d h shape k = option-le (c k) (d k) (h k) (slice_get shape k)
 
--- what is between a and b takes no less in the longer choice
+-- the bytes between a and b are no fewer in the longer choice
 pub stretches : (c d : Choice) → Within c d → (shape : List Statement) (a b : ℕ) → a ≤ b → bytes_before c shape b + bytes_before d shape a ≤ bytes_before d shape b + bytes_before c shape a
 unfolding bytes_before
 stretches c d h shape a zero le = let e : a ≡ 0 = omega arith in rw e (omega arith)
@@ -42,7 +43,7 @@ stretches c d h shape a (suc b) le =
       | inr ge ↦ (let ih = stretches c d h shape a b ge in omega arith)
     ]
 
--- bytes_before grows
+-- a later statement has no fewer bytes before it
 pub bytes_before-le : (c : Choice) (shape : List Statement) (a b : ℕ) → a ≤ b → bytes_before c shape a ≤ bytes_before c shape b
 unfolding bytes_before
 bytes_before-le c shape a zero le = let e : a ≡ 0 = omega arith in rw e (omega arith)
@@ -52,7 +53,7 @@ bytes_before-le c shape a (suc b) le =
       | inr ge ↦ (let ih = bytes_before-le c shape a b ge in omega arith)
     ]
 
--- a jump that reaches in the longer choice reaches in the shorter one
+-- a jump that reaches its target in the longer choice reaches it in the shorter one
 pub reaches-within : (c d : Choice) → Within c d → (shape : List Statement) (k t : ℕ) → Reaches d shape k t → Reaches c shape k t
 reaches-within c d h shape k t r =
     elim (cases_lt k t) [
@@ -66,7 +67,7 @@ pub total-le : (c d : Choice) → Within c d → (shape : List Statement) → to
 unfolding bytes_before
 total-le c d h shape = let more = stretches c d h shape 0 (length shape) (omega arith) in omega arith
 
--- a jump that is forced by jumps that are long in a settled choice is long there too
+-- a jump that has to be long because of jumps that are long in a settled choice is long in that choice
 forced_one : (shape : List Statement) (earlier : List ℕ) (j : ℕ) → Misses (after earlier) shape j → (c : Choice) → IsSettled c shape → Within (after earlier) c → c j ≡ true
 forced_one shape earlier j f c settled within =
     true_from_ne_false (c j) (λ short. f.misses (reaches-within (after earlier) c within shape j f.target (settled j f.target f.jump short)))
@@ -92,7 +93,7 @@ forced shape order forcing c settled k long =
     forced_below shape order forcing c settled (length order) (omega arith) k (let all : take (length order) order ≡ order = take_all (length order) order (omega arith) in rw all long)
 
 -- what is shown of the choice after a forcing order holds of every choice
-pub shown_holds : (shape : List Statement) (order : List ℕ) (v : Verdict) → IsForcing shape order → Shows (after order) shape v → Holds shape v
+pub shown_holds : (shape : List Statement) (order : List ℕ) (v : Verdict) → IsForcing shape order → IsVerdictOf (after order) shape v → HoldsOfEveryChoice shape v
 shown_holds shape order (Best n) forcing (valid, bytes) = (
   after order,
   record {

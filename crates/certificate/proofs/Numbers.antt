@@ -1,4 +1,4 @@
--- Numbers as std reads and writes them.
+-- Numbers as the standard library reads and writes them.
 use Rattle.std.proofs.Common.{◌≡◌, ◌≢◌, ℕ, suc, zero, ◌-◌, ◌^◌, ◌<◌, ◌≤◌, List, [], ◌∷◌, ◌++◌, Bool, true, false, ◌==◌, cond, Result, Ok, Err, Option, Some, None, refl, sym, subst, ◌∙◌, ap, length, arith, decimal, slice_index, MatchResult, IsUtf8, Bor, inl, inr, nat_le}
 use Rattle.std.specs.List.{list_all}
 use Rattle.std.specs.Char.{is_ascii_digit, digit_value}
@@ -12,7 +12,7 @@ use Rattle.std.proofs.lemmas.Str.Parse.{numerals_by_value, tells_digits, digit_f
 use Rattle.std.proofs.lemmas.Bool.{and_parts, and_from, cases_lt, eq-eqb, eqb-true, eqb-false, leb-true, le-leb, false≢true}
 use Rattle.std.specs.Option.{unwrap_or}
 use Rattle.certificate.proofs.CertTexts.{same_rest}
-use Rattle.certificate.specs.Texts.{IsNumber, IsJumpLine}
+use Rattle.certificate.specs.Texts.{IsDecimalNumber, IsJumpLine}
 use Rattle.certificate.specs.Private.Reading.{is_number, IsNumbered, IsTarget}
 
 digit_range : (d : ℕ) → is_ascii_digit d ≡ true → IsInRange 48 57 d
@@ -39,10 +39,10 @@ one_digit [] e one = tt
 one_digit (d ∷ []) e one = (digit_below d (omega arith, omega arith), tt)
 one_digit (d ∷ c ∷ ds) e one = absurd (omega arith)
 
-pub number_from : (ds : List ℕ) → is_number ds ≡ true → IsNumber ds
+pub number_from : (ds : List ℕ) → is_number ds ≡ true → IsDecimalNumber ds
 number_from ds h = by_tests (length ds == 0) (slice_index ds 0 == 0x30) refl refl h
   where
-    by_tests : (none nought : Bool) → (length ds == 0) ≡ none → (slice_index ds 0 == 0x30) ≡ nought → cond none false (cond nought (length ds == 1) (list_all is_ascii_digit ds)) ≡ true → IsNumber ds
+    by_tests : (none nought : Bool) → (length ds == 0) ≡ none → (slice_index ds 0 == 0x30) ≡ nought → cond none false (cond nought (length ds == 1) (list_all is_ascii_digit ds)) ≡ true → IsDecimalNumber ds
     by_tests true nought a b h = absurd (false≢true h)
     by_tests false true a b h =
         let one = eqb-true (length ds) 1 h in
@@ -51,7 +51,7 @@ number_from ds h = by_tests (length ds == 0) (slice_index ds 0 == 0x30) refl ref
         let some = eqb-false (length ds) 0 a in
         record { numeral = (omega arith, digits_from ds h); no_zero = λ e. absurd (eqb-false (slice_index ds 0) 0x30 b e) }
 
-pub from_number : (ds : List ℕ) → IsNumber ds → is_number ds ≡ true
+pub from_number : (ds : List ℕ) → IsDecimalNumber ds → is_number ds ≡ true
 from_number ds n = by_tests (length ds == 0) (slice_index ds 0 == 0x30) refl refl
   where
     by_tests : (none nought : Bool) → (length ds == 0) ≡ none → (slice_index ds 0 == 0x30) ≡ nought → cond none false (cond nought (length ds == 1) (list_all is_ascii_digit ds)) ≡ true
@@ -59,15 +59,15 @@ from_number ds n = by_tests (length ds == 0) (slice_index ds 0 == 0x30) refl ref
     by_tests false true a b = eq-eqb (length ds) 1 (n.no_zero (eqb-true (slice_index ds 0) 0x30 b))
     by_tests false false a b = from_digits ds n.numeral.1
 
--- what std writes is a number
-pub decimal_number : (n : ℕ) → n < 2 ^ 64 → IsNumber (decimal n)
+-- what the standard library writes is a number
+pub decimal_number : (n : ℕ) → n < 2 ^ 64 → IsDecimalNumber (decimal n)
 decimal_number n lt = record { numeral = (decimal_is_IsNumeral n lt).0; no_zero = zero_alone n lt }
   where
     zero_alone : (n : ℕ) → n < 2 ^ 64 → slice_index (decimal n) 0 ≡ 0x30 → length (decimal n) ≡ 1
     zero_alone zero lt e = ap length (decimal_digit 0 (omega arith))
     zero_alone (suc n) lt e = let first = first_decimal (suc n) (omega arith) lt in absurd (omega arith)
 
--- digits are a text
+-- digits are UTF-8
 pub digits_text : {T E : Type 0} (ds : List ℕ) (P : T → Type 0) (Q : E → Type 0) (r : Result T E) → is_number ds ≡ true → None ≡ result_ok r → MatchResult r P (λ e. ¬ (IsUtf8 ds) × Q e) → ⊥
 digits_text ds P Q (Ok x) h none cases = cc
 digits_text ds P Q (Err e) h none cases = cases.0 (IsUtf8-from_ascii ds (IsAscii-from_digits ds (number_from ds h).numeral.1))
@@ -77,11 +77,11 @@ pub same_text : {E : Type 0} (r : Result (Bor (List ℕ)) E) (bytes : List ℕ) 
 same_text (Ok s) bytes text Q some cases = let e : text ≡ s = cc in ap (λ (x : Bor (List ℕ)). x.now) e ∙ cases.0
 same_text (Err e) bytes text Q some cases = absurd (cc)
 
-no_plus : (ds : List ℕ) → IsNumber ds → without_leading_plus ds ≡ ds
+no_plus : (ds : List ℕ) → IsDecimalNumber ds → without_leading_plus ds ≡ ds
 no_plus [] n = let some = n.numeral.0 in absurd (omega arith)
 no_plus (d ∷ ds) n = without_leading_plus_none (d ∷ ds) (λ e. (let k = digit_from_value d n.numeral.1.0 in absurd (omega arith)))
 
-read_value : {E : Type 0} (ds : List ℕ) (r : Result ℕ E) → IsNumber ds → OkIff r (IsNumeral 10 ds × (digits_value 10 ds < 2 ^ 32)) (digits_value 10 ds) → IsNumbered [] ds (result_ok r)
+read_value : {E : Type 0} (ds : List ℕ) (r : Result ℕ E) → IsDecimalNumber ds → OkIff r (IsNumeral 10 ds × (digits_value 10 ds < 2 ^ 32)) (digits_value 10 ds) → IsNumbered [] ds (result_ok r)
 read_value ds (Ok n) number p =
     let lt = p.0.1 in
     let e = p.1 in
@@ -91,13 +91,13 @@ read_value ds (Err e) number p = λ n lt same. (
     let value : digits_value 10 ds ≡ n = ap (digits_value 10) same ∙ back.1 in
     p (number.numeral, omega arith))
 
--- what std reads the digits as
+-- the number that the standard library reads from the digits
 pub parsed : {E : Type 0} (ds text : List ℕ) (r : Result ℕ E) → is_number ds ≡ true → text ≡ ds → ParsesUnsigned 32 10 text r → IsNumbered [] ds (result_ok r)
 parsed ds text r h same p =
     let number = number_from ds h in
     read_value ds r number (subst (λ l. OkIff r (IsNumeral 10 l × (digits_value 10 l < 2 ^ 32)) (digits_value 10 l)) (ap without_leading_plus same ∙ no_plus ds number) p)
 
--- behind a word
+-- a number after a word
 pub behind_word : (word line digits : List ℕ) (r : Option ℕ) → line ≡ word ++ digits → IsNumbered [] digits r → IsNumbered word line r
 behind_word word line digits (Some n) e p = (p.0, e ∙ ap (λ ds. word ++ ds) p.1)
 behind_word word line digits None e p = λ n lt same. p n lt (same_rest word digits (decimal n) (sym e ∙ same))

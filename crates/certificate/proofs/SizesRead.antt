@@ -1,4 +1,4 @@
--- How a sizes text is read line by line.
+-- How a sizes file is read line by line.
 use Rattle.std.proofs.Common.{◌≡◌, ◌≢◌, ℕ, suc, zero, ◌+◌, ◌^◌, ◌<◌, ◌≤◌, List, [], ◌∷◌, ◌++◌, Option, Some, None, refl, sym, subst, ◌∙◌, ap, length, map, take, arith, codes, decimal, All, inl, inr, MatchOption}
 use Rattle.std.specs.List.{AllByRecursion, slice_get}
 use Rattle.std.specs.Str.Parse.{AllDigits, digits_value}
@@ -10,18 +10,18 @@ use Rattle.std.proofs.lemmas.Str.Parse.{numerals_by_value, tells_digits}
 use Rattle.certificate.specs.Types.{Statement}
 use Rattle.certificate.specs.declared.shape.Statement.TheVariants.{Fixed, Jump, Short}
 use Rattle.certificate.specs.Choice.{IsShape, IsStatement}
-use Rattle.certificate.specs.Lines.{line_feed, text_of, BreaksAt}
+use Rattle.certificate.specs.Lines.{line_feed, lines_text, BreaksAt}
 use Rattle.certificate.specs.Texts.{statement_line, sizes_header, end_line, sizes_lines, sizes_text, IsJumpLine, IsStatementLine, AreSizesLines, IsFarLine, IsFarAt}
 use Rattle.certificate.specs.Private.Reading.{IsPlain, IsNumbered, IsTarget, IsRead, IsStatementRead, AreRead, ReadsSoFar, IsFirstFar}
 use Rattle.certificate.proofs.Breaks.{headless, misplaced, missing, trailing, push_line, append-nil}
 use Rattle.certificate.proofs.CertTexts.{same_number, unlike}
 use Rattle.certificate.proofs.SizesTexts.{sizes_grammar, not_far}
 
--- what is printed
-pub printed : (shape : List Statement) (k : ℕ) (text new : List ℕ) → length shape ≤ k → text ≡ text_of (sizes_header ∷ map statement_line (take k shape)) → new ≡ text ++ codes "END\n" → new ≡ sizes_text shape
+-- what is printed for a shape
+pub printed : (shape : List Statement) (k : ℕ) (text new : List ℕ) → length shape ≤ k → text ≡ lines_text (sizes_header ∷ map statement_line (take k shape)) → new ≡ text ++ codes "END\n" → new ≡ sizes_text shape
 printed shape k text new le e n =
     let whole : take k shape ≡ shape = take_all k shape le in
-    let text_is : text ≡ text_of (sizes_header ∷ map statement_line shape) = e ∙ ap (λ s. text_of (sizes_header ∷ map statement_line s)) whole in
+    let text_is : text ≡ lines_text (sizes_header ∷ map statement_line shape) = e ∙ ap (λ s. lines_text (sizes_header ∷ map statement_line s)) whole in
     n ∙ ap (λ t. t ++ codes "END\n") text_is ∙ sym (simp flat_map-append)
 
 read_line : (line : List ℕ) (s : Statement) → IsRead line s → IsStatementLine line
@@ -46,7 +46,7 @@ push_read [] (t ∷ statements) line s r here = absurd r
 push_read (l ∷ lines) [] line s r here = absurd r
 push_read (l ∷ lines) (t ∷ statements) line s r here = (r.0, push_read lines statements line s r.1 here)
 
--- the lines so far, one more, and what ends them
+-- the lines read so far, one more line, and what ends them
 pub so_far : (text rest : List ℕ) → text ≡ codes "Z80SIZES 1\n" ++ rest → ReadsSoFar text rest []
 so_far text rest e = record { lines = []; text_is = e; read = tt; few = omega arith }
 
@@ -62,12 +62,12 @@ no_bytes : (after : List ℕ) → length after ≡ 0 → after ≡ []
 no_bytes [] e = refl
 no_bytes (b ∷ after) e = absurd (omega arith)
 
-pub ended : (text rest line after : List ℕ) (statements : List Statement) → ReadsSoFar text rest statements → rest ≡ line ++ line_feed ∷ after → line ≡ end_line → length after ≡ 0 → (lines : List (List ℕ)) × AreRead lines statements × (length statements ≤ 20000) × (text ≡ text_of (sizes_lines lines))
+pub ended : (text rest line after : List ℕ) (statements : List Statement) → ReadsSoFar text rest statements → rest ≡ line ++ line_feed ∷ after → line ≡ end_line → length after ≡ 0 → (lines : List (List ℕ)) × AreRead lines statements × (length statements ≤ 20000) × (text ≡ lines_text (sizes_lines lines))
 ended text rest line after statements r e is_end none = (
   r.lines,
   r.read,
   r.few,
-  push_line text (sizes_header ∷ r.lines) rest end_line [] r.text_is (e ∙ ap (λ l. l ++ line_feed ∷ after) is_end ∙ ap (λ l. end_line ++ line_feed ∷ l) (no_bytes after none)) ∙ append-nil (text_of (sizes_lines r.lines)),
+  push_line text (sizes_header ∷ r.lines) rest end_line [] r.text_is (e ∙ ap (λ l. l ++ line_feed ∷ after) is_end ∙ ap (λ l. end_line ++ line_feed ∷ l) (no_bytes after none)) ∙ append-nil (lines_text (sizes_lines r.lines)),
 )
 
 pub broken_header : (text : List ℕ) → ((rest : List ℕ) → text ≢ codes "Z80SIZES 1\n" ++ rest) → BreaksAt AreSizesLines text 1
@@ -89,7 +89,7 @@ pub broken_end : (text rest line after : List ℕ) (statements : List Statement)
 broken_end text rest line after statements n r number e is_end some =
     trailing sizes_grammar text n r.lines rest line after r.text_is (omega (arith, length_read r.lines statements r.read)) (read_lines r.lines statements r.read) (count_of r.lines statements r.read r.few) e is_end some
 
--- a line read as a statement that may stand there is the line of that statement
+-- a line that is read as a statement that may be there is the line of that statement
 same_line : (line : List ℕ) (word : List ℕ) (t count : ℕ) → count ≤ 20000 → IsTarget word line (Some t) → t ≤ count → line ≡ word ++ decimal t
 same_line line word t count few (target, j, capped) le =
     let same : t ≡ target = elim capped [ inl e ↦ e | inr above ↦ (let e = above.0 in absurd (omega arith)) ] in
@@ -107,11 +107,11 @@ lines_of [] (s ∷ statements) count few r p = absurd r
 lines_of (line ∷ lines) [] count few r p = absurd r
 lines_of (line ∷ lines) (s ∷ statements) count few r p = cc (line_of line s count few r.0 p.0, lines_of lines statements count few r.1 p.1)
 
--- where every target is there, the text is that of the statements
-pub spelled : (text : List ℕ) (lines : List (List ℕ)) (statements : List Statement) → AreRead lines statements → length statements ≤ 20000 → text ≡ text_of (sizes_lines lines) → All (IsStatement (length statements)) statements → IsShape statements × (text ≡ sizes_text statements)
+-- if every target exists, the file is that of the statements
+pub spelled : (text : List ℕ) (lines : List (List ℕ)) (statements : List Statement) → AreRead lines statements → length statements ≤ 20000 → text ≡ lines_text (sizes_lines lines) → All (IsStatement (length statements)) statements → IsShape statements × (text ≡ sizes_text statements)
 spelled text lines statements r few e each = (
   record { few = few; each = each },
-  e ∙ ap (λ ls. text_of (sizes_lines ls)) (lines_of lines statements (length statements) few r (recursion_from_All (IsStatement (length statements)) statements each)),
+  e ∙ ap (λ ls. lines_text (sizes_lines ls)) (lines_of lines statements (length statements) few r (recursion_from_All (IsStatement (length statements)) statements each)),
 )
 
 far_target : (line : List ℕ) (word : List ℕ) (t count : ℕ) → count ≤ 20000 → IsTarget word line (Some t) → ¬ (t ≤ count) → (target : ℕ) × (count < target) × IsJumpLine word line target
@@ -136,8 +136,8 @@ statement_at (l ∷ lines) [] r k line e = absurd r
 statement_at (l ∷ lines) (t ∷ statements) r zero line e = let same : l ≡ line = cc in (t, refl, subst (λ x. IsRead x t) same r.0)
 statement_at (l ∷ lines) (t ∷ statements) r (suc k) line e = statement_at lines statements r.1 k line e
 
--- where one is not, the text has its line for its first bad one
-pub far : (text : List ℕ) (lines : List (List ℕ)) (statements : List Statement) (k : ℕ) → AreRead lines statements → length statements ≤ 20000 → text ≡ text_of (sizes_lines lines) → IsFirstFar statements (Some k) → IsFarAt text (k + 2)
+-- if a target does not exist, its line is the first bad line of the file
+pub far : (text : List ℕ) (lines : List (List ℕ)) (statements : List Statement) (k : ℕ) → AreRead lines statements → length statements ≤ 20000 → text ≡ lines_text (sizes_lines lines) → IsFirstFar statements (Some k) → IsFarAt text (k + 2)
 far text lines statements k r few e (s, stands, none, below) =
     let here = line_at lines statements r k s stands in
     let same = length_read lines statements r in

@@ -1,4 +1,4 @@
--- A sizes text comes to one thing alone.
+-- A sizes file has one value only.
 use Rattle.std.proofs.Common.{◌≡◌, ℕ, suc, zero, ◌^◌, ◌<◌, ◌≤◌, List, [], ◌∷◌, ◌++◌, Result, Ok, Err, Some, refl, sym, subst, ◌∙◌, ap, length, map, arith, codes, decimal, rules, ◌⊎◌, inl, inr, slice_index}
 use Rattle.std.specs.List.{AllByRecursion, slice_get}
 use Rattle.std.specs.Str.Parse.{digits_value}
@@ -11,7 +11,7 @@ use Rattle.certificate.specs.Types.{Statement, TextFault}
 use Rattle.certificate.specs.declared.shape.Statement.TheVariants.{Fixed, Jump, Short}
 use Rattle.certificate.specs.declared.fault.TextFault.TheVariants.{BadLine, NoMemory}
 use Rattle.certificate.specs.Choice.{IsShape, IsStatement}
-use Rattle.certificate.specs.Lines.{text_of, BreaksAt}
+use Rattle.certificate.specs.Lines.{lines_text, BreaksAt}
 use Rattle.certificate.specs.Texts.{statement_line, sizes_header, end_line, sizes_lines, sizes_text, IsJumpLine, IsStatementLine, AreSizesLines, IsFarLine, IsFarAt, ReadsSizes}
 use Rattle.certificate.specs.Private.Reading.{IsPlain}
 use Rattle.certificate.proofs.Breaks.{IsGrammar, one_break, framed_plain, same_lines}
@@ -132,14 +132,14 @@ same_fronts (x ∷ xs) (y ∷ ys) e p =
     let tails : xs ++ e ∷ [] ≡ ys ++ e ∷ [] = cc in
     cc (same_fronts xs ys e tails)
 
--- two lists of statements' lines with one text are one
-same_middle : (xs ys : List (List ℕ)) → AreSizesLines (sizes_lines xs) → AreSizesLines (sizes_lines ys) → text_of (sizes_lines xs) ≡ text_of (sizes_lines ys) → xs ≡ ys
+-- two lists of statement lines with the same file are equal
+same_middle : (xs ys : List (List ℕ)) → AreSizesLines (sizes_lines xs) → AreSizesLines (sizes_lines ys) → lines_text (sizes_lines xs) ≡ lines_text (sizes_lines ys) → xs ≡ ys
 same_middle xs ys p q e =
     let lines = same_lines (sizes_lines xs) (sizes_lines ys) (framed_plain sizes_grammar (sizes_lines xs) p) (framed_plain sizes_grammar (sizes_lines ys) q) e in
     let tails : xs ++ end_line ∷ [] ≡ ys ++ end_line ∷ [] = cc (lines) in
     same_fronts xs ys end_line tails
 
--- a text spells one shape at most
+-- a sizes file has one shape at most
 pub same_shape : (xs ys : List Statement) → IsShape xs → IsShape ys → sizes_text xs ≡ sizes_text ys → xs ≡ ys
 same_shape xs ys p q e =
     same_statements xs ys (length xs) (length ys) p.few q.few (recursion_from_All (IsStatement (length xs)) xs p.each) (recursion_from_All (IsStatement (length ys)) ys q.each)

@@ -6,22 +6,22 @@ use Rattle.certificate.specs.Choice.{Choice, IsShape, IsShort, Reaches, IsValid,
 use Rattle.certificate.specs.Forcing.{after, IsForcing}
 use Rattle.certificate.specs.Texts.{sizes_text, cert_text, IsCert}
 
--- When a certificate is good, and what a good one shows.
+-- When a certificate is good, and what a good one proves.
 
--- jump k is always short and does not reach its target
+-- statement k is a jump that is always short and does not reach its target
 pub record IsOutOfRange (c : Choice) (shape : List Statement) (k : ℕ) : Type 0 where
   pub target : ℕ
   pub jump : IsShort shape k target
   pub misses : ¬ Reaches c shape k target
 
--- what a verdict says of one choice
-abbrev pub Shows : Choice → List Statement → Verdict → Type 0
-Shows c shape (Best n) = IsValid c shape × (total c shape ≡ n)
-Shows c shape (Range k) = IsOutOfRange c shape k
-Shows c shape (TooLarge n) = (total c shape ≡ n) × (LONGEST_PROGRAM < n)
+-- what a verdict says about one choice
+abbrev pub IsVerdictOf : Choice → List Statement → Verdict → Type 0
+IsVerdictOf c shape (Best n) = IsValid c shape × (total c shape ≡ n)
+IsVerdictOf c shape (Range k) = IsOutOfRange c shape k
+IsVerdictOf c shape (TooLarge n) = (total c shape ≡ n) × (LONGEST_PROGRAM < n)
 
--- The texts spell a shape, and a forcing order of it with this verdict, which holds of the choice after that order. The
--- order need not be least-first.
+-- The two files have a shape, and a forcing order of it with this verdict, which is true of the choice after that
+-- order. The order need not be the least-first one.
 pub record Accepts (sizes cert : List ℕ) (verdict : Verdict) : Type 0 where
   pub shape : List Statement
   pub order : List ℕ
@@ -30,10 +30,10 @@ pub record Accepts (sizes cert : List ℕ) (verdict : Verdict) : Type 0 where
   pub is_cert : IsCert order verdict
   pub cert_is : cert ≡ cert_text order verdict
   pub forcing : IsForcing shape order
-  pub shown : Shows (after order) shape verdict
+  pub shown : IsVerdictOf (after order) shape verdict
 
--- what a verdict says of every choice
-abbrev pub Holds : List Statement → Verdict → Type 0
-Holds shape (Best n) = (c : Choice) × IsBest c shape × (total c shape ≡ n)
-Holds shape (Range k) = (c : Choice) → ¬ IsValid c shape
-Holds shape (TooLarge n) = (c : Choice) → ¬ IsValid c shape
+-- what a verdict says about every choice
+abbrev pub HoldsOfEveryChoice : List Statement → Verdict → Type 0
+HoldsOfEveryChoice shape (Best n) = (c : Choice) × IsBest c shape × (total c shape ≡ n)
+HoldsOfEveryChoice shape (Range k) = (c : Choice) → ¬ IsValid c shape
+HoldsOfEveryChoice shape (TooLarge n) = (c : Choice) → ¬ IsValid c shape

@@ -3,8 +3,8 @@ use Rattle.std.specs.List.{list_any}
 use Rattle.certificate.specs.Types.{Statement}
 use Rattle.certificate.specs.Choice.{Choice, IsJump, Reaches}
 
--- Jumps that are made long one after the other, each because it does not reach its target. Whoever goes along such an
--- order sees that each of its members has to be long, whatever else is chosen.
+-- Jumps that become long one after the other, each because it does not reach its target. Whoever follows such an order
+-- sees that each of its members has to be long, whatever else is chosen.
 
 -- the choice that is long exactly at the members of a list
 abbrev pub after : List ℕ → Choice
@@ -17,6 +17,6 @@ pub record Misses (c : Choice) (shape : List Statement) (j : ℕ) : Type 0 where
   pub short : c j ≡ false
   pub misses : ¬ Reaches c shape j target
 
--- each member misses its target once those before it are long; so no member stands twice
+-- each member misses its target once those before it are long, so no member occurs twice
 abbrev pub IsForcing : List Statement → List ℕ → Type 0
 IsForcing shape order = (i : ℕ) → i < length order → Misses (after (take i order)) shape (slice_index order i)

@@ -6,9 +6,9 @@ use Rattle.certificate.specs.declared.shape.Statement.TheVariants.{Fixed, Jump, 
 use Rattle.certificate.specs.declared.cert.Verdict.TheVariants.{Best, Range, TooLarge}
 use Rattle.certificate.specs.declared.fault.TextFault.TheVariants.{BadLine, NoMemory}
 use Rattle.certificate.specs.Choice.{IsShape}
-use Rattle.certificate.specs.Lines.{text_of, AreFramed, BreaksAt}
+use Rattle.certificate.specs.Lines.{lines_text, AreFramed, BreaksAt}
 
--- The two texts: one spelling of each value, and the first bad line of a text that spells none. Numbers are decimal,
+-- The two files: each value has one file, and a file that has no value has a first bad line. Numbers are decimal,
 -- without leading zeros.
 
 -- the line of a statement
@@ -23,13 +23,13 @@ sizes_header = codes "Z80SIZES 1"
 abbrev pub end_line : List ℕ
 end_line = codes "END"
 
--- the lines of a sizes text with these lines of statements
+-- the lines of a sizes file with these lines of statements
 abbrev pub sizes_lines : List (List ℕ) → List (List ℕ)
 sizes_lines statements = sizes_header ∷ statements ++ end_line ∷ []
 
--- the sizes text of a shape
+-- the sizes file of a shape
 abbrev pub sizes_text : List Statement → List ℕ
-sizes_text shape = text_of (sizes_lines (map statement_line shape))
+sizes_text shape = lines_text (sizes_lines (map statement_line shape))
 
 -- the line of a member of a forcing order
 abbrev pub forced_line : ℕ → List ℕ
@@ -44,9 +44,9 @@ verdict_line (TooLarge n) = codes "SIZE " ++ decimal n
 abbrev pub cert_header : List ℕ
 cert_header = codes "Z80CERT 1"
 
--- the certificate text of an order and a verdict
+-- the certificate with this order and this verdict
 abbrev pub cert_text : List ℕ → Verdict → List ℕ
-cert_text order verdict = text_of (cert_header ∷ map forced_line order ++ verdict_line verdict ∷ [])
+cert_text order verdict = lines_text (cert_header ∷ map forced_line order ++ verdict_line verdict ∷ [])
 
 -- the number of a verdict
 abbrev pub verdict_number : Verdict → ℕ
@@ -54,7 +54,7 @@ verdict_number (Best n) = n
 verdict_number (Range k) = k
 verdict_number (TooLarge n) = n
 
--- what has a certificate text: numbers below 4,294,967,296
+-- which orders and verdicts have a certificate: those with numbers below 4,294,967,296
 pub record IsCert (order : List ℕ) (verdict : Verdict) : Type 0 where
   pub members : All (λ k. k < 2 ^ 32) order
   pub number : verdict_number verdict < 2 ^ 32
@@ -65,40 +65,40 @@ IsForcedLine line = (k : ℕ) × (k < 2 ^ 32) × (line ≡ forced_line k)
 abbrev pub IsVerdictLine : List ℕ → Type 0
 IsVerdictLine line = (verdict : Verdict) × (verdict_number verdict < 2 ^ 32) × (line ≡ verdict_line verdict)
 
--- the grammar of a certificate text
+-- the grammar of a certificate
 abbrev pub AreCertLines : List (List ℕ) → Type 0
 AreCertLines = AreFramed cert_header IsForcedLine IsVerdictLine (λ _. Unit {0})
 
--- a certificate text comes to its order and verdict, or to its first bad line
+-- a certificate has this order and verdict, or this is its first bad line
 abbrev pub ReadsCert : List ℕ → Result (List ℕ × Verdict) TextFault → Type 0
 ReadsCert text (Ok cert) = IsCert cert.0 cert.1 × (text ≡ cert_text cert.0 cert.1)
 ReadsCert text (Err (BadLine n)) = BreaksAt AreCertLines text n
 ReadsCert text (Err NoMemory) = ⊥
 
--- what a reader answers: what the text comes to, or that memory ran out
+-- what a reader answers: what the file has, or that memory ran out
 abbrev pub OrNoMemory : {A : Type 0} → (Result A TextFault → Type 0) → Result A TextFault → Type 0
 OrNoMemory Reads (Ok value) = Reads (Ok value)
 OrNoMemory Reads (Err (BadLine n)) = Reads (Err (BadLine n))
 OrNoMemory Reads (Err NoMemory) = Unit {0}
 
 -- what was answered, as a list and a verdict
-abbrev pub answered : Result Cert TextFault → Result (List ℕ × Verdict) TextFault
-answered (Ok cert) = Ok (cert.order.items, cert.verdict)
-answered (Err fault) = Err fault
+abbrev pub answered_certificate : Result Cert TextFault → Result (List ℕ × Verdict) TextFault
+answered_certificate (Ok cert) = Ok (cert.order.items, cert.verdict)
+answered_certificate (Err fault) = Err fault
 
--- the line of a statement of a fixed size
+-- the line of a statement of fixed size
 abbrev pub IsFixedLine : List ℕ → Type 0
 IsFixedLine line = (n : ℕ) × (1 ≤ n) × (n ≤ MOST_BYTES) × (line ≡ statement_line (Fixed n))
 
--- a decimal number of any size: digits, of which the first is no 0 unless it stands alone
-pub record IsNumber (digits : List ℕ) : Type 0 where
+-- a decimal number of any size: digits; the first is not 0 unless it is the only one
+pub record IsDecimalNumber (digits : List ℕ) : Type 0 where
   pub numeral : IsNumeral 10 digits
   pub no_zero : slice_index digits 0 ≡ 0x30 → length digits ≡ 1
 
--- the line of a jump, by its word, to a target that may be any number
+-- the line of a jump with this word, to a target that may be any number
 pub record IsJumpLine (word line : List ℕ) (target : ℕ) : Type 0 where
   pub digits : List ℕ
-  pub is_number : IsNumber digits
+  pub is_number : IsDecimalNumber digits
   pub target_is : digits_value 10 digits ≡ target
   pub line_is : line ≡ word ++ digits
 
@@ -109,20 +109,20 @@ IsAnyJumpLine line target = IsJumpLine (codes "J ") line target ⊎ IsJumpLine (
 abbrev pub IsStatementLine : List ℕ → Type 0
 IsStatementLine line = IsFixedLine line ⊎ ((target : ℕ) × IsAnyJumpLine line target)
 
--- The grammar of a sizes text, but for how great a target may be. That depends on the count of statements, so targets
--- are judged where the whole text has kept this grammar.
+-- The grammar of a sizes file, in which a target may be any number. Whether a target exists depends on the count of
+-- statements, so it is judged only if the whole file keeps this grammar.
 abbrev pub AreSizesLines : List (List ℕ) → Type 0
 AreSizesLines = AreFramed sizes_header IsStatementLine (λ line. line ≡ end_line) (λ count. count ≤ MOST_STATEMENTS)
 
--- the line of a jump to what is no statement and not the end
+-- the line of a jump to a target that is neither a statement nor the end
 abbrev pub IsFarLine : ℕ → List ℕ → Type 0
 IsFarLine count line = (target : ℕ) × (count < target) × IsAnyJumpLine line target
 
--- the text keeps that grammar, and line n is the first of a jump to what is not there
+-- the file keeps that grammar, and line n is the first whose target does not exist
 pub record IsFarAt (text : List ℕ) (n : ℕ) : Type 0 where
   pub statements : List (List ℕ)
   pub grammar : AreSizesLines (sizes_lines statements)
-  pub text_is : text ≡ text_of (sizes_lines statements)
+  pub text_is : text ≡ lines_text (sizes_lines statements)
   pub index : ℕ
   pub number : n ≡ index + 2
   pub line : List ℕ
@@ -130,7 +130,7 @@ pub record IsFarAt (text : List ℕ) (n : ℕ) : Type 0 where
   pub far : IsFarLine (length statements) line
   pub first : (i : ℕ) (other : List ℕ) → i < index → slice_get statements i ≡ Some other → ¬ IsFarLine (length statements) other
 
--- a sizes text comes to its shape, or to its first bad line
+-- a sizes file has this shape, or this is its first bad line
 abbrev pub ReadsSizes : List ℕ → Result (List Statement) TextFault → Type 0
 ReadsSizes text (Ok shape) = IsShape shape × (text ≡ sizes_text shape)
 ReadsSizes text (Err (BadLine n)) = BreaksAt AreSizesLines text n ⊎ IsFarAt text n

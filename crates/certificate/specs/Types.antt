@@ -1,4 +1,4 @@
--- The public types, in one place for this crate.
+-- The public types, in one place for definitions of this crate.
 pub use Rattle.certificate.specs.declared.shape.Statement.{Statement}
 pub use Rattle.certificate.specs.declared.cert.Verdict.{Verdict}
 pub use Rattle.certificate.specs.declared.cert.Cert.{Cert}

@@ -1,22 +1,22 @@
-//! What a certificate says, and its text.
+//! What a certificate says, and its file.
 
 ghost use Rattle.std.specs.Prelude.{◌≡◌, ◌⊎◌, ◌<◌, ◌^◌, ℕ, All, List, Result, IfOk};
 ghost use Rattle.certificate.specs.Types.{TextFault, Verdict};
-ghost use Rattle.certificate.specs.Texts.{OrNoMemory, IsCert, ReadsCert, answered, cert_text};
+ghost use Rattle.certificate.specs.Texts.{OrNoMemory, IsCert, ReadsCert, answered_certificate, cert_text};
 ghost use Rattle.certificate.specs.Private.Reading.{IsCertLine};
 
 use crate::fault::TextFault;
 use crate::lines::{behind, first_line, numbered, push_line};
 use std::alloc::{AllocError, Global};
 
-/// What is shown of a shape.
+/// What a certificate shows of a shape.
 #[derive(Clone, Copy, Debug, PartialEq, Eq)]
 pub enum Verdict {
-    /// This many bytes are the fewest.
+    /// The fewest bytes are this many.
     Best(u32),
-    /// This [`Short`](crate::Statement::Short) does not reach its target in any choice.
+    /// This [`Short`](crate::Statement::Short) does not reach its target in any choice that fits, so none fits.
     Range(u32),
-    /// This many bytes, more than 64,512, are taken at least.
+    /// No choice takes fewer bytes than this, which is more than 64,512.
     TooLarge(u32),
 }
 
@@ -24,7 +24,7 @@ impl Verdict {
     ghost use Rattle.std.specs.Prelude.{◌≡◌, ◌++◌, decimal};
     ghost use Rattle.certificate.specs.Texts.{verdict_line, verdict_number};
 
-    /// The word of its line, with the blank behind it, and its number.
+    /// The word of its line with the space after it, and its number.
     fn parts(self) -> (&'static [u8], u32)
         ensures line { verdict_line self ≡ result.0.now ++ decimal result.1 }
         ensures number { result.1 ≡ verdict_number self }
@@ -40,19 +40,19 @@ impl Verdict {
 /// A forcing order and what is shown after it.
 #[derive(Debug, Drop, PartialEq, Eq)]
 pub struct Cert {
-    /// The numbers of the jumps that have to be long, each forced by those before it.
+    /// The numbers of the jumps that have to be long, each because of those before it.
     pub order: Vec<u32>,
     /// What is shown once they are long.
     pub verdict: Verdict,
 }
 
-/// A line of a certificate behind its first.
+/// A line of a certificate after the header.
 enum CertLine {
     Forced(u32),
     Last(Verdict),
 }
 
-/// The line's meaning, where it has one.
+/// Answers what a line means, if it is a line of a certificate.
 fn cert_line(line: &[u8]) -> Option<CertLine>
     ensures { IsCertLine line.now result }
 {
@@ -69,9 +69,9 @@ fn cert_line(line: &[u8]) -> Option<CertLine>
     Some(CertLine::Last(Verdict::TooLarge(n)))
 }
 
-/// What the text's lines say, or its first bad line.
+/// Answers what the lines of the file say, or the first bad line.
 fn cert_of(alloc: Global, text: &[u8]) -> Result<Cert, TextFault>
-    ensures { OrNoMemory (ReadsCert text.now) (answered result) }
+    ensures { OrNoMemory (ReadsCert text.now) (answered_certificate result) }
 {
     let Some(mut rest) = behind(b"Z80CERT 1\n", text) else {
         return Err(TextFault::BadLine(1));
@@ -92,13 +92,14 @@ fn cert_of(alloc: Global, text: &[u8]) -> Result<Cert, TextFault>
     Err(TextFault::BadLine(order.len() + 2))
 }
 
-/// Numbers of these types are below 4,294,967,296, as those of a certificate are.
+/// Does nothing. Its contract says that numbers of these types are below 4,294,967,296, as those of a certificate have
+/// to be.
 fn numbers_fit(order: &[u32], number: u32)
     ensures members { All (λ k. k < 2 ^ 32) order.now }
     ensures number { number < 2 ^ 32 }
 {}
 
-/// The certificate text of a forcing order and a verdict.
+/// Answers the certificate of a forcing order and a verdict.
 pub fn print_cert(alloc: Global, cert: &Cert) -> Result<Vec<u8>, AllocError>
     ensures text { IfOk result (λ text. text.items ≡ cert_text cert.now.order.items cert.now.verdict) }
     ensures numbers { IfOk result (λ _. IsCert cert.now.order.items cert.now.verdict) }
@@ -113,19 +114,19 @@ pub fn print_cert(alloc: Global, cert: &Cert) -> Result<Vec<u8>, AllocError>
     Ok(text)
 }
 
-/// The forcing order and the verdict that a certificate text spells.
+/// Answers the forcing order and the verdict of a certificate.
 ///
 /// # Errors
 ///
 /// [`TextFault::BadLine`] with the first line that breaks the grammar, counted from 1: also the number of the line that
-/// is missing, that has no line feed, or that is behind the last. [`TextFault::NoMemory`] where the list cannot grow.
+/// is missing, that has no line feed, or that comes after the last. [`TextFault::NoMemory`] if memory ran out.
 pub fn read_cert(alloc: Global, text: &[u8]) -> Result<Cert, TextFault>
-    // What is answered is what the text comes to, but for memory.
-    ensures read { OrNoMemory (ReadsCert text.now) (answered result) }
+    // The answer is what the file has, unless memory ran out.
+    ensures read { OrNoMemory (ReadsCert text.now) (answered_certificate result) }
 
-    // A text comes to one thing alone, so no other is answered.
+    // A file has one value or one first bad line, so nothing else is answered.
     ensures only { (answer : Result (List ℕ × Verdict) TextFault) → ReadsCert text.now answer →
-        (answered result ≡ answer) ⊎ (answered result ≡ Err TextFault.NoMemory) }
+        (answered_certificate result ≡ answer) ⊎ (answered_certificate result ≡ Err TextFault.NoMemory) }
 {
     cert_of(alloc, text)
 }

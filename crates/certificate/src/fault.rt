@@ -1,4 +1,4 @@
-//! Why there is no text, or nothing that a text spells.
+//! Why a file has no value.
 
 ghost use Rattle.std.specs.Prelude.{◌≡◌};
 ghost use Rattle.certificate.specs.declared.fault.TextFault.TheVariants.{NoMemory};
@@ -6,10 +6,10 @@ ghost use Rattle.certificate.specs.declared.fault.TextFault.TheVariants.{NoMemor
 use std::alloc::{AllocError, AllocFailed};
 use thiserror::Error;
 
-/// Why a text is not read.
+/// Why a file cannot be read.
 #[derive(Clone, Copy, Debug, PartialEq, Eq, Error)]
 pub enum TextFault {
-    /// The first line that breaks the text's grammar, counted from 1.
+    /// The first line that breaks the file's grammar, counted from 1.
     #[error("line {0} is bad")]
     BadLine(usize),
     #[error("out of memory")]

@@ -1,11 +1,11 @@
-//! Laws about choices, texts and certificates, as functions that do nothing.
+//! Laws about choices, files and certificates. A law is a function that does nothing and whose clause is a theorem.
 
 ghost use Rattle.std.specs.Prelude.{◌≡◌, ℕ, true, List, Result};
 ghost use Rattle.certificate.specs.Types.{Statement, Verdict, TextFault};
 ghost use Rattle.certificate.specs.Choice.{Choice, IsSettled, IsShape};
 ghost use Rattle.certificate.specs.Forcing.{after, IsForcing};
 ghost use Rattle.certificate.specs.Texts.{ReadsCert, ReadsSizes, sizes_text};
-ghost use Rattle.certificate.specs.Accepts.{Accepts, Holds};
+ghost use Rattle.certificate.specs.Accepts.{Accepts, HoldsOfEveryChoice};
 
 use crate::shape::Statement;
 
@@ -15,18 +15,18 @@ pub fn forced(shape: &[Statement], order: &[u32])
     ensures { (c : Choice) → IsSettled c shape.now → (k : ℕ) → after order.now k ≡ true → c k ≡ true }
 {}
 
-/// What a good certificate shows, it shows of every choice of the shape that the sizes text spells.
+/// What a good certificate shows holds of every choice of the shape that the sizes file has.
 pub fn accepted()
     ensures { (sizes cert : List ℕ) (verdict : Verdict) → Accepts sizes cert verdict →
-        (shape : List Statement) → IsShape shape → sizes ≡ sizes_text shape → Holds shape verdict }
+        (shape : List Statement) → IsShape shape → sizes ≡ sizes_text shape → HoldsOfEveryChoice shape verdict }
 {}
 
-/// A text comes to one order with a verdict at most, or to one first bad line.
+/// A certificate has one order and verdict at most, or one first bad line.
 pub fn one_cert()
     ensures { (text : List ℕ) (a b : Result (List ℕ × Verdict) TextFault) → ReadsCert text a → ReadsCert text b → a ≡ b }
 {}
 
-/// A text comes to one shape at most, or to one first bad line.
+/// A sizes file has one shape at most, or one first bad line.
 pub fn one_shape()
     ensures { (text : List ℕ) (a b : Result (List Statement) TextFault) → ReadsSizes text a → ReadsSizes text b → a ≡ b }
 {}

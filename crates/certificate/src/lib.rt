@@ -1,9 +1,9 @@
-//! The certificate of a choice of short and long jumps: two texts from which anyone can check that it is best.
+//! The certificate of a choice of short and long jumps: two files from which anyone can check that it is best.
 //!
-//! The sizes text says of a Z80 program what its size depends on, a [`Shape`]: which statements have a fixed size, and
-//! where the jumps go. The certificate text names the jumps that must be long, in an order in which each is seen to be
+//! The sizes file says what the size of a Z80 program depends on, a [`Shape`]: which statements have a fixed size, and
+//! where the jumps go. The certificate names the jumps that must be long, in an order in which each is seen to be
 //! forced by those before it, and then the [`Verdict`]: the fewest bytes, a jump that never reaches its target, or too
-//! many bytes. Each value has one text; a text that is none is refused with its first bad line.
+//! many bytes. Each value has one file; a file that has no value is refused with its first bad line.
 #![tactic(auto)]
 
 mod cert;

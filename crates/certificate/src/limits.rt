@@ -1,6 +1,6 @@
 //! The limits of a program. The linker has its own: the checker shares nothing with it.
 
-/// Where a program begins: 0100H, as every program under CP/M.
+/// The address at which every program begins under CP/M: 0100H.
 pub const FIRST_PLACE: u32 = 0x100;
 
 /// The most statements of a program.

@@ -1,4 +1,4 @@
-//! Lines, and the numbers in them.
+//! Reads and writes lines, and the numbers in them.
 
 ghost use Rattle.std.specs.Prelude.{◌≡◌, ◌≢◌, ◌<◌, ◌∷◌, ◌++◌, ℕ, List, [], length, decimal, true, IfSome, MatchOption, OnOk};
 ghost use Rattle.std.specs.List.{list_all};
@@ -9,7 +9,7 @@ ghost use Rattle.certificate.specs.Private.Reading.{IsNumbered, IsPlain, IsTarge
 use itoa::Buffer;
 use std::alloc::AllocError;
 
-/// The first whole line, without its line feed, and what is behind it.
+/// Answers the first whole line, without its line feed, and what follows it.
 pub(crate) fn first_line(text: &[u8]) -> Option<(&[u8], &[u8])>
     ensures line { MatchOption result (IsPlain text.now)
         (λ found. IsPlain found.0.now × (text.now ≡ found.0.now ++ line_feed ∷ found.1.now)) }
@@ -23,7 +23,7 @@ pub(crate) fn first_line(text: &[u8]) -> Option<(&[u8], &[u8])>
     }
 }
 
-/// What is behind a first line.
+/// Answers what follows the header, if the file begins with it.
 pub(crate) fn behind<'a>(header: &[u8], text: &'a [u8]) -> Option<&'a [u8]>
     ensures { MatchOption result ((rest : List ℕ) → text.now ≢ header.now ++ rest)
         (λ rest. text.now ≡ header.now ++ rest.now) }
@@ -37,7 +37,7 @@ fn are_digits(bytes: &[u8]) -> bool
     bytes.iter().all(|b| b.is_ascii_digit())
 }
 
-/// Whether these are the digits of a number: decimal ones, the first no 0 unless it stands alone.
+/// Whether these are the digits of a number: decimal digits; the first is not 0 unless it is the only one.
 fn is_number(digits: &[u8]) -> bool
     ensures { result ≡ is_number digits.now }
 {
@@ -50,7 +50,7 @@ fn is_number(digits: &[u8]) -> bool
     are_digits(digits)
 }
 
-/// The number that the digits write, where it is below 2^32.
+/// Answers the number that the digits are, if it is below 2^32.
 fn value(digits: &[u8]) -> Option<u32>
     requires { is_number digits.now ≡ true }
     ensures { IsNumbered [] digits.now result }
@@ -59,7 +59,7 @@ fn value(digits: &[u8]) -> Option<u32>
     text.parse().ok()
 }
 
-/// The number behind a word, where the line is nothing else and the number is below 2^32.
+/// Answers the number after a word, if the line has nothing else and the number is below 2^32.
 pub(crate) fn numbered(word: &[u8], line: &[u8]) -> Option<u32>
     ensures { IsNumbered word.now line.now result }
 {
@@ -70,7 +70,7 @@ pub(crate) fn numbered(word: &[u8], line: &[u8]) -> Option<u32>
     value(digits)
 }
 
-/// The number behind a word, where the line is nothing else; the greatest u32 for one above it.
+/// Answers the number after a word, if the line has nothing else; u32::MAX if the number is greater than that.
 pub(crate) fn target(word: &[u8], line: &[u8]) -> Option<u32>
     ensures { IsTarget word.now line.now result }
 {
@@ -81,7 +81,7 @@ pub(crate) fn target(word: &[u8], line: &[u8]) -> Option<u32>
     Some(value(digits).unwrap_or(u32::MAX))
 }
 
-/// Puts a line of a word and a number at the end.
+/// Appends a line of a word and a number.
 pub(crate) fn push_line(text: &mut Vec<u8>, word: &[u8], number: u32) -> Result<(), AllocError>
     ensures { OnOk result (text.new.items ≡ text.old.items ++ word.now ++ decimal number ++ line_feed ∷ []) }
 {

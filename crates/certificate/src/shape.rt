@@ -3,13 +3,13 @@
 use crate::limits::MOST_STATEMENTS;
 use std::marker::Model;
 
-/// One statement of a program, as far as sizes go. Targets are numbers of statements, counted from 0; the count of all
-/// statements stands for the end.
+/// The size of one statement of a program. Targets are numbers of statements, counted from 0; the count of all
+/// statements means the end.
 #[derive(Clone, Copy, Debug, PartialEq, Eq)]
 pub enum Statement {
-    /// As many bytes as it says, from 1 to 65,535.
+    /// This many bytes, from 1 to 65,535.
     Fixed(u16),
-    /// A jump to a statement, of two bytes or three: `JP` to a label.
+    /// A relaxable jump to a statement, of two bytes or three.
     Jump(u32),
     /// A jump to a statement that always takes two bytes: `JR` or `DJNZ`.
     Short(u32),
@@ -20,7 +20,7 @@ impl Statement {
     ghost use Rattle.certificate.specs.Choice.{IsStatement};
     ghost use Rattle.certificate.specs.Texts.{statement_line};
 
-    /// Whether it may stand in a program of `count` statements.
+    /// Whether a program of `count` statements may have it.
     pub(crate) fn is_within(self, count: usize) -> bool
         ensures { IsTrue result ↔ IsStatement count self }
     {
@@ -30,7 +30,7 @@ impl Statement {
         }
     }
 
-    /// The word of its line, with the blank behind it, and its number.
+    /// The word of its line with the space after it, and its number.
     pub(crate) fn parts(self) -> (&'static [u8], u32)
         ensures { statement_line self ≡ result.0.now ++ decimal result.1 }
     {
@@ -64,7 +64,7 @@ impl Shape {
     ghost use Rattle.std.specs.Prelude.{◌≡◌, ◌↔◌, IsTrue};
     ghost use Rattle.certificate.specs.Choice.{IsShape};
 
-    /// The shape of these statements. [`is_shape`](Shape::is_shape) tests what it needs.
+    /// Makes the shape of these statements. [`is_shape`](Shape::is_shape) has to be true of them.
     pub fn new(statements: Vec<Statement>) -> Self
         requires { IsShape statements.items }
         ensures { result ≡ statements.items }
@@ -72,8 +72,8 @@ impl Shape {
         Shape { statements }
     }
 
-    /// Whether these are the statements of a shape: at most 20,000, none of 0 bytes, and each target a statement's
-    /// number or their count.
+    /// Whether these statements are a shape: at most 20,000, none of 0 bytes, and each target the number of a statement
+    /// or their count.
     pub fn is_shape(statements: &[Statement]) -> bool
         ensures { IsTrue result ↔ IsShape statements.now }
     {

@@ -1,4 +1,4 @@
-//! The sizes text.
+//! Reads and writes the sizes file.
 
 ghost use Rattle.std.specs.Prelude.{◌≡◌, ◌≢◌, ◌⊎◌, ◌≤◌, ℕ, List, Result, Ok, IfOk, MatchBool, MatchOption};
 ghost use Rattle.certificate.specs.declared.limits.TheConstants.{MOST_BYTES};
@@ -12,7 +12,7 @@ use crate::lines::{behind, first_line, numbered, push_line, target};
 use crate::shape::{Shape, Statement};
 use std::alloc::{AllocError, Global};
 
-/// The sizes text of a shape.
+/// Answers the sizes file of a shape.
 pub fn print_sizes(alloc: Global, shape: &Shape) -> Result<Vec<u8>, AllocError>
     ensures { IfOk result (λ text. ReadsSizes text.items (Ok shape.now)) }
 {
@@ -25,7 +25,8 @@ pub fn print_sizes(alloc: Global, shape: &Shape) -> Result<Vec<u8>, AllocError>
     Ok(text)
 }
 
-/// The statement that a line spells, where it spells one. A target that is too great for any shape may be another such.
+/// Answers the statement of a line, if it is the line of one. A target too great for any shape may become another such
+/// target.
 fn statement(line: &[u8]) -> Option<Statement>
     ensures { IsStatementRead line.now result }
 {
@@ -39,7 +40,7 @@ fn statement(line: &[u8]) -> Option<Statement>
     Some(Statement::Short(t))
 }
 
-/// A statement of this size, where there may be one.
+/// Answers a statement of this size, if there may be one.
 fn fixed(size: u32) -> Option<Statement>
     ensures { MatchOption result ((1 ≤ size) → (size ≤ MOST_BYTES) → ⊥) (λ s. (1 ≤ size) × (size ≤ MOST_BYTES) × (s ≡ Statement.Fixed size)) }
 {
@@ -57,7 +58,7 @@ fn is_end(line: &[u8]) -> bool
     matches!(line, b"END")
 }
 
-/// The statements that the text's lines spell, with whatever targets, or the first bad line.
+/// Answers the statements of the lines of the file, whatever their targets, or the first bad line.
 fn statements_of(alloc: Global, text: &[u8]) -> Result<Vec<Statement>, TextFault>
     ensures { AreLinesRead text.now result }
 {
@@ -85,7 +86,7 @@ fn statements_of(alloc: Global, text: &[u8]) -> Result<Vec<Statement>, TextFault
     Err(TextFault::BadLine(statements.len() + 2))
 }
 
-/// The lowest statement whose target is none of theirs and not the end.
+/// Answers the lowest statement whose target does not exist.
 fn first_far(statements: &[Statement]) -> Option<usize>
     ensures { IsFirstFar statements.now result }
 {
@@ -98,7 +99,7 @@ fn first_far(statements: &[Statement]) -> Option<usize>
     None
 }
 
-/// The shape that the text spells, or its first bad line.
+/// Answers the shape of the file, or its first bad line.
 fn shape_of(alloc: Global, text: &[u8]) -> Result<Shape, TextFault>
     ensures { OrNoMemory (ReadsSizes text.now) result }
 {
@@ -109,18 +110,18 @@ fn shape_of(alloc: Global, text: &[u8]) -> Result<Shape, TextFault>
     Ok(Shape::new(statements))
 }
 
-/// The shape that a sizes text spells.
+/// Answers the shape of a sizes file.
 ///
 /// # Errors
 ///
 /// [`TextFault::BadLine`] with the first line that breaks the grammar, counted from 1: also the number of the line that
-/// is missing, that has no line feed, or that is behind `END`. Where the text keeps the grammar but for its targets, it
-/// is the first line with a target above the count of statements. [`TextFault::NoMemory`] where the list cannot grow.
+/// is missing, that has no line feed, or that comes after `END`. If the file keeps the grammar, it is the first line
+/// with a target above the count of statements. [`TextFault::NoMemory`] if memory ran out.
 pub fn read_sizes(alloc: Global, text: &[u8]) -> Result<Shape, TextFault>
-    // What is answered is what the text comes to, but for memory.
+    // The answer is what the file has, unless memory ran out.
     ensures read { OrNoMemory (ReadsSizes text.now) result }
 
-    // A text comes to one thing alone, so no other is answered.
+    // A file has one value or one first bad line, so nothing else is answered.
     ensures only { (answer : Result (List Statement) TextFault) → ReadsSizes text.now answer →
         (result ≡ answer) ⊎ (result ≡ Err TextFault.NoMemory) }
 {

@@ -1,4 +1,4 @@
-//! Images in memory, and what commands make of them.
+//! Rows of images in memory, and of the commands that use them.
 
 ghost use Rattle.std.specs.Prelude.{◌<◌};
 
@@ -12,7 +12,7 @@ use z80dev_disk::{
     get, get_all, mark, put, rename,
 };
 
-/// Where the directory of an eight inch disk begins: after two tracks of 26 sectors.
+/// The first byte of the directory of an eight inch disk: after two tracks of 26 sectors.
 const DIRECTORY: usize = 6_656;
 
 /// An image, and the user whose files the steps of a row change.
@@ -30,7 +30,7 @@ impl Drive {
         self.user % 32
     }
 
-    /// Takes a changed image in the place of the one before. A refusal is printed, and leaves the image.
+    /// Puts a changed image in the place of the old one. A refusal is printed, and leaves the image.
     fn take<W: Write>(
         &mut self,
         alloc: Global,
@@ -75,7 +75,7 @@ fn show_answer<W: Write>(
     }
 }
 
-/// A number of that many bytes.
+/// A word as a number of bytes.
 fn count_of(word: &str) -> Result<usize, anyhow::Error> {
     Ok(usize::try_from(u64::from_str_radix(word, 10)?)?)
 }
@@ -87,7 +87,7 @@ fn image_of(alloc: Global, entries: &str) -> Result<Vec<u8>, anyhow::Error> {
     Ok(image)
 }
 
-/// The image that a step begins with, if it is one that makes an image.
+/// The image that a step begins with, if the step makes one.
 fn made_image(alloc: Global, step: &str, rest: &str) -> Result<Option<Vec<u8>>, anyhow::Error> {
     match step.as_bytes() {
         b"eight" => Ok(Some(blank(alloc, DiskKind::EightInch)?)),
@@ -98,7 +98,7 @@ fn made_image(alloc: Global, step: &str, rest: &str) -> Result<Option<Vec<u8>>, 
     }
 }
 
-/// Puts a file of the given number of bytes 21H.
+/// Puts a file with the given number of bytes 21H on the disk.
 fn put_file<W: Write>(
     alloc: Global,
     out: &mut W,
@@ -116,7 +116,7 @@ fn put_file<W: Write>(
     drive.take(alloc, out, made)
 }
 
-/// Puts two files without bytes by one call.
+/// Puts two files without bytes on the disk, in one call.
 fn put_two<W: Write>(
     alloc: Global,
     out: &mut W,
@@ -138,7 +138,7 @@ fn put_two<W: Write>(
     drive.take(alloc, out, made)
 }
 
-/// Puts a text.
+/// Puts a text on the disk.
 fn put_text<W: Write>(
     alloc: Global,
     out: &mut W,
@@ -155,7 +155,7 @@ fn put_text<W: Write>(
     drive.take(alloc, out, made)
 }
 
-/// Puts that many empty files F0, F1 and so on.
+/// Puts this many empty files F0, F1 and so on, on the disk.
 fn put_many<W: Write>(
     alloc: Global,
     out: &mut W,
@@ -194,7 +194,7 @@ fn report_put<W: Write>(
     }
 }
 
-/// Gives a file another name.
+/// Renames a file.
 fn rename_file<W: Write>(
     alloc: Global,
     out: &mut W,
@@ -249,7 +249,7 @@ fn report_change<W: Write>(
     }
 }
 
-/// Prints each file that matches, with its name for the host.
+/// Prints each file that matches, with its name on the host.
 fn get_files<W: Write>(
     alloc: Global,
     out: &mut W,
@@ -293,7 +293,7 @@ fn list_files<W: Write>(
     show_answer(alloc, out, &dir(alloc, &drive.image, &asked))
 }
 
-/// Prints that many bytes of an image, from one on.
+/// Prints some bytes of an image: the number of the first, and how many.
 fn show_part<W: Write>(out: &mut W, image: &[u8], rest: &str) -> Result<(), anyhow::Error> {
     let (from, count) = rest.split_once(' ').context("no count")?;
     let rest = image.get(count_of(from)?..).context("no such byte")?;
@@ -301,7 +301,7 @@ fn show_part<W: Write>(out: &mut W, image: &[u8], rest: &str) -> Result<(), anyh
     show(out, part)
 }
 
-/// Carries out a step that asks something of an image.
+/// Carries out a step that looks at an image.
 fn report_question<W: Write>(
     alloc: Global,
     out: &mut W,
@@ -353,7 +353,7 @@ fn report_step<W: Write>(
     report_question(alloc, out, drive, step, rest)
 }
 
-/// Reports the steps of a row, each on the image that the steps before it leave.
+/// Carries out the steps of a row, each on the image that the steps before it leave.
 pub(crate) fn report_disk<W: Write>(
     alloc: Global,
     out: &mut W,

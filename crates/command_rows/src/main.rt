@@ -1,6 +1,6 @@
-//! Reads rows, a line of standard input each, and prints each with the answer of the call that it names.
+//! Reads rows, one on each line of standard input, and prints each with the answer of the call that it names.
 //!
-//! The head of `stdin` says which calls there are and what follows the name of each; a line of `;` is a remark.
+//! The head of `stdin` lists the calls and what follows the name of each; a line that begins with `;` is a remark.
 #![tactic(auto)]
 
 mod disks;
@@ -15,7 +15,7 @@ use std::alloc::Global;
 use std::io;
 use std::io::Write;
 
-/// The bytes of a row with what stands in braces written out, and `|` for the end of a line.
+/// The bytes of a row. Those in braces are written out, and `|` is a line feed.
 pub(crate) fn text_of(alloc: Global, row: &str) -> Result<Vec<u8>, anyhow::Error> {
     let mut text = row_text::written_out(alloc, row)?;
     for byte in text.iter_mut() {
@@ -33,7 +33,7 @@ pub(crate) fn show<W: Write>(out: &mut W, bytes: &[u8]) -> Result<(), anyhow::Er
     Ok(write!(out, ">")?)
 }
 
-/// The calls over disks and the words of a command.
+/// Makes calls about disks and the words of a command.
 fn report_words<W: Write>(
     alloc: Global,
     out: &mut W,
@@ -51,7 +51,7 @@ fn report_words<W: Write>(
     }
 }
 
-/// All calls.
+/// Makes any call.
 fn report<W: Write>(
     alloc: Global,
     out: &mut W,

@@ -1,4 +1,4 @@
-//! What `asm`, `link` and `build` answer, and how `finish` does it.
+//! Rows of `asm`, `link` and `build`, with the files that `finish` writes.
 
 use crate::{show, text_of};
 use anyhow::Context;
@@ -7,7 +7,7 @@ use std::io::Write;
 use z80dev::{Answer, MemorySink, SourceFile, Told, asm, build, finish, link, report};
 use z80dev_jobs::{FailingFiles, Failure, MemoryFiles};
 
-/// How `finish` ended: the status, what is printed and said, and the files.
+/// How `finish` ended: the status, what it printed and reported, and the files.
 #[derive(Drop)]
 struct Outcome {
     status: u8,
@@ -16,7 +16,7 @@ struct Outcome {
     files: MemoryFiles,
 }
 
-/// How `finish` ends for an answer, if no more files can be written than that many.
+/// Calls `finish` for an answer, if at most `room` files can be written.
 fn finished(alloc: Global, answer: &Answer<Told<'_>>, room: u64) -> Outcome {
     let failure = Failure {
         call: room.saturating_add(1),
@@ -49,7 +49,7 @@ fn show_finished<W: Write>(out: &mut W, finished: &Outcome) -> Result<(), anyhow
     Ok(())
 }
 
-/// Reports what `asm` makes of a source file.
+/// Prints what `asm` makes of a source.
 pub(crate) fn report_asm<W: Write>(
     alloc: Global,
     out: &mut W,
@@ -61,7 +61,7 @@ pub(crate) fn report_asm<W: Write>(
     show_finished(out, &finished(alloc, &answer, 9))
 }
 
-/// The object of a source file, or the bytes after `=`.
+/// The object file of a source, or the bytes after `=`.
 fn object_of(alloc: Global, part: &str) -> Result<Vec<u8>, anyhow::Error> {
     if let Some(bytes) = part.strip_prefix('=') {
         return row_text::written_out(alloc, bytes);
@@ -79,7 +79,7 @@ fn object_of(alloc: Global, part: &str) -> Result<Vec<u8>, anyhow::Error> {
     Ok(file.bytes)
 }
 
-/// Reports what `link` makes of objects.
+/// Prints what `link` makes of object files.
 pub(crate) fn report_link<W: Write>(
     alloc: Global,
     out: &mut W,
@@ -93,7 +93,7 @@ pub(crate) fn report_link<W: Write>(
     show_finished(out, &finished(alloc, &answer, 9))
 }
 
-/// Prints what `build` makes of source files with these paths and texts, and what it says of their jumps.
+/// Prints what `build` makes of sources with these paths and texts, and what it reports about their jumps.
 fn show_built<W: Write>(
     alloc: Global,
     out: &mut W,
@@ -114,7 +114,7 @@ fn show_built<W: Write>(
     Ok(())
 }
 
-/// Reports what `build` makes of source files.
+/// Prints what `build` makes of sources.
 pub(crate) fn report_build<W: Write>(
     alloc: Global,
     out: &mut W,

@@ -1,4 +1,4 @@
-//! Names and patterns of files as words.
+//! Rows of words that are names or patterns of files.
 
 ghost use Rattle.std.specs.Prelude.{◌≡◌, IfOk, false};
 ghost use Rattle.z80dev_disk.specs.Words.{is_wild};
@@ -9,19 +9,19 @@ use std::alloc::Global;
 use std::io::Write;
 use z80dev_disk::{Name, file_name, is_wild, own_name, pattern_of};
 
-/// The name that a word is.
+/// A word as a name.
 pub(crate) fn name_of(word: &str) -> Result<Name, anyhow::Error>
     ensures { IfOk result (λ name. is_wild name ≡ false) }
 {
     file_name(word).context("no name")
 }
 
-/// The pattern that a word is.
+/// A word as a pattern.
 pub(crate) fn pattern(word: &str) -> Result<[u8; 11], anyhow::Error> {
     pattern_of(word).context("no pattern")
 }
 
-/// The patterns that words are.
+/// Words as patterns.
 pub(crate) fn patterns(alloc: Global, words: &str) -> Result<Vec<[u8; 11]>, anyhow::Error> {
     let mut found = Vec::new(alloc);
     for word in words.split(' ') {
@@ -38,7 +38,7 @@ fn show_name<W: Write>(out: &mut W, name: Option<Name>) -> Result<(), anyhow::Er
     }
 }
 
-/// Reports the name that a word is.
+/// Prints the name that a word gives.
 pub(crate) fn report_name<W: Write>(
     alloc: Global,
     out: &mut W,
@@ -48,7 +48,7 @@ pub(crate) fn report_name<W: Write>(
     show_name(out, file_name(word.as_str()))
 }
 
-/// Reports the name that the last part of a path is.
+/// Prints the name that the last part of a path gives.
 pub(crate) fn report_own_name<W: Write>(
     alloc: Global,
     out: &mut W,
@@ -58,7 +58,7 @@ pub(crate) fn report_own_name<W: Write>(
     show_name(out, own_name(path.as_str()))
 }
 
-/// Reports the pattern that a word is, with its blanks, and whether it has a `?`.
+/// Prints the pattern that a word gives, with its blanks, and whether it has a `?`.
 pub(crate) fn report_pattern<W: Write>(
     alloc: Global,
     out: &mut W,

@@ -1,4 +1,4 @@
-//! What `pipe` prints of a text, and `check_texts` of a sizes text and its certificate.
+//! Rows of `pipe` with a source, and of `check_texts` with a sizes file and its certificate.
 
 use crate::scripted::{Ending, Reader, Writer};
 use crate::{show, text_of};
@@ -7,7 +7,7 @@ use std::alloc::Global;
 use std::io::Write;
 use z80dev::{Bytes, MemorySink, Watched, WatchedSink, check_texts, pipe, report};
 
-/// How a call ended: its status, what was printed and reported, and how often either writer failed.
+/// How a call ended: its status, what it printed and reported, and how often each writer failed.
 #[derive(Drop)]
 struct Ended {
     status: u8,
@@ -31,7 +31,7 @@ fn show_ended<W: Write>(out: &mut W, ended: &Ended) -> Result<(), anyhow::Error>
     Ok(())
 }
 
-/// How `pipe` ends over a text in memory.
+/// Calls `pipe` with a source in memory.
 fn piped_text(alloc: Global, text: &[u8]) -> Ended {
     let mut input = Bytes::new(text);
     let mut output = MemorySink::new(alloc);
@@ -47,7 +47,7 @@ fn piped_text(alloc: Global, text: &[u8]) -> Ended {
     }
 }
 
-/// Reports what `pipe` makes of a text in memory.
+/// Prints what `pipe` makes of a source in memory.
 pub(crate) fn report_pipe<W: Write>(
     alloc: Global,
     out: &mut W,
@@ -57,7 +57,7 @@ pub(crate) fn report_pipe<W: Write>(
     show_ended(out, &piped_text(alloc, &text))
 }
 
-/// The reader of a column.
+/// Makes the reader that a column describes.
 fn reader_of(column: &str, text: Vec<u8>) -> Result<Reader, anyhow::Error> {
     let (kind, number) = column.split_once(':').unwrap_or((column, "0"));
     let number = u64::from_str_radix(number, 10)?;
@@ -77,7 +77,7 @@ fn reader_of(column: &str, text: Vec<u8>) -> Result<Reader, anyhow::Error> {
     })
 }
 
-/// The writer of a column.
+/// Makes the writer that a column describes.
 fn writer_of(alloc: Global, column: &str) -> Result<Writer, anyhow::Error> {
     let (number, kind) = column.split_once('~').unwrap_or(("0", column));
     let room = match kind.as_bytes() {
@@ -94,7 +94,7 @@ fn writer_of(alloc: Global, column: &str) -> Result<Writer, anyhow::Error> {
     })
 }
 
-/// How a call ended over two writers.
+/// How a call with two writers ended.
 fn ended_over(status: u8, output: WatchedSink<Writer>, errors: WatchedSink<Writer>) -> Ended {
     let (output_failures, errors_failures) = (output.failures(), errors.failures());
     Ended {
@@ -106,7 +106,7 @@ fn ended_over(status: u8, output: WatchedSink<Writer>, errors: WatchedSink<Write
     }
 }
 
-/// How `pipe` ends over a reader and two writers, how often the reader was read, and whether it failed.
+/// Calls `pipe` with a reader and two writers. Answers how it ended, how often the reader was read, and whether it failed.
 fn piped(alloc: Global, reader: Reader, writer: Writer, teller: Writer) -> (Ended, u64, bool) {
     let mut input = Watched::new(reader);
     let mut output = WatchedSink::new(writer);
@@ -116,7 +116,7 @@ fn piped(alloc: Global, reader: Reader, writer: Writer, teller: Writer) -> (Ende
     (ended, input.reads(), input.has_failed())
 }
 
-/// Reports how `pipe` ends over streams that fail.
+/// Prints how `pipe` ends with streams that fail.
 pub(crate) fn report_streams<W: Write>(
     alloc: Global,
     out: &mut W,
@@ -146,7 +146,7 @@ fn show_streams<W: Write>(
     Ok(())
 }
 
-/// How `check_texts` and `report` end over two writers.
+/// Calls `check_texts` and `report` with two writers.
 fn checked(alloc: Global, sizes: &[u8], cert: &[u8], writer: Writer, teller: Writer) -> Ended {
     let mut output = WatchedSink::new(writer);
     let mut errors = WatchedSink::new(teller);
@@ -155,7 +155,7 @@ fn checked(alloc: Global, sizes: &[u8], cert: &[u8], writer: Writer, teller: Wri
     ended_over(status, output, errors)
 }
 
-/// Reports how `check_texts` ends over two writers.
+/// Prints how `check_texts` ends with two writers.
 pub(crate) fn report_check<W: Write>(
     alloc: Global,
     out: &mut W,

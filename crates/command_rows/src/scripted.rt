@@ -1,4 +1,4 @@
-//! Readers and writers that fail, stop, or go on for ever, as a row asks for them.
+//! Readers and writers that fail, stop or never end, as a row says.
 
 use std::io::{Error, ErrorKind, Read, Result, Write};
 
@@ -11,13 +11,13 @@ pub(crate) enum Ending {
     Fails(u64),
     /// The read of this number is interrupted.
     Interrupted(u64),
-    /// It gives line feeds without end.
+    /// Line feeds without end.
     Endless,
     /// Each read is interrupted.
     AlwaysInterrupted,
 }
 
-/// Gives a text byte by byte, but for the reads that fail.
+/// Gives a text byte by byte, except for the reads that fail.
 #[derive(Drop)]
 pub(crate) struct Reader {
     pub(crate) text: Vec<u8>,
@@ -66,8 +66,8 @@ impl Read for Reader {
     }
 }
 
-/// Takes as many bytes as there is room for, one at a time, and then none; a writer that is full fails instead. Each write is
-/// interrupted as often as `interruptions` says before it takes a byte.
+/// A writer that takes one byte at a time while it has room, and then none; one that is full fails instead. Before each byte,
+/// `interruptions` writes are interrupted.
 #[derive(Drop)]
 pub(crate) struct Writer {
     pub(crate) taken: Vec<u8>,
@@ -78,7 +78,7 @@ pub(crate) struct Writer {
 }
 
 impl Writer {
-    /// Whether the write is interrupted once more.
+    /// Whether the write is interrupted again.
     fn is_interrupted(&mut self) -> bool {
         if self.waits < self.interruptions {
             self.waits += 1;

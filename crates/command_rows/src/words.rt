@@ -1,11 +1,11 @@
-//! Which job the words of a line ask for, and which fault of usage they are.
+//! Rows of command lines: which job the words ask for, or which error of usage they have.
 
 use anyhow::Context;
 use std::alloc::Global;
 use std::io::Write;
 use z80dev::commands;
 
-/// The words of a line, cut at its blanks.
+/// The words of a line, separated by blanks.
 fn words_of(alloc: Global, line: &str) -> Result<Vec<String>, anyhow::Error> {
     let mut words = Vec::new(alloc);
     for word in line.split(' ') {
@@ -14,7 +14,7 @@ fn words_of(alloc: Global, line: &str) -> Result<Vec<String>, anyhow::Error> {
     Ok(words)
 }
 
-/// Reports the job of a line, or the kind of its fault.
+/// Prints the job of a line, or the kind of its error.
 pub(crate) fn report_job<W: Write>(
     alloc: Global,
     out: &mut W,
@@ -28,7 +28,7 @@ pub(crate) fn report_job<W: Write>(
     Ok(())
 }
 
-/// Reports whether what is said of a line has a part.
+/// Prints whether the text of a line's error or help has a part.
 pub(crate) fn report_part<W: Write>(
     alloc: Global,
     out: &mut W,

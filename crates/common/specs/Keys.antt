@@ -7,14 +7,14 @@ use Rattle.std.specs.Hash.FoldHasher as folding
 use Rattle.std.specs.declared.hash.FoldHasher.{FoldHasher}
 use Rattle.std.specs.declared.hash.DefaultHasher.{DefaultHasher}
 
--- no bytes are mixed in
-abbrev pub nothing : DefaultHasher
-nothing = sip.initial
+-- the hasher before any bytes are mixed in
+abbrev pub nothing_hashed : DefaultHasher
+nothing_hashed = sip.initial
 
--- what hangs on all bytes, once these are mixed in behind others
+-- the hasher after these bytes are mixed in
 abbrev pub hashed : DefaultHasher → List ℕ → DefaultHasher
 hashed = sip.write
 
--- the hasher with which a table of this key begins
+-- the hasher with which a table with this key begins
 abbrev pub keyed : DefaultHasher → FoldHasher
 keyed h = fold folding.write folding.initial (fed.u64 (sip.finish h))

@@ -1,4 +1,4 @@
--- One answer after another: the first fault is the whole's.
+-- One answer after another: the first error is that of the whole.
 use Rattle.std.specs.Prelude.{Result, Ok, Err}
 
 infixl 10 ◌>>=◌

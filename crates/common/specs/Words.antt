@@ -4,11 +4,11 @@ use Rattle.std.specs.List.{list_any}
 use Rattle.std.specs.Char.{to_ascii_uppercase}
 use Rattle.std.specs.Str.{bytes_eq}
 
--- names are read as upper case
+-- a name in upper case: case does not matter in names
 abbrev pub upper : List ℕ → List ℕ
 upper name = map to_ascii_uppercase name
 
--- what stands beside the first of these words that a name is
+-- the value of the first of these words that is the name
 abbrev pub first_word : {A : Type 0} → List (List ℕ × A) → List ℕ → Option A
 first_word [] name = None
 first_word (w ∷ ws) name = if bytes_eq name w.0 then Some w.1 else first_word ws name

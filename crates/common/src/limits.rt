@@ -15,5 +15,5 @@ pub const MOST_BYTES: usize = 65_535;
 /// The most labels, names of EQU and externals of a module, together.
 pub const MOST_NAMES: usize = 40_000;
 
-/// The most bytes of a source text, and so the most lines of one; and the most bytes of any other file that is read.
+/// The most bytes of a source file, and so the most lines of one; and the most bytes of any other file that is read.
 pub const LONGEST_TEXT: usize = 16_777_216;

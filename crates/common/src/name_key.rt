@@ -1,45 +1,45 @@
 //! A key for tables of names.
 //!
-//! A table that places its names by a fixed hash is slow where somebody has chosen names that all have one place. So each table
-//! has a key of its own, which hangs on all that may stand in it: whoever changes a name changes the key, and with it every
-//! place. What a table answers hangs on no key.
+//! A hash table with a fixed hash function is slow if somebody chooses names that all go to one slot. So each table has a key of
+//! its own, which depends on all names that may be in it. Whoever changes a name changes the key, and with it the slot of every
+//! name. What a table answers does not depend on its key.
 
 ghost use Rattle.std.specs.Prelude.{◌≡◌, map};
 ghost use Rattle.std.specs.List.{fold};
-ghost use Rattle.common.specs.Keys.{hashed, keyed, nothing};
+ghost use Rattle.common.specs.Keys.{hashed, keyed, nothing_hashed};
 
 use std::hash::{BuildHasher, DefaultHasher, FoldHasher, Hasher};
 
-/// The hashers of a table, all of which begin with its key.
+/// The key of a table: the hasher of each name begins with it.
 #[derive(Clone, Copy)]
 pub struct NameKey {
     first: FoldHasher,
 }
 
-/// What hangs on names, or on a text, that were mixed in: SipHash-1-3 of all their bytes, one after the other.
+/// A hash of all names or texts that were mixed in: SipHash-1-3 of all their bytes, one after the other.
 #[derive(Clone, Copy)]
 pub struct KeyMixer {
     mixed: DefaultHasher,
 }
 
 impl KeyMixer {
-    /// Nothing is mixed in yet.
+    /// A mixer with nothing mixed in yet.
     pub fn new() -> KeyMixer
-        ensures { result.mixed ≡ nothing }
+        ensures { result.mixed ≡ nothing_hashed }
     {
         KeyMixer {
             mixed: DefaultHasher::new(),
         }
     }
 
-    /// Mixes in a name, or a text.
+    /// Mixes in a name or a text.
     pub fn mix(&mut self, bytes: &[u8])
         ensures { self.new.mixed ≡ hashed self.old.mixed bytes.now }
     {
         self.mixed.write(bytes);
     }
 
-    /// Mixes in names.
+    /// Mixes in several names.
     pub fn mix_all(&mut self, names: &[Vec<u8>])
         ensures { self.new.mixed ≡ fold hashed self.old.mixed (map (λ name. name.items) names.now) }
     {
@@ -48,7 +48,7 @@ impl KeyMixer {
         }
     }
 
-    /// The key.
+    /// The key that depends on all that was mixed in.
     pub fn key(&self) -> NameKey
         ensures { result.first ≡ keyed self.now.mixed }
     {
@@ -59,9 +59,9 @@ impl KeyMixer {
 }
 
 impl NameKey {
-    /// The key of a text.
+    /// The key that depends on this text.
     pub fn of(text: &[u8]) -> NameKey
-        ensures { result.first ≡ keyed (hashed (nothing) text.now) }
+        ensures { result.first ≡ keyed (hashed (nothing_hashed) text.now) }
     {
         let mut mixer = KeyMixer::new();
         mixer.mix(text);

@@ -9,16 +9,16 @@ use Rattle.cpm_bdos.specs.Console.Lines.{ReadsLine}
 use Rattle.cpm_bdos.specs.declared.console.reply.Reply.TheVariants.{Value, WarmBoot}
 use Rattle.cpm_directory.specs.declared.fault.DiskFault.{DiskFault}
 use Rattle.cpm_directory.specs.Letters.{letters}
-use Rattle.cpm_disk.specs.Operations.{IsCreated, IsRead, IsWritten}
+use Rattle.cpm_disk.specs.Operations.{IsCreated, IsRecordRead, IsRecordWritten}
 use Rattle.cpm_fcb.specs.Bytes.{bytes_at}
 use Rattle.cpm_fcb.specs.Fcbs.{fcb_at, file_judged, name_of, random_of}
 use Rattle.cpm_fcb.specs.Stops.{Ends, Unless}
-use Rattle.cpm_bdos.specs.Files.Changes.{made}
+use Rattle.cpm_bdos.specs.Files.Changes.{make_answer}
 use Rattle.cpm_fcb.specs.declared.stop.Stop.{Stop}
 use Rattle.cpm_fcb.specs.declared.stop.Stop.TheVariants as stop
 use Rattle.std.specs.Prelude.{⊤}
 use Rattle.cpm_bdos.specs.declared.files.search.Search.{Search}
-use Rattle.cpm_bdos.specs.Records.Random.{Within, is_within, read_at, write_at}
+use Rattle.cpm_bdos.specs.Records.Random.{Within, can_have_record, read_at, write_at}
 use Rattle.cpm_bdos.specs.Records.Sequential.{InTurn, read_next, sequential_judged, write_next}
 use Rattle.cpm_bdos.specs.Records.Places.{place_of, record_at, turned}
 use Rattle.cpm_bdos.specs.declared.records.place.Place.{Place}
@@ -33,7 +33,7 @@ use Rattle.cpm_bdos.specs.declared.function.FileCall.TheVariants as file
 use Rattle.cpm_bdos.specs.declared.function.RecordCall.{RecordCall}
 use Rattle.cpm_bdos.specs.declared.function.RecordCall.TheVariants as records
 use Rattle.cpm_bdos.specs.Answer.{Answers, ConsoleAnswers, FileAnswers, RecordAnswers, SearchAnswers, SettingAnswers, answered}
-use Rattle.cpm_bdos.specs.System.{IsKept, System}
+use Rattle.cpm_bdos.specs.System.{IsKeptAtStop, System}
 
 unless_kept : {D : Type 0} (judged : Result ⊤ Stop) (old new : D) (before now : List ℕ) (why : Stop) (asked : Type 0) → (asked → now ≡ before) → Unless judged old new before now (Err why) asked → now ≡ before
 unless_kept (Err e) old new before now why asked rest h = h.2
@@ -72,7 +72,7 @@ file_kept sectors faults file.Close argument old new user before now why h = h.1
 file_kept sectors faults file.Erase argument old new user before now why h = h.0
 file_kept sectors faults file.Make argument old new user before now why h =
     let fcb = fcb_at argument before in
-    let asked : Type 0 = (reply : Result ℕ DiskFault) × IsCreated sectors faults old new user (letters (name_of fcb)) reply × Ends (made argument before reply) before now (Err why) in
+    let asked : Type 0 = (reply : Result ℕ DiskFault) × IsCreated sectors faults old new user (letters (name_of fcb)) reply × Ends (make_answer argument before reply) before now (Err why) in
     unless_kept (file_judged fcb) old new before now why asked (λ (a : asked). a.2.1) h
 file_kept sectors faults file.Rename argument old new user before now why h = h.0
 
@@ -81,25 +81,25 @@ record_kept : {S : Type 0} (sectors : S → Image) (faults : S → ℕ) (call : 
 record_kept sectors faults records.ReadNext argument old new user dma before now why h =
     let fcb = fcb_at argument before in
     let next = turned old.kind (place_of fcb) in
-    let asked : Place → Type 0 = λ p. (reply : Result (List ℕ) DiskFault) × IsRead sectors faults old new user (letters (name_of fcb)) (record_at old.kind p) reply × Ends (read_next sectors new user dma argument (place_of fcb) p before reply) before now (Err why) in
+    let asked : Place → Type 0 = λ p. (reply : Result (List ℕ) DiskFault) × IsRecordRead sectors faults old new user (letters (name_of fcb)) (record_at old.kind p) reply × Ends (read_next sectors new user dma argument (place_of fcb) p before reply) before now (Err why) in
     unless_kept (sequential_judged old.kind fcb) old new before now why (InTurn next 1 old new before now (Err why) asked)
     (turn_kept next 1 old new before now why asked (λ p (a : asked p). a.2.1)) h
 record_kept sectors faults records.WriteNext argument old new user dma before now why h =
     let fcb = fcb_at argument before in
     let next = turned old.kind (place_of fcb) in
-    let asked : Place → Type 0 = λ p. (reply : Result ⊤ DiskFault) × IsWritten sectors faults old new user (letters (name_of fcb)) (record_at old.kind p) (bytes_at dma 128 before) reply × Ends (write_next sectors new user argument (place_of fcb) p before reply) before now (Err why) in
+    let asked : Place → Type 0 = λ p. (reply : Result ⊤ DiskFault) × IsRecordWritten sectors faults old new user (letters (name_of fcb)) (record_at old.kind p) (bytes_at dma 128 before) reply × Ends (write_next sectors new user argument (place_of fcb) p before reply) before now (Err why) in
     unless_kept (sequential_judged old.kind fcb) old new before now why (InTurn next 2 old new before now (Err why) asked)
     (turn_kept next 2 old new before now why asked (λ p (a : asked p). a.2.1)) h
 record_kept sectors faults records.ReadRandom argument old new user dma before now why h =
     let fcb = fcb_at argument before in
-    let asked : Type 0 = (reply : Result (List ℕ) DiskFault) × IsRead sectors faults old new user (letters (name_of fcb)) (random_of fcb) reply × Ends (read_at sectors new user dma argument (random_of fcb) before reply) before now (Err why) in
-    unless_kept (file_judged fcb) old new before now why (Within (is_within old.kind fcb) old new before now (Err why) asked)
-    (within_kept (is_within old.kind fcb) old new before now why asked (λ (a : asked). a.2.1)) h
+    let asked : Type 0 = (reply : Result (List ℕ) DiskFault) × IsRecordRead sectors faults old new user (letters (name_of fcb)) (random_of fcb) reply × Ends (read_at sectors new user dma argument (random_of fcb) before reply) before now (Err why) in
+    unless_kept (file_judged fcb) old new before now why (Within (can_have_record old.kind fcb) old new before now (Err why) asked)
+    (within_kept (can_have_record old.kind fcb) old new before now why asked (λ (a : asked). a.2.1)) h
 record_kept sectors faults records.WriteRandom argument old new user dma before now why h =
     let fcb = fcb_at argument before in
-    let asked : Type 0 = (reply : Result ⊤ DiskFault) × IsWritten sectors faults old new user (letters (name_of fcb)) (random_of fcb) (bytes_at dma 128 before) reply × Ends (write_at sectors new user argument (random_of fcb) before reply) before now (Err why) in
-    unless_kept (file_judged fcb) old new before now why (Within (is_within old.kind fcb) old new before now (Err why) asked)
-    (within_kept (is_within old.kind fcb) old new before now why asked (λ (a : asked). a.2.1)) h
+    let asked : Type 0 = (reply : Result ⊤ DiskFault) × IsRecordWritten sectors faults old new user (letters (name_of fcb)) (random_of fcb) (bytes_at dma 128 before) reply × Ends (write_at sectors new user argument (random_of fcb) before reply) before now (Err why) in
+    unless_kept (file_judged fcb) old new before now why (Within (can_have_record old.kind fcb) old new before now (Err why) asked)
+    (within_kept (can_have_record old.kind fcb) old new before now why asked (λ (a : asked). a.2.1)) h
 record_kept sectors faults records.FileSize argument old new user dma before now why h = h.1.1
 record_kept sectors faults records.SetRandom argument old new user dma before now why h = h.1.1
 
@@ -109,9 +109,9 @@ search_kept sectors searching.First argument disk user dma old new before now wh
 search_kept sectors searching.Next argument disk user dma old new before now why h =
     absurd (let e : Err why ≡ Ok _ = h.0 in cc)
 
--- Of a function that stops: the memory, the DMA address, the user and the search are as before.
+-- If a function stops, the memory, the DMA address, the user and the search are as before.
 pub answer_kept : {S C : Type 0} (sectors : S → Image) (faults : S → ℕ) (dialog : C → Dialog) (f : Function) (argument : ℕ) (old new : System S C) (before now : List ℕ) (why : Stop)
-    → Answers sectors faults dialog f argument old new before now (Err why) → IsKept old new before now
+    → Answers sectors faults dialog f argument old new before now (Err why) → IsKeptAtStop old new before now
 answer_kept sectors faults dialog function.SystemReset argument old new before now why h = absurd (let e : Err why ≡ Ok WarmBoot = h.2 in cc)
 answer_kept sectors faults dialog (function.Console call) argument old new before now why h = record {
   memory = console_kept call argument _ _ before now why h.1;
@@ -120,22 +120,22 @@ answer_kept sectors faults dialog (function.Console call) argument old new befor
   search = ap (λ s. s.search) h.0;
 }
 answer_kept {S} {C} sectors faults dialog (function.Setting call) argument old new before now why h = by_setting h.2.0 h.2.1 h.2.2 where
-  by_setting : (outcome : Result ℕ Stop) → Err why ≡ answered outcome → SettingAnswers call argument old.dma old.user new.dma new.user outcome → IsKept old new before now
+  by_setting : (outcome : Result ℕ Stop) → Err why ≡ answered outcome → SettingAnswers call argument old.dma old.user new.dma new.user outcome → IsKeptAtStop old new before now
   by_setting (Ok value) e set = absurd (let no_stop : Err why ≡ Ok (Value value) = e in cc)
   by_setting (Err other) e set = record { memory = h.1; dma = set.1; user = set.2; search = ap (λ s. s.search) h.0 }
 answer_kept sectors faults dialog (function.Search call) argument old new before now why h = by_search h.1.0 h.1.1 h.1.2 where
-  by_search : (outcome : Result ℕ Stop) → Err why ≡ answered outcome → SearchAnswers sectors call argument old.disk old.user old.dma old.search new.search before now outcome → IsKept old new before now
+  by_search : (outcome : Result ℕ Stop) → Err why ≡ answered outcome → SearchAnswers sectors call argument old.disk old.user old.dma old.search new.search before now outcome → IsKeptAtStop old new before now
   by_search (Ok value) e sought = absurd (let no_stop : Err why ≡ Ok (Value value) = e in cc)
   by_search (Err other) e sought =
       let kept = search_kept sectors call argument old.disk old.user old.dma old.search new.search before now other sought in
       record { memory = kept.1; dma = ap (λ s. s.dma) h.0; user = ap (λ s. s.user) h.0; search = kept.0 }
 answer_kept sectors faults dialog (function.File call) argument old new before now why h = by_file h.1.0 h.1.1 h.1.2 where
-  by_file : (outcome : Result ℕ Stop) → Err why ≡ answered outcome → FileAnswers sectors faults call argument old.disk new.disk old.user before now outcome → IsKept old new before now
+  by_file : (outcome : Result ℕ Stop) → Err why ≡ answered outcome → FileAnswers sectors faults call argument old.disk new.disk old.user before now outcome → IsKeptAtStop old new before now
   by_file (Ok value) e done = absurd (let no_stop : Err why ≡ Ok (Value value) = e in cc)
   by_file (Err other) e done =
       record { memory = file_kept sectors faults call argument old.disk new.disk old.user before now other done; dma = ap (λ s. s.dma) h.0; user = ap (λ s. s.user) h.0; search = ap (λ s. s.search) h.0 }
 answer_kept sectors faults dialog (function.Record call) argument old new before now why h = by_record h.1.0 h.1.1 h.1.2 where
-  by_record : (outcome : Result ℕ Stop) → Err why ≡ answered outcome → RecordAnswers sectors faults call argument old.disk new.disk old.user old.dma before now outcome → IsKept old new before now
+  by_record : (outcome : Result ℕ Stop) → Err why ≡ answered outcome → RecordAnswers sectors faults call argument old.disk new.disk old.user old.dma before now outcome → IsKeptAtStop old new before now
   by_record (Ok value) e done = absurd (let no_stop : Err why ≡ Ok (Value value) = e in cc)
   by_record (Err other) e done =
       record { memory = record_kept sectors faults call argument old.disk new.disk old.user old.dma before now other done; dma = ap (λ s. s.dma) h.0; user = ap (λ s. s.user) h.0; search = ap (λ s. s.search) h.0 }

@@ -1,4 +1,4 @@
--- The numbers of the functions of the BDOS, and of the entries of the BIOS that are supported.
+-- The numbers of the functions of the BDOS, and of the supported entries of the BIOS.
 -- (CP/M 2.2 Interface Guide, the system functions; Alteration Guide, the BIOS entry points.)
 use Rattle.std.specs.Prelude.{◌==◌, ℕ, List, [], ◌∷◌, Option, Some, None, if◌then◌else◌}
 use Rattle.cpm_bdos.specs.declared.function.Function.{Function}
@@ -11,7 +11,7 @@ use Rattle.cpm_bdos.specs.declared.function.RecordCall.TheVariants as records
 use Rattle.cpm_bdos.specs.declared.function.BiosEntry.{BiosEntry}
 use Rattle.cpm_bdos.specs.declared.function.BiosEntry.TheVariants as bios
 
--- what stands for a number in a table
+-- what a table has for a number
 abbrev pub looked_up : {A : Type 0} → ℕ → List (ℕ × A) → Option A
 looked_up n [] = None
 looked_up n (row ∷ rows) = if n == row.0 then Some row.1 else looked_up n rows
@@ -47,5 +47,5 @@ function_of number = looked_up number (
     ∷ (36, Record records.SetRandom)
     ∷ [])
 
-abbrev pub entry_of : ℕ → Option BiosEntry
-entry_of number = looked_up number ((2, bios.ConsoleStatus) ∷ (3, bios.ConsoleInput) ∷ (4, bios.ConsoleOutput) ∷ [])
+abbrev pub bios_entry_of : ℕ → Option BiosEntry
+bios_entry_of number = looked_up number ((2, bios.ConsoleStatus) ∷ (3, bios.ConsoleInput) ∷ (4, bios.ConsoleOutput) ∷ [])

@@ -1,4 +1,4 @@
--- The calls that ask neither console nor disk: 12, 13, 14, 24, 25, 26, 32. (CP/M 2.2 Interface Guide.)
+-- The functions that use neither the console nor the disk: 12, 13, 14, 24, 25, 26 and 32. (CP/M 2.2 Interface Guide.)
 use Rattle.std.specs.Prelude.{◌%◌, ◌==◌, ℕ, Result, Ok, Err, if◌then◌else◌}
 use Rattle.cpm_fcb.specs.declared.stop.Stop.{Stop}
 use Rattle.cpm_fcb.specs.declared.stop.Stop.TheVariants as stop
@@ -6,19 +6,19 @@ use Rattle.cpm_bdos.specs.declared.function.SettingCall.{SettingCall}
 use Rattle.cpm_bdos.specs.declared.function.SettingCall.TheVariants as setting
 use Rattle.cpm_bdos.specs.declared.setting.Settings.{Settings}
 
--- the value that is answered, the DMA address and the user
+-- the value that a function answers, the DMA address and the user
 abbrev pub settings : ℕ → ℕ → ℕ → Settings
 settings value dma user = record { value = value; dma = dma; user = user }
 
--- the start of the DMA buffer after a reset
+-- the address of the DMA buffer after a reset
 abbrev pub first_dma : ℕ
 first_dma = 0x0080
 
--- 14: drive A alone is there
+-- function 14: there is only drive A
 abbrev pub selected : ℕ → ℕ → ℕ → Result Settings Stop
 selected drive dma user = if drive == 0 then Ok (settings 0 dma user) else Err stop.UnknownDrive
 
--- 32: FFH asks for the user, any other byte sets it modulo 32
+-- function 32: FFH answers the user, and any other byte modulo 32 becomes the user
 abbrev pub user_set : ℕ → ℕ → ℕ → Settings
 user_set byte dma user = if byte == 0xFF then settings user dma user else settings 0 dma (byte % 32)
 

@@ -16,8 +16,8 @@ use cpm_image::Sectors;
 use std::marker::Model;
 use z80_cpu::{Cpu, Memory};
 
-/// What stands behind the system calls: a mounted disk, which is drive A, and a console, the address of the DMA buffer, the user
-/// from 0 to 31, and the last search.
+/// The state of the system: a mounted disk, which is drive A, a console, the address of the DMA buffer, the user from 0 to 31, and the
+/// last search.
 #[derive(Drop)]
 pub struct Bdos<S: Sectors, C: Console> {
     disk: Disk<S>,
@@ -42,10 +42,10 @@ impl<S: Sectors, C: Console> Model for Bdos<S, C> {
 impl<S: Sectors, C: Console> Bdos<S, C> {
     ghost use Rattle.std.specs.Prelude.{◌≡◌, OnErr};
     ghost use Rattle.cpm_console.specs.Screen.{screen};
-    ghost use Rattle.cpm_bdos.specs.System.{IsKept, new_system};
+    ghost use Rattle.cpm_bdos.specs.System.{IsKeptAtStop, new_system};
     ghost use Rattle.cpm_bdos.specs.Answer.{Answers, BiosAnswers, CallAnswers, ConsoleAnswers, EntryAnswers, FileAnswers, RecordAnswers, SearchAnswers, SettingAnswers};
 
-    /// A console at column 0, the DMA buffer at 0080H, user 0, and no search.
+    /// The state at the start: the console at column 0, the DMA buffer at 0080H, user 0, and no search.
     pub fn new(disk: Disk<S>, console: C) -> Bdos<S, C>
         ensures { result ≡ new_system disk console }
     {
@@ -58,7 +58,7 @@ impl<S: Sectors, C: Console> Bdos<S, C> {
         }
     }
 
-    /// The disk and the console, as they stand.
+    /// The disk and the console as the calls have left them.
     pub fn into_parts(self) -> (Disk<S>, C)
         ensures disk { result.0 ≡ self.disk }
         ensures console { result.1 ≡ self.terminal.console }
@@ -66,16 +66,16 @@ impl<S: Sectors, C: Console> Bdos<S, C> {
         (self.disk, self.terminal.console)
     }
 
-    /// Makes a system call: the function is in C, its argument in DE, and the value goes to HL, with A as L and B as H. Other
+    /// Makes the system call of the function in C with its argument in DE. The value goes to HL, and L to A and H to B. Other
     /// registers and the flags stay.
     ///
     /// # Errors
     ///
-    /// [`Stop::UnsupportedFunction`] where no function has the number; others as the functions say. A stop leaves registers and
-    /// memory as they were; what a console took or put stays.
+    /// [`Stop::UnsupportedFunction`] if no function has the number; others as the functions say. A stop leaves the registers and the
+    /// memory as they were. What the console has taken and put is not undone.
     pub fn call(&mut self, cpu: &mut Cpu, memory: &mut Memory) -> Result<After, Stop>
         ensures answer { CallAnswers S.sectors S.faults C.dialog self.old self.new cpu.old cpu.new memory.old memory.new result }
-        ensures stopped { OnErr result ((cpu.new ≡ cpu.old) × IsKept self.old self.new memory.old memory.new) }
+        ensures stopped { OnErr result ((cpu.new ≡ cpu.old) × IsKeptAtStop self.old self.new memory.old memory.new) }
     {
         let Some(function) = Function::of(cpu.main.c) else {
             return Err(Stop::UnsupportedFunction(cpu.main.c));
@@ -90,11 +90,13 @@ impl<S: Sectors, C: Console> Bdos<S, C> {
         }
     }
 
-    /// Makes a call of the BIOS: entry 2 answers in A whether input is left, 3 the next byte of it, 4 puts C, as they are.
+    /// Makes a call of the BIOS. Entry 2 answers in A whether input is left, entry 3 answers the next byte in A, and entry 4 puts the
+    /// byte in C. Bytes pass unchanged.
     ///
     /// # Errors
     ///
-    /// [`Stop::UnsupportedBios`] of every other entry, [`Stop::EndOfInput`], [`Stop::ConsoleFault`]. A stop leaves the registers.
+    /// [`Stop::UnsupportedBios`] for every other entry, [`Stop::EndOfInput`], [`Stop::ConsoleFault`]. A stop leaves the registers as they
+    /// were.
     pub fn bios(&mut self, entry: u8, cpu: &mut Cpu) -> Result<After, Stop>
         ensures { BiosAnswers C.dialog self.old self.new entry cpu.old cpu.new result }
     {

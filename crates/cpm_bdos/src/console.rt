@@ -1,4 +1,4 @@
-//! The calls on the console, and the BIOS entries that use it.
+//! The functions of the console, and the BIOS entries that use it.
 
 mod line;
 mod raw;

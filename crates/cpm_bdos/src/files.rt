@@ -1,4 +1,4 @@
-//! The calls that search, open, close, make, erase and rename files.
+//! The functions that search, open, close, make, erase and rename files.
 
 mod changes;
 mod opening;

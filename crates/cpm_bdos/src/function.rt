@@ -1,4 +1,4 @@
-//! The functions of the BDOS, by families, and the entries of the BIOS.
+//! The functions of the BDOS in families, and the entries of the BIOS.
 
 ghost use Rattle.std.specs.Prelude.{◌≡◌};
 
@@ -13,7 +13,7 @@ pub enum Function {
     Record(RecordCall),
 }
 
-/// A call that speaks with the console.
+/// A function that uses the console.
 #[derive(Clone, Copy, Debug, PartialEq, Eq)]
 pub enum ConsoleCall {
     Input,
@@ -24,7 +24,7 @@ pub enum ConsoleCall {
     Status,
 }
 
-/// A call that asks neither console nor disk.
+/// A function that uses neither the console nor the disk.
 #[derive(Clone, Copy, Debug, PartialEq, Eq)]
 pub enum SettingCall {
     Version,
@@ -36,14 +36,14 @@ pub enum SettingCall {
     UserCode,
 }
 
-/// A call that searches the directory.
+/// A function that searches the directory.
 #[derive(Clone, Copy, Debug, PartialEq, Eq)]
 pub enum SearchCall {
     First,
     Next,
 }
 
-/// A call on a whole file.
+/// A function on a whole file.
 #[derive(Clone, Copy, Debug, PartialEq, Eq)]
 pub enum FileCall {
     Open,
@@ -53,7 +53,7 @@ pub enum FileCall {
     Rename,
 }
 
-/// A call on the records of a file.
+/// A function on the records of a file.
 #[derive(Clone, Copy, Debug, PartialEq, Eq)]
 pub enum RecordCall {
     ReadNext,
@@ -64,7 +64,7 @@ pub enum RecordCall {
     SetRandom,
 }
 
-/// An entry of the BIOS that is supported.
+/// A supported entry of the BIOS.
 #[derive(Clone, Copy, Debug, PartialEq, Eq)]
 pub enum BiosEntry {
     ConsoleStatus,
@@ -75,7 +75,7 @@ pub enum BiosEntry {
 impl Function {
     ghost use Rattle.cpm_bdos.specs.Functions.{function_of};
 
-    /// The function of a number, where there is one.
+    /// The function with this number, if there is one.
     pub fn of(number: u8) -> Option<Function>
         ensures { result ≡ function_of number }
     {
@@ -113,11 +113,11 @@ impl Function {
 }
 
 impl BiosEntry {
-    ghost use Rattle.cpm_bdos.specs.Functions.{entry_of};
+    ghost use Rattle.cpm_bdos.specs.Functions.{bios_entry_of};
 
-    /// The entry of a number, where it is supported.
+    /// The entry with this number, if it is supported.
     pub fn of(number: u8) -> Option<BiosEntry>
-        ensures { result ≡ entry_of number }
+        ensures { result ≡ bios_entry_of number }
     {
         match number {
             2 => Some(BiosEntry::ConsoleStatus),

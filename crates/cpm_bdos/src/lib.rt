@@ -1,6 +1,6 @@
-//! The system calls of CP/M 2.2 on a mounted disk of either kind and a console: the BDOS, and the console entries of the BIOS.
+//! The system calls of CP/M 2.2 on a mounted disk of either format and a console: the BDOS, and the console entries of the BIOS.
 //!
-//! [`Bdos`] answers every call, by its number. The calls themselves are in families: [`console`], [`files`], [`records`].
+//! [`Bdos`] answers every call, by its number. The functions are in the modules [`console`], [`files`] and [`records`].
 #![tactic(auto)]
 
 mod bdos;

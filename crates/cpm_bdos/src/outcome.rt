@@ -1,6 +1,6 @@
-//! What comes after a call.
+//! What happens after a system call.
 
-/// What comes after a call: the program goes on, or the system is to be started anew.
+/// What happens after a system call: the program continues, or the run ends with a warm boot.
 #[derive(Clone, Copy, Debug, PartialEq, Eq)]
 pub enum After {
     Return,

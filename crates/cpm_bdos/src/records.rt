@@ -1,4 +1,4 @@
-//! The calls that read and write records of files, and say where they are.
+//! The functions that read and write records of files, and those that give the size of a file and the number of a record.
 
 mod entries;
 mod numbers;

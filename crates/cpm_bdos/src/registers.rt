@@ -1,4 +1,4 @@
-//! The answer of a call, and where it goes.
+//! The answer of a system call, and the registers that get it.
 
 ghost use Rattle.std.specs.Prelude.{◌≡◌};
 ghost use Rattle.cpm_bdos.specs.Answer.{answered, nothing_answered, with_value};
@@ -7,7 +7,7 @@ use crate::console::Reply;
 use cpm_fcb::Stop;
 use z80_cpu::Cpu;
 
-/// Puts the value of a call to HL, with A as L and B as H.
+/// Writes the value of a call to HL, and L to A and H to B.
 pub(crate) fn put_value(cpu: &mut Cpu, value: u16)
     ensures { cpu.new ≡ with_value value cpu.old }
 {
@@ -18,7 +18,7 @@ pub(crate) fn put_value(cpu: &mut Cpu, value: u16)
     cpu.main.a = low;
 }
 
-/// A value as the answer.
+/// The answer of a call that has a value.
 pub(crate) fn answered(outcome: Result<u16, Stop>) -> Result<Reply, Stop>
     ensures { result ≡ answered outcome }
 {
@@ -28,7 +28,7 @@ pub(crate) fn answered(outcome: Result<u16, Stop>) -> Result<Reply, Stop>
     }
 }
 
-/// A byte as the answer.
+/// The answer of a call that has a byte.
 pub(crate) fn byte_answered(outcome: Result<u8, Stop>) -> Result<Reply, Stop>
     ensures { result ≡ answered outcome }
 {
@@ -38,7 +38,7 @@ pub(crate) fn byte_answered(outcome: Result<u8, Stop>) -> Result<Reply, Stop>
     }
 }
 
-/// 0 as the answer, where nothing is named.
+/// The answer of a call that has no value: 0.
 pub(crate) fn nothing_answered(outcome: Result<(), Stop>) -> Result<Reply, Stop>
     ensures { result ≡ nothing_answered outcome }
 {

@@ -1,4 +1,4 @@
-//! The calls that ask neither console nor disk.
+//! The functions that use neither the console nor the disk.
 
 ghost use Rattle.std.specs.Prelude.{◌≡◌, ◌<◌, IfOk};
 ghost use Rattle.cpm_directory.specs.declared.entry.TheConstants.{USERS};
@@ -10,16 +10,16 @@ use cpm_fcb::Stop;
 /// The DMA address after a reset.
 pub(crate) const FIRST_DMA: u16 = 0x0080;
 
-/// CP/M 2.2.
+/// The answer of function 12: CP/M 2.2.
 const VERSION: u16 = 0x0022;
 
-/// Drive A alone is there.
+/// The login vector, with drive A only.
 const DRIVE_A: u16 = 0x0001;
 
-/// What asks for the user.
+/// With this argument, function 32 answers the user instead of setting it.
 const ASK: u8 = 0xFF;
 
-/// The DMA address and the user, with the value that a call answers.
+/// What such a function answers, and the DMA address and the user after it.
 #[derive(Clone, Copy)]
 pub struct Settings {
     pub value: u16,
@@ -27,11 +27,11 @@ pub struct Settings {
     pub user: u8,
 }
 
-/// What a call answers, and the settings then.
+/// What a function answers, and the settings after it.
 ///
 /// # Errors
 ///
-/// [`Stop::UnknownDrive`] where another drive than A is selected.
+/// [`Stop::UnknownDrive`] if the program selects a drive other than A.
 pub(crate) fn set_by(call: SettingCall, argument: u16, dma: u16, user: u8) -> Result<Settings, Stop>
     requires { user < USERS }
     ensures settings { result ≡ set_by call argument dma user }
@@ -72,7 +72,7 @@ pub(crate) fn set_by(call: SettingCall, argument: u16, dma: u16, user: u8) -> Re
     }
 }
 
-/// FFH asks for the user, any other byte sets it modulo 32.
+/// Function 32: FFH answers the user, and any other byte modulo 32 becomes the user.
 fn user_set(byte: u8, dma: u16, user: u8) -> Settings
     requires { user < USERS }
     ensures settings { result ≡ user_set byte dma user }

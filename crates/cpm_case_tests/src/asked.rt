@@ -1,4 +1,4 @@
-//! What a call is asked by its file control block.
+//! The file control block of a call.
 
 use crate::model::ANY;
 use cpm_bdos::Stop;
@@ -38,7 +38,7 @@ pub(crate) fn some_name(draw: &mut Draw) -> [u8; 11] {
     }
 }
 
-/// A name, or now and then a pattern.
+/// A name, or sometimes a pattern.
 fn some_pattern(draw: &mut Draw, often: bool) -> [u8; 11] {
     if draw.one_in(if often { 2 } else { 12 }) {
         match PATTERNS.get(draw.index(PATTERNS.len())) {
@@ -83,7 +83,7 @@ fn some_record(draw: &mut Draw) -> u32 {
     }
 }
 
-/// A file control block; names are patterns more often where calls take these.
+/// A random file control block. Its name is a pattern more often if the call takes patterns.
 pub(crate) fn some_asked(draw: &mut Draw, takes_patterns: bool) -> Asked {
     let drive = match draw.below(40) {
         0 => 2,
@@ -102,7 +102,7 @@ pub(crate) fn some_asked(draw: &mut Draw, takes_patterns: bool) -> Asked {
 }
 
 impl Asked {
-    /// Drive A is 0 or 1, drives B to P are not there.
+    /// Tests the drive: 0 and 1 are drive A, and drives B to P do not exist.
     pub(crate) fn judge_drive(&self) -> Result<(), Stop> {
         match self.drive {
             0 | 1 => Ok(()),
@@ -111,7 +111,7 @@ impl Asked {
         }
     }
 
-    /// A file's name has no `?`.
+    /// Tests the drive and the name, in which no `?` is allowed.
     pub(crate) fn judge_file(&self) -> Result<(), Stop> {
         self.judge_drive()?;
         if self.name.contains(&ANY) {
@@ -121,7 +121,7 @@ impl Asked {
         }
     }
 
-    /// Nor has the name that it is to have.
+    /// Tests the drive and both names of a rename.
     pub(crate) fn judge_names(&self) -> Result<(), Stop> {
         self.judge_file()?;
         if self.other.contains(&ANY) {

@@ -1,4 +1,4 @@
-//! Cases: a disk, and calls on it.
+//! Random cases: a disk, and calls on it.
 
 use crate::asked::{Asked, some_asked, some_name};
 use crate::filled::{Filling, filled};
@@ -13,7 +13,7 @@ use std::process::Abort;
 use std::test::Fail;
 use z80dev_cases::Draw;
 
-/// The machine and the system that it is to be.
+/// The machine under test, and the model of the system that it has to agree with.
 #[derive(Drop)]
 struct Pair {
     machine: Plain,
@@ -22,13 +22,13 @@ struct Pair {
     counts: Counts,
 }
 
-/// How many calls came to what.
+/// The number of calls with each kind of answer.
 #[derive(Clone, Copy, Debug)]
 struct Counts {
-    /// Answered by 0 to 3, and by something else.
+    /// Calls that answered 0 to 3.
     done: u32,
     refused: u32,
-    /// Found no block, or no entry, for a record by its number.
+    /// Writes by number that found no free block, or no free directory entry.
     disk_full: u32,
     directory_full: u32,
 }
@@ -65,11 +65,11 @@ impl Counts {
     }
 }
 
-/// Where records go to and come from.
+/// Addresses of the DMA buffer.
 const BUFFERS: [u16; 4] = [0x0080, 0x2000, 0x4080, 0xF000];
 
 impl Pair {
-    /// Puts the file control block, and calls.
+    /// Writes the file control block to memory, and makes the call.
     fn call(&mut self, function: u8, asked: &Asked) -> Result<u16, Stop> {
         self.machine.put_fcb(FCB, &asked.name, asked.place);
         self.machine.put(FCB, &[asked.drive]);
@@ -90,7 +90,7 @@ impl Pair {
         self.counts.count(function, wanted);
     }
 
-    /// Asserts EX, S2 and CR, and the buffer where a record was read or written.
+    /// Asserts EX, S2 and CR, and the buffer if a record was read or written.
     fn assert_left(&self, rt: &impl Abort, function: u8, left: &Left) {
         let [extent, s2, current] = left.place;
         let memory = &self.machine.memory;
@@ -140,7 +140,7 @@ impl Pair {
         assert_eq!(rt; same, Ok(()), "seed {}", self.seed);
     }
 
-    /// 17 and 18.
+    /// Functions 17 and 18.
     fn search(&mut self, rt: &impl Abort, draw: &mut Draw) {
         let mut asked = some_asked(draw, true);
         if draw.one_in(6) {
@@ -160,14 +160,14 @@ impl Pair {
         }
     }
 
-    /// A record that is written full of a byte.
+    /// Fills the buffer with a random byte, for a write.
     fn fill(&mut self, draw: &mut Draw) -> Option<u8> {
         let fill = draw.byte();
         self.machine.put(self.system.dma, &[fill; 128]);
         Some(fill)
     }
 
-    /// 26, 13 and 32: the buffer and the user.
+    /// Functions 26, 13 and 32, which set the buffer and the user.
     fn set(&mut self, rt: &impl Abort, draw: &mut Draw) {
         let (function, argument, wanted) = match draw.below(4) {
             0 => {
@@ -193,7 +193,7 @@ impl Pair {
         self.assert_answer(rt, function, found, Ok(wanted));
     }
 
-    /// 35 and 36.
+    /// Functions 35 and 36.
     fn measure(&mut self, rt: &impl Abort, draw: &mut Draw) {
         let asked = some_asked(draw, false);
         let (function, (wanted, number)) = if draw.one_in(2) {
@@ -208,7 +208,7 @@ impl Pair {
         assert_eq!(rt; bytes, Ok(()), "seed {}, call {function}", self.seed);
     }
 
-    /// 20, 21, 33 and 34.
+    /// Functions 20, 21, 33 and 34.
     fn transfer(&mut self, rt: &impl Abort, draw: &mut Draw) {
         let asked = some_asked(draw, false);
         let written = if draw.one_in(2) {
@@ -231,7 +231,7 @@ impl Pair {
         self.assert_call(rt, function, &asked, &reply);
     }
 
-    /// A call on whole files.
+    /// A function on a whole file.
     fn change(&mut self, rt: &impl Abort, draw: &mut Draw) {
         let kind = draw.below(12);
         let asked = some_asked(draw, kind < 3);
@@ -245,7 +245,7 @@ impl Pair {
         self.assert_call(rt, function, &asked, &reply);
     }
 
-    /// So many records in turn, from the beginning of a file, written or read with one file control block.
+    /// Writes or reads a number of records, one after the other, from the beginning of a file, with one file control block.
     fn run_through(&mut self, rt: &impl Abort, draw: &mut Draw) {
         let is_written = draw.one_in(2);
         let mut asked = some_asked(draw, false);
@@ -276,7 +276,7 @@ impl Pair {
     }
 }
 
-/// The disk of a case: blank, with a few extents, with some, or nearly full.
+/// The disk of a case: empty, with a few extents, with more, or nearly full.
 fn disk_of(alloc: Global, draw: &mut Draw, kind: DiskKind) -> Result<Filling, Fail> {
     let extents = match draw.below(4) {
         0 => 0,
@@ -304,7 +304,7 @@ fn new_pair(alloc: Global, draw: &mut Draw, kind: DiskKind, seed: u64) -> Result
     })
 }
 
-/// A case on a disk of a kind: eighty times a call or a few. What the calls came to.
+/// Plays a case on a disk of a format: eighty times one or a few calls. Counts their answers.
 fn try_case(rt: &impl Abort, alloc: Global, kind: DiskKind, seed: u64) -> Result<Counts, Fail> {
     let mut draw = Draw::new(seed);
     let mut pair = new_pair(alloc, &mut draw, kind, seed)?;
@@ -314,7 +314,7 @@ fn try_case(rt: &impl Abort, alloc: Global, kind: DiskKind, seed: u64) -> Result
     Ok(pair.counts)
 }
 
-/// Two hundred cases, of whose calls there are many of each kind.
+/// Plays two hundred cases, and asserts that each kind of answer occurs often.
 fn try_cases(rt: &impl Abort, alloc: Global, kind: DiskKind) -> Result<(), Fail> {
     let mut counts = Counts::new();
     for seed in 0..200 {

@@ -1,4 +1,4 @@
-//! Disks that hold files from the beginning: their directories and blocks are laid here, byte by byte.
+//! Makes disks that have files from the beginning. It writes their directories and blocks byte by byte.
 
 use crate::asked::some_name;
 use crate::model::{Extent, Model};
@@ -8,12 +8,12 @@ use std::alloc::Global;
 use std::test::Fail;
 use z80dev_cases::Draw;
 
-/// The sectors of a track of an eight inch disk in the order of its records.
+/// The sectors of a track of an eight inch disk, in the order of the logical records.
 const ORDER: [u32; 26] = [
     1, 7, 13, 19, 25, 5, 11, 17, 23, 3, 9, 15, 21, 2, 8, 14, 20, 26, 6, 12, 18, 24, 4, 10, 16, 22,
 ];
 
-/// The sector of a record: on an eight inch disk behind two tracks of 26.
+/// The sector of a logical record. On an eight inch disk two tracks of 26 sectors come first.
 fn sector_of(kind: DiskKind, number: u32) -> u32 {
     let record = number % 8192;
     match kind {
@@ -45,13 +45,13 @@ pub(crate) struct Filling {
     alloc: Global,
     pub(crate) image: MemoryImage,
     pub(crate) model: Model,
-    /// The numbers of the blocks that are free, in some order.
+    /// The numbers of the free blocks, in random order.
     free: Vec<u16>,
     /// The entries, 32 bytes each.
     directory: Vec<u8>,
 }
 
-/// The numbers of the blocks of files, in some order.
+/// The numbers of the blocks for files, in random order.
 fn shuffled(alloc: Global, draw: &mut Draw, kind: DiskKind) -> Result<Vec<u16>, Fail> {
     let (first, end) = match kind {
         DiskKind::EightInch => (2, 243),
@@ -71,7 +71,7 @@ fn shuffled(alloc: Global, draw: &mut Draw, kind: DiskKind) -> Result<Vec<u16>, 
 }
 
 impl Filling {
-    /// Fills a block with records, and answers its number.
+    /// Writes records to a free block, and answers its number.
     fn put_block(
         &mut self,
         draw: &mut Draw,
@@ -99,7 +99,7 @@ impl Filling {
         Ok(block)
     }
 
-    /// The sixteen bytes of an extent's blocks, some of which are left out.
+    /// The sixteen bytes of an extent's blocks. Some of its blocks are left out.
     fn put_blocks(&mut self, draw: &mut Draw, extent: &mut Extent) -> Result<Vec<u8>, Fail> {
         let mut numbers: Vec<u8> = Vec::new(self.alloc);
         let size = self.model.block_records();
@@ -121,7 +121,7 @@ impl Filling {
         Ok(numbers)
     }
 
-    /// Puts an extent to an entry, unless one of them is there.
+    /// Writes an extent to a directory entry, unless the directory already has it.
     fn put_extent(&mut self, draw: &mut Draw, entry: usize, high: u16) -> Result<(), Fail> {
         let name = some_name(draw);
         let user = draw.byte() % 3;
@@ -165,7 +165,7 @@ impl Filling {
         Ok(())
     }
 
-    /// Puts the directory to the image.
+    /// Writes the directory to the image.
     fn put_directory(&mut self) -> Result<(), Fail> {
         let kind = self.model.kind;
         for (number, bytes) in self.directory.chunks(128).enumerate() {
@@ -180,7 +180,7 @@ impl Filling {
     }
 }
 
-/// A disk of a kind with so many extents or less, and its model.
+/// A disk of a format with at most this many extents, and its model.
 pub(crate) fn filled(
     alloc: Global,
     draw: &mut Draw,

@@ -1,4 +1,4 @@
-//! Random system calls on random disks of both kinds, beside a plain model of the files.
+//! Makes random system calls on random disks of both formats, and compares them with a plain model of the files.
 #![tactic(auto)]
 
 #[cfg(test)]

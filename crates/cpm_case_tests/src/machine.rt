@@ -1,4 +1,4 @@
-//! A processor with memory, over the system calls.
+//! A processor with memory that makes system calls.
 
 use cpm_bdos::{After, Bdos, Stop};
 use cpm_console::{Console, MemoryConsole};
@@ -8,10 +8,10 @@ use std::alloc::Global;
 use std::test::Fail;
 use z80_cpu::{Cpu, Memory};
 
-/// Where the tests have their FCB.
+/// The address of the file control block in the tests.
 pub(crate) const FCB: u16 = 0x005C;
 
-/// A byte of memory that is another than the one that a test expects.
+/// A byte of memory that differs from the one that a test expects.
 #[derive(Clone, Copy, Debug, PartialEq)]
 pub(crate) struct OtherByte {
     pub(crate) address: u16,
@@ -19,7 +19,7 @@ pub(crate) struct OtherByte {
     pub(crate) wanted: u8,
 }
 
-/// A processor with memory, and what stands behind its calls.
+/// A processor with memory, and the system that answers its calls.
 #[derive(Drop)]
 pub(crate) struct Machine<S: Sectors, C: Console> {
     pub(crate) bdos: Bdos<S, C>,
@@ -36,7 +36,7 @@ impl<S: Sectors + Drop, C: Console + Drop> Machine<S, C> {
         })
     }
 
-    /// Makes a call, of which HL is the value.
+    /// Makes a call, and answers the value in HL.
     pub(crate) fn call(&mut self, function: u8, argument: u16) -> Result<u16, Stop> {
         self.cpu.main.c = function;
         self.cpu.main.set_de(argument);
@@ -47,7 +47,7 @@ impl<S: Sectors + Drop, C: Console + Drop> Machine<S, C> {
         }
     }
 
-    /// Puts bytes to memory.
+    /// Writes bytes to memory.
     pub(crate) fn put(&mut self, address: u16, bytes: &[u8]) {
         let mut next = address;
         for byte in bytes {
@@ -56,7 +56,7 @@ impl<S: Sectors + Drop, C: Console + Drop> Machine<S, C> {
         }
     }
 
-    /// Puts an FCB of a name, with EX, S2 and CR; all else is 0.
+    /// Writes a file control block with a name, EX, S2 and CR; all its other bytes are 0.
     pub(crate) fn put_fcb(&mut self, address: u16, name: &[u8; 11], place: [u8; 3]) {
         let [extent, s2, current] = place;
         self.put(address, &[0; 36]);
@@ -66,7 +66,7 @@ impl<S: Sectors + Drop, C: Console + Drop> Machine<S, C> {
         self.put(address.wrapping_add(32), &[current]);
     }
 
-    /// Puts R0 to R2.
+    /// Writes R0 to R2.
     pub(crate) fn put_random(&mut self, address: u16, numbers: [u8; 3]) {
         self.put(address.wrapping_add(33), &numbers);
     }
@@ -74,7 +74,7 @@ impl<S: Sectors + Drop, C: Console + Drop> Machine<S, C> {
     /// Compares bytes of memory with those that a test expects.
     ///
     /// # Errors
-    /// The first that is another.
+    /// The first byte that differs.
     pub(crate) fn expect_bytes(&self, address: u16, wanted: &[u8]) -> Result<(), OtherByte> {
         let mut next = address;
         for byte in wanted {
@@ -94,7 +94,7 @@ impl<S: Sectors + Drop, C: Console + Drop> Machine<S, C> {
 
 pub(crate) type Plain = Machine<MemoryImage, MemoryConsole>;
 
-/// The disk of an image that keeps the rules.
+/// Mounts an image whose directory keeps the rules.
 pub(crate) fn mounted(alloc: Global, image: MemoryImage) -> Result<Disk<MemoryImage>, Fail> {
     match Disk::mount(alloc, image) {
         Ok(disk) => Ok(disk),

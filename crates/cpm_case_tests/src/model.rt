@@ -1,14 +1,13 @@
-//! The files of a disk, as a list of its entries.
+//! A model of the files of a disk: a list of its directory entries.
 
 use cpm_disk::DiskKind;
 use std::alloc::Global;
 use std::test::Fail;
 
-/// What stands for any character, or any number, in a pattern.
+/// In a pattern this matches any character or any number.
 pub(crate) const ANY: u8 = b'?';
 
-/// An extent of a file: of each record in its blocks the byte of which it is full, the count of records that are there, and the
-/// number of the extent.
+/// An extent of a file: its user, name and number, the byte that fills each record in its blocks, and the count of its records.
 #[derive(Clone, Copy)]
 pub(crate) struct Extent {
     pub(crate) user: u8,
@@ -18,7 +17,7 @@ pub(crate) struct Extent {
     pub(crate) records: [Option<u8>; 128],
 }
 
-/// Why a record is not read or written.
+/// Why a record cannot be read or written.
 #[derive(Clone, Copy)]
 pub(crate) enum Refusal {
     NoFile,
@@ -28,7 +27,7 @@ pub(crate) enum Refusal {
     DiskFull,
 }
 
-/// What is searched for: every entry, or those of a user, a pattern, and a number of an extent or any.
+/// What a search looks for: every entry, or those of a user with a pattern and with one extent number or any.
 #[derive(Clone, Copy)]
 pub(crate) struct Sought {
     pub(crate) is_every: bool,
@@ -37,14 +36,14 @@ pub(crate) struct Sought {
     pub(crate) number: Option<u16>,
 }
 
-/// A disk with its entries, the lowest first.
+/// A disk with its directory entries, in order.
 #[derive(Drop)]
 pub(crate) struct Model {
     pub(crate) kind: DiskKind,
     pub(crate) entries: Vec<Option<Extent>>,
 }
 
-/// Whether a name is one of a pattern.
+/// Whether a name matches a pattern.
 fn matches_pattern(pattern: &[u8; 11], name: &[u8; 11]) -> bool {
     pattern
         .iter()
@@ -80,12 +79,12 @@ impl Model {
         matches!(self.kind, DiskKind::Megabyte)
     }
 
-    /// How many records a block has.
+    /// The number of records in a block.
     pub(crate) fn block_records(&self) -> usize {
         if self.is_megabyte() { 16 } else { 8 }
     }
 
-    /// How many records the blocks of files have: 508 blocks of 16, or 241 of 8.
+    /// The number of records in all blocks for files: 508 blocks of 16, or 241 of 8.
     fn room(&self) -> usize {
         if self.is_megabyte() { 8128 } else { 1928 }
     }
@@ -97,7 +96,7 @@ impl Model {
         }
     }
 
-    /// The first entry from one on that is sought.
+    /// The number of the first entry from `from` on that the search looks for.
     pub(crate) fn search(&self, sought: &Sought, from: usize) -> Option<usize> {
         for (number, entry) in self.entries.iter().enumerate() {
             if number >= from && sought.is_met(entry) {
@@ -107,7 +106,7 @@ impl Model {
         None
     }
 
-    /// The entry of an extent.
+    /// The number of the entry of an extent.
     pub(crate) fn find(&self, user: u8, name: &[u8; 11], number: u16) -> Option<usize> {
         let sought = Sought {
             is_every: false,
@@ -132,7 +131,7 @@ impl Model {
         self.entries.iter().position(|entry| entry.is_none())
     }
 
-    /// Whether the records in blocks are fewer than those of all blocks.
+    /// Whether there is a free block: the extents have fewer records in blocks than all blocks together.
     pub(crate) fn has_free_block(&self) -> bool {
         let mut used: usize = 0;
         for entry in &self.entries {
@@ -148,7 +147,7 @@ impl Model {
         used < self.room()
     }
 
-    /// Puts a new extent to the lowest free entry.
+    /// Adds a new extent at the lowest free entry, and answers its number.
     pub(crate) fn add(&mut self, user: u8, name: &[u8; 11], number: u16) -> Option<usize> {
         let entry = self.free_entry()?;
         if let Some(slot) = self.entries.get_mut(entry) {
@@ -163,7 +162,7 @@ impl Model {
         Some(entry)
     }
 
-    /// Takes the files of a pattern away, and says whether there were any.
+    /// Erases the files that match a pattern, and answers whether there were any.
     pub(crate) fn erase(&mut self, user: u8, pattern: &[u8; 11]) -> bool {
         let mut has_erased = false;
         for entry in &mut self.entries {
@@ -187,7 +186,7 @@ impl Model {
         }
     }
 
-    /// The count of a file's records, where there is such a file.
+    /// The number of a file's records, if there is such a file.
     pub(crate) fn size(&self, user: u8, name: &[u8; 11]) -> Option<u32> {
         let mut size: Option<u32> = None;
         for entry in &self.entries {

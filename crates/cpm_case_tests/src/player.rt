@@ -1,17 +1,17 @@
-//! What each call is to answer, and what it is to leave of its file control block and the buffer.
+//! What the model says that each call answers and leaves of its file control block and the buffer.
 
 use crate::asked::Asked;
 use crate::model::{ANY, Model, Refusal, Sought};
 use cpm_bdos::Stop;
 
-/// A search: what is sought, and the entry that was found last.
+/// A search: what it looks for, and the number of the entry that it found last.
 #[derive(Clone, Copy)]
 pub(crate) struct Search {
     sought: Sought,
     found: usize,
 }
 
-/// The system: a disk, the user, the buffer and the last search.
+/// The model of the system: a disk, the user, the buffer and the last search.
 #[derive(Drop)]
 pub(crate) struct System {
     pub(crate) model: Model,
@@ -20,7 +20,7 @@ pub(crate) struct System {
     pub(crate) search: Option<Search>,
 }
 
-/// What a call is to leave: EX, S2 and CR, a record in the buffer, or an entry that was found.
+/// What a call leaves: EX, S2 and CR, the byte that fills the record in the buffer, or the number of the entry that was found.
 #[derive(Clone, Copy)]
 pub(crate) struct Left {
     pub(crate) place: [u8; 3],
@@ -28,10 +28,10 @@ pub(crate) struct Left {
     pub(crate) entry: Option<usize>,
 }
 
-/// The answer of a call, and what it is to leave.
+/// The answer of a call, and what it leaves.
 pub(crate) type Reply = (Result<u16, Stop>, Left);
 
-/// The number of an entry modulo 4, or 0FFH.
+/// The number of an entry modulo 4, or FFH if there is none.
 fn code(entry: Option<usize>) -> u16 {
     match entry {
         Some(number) => (number % 4) as u16,
@@ -40,7 +40,7 @@ fn code(entry: Option<usize>) -> u16 {
 }
 
 impl System {
-    /// Where nothing of the file control block changes.
+    /// A reply that leaves the file control block as it is.
     fn keeps(asked: &Asked, answer: Result<u16, Stop>) -> Reply {
         let left = Left {
             place: asked.place,
@@ -50,7 +50,7 @@ impl System {
         (answer, left)
     }
 
-    /// 15: the first entry of the pattern, with S2 taken as 0.
+    /// Function 15 finds the first entry that matches, with S2 taken as 0.
     pub(crate) fn open(&self, asked: &Asked) -> Reply {
         if let Err(stop) = asked.judge_drive() {
             return System::keeps(asked, Err(stop));
@@ -76,7 +76,7 @@ impl System {
         (Ok(code(entry)), left)
     }
 
-    /// The number of a file control block's extent.
+    /// The number of the extent that a file control block is at.
     fn number_of(&self, asked: &Asked) -> u16 {
         let [extent, s2, _] = asked.place;
         if self.model.is_megabyte() {
@@ -86,7 +86,7 @@ impl System {
         }
     }
 
-    /// 16: the entry of the extent.
+    /// Function 16 finds the entry of the extent.
     pub(crate) fn close(&self, asked: &Asked) -> Reply {
         if let Err(stop) = asked.judge_file() {
             return System::keeps(asked, Err(stop));
@@ -101,7 +101,7 @@ impl System {
         System::keeps(asked, Ok(code(entry)))
     }
 
-    /// Goes on with a search.
+    /// Continues a search from entry `from` on.
     fn go_on(&mut self, asked: &Asked, sought: Sought, from: usize) -> Reply {
         let entry = self.model.search(&sought, from);
         self.search = match entry {
@@ -116,7 +116,7 @@ impl System {
         (Ok(code(entry)), left)
     }
 
-    /// 17: `?` as the drive seeks every entry, and as EX every extent.
+    /// Function 17: with `?` as the drive it finds every entry, and with `?` as EX every extent.
     pub(crate) fn search_first(&mut self, asked: &Asked) -> Reply {
         let is_every = asked.drive == ANY;
         if !is_every && let Err(stop) = asked.judge_drive() {
@@ -138,7 +138,7 @@ impl System {
         self.go_on(asked, sought, 0)
     }
 
-    /// 18: behind the entry that was found last.
+    /// Function 18 continues after the entry that was found last.
     pub(crate) fn search_next(&mut self, asked: &Asked) -> Reply {
         match self.search {
             Some(search) => self.go_on(asked, search.sought, search.found.saturating_add(1)),
@@ -146,7 +146,7 @@ impl System {
         }
     }
 
-    /// 19
+    /// Function 19.
     pub(crate) fn erase(&mut self, asked: &Asked) -> Reply {
         if let Err(stop) = asked.judge_drive() {
             return System::keeps(asked, Err(stop));
@@ -155,7 +155,7 @@ impl System {
         System::keeps(asked, Ok(if has_erased { 0 } else { 0xFF }))
     }
 
-    /// 22
+    /// Function 22.
     pub(crate) fn make(&mut self, asked: &Asked) -> Reply {
         if let Err(stop) = asked.judge_file() {
             return System::keeps(asked, Err(stop));
@@ -178,7 +178,7 @@ impl System {
         (Ok(code(entry)), left)
     }
 
-    /// 23
+    /// Function 23.
     pub(crate) fn rename(&mut self, asked: &Asked) -> Reply {
         if let Err(stop) = asked.judge_names() {
             return System::keeps(asked, Err(stop));
@@ -191,7 +191,8 @@ impl System {
         System::keeps(asked, Ok(0))
     }
 
-    /// The place that is next in turn: CR 128 is 0 of the next extent. None behind the last one; a stop where EX, S2 or CR are none.
+    /// The position of the next record: CR 128 is record 0 of the next extent. `None` after the last extent; a stop if EX, S2 or CR is
+    /// out of range.
     fn turned(&self, asked: &Asked) -> Result<Option<[u8; 3]>, Stop> {
         asked.judge_file()?;
         let [extent, s2, current] = asked.place;
@@ -207,7 +208,7 @@ impl System {
         })
     }
 
-    /// The record of a place.
+    /// The number of the record at a position.
     fn record_at(&self, place: [u8; 3]) -> u32 {
         let [extent, s2, current] = place;
         let high = if self.model.is_megabyte() {
@@ -218,7 +219,7 @@ impl System {
         high + 128 * u32::from(extent) + u32::from(current)
     }
 
-    /// 20 and 21: the next record, read, or written full of a byte.
+    /// Functions 20 and 21: the next record is read, or written full of one byte.
     pub(crate) fn take_turn(&mut self, asked: &Asked, written: Option<u8>) -> Reply {
         let place = match self.turned(asked) {
             Ok(Some(place)) => place,
@@ -255,7 +256,7 @@ impl System {
         Ok(fill)
     }
 
-    /// 33 and 34: a record by its number, read, or written full of a byte.
+    /// Functions 33 and 34: a record is read by its number, or written full of one byte.
     pub(crate) fn take_at(&mut self, asked: &Asked, written: Option<u8>) -> Reply {
         if let Err(stop) = asked.judge_file() {
             return System::keeps(asked, Err(stop));
@@ -293,7 +294,7 @@ impl System {
         (Ok(answer), left)
     }
 
-    /// 35: the answer, and the count of records.
+    /// Function 35: the answer, and the number of records.
     pub(crate) fn size(&self, asked: &Asked) -> (Result<u16, Stop>, u32) {
         if let Err(stop) = asked.judge_file() {
             return (Err(stop), asked.random);
@@ -304,7 +305,7 @@ impl System {
         }
     }
 
-    /// 36: the answer, and the number of the place.
+    /// Function 36: the answer, and the number of the record.
     pub(crate) fn number(&self, asked: &Asked) -> (Result<u16, Stop>, u32) {
         match asked.judge_file() {
             Ok(()) => (Ok(0), self.record_at(asked.place)),

@@ -1,13 +1,13 @@
-//! Records of a model's files, read and written.
+//! Reads and writes records of the model's files.
 
 use crate::model::{Model, Refusal};
 
-/// The number of an extent, and of a record in it.
+/// The number of an extent, and the number of a record in it.
 fn split(record: u32) -> (u16, usize) {
     ((record / 128 % 65_536) as u16, (record % 128) as usize)
 }
 
-/// Whether two records of an extent are in one block.
+/// Whether two records of an extent are in the same block.
 fn is_one_block(is_megabyte: bool, one: usize, other: usize) -> bool {
     if is_megabyte {
         one / 16 == other / 16
@@ -17,7 +17,7 @@ fn is_one_block(is_megabyte: bool, one: usize, other: usize) -> bool {
 }
 
 impl Model {
-    /// The byte of which a record is full.
+    /// The byte that fills a record.
     pub(crate) fn read(&self, user: u8, name: &[u8; 11], record: u32) -> Result<u8, Refusal> {
         let (number, index) = split(record);
         if !self.has_file(user, name) {
@@ -43,7 +43,7 @@ impl Model {
         }
     }
 
-    /// The entry of the extent to which a record is written, a new one where there is none.
+    /// The number of the entry of the extent to which a record is written; a new one if there is none.
     fn entry_for(&mut self, user: u8, name: &[u8; 11], number: u16) -> Result<usize, Refusal> {
         match self.find(user, name, number) {
             Some(entry) => Ok(entry),
@@ -54,7 +54,7 @@ impl Model {
         }
     }
 
-    /// Whether a record's block is there, or one is free for it.
+    /// Whether the block of a record is there, or there is a free block for it.
     fn has_room(&self, user: u8, name: &[u8; 11], record: u32) -> bool {
         let (number, index) = split(record);
         match self.find(user, name, number) {
@@ -63,7 +63,7 @@ impl Model {
         }
     }
 
-    /// Writes a record; the others of a new block are zeros.
+    /// Writes a record. If its block is new, the other records in it become zeros.
     pub(crate) fn write(
         &mut self,
         user: u8,

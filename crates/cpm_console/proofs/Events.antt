@@ -1,11 +1,11 @@
 -- Events one after the other.
 use Rattle.std.proofs.Common.{◌≡◌, ◌⊎◌, ℕ, List, [], ◌∷◌, ◌++◌, map, refl, ap, sym, ◌∙◌, inl, inr, arith, append_assoc}
 use Rattle.std.proofs.KnownBytes.{Appends-nil, Appends-trans}
-use Rattle.cpm_console.specs.Dialog.{Dialog, Event, Passes, Put, Took, put_by, taken}
+use Rattle.cpm_console.specs.Dialog.{Dialog, Event, Passes, Put, Took, put_by, taken_by}
 use Rattle.streams.specs.Stream.{counted}
 use Rattle.cpm_console.specs.Screen.{Screen, Does, Stops, column_after}
 
-taken-append : (x y : List Event) → taken (x ++ y) ≡ taken x ++ taken y
+taken-append : (x y : List Event) → taken_by (x ++ y) ≡ taken_by x ++ taken_by y
 taken-append [] y = refl
 taken-append (Took b ∷ x) y = ap (λ bs. b ∷ bs) (taken-append x y)
 taken-append (Put b ∷ x) y = taken-append x y
@@ -15,7 +15,7 @@ put_by-append [] y = refl
 put_by-append (Took b ∷ x) y = put_by-append x y
 put_by-append (Put b ∷ x) y = ap (λ bs. b ∷ bs) (put_by-append x y)
 
-pub taken-puts : (bytes : List ℕ) → taken (map Put bytes) ≡ []
+pub taken-puts : (bytes : List ℕ) → taken_by (map Put bytes) ≡ []
 taken-puts [] = refl
 taken-puts (b ∷ bytes) = taken-puts bytes
 
@@ -32,7 +32,7 @@ passes-nothing a = record { input = refl; output = Appends-nil a.output }
 
 pub passes-then : (a b c : Dialog) (x y : List Event) → Passes a b x → Passes b c y → Passes a c (x ++ y)
 passes-then a b c x y first second = record {
-  input = first.input ∙ ap (λ bs. taken x ++ bs) second.input ∙ sym (append_assoc (taken x) (taken y) c.input) ∙ ap (λ bs. bs ++ c.input) (sym (taken-append x y));
+  input = first.input ∙ ap (λ bs. taken_by x ++ bs) second.input ∙ sym (append_assoc (taken_by x) (taken_by y) c.input) ∙ ap (λ bs. bs ++ c.input) (sym (taken-append x y));
   output = rw (put_by-append x y) (Appends-trans a.output b.output c.output (put_by x) (put_by y) first.output second.output);
 }
 

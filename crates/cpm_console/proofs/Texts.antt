@@ -5,15 +5,15 @@ use Rattle.std.specs.Prelude.{⊤}
 use Rattle.std.specs.Result.{IsErrAnd}
 use Rattle.std.proofs.lemmas.List.{map-append}
 use Rattle.cpm_console.specs.Dialog.{Put}
-use Rattle.cpm_console.specs.Calls.{Puts}
+use Rattle.cpm_console.specs.Calls.{PutsByte}
 use Rattle.cpm_console.specs.Screen.{Screen, column_after}
 use Rattle.std.specs.List.{concat, flat_map}
-use Rattle.cpm_console.specs.Text.{Prints, Shows, before_dollar, bytes_from, expanded, shown}
+use Rattle.cpm_console.specs.Text.{Prints, PutsText, before_dollar, bytes_from, expanded, text_shown}
 use Rattle.cpm_console.specs.declared.error.ConsoleError.{ConsoleError}
 use Rattle.cpm_console.specs.declared.error.ConsoleError.TheVariants.{EndOfInput, ConsoleFault}
 use Rattle.cpm_console.proofs.Events.{column_after-append, does-nothing, does-then, failed_put, put_by-puts, stops-after, stops-before}
 
--- an error that is passed on
+-- an error that is given on to the caller
 pub prints_on : (a b : Screen) (x : List ℕ) (r : Result ⊤ ConsoleError) (e : ConsoleError) → IsErrAnd r (λ f. f ≡ e) → Prints a b x (Err e) → Prints a b x r
 prints_on a b x (Ok t) e same p = absurd same
 prints_on a b x (Err f) e same p = subst (λ g. Prints a b x (Err g)) (sym same) p
@@ -30,33 +30,33 @@ pub prints-before : (a b : Screen) (x y : List ℕ) (e : ConsoleError) → Print
 prints-before a b x y EndOfInput stopped = stopped
 prints-before a b x y ConsoleFault stopped = rw (map-append Put x y) (stops-before a b (map Put x) (map Put y) stopped)
 
--- a put that failed, of a terminal whose column stays
-pub prints-failed : (a b : Screen) (byte : ℕ) (e : ConsoleError) → Puts a.dialog b.dialog byte (Err e) → b.column ≡ a.column → Prints a b (byte ∷ []) (Err e)
+-- a put that failed, on a terminal whose column stays
+pub prints-failed : (a b : Screen) (byte : ℕ) (e : ConsoleError) → PutsByte a.dialog b.dialog byte (Err e) → b.column ≡ a.column → Prints a b (byte ∷ []) (Err e)
 prints-failed a b byte EndOfInput failed column = failed
 prints-failed a b byte ConsoleFault failed column = failed_put a b byte failed.0 column failed.1
 
-shown-append : (x : List ℕ) (column : ℕ) (y : List ℕ) → shown column (x ++ y) ≡ shown column x ++ shown (column_after column (shown column x)) y
+shown-append : (x : List ℕ) (column : ℕ) (y : List ℕ) → text_shown column (x ++ y) ≡ text_shown column x ++ text_shown (column_after column (text_shown column x)) y
 shown-append [] column y = refl
 shown-append (b ∷ x) column y =
     let bytes = expanded column b in
     let there = column_after column bytes in
     ap (λ z. bytes ++ z) (shown-append x there y)
-    ∙ sym (append_assoc bytes (shown there x) _)
-    ∙ ap (λ k. (bytes ++ shown there x) ++ shown k y) (sym (column_after-append bytes column (shown there x)))
+    ∙ sym (append_assoc bytes (text_shown there x) _)
+    ∙ ap (λ k. (bytes ++ text_shown there x) ++ text_shown k y) (sym (column_after-append bytes column (text_shown there x)))
 
-pub shows-nothing : (a : Screen) → Shows a a [] (Ok tt)
+pub shows-nothing : (a : Screen) → PutsText a a [] (Ok tt)
 shows-nothing a = does-nothing a
 
-pub shows-then : (a b c : Screen) (x y : List ℕ) (r : Result ⊤ ConsoleError) → Shows a b x (Ok tt) → Shows b c y r → Shows a c (x ++ y) r
+pub shows-then : (a b c : Screen) (x y : List ℕ) (r : Result ⊤ ConsoleError) → PutsText a b x (Ok tt) → PutsText b c y r → PutsText a c (x ++ y) r
 shows-then a b c x y r first second =
-    let there : b.column ≡ column_after a.column (shown a.column x) = first.column ∙ ap (column_after a.column) (put_by-puts (shown a.column x)) in
-    let next : Prints b c (shown (column_after a.column (shown a.column x)) y) r = rw (← there) second in
-    rw (shown-append x a.column y) (prints-then a b c (shown a.column x) _ r first next)
+    let there : b.column ≡ column_after a.column (text_shown a.column x) = first.column ∙ ap (column_after a.column) (put_by-puts (text_shown a.column x)) in
+    let next : Prints b c (text_shown (column_after a.column (text_shown a.column x)) y) r = rw (← there) second in
+    rw (shown-append x a.column y) (prints-then a b c (text_shown a.column x) _ r first next)
 
-pub shows-before : (a b : Screen) (x y : List ℕ) (e : ConsoleError) → Shows a b x (Err e) → Shows a b (x ++ y) (Err e)
-shows-before a b x y e stopped = subst (λ bytes. Prints a b bytes (Err e)) (sym (shown-append x a.column y)) (prints-before a b (shown a.column x) _ e stopped)
+pub shows-before : (a b : Screen) (x y : List ℕ) (e : ConsoleError) → PutsText a b x (Err e) → PutsText a b (x ++ y) (Err e)
+shows-before a b x y e stopped = subst (λ bytes. Prints a b bytes (Err e)) (sym (shown-append x a.column y)) (prints-before a b (text_shown a.column x) _ e stopped)
 
--- a blank more
+-- one more blank
 pub blanks-more : (a b c : Screen) (left rest : ℕ) (r : Result ⊤ ConsoleError) → left ≡ suc rest → Prints a b (0x20 ∷ []) (Ok tt) → Prints b c (replicate rest 0x20) r → Prints a c (replicate left 0x20) r
 blanks-more a b c left rest r e first second = subst (λ n. Prints a c (replicate n 0x20) r) (sym e) (prints-then a b c (0x20 ∷ []) (replicate rest 0x20) r first second)
 
@@ -67,21 +67,21 @@ blanks-stopped a b (suc rest) e some stopped = prints-before a b (0x20 ∷ []) (
 pub no_blanks : (a : Screen) (left : ℕ) → left ≡ 0 → Prints a a (replicate left 0x20) (Ok tt)
 no_blanks a left e = subst (λ n. Prints a a (replicate n 0x20) (Ok tt)) (sym e) (prints-nothing a)
 
--- an error that is passed on
-pub shows_on : (a b : Screen) (x : List ℕ) (r : Result ⊤ ConsoleError) (e : ConsoleError) → IsErrAnd r (λ f. f ≡ e) → Shows a b x (Err e) → Shows a b x r
-shows_on a b x r e same p = prints_on a b (shown a.column x) r e same p
+-- an error that is given on to the caller
+pub shows_on : (a b : Screen) (x : List ℕ) (r : Result ⊤ ConsoleError) (e : ConsoleError) → IsErrAnd r (λ f. f ≡ e) → PutsText a b x (Err e) → PutsText a b x r
+shows_on a b x r e same p = prints_on a b (text_shown a.column x) r e same p
 
 -- a text in two parts
-pub shows_front : (a b c : Screen) (whole x y : List ℕ) (r : Result ⊤ ConsoleError) → whole ≡ x ++ y → Shows a b x (Ok tt) → Shows b c y r → Shows a c whole r
-shows_front a b c whole x y r e first second = subst (λ t. Shows a c t r) (sym e) (shows-then a b c x y r first second)
+pub shows_front : (a b c : Screen) (whole x y : List ℕ) (r : Result ⊤ ConsoleError) → whole ≡ x ++ y → PutsText a b x (Ok tt) → PutsText b c y r → PutsText a c whole r
+shows_front a b c whole x y r e first second = subst (λ t. PutsText a c t r) (sym e) (shows-then a b c x y r first second)
 
-pub shows_stopped : (a b : Screen) (whole x y : List ℕ) (e : ConsoleError) → whole ≡ x ++ y → Shows a b x (Err e) → Shows a b whole (Err e)
-shows_stopped a b whole x y e parts stopped = subst (λ t. Shows a b t (Err e)) (sym parts) (shows-before a b x y e stopped)
+pub shows_stopped : (a b : Screen) (whole x y : List ℕ) (e : ConsoleError) → whole ≡ x ++ y → PutsText a b x (Err e) → PutsText a b whole (Err e)
+shows_stopped a b whole x y e parts stopped = subst (λ t. PutsText a b t (Err e)) (sym parts) (shows-before a b x y e stopped)
 
-pub shows_none : (a : Screen) (text : List ℕ) → text ≡ [] → Shows a a text (Ok tt)
-shows_none a text e = subst (λ t. Shows a a t (Ok tt)) (sym e) (shows-nothing a)
+pub shows_none : (a : Screen) (text : List ℕ) → text ≡ [] → PutsText a a text (Ok tt)
+shows_none a text e = subst (λ t. PutsText a a t (Ok tt)) (sym e) (shows-nothing a)
 
--- texts that are taken apart in front
+-- a text without its first byte
 pub flat_map-more : (f : ℕ → List ℕ) (left rest : List ℕ) (byte : ℕ) → left ≡ byte ∷ rest → flat_map f left ≡ f byte ++ flat_map f rest
 flat_map-more f left rest byte e = ap (flat_map f) e
 

@@ -1,9 +1,9 @@
--- What passes between a console and the program that uses it.
+-- The bytes that pass between a console and the program that uses it.
 use Rattle.std.specs.Prelude.{◌≡◌, ℕ, List, [], ◌∷◌, ◌++◌, Option}
 use Rattle.std.specs.Io.KnownBytes.{Appends}
 
--- A console as its user sees it: the bytes that are left to be taken, the bytes that were put where its writer tells them, and how
--- often it has failed.
+-- A console as its user sees it: the bytes that are still to be taken, the bytes that were put if they are known, and the number of its
+-- faults.
 pub record Dialog : Type 0 where
   pub input : List ℕ
   pub output : Option (List ℕ)
@@ -18,22 +18,22 @@ pub data Event : Type 0 where
   Put : ℕ → Event
 
 -- the bytes that were taken, and those that were put
-abbrev pub taken : List Event → List ℕ
-taken [] = []
-taken (Took b ∷ events) = b ∷ taken events
-taken (Put b ∷ events) = taken events
+abbrev pub taken_by : List Event → List ℕ
+taken_by [] = []
+taken_by (Took b ∷ events) = b ∷ taken_by events
+taken_by (Put b ∷ events) = taken_by events
 
 abbrev pub put_by : List Event → List ℕ
 put_by [] = []
 put_by (Took b ∷ events) = put_by events
 put_by (Put b ∷ events) = b ∷ put_by events
 
--- These events passed in turn, and no others.
+-- Exactly these events passed, in this order.
 pub record Passes (old new : Dialog) (events : List Event) : Type 0 where
-  pub input : old.input ≡ taken events ++ new.input
+  pub input : old.input ≡ taken_by events ++ new.input
   pub output : Appends old.output new.output (put_by events)
 
 -- the same, and the console did not fail
-pub record Succeeds (old new : Dialog) (events : List Event) : Type 0 where
+pub record PassesUnfailed (old new : Dialog) (events : List Event) : Type 0 where
   pub passed : Passes old new events
   pub unfailed : new.faults ≡ old.faults

@@ -8,15 +8,15 @@ pub record Screen : Type 0 where
   pub dialog : Dialog
   pub column : ℕ
 
--- a terminal as its user sees it, by what its console means
+-- a terminal as its user sees it, given what that means for its console
 abbrev pub screen : {C : Type 0} → (C → Dialog) → Terminal C → Screen
 screen dialog t = record { dialog = dialog t.console; column = t.column }
 
--- 20H to 7EH and 80H to FFH
+-- whether a byte takes a column on the screen: 20H to 7EH and 80H to FFH
 abbrev pub has_width : ℕ → Bool
 has_width byte = nat_le 0x20 byte && not (byte == 0x7F)
 
--- The column after a byte is put: one more where it has width, modulo 65,536; 0 after CR; one less after 08H, down to 0.
+-- The column after a byte is put: one more if the byte takes a column, modulo 65,536; 0 after CR; one less after 08H, but not below 0.
 abbrev pub moved : ℕ → ℕ → ℕ
 moved column byte =
     if has_width byte then (column + 1) % 65536
@@ -28,14 +28,14 @@ abbrev pub column_after : ℕ → List ℕ → ℕ
 column_after column [] = column
 column_after column (byte ∷ bytes) = column_after (moved column byte) bytes
 
--- These events passed in turn, and no others; the console did not fail, and what was put moved the column.
+-- Exactly these events passed, in this order; the console did not fail, and the column moved with the bytes that were put.
 pub record Does (old new : Screen) (events : List Event) : Type 0 where
   pub passed : Passes old.dialog new.dialog events
   pub unfailed : new.dialog.faults ≡ old.dialog.faults
   pub column : new.column ≡ column_after old.column (put_by events)
 
--- The console failed once, on the way: of these events a front passed. The byte of a put that failed may be put all the same; it does
--- not move the column.
+-- The console failed once on the way, and only the first of these events passed. The byte of the put that failed may be put all the same;
+-- it does not move the column.
 pub record Stops (old new : Screen) (events : List Event) : Type 0 where
   pub done : List Event
   pub failed : List ℕ

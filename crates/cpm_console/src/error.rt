@@ -1,14 +1,14 @@
-//! Why a console gives no answer.
+//! Why a console does not answer.
 
 use thiserror::Error;
 
-/// Why a console gives no answer.
+/// Why a console does not answer.
 #[derive(Clone, Copy, Debug, PartialEq, Eq, Error)]
 pub enum ConsoleError {
     /// No input is left.
     #[error("no input is left")]
     EndOfInput,
-    /// The console failed. So it does where a growth is refused to it.
+    /// The console failed. A console that needs memory also fails if memory runs out.
     #[error("the console failed")]
     ConsoleFault,
 }

@@ -1,4 +1,4 @@
--- All entries that break a rule, judged one after the other.
+-- All entries that break a rule, tested one after the other.
 use Rattle.std.proofs.Common.{◌≡◌, ◌⊎◌, ◌<◌, ◌≤◌, ◌+◌, ℕ, List, [], ◌∷◌, ◌++◌, Bool, true, false, ◌||◌, nat_eq, replicate, take, length, get_or, length-append, refl, arith, sym, ◌∙◌, ap, subst, inl, inr}
 use Rattle.std.proofs.lemmas.Bool.{cases_eq, cases_lt}
 use Rattle.std.proofs.lemmas.List.{get_or_append_left, get_or_at, get_or_default}
@@ -12,11 +12,11 @@ use Rattle.cpm_directory.specs.Rules.{AreBroken, IsBroken, IsFaultOf, KeepsRules
 use Rattle.cpm_directory.proofs.Names.{within_extents}
 use Rattle.cpm_directory.proofs.TakenBlocks.{AreTaken, entry_marked, entry_passed, none_taken}
 
--- an entry of users 0 to 31 keeps the rules, or is one of the list
+-- an entry of users 0 to 31 keeps the rules, or is in the list
 abbrev IsKeptOrListed : DiskKind → List Entry → List Broken → ℕ → Type 0
 IsKeptOrListed kind entries broken k = is_extent (at entries k) ≡ true → KeepsRules kind (take k entries) (at entries k) ⊎ Any (λ b. b.number ≡ k) broken
 
--- the first i entries are judged, and the blocks of all of them are marked
+-- the first i entries are tested, and the blocks of all of them are marked
 pub record AreListed (kind : DiskKind) (entries : List Entry) (marks : List Bool) (broken : List Broken) (i : ℕ) : Type 0 where
   pub taken : AreTaken kind marks entries i
   pub each : All (IsBroken kind entries) broken
@@ -39,7 +39,7 @@ marks_before kind was = was.taken.taken
 every_more : (P : ℕ → Type 0) (i : ℕ) → ((k : ℕ) → k < i → P k) → P i → (k : ℕ) → k < i + 1 → P k
 every_more P i below here k h = elim (cases_lt k i) [ inl lt ↦ below k lt | inr ge ↦ subst P (let e : i ≡ k = omega arith in e) here ]
 
--- the rest of what holds stays, one entry further
+-- all numbers below i are also below i + 1
 below_more : (broken : List Broken) (i : ℕ) → All (λ b. b.number < i) broken → All (λ b. b.number < i + 1) broken
 below_more broken i below = All-weaker (λ b. b.number < i) (λ b. b.number < i + 1) (λ b h. omega arith) broken below
 
@@ -54,7 +54,7 @@ entry_kept kind {entries = entries} {broken = broken} {i = i} d was within exten
   ordered = was.ordered;
 }
 
--- one of no file
+-- an entry that belongs to no file
 pub entry_skipped : (kind : DiskKind) {entries : List Entry} {marks : List Bool} {broken : List Broken} {i : ℕ} (d : Entry) → AreListed kind entries marks broken i → i < length entries → is_extent (get_or entries i d) ≡ false → AreListed kind entries marks broken (i + 1)
 entry_skipped kind {entries = entries} {broken = broken} {i = i} d was within extent = record {
   taken = entry_passed kind d was.taken within extent;
@@ -66,7 +66,7 @@ entry_skipped kind {entries = entries} {broken = broken} {i = i} d was within ex
   ordered = was.ordered;
 }
 
--- what is one of a list is one of a longer one
+-- an element of a list is also in a longer one
 any_more : (P : Broken → Type 0) (xs : List Broken) (x : Broken) → Any P xs → Any P (xs ++ x ∷ [])
 any_more P xs x (k, y, low, is, holds) = (k, y, (let long = length-append xs (x ∷ []) in omega (arith, low)), get_or_append_left xs (x ∷ []) y k low ∙ is, holds)
 
@@ -79,7 +79,7 @@ still_listed kind entries broken b k was is = elim (was is) [
   | inr listed ↦ inr (any_more (λ x. x.number ≡ k) broken b listed)
 ]
 
--- the last of the longer list has the greatest number
+-- the list stays in order if the greatest number is added at the end
 ordered_more : (broken : List Broken) (b : Broken) (i : ℕ) → b.number ≡ i → All (λ x. x.number < i) broken → AllPairs (λ x y. x.number < y.number) broken → AllPairs (λ x y. x.number < y.number) (broken ++ b ∷ [])
 ordered_more broken b i is below ordered j k d lt h =
     let long = length-append broken (b ∷ []) in
@@ -93,7 +93,7 @@ ordered_more broken b i is below ordered j k d lt h =
           rw (first, second) (ordered j k d lt (omega arith))
     ]
 
--- one that breaks a rule is listed
+-- an entry that breaks a rule is added to the list
 pub entry_listed : (kind : DiskKind) {entries : List Entry} {old marks : List Bool} {broken : List Broken} {i : ℕ} (d : Entry) (b : Broken) → AreListed kind entries old broken i → i < length entries → is_extent (get_or entries i d) ≡ true → b.number ≡ i → b.entry ≡ get_or entries i d → IsFaultOf kind (take i entries) (get_or entries i d) b.fault →
     ((n : ℕ) → n < 512 → get_or marks n false ≡ (get_or old n false || list_any (λ c. nat_eq c n) (blocks_of kind (get_or entries i d)))) → AreListed kind entries marks (broken ++ b ∷ []) (i + 1)
 entry_listed kind {entries = entries} {broken = broken} {i = i} d b was within extent number_is entry_is fault_of marked = record {

@@ -42,7 +42,7 @@ pub eleven : (xs : List ℕ) → length xs ≡ 11 → xs ≡ get_or xs 0 0 ∷ g
 eleven (a ∷ b ∷ d ∷ e ∷ f ∷ g ∷ i ∷ j ∷ k ∷ l ∷ m ∷ []) h = refl
 eleven _ h = absurd (omega arith)
 
--- the entry that the bytes of one spell
+-- the bytes of an entry are that entry again
 pub entry_of-bytes : {user extent s1 s2 records : ℕ} {blocks : List ℕ} (name : List ℕ) → length name ≡ 11 → ◌≡◌ {A = Entry} (entry_of (user ∷ name ++ extent ∷ s1 ∷ s2 ∷ records ∷ blocks)) (record { user = user; name = name; extent = extent; s1 = s1; s2 = s2; records = records; blocks = blocks })
 entry_of-bytes (a ∷ b ∷ d ∷ e ∷ f ∷ g ∷ i ∷ j ∷ k ∷ l ∷ m ∷ []) h = refl
 entry_of-bytes _ h = absurd (omega arith)

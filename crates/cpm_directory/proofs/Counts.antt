@@ -1,4 +1,4 @@
--- Entries and blocks that are counted.
+-- Counting entries and blocks.
 use Rattle.std.proofs.Common.{◌≡◌, ◌<◌, ◌≤◌, ℕ, zero, suc, ◌+◌, ◌-◌, List, [], ◌∷◌, Bool, true, false, cond, not, take, length, get_or, refl, sym, ◌∙◌, ap, arith}
 use Rattle.std.specs.List.{count_by, filter, range_with_len, sum_by}
 use Rattle.std.proofs.lemmas.List.Elements.{filter_more}
@@ -18,7 +18,7 @@ picked : (f : Entry → ℕ) (x : Entry) (b : Bool) → sum_by f (cond b (x ∷ 
 picked f x true = omega arith
 picked f x false = refl
 
--- one entry more, of those that a test picks
+-- one more entry, among those that pass a test
 pub sum_by-filter_more : (p : Entry → Bool) (f : Entry → ℕ) (xs : List Entry) (i : ℕ) (d : Entry) → i < length xs → sum_by f (filter p (take (i + 1) xs)) ≡ sum_by f (filter p (take i xs)) + cond (p (get_or xs i d)) (f (get_or xs i d)) 0
 sum_by-filter_more p f xs i d below =
     ap (sum_by f) (filter_more p xs i d below)
@@ -33,7 +33,7 @@ count_by-same f g a (suc n) same =
     sum_by-cons (λ x. cond (f x) 1 0) a (range_with_len (a + 1) n) ∙ ap (λ b. cond b 1 0 + count_by f (range_with_len (a + 1) n)) here
     ∙ ap (λ m. cond (g a) 1 0 + m) rest ∙ sym (sum_by-cons (λ x. cond (g x) 1 0) a (range_with_len (a + 1) n))
 
--- the blocks that are not marked are the free ones
+-- the blocks without a mark are exactly the free ones
 pub free_counted : (kind : DiskKind) (marks : List Bool) (entries : List Entry) → ((b : ℕ) → b < 512 → get_or marks b false ≡ is_taken kind entries b) → count_by (λ b. not (get_or marks b false)) (range_with_len (first_block kind) (block_count kind - first_block kind)) ≡ free_blocks kind entries
 unfolding free_blocks
 free_counted kind marks entries taken = count_by-same (λ b. not (get_or marks b false)) (λ b. not (is_taken kind entries b)) (first_block kind) (block_count kind - first_block kind) (λ k _ most. ap not (taken k (marked_below kind k most)))

@@ -28,7 +28,7 @@ first_by : (e : Entry) (es : List Entry) (b : Bool) → b ≡ true → Contains 
 first_by e es true h = (0, omega arith, refl)
 first_by e es false h = absurd (let clash : false ≡ true = h in cc)
 
--- each extent's file is one of the files
+-- the file of each extent is one of the files
 pub file_at : (es : List Entry) (k : ℕ) → is_extent (at es k) ≡ true → Contains (files_of es) (file_of (at es k))
 file_at [] k h = absurd (let e : false ≡ true = h in cc)
 file_at (e ∷ es) zero h = first_by e es (is_extent e) h
@@ -39,7 +39,7 @@ are_files_by : (entries : List Entry) (e : Entry) (es : List Entry) (b : Bool) �
 are_files_by entries e es true extent is rest = All-cons (IsFileOf entries) (file_of e) (files_of es) (record { user = ltb-true _ _ extent; is = is }) rest
 are_files_by entries e es false extent is rest = rest
 
--- an entry's file is one of those of a list that has the entry
+-- the file of an entry is a file of each directory that has the entry
 is_its_file : (entries : List Entry) (e : Entry) → Contains entries e → is_file e.user (letters e.name) entries ≡ true
 is_its_file entries e (k, below, same) = list_any_at (is_of e.user (letters e.name)) entries k e below (true_both _ _ (eq-eqb _ _ (ap (λ (x : Entry). x.user) same)) ((bytes_eq-Decides _ (letters e.name)).1 (ap (λ (x : Entry). letters x.name) same)))
 
@@ -47,7 +47,7 @@ are_files : (entries es : List Entry) → All (Contains entries) es → All (IsF
 are_files entries [] all = All-nil (IsFileOf entries)
 are_files entries (e ∷ es) all = are_files_by entries e es (is_extent e) refl (is_its_file entries e (all 0 e (omega arith))) (are_files entries es (All-tail (Contains entries) e es all))
 
--- what a listing says of a file
+-- what a listing says about a file
 abbrev said : List Entry → File → Listed
 said entries f = listed_of f.user f.name entries
 

@@ -1,4 +1,4 @@
--- Entries that are judged one after the other.
+-- Entries that are tested one after the other.
 use Rattle.std.proofs.Common.{◌≡◌, ◌<◌, ◌+◌, ℕ, List, Bool, true, false, ◌||◌, nat_eq, replicate, take, length, get_or, arith, sym, ◌∙◌, ap, subst, inl, inr}
 use Rattle.cpm_image.specs.declared.kind.DiskKind.{DiskKind}
 use Rattle.std.proofs.lemmas.Bool.{cases_lt, cases_order}
@@ -16,7 +16,7 @@ pub record AreJudged (kind : DiskKind) (entries : List Entry) (marks : List Bool
   pub taken : AreTaken kind marks entries i
   pub kept : (k : ℕ) → k < i → is_extent (at entries k) ≡ true → KeepsRules kind (take k entries) (at entries k)
 
--- of two entries of which one comes first, the later one keeps the rules after the first
+-- the entries before a later one include each earlier one
 pub at_take : (entries : List Entry) (j k : ℕ) → j < k → at (take k entries) j ≡ at entries j
 at_take entries j k lt = get_or-take k entries j blank lt
 

@@ -1,4 +1,4 @@
--- A directory is judged in one way.
+-- There is only one judgement of a directory.
 use Rattle.std.proofs.Common.{◌≡◌, ◌<◌, ℕ, List, true, take, refl, arith, sym, ap, subst, inl, inr, Result, Ok, Err}
 use Rattle.cpm_image.specs.declared.kind.DiskKind.{DiskKind}
 use Rattle.std.specs.Bool.{⊤}

@@ -8,7 +8,7 @@ use Rattle.std.proofs.lemmas.List.Folds.{list_any_more}
 use Rattle.cpm_directory.specs.Private.Marks.{AreOwn, AreSmall}
 use Rattle.cpm_directory.proofs.Elements.{where_any, nowhere}
 
--- the first i blocks stand once each, and were not marked
+-- each of the first i blocks is there once and was not marked before
 pub record AreOwnBelow (marks : List Bool) (blocks : List ℕ) (i : ℕ) : Type 0 where
   pub free : (a : ℕ) → a < i → 0 < get_or blocks a 0 → get_or marks (get_or blocks a 0) false ≡ false
   pub once : (a b : ℕ) → a < b → b < i → 0 < get_or blocks a 0 → get_or blocks a 0 ≡ get_or blocks b 0 → ⊥
@@ -44,7 +44,7 @@ marked_more old marks blocks i x b long fits below here was =
           get_or-set_other marks x b true false other ∙ was ∙ sym (rw (more, miss) (or_none _ _))
     ]
 
--- a flag joined to one so far
+-- one more block is tested
 both : {A B C : Type 0} (own t : Bool) → MatchBool own A C → (t ≡ true → A → B) → (t ≡ false → A → C) → MatchBool (own && t) B C
 both true true was more less = more refl was
 both true false was more less = less refl was
@@ -75,7 +75,7 @@ or_true false b h = inr (sym h)
 in_front : (blocks : List ℕ) (i k : ℕ) → k < i → i < length blocks → k < length (take i blocks)
 in_front blocks i k h below = rw length-take (omega arith)
 
--- a block that is 0 or not marked is the entry's own
+-- if a block is 0 or not marked, it belongs only to this entry
 grown : (old marks : List Bool) (blocks : List ℕ) (i x : ℕ) → x ≡ get_or blocks i 0 → i < length blocks →
     get_or marks x false ≡ (get_or old x false || list_any (λ c. nat_eq c x) (take i blocks)) →
     ((x == 0) || not (get_or marks x false)) ≡ true → AreOwnBelow old blocks i → AreOwnBelow old blocks (i + 1)
@@ -97,7 +97,7 @@ grown old marks blocks i x here below marked t prior =
       ];
     }
 
--- one that is marked is not
+-- if it is marked, it does not
 clash : (old marks : List Bool) (blocks : List ℕ) (i x : ℕ) → x ≡ get_or blocks i 0 → i < length blocks →
     get_or marks x false ≡ (get_or old x false || list_any (λ c. nat_eq c x) (take i blocks)) →
     ((x == 0) || not (get_or marks x false)) ≡ false → AreOwn old blocks → ⊥
@@ -138,7 +138,7 @@ start old blocks long = record {
     none true = refl
     none false = refl
 
--- a block but 0 stands within the list
+-- a block number other than 0 is within the list
 pub within : (blocks : List ℕ) (a : ℕ) → 0 < get_or blocks a 0 → a < length blocks
 within blocks a h = elim (cases_lt a (length blocks)) [ inl lt ↦ lt | inr ge ↦ absurd (let past = get_or_past blocks a 0 ge in omega arith) ]
 

@@ -1,4 +1,4 @@
--- Whether an entry's name and number stand in one before it.
+-- Whether an entry before this one has the same name and extent number.
 use Rattle.std.proofs.Common.{◌≡◌, ◌<◌, ◌==◌, nat_lt, subst, ℕ, List, Bool, true, false, ◌&&◌, not, MatchBool, length, refl, inl, inr, sym, ◌∙◌}
 use Rattle.std.specs.List.{list_any}
 use Rattle.std.proofs.lemmas.Bool.{cases_lt, eq-eqb, eqb-true}
@@ -17,7 +17,7 @@ both_true false b h = absurd (let e : false ≡ true = h in cc)
 pub true_both : (a b : Bool) → a ≡ true → b ≡ true → (a && b) ≡ true
 true_both a b p q = rw (p) q
 
--- what the test of an extent of a file says
+-- what it means that an entry is an extent of a file
 pub same_extent : (user number : ℕ) (name : List ℕ) (d : Entry) → is_extent_of user name number d ≡ true → (d.user ≡ user) × (letters d.name ≡ name) × ((extent_number d) ≡ number)
 same_extent user number name d h =
     let parts = both_true _ ((extent_number d) == number) h in
@@ -27,7 +27,7 @@ same_extent user number name d h =
 pub extent_same : (user number : ℕ) (name : List ℕ) (d : Entry) → d.user ≡ user → letters d.name ≡ name → (extent_number d) ≡ number → is_extent_of user name number d ≡ true
 extent_same user number name d u n x = true_both _ _ (true_both _ _ (eq-eqb _ _ u) ((bytes_eq-Decides (letters d.name) name).1 n)) (eq-eqb _ _ x)
 
--- past the end there is no extent
+-- there is no extent after the last entry
 pub within_extents : (entries : List Entry) (k : ℕ) → is_extent (at entries k) ≡ true → k < length entries
 within_extents entries k extent = elim (cases_lt k (length entries)) [
   | inl lt ↦ lt

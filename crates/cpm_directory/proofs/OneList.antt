@@ -1,4 +1,4 @@
--- A directory has one list of the entries that break a rule.
+-- There is only one list of the entries of a directory that break a rule.
 use Rattle.std.proofs.Common.{◌≡◌, ◌⊎◌, ◌<◌, ◌≤◌, ◌↔◌, ℕ, zero, suc, List, [], ◌∷◌, true, take, get_or, refl, arith, sym, ◌∙◌, ap, subst, inl, inr}
 use Rattle.std.proofs.lemmas.List.Elements.{All-head, All-tail}
 use Rattle.std.specs.List.{All, AllPairs, Any}
@@ -9,7 +9,7 @@ use Rattle.cpm_directory.specs.Rules.{AreBroken, IsBroken, IsFaultOf, IsFirstFau
 use Rattle.cpm_directory.proofs.FirstFault.{sound}
 use Rattle.cpm_directory.proofs.Judgement.{no_fault, one_fault, sound_or_not}
 
--- the part of a list whose numbers are not below one
+-- the list of the broken entries whose numbers are not below `low`
 record AreBrokenFrom (kind : DiskKind) (entries : List Entry) (low : ℕ) (broken : List Broken) : Type 0 where
   each : All (IsBroken kind entries) broken
   from : All (λ b. low ≤ b.number) broken
@@ -24,7 +24,7 @@ whole kind entries broken are = record {
   ordered = are.ordered;
 }
 
--- a number that stands in a list is its first one's, or above it
+-- a number in a list is that of its first entry, or greater
 first_or_later : (b : Broken) (rest : List Broken) (k : ℕ) → AllPairs (λ x y. x.number < y.number) (b ∷ rest) → Any (λ x. x.number ≡ k) (b ∷ rest) → (b.number ≡ k) ⊎ ((b.number < k) × Any (λ x. x.number ≡ k) rest)
 first_or_later b rest k ordered (zero, x, low, is, holds) = inl (ap (λ y. y.number) is ∙ holds)
 first_or_later b rest k ordered (suc i, x, low, is, holds) = inr (
@@ -32,7 +32,7 @@ first_or_later b rest k ordered (suc i, x, low, is, holds) = inr (
   (i, x, omega (arith, low), is, holds),
 )
 
--- the rest of a list, above its first number
+-- the rest of such a list, above its first number
 tail : (kind : DiskKind) (entries : List Entry) (low : ℕ) (b : Broken) (rest : List Broken) → AreBrokenFrom kind entries low (b ∷ rest) → AreBrokenFrom kind entries (suc b.number) rest
 tail kind entries low b rest are = record {
   each = All-tail (IsBroken kind entries) b rest are.each;
@@ -51,7 +51,7 @@ tail kind entries low b rest are = record {
 breaks : (kind : DiskKind) (entries : List Entry) (b : Broken) → IsBroken kind entries b → KeepsRules kind (take b.number entries) (at entries b.number) → ⊥
 breaks kind entries b is keeps = no_fault kind (take b.number entries) (at entries b.number) b.fault keeps (subst (λ e. IsFaultOf kind (take b.number entries) e b.fault) is.entry is.fault_of)
 
--- so it stands in each list
+-- so it is in each list
 listed_too : (kind : DiskKind) (entries : List Entry) (low : ℕ) (b : Broken) (broken : List Broken) → IsBroken kind entries b → low ≤ b.number → AreBrokenFrom kind entries low broken → Any (λ x. x.number ≡ b.number) broken
 listed_too kind entries low b broken is above are = elim (are.every b.number above (subst (λ e. is_extent e ≡ true) is.entry is.extent)) [
   | inl keeps ↦ absurd (breaks kind entries b is keeps)
@@ -64,7 +64,7 @@ nothing P (k, x, low, is, holds) = omega (arith, low)
 abbrev made : ℕ → Entry → DiskFault → Broken
 made number entry fault = record { number = number; entry = entry; fault = fault }
 
--- with one number two are one
+-- two broken entries with the same number are equal
 same_broken : (kind : DiskKind) (entries : List Entry) (a b : Broken) → IsBroken kind entries a → IsBroken kind entries b → a.number ≡ b.number → a ≡ b
 same_broken kind entries a b is_a is_b same =
     let entry_is : a.entry ≡ b.entry = is_a.entry ∙ ap (at entries) same ∙ sym is_b.entry in
@@ -72,7 +72,7 @@ same_broken kind entries a b is_a is_b same =
     (subst (λ k. IsFaultOf kind (take k entries) a.entry b.fault) (sym same) (subst (λ e. IsFaultOf kind (take b.number entries) e b.fault) (sym entry_is) is_b.fault_of)) in
     ap (λ n. made n a.entry a.fault) same ∙ ap (λ e. made b.number e a.fault) entry_is ∙ ap (made b.number b.entry) fault_is
 
--- the first numbers of two lists are one
+-- the first numbers of two lists are equal
 same_first : (kind : DiskKind) (entries : List Entry) (low : ℕ) (a b : Broken) (xs ys : List Broken) → AreBrokenFrom kind entries low (a ∷ xs) → AreBrokenFrom kind entries low (b ∷ ys) → b.number ≤ a.number
 same_first kind entries low a b xs ys are_a are_b =
     let is = All-head (IsBroken kind entries) a xs are_a.each in

@@ -1,4 +1,4 @@
--- Blocks that are an entry's own, by the marks of those before it.
+-- Whether the blocks of an entry belong only to it can be seen from the marks of the entries before it.
 use Rattle.std.proofs.Common.{◌≡◌, ◌<◌, ◌≤◌, ◌&&◌, ℕ, List, Bool, true, false, nat_eq, MatchBool, length, refl, arith, sym, ◌∙◌, inl, inr}
 use Rattle.std.specs.List.{list_any}
 use Rattle.std.proofs.lemmas.List.{get_or_past}
@@ -16,14 +16,14 @@ use Rattle.cpm_directory.proofs.Elements.{where_any}
 use Rattle.cpm_directory.proofs.Marks.{within}
 use Rattle.cpm_directory.proofs.Names.{both_true, true_both, within_extents}
 
--- a block that stands in an extent is taken
+-- a block in an extent is taken
 pub taken_at : (kind : DiskKind) (entries : List Entry) (k a b : ℕ) → is_extent (at entries k) ≡ true → 0 < b → block kind (at entries k) a ≡ b → is_taken kind entries b ≡ true
 taken_at kind entries k a b extent positive here =
     let inside = within (blocks_of kind (at entries k)) a (omega arith) in
     let stands = list_any_at (λ c. nat_eq c b) (blocks_of kind (at entries k)) a 0 inside (eq-eqb _ _ here) in
     list_any_at (λ (e : Entry). is_extent e && list_any (λ c. nat_eq c b) (blocks_of kind e)) entries k blank (within_extents entries k extent) (true_both _ _ extent stands)
 
--- and one that is taken stands in one
+-- and a taken block is in an extent
 pub where_taken : (kind : DiskKind) (entries : List Entry) (b : ℕ) → is_taken kind entries b ≡ true → (k : ℕ) × (a : ℕ) × (is_extent (at entries k) ≡ true) × (block kind (at entries k) a ≡ b)
 where_taken kind entries b taken =
     let place = where_any (λ (e : Entry). is_extent e && list_any (λ c. nat_eq c b) (blocks_of kind e)) entries blank taken in
@@ -67,7 +67,7 @@ own_by A B false was to from = λ h. was (from h)
 pub own_blocks : (kind : DiskKind) (marks : List Bool) (before : List Entry) (e : Entry) (b : Bool) → AreMarks kind marks before → AreBlocks kind e → MatchBool b (AreOwn marks (blocks_of kind e)) (AreOwn marks (blocks_of kind e) → ⊥) → MatchBool b (HasOwnBlocks kind before e) (HasOwnBlocks kind before e → ⊥)
 own_blocks kind marks before e b are blocks was = own_by _ _ b was (own_blocks_of kind marks before e are blocks) (are_own_of kind marks before e are blocks)
 
--- each block number was judged
+-- each block number has been tested
 pub all_judged : (kind : DiskKind) (e : Entry) (n : ℕ) → length (blocks_of kind e) ≤ n → ((i : ℕ) → i < n → IsBlock kind (block kind e i)) → AreBlocks kind e
 all_judged kind e n all each i = elim (cases_lt i n) [
   | inl lt ↦ each i lt

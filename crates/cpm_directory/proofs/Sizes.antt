@@ -1,4 +1,4 @@
--- The greatest of the numbers of those that pass a test.
+-- The greatest number among the elements that pass a test.
 use Rattle.std.proofs.Common.{◌≡◌, ◌<◌, ◌≤◌, ◌==◌, ℕ, suc, List, [], ◌∷◌, Bool, true, false, cond, ◌||◌, Some, None, IfSome, map, length, get_or, refl, ap, ◌∙◌, sym, arith, eqb-true, lt-ltb, if◌then◌else◌}
 use Rattle.std.specs.Prelude.{max, fold, filter}
 use Rattle.std.specs.List.{list_any, reduce}
@@ -17,7 +17,7 @@ pub reduce-max : (xs : List ℕ) → reduce max xs ≡ cond (list_any (λ x. tru
 reduce-max [] = refl
 reduce-max (x ∷ xs) = ap (λ a. Some (fold max a xs)) (sym (zero-max x))
 
--- whether some pass, by the numbers of those that do
+-- whether an element passes can be seen from the numbers of those that do
 pub list_any-map-filter : {X : Type 0} (p : X → Bool) (f : X → ℕ) (xs : List X) → list_any (λ x. true) (map f (filter p xs)) ≡ list_any p xs
 list_any-map-filter p f [] = refl
 list_any-map-filter p f (x ∷ xs) = elim (p x) as (λ b. list_any (λ x. true) (map f (cond b (x ∷ filter p xs) (filter p xs))) ≡ (b || list_any p xs)) [ true ↦ refl | false ↦ list_any-map-filter p f xs ]
@@ -25,7 +25,7 @@ list_any-map-filter p f (x ∷ xs) = elim (p x) as (λ b. list_any (λ x. true) 
 pub reduce-filter : {X : Type 0} (p : X → Bool) (f : X → ℕ) (xs : List X) → reduce max (map f (filter p xs)) ≡ cond (list_any p xs) (Some (fold max 0 (map f (filter p xs)))) None
 reduce-filter p f xs = reduce-max (map f (filter p xs)) ∙ ap (λ b. cond b (Some (fold max 0 (map f (filter p xs)))) None) (list_any-map-filter p f xs)
 
--- the greatest of small numbers is small
+-- the greatest of numbers that are at most n is at most n
 most_by : {X : Type 0} (p : X → Bool) (f : X → ℕ) (x : X) (xs : List X) (a n : ℕ) → a ≤ n → (b : Bool) → (b ≡ true → f x ≤ n) → ((c : ℕ) → c ≤ n → fold max c (map f (filter p xs)) ≤ n)
     → fold max a (map f (cond b (x ∷ filter p xs) (filter p xs))) ≤ n
 most_by p f x xs a n start true small rest = rest (max a (f x)) (let h = small refl in omega arith)
@@ -35,7 +35,7 @@ most : {X : Type 0} (p : X → Bool) (f : X → ℕ) (xs : List X) (d : X) (a n 
 most p f [] d a n start each = start
 most p f (x ∷ xs) d a n start each = most_by p f x xs a n start (p x) (λ is. each 0 (omega arith) is) (λ c h. most p f xs d c n h (λ k below is. each (suc k) (omega arith) is))
 
--- the records up to an extent's last are no more than a file may have
+-- the records up to the end of an extent are not more than a file can have
 counted_below : (kind : DiskKind) (e : Entry) → IsGood kind e → record_end e ≤ file_records kind
 counted_below EightInch e good = omega (arith, good.0, good.1, good.2)
 counted_below Megabyte e good = omega (arith, good.0, good.1, good.2)

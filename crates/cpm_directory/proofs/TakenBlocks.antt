@@ -30,7 +30,7 @@ entry_marked kind {entries = entries} {i = i} d was below extent marked = record
       marked b h ∙ ap (λ o. o || list_any (λ c. nat_eq c b) (blocks_of kind (get_or entries i d))) (was.taken b h) ∙ sym (more ∙ ap (λ t. is_taken kind (take i entries) b || (t && list_any (λ c. nat_eq c b) (blocks_of kind (get_or entries i d)))) extent);
 }
 
--- any other is passed over
+-- an entry that belongs to no file is skipped
 pub entry_passed : (kind : DiskKind) {marks : List Bool} {entries : List Entry} {i : ℕ} (d : Entry) → AreTaken kind marks entries i → i < length entries → is_extent (get_or entries i d) ≡ false → AreTaken kind marks entries (i + 1)
 entry_passed kind {entries = entries} {i = i} d was below extent = record {
   taken = λ b h.

@@ -5,18 +5,18 @@ use Rattle.std.proofs.lemmas.List.{length-replicate, get_or_past, get_or-replica
 use Rattle.cpm_image.specs.Kind.{block_records, entry_blocks}
 use Rattle.cpm_image.specs.declared.kind.DiskKind.{DiskKind}
 use Rattle.cpm_image.specs.declared.kind.DiskKind.TheVariants.{EightInch, Megabyte}
-use Rattle.cpm_directory.specs.Entries.{block, block_numbers, extent_number, new_extent, with_block, words}
+use Rattle.cpm_directory.specs.Entries.{block, block_numbers, extent_number, new_extent, with_block, words_of_bytes}
 
-pub length-words : (n : ℕ) (xs : List ℕ) → length xs ≡ 2 * n → length (words xs) ≡ n
-unfolding words
+pub length-words : (n : ℕ) (xs : List ℕ) → length xs ≡ 2 * n → length (words_of_bytes xs) ≡ n
+unfolding words_of_bytes
 length-words n [] long = omega arith
 length-words n (x ∷ []) long = absurd (omega arith)
 length-words zero (x ∷ y ∷ xs) long = absurd (omega arith)
 length-words (suc n) (x ∷ y ∷ xs) long = ap suc (length-words n xs (omega arith))
 
--- the word of a number
-pub word_at : (n : ℕ) (xs : List ℕ) (g : ℕ) → length xs ≡ 2 * n → get_or (words xs) g 0 ≡ get_or xs (2 * g) 0 + 256 * get_or xs (2 * g + 1) 0
-unfolding words
+-- the word with a number
+pub word_at : (n : ℕ) (xs : List ℕ) (g : ℕ) → length xs ≡ 2 * n → get_or (words_of_bytes xs) g 0 ≡ get_or xs (2 * g) 0 + 256 * get_or xs (2 * g + 1) 0
+unfolding words_of_bytes
 word_at n [] g long = refl
 word_at n (x ∷ []) g long = absurd (omega arith)
 word_at zero (x ∷ y ∷ xs) g long = absurd (omega arith)
@@ -26,16 +26,16 @@ word_at (suc n) (x ∷ y ∷ xs) (suc g) long =
     let high : 2 * suc g + 1 ≡ suc (suc (2 * g + 1)) = omega arith in
     rw (high, low) (word_at n xs g (omega arith))
 
--- a word that is put as two bytes
-pub words-set : (xs : List ℕ) (g b : ℕ) → words (set (set xs (2 * g) (b % 256)) (2 * g + 1) (b / 256)) ≡ set (words xs) g b
-unfolding words
+-- a word that is written as two bytes
+pub words-set : (xs : List ℕ) (g b : ℕ) → words_of_bytes (set (set xs (2 * g) (b % 256)) (2 * g + 1) (b / 256)) ≡ set (words_of_bytes xs) g b
+unfolding words_of_bytes
 words-set [] g b = refl
 words-set (x ∷ []) zero b = refl
 words-set (x ∷ []) (suc g) b =
     let low : 2 * suc g ≡ suc (suc (2 * g)) = omega arith in
     let high : 2 * suc g + 1 ≡ suc (suc (2 * g + 1)) = omega arith in
     rw (high, low) refl
-words-set (x ∷ y ∷ xs) zero b = let e : b % 256 + 256 * (b / 256) ≡ b = omega arith in ap (λ n. n ∷ words xs) e
+words-set (x ∷ y ∷ xs) zero b = let e : b % 256 + 256 * (b / 256) ≡ b = omega arith in ap (λ n. n ∷ words_of_bytes xs) e
 words-set (x ∷ y ∷ xs) (suc g) b =
     let low : 2 * suc g ≡ suc (suc (2 * g)) = omega arith in
     let high : 2 * suc g + 1 ≡ suc (suc (2 * g + 1)) = omega arith in
@@ -45,7 +45,7 @@ pub length-numbers : (kind : DiskKind) (bytes : List ℕ) → length bytes ≡ 1
 length-numbers EightInch bytes long = long
 length-numbers Megabyte bytes long = length-words 8 bytes long
 
--- a block that is put is one of the numbers
+-- a block that is set is one of the numbers
 pub numbers-with_block : (kind : DiskKind) (bytes : List ℕ) (g b : ℕ) → block_numbers kind (with_block kind bytes g b) ≡ set (block_numbers kind bytes) g b
 numbers-with_block EightInch bytes g b = refl
 numbers-with_block Megabyte bytes g b = words-set bytes g b
@@ -71,6 +71,6 @@ number_of_new user number name below = omega arith
 
 -- and no blocks
 pub new_block : (kind : DiskKind) (user number a : ℕ) (name : List ℕ) → block kind (new_extent user name number) a ≡ 0
-unfolding words
+unfolding words_of_bytes
 new_block EightInch user number a name = zeros_at 16 a
 new_block Megabyte user number a name = zeros_at 8 a

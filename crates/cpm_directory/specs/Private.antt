@@ -1,3 +1,3 @@
--- What private contracts alone cite: no reviewer need believe it.
+-- Definitions that only private contracts use, so no public promise depends on them.
 pub mod Marks
 pub mod Files

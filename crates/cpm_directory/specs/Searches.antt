@@ -1,4 +1,4 @@
--- What is looked for in a directory.
+-- Searches in a directory.
 use Rattle.std.specs.Prelude.{◌≡◌, ◌<◌, ℕ, ◌+◌, ◌-◌, Bool, true, ◌&&◌, not, List, Option, Some, None, map, filter, drop, max, fold, find, position, length, if◌then◌else◌, option_map, slice_index_or, nat_eq, unwrap_or, ◌⊎◌, All, Any, count_by, sum_by}
 use Rattle.std.specs.List.{list_any, range_with_len}
 use Rattle.std.specs.Cmp.Lexicographic.{slice_cmp}
@@ -11,40 +11,40 @@ use Rattle.cpm_directory.specs.Types.{Entry, Pattern, Listed, Space, Usage}
 use Rattle.cpm_directory.specs.Entries.{at, blocks_of, held_blocks, is_extent, is_free, is_of, is_exact_match, is_read_only, is_system, record_end}
 use Rattle.cpm_directory.specs.Letters.{letters}
 
--- whether a user has a file of a name
+-- whether a user has a file of this name
 abbrev pub is_file : ℕ → List ℕ → List Entry → Bool
 is_file user name entries = list_any (is_of user name) entries
 
--- A file is read-only, or system, where one of its entries is.
+-- A file is read-only, or a system file, if one of its entries is.
 abbrev pub file_is_read_only : ℕ → List ℕ → List Entry → Bool
 file_is_read_only user name entries = list_any (λ e. is_of user name e && is_read_only e) entries
 
 abbrev pub file_is_system : ℕ → List ℕ → List Entry → Bool
 file_is_system user name entries = list_any (λ e. is_of user name e && is_system e) entries
 
--- the first entry from a number on that matches
+-- the number of the first entry from `from` on that matches
 abbrev pub found_from : ℕ → Pattern → ℕ → List Entry → Option ℕ
 found_from user pattern from entries = option_map (λ k. from + k) (position (is_exact_match user pattern) (drop from entries))
 
--- the lowest free entry
+-- the number of the lowest free entry
 abbrev pub free_entry : List Entry → Option ℕ
 free_entry entries = position is_free entries
 
--- whether a block stands in an entry of users 0 to 31
+-- whether a block is in an entry of users 0 to 31
 abbrev pub is_taken : DiskKind → List Entry → ℕ → Bool
 is_taken kind entries b = list_any (λ e. is_extent e && list_any (λ c. nat_eq c b) (blocks_of kind e)) entries
 
--- the lowest free block
+-- the lowest block for files that is in no entry of users 0 to 31
 unfoldable pub free_block : DiskKind → List Entry → Option ℕ
 free_block kind entries = find (λ b. not (is_taken kind entries b)) (range_with_len (first_block kind) (block_count kind - first_block kind))
 
--- how many records a file has up to its last, written or not: the greatest of an extent's 128 times its number and RC
+-- the number of records that a file has up to its last one, whether they were written or not: the greatest end of its extents
 abbrev pub size : ℕ → List ℕ → List Entry → Option ℕ
 size user name entries = if is_file user name entries
     then Some (fold max 0 (map record_end (filter (is_of user name) entries)))
     else None
 
--- how many entries a file has, and how many blocks these hold
+-- the number of directory entries that a file has, and of blocks that these have
 abbrev pub usage_of : DiskKind → ℕ → List ℕ → List Entry → Usage
 usage_of kind user name entries = record {
   entries = count_by (is_of user name) entries;
@@ -54,11 +54,11 @@ usage_of kind user name entries = record {
 abbrev pub no_usage : Usage
 no_usage = record { entries = 0; blocks = 0 }
 
--- how many blocks of files are in no entry of users 0 to 31
+-- the number of blocks for files that are in no entry of users 0 to 31
 unfoldable pub free_blocks : DiskKind → List Entry → ℕ
 free_blocks kind entries = count_by (λ b. not (is_taken kind entries b)) (range_with_len (first_block kind) (block_count kind - first_block kind))
 
--- how many entries and blocks are free
+-- the number of free entries and of free blocks
 abbrev pub space_of : DiskKind → List Entry → Space
 space_of kind entries = record {
   entries = count_by is_free entries;
@@ -68,7 +68,7 @@ space_of kind entries = record {
 abbrev pub no_space : Space
 no_space = record { entries = 0; blocks = 0 }
 
--- what a listing says of one file
+-- what a listing says about one file
 abbrev pub listed_of : ℕ → List ℕ → List Entry → Listed
 listed_of user name entries = record {
   user = user;
@@ -78,7 +78,7 @@ listed_of user name entries = record {
   system = file_is_system user name entries;
 }
 
--- by user, then by name
+-- a file comes before another: by user, and then by name
 abbrev pub ComesBefore : ℕ → List ℕ → ℕ → List ℕ → Type 0
 ComesBefore user name other_user other_name = (user < other_user) ⊎ ((user ≡ other_user) × (slice_cmp nat_cmp name other_name ≡ Less))
 

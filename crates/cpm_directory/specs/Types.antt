@@ -1,4 +1,4 @@
--- The public types, in one place for this crate and those above it.
+-- The public types, collected for this crate and those above it.
 pub use Rattle.cpm_directory.specs.declared.attribute.Attribute.{Attribute}
 pub use Rattle.cpm_directory.specs.declared.broken.Broken.{Broken}
 pub use Rattle.cpm_directory.specs.declared.count.Space.{Space}

@@ -3,16 +3,16 @@
 ghost use Rattle.std.specs.Prelude.{◌≡◌, ◌<◌};
 ghost use Rattle.cpm_directory.specs.Entries.{attribute_byte};
 
-/// An attribute of a file: the high bit of a byte of its type, in each of the file's entries.
+/// An attribute of a file: the high bit of one byte of its type, in each of its directory entries.
 #[derive(Clone, Copy, Debug, PartialEq, Eq)]
 pub enum Attribute {
-    /// The type's first byte. The file is not written, erased or renamed.
+    /// The type's first byte. The file cannot be written, erased or renamed.
     ReadOnly,
     /// The type's second byte. DIR does not show the file.
     System,
 }
 
-/// Which byte of a name has the attribute.
+/// The number of the byte of a name that has the attribute.
 pub(crate) fn byte_of(attribute: Attribute) -> usize
     ensures byte { result ≡ attribute_byte attribute }
     ensures within { result < 11 }

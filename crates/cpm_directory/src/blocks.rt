@@ -1,4 +1,4 @@
-//! Which blocks the entries of a directory hold.
+//! The blocks that the entries of a directory have.
 
 ghost use Rattle.std.specs.Prelude.{◌≡◌, ◌||◌, ◌==◌, false, not, true, ◌<◌, ◌≤◌, IfSome, MatchBool, length, slice_index_or, slice_set};
 ghost use Rattle.cpm_image.specs.Kind.{number_limit};
@@ -9,7 +9,7 @@ ghost use Rattle.cpm_directory.specs.Searches.{free_block, free_blocks, space_of
 use crate::{Entry, Space};
 use cpm_image::DiskKind;
 
-/// A flag for each block that a disk can have. Numbers above are not marked.
+/// A flag for each block that a disk can have. Greater numbers are not marked.
 pub(crate) type Marks = [bool; 512];
 
 /// Marks a block, and answers whether it is 0 or was not marked before.
@@ -26,7 +26,7 @@ fn mark_block(marks: &mut Marks, block: u16) -> bool
     free
 }
 
-/// Marks the blocks of an entry, and answers whether each of them but 0 stands once and was not marked before.
+/// Marks the blocks of an entry, and answers whether each of them except 0 is in the entry once and was not marked before.
 pub(crate) fn mark(marks: &mut Marks, kind: DiskKind, entry: &Entry) -> bool
     ensures marked { AddsMarks marks.old marks.new (blocks_of kind entry.now) }
     ensures own { AreSmall (blocks_of kind entry.now) → MatchBool result (AreOwn marks.old (blocks_of kind entry.now)) (¬ AreOwn marks.old (blocks_of kind entry.now)) }
@@ -38,7 +38,7 @@ pub(crate) fn mark(marks: &mut Marks, kind: DiskKind, entry: &Entry) -> bool
     own
 }
 
-/// Which blocks stand in entries of users 0 to 31.
+/// Marks the blocks of all entries of users 0 to 31.
 fn taken(kind: DiskKind, entries: &[Entry]) -> Marks
     ensures { AreMarks kind result entries.now }
 {
@@ -51,7 +51,7 @@ fn taken(kind: DiskKind, entries: &[Entry]) -> Marks
     marks
 }
 
-/// The lowest block of files that no entry of users 0 to 31 holds.
+/// The lowest block for files that is in no entry of users 0 to 31.
 pub fn free_block(kind: DiskKind, entries: &[Entry]) -> Option<u16>
     ensures lowest { result ≡ free_block kind entries.now }
     ensures fits { IfSome result (λ b. b < number_limit kind) }
@@ -60,7 +60,7 @@ pub fn free_block(kind: DiskKind, entries: &[Entry]) -> Option<u16>
     (kind.first_block()..kind.block_count()).find(|block| !marks[usize::from(*block)])
 }
 
-/// How many blocks of files no entry of users 0 to 31 holds.
+/// The number of blocks for files that are in no entry of users 0 to 31.
 fn free_blocks(kind: DiskKind, entries: &[Entry]) -> u16
     ensures { result ≡ free_blocks kind entries.now }
 {
@@ -70,7 +70,7 @@ fn free_blocks(kind: DiskKind, entries: &[Entry]) -> u16
         .count() as u16
 }
 
-/// How many entries are free, and how many blocks of files no entry of users 0 to 31 holds.
+/// The number of free entries, and the number of blocks for files that are in no entry of users 0 to 31.
 pub fn space_of(kind: DiskKind, entries: &[Entry]) -> Space
     requires { length entries.now ≤ 65535 }
     ensures { result ≡ space_of kind entries.now }

@@ -1,19 +1,19 @@
-//! What is counted in a directory.
+//! Counts of entries and blocks.
 
-/// What a file takes of a disk.
+/// How much of a disk a file takes.
 #[derive(Clone, Copy, Debug, PartialEq, Eq)]
 pub struct Usage {
-    /// The file's entries in the directory.
+    /// The number of the file's directory entries.
     pub entries: u16,
-    /// The blocks that these hold.
+    /// The number of blocks that these entries have.
     pub blocks: u16,
 }
 
-/// What is left of a disk.
+/// How much of a disk is free.
 #[derive(Clone, Copy, Debug, PartialEq, Eq)]
 pub struct Space {
-    /// The entries of the directory that are free.
+    /// The number of free directory entries.
     pub entries: u16,
-    /// The blocks of files that no entry holds.
+    /// The number of blocks for files that are in no entry.
     pub blocks: u16,
 }

@@ -2,57 +2,59 @@
 
 ghost use Rattle.std.specs.Prelude.{◌≡◌, ◌<◌};
 ghost use Rattle.cpm_image.specs.Kind.{entry_blocks, number_limit};
-ghost use Rattle.cpm_directory.specs.Entries.{is_asked, with_block, with_high};
+ghost use Rattle.cpm_directory.specs.Entries.{matches_byte, with_block, with_high};
 ghost use Rattle.cpm_directory.specs.Letters.{byte_matches, letters, name_matches, with_letters};
 
 use crate::attribute::byte_of;
 use crate::{Attribute, Name, Pattern};
 use cpm_image::DiskKind;
 
-/// An entry of a directory: 32 bytes. Of users 0 to 31 it is an extent of a file, of user E5H it is free, and with any
-/// other user byte it is foreign: no name of a user below 32 finds it, and it holds no block.
+/// A directory entry: 32 bytes. With a user from 0 to 31 it is an extent of a file. With E5H as the user it is free. With any other user
+/// it is foreign: no user below 32 has the file, and the entry takes no block.
 #[derive(Clone, Copy, Debug, PartialEq, Eq)]
 pub struct Entry {
-    /// The user, 0 to 31; E5H where the entry is free.
+    /// The user, 0 to 31; E5H if the entry is free.
     pub user: u8,
-    /// Eight bytes and three of the type. The high bit of the type's first byte is read-only, of its second system.
+    /// Eight bytes of the name and three of the type. The high bit of the type's first byte means read-only, that of its second byte
+    /// system.
     pub name: [u8; 11],
     /// EX, the low five bits of the number of the extent of 128 records.
     pub extent: u8,
-    /// S1, of no meaning here.
+    /// S1, which has no meaning here.
     pub s1: u8,
-    /// S2, whose low six bits count the extents on from 32. They are 0 on an eight inch disk.
+    /// S2. Its low six bits are the number of the extent divided by 32. They are 0 on an eight inch disk.
     pub s2: u8,
-    /// RC, how many records of the extent count.
+    /// RC, the number of records in the extent.
     pub records: u8,
-    /// The block of each group of records in turn, 0 for none: bytes, or words of a Megabyte disk.
+    /// The block of each group of records, in order; 0 for none. On a Megabyte disk a block number is a word, on an eight inch disk a
+    /// byte.
     pub blocks: [u8; 16],
 }
 
-/// The user byte of an entry that is free.
+/// The user byte of a free entry.
 const FREE: u8 = 0xE5;
-/// How many users have files.
+/// The number of users that can have files.
 pub const USERS: u8 = 32;
-/// The byte of a pattern that matches whatever stands there, `?`.
+/// `?` in a pattern, which matches any byte.
 const WILD: u8 = 0x3F;
-/// S2 counts in its low six bits.
+/// Only the low six bits of S2 count.
 const HIGH: u8 = 64;
 
-/// Whether a pattern's byte matches a name's.
+/// Whether a byte of a pattern matches a byte of a name, by their low seven bits.
 fn byte_matches(pattern: u8, byte: u8) -> bool
     ensures { result ≡ byte_matches pattern byte }
 {
     pattern == WILD || pattern % 128 == byte % 128
 }
 
-/// Whether a pattern asks for a byte: it is that byte, or `?`.
+/// Whether a byte of a pattern matches a byte that is not part of a name: it is equal, or `?`.
 fn is_asked(pattern: u8, byte: u8) -> bool
-    ensures { result ≡ is_asked pattern byte }
+    ensures { result ≡ matches_byte pattern byte }
 {
     pattern == WILD || pattern == byte
 }
 
-/// Whether a name matches a pattern's, byte for byte.
+/// Whether a name matches the name of a pattern, byte for byte.
 fn name_matches(pattern: &[u8; 11], name: &[u8; 11]) -> bool
     ensures { result ≡ name_matches pattern.now name.now }
 {
@@ -62,7 +64,7 @@ fn name_matches(pattern: &[u8; 11], name: &[u8; 11]) -> bool
         .all(|(pattern, byte)| byte_matches(*pattern, *byte))
 }
 
-/// A name with other letters, each byte with the high bit of the old one.
+/// A name with other letters; each byte keeps its high bit.
 fn with_letters(old: &[u8; 11], mut name: [u8; 11]) -> [u8; 11]
     requires { letters name ≡ name }
     ensures { result ≡ with_letters old.now name }
@@ -80,7 +82,7 @@ fn with_high(byte: u8, on: bool) -> u8
     if on { byte % 128 + 128 } else { byte % 128 }
 }
 
-/// The block numbers of an entry with the block of a group.
+/// The block numbers of an entry after the block of one group of records is set.
 fn with_block(blocks: &[u8; 16], kind: DiskKind, group: u8, block: u16) -> [u8; 16]
     requires group { group < entry_blocks kind }
     requires block { block < number_limit kind }
@@ -103,7 +105,7 @@ impl Entry {
     ghost use Rattle.cpm_image.specs.Kind.{block_records, entry_blocks, number_limit};
     ghost use Rattle.cpm_directory.specs.Entries.{block, blocks_of, bytes_of, extent_number, entry_of, erased, has_record, held_blocks, is_exact_match, is_extent, is_extent_of, is_free, is_match, is_of, is_read_only, is_system, marked, new_extent, place_on_disk, record_end, renamed, with_record};
 
-    /// The entry that 32 bytes spell.
+    /// The entry that these 32 bytes are.
     pub fn from_bytes(bytes: &[u8; 32]) -> Entry
         ensures { result ≡ entry_of bytes.now }
     {
@@ -145,28 +147,28 @@ impl Entry {
         self.user < USERS
     }
 
-    /// Whether a new extent may take the entry.
+    /// Whether the entry is free, so that a new extent can take it.
     pub fn is_free(&self) -> bool
         ensures { result ≡ is_free self.now }
     {
         self.user == FREE
     }
 
-    /// Whether the entry is one of a user's file.
+    /// Whether the entry belongs to this file of this user.
     pub fn is_of(&self, user: u8, name: &Name) -> bool
         ensures { result ≡ is_of user name.now self.now }
     {
         self.user == user && Name::new(self.name) == *name
     }
 
-    /// Whether the entry is the extent of a number of a user's file.
+    /// Whether the entry is the extent with this number of this file.
     pub fn is_extent_of(&self, user: u8, name: &Name, number: u16) -> bool
         ensures { result ≡ is_extent_of user name.now number self.now }
     {
         self.is_of(user, name) && self.extent_number() == number
     }
 
-    /// The number of the extent: EX, and 32 times the low six bits of S2.
+    /// The number of the extent: EX plus 32 times the low six bits of S2.
     pub fn extent_number(&self) -> u16
         ensures { result ≡ extent_number self.now }
     {
@@ -187,14 +189,14 @@ impl Entry {
         self.name[9] >= 128
     }
 
-    /// Whether the entry is of the user and its name matches a pattern's.
+    /// Whether the entry belongs to the user and its name matches that of a pattern.
     pub fn is_match(&self, user: u8, name: &[u8; 11]) -> bool
         ensures { result ≡ is_match user name.now self.now }
     {
         self.user == user && name_matches(name, &self.name)
     }
 
-    /// Whether the entry is of the user and matches a pattern, EX and the low six bits of S2 included.
+    /// Whether the entry belongs to the user and matches a pattern, with EX and the low six bits of S2.
     pub fn is_exact_match(&self, user: u8, pattern: &Pattern) -> bool
         ensures { result ≡ is_exact_match user pattern.now self.now }
     {
@@ -203,7 +205,7 @@ impl Entry {
             && is_asked(pattern.high, self.s2 % HIGH)
     }
 
-    /// How many records the file has up to the extent's last.
+    /// The number of records that the file has up to the end of this extent.
     pub(crate) fn record_end(&self) -> u32
         ensures { result ≡ record_end self.now }
     {
@@ -211,7 +213,7 @@ impl Entry {
         128 * u32::from(self.extent_number()) + u32::from(records)
     }
 
-    /// How many block numbers the entry has.
+    /// The number of block numbers in the entry.
     pub(crate) fn block_total(&self, kind: DiskKind) -> u8
         ensures total { result ≡ length (blocks_of kind self.now) }
         ensures count { result ≡ entry_blocks kind }
@@ -220,7 +222,7 @@ impl Entry {
         kind.entry_blocks()
     }
 
-    /// How many blocks the entry holds: its block numbers but 0.
+    /// The number of blocks that the entry has: its block numbers except 0.
     pub(crate) fn held_blocks(&self, kind: DiskKind) -> u8
         ensures held { result ≡ held_blocks kind self.now }
         ensures most { result ≤ 16 }
@@ -234,7 +236,7 @@ impl Entry {
         held
     }
 
-    /// The block of a group of records, as many as a block has; 0 for none.
+    /// The block of a group of records, or 0 for none. A group has as many records as a block.
     pub fn block(&self, kind: DiskKind, group: u8) -> u16
         requires { group < entry_blocks kind }
         ensures block { result ≡ block kind self.now group }
@@ -249,7 +251,7 @@ impl Entry {
         }
     }
 
-    /// Whether record `i` of the extent is there.
+    /// Whether the extent has record `i`: it is below the count, and its block is there.
     pub fn has_record(&self, kind: DiskKind, i: u8) -> bool
         requires { i < 128 }
         ensures { result ≡ has_record kind self.now i }
@@ -257,7 +259,7 @@ impl Entry {
         i < self.records && self.block(kind, i / kind.block_records()) != 0
     }
 
-    /// The logical record of the disk that holds record `i` of the extent, where its block is there.
+    /// The logical record of the disk that has record `i` of the extent, if the entry has the block for it.
     pub fn place_on_disk(&self, kind: DiskKind, i: u8) -> u32
         requires { i < 128 }
         ensures { result ≡ place_on_disk kind self.now i }
@@ -266,7 +268,7 @@ impl Entry {
         u32::from(records) * u32::from(self.block(kind, i / records)) + u32::from(i % records)
     }
 
-    /// The entry once it is erased: its user byte alone changes.
+    /// The entry after it is erased: only its user byte changes.
     pub fn erased(&self) -> Entry
         ensures { result ≡ erased self.now }
     {
@@ -276,7 +278,7 @@ impl Entry {
         }
     }
 
-    /// The entry under another name. The high bit of each byte stays.
+    /// The entry with another name. The high bit of each byte of the name stays.
     pub fn renamed(&self, name: &Name) -> Entry
         ensures { result ≡ renamed name.now self.now }
     {
@@ -286,7 +288,7 @@ impl Entry {
         }
     }
 
-    /// The entry marked with an attribute, or cleared of it: the high bit of one byte of its name changes alone.
+    /// The entry with an attribute set or cleared: only the high bit of one byte of its name changes.
     pub fn marked(&self, attribute: Attribute, on: bool) -> Entry
         ensures { result ≡ marked attribute on self.now }
     {
@@ -296,7 +298,7 @@ impl Entry {
         Entry { name, ..*self }
     }
 
-    /// The entry once its record `i` is written to a block.
+    /// The entry after its record `i` is written to a block.
     pub fn with_record(&self, kind: DiskKind, i: u8, number: u16) -> Entry
         requires record { i < 128 }
         requires number { number < number_limit kind }
@@ -310,7 +312,7 @@ impl Entry {
         }
     }
 
-    /// The entry of a new extent, which has no records.
+    /// The entry of a new extent without records.
     pub fn new_extent(user: u8, name: [u8; 11], number: u16) -> Entry
         requires { number < 8192 }
         ensures { result ≡ new_extent user name number }

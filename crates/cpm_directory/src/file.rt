@@ -1,8 +1,8 @@
-//! The files that the entries of a directory belong to.
+//! The files to which the entries of a directory belong.
 
 use crate::Name;
 
-/// Whose file, and its name. Files are in order by user and then by name.
+/// The user and the name of a file. Files are ordered by user and then by name.
 #[derive(Clone, Copy, Debug, PartialEq, Eq, PartialOrd, Ord)]
 pub(crate) struct File {
     pub user: u8,

@@ -9,12 +9,12 @@ ghost use Rattle.cpm_directory.specs.Rules.{AreBroken, IsFirstFault, IsJudged, I
 
 use crate::{Entry, Name};
 
-/// Thirty-two bytes are those of the entry that they spell. So an entry that nothing changes is kept byte for byte.
+/// The bytes of an entry that was made from 32 bytes are the same 32 bytes. So an entry that nothing changes is kept byte for byte.
 pub fn same_bytes()
     ensures { (bytes : List ℕ) → length bytes ≡ 32 → bytes_of (entry_of bytes) ≡ bytes }
 {}
 
-/// The bytes of a name are eleven, each below 80H. (It is asked of a name and not of any bytes, so it takes one.)
+/// A name has eleven bytes, each below 80H. (The law holds for a name, not for any bytes, so it takes one.)
 pub fn is_name(name: &Name)
     ensures seven { letters name.now ≡ name.now }
     ensures eleven { length name.now ≡ 11 }
@@ -29,7 +29,7 @@ fn is_entry(entry: &Entry)
     let _value = *entry;
 }
 
-/// The name of each entry has eleven bytes. (It is asked of entries and not of any lists, so it takes them.)
+/// The name of each entry has eleven bytes. (The law holds for entries, not for any lists, so it takes them.)
 pub fn are_entries(entries: &[Entry])
     ensures { All (λ e. length e.name ≡ 11) entries.now }
 {
@@ -38,13 +38,13 @@ pub fn are_entries(entries: &[Entry])
     }
 }
 
-/// A directory of a kind of disk is judged in one way: it keeps its rules, or it has one first fault.
+/// There is only one judgement of a directory of a format: it keeps its rules, or it has one first fault.
 pub fn one_judgement()
     ensures { (kind : DiskKind) (entries : List Entry) (a b : Result ⊤ DiskFault) → IsJudged kind entries a → IsJudged kind entries b → a ≡ b }
 {}
 
-/// A directory has one list of the entries that break a rule. It is empty exactly where the directory keeps its rules, and
-/// the fault of its first entry is the directory's first.
+/// There is only one list of the entries of a directory that break a rule. It is empty exactly if the directory keeps its rules, and the
+/// fault of its first entry is the first fault of the directory.
 pub fn one_list_of_broken()
     ensures one { (kind : DiskKind) (entries : List Entry) (a b : List Broken) → AreBroken kind entries a → AreBroken kind entries b → a ≡ b }
     ensures none { (kind : DiskKind) (entries : List Entry) (broken : List Broken) → AreBroken kind entries broken → ((broken ≡ []) ↔ IsSound kind entries) }

@@ -1,5 +1,4 @@
-//! The directory of a CP/M 2.2 disk of either kind: its entries, the rules that it keeps, and what is
-//! looked for in it.
+//! The directory of a CP/M 2.2 disk of either format: its entries, its rules, and searches in it.
 #![tactic(auto)]
 
 mod attribute;

@@ -1,4 +1,4 @@
-//! The files of a directory.
+//! Lists the files of a directory.
 
 ghost use Rattle.std.specs.Prelude.{◌≡◌, IfErr, IfOk, map};
 ghost use Rattle.cpm_directory.specs.Private.Files.{AreInOrder, files_of};
@@ -8,19 +8,19 @@ use crate::file::File;
 use crate::{DiskFault, Entry, Name, file_is_read_only, file_is_system, size};
 use std::alloc::{AllocError, Global};
 
-/// A file of a listing.
+/// A file in a listing.
 #[derive(Clone, Copy, Debug, PartialEq, Eq)]
 pub struct Listed {
-    /// 0 to 31.
+    /// The user, 0 to 31.
     pub user: u8,
     pub name: Name,
-    /// The count of records up to the file's last, written or not.
+    /// The number of records up to the file's last one, whether they were written or not.
     pub records: u32,
     pub read_only: bool,
     pub system: bool,
 }
 
-/// The file of each entry of users 0 to 31.
+/// The files to which the entries of users 0 to 31 belong, one for each entry.
 fn files(alloc: Global, entries: &[Entry]) -> Result<Vec<File>, AllocError>
     ensures { IfOk result (λ files. files.items ≡ files_of entries.now) }
 {
@@ -34,7 +34,7 @@ fn files(alloc: Global, entries: &[Entry]) -> Result<Vec<File>, AllocError>
         .collect(alloc)
 }
 
-/// Brings files in order, each once.
+/// Sorts the files and leaves each one once.
 fn bring_in_order(files: &mut Vec<File>)
     ensures { AreInOrder files.old.items files.new.items }
 {
@@ -42,7 +42,7 @@ fn bring_in_order(files: &mut Vec<File>)
     files.dedup();
 }
 
-/// What a listing says of a file.
+/// What a listing says about a file.
 fn describe(entries: &[Entry], file: &File) -> Listed
     ensures { result ≡ listed_of file.now.user file.now.name entries.now }
 {
@@ -55,7 +55,7 @@ fn describe(entries: &[Entry], file: &File) -> Listed
     }
 }
 
-/// What a listing says of each of these files.
+/// What a listing says about each of these files.
 fn describe_each(
     alloc: Global,
     entries: &[Entry],
@@ -69,11 +69,11 @@ fn describe_each(
         .collect(alloc)
 }
 
-/// The files of users 0 to 31, each once, by user and then by name.
+/// Lists the files of users 0 to 31, each once, by user and then by name.
 ///
 /// # Errors
 ///
-/// [`DiskFault::NoMemory`] and no other.
+/// Only [`DiskFault::NoMemory`].
 pub fn list(alloc: Global, entries: &[Entry]) -> Result<Vec<Listed>, DiskFault>
     ensures listing { IfOk result (λ listed. IsListing entries.now listed.items) }
     ensures memory { IfErr result (λ fault. fault ≡ DiskFault.NoMemory) }

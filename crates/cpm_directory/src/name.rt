@@ -2,8 +2,8 @@
 
 use std::marker::Model;
 
-/// The name of a file: eight bytes and three of its type, filled up with spaces. A contract sees the eleven bytes, of
-/// which the low seven bits are kept.
+/// The name of a file: eight bytes and three of its type, padded with spaces. Each byte is below 80H. In a contract it is the list of the
+/// eleven bytes.
 #[derive(Clone, Copy, Debug, PartialEq, Eq, PartialOrd, Ord)]
 pub struct Name {
     bytes: [u8; 11],
@@ -26,7 +26,7 @@ impl Name {
     ghost use Rattle.std.specs.Prelude.{◌≡◌, length};
     ghost use Rattle.cpm_directory.specs.Letters.{letters};
 
-    /// The name that eleven bytes spell. Their high bits are dropped.
+    /// The name in these eleven bytes, without their high bits.
     pub fn new(mut bytes: [u8; 11]) -> Name
         ensures { result ≡ letters bytes }
     {

@@ -1,7 +1,7 @@
 //! Patterns of names.
 
-/// Which entries to look for. A `?` (3FH) in any byte of the name, as the extent or as `high`, matches whatever stands
-/// there; other bytes of the name match by their low seven bits.
+/// The entries to search for. A `?` (3FH) in any byte of the name, as the extent or as `high`, matches any byte. Other bytes of the name
+/// match by their low seven bits.
 #[derive(Clone, Copy, Debug, PartialEq, Eq)]
 pub struct Pattern {
     pub name: [u8; 11],

@@ -1,4 +1,4 @@
-//! The rules that a directory keeps.
+//! Tests the rules of a directory.
 
 ghost use Rattle.std.specs.Prelude.{◌≡◌, ◌≤◌, ◌↔◌, IfErr, IfOk, IsTrue, MatchBool, length, true};
 ghost use Rattle.cpm_directory.specs.Entries.{blocks_of, is_extent};
@@ -14,10 +14,10 @@ use std::alloc::Global;
 pub const MOST_RECORDS: u8 = 128;
 /// The greatest EX.
 pub const LAST_EXTENT: u8 = 31;
-/// S2 counts in its low six bits.
+/// Only the low six bits of S2 count.
 const COUNTS: u8 = 64;
 
-/// Whether an entry's counts are in range.
+/// Whether the counts of an entry are in range.
 fn is_good(kind: DiskKind, entry: &Entry) -> bool
     ensures { IsTrue result ↔ IsGood kind entry.now }
 {
@@ -26,14 +26,14 @@ fn is_good(kind: DiskKind, entry: &Entry) -> bool
         && entry.s2 % COUNTS <= kind.last_high()
 }
 
-/// Whether a number is 0 or a block of files.
+/// Whether a number is 0 or that of a block for files.
 fn is_block(kind: DiskKind, number: u16) -> bool
     ensures { IsTrue result ↔ IsBlock kind number }
 {
     number == 0 || kind.first_block() <= number && number < kind.block_count()
 }
 
-/// Whether the blocks of an entry are blocks of files, or 0.
+/// Whether each block number of an entry is 0 or that of a block for files.
 fn are_blocks(kind: DiskKind, entry: &Entry) -> bool
     ensures { MatchBool result (AreBlocks kind entry.now) (¬ AreBlocks kind entry.now) }
 {
@@ -45,7 +45,7 @@ fn are_blocks(kind: DiskKind, entry: &Entry) -> bool
     true
 }
 
-/// Whether none of these is the same extent of the same file.
+/// Whether none of these entries is the same extent of the same file.
 fn has_own_name(before: &[Entry], entry: &Entry) -> bool
     requires { is_extent entry.now ≡ true }
     ensures { MatchBool result (HasOwnName before.now entry.now) (¬ HasOwnName before.now entry.now) }
@@ -57,7 +57,7 @@ fn has_own_name(before: &[Entry], entry: &Entry) -> bool
         .any(|other| other.is_extent_of(entry.user, &name, number))
 }
 
-/// Judges an entry after those before it, and marks its blocks, whatever the answer.
+/// Tests an entry after those before it, and marks its blocks even if it breaks a rule.
 fn judge_entry(
     marks: &mut Marks,
     kind: DiskKind,
@@ -70,7 +70,7 @@ fn judge_entry(
     ensures refusals { IfErr result IsRuleFault }
     ensures marked { AddsMarks marks.old marks.new (blocks_of kind entry.now) }
 {
-    // A later entry may not have these blocks either where this one breaks a rule.
+    // A later entry must not have these blocks even if this one breaks a rule.
     let own = mark(marks, kind, entry);
     if !is_good(kind, entry) {
         return Err(DiskFault::BadEntry);
@@ -87,12 +87,12 @@ fn judge_entry(
     Ok(())
 }
 
-/// Whether a directory keeps its rules. The entries of users 0 to 31 are judged in order, each wholly before the next.
+/// Tests whether a directory keeps its rules. The entries of users 0 to 31 are tested in order, each completely before the next.
 ///
 /// # Errors
 ///
-/// The first rule that the first bad entry breaks: [`DiskFault::BadEntry`], [`DiskFault::BlockRange`],
-/// [`DiskFault::BlockTwice`], [`DiskFault::NameTwice`].
+/// The first rule that the first bad entry breaks: [`DiskFault::BadEntry`], [`DiskFault::BlockRange`], [`DiskFault::BlockTwice`],
+/// [`DiskFault::NameTwice`].
 pub fn judge(kind: DiskKind, entries: &[Entry]) -> Result<(), DiskFault>
     ensures judged { IsJudged kind entries.now result }
     ensures refusals { IfErr result IsRuleFault }
@@ -106,12 +106,12 @@ pub fn judge(kind: DiskKind, entries: &[Entry]) -> Result<(), DiskFault>
     Ok(())
 }
 
-/// The entries of users 0 to 31 that break a rule, in their order, each with the first rule that it breaks. An entry is
-/// judged after all before it, those that break a rule included.
+/// The entries of users 0 to 31 that break a rule, in their order, each with the first rule that it breaks. An entry is compared with all
+/// before it, even those that break a rule.
 ///
 /// # Errors
 ///
-/// [`DiskFault::NoMemory`] and no other.
+/// Only [`DiskFault::NoMemory`].
 pub fn faults(alloc: Global, kind: DiskKind, entries: &[Entry]) -> Result<Vec<Broken>, DiskFault>
     requires { length entries.now ≤ 65536 }
     ensures broken { IfOk result (λ broken. AreBroken kind entries.now broken.items) }

@@ -1,4 +1,4 @@
-//! What is looked for in a directory.
+//! Searches in a directory.
 
 ghost use Rattle.std.specs.Prelude.{◌≡◌, ◌<◌, ◌≤◌, IfSome, count_by, length, position};
 ghost use Rattle.cpm_directory.specs.declared.entry.TheConstants.{USERS};
@@ -11,7 +11,7 @@ ghost use Rattle.cpm_directory.specs.Searches.{file_is_read_only, file_is_system
 use crate::{Entry, Name, Pattern, Usage};
 use cpm_image::DiskKind;
 
-/// Whether a user has a file of a name.
+/// Whether a user has a file of this name.
 pub fn is_file(entries: &[Entry], user: u8, name: &Name) -> bool
     ensures { result ≡ is_file user name.now entries.now }
 {
@@ -36,7 +36,7 @@ pub fn file_is_system(entries: &[Entry], user: u8, name: &Name) -> bool
         .any(|entry| entry.is_of(user, name) && entry.is_system())
 }
 
-/// A position as the number of an entry, of which there are 65,536 at most.
+/// A position as the number of an entry; there are at most 65,536 entries.
 fn numbered(position: Option<usize>) -> Option<u16>
     requires { IfSome position (λ k. k < 65536) }
     ensures { result ≡ position }
@@ -68,7 +68,7 @@ pub fn free_entry(entries: &[Entry]) -> Option<u16>
     numbered(entries.iter().position(|entry| entry.is_free()))
 }
 
-/// The place of the first entry that is of the user and matches a pattern.
+/// The position of the first entry of the user that matches a pattern.
 fn first_match(entries: &[Entry], user: u8, pattern: &Pattern) -> Option<usize>
     ensures first { result ≡ position (is_exact_match user pattern.now) entries.now }
     ensures within { IfSome result (λ k. k < length entries.now) }
@@ -78,7 +78,7 @@ fn first_match(entries: &[Entry], user: u8, pattern: &Pattern) -> Option<usize>
         .position(|entry| entry.is_exact_match(user, pattern))
 }
 
-/// The number of the first entry from `from` on that is of the user and matches a pattern.
+/// The number of the first entry from `from` on that belongs to the user and matches a pattern.
 pub fn find(entries: &[Entry], user: u8, pattern: &Pattern, from: u16) -> Option<u16>
     requires { length entries.now ≤ 65536 }
     ensures found { result ≡ found_from user pattern.now from entries.now }
@@ -92,7 +92,7 @@ pub fn find(entries: &[Entry], user: u8, pattern: &Pattern, from: u16) -> Option
     }
 }
 
-/// How many records a file has up to its last, written or not. `None` where there is no such file.
+/// The number of records that a file has up to its last one, whether they were written or not. `None` if there is no such file.
 pub fn size(entries: &[Entry], user: u8, name: &Name) -> Option<u32>
     ensures size { result ≡ size user name.now entries.now }
     ensures most { (kind : DiskKind) → user < USERS → IsSound kind entries.now → IfSome result (λ n. n ≤ file_records kind) }
@@ -104,7 +104,7 @@ pub fn size(entries: &[Entry], user: u8, name: &Name) -> Option<u32>
         .max()
 }
 
-/// How many entries a file has.
+/// The number of directory entries that a file has.
 fn entries_of(entries: &[Entry], user: u8, name: &Name) -> u16
     requires { length entries.now ≤ 65535 }
     ensures { result ≡ count_by (is_of user name.now) entries.now }
@@ -115,8 +115,8 @@ fn entries_of(entries: &[Entry], user: u8, name: &Name) -> u16
         .count() as u16
 }
 
-/// How many entries a file has, and how many blocks these hold: their block numbers but 0, added up. Both are 0 where
-/// there is no such file.
+/// The number of directory entries that a file has, and of blocks that these have: their block numbers except 0. Both are 0 if there is
+/// no such file.
 pub fn usage_of(kind: DiskKind, entries: &[Entry], user: u8, name: &Name) -> Usage
     requires { length entries.now < 4096 }
     ensures { result ≡ usage_of kind user name.now entries.now }

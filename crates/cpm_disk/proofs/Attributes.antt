@@ -1,4 +1,4 @@
--- Attributes of a file of which an entry is put.
+-- Attributes of a file after one of its entries is written.
 use Rattle.std.proofs.Common.{◌≡◌, ◌<◌, ◌%◌, ℕ, zero, suc, Bool, true, false, ◌&&◌, ◌||◌, List, [], ◌∷◌, drop, length, get_or, slice_set, refl, sym, ap, ◌∙◌, arith, inl, inr}
 use Rattle.std.proofs.lemmas.Bool.{cases_Bool}
 use Rattle.std.specs.List.{list_any}
@@ -6,7 +6,8 @@ use Rattle.cpm_directory.specs.declared.entry.Entry.{Entry}
 use Rattle.cpm_directory.specs.Entries.{at}
 use Rattle.cpm_directory.specs.Letters.{letters}
 
--- an entry that is put passes no test that one of the others, or the one in its place, did not pass
+-- after one entry is written, a test passes somewhere in the list exactly if it did before: the old entry did not pass, and the new one
+-- passes only if another does
 pub any_put : (p : Entry → Bool) (xs : List Entry) (k : ℕ) (y : Entry) → k < length xs → p (at xs k) ≡ false → (p y ≡ true → list_any p xs ≡ true) → list_any p (slice_set xs k y) ≡ list_any p xs
 any_put p [] k y below fails_there some = absurd (omega arith)
 any_put p (x ∷ xs) zero y below fails_there some = elim (cases_Bool (p y)) as (λ _. list_any p (y ∷ xs) ≡ list_any p (x ∷ xs)) [
@@ -18,13 +19,13 @@ any_put p (x ∷ xs) (suc k) y below fails_there some = elim (cases_Bool (p x)) 
   | inr fails ↦ ap (λ b. b || list_any p (slice_set xs k y)) fails ∙ any_put p xs k y (omega arith) fails_there (λ passes. sym (ap (λ b. b || list_any p xs) fails) ∙ some passes) ∙ sym (ap (λ b. b || list_any p xs) fails)
 ]
 
--- one in whose place an entry stands that passes as it does
+-- the same if the new entry passes the test exactly if the old one did
 pub any_same : (p : Entry → Bool) (xs : List Entry) (k : ℕ) (y : Entry) → k < length xs → p y ≡ p (at xs k) → list_any p (slice_set xs k y) ≡ list_any p xs
 any_same p [] k y below same = absurd (omega arith)
 any_same p (x ∷ xs) zero y below same = ap (λ b. b || list_any p xs) same
 any_same p (x ∷ xs) (suc k) y below same = ap (λ b. p x || b) (any_same p xs k y (omega arith) same)
 
--- where a test passes nowhere, it does not with another test beside it
+-- if no entry passes a test, none passes it together with another test
 pub none_with : (p q : Entry → Bool) (xs : List Entry) → list_any p xs ≡ false → list_any (λ e. p e && q e) xs ≡ false
 none_with p q [] none = refl
 none_with p q (x ∷ xs) none = elim (cases_Bool (p x)) as (λ _. list_any (λ e. p e && q e) (x ∷ xs) ≡ false) [

@@ -13,7 +13,7 @@ use Rattle.cpm_disk.specs.Private.Changes.{after}
 use Rattle.cpm_disk.specs.Image.{Image, IsOfDirectory, SameBut, directory}
 use Rattle.cpm_disk.proofs.Places.{same_all, then_same}
 
--- the entries below a number are changed, the others as at first
+-- the entries below a number are changed, and the others are as they were at the beginning
 abbrev pub IsPart : (Entry → Entry) → List Entry → ℕ → List Entry → Type 0
 IsPart f first number entries = entries ≡ map f (take number first) ++ drop number first
 
@@ -27,7 +27,7 @@ pub record Changing (kind : DiskKind) (change : Change) (before image : Image) (
 pub start : (kind : DiskKind) (change : Change) (image : Image) (entries : List Entry) → length image ≡ sector_count kind → length entries ≡ entry_count kind → directory kind image ≡ entries → Changing kind change image image entries entries 0
 start kind change image entries count size is = record { count = count; size = size; part = refl; directory_is = is; rest = same_all kind (IsOfDirectory kind) image }
 
--- at each number the entry is as at first or changed
+-- each entry is as it was at the beginning, or changed
 part_at : (f : Entry → Entry) (first : List Entry) (number k : ℕ) → (at (map f (take number first) ++ drop number first) k ≡ at first k) ⊎ (at (map f (take number first) ++ drop number first) k ≡ at (map f first) k)
 part_at f [] zero k = inl refl
 part_at f [] (suc number) k = inl refl
@@ -38,7 +38,7 @@ part_at f (x ∷ first) (suc number) (suc k) = part_at f first number k
 between : (f : Entry → Entry) (first entries : List Entry) (number : ℕ) → IsPart f first number entries → IsBetween first (map f first) entries
 between f first entries number part k = rw part (part_at f first number k)
 
--- one entry more
+-- one more entry is changed
 more : (f : Entry → Entry) (first entries : List Entry) (number : ℕ) (e : Entry) → number < length first → IsPart f first number entries → e ≡ at entries number → number < length entries → IsPart f first (number + 1) (slice_set entries number (f e))
 more f first entries number e below part is within = map_over_more f first entries number e below part (is ∙ get_or_default entries number blank e within)
 
@@ -71,7 +71,7 @@ stopped_at kind change before image first entries number was so_far = record {
   rest = so_far.rest;
 }
 
--- a device that failed left this entry as before or as it was to be
+-- a device that failed left this entry as it was or as it was to be
 pub halted : (kind : DiskKind) (change : Change) (before image new : Image) (first entries : List Entry) (number : ℕ) (e x : Entry) → length first ≡ entry_count kind → number < entry_count kind → directory kind before ≡ first → e ≡ at entries number → after change e ≡ x → Changing kind change before image first entries number
     → (new ≡ image) ⊎ Changed kind image new (slice_set entries number (x)) → PartlyChanged kind before new (map (after change) first)
 halted kind change before image new first entries number e x long below was is it so_far (inl same) = subst (λ i. PartlyChanged kind before i (map (after change) first)) (sym same) (stopped_at kind change before image first entries number was so_far)
@@ -81,10 +81,10 @@ pub finished : (kind : DiskKind) (change : Change) (before image : Image) (first
 finished kind change before image first entries number long far so_far =
     so_far.part ∙ ap (λ xs. map (after change) xs ++ drop number first) (take_all number first (omega arith)) ∙ ap (λ xs. map (after change) first ++ xs) (drop_of_length-le first (omega arith)) ∙ append-nil (map (after change) first)
 
--- what the code reads past the end, where it never reads
+-- what the code would read after the end of the list, which it never does
 abbrev unread : Entry
 unread = record { user = 0; name = []; extent = 0; s1 = 0; s2 = 0; records = 0; blocks = [] }
 
--- the entry that the code reads
+-- the code reads the entry with this number
 pub read_at : (entries : List Entry) (index number : ℕ) → index ≡ number → number < length entries → get_or entries index unread ≡ at entries number
 read_at entries index number same below = ap (λ i. get_or entries i unread) same ∙ get_or_default entries number unread blank below

@@ -1,4 +1,4 @@
--- Pieces of 32 bytes, after one of them is written.
+-- Parts of 32 bytes, after one of them is written.
 use Rattle.std.proofs.Common.{◌≡◌, ◌<◌, ◌≤◌, ◌+◌, ◌-◌, ◌*◌, ℕ, zero, suc, List, [], drop-drop, get_or, length, refl, take, drop, ap, sym, ◌∙◌, arith}
 use Rattle.std.specs.Simd.{first_chunks}
 use Rattle.std.proofs.lemmas.Slice.{between_is, between-put_mid, take-put_mid_below}
@@ -18,7 +18,7 @@ piece_put bytes new a k within long =
     let size : 32 ≡ a + 32 - a = omega arith in
     ap (λ n. take n (drop a (put_mid a k bytes new))) size ∙ between-put_mid a k bytes new (a + 32) within (omega arith)
 
--- one of the pieces that bytes are cut into
+-- one of the parts into which the bytes are divided
 pub piece_at : (n i : ℕ) (bytes : List ℕ) → i < n → get_or (first_chunks 32 n bytes) i [] ≡ take 32 (drop (32 * i) bytes)
 piece_at zero i bytes below = absurd (omega arith)
 piece_at (suc n) zero bytes below = refl

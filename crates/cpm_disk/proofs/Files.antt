@@ -11,7 +11,7 @@ use Rattle.cpm_disk.specs.Files.{SameFile, in_block}
 use Rattle.cpm_disk.specs.Image.{Image, directory, disk_record}
 use Rattle.cpm_disk.proofs.Places.{length_directory}
 
--- two entries that differ only where a test fails
+-- two entries that are equal, or both fail a test
 abbrev pub Alike : (Entry → Bool) → Entry → Entry → Type 0
 Alike p x y = (y ≡ x) ⊎ ((p x ≡ false) × (p y ≡ false))
 
@@ -37,12 +37,12 @@ any_alike p (x ∷ xs) (y ∷ ys) long alike =
       | inr (fails, too) ↦ ap (λ b. b || list_any p ys) too ∙ rest ∙ sym (ap (λ b. b || list_any p xs) fails)
     ]
 
--- a test that asks for the file, and more
+-- the same for a test that asks for the file and for something else
 narrower : (user : ℕ) (name : List ℕ) (q : Entry → Bool) (x y : Entry) → Alike (is_of user name) x y → Alike (λ e. is_of user name e && q e) x y
 narrower user name q x y (inl same) = inl same
 narrower user name q x y (inr (fails, too)) = inr (ap (λ b. b && q x) fails, ap (λ b. b && q y) too)
 
--- what an entry stores, where the record that it names is as before
+-- an entry has the same bytes for record i if the logical record that it names is as it was
 pub same_stored : (kind : DiskKind) (old new : Image) (e : Entry) (i : ℕ) → ((block kind e (i / block_records kind) ≡ 0 → ⊥) → disk_record kind new (place_on_disk kind e i) ≡ disk_record kind old (place_on_disk kind e i)) → in_block kind new i e ≡ in_block kind old i e
 same_stored kind old new e i kept = elim (cases_Bool (block kind e (i / block_records kind) == 0)) as (λ _. in_block kind new i e ≡ in_block kind old i e) [
   | inl none ↦ ap (λ b. if b then None else Some (disk_record kind new (place_on_disk kind e i))) none ∙ sym (ap (λ b. if b then None else Some (disk_record kind old (place_on_disk kind e i))) none)
@@ -51,7 +51,7 @@ same_stored kind old new e i kept = elim (cases_Bool (block kind e (i / block_re
       ∙ sym (ap (λ b. if b then None else Some (disk_record kind old (place_on_disk kind e i))) some)
 ]
 
--- a file whose entries and records are as before
+-- a file is as it was if its entries and records are
 pub same_file : (kind : DiskKind) (old new : Image) (user : ℕ) (name : List ℕ)
     → ((k : ℕ) → k < entry_count kind → Alike (is_of user name) (at (directory kind old) k) (at (directory kind new) k))
     → ((k i : ℕ) → k < entry_count kind → i < 128 → is_of user name (at (directory kind old) k) ≡ true → (block kind (at (directory kind old) k) (i / block_records kind) ≡ 0 → ⊥) → disk_record kind new (place_on_disk kind (at (directory kind old) k) i) ≡ disk_record kind old (place_on_disk kind (at (directory kind old) k) i))

@@ -1,4 +1,4 @@
--- What becomes of the files that a call names.
+-- What a call does to the files that it names.
 use Rattle.std.proofs.Common.{◌≡◌, ◌<◌, ◌≤◌, ◌+◌, ◌*◌, ◌/◌, ◌%◌, ◌==◌, ℕ, zero, suc, Bool, true, false, ◌&&◌, ◌||◌, List, [], ◌∷◌, bytes_eq, drop, length, map, find, slice_index, slice_set, get_or, get_or-set_same, get_or-set_other, nat_eq, nat_le, not, Option, Some, None, Ok, option_map, option_and_then, refl, sym, ap, subst, ◌∙◌, inl, inr, arith, if◌then◌else◌, true≢false, eqb-true, eq-eqb, ne_eqb, le-leb, length-set}
 use Rattle.cpm_image.specs.Kind.{block_count, block_records, first_block}
 use Rattle.cpm_image.specs.declared.kind.DiskKind.{DiskKind}
@@ -15,8 +15,8 @@ use Rattle.cpm_directory.specs.Rules.{IsBlock, IsSound}
 use Rattle.cpm_directory.specs.Searches.{file_is_read_only, free_entry, is_file}
 use Rattle.cpm_operations.proofs.Entries.{found_at, below_extent, blank_is_not_of, is_of_file, letters_with, none_at, of_file}
 use Rattle.cpm_operations.proofs.Kept.{at_erasure, at_renaming, length_of_name}
-use Rattle.cpm_operations.specs.Kept.{IsPut}
-use Rattle.cpm_operations.specs.Steps.{◌>>=◌, after_erasure, after_renaming, creation, given, renaming, unless, erased_by, renamed_by}
+use Rattle.cpm_operations.specs.Kept.{IsGoodPut}
+use Rattle.cpm_operations.specs.Steps.{◌>>=◌, after_erasure, after_renaming, creation, some_or, renaming, unless, erased_by, renamed_by}
 use Rattle.cpm_operations.proofs.Results.{unless_ok}
 use Rattle.cpm_directory.specs.declared.fault.DiskFault.TheVariants as fault
 use Rattle.cpm_disk.specs.Calls.{Changed}
@@ -26,7 +26,7 @@ use Rattle.cpm_disk.proofs.Attributes.{any_put, low_byte, none_with}
 use Rattle.cpm_disk.proofs.Files.{same_stored}
 use Rattle.cpm_disk.proofs.Others.{apart_from, created_entry, matches_letters}
 
--- what passes at one place alone is found there
+-- a search finds the only entry that passes
 pub find_unique : (p : Entry → Bool) (xs : List Entry) (k : ℕ) → k < length xs → p (at xs k) ≡ true → ((j : ℕ) → j < length xs → p (at xs j) ≡ true → j ≡ k) → find p xs ≡ Some (at xs k)
 find_unique p [] k below passes one = absurd (omega arith)
 find_unique p (x ∷ xs) zero below passes one = ap (λ b. if b then Some x else find p xs) passes
@@ -39,7 +39,7 @@ pub find_none : (p : Entry → Bool) (xs : List Entry) → ((j : ℕ) → j < le
 find_none p [] none = refl
 find_none p (x ∷ xs) none = ap (λ b. if b then Some x else find p xs) (none 0 (omega arith)) ∙ find_none p xs (λ j low. none (suc j) (omega arith))
 
--- a file's extent of a directory that keeps the rules is found at its entry
+-- in a directory that keeps its rules, a search for an extent of a file finds its entry
 pub extent_found : (kind : DiskKind) (entries : List Entry) (user : ℕ) (name : List ℕ) (number k : ℕ) → user < USERS → IsSound kind entries → k < length entries → is_extent_of user name number (at entries k) ≡ true → find (is_extent_of user name number) entries ≡ Some (at entries k)
 extent_found kind entries user name number k low sound below is = find_unique (is_extent_of user name number) entries k below is (λ j _ too.
     let one = and_parts (is_of user name (at entries k)) (extent_number (at entries k) == number) is in
@@ -88,7 +88,7 @@ new_file kind image entries user name k low seven below none is sound = record {
           ∙ ap (λ b. b && (extent_number (at entries j) == number)) (none_at (is_of user name) entries j (blank_is_not_of user name low) none)
     ]
 
--- no entry of a file that matched is left
+-- no entry is left of a file that matched
 pub erased_file : (kind : DiskKind) (image : Image) (entries : List Entry) (user : ℕ) (pattern : List ℕ) (name : List ℕ) → user < USERS → name_matches pattern name ≡ true → directory kind image ≡ after_erasure user pattern entries → IsNoFile kind image user name
 erased_file kind image entries user pattern name low matches is number = find_none (is_extent_of user name number) (directory kind image) (λ j _.
     let gone : is_of user name (at (directory kind image) j) ≡ false = subst (λ x. is_of user name x ≡ false) (sym (ap (λ es. at es j) is ∙ at_erasure user pattern entries j low)) (not_of (at entries j)) in
@@ -117,7 +117,7 @@ high_bit (x ∷ old) (y ∷ new) zero same seven =
       | inr large ↦ le-leb 128 (128 * (x / 128) + y) (omega arith) ∙ sym (le-leb 128 x large)
     ]
 
--- a search in changed entries finds what another found before
+-- a search in changed entries finds the changed form of what another search found before
 pub find_changed : (p q : Entry → Bool) (f : Entry → Entry) (xs : List Entry) → ((j : ℕ) → j < length xs → p (f (at xs j)) ≡ q (at xs j)) → find p (map f xs) ≡ option_map f (find q xs)
 find_changed p q f [] same = refl
 find_changed p q f (x ∷ xs) same =
@@ -131,7 +131,7 @@ pub any_changed : (p q : Entry → Bool) (f : Entry → Entry) (xs : List Entry)
 any_changed p q f [] same = refl
 any_changed p q f (x ∷ xs) same = ap (λ b. b || list_any p (map f xs)) (same 0 (omega arith)) ∙ ap (λ b. q x || b) (any_changed p q f xs (λ j low. same (suc j) (omega arith)))
 
--- what renaming makes of an entry, asked by the new name, is what the entry is, asked by the old one
+-- a test of a renamed entry by the new name has the same result as one of the entry by the old name
 renamed_test : (user : ℕ) (from to : List ℕ) (q r : Entry → Bool) (e : Entry) → length from ≡ length to → letters to ≡ to → is_of user to e ≡ false → (length e.name ≡ length to → r (renamed to e) ≡ q e)
     → (is_of user to (renamed_by user from to e) && r (renamed_by user from to e)) ≡ (is_of user from e && q e)
 renamed_test user from to q r e long seven not_to kept = elim (cases_Bool (is_of user from e)) as (λ _. (is_of user to (renamed_by user from to e) && r (renamed_by user from to e)) ≡ (is_of user from e && q e)) [
@@ -142,7 +142,7 @@ renamed_test user from to q r e long seven not_to kept = elim (cases_Bool (is_of
   | inr not_from ↦ ap (λ x. is_of user to x && r x) (ap (λ b. if b then renamed to e else e) not_from) ∙ ap (λ b. b && r e) not_to ∙ sym (ap (λ b. b && q e) not_from)
 ]
 
--- a block that an entry of a directory names, but 0, is one of files
+-- a block number of an entry other than 0 is that of a block for files
 pub range_of : (kind : DiskKind) (entries : List Entry) (k : ℕ) (e : Entry) → IsSound kind entries → e ≡ at entries k → e.user < USERS → (group : ℕ) → (block kind e group ≡ 0 → ⊥) → (first_block kind ≤ block kind e group) × (block kind e group < block_count kind)
 range_of kind entries k e sound is_at low group some =
     let ext = subst (λ x. is_extent x ≡ true) is_at (below_extent e low) in
@@ -201,14 +201,14 @@ moved_file kind old new user from to low long seven apart sound none is rest = r
       | inr not_of ↦ subst (λ x. is_of user from x ≡ false) (sym (ap (λ b. if b then renamed to e else e) not_of)) not_of
     ]
 
--- a call that made a file
-pub made_file : (kind : DiskKind) (old new : Image) (user : ℕ) (name : List ℕ) (put : ℕ × Entry) → user < USERS → letters name ≡ name → IsPut kind (directory kind old) put → creation user name (directory kind old) ≡ Ok put → Changed kind old new (slice_set (directory kind old) put.0 put.1) → IsNewFile kind new user name
+-- a call that created a file
+pub made_file : (kind : DiskKind) (old new : Image) (user : ℕ) (name : List ℕ) (put : ℕ × Entry) → user < USERS → letters name ≡ name → IsGoodPut kind (directory kind old) put → creation user name (directory kind old) ≡ Ok put → Changed kind old new (slice_set (directory kind old) put.0 put.1) → IsNewFile kind new user name
 made_file kind old new user name put low seven is_put asked made =
-    let (none, is_1) = unless_ok (is_file user name (directory kind old)) fault.Exists (given (free_entry (directory kind old)) fault.DirectoryFull >>= λ k. Ok (k, new_extent user name 0)) put asked in
+    let (none, is_1) = unless_ok (is_file user name (directory kind old)) fault.Exists (some_or (free_entry (directory kind old)) fault.DirectoryFull >>= λ k. Ok (k, new_extent user name 0)) put asked in
     new_file kind new (directory kind old) user name put.0 low seven is_put.within none (made.entries_are ∙ ap (slice_set (directory kind old) put.0) (created_entry user name (directory kind old) put asked))
     (is_put.sound (directory kind new) (λ k. inr (ap (λ es. at es k) made.entries_are)))
 
--- a call that moved one
+-- a call that renamed a file
 pub renamed_file : (kind : DiskKind) (old new : Image) (user : ℕ) (from to : List ℕ) → user < USERS → length from ≡ length to → letters to ≡ to → IsSound kind (directory kind old) → renaming user from to (directory kind old) ≡ Ok tt → Changed kind old new (after_renaming user from to (directory kind old)) → IsMoved kind old new user from to
 renamed_file kind old new user from to low long seven sound asked made =
     let (there, is_1) = unless_ok (not (is_file user from (directory kind old))) fault.NotFound (unless (is_file user to (directory kind old)) fault.Exists (unless (file_is_read_only user from (directory kind old)) fault.ReadOnly (Ok tt))) tt asked in

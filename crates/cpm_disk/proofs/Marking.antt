@@ -1,4 +1,4 @@
--- Files whose entries are marked with an attribute, or cleared of it.
+-- Files whose entries have an attribute set or cleared.
 use Rattle.std.proofs.Common.{◌≡◌, ◌<◌, ◌/◌, ◌==◌, ℕ, Bool, true, false, ◌&&◌, ◌||◌, All, List, [], ◌∷◌, bytes_eq, length, find, nat_eq, nat_le, slice_index, get_or-set_other, Option, Some, None, option_map, option_and_then, refl, sym, ap, ◌∙◌, inl, inr, arith, if◌then◌else◌, eqb-true, eq-eqb}
 use Rattle.std.proofs.lemmas.Bool.{and_from, and_parts, cases_Bool}
 use Rattle.std.specs.List.{list_any}
@@ -24,17 +24,17 @@ use Rattle.cpm_disk.proofs.Maps.{any_changed, find_changed, range_of}
 use Rattle.cpm_disk.proofs.Numbers.{outside_directory}
 use Rattle.cpm_disk.proofs.Others.{beside, matches_letters}
 
--- an entry is of the same file once it is marked
+-- an entry belongs to the same file after the change
 same_file_of : (user : ℕ) (name : List ℕ) (e m : Entry) → IsSameButHigh e m → is_of user name m ≡ is_of user name e
 same_file_of user name e m same = ap (λ u. (u == user) && bytes_eq (letters m.name) name) (ap (λ x. x.user) same.rest) ∙ ap (λ ls. (e.user == user) && bytes_eq ls name) same.name
 
--- an entry of a file whose name a pattern matches
+-- an entry matches a pattern if it belongs to a file whose name does
 is_matched : (user : ℕ) (pattern name : List ℕ) (e : Entry) → name_matches pattern name ≡ true → is_of user name e ≡ true → is_match user pattern e ≡ true
 is_matched user pattern name e matches of =
     let one = of_file user name e of in
     and_from (nat_eq e.user user) (name_matches pattern e.name) (eq-eqb e.user user one.0) (sym (matches_letters pattern e.name) ∙ ap (name_matches pattern) one.1 ∙ matches)
 
--- one of another file is not marked
+-- an entry of another file is not changed
 marked_alike : (entries : List Entry) (user : ℕ) (pattern : List ℕ) (attribute : Attribute) (on : Bool) (other : ℕ) (others : List ℕ) → user < USERS → ((other ≡ user) → (name_matches pattern others ≡ true) → ⊥) → (k : ℕ) → Alike (is_of other others) (at entries k) (at (after_marking user pattern attribute on entries) k)
 marked_alike entries user pattern attribute on other others low apart k =
     let after : at (after_marking user pattern attribute on entries) k ≡ marked_by user pattern attribute on (at entries k) = at_marking user pattern attribute on entries k low in
@@ -80,7 +80,7 @@ has_other_by user pattern attribute on e = elim (cases_Bool (is_match user patte
   | inr kept ↦ ap (λ b. has (other_attribute attribute) (if b then marked attribute on e else e)) kept
 ]
 
--- each entry of the file has the attribute as it was asked
+-- each entry of the file has the attribute that was asked for
 as_asked : (user : ℕ) (pattern name : List ℕ) (attribute : Attribute) (on : Bool) (e : Entry) → name_matches pattern name ≡ true → length e.name ≡ 11
     → (is_of user name (marked_by user pattern attribute on e) && has attribute (marked_by user pattern attribute on e)) ≡ (is_of user name e && on)
 as_asked user pattern name attribute on e matches long =

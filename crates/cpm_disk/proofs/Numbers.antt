@@ -1,4 +1,4 @@
--- The numbers of the kinds of disk: all that proofs need of them.
+-- The sizes of the two formats: everything that proofs need to know about them.
 use Rattle.std.proofs.Common.{◌≡◌, ◌<◌, ◌≤◌, ◌+◌, ◌*◌, ◌/◌, ◌%◌, ℕ, refl, arith}
 use Rattle.cpm_image.specs.Kind.{block_count, block_records, directory_records, entry_count, file_records, first_block, record_count}
 use Rattle.cpm_image.specs.declared.kind.DiskKind.{DiskKind}
@@ -14,7 +14,7 @@ pub record_below : (kind : DiskKind) (b i : ℕ) → b < block_count kind → i 
 record_below EightInch b i small low = omega arith
 record_below Megabyte b i small low = omega arith
 
--- a block of files has no record of the directory
+-- a block for files has no record of the directory
 pub beside_directory : (kind : DiskKind) (b n : ℕ) → first_block kind ≤ b → IsOfBlock kind b n → IsOfDirectory kind n → ⊥
 beside_directory EightInch b n files of low = let (from, to) = of in omega arith
 beside_directory Megabyte b n files of low = let (from, to) = of in omega arith
@@ -31,7 +31,7 @@ pub slot_below : (kind : DiskKind) (i : ℕ) → i % block_records kind < block_
 slot_below EightInch i = omega arith
 slot_below Megabyte i = omega arith
 
--- a record's place in its block, by its number in its extent
+-- the number of a record in its block follows from its number in the extent
 pub slot_of : (kind : DiskKind) (number : ℕ) → number % 128 % block_records kind ≡ number % block_records kind
 slot_of EightInch number = omega arith
 slot_of Megabyte number = omega arith
@@ -48,7 +48,7 @@ pub directory_within : (kind : DiskKind) (n : ℕ) → n < directory_records kin
 directory_within EightInch n low = omega arith
 directory_within Megabyte n low = omega arith
 
--- four entries in a record of the directory
+-- the record of a directory entry, four entries to a record
 pub record_of_entry : (kind : DiskKind) (k : ℕ) → k < entry_count kind → k / 4 < directory_records kind
 record_of_entry EightInch k low = omega arith
 record_of_entry Megabyte k low = omega arith

@@ -1,4 +1,4 @@
--- Files that a call does not name are as before.
+-- Files that a call does not name are as they were.
 use Rattle.std.proofs.Common.{◌≡◌, ◌≢◌, ◌<◌, ◌≤◌, ◌/◌, ◌%◌, ◌==◌, ℕ, true, false, ◌&&◌, ◌||◌, List, [], ◌∷◌, length, slice_set, get_or-set_same, get_or-set_other, refl, sym, ap, subst, ◌∙◌, inl, inr, arith, if◌then◌else◌, true≢false, eqb-true, nat_eq, Ok}
 use Rattle.cpm_image.specs.Kind.{block_count, block_records, directory_records, entry_count, first_block, record_count}
 use Rattle.cpm_image.specs.declared.kind.DiskKind.{DiskKind}
@@ -15,8 +15,8 @@ use Rattle.cpm_directory.specs.declared.fault.DiskFault.TheVariants as fault
 use Rattle.cpm_operations.proofs.Entries.{below_extent, is_of_file, letters_with, of_file}
 use Rattle.cpm_operations.proofs.Kept.{at_erasure, at_renaming, length_of_name}
 use Rattle.cpm_operations.specs.declared.placement.Placement.{Placement}
-use Rattle.cpm_operations.specs.Kept.{IsKeptBy, IsPut}
-use Rattle.cpm_operations.specs.Steps.{◌>>=◌, after_erasure, after_renaming, creation, given, erased_by, renamed_by}
+use Rattle.cpm_operations.specs.Kept.{IsKeptBy, IsGoodPut}
+use Rattle.cpm_operations.specs.Steps.{◌>>=◌, after_erasure, after_renaming, creation, some_or, erased_by, renamed_by}
 use Rattle.cpm_operations.proofs.Results.{bind_ok, unless_ok}
 use Rattle.cpm_disk.specs.Calls.{Changed, PartlyChanged, PartlyWritten, Written}
 use Rattle.cpm_disk.specs.Files.{IsEither, IsFile, IsMatched, OthersAreSame, SameFile}
@@ -24,7 +24,7 @@ use Rattle.cpm_disk.specs.Image.{Image, IsOfBlock, directory, disk_record}
 use Rattle.cpm_disk.proofs.StillMounted.{write_between}
 use Rattle.cpm_disk.proofs.Files.{Alike, same_file}
 
--- a call that changes the directory alone, in no entry of the file
+-- a call that changes only the directory, and no entry of the file
 pub beside : (kind : DiskKind) (old new : Image) (entries : List Entry) (user : ℕ) (name : List ℕ) → user < USERS → IsSound kind (directory kind old) → PartlyChanged kind old new entries
     → ((k : ℕ) → k < entry_count kind → Alike (is_of user name) (at (directory kind old) k) (at entries k)) → SameFile kind old new user name
 beside kind old new entries user name low sound left alike = same_file kind old new user name
@@ -41,7 +41,7 @@ beside kind old new entries user name low sound left alike = same_file kind old 
 pub whole_change : (kind : DiskKind) (old new : Image) (entries : List Entry) → Changed kind old new entries → PartlyChanged kind old new entries
 whole_change kind old new entries made = record { between = λ k. inr (ap (λ es. at es k) made.entries_are); rest = made.rest }
 
--- an entry of another file, or of none, is not of the file
+-- a free entry does not belong to the file
 pub not_free : (user : ℕ) (name : List ℕ) (e : Entry) → user < USERS → is_free e ≡ true → is_of user name e ≡ false
 not_free user name e low free = elim (cases_Bool (is_of user name e)) as (λ _. is_of user name e ≡ false) [
   | inl of ↦ (let user_is = (of_file user name e of).0 in let free_is = eqb-true e.user 0xE5 free in absurd (omega arith))
@@ -54,7 +54,7 @@ apart_from user name other others e of apart = elim (cases_Bool (is_of other oth
   | inr not_of ↦ not_of
 ]
 
--- an entry that is put, over a free one or one of the file
+-- an entry is written over one that does not belong to the file, and does not belong to it itself
 pub put_alike : (entries : List Entry) (number : ℕ) (e : Entry) (user : ℕ) (name : List ℕ) → number < length entries → is_of user name (at entries number) ≡ false → is_of user name e ≡ false → (k : ℕ) → Alike (is_of user name) (at entries k) (at (slice_set entries number e) k)
 put_alike entries number e user name within before after k = elim (cases_eq k number) as (λ _. Alike (is_of user name) (at entries k) (at (slice_set entries number e) k)) [
   | inl here ↦ inr (
@@ -64,10 +64,10 @@ put_alike entries number e user name within before after k = elim (cases_eq k nu
   | inr other ↦ inl (get_or-set_other entries number k e blank other)
 ]
 
-pub over_free : (kind : DiskKind) (entries : List Entry) (put : ℕ × Entry) (user : ℕ) (name : List ℕ) (other : ℕ) (others : List ℕ) → other < USERS → IsPut kind entries put → is_of user name put.1 ≡ true → ((other ≡ user) → (others ≡ name) → ⊥) → (k : ℕ) → Alike (is_of other others) (at entries k) (at (slice_set entries put.0 put.1) k)
+pub over_free : (kind : DiskKind) (entries : List Entry) (put : ℕ × Entry) (user : ℕ) (name : List ℕ) (other : ℕ) (others : List ℕ) → other < USERS → IsGoodPut kind entries put → is_of user name put.1 ≡ true → ((other ≡ user) → (others ≡ name) → ⊥) → (k : ℕ) → Alike (is_of other others) (at entries k) (at (slice_set entries put.0 put.1) k)
 over_free kind entries put user name other others low is_put of apart = put_alike entries put.0 put.1 other others is_put.within (not_free other others (at entries put.0) low is_put.free) (apart_from user name other others put.1 of apart)
 
--- entries that match a pattern are erased
+-- erasing entries that match a pattern
 pub matches_letters : (pattern name : List ℕ) → name_matches pattern (letters name) ≡ name_matches pattern name
 matches_letters [] [] = refl
 matches_letters [] (b ∷ name) = refl
@@ -111,12 +111,12 @@ renamed_alike entries user old new other others low low_other long seven apart_o
       | inr kept ↦ inl (after ∙ ap (λ b. if b then renamed new (at entries k) else at entries k) kept)
     ]
 
--- a stopped write leaves the records outside the directory and its block
+-- a write that was stopped leaves all records outside the directory and its block
 untouched : (kind : DiskKind) (old new : Image) (p : Placement) (i : ℕ) (bytes : List ℕ) → PartlyWritten kind old new p i bytes → (n : ℕ) → n < record_count kind → directory_records kind ≤ n → (IsOfBlock kind p.block n → ⊥) → disk_record kind new n ≡ disk_record kind old n
 untouched kind old new p i bytes (inl put) n below files beside_it = put.0.rest.records n below (λ of. elim of [ inl in_directory ↦ outside_directory kind n files in_directory | inr inside ↦ beside_it inside ])
 untouched kind old new p i bytes (inr none) n below files beside_it = none.1.records n below beside_it
 
--- a record that is written, in a file's entry and in a block that no other has
+-- a record is written to an entry of one file, and to a block that no other entry has
 pub beside_write : (kind : DiskKind) (old new : Image) (p : Placement) (i : ℕ) (bytes : List ℕ) (user : ℕ) (name : List ℕ) (other : ℕ) (others : List ℕ) → other < USERS → IsSound kind (directory kind old) → IsKeptBy kind user name (directory kind old) p → ((other ≡ user) → (others ≡ name) → ⊥) → PartlyWritten kind old new p i bytes → SameFile kind old new other others
 beside_write kind old new p i bytes user name other others low sound kept apart left = same_file kind old new other others
     (λ k below. elim (write_between kind old new p i bytes left k) as (λ _. Alike (is_of other others) (at (directory kind old) k) (at (directory kind new) k)) [
@@ -139,12 +139,12 @@ beside_write kind old new p i bytes user name other others low sound kept apart 
 
 pub created_entry : (user : ℕ) (name : List ℕ) (entries : List Entry) (put : ℕ × Entry) → creation user name entries ≡ Ok put → put.1 ≡ new_extent user name 0
 created_entry user name entries put is =
-    let (new_file, is_1) = unless_ok (is_file user name entries) fault.Exists (given (free_entry entries) fault.DirectoryFull >>= λ k. Ok (k, new_extent user name 0)) put is in
-    let (k, free, last) = bind_ok (given (free_entry entries) fault.DirectoryFull) (λ k. Ok (k, new_extent user name 0)) put is_1 in
+    let (new_file, is_1) = unless_ok (is_file user name entries) fault.Exists (some_or (free_entry entries) fault.DirectoryFull >>= λ k. Ok (k, new_extent user name 0)) put is in
+    let (k, free, last) = bind_ok (some_or (free_entry entries) fault.DirectoryFull) (λ k. Ok (k, new_extent user name 0)) put is_1 in
     let same : ◌≡◌ {A = ℕ × Entry} (k, new_extent user name 0) put = cc in
     sym (ap (λ (p : ℕ × Entry). p.1) same)
 
-pub create_others : (kind : DiskKind) (old new : Image) (user : ℕ) (name : List ℕ) (put : ℕ × Entry) → letters name ≡ name → IsSound kind (directory kind old) → IsPut kind (directory kind old) put → creation user name (directory kind old) ≡ Ok put → PartlyChanged kind old new (slice_set (directory kind old) put.0 put.1) → OthersAreSame kind old new (IsFile user name)
+pub create_others : (kind : DiskKind) (old new : Image) (user : ℕ) (name : List ℕ) (put : ℕ × Entry) → letters name ≡ name → IsSound kind (directory kind old) → IsGoodPut kind (directory kind old) put → creation user name (directory kind old) ≡ Ok put → PartlyChanged kind old new (slice_set (directory kind old) put.0 put.1) → OthersAreSame kind old new (IsFile user name)
 create_others kind old new user name put seven sound is_put asked left other others low apart =
     let of : is_of user name put.1 ≡ true = subst (λ e. is_of user name e ≡ true) (sym (created_entry user name (directory kind old) put asked)) (is_of_file user name (new_extent user name 0) refl seven) in
     beside kind old new (slice_set (directory kind old) put.0 put.1) other others low sound left (λ k _. over_free kind (directory kind old) put user name other others low is_put of (λ same_user same_name. apart (same_user, same_name)) k)

@@ -1,4 +1,4 @@
--- Writes of logical records, and the directory among them.
+-- Writing logical records, and the directory among them.
 use Rattle.std.proofs.Common.{◌≡◌, ◌<◌, ◌/◌, ◌%◌, ◌*◌, ◌+◌, ℕ, List, [], length, take, drop, refl, sym, ap, subst, ◌∙◌, inl, inr, arith, slice_set, get_or-set_same, get_or-set_other, ext_get_or, length-set}
 use Rattle.cpm_image.specs.Kind.{directory_records, entry_count, record_count}
 use Rattle.cpm_image.specs.declared.kind.DiskKind.{DiskKind}
@@ -19,7 +19,7 @@ pub length_directory : (kind : DiskKind) (image : Image) → length (directory k
 unfolding directory
 length_directory kind image = length-map-range_with_len (entry_at kind image) 0 (entry_count kind)
 
--- two lists of 64 entries that agree at each number are one
+-- two directories of the same format are equal if all their entries are
 pub same_entries : (kind : DiskKind) (xs ys : List Entry) → length xs ≡ entry_count kind → length ys ≡ entry_count kind → ((k : ℕ) → k < entry_count kind → at xs k ≡ at ys k) → xs ≡ ys
 same_entries kind xs ys long too each = ext_get_or blank xs ys (long ∙ sym too) (λ k below. each k (omega arith))
 
@@ -82,7 +82,7 @@ changed_by kind old new entries number e bytes was below wrote_it holds = record
   rest = widened kind (λ n. n ≡ number / 4) (IsOfDirectory kind) old new (λ n same. subst (λ m. m < directory_records kind) (sym same) (record_of_entry kind number below)) wrote_it.rest;
 }
 
--- the same, with its numbers as they were computed
+-- the same, with the numbers as the code computes them
 pub changed_as : (kind : DiskKind) (old new : Image) (entries : List Entry) (number index group place : ℕ) (e : Entry) (bytes : List ℕ) → index ≡ number → group ≡ number / 4 → place ≡ number / 4 → directory kind old ≡ entries → number < entry_count kind
     → ((i : ℕ) → i < 4 → entry_of (take 32 (drop (32 * i) bytes)) ≡ at (slice_set entries index e) (4 * group + i))
     → Wrote kind old new place bytes → Changed kind old new (slice_set entries index e)

@@ -1,4 +1,4 @@
--- How calls end.
+-- A disk is still mounted after each call.
 use Rattle.std.proofs.Common.{◌≡◌, ◌⊎◌, ℕ, Bool, true, false, List, None, Option, Some, ◌++◌, drop, length, slice_set, take, sym, ap, subst, ◌∙◌, inl, inr, take_at, true≢false}
 use Rattle.cpm_image.specs.Kind.{entry_count}
 use Rattle.cpm_image.specs.declared.kind.DiskKind.{DiskKind}
@@ -20,11 +20,11 @@ partly kind old new entries (inl same) = record {
 }
 partly kind old new entries (inr made) = record { between = λ k. inr (ap (λ es. at es k) made.entries_are); rest = made.rest }
 
--- a vector whose elements were all lent is what they are now
+-- the items of a vector after all of them were lent are the new ones
 pub whole : (n : ℕ) (new items : List Entry) → length new ≡ n → take n (new ++ drop (length new) items) ≡ new
 whole n new items long = take_at new (drop (length new) items) n long
 
--- a disk whose entries changed is mounted as before
+-- after its entries changed, a disk is still mounted
 pub mounted_changed : (kind : DiskKind) (image new : Image) (entries changed items : List Entry) (failed : Bool) (known : Option Writable) → IsMounted kind image entries failed known → StaysSound kind (directory kind image) changed → Changed kind image new changed → items ≡ changed → length changed ≡ entry_count kind → IsMounted kind new items failed None
 mounted_changed kind image new entries changed items failed known was kept made same long = record {
   count = made.rest.count ∙ was.count;
@@ -34,7 +34,7 @@ mounted_changed kind image new entries changed items failed known was kept made 
   may_write = λ _. tt;
 }
 
--- and one that was stopped keeps the rules
+-- and after a stopped change it still keeps the rules
 pub mounted_partly : (kind : DiskKind) (image new : Image) (entries changed items : List Entry) (failed : Bool) (known now : Option Writable) → IsMounted kind image entries failed known → StaysSound kind (directory kind image) changed → PartlyChanged kind image new changed → length items ≡ entry_count kind → IsMounted kind new items true now
 mounted_partly kind image new entries changed items failed known now was kept left long = record {
   count = left.rest.count ∙ was.count;

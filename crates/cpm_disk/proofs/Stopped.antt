@@ -1,4 +1,4 @@
--- What a write that was stopped leaves of its file: the records that are there are those before or those after, whole.
+-- What a stopped write leaves of its file: its records are all as before, or all as after the write.
 use Rattle.std.proofs.Common.{◌≡◌, ◌≢◌, ◌⊎◌, ◌<◌, ◌+◌, ◌*◌, ◌/◌, ◌%◌, ◌==◌, ℕ, max, true, false, ◌&&◌, not, List, find, replicate, slice_set, nat_lt, Option, Some, None, Ok, option_map, option_and_then, refl, sym, ap, subst, ◌∙◌, inl, inr, arith, if◌then◌else◌, true≢false, get_or-set_other, length-set, ltb-true}
 use Rattle.cpm_image.specs.Kind.{block_records, entry_count}
 use Rattle.cpm_image.specs.declared.kind.DiskKind.{DiskKind}
@@ -23,7 +23,7 @@ use Rattle.cpm_disk.proofs.Others.{not_free}
 use Rattle.cpm_disk.proofs.Places.{length_directory, same_entries, widened}
 use Rattle.cpm_disk.proofs.Written.{Placed, other_block, placed_of, record_put, record_written, with_bytes}
 
--- the directory is as before, and each record of the file that is there
+-- the directory is as it was, and so is each record that the file has
 same_records : (kind : DiskKind) (old new : Image) (user : ℕ) (name : List ℕ) → directory kind new ≡ directory kind old
     → ((number : ℕ) (e : Entry) → find (is_extent_of user name (number / 128)) (directory kind old) ≡ Some e → has_record kind e (number % 128) ≡ true → in_block kind new (number % 128) e ≡ in_block kind old (number % 128) e)
     → HasSameRecords kind old new user name
@@ -44,7 +44,7 @@ same_records kind old new user name same kept = record {
       | inr has_not ↦ ap (λ b. if b then in_block kind new (number % 128) e else None) has_not ∙ sym (ap (λ b. if b then in_block kind old (number % 128) e else None) has_not)
     ]
 
--- the block of a placement stands in the file's entry for the record alone, and there only if it is not new
+-- the block of a placement is in the file's entry only for this record, and it is there only if it is not new
 record IsHolder (kind : DiskKind) (user number : ℕ) (p : Placement) (place : ℕ × Entry) (e : Entry) (group : ℕ) : Type 0 where
   entry : e ≡ place.1
   here : group ≡ number % 128 / block_records kind
@@ -109,7 +109,7 @@ left_old kind old new user name number bytes p placed low sound sound_new kept a
       ]
     ]
   where
-    -- an entry that has the record is as it was to be
+    -- if the entry already has the record, it does not change
     unchanged : at (directory kind old) placed.place.0 ≡ placed.place.1 → has_record kind placed.place.1 (number % 128) ≡ true → directory kind new ≡ slice_set (directory kind old) placed.place.0 (with_bytes placed.place.1 (number % 128) placed.place.1.blocks)
     unchanged here has =
         let counted = ltb-true (number % 128) placed.place.1.records (and_parts (nat_lt (number % 128) placed.place.1.records) (not (block kind placed.place.1 (number % 128 / block_records kind) == 0)) has).0 in
@@ -131,7 +131,7 @@ left_old kind old new user name number bytes p placed low sound sound_new kept a
           ∙ sym (ap (λ n. disk_record kind old (block_records kind * n + m % 128 % block_records kind)) holds)))
     ]
 
--- a directory that is as before or as it was to be in one entry, as a whole
+-- a directory in which one entry is as it was or as it was to be is the old or the new directory
 between_one : (kind : DiskKind) (old new : Image) (p : Placement) → p.number < entry_count kind → IsBetween (directory kind old) (slice_set (directory kind old) p.number p.entry) (directory kind new) → (directory kind new ≡ directory kind old) ⊎ (directory kind new ≡ slice_set (directory kind old) p.number p.entry)
 between_one kind old new p within between = elim (between p.number) as (λ _. (directory kind new ≡ directory kind old) ⊎ (directory kind new ≡ slice_set (directory kind old) p.number p.entry)) [
   | inl was ↦ inl (same_entries kind (directory kind new) (directory kind old) (length_directory kind new) (length_directory kind old) (λ k _. elim (cases_eq k p.number) as (λ _. at (directory kind new) k ≡ at (directory kind old) k) [

@@ -1,4 +1,4 @@
--- What becomes of a file of which a record is written.
+-- What happens to a file when a record of it is written.
 use Rattle.std.proofs.Common.{◌≡◌, ◌≢◌, ◌⊎◌, ◌<◌, ◌≤◌, ◌+◌, ◌*◌, ◌/◌, ◌%◌, ◌==◌, ℕ, max, Bool, true, false, ◌&&◌, not, List, find, position, replicate, slice_set, get_or, get_or-set_same, get_or-set_other, nat_lt, Option, Some, None, Ok, option_map, option_and_then, unwrap_or, refl, sym, ap, subst, ◌∙◌, inl, inr, arith, if◌then◌else◌, true≢false, eqb-true, eq-eqb, ne_eqb, ltb-true, nat_le, slice_index}
 use Rattle.cpm_image.specs.Kind.{block_count, block_records, file_records, first_block}
 use Rattle.cpm_image.specs.declared.kind.DiskKind.{DiskKind}
@@ -17,7 +17,7 @@ use Rattle.cpm_operations.proofs.Placements.{IsBlockFor, IsPlace, block_found, n
 use Rattle.cpm_operations.proofs.Results.{bind_ok, given_ok, unless_ok}
 use Rattle.cpm_operations.specs.declared.placement.Placement.{Placement}
 use Rattle.cpm_operations.specs.Kept.{IsKeptBy}
-use Rattle.cpm_operations.specs.Steps.{block_place, extent_place, found_or_new, given, placing, unless, writing}
+use Rattle.cpm_operations.specs.Steps.{block_place, extent_place, found_or_new, some_or, placing, unless, writing}
 use Rattle.cpm_disk.specs.Calls.{HasWritten, Written}
 use Rattle.cpm_disk.specs.Files.{HasRecord, count_of, block_record, in_block}
 use Rattle.cpm_disk.specs.Image.{Image, IsOfBlock, IsOfDirectory, SameBut, directory, disk_record}
@@ -30,7 +30,7 @@ use Rattle.cpm_disk.proofs.Maps.{extent_found, find_none, range_of}
 use Rattle.cpm_disk.proofs.Others.{not_free}
 use Rattle.cpm_disk.proofs.Places.{length_directory}
 
--- the entry of an extent before a write: the one that it has, or, in place of a free one, that of a new one
+-- the entry of an extent before a write: the one that the extent has, or a new one in place of a free one
 abbrev pub Was : (kind : DiskKind) → List Entry → ℕ → List ℕ → ℕ → ℕ × Entry → Type 0
 Was kind entries user name number place = ((at entries place.0 ≡ place.1) × (is_extent_of user name number place.1 ≡ true) × (find (is_extent_of user name number) entries ≡ Some place.1))
     ⊎ ((is_free (at entries place.0) ≡ true) × (find (is_extent_of user name number) entries ≡ None) × (place.1.records ≡ 0) × ((group : ℕ) → block kind place.1 group ≡ 0) × (extent_number place.1 ≡ number) × ((first : Entry) × (find (is_of user name) entries ≡ Some first) × (place.1.name ≡ first.name)))
@@ -41,8 +41,8 @@ was kind user name number entries (Some k) place low small sound found is =
     let same : ◌≡◌ {A = ℕ × Entry} (k, at entries k) place = cc in
     subst (λ (p : ℕ × Entry). Was kind entries user name number p) same (inl (refl, here.1, extent_found kind entries user name number k low sound here.0 here.1))
 was kind user name number entries None place low small sound none is =
-    let (k, free, rest) = bind_ok (given (free_entry entries) fault.DirectoryFull) _ place is in
-    let (e, first, last) = bind_ok (given (find (is_of user name) entries) fault.NotFound) _ place rest in
+    let (k, free, rest) = bind_ok (some_or (free_entry entries) fault.DirectoryFull) _ place is in
+    let (e, first, last) = bind_ok (some_or (find (is_of user name) entries) fault.NotFound) _ place rest in
     let same : ◌≡◌ {A = ℕ × Entry} (k, new_extent user e.name number) place = cc in
     let here = position-Some is_free entries k blank (given_ok (free_entry entries) fault.DirectoryFull k free) in
     subst (λ (p : ℕ × Entry). Was kind entries user name number p) same
@@ -54,7 +54,7 @@ Had kind e group found = ((found.1 ≡ true) × (block kind e group ≡ 0)) ⊎ 
 
 had : (kind : DiskKind) (e : Entry) (group : ℕ) (entries : List Entry) (found : ℕ × Bool) → block_place kind e group entries ≡ Ok found → Had kind e group found
 had kind e group entries found is = elim (cases_Bool (block kind e group == 0)) as (λ _. Had kind e group found) [
-  | inl none ↦ (let (b, given_b, last) = bind_ok (given (free_block kind entries) fault.DiskFull) (λ b. Ok (b, true)) found (rw none at is) in
+  | inl none ↦ (let (b, given_b, last) = bind_ok (some_or (free_block kind entries) fault.DiskFull) (λ b. Ok (b, true)) found (rw none at is) in
       let same : ◌≡◌ {A = ℕ × Bool} (b, true) found = cc in
       subst (λ (f : ℕ × Bool). Had kind e group f) same (inl (refl, eqb-true (block kind e group) 0 none)))
   | inr some ↦ (let same : ◌≡◌ {A = ℕ × Bool} (block kind e group, false) found = (let found_is = rw some at is in cc) in
@@ -72,7 +72,7 @@ extent_is : (kind : DiskKind) (entries : List Entry) (user : ℕ) (name : List �
 extent_is kind entries user name number place (inl old) = eqb-true (extent_number place.1) number (and_parts (is_of user name place.1) (extent_number place.1 == number) old.1).1
 extent_is kind entries user name number place (inr new) = new.4
 
--- what the extent counted and block_record before
+-- the count and the records of the extent before
 count_was : (kind : DiskKind) (image : Image) (user : ℕ) (name : List ℕ) (number : ℕ) (place : ℕ × Entry) → Was kind (directory kind image) user name number place → unwrap_or (count_of kind image user name number) 0 ≡ place.1.records
 count_was kind image user name number place (inl old) = ap (λ o. unwrap_or (option_map (λ e. e.records) o) 0) old.2
 count_was kind image user name number place (inr new) = ap (λ o. unwrap_or (option_map (λ e. e.records) o) 0) new.1 ∙ sym new.2
@@ -81,7 +81,7 @@ stored_was : (kind : DiskKind) (image : Image) (user : ℕ) (name : List ℕ) (n
 stored_was kind image user name number i place (inl old) = ap (option_and_then (in_block kind image i)) old.2
 stored_was kind image user name number i place (inr new) = ap (option_and_then (in_block kind image i)) new.1 ∙ sym (ap (λ b. if b == 0 then None else Some (disk_record kind image (place_on_disk kind place.1 i))) (new.3 (i / block_records kind)))
 
--- what an entry stores in a block that it names
+-- the bytes of a record in a block that an entry names
 stored_there : (kind : DiskKind) (image : Image) (e : Entry) (i b : ℕ) → block kind e (i / block_records kind) ≡ b → 0 < b → in_block kind image i e ≡ Some (disk_record kind image (place_in_block kind b i))
 stored_there kind image e i b is some =
     ap (λ n. if n == 0 then None else Some (disk_record kind image (place_in_block kind n i))) is
@@ -90,7 +90,7 @@ stored_there kind image e i b is some =
 stored_not : (kind : DiskKind) (image : Image) (e : Entry) (i : ℕ) → block kind e (i / block_records kind) ≡ 0 → in_block kind image i e ≡ None
 stored_not kind image e i none = ap (λ n. if n == 0 then None else Some (disk_record kind image (place_in_block kind n i))) none
 
--- the records of the block beside the one that is written
+-- the other records of the block
 beside_it : (kind : DiskKind) (old new : Image) (user : ℕ) (name : List ℕ) (number i j b : ℕ) (is_new : Bool) (bytes : List ℕ) (place : ℕ × Entry) → Was kind (directory kind old) user name number place → Had kind place.1 (j / block_records kind) (b, is_new) → j % block_records kind ≢ i → HasWritten kind old new b i is_new bytes
     → disk_record kind new (block_records kind * b + j % block_records kind) ≡ unwrap_or (block_record kind old user name number j) (replicate 128 0)
 beside_it kind old new user name number i j b is_new bytes place before (inl had_none) apart made =
@@ -100,7 +100,7 @@ beside_it kind old new user name number i j b is_new bytes place before (inr had
     made.beside (j % block_records kind) (slot_below kind j) apart ∙ ap (λ t. if t then replicate 128 0 else disk_record kind old (block_records kind * b + j % block_records kind)) had_it.0
     ∙ sym (ap (λ o. unwrap_or o (replicate 128 0)) (stored_was kind old user name number j place before ∙ stored_there kind old place.1 j b had_it.1 had_it.2))
 
--- an entry's record outside the block that is written
+-- a record of an entry outside the block that is written
 pub other_block : (kind : DiskKind) (old new : Image) (e : Entry) (i b : ℕ) → ((block kind e (i / block_records kind) ≡ 0 → ⊥) → (first_block kind ≤ block kind e (i / block_records kind)) × (block kind e (i / block_records kind) < block_count kind)) → (block kind e (i / block_records kind) ≡ b → ⊥) → SameBut kind (λ n. IsOfDirectory kind n ⊎ IsOfBlock kind b n) old new → in_block kind new i e ≡ in_block kind old i e
 other_block kind old new e i b range apart rest = same_stored kind old new e i (λ some.
     let within = range some in
@@ -114,7 +114,7 @@ not_extent user name number other e is apart = elim (cases_Bool (is_extent_of us
   | inr not_of ↦ not_of
 ]
 
--- an entry whose record i was written, with sixteen bytes that spell its blocks
+-- an entry after record i is written, given the sixteen bytes of its blocks
 abbrev pub with_bytes : Entry → ℕ → List ℕ → Entry
 with_bytes e i bytes = record e { records = max e.records (i + 1); blocks = bytes }
 
@@ -143,7 +143,7 @@ record_put kind old new user name number bytes place b is_new spelled numbers lo
     at_place : at (directory kind new) place.0 ≡ with_bytes place.1 (number % 128) spelled
     at_place = ap (λ es. at es place.0) is ∙ get_or-set_same (directory kind old) place.0 (with_bytes place.1 (number % 128) spelled) blank fits.within
 
-    -- an attribute of the name alone
+    -- an attribute depends only on the name
     attribute : (q : Entry → Bool) → q (with_bytes place.1 (number % 128) spelled) ≡ q place.1 → ((e : Entry) → place.1.name ≡ e.name → q place.1 ≡ q e)
         → list_any (λ e. is_of user name e && q e) (directory kind new) ≡ list_any (λ e. is_of user name e && q e) (directory kind old)
     attribute q same by_name = ap (list_any (λ e. is_of user name e && q e)) is ∙ elim before as (λ _. list_any (λ e. is_of user name e && q e) (slice_set (directory kind old) place.0 (with_bytes place.1 (number % 128) spelled)) ≡ list_any (λ e. is_of user name e && q e) (directory kind old)) [
@@ -200,7 +200,7 @@ record_put kind old new user name number bytes place b is_new spelled numbers lo
         let away : k ≢ place.0 = λ here. true≢false (sym (subst (λ x. is_extent_of user name other x ≡ true) is_at passes) ∙ subst (λ n. is_extent_of user name other (at (directory kind old) n) ≡ false) (sym here) (not_there other apart)) in
         other_block kind old new e i b (λ some. range_of kind (directory kind old) k e sound is_at (omega arith) (i / block_records kind) some) (λ same. elsewhere k (i / block_records kind) away ext (ap (λ x. block kind x (i / block_records kind)) (sym is_at) ∙ same)) made.rest
 
--- how a placement came about: the entry of its extent as it was, and the block that the record has there
+-- where a placement comes from: the entry of the extent as it was, and the block of the record
 pub record Placed (kind : DiskKind) (entries : List Entry) (user : ℕ) (name : List ℕ) (number : ℕ) (p : Placement) : Type 0 where
   pub place : ℕ × Entry
   pub at_number : p.number ≡ place.0

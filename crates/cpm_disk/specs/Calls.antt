@@ -10,24 +10,24 @@ use Rattle.cpm_operations.specs.declared.placement.Placement.{Placement}
 use Rattle.cpm_operations.specs.Kept.{IsBetween}
 use Rattle.cpm_disk.specs.Image.{Image, IsOfBlock, IsOfDirectory, SameBut, directory, disk_record}
 
--- A mounted disk: its device, its kind, and whether the device has failed since.
+-- A mounted disk: its device, its format, and whether the device has failed since it was mounted.
 pub record Mounted (S : Type 0) : Type 0 where
   pub device : S
   pub kind : DiskKind
   pub failed : Bool
 
--- The answer of a call. What its definition says stands in expected, the first refusal or what is to be done; finished is what
--- a call has done, by that and its answer, and stopped what it leaves where the device failed. A call succeeds only where the device
--- did not fail in it. Any other refusal changes nothing, and no call changes the kind.
-abbrev pub Outcome : {S X Y : Type 0} → (S → ℕ) → Mounted S → Mounted S → Result X DiskFault → (X → Y → Type 0) → (X → Type 0) → Result Y DiskFault → Type 0
-Outcome {X = X} faults old new expected finished stopped (Ok y) =
+-- The answer of a call. `expected` is what the definition of the operation says: what is to be done, or the first refusal. `finished`
+-- holds of that and the answer after the call is done, and `stopped` holds if the device failed in it. A call succeeds only if the device
+-- did not fail in it. Any other refusal changes nothing, and no call changes the format.
+abbrev pub HasOutcome : {S X Y : Type 0} → (S → ℕ) → Mounted S → Mounted S → Result X DiskFault → (X → Y → Type 0) → (X → Type 0) → Result Y DiskFault → Type 0
+HasOutcome {X = X} faults old new expected finished stopped (Ok y) =
     (old.failed ≡ false) × (new.failed ≡ false) × (new.kind ≡ old.kind) × (faults new.device ≡ faults old.device) × (x : X) × (expected ≡ Ok x) × finished x y
-Outcome {X = X} faults old new expected finished stopped (Err fault.Fault) =
+HasOutcome {X = X} faults old new expected finished stopped (Err fault.Fault) =
     (old.failed ≡ false) × (new.failed ≡ true) × (new.kind ≡ old.kind) × HasRisen (faults old.device) (faults new.device) × (x : X) × (expected ≡ Ok x) × stopped x
-Outcome faults old new expected finished stopped (Err fault.Failed) = (old.failed ≡ true) × (new ≡ old)
-Outcome faults old new expected finished stopped (Err refusal) = (old.failed ≡ false) × (expected ≡ Err refusal) × (new ≡ old)
+HasOutcome faults old new expected finished stopped (Err fault.Failed) = (old.failed ≡ true) × (new ≡ old)
+HasOutcome faults old new expected finished stopped (Err refusal) = (old.failed ≡ false) × (expected ≡ Err refusal) × (new ≡ old)
 
--- A fault that a call may answer: the device failed in it, or before it, or else what its operation refuses.
+-- A fault that a call can answer: the device failed in it or before it, or the operation refuses.
 abbrev pub FailsOr : (DiskFault → Type 0) → DiskFault → Type 0
 FailsOr refuses fault.Fault = ⊤
 FailsOr refuses fault.Failed = ⊤
@@ -38,7 +38,7 @@ pub record Changed (kind : DiskKind) (old new : Image) (entries : List Entry) : 
   pub entries_are : directory kind new ≡ entries
   pub rest : SameBut kind (IsOfDirectory kind) old new
 
--- stopped on the way: each entry is as before or as it was to be
+-- the call was stopped: each directory entry is as it was or as it was to be, and nothing else changed
 pub record PartlyChanged (kind : DiskKind) (old new : Image) (entries : List Entry) : Type 0 where
   pub between : IsBetween (directory kind old) entries (directory kind new)
   pub rest : SameBut kind (IsOfDirectory kind) old new
@@ -54,8 +54,8 @@ pub record Written (kind : DiskKind) (old new : Image) (p : Placement) (i : ℕ)
   pub data_are : HasWritten kind old new p.block i p.is_new bytes
   pub entries_are : directory kind new ≡ slice_set (directory kind old) p.number p.entry
 
--- Stopped on the way: the record is written and its entry is as before or as it was to be; or the directory is as before, and of a
--- block that was there the record alone may be written.
+-- The write was stopped. Either the record is written, and its entry is as it was or as it was to be; or the directory is as it was, and
+-- if the block is not new, at most this record of it is written.
 abbrev pub PartlyWritten : DiskKind → Image → Image → Placement → ℕ → List ℕ → Type 0
 PartlyWritten kind old new p i bytes =
     (HasWritten kind old new p.block i p.is_new bytes × IsBetween (directory kind old) (slice_set (directory kind old) p.number p.entry) (directory kind new))

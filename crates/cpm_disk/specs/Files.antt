@@ -1,5 +1,6 @@
--- The files of an image, as a map from user and name: of each extent the count of its records and the bytes of those in its blocks, and
--- two attributes. Record i of an extent is there where i is below the count and its block is. (CP/M 2.2 Alteration Guide, the directory.)
+-- The files of an image as a map from user and name. A file has, for each extent, a count of records and the bytes of those in its
+-- blocks, and
+-- two attributes. An extent has record i if i is below its count and its block is there. (CP/M 2.2 Alteration Guide, the directory.)
 use Rattle.std.specs.Prelude.{◌≡◌, ◌≢◌, ◌<◌, ◌⊎◌, ◌+◌, ◌/◌, ◌%◌, ◌==◌, max, replicate, unwrap_or, ℕ, true, false, List, Option, Some, None, find, if◌then◌else◌, option_and_then, option_map, Bool}
 use Rattle.cpm_directory.specs.declared.attribute.Attribute.{Attribute}
 use Rattle.cpm_directory.specs.declared.attribute.Attribute.TheVariants as attribute
@@ -12,50 +13,50 @@ use Rattle.cpm_directory.specs.Letters.{name_matches}
 use Rattle.cpm_directory.specs.Searches.{file_is_read_only, file_is_system, is_file}
 use Rattle.cpm_disk.specs.Image.{Image, directory, disk_record}
 
--- the count of the records of a file's extent
+-- the number of records in an extent of a file
 abbrev pub count_of : DiskKind → Image → ℕ → List ℕ → ℕ → Option ℕ
 count_of kind image user name number = option_map (λ e. e.records) (find (is_extent_of user name number) (directory kind image))
 
--- the bytes in an entry's block for record i, where it has that block, whether or not the record is there
+-- the bytes for record i in an entry's block, if the entry has that block, even if i is not below the count
 abbrev pub in_block : DiskKind → Image → ℕ → Entry → Option (List ℕ)
 in_block kind image i e = if block kind e (i / block_records kind) == 0 then None else Some (disk_record kind image (place_on_disk kind e i))
 
--- the same of an extent of a file
+-- the same for an extent of a file
 abbrev pub block_record : DiskKind → Image → ℕ → List ℕ → ℕ → ℕ → Option (List ℕ)
 block_record kind image user name number i = option_and_then (in_block kind image i) (find (is_extent_of user name number) (directory kind image))
 
--- the bytes of a file's record, where it is there
+-- the bytes of a record of a file, if the file has it
 abbrev pub file_record : DiskKind → Image → ℕ → List ℕ → ℕ → Option (List ℕ)
 file_record kind image user name number = option_and_then (λ e. if has_record kind e (number % 128) then in_block kind image (number % 128) e else None) (find (is_extent_of user name (number / 128)) (directory kind image))
 
--- a file is as before: its extents, their counts and records, and its attributes
+-- a file is as it was: its extents, their counts and records, and its attributes
 pub record SameFile (kind : DiskKind) (old new : Image) (user : ℕ) (name : List ℕ) : Type 0 where
   pub counts : (number : ℕ) → count_of kind new user name number ≡ count_of kind old user name number
   pub records : (number i : ℕ) → i < 128 → block_record kind new user name number i ≡ block_record kind old user name number i
   pub read_only : file_is_read_only user name (directory kind new) ≡ file_is_read_only user name (directory kind old)
   pub system : file_is_system user name (directory kind new) ≡ file_is_system user name (directory kind old)
 
--- every file is as before, but for some
+-- every file is as it was, except those that are named
 abbrev pub OthersAreSame : DiskKind → Image → Image → (ℕ → List ℕ → Type 0) → Type 0
 OthersAreSame kind old new named = (user : ℕ) (name : List ℕ) → user < USERS → (named user name → ⊥) → SameFile kind old new user name
 
--- the file of a user and a name
+-- this file of this user
 abbrev pub IsFile : ℕ → List ℕ → ℕ → List ℕ → Type 0
 IsFile user name other_user other_name = (other_user ≡ user) × (other_name ≡ name)
 
--- one of two of a user's files
+-- one of these two files of the user
 abbrev pub IsEither : ℕ → List ℕ → List ℕ → ℕ → List ℕ → Type 0
 IsEither user one two other_user other_name = (other_user ≡ user) × ((other_name ≡ one) ⊎ (other_name ≡ two))
 
--- a user's files that match a pattern
+-- a file of the user that matches a pattern
 abbrev pub IsMatched : ℕ → List ℕ → ℕ → List ℕ → Type 0
 IsMatched user pattern other_user other_name = (other_user ≡ user) × (name_matches pattern other_name ≡ true)
 
--- a user has no file of a name
+-- the user has no file of this name
 abbrev pub IsNoFile : DiskKind → Image → ℕ → List ℕ → Type 0
 IsNoFile kind image user name = (number : ℕ) → find (is_extent_of user name number) (directory kind image) ≡ None
 
--- a file that was made: one extent without records, and no attributes
+-- a file that was created: one extent without records, and no attributes
 pub record IsNewFile (kind : DiskKind) (image : Image) (user : ℕ) (name : List ℕ) : Type 0 where
   pub first : count_of kind image user name 0 ≡ Some 0
   pub records : (i : ℕ) → block_record kind image user name 0 i ≡ None
@@ -63,7 +64,8 @@ pub record IsNewFile (kind : DiskKind) (image : Image) (user : ℕ) (name : List
   pub read_only : file_is_read_only user name (directory kind image) ≡ false
   pub system : file_is_system user name (directory kind image) ≡ false
 
--- a file under another name: its extents, their counts and records, and its attributes; and no file under the old one
+-- a file that was renamed: its extents, their counts and records, and its attributes are as they were; and there is no file of the old
+-- name
 pub record IsMoved (kind : DiskKind) (old new : Image) (user : ℕ) (from to : List ℕ) : Type 0 where
   pub counts : (number : ℕ) → count_of kind new user to number ≡ count_of kind old user from number
   pub records : (number i : ℕ) → i < 128 → block_record kind new user to number i ≡ block_record kind old user from number i
@@ -80,15 +82,15 @@ abbrev pub other_attribute : Attribute → Attribute
 other_attribute attribute.ReadOnly = attribute.System
 other_attribute attribute.System = attribute.ReadOnly
 
--- a file that was marked with an attribute, or cleared of it: its extents, their counts and records, and its other attribute are as before
+-- a file whose attribute was set or cleared: its extents, their counts and records, and its other attribute are as they were
 pub record IsMarkedFile (kind : DiskKind) (old new : Image) (user : ℕ) (name : List ℕ) (which : Attribute) (on : Bool) : Type 0 where
   pub counts : (number : ℕ) → count_of kind new user name number ≡ count_of kind old user name number
   pub records : (number i : ℕ) → i < 128 → block_record kind new user name number i ≡ block_record kind old user name number i
   pub marked : is_file user name (directory kind old) ≡ true → file_has which kind new user name ≡ on
   pub other : file_has (other_attribute which) kind new user name ≡ file_has (other_attribute which) kind old user name
 
--- A record of a file was written. The other records of its block are as before, or zeros where the block is new; the rest of the file
--- is as before.
+-- A record of a file was written. The other records in its block are as they were, or zeros if the block is new; the rest of the file is
+-- as it was.
 pub record HasRecord (kind : DiskKind) (old new : Image) (user : ℕ) (name : List ℕ) (number : ℕ) (bytes : List ℕ) : Type 0 where
   pub count : count_of kind new user name (number / 128) ≡ Some (max (unwrap_or (count_of kind old user name (number / 128)) 0) (number % 128 + 1))
   pub here : block_record kind new user name (number / 128) (number % 128) ≡ Some bytes
@@ -99,7 +101,7 @@ pub record HasRecord (kind : DiskKind) (old new : Image) (user : ℕ) (name : Li
   pub read_only : file_is_read_only user name (directory kind new) ≡ file_is_read_only user name (directory kind old)
   pub system : file_is_system user name (directory kind new) ≡ file_is_system user name (directory kind old)
 
--- A file's records that are there are as before, whole, and so are the counts of its extents and its attributes.
+-- The records that a file has are as they were, and so are the counts of its extents and its attributes.
 pub record HasSameRecords (kind : DiskKind) (old new : Image) (user : ℕ) (name : List ℕ) : Type 0 where
   pub counts : (number : ℕ) → count_of kind new user name number ≡ count_of kind old user name number
   pub records : (number : ℕ) → file_record kind new user name number ≡ file_record kind old user name number

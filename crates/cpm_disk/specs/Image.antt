@@ -1,4 +1,4 @@
--- A disk's image: its logical records, its directory, and what a change leaves as it was.
+-- The image of a disk: its logical records, its directory, and what a change leaves as it was.
 use Rattle.std.specs.Prelude.{◌≡◌, ◌≢◌, ◌<◌, ◌≤◌, ℕ, ◌+◌, ◌*◌, ◌/◌, ◌%◌, List, [], length, map, take, drop, slice_index_or}
 use Rattle.std.specs.List.{range_with_len}
 use Rattle.cpm_image.specs.Kind.{block_records, directory_records, entry_count, record_count}
@@ -11,7 +11,7 @@ use Rattle.cpm_directory.specs.Entries.{entry_of}
 abbrev pub Image : Type 0
 Image = List (List ℕ)
 
--- the bytes of a logical record of a disk of a kind
+-- the bytes of a logical record, on a disk of a format
 abbrev pub disk_record : DiskKind → Image → ℕ → List ℕ
 disk_record kind image n = slice_index_or image (sector_of kind n) []
 
@@ -30,17 +30,17 @@ IsOfDirectory kind n = n < directory_records kind
 abbrev pub IsOfBlock : DiskKind → ℕ → ℕ → Type 0
 IsOfBlock kind b n = (block_records kind * b ≤ n) × (n < block_records kind * b + block_records kind)
 
--- a sector of the system's tracks, or one of the last six: an eight inch disk has them
+-- a sector without a logical record: one of the system tracks, or one of the last six; only an eight inch disk has such sectors
 abbrev pub HoldsNoRecord : DiskKind → ℕ → Type 0
 HoldsNoRecord kind s = (n : ℕ) → n < record_count kind → sector_of kind n ≢ s
 
--- every sector is as before, but for some logical records
+-- every sector is as it was, except those of some logical records
 pub record SameBut (kind : DiskKind) (P : ℕ → Type 0) (old new : Image) : Type 0 where
   pub count : length new ≡ length old
   pub records : (n : ℕ) → n < record_count kind → (P n → ⊥) → disk_record kind new n ≡ disk_record kind old n
   pub system : (s : ℕ) → HoldsNoRecord kind s → slice_index_or new s [] ≡ slice_index_or old s []
 
--- a write of one logical record
+-- one logical record was written, and nothing else changed
 pub record Wrote (kind : DiskKind) (old new : Image) (number : ℕ) (bytes : List ℕ) : Type 0 where
   pub here : disk_record kind new number ≡ bytes
   pub rest : SameBut kind (λ n. n ≡ number) old new

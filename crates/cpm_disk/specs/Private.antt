@@ -1,4 +1,4 @@
--- What private contracts alone cite: no reviewer need believe it.
+-- Definitions that only private contracts use, so no public promise depends on them.
 pub mod State
 pub mod Changes
 pub mod Blocks

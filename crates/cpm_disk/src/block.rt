@@ -1,7 +1,7 @@
-//! Writes of records of files.
+//! Writes records of files to blocks.
 
 ghost use Rattle.std.specs.Prelude.{◌≡◌, ◌⊎◌, ◌<◌, ◌≤◌, ◌+◌, ◌*◌, ℕ, false, true, length, OnErr, OnOk, slice_set};
-ghost use Rattle.cpm_image.specs.Device.{HasCause};
+ghost use Rattle.cpm_image.specs.Device.{HasCountedFault};
 ghost use Rattle.cpm_image.specs.Kind.{block_count, block_records, entry_count, first_block, record_count, sector_count};
 ghost use Rattle.cpm_disk.specs.Private.Blocks.{Cleared, Prepared};
 ghost use Rattle.cpm_disk.specs.Calls.{HasWritten, PartlyWritten, Written};
@@ -12,7 +12,7 @@ use cpm_directory::Entry;
 use cpm_image::{DeviceFault, DiskKind, Sectors};
 use cpm_operations::Placement;
 
-/// The logical record of the disk that is a block's record.
+/// The logical record of the disk that is record `i` of a block.
 fn record_of(kind: DiskKind, block: u16, i: u32) -> u32
     requires block { block < block_count kind }
     requires record { i < block_records kind }
@@ -22,7 +22,7 @@ fn record_of(kind: DiskKind, block: u16, i: u32) -> u32
     u32::from(kind.block_records()) * u32::from(block) + i
 }
 
-/// Fills the records of a block with zeros, but for one.
+/// Fills all records of a block with zeros, except one.
 fn clear_others<S: Sectors>(
     device: &mut S,
     kind: DiskKind,
@@ -33,7 +33,7 @@ fn clear_others<S: Sectors>(
     requires block { block < block_count kind }
     ensures cleared { OnOk result (Cleared kind (S.sectors device.old) (S.sectors device.new) block kept (block_records kind)) }
     ensures rest { SameBut kind (IsOfBlock kind block) (S.sectors device.old) (S.sectors device.new) }
-    ensures cause { HasCause (S.faults device.old) (S.faults device.new) result }
+    ensures cause { HasCountedFault (S.faults device.old) (S.faults device.new) result }
 {
     let zeros = [0; 128];
     for i in 0..u32::from(kind.block_records()) {
@@ -44,7 +44,7 @@ fn clear_others<S: Sectors>(
     Ok(())
 }
 
-/// Clears the records of a new block, but for one.
+/// Fills all records of a block with zeros, except one, if the block is new.
 fn prepare<S: Sectors>(
     device: &mut S,
     kind: DiskKind,
@@ -56,7 +56,7 @@ fn prepare<S: Sectors>(
     ensures prepared { OnOk result (Prepared kind (S.sectors device.old) (S.sectors device.new) place.now i) }
     ensures rest { SameBut kind (IsOfBlock kind place.now.block) (S.sectors device.old) (S.sectors device.new) }
     ensures stopped { OnErr result (place.now.is_new ≡ true) }
-    ensures cause { HasCause (S.faults device.old) (S.faults device.new) result }
+    ensures cause { HasCountedFault (S.faults device.old) (S.faults device.new) result }
 {
     if place.is_new {
         return clear_others(device, kind, place.block, i);
@@ -64,7 +64,7 @@ fn prepare<S: Sectors>(
     Ok(())
 }
 
-/// Writes record `i` of a block. Of a new block, the other records are cleared first.
+/// Writes record `i` of a block. If the block is new, it first fills the others with zeros.
 fn write_block<S: Sectors>(
     device: &mut S,
     kind: DiskKind,
@@ -80,13 +80,13 @@ fn write_block<S: Sectors>(
     ensures stopped { OnErr result (place.now.is_new ≡ false → (j : ℕ) → j < block_records kind →
         (disk_record kind (S.sectors device.new) (block_records kind * place.now.block + j) ≡ disk_record kind (S.sectors device.old) (block_records kind * place.now.block + j))
         ⊎ ((j ≡ i) × (disk_record kind (S.sectors device.new) (block_records kind * place.now.block + j) ≡ bytes.now))) }
-    ensures cause { HasCause (S.faults device.old) (S.faults device.new) result }
+    ensures cause { HasCountedFault (S.faults device.old) (S.faults device.new) result }
 {
     prepare(device, kind, place, i)?;
     write_record(device, kind, record_of(kind, place.block, i), bytes)
 }
 
-/// Writes record `i` of a block, and then its entry.
+/// Writes record `i` of a block, and then its directory entry.
 pub(crate) fn write_all<S: Sectors>(
     device: &mut S,
     kind: DiskKind,
@@ -106,7 +106,7 @@ pub(crate) fn write_all<S: Sectors>(
     ensures written { OnOk result (Written kind (S.sectors device.old) (S.sectors device.new) place.now i bytes.now) }
     ensures stopped { OnErr result (PartlyWritten kind (S.sectors device.old) (S.sectors device.new) place.now i bytes.now) }
     ensures size { length entries.new ≡ entry_count kind }
-    ensures cause { HasCause (S.faults device.old) (S.faults device.new) result }
+    ensures cause { HasCountedFault (S.faults device.old) (S.faults device.new) result }
 {
     write_block(device, kind, place, i, bytes)?;
     store(device, kind, entries, place.number, place.entry)

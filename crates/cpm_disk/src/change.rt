@@ -1,7 +1,7 @@
-//! Changes of the entries of files.
+//! Changes the directory entries of files.
 
 ghost use Rattle.std.specs.Prelude.{◌≡◌, length, map, OnErr, OnOk};
-ghost use Rattle.cpm_image.specs.Device.{HasCause};
+ghost use Rattle.cpm_image.specs.Device.{HasCountedFault};
 ghost use Rattle.cpm_image.specs.Kind.{entry_count, sector_count};
 ghost use Rattle.cpm_disk.specs.Image.{directory};
 ghost use Rattle.cpm_disk.specs.Calls.{Changed, PartlyChanged};
@@ -11,22 +11,22 @@ use crate::records::store;
 use cpm_directory::{Attribute, Entry, Name};
 use cpm_image::{DeviceFault, DiskKind, Sectors};
 
-/// What is done to entries.
+/// A change of directory entries.
 #[derive(Clone, Copy, Debug, PartialEq, Eq)]
 pub(crate) enum Change {
-    /// Those of a user that match a pattern are erased.
+    /// Erases the entries of a user that match a pattern.
     Erase {
         user: u8,
         pattern: [u8; 11],
     },
-    /// Those of a user that match a pattern are marked with an attribute, or cleared of it.
+    /// Sets or clears an attribute in the entries of a user that match a pattern.
     Mark {
         user: u8,
         pattern: [u8; 11],
         attribute: Attribute,
         on: bool,
     },
-    /// Those of a user's file are renamed.
+    /// Renames the entries of a file.
     Rename {
         user: u8,
         old: Name,
@@ -38,7 +38,7 @@ impl Change {
     ghost use Rattle.std.specs.Prelude.{◌≡◌, unwrap_or};
     ghost use Rattle.cpm_disk.specs.Private.Changes.{after};
 
-    /// The entry as it is to be, or `None` where the change does not speak of it.
+    /// The entry after the change, or `None` if the change is not about this entry.
     fn changed(&self, entry: &Entry) -> Option<Entry>
         ensures { unwrap_or result entry.now ≡ after self.now entry.now }
     {
@@ -68,7 +68,7 @@ impl Change {
     }
 }
 
-/// Changes the entries, one after the other, here and on the device.
+/// Changes the entries, one after the other, in `entries` and on the device.
 pub(crate) fn change_all<S: Sectors>(
     device: &mut S,
     kind: DiskKind,
@@ -82,7 +82,7 @@ pub(crate) fn change_all<S: Sectors>(
     ensures changed { OnOk result (Changed kind (S.sectors device.old) (S.sectors device.new) entries.new) }
     ensures stopped { OnErr result (PartlyChanged kind (S.sectors device.old) (S.sectors device.new) (map (after change.now) entries.old)) }
     ensures size { length entries.new ≡ entry_count kind }
-    ensures cause { HasCause (S.faults device.old) (S.faults device.new) result }
+    ensures cause { HasCountedFault (S.faults device.old) (S.faults device.new) result }
 {
     for number in 0..kind.entry_count() {
         let entry = entries[usize::from(number)];

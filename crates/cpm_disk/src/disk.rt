@@ -20,22 +20,22 @@ use cpm_operations::{creation, erasure, extent_near, marking, reading_at, renami
 use std::alloc::Global;
 use std::marker::Model;
 
-/// A mounted disk. An eight inch one has 64 entries, and blocks 2 to 242 for files; a Megabyte disk has 256 entries, and
+/// A mounted disk. An eight inch disk has 64 directory entries, and blocks 2 to 242 for files; a Megabyte disk has 256 entries, and
 /// blocks 4 to 511.
 ///
-/// Users are 0 to 31. A call that the device fails in answers [`DiskFault::Fault`]. Then each entry of the directory is as
-/// it was before the call or as the call was to leave it, so that the rules of a directory are kept; of records and blocks
-/// see `write_block_of`. Every call but `unmount` answers [`DiskFault::Failed`] from then on, until the disk is mounted
-/// again.
+/// Users are 0 to 31. If the device fails in a call, the call answers [`DiskFault::Fault`]. Then each directory entry is as it was before
+/// the call or as the call was to leave it, so the directory still keeps its rules; `write_block_of` says what the records and blocks
+/// are. From then on every call but `unmount` answers [`DiskFault::Failed`], until the disk is mounted again.
 #[derive(Drop)]
 pub struct Disk<S: Sectors> {
     device: S,
     kind: DiskKind,
     entries: Vec<Entry>,
     failed: bool,
-    /// The entry of the last record that was read or written, at which the next one's is looked for first. Nothing rests on it.
+    /// The number of the directory entry of the record that was last read or written. It is tried first for the next record; it only
+    /// saves time.
     near: u16,
-    /// The file that was written last, where no other call has changed the directory since.
+    /// The file that was written last, if no other call has changed the directory since. So it is not read-only.
     writable: Option<Writable>,
 }
 
@@ -59,16 +59,15 @@ impl<S: Sectors> Disk<S> {
     ghost use Rattle.cpm_disk.specs.Files.{HasRecord, HasSameRecords, IsEither, IsFile, IsMarkedFile, IsMatched, IsMoved, IsNewFile, IsNoFile, OthersAreSame, file_record};
     ghost use Rattle.cpm_disk.specs.Image.{directory};
     ghost use Rattle.cpm_disk.specs.Mounting.{IsListedBy, IsMountedFrom, RefusesMount};
-    ghost use Rattle.cpm_disk.specs.Operations.{IsCreated, IsErased, IsMarked, IsRead, IsRenamed, IsWritten};
+    ghost use Rattle.cpm_disk.specs.Operations.{IsCreated, IsErased, IsMarked, IsRecordRead, IsRenamed, IsRecordWritten};
 
-    /// Mounts a device of 2,002 sectors as an eight inch disk, one of 8,192 as a Megabyte disk.
+    /// Mounts a device of 2,002 sectors as an eight inch disk, and one of 8,192 as a Megabyte disk.
     ///
     /// # Errors
     ///
-    /// [`DiskFault::WrongSize`] where the device has neither size, before all else. [`DiskFault::Fault`] where the device
-    /// failed, [`DiskFault::NoMemory`]; else of the directory's entries in their order the first that breaks a rule, and the
-    /// first rule that it breaks: [`DiskFault::BadEntry`], [`DiskFault::BlockRange`], [`DiskFault::BlockTwice`],
-    /// [`DiskFault::NameTwice`]. The device comes back with the fault.
+    /// [`DiskFault::WrongSize`] if the device has neither size, before anything else. [`DiskFault::Fault`] if the device failed,
+    /// [`DiskFault::NoMemory`]. Otherwise the first rule that the first bad directory entry breaks: [`DiskFault::BadEntry`],
+    /// [`DiskFault::BlockRange`], [`DiskFault::BlockTwice`], [`DiskFault::NameTwice`]. The device comes back with the fault.
     pub fn mount(alloc: Global, mut device: S) -> Result<Disk<S>, (DiskFault, S)>
         ensures done { IsMountedFrom S.sectors S.faults device result }
         ensures refusals { IfErr result (λ back. RefusesMount back.0) }
@@ -92,7 +91,7 @@ impl<S: Sectors> Disk<S> {
         }
     }
 
-    /// Gives the device back, as it stands. It can be mounted again, also after a failure.
+    /// Gives the device back as the calls left it. It can be mounted again, even after a failure.
     pub fn unmount(self) -> S
         ensures device { result ≡ self.device }
         ensures count { length (S.sectors result) ≡ sector_count self.kind }
@@ -101,7 +100,7 @@ impl<S: Sectors> Disk<S> {
         self.device
     }
 
-    /// The kind of the disk, also after a failure.
+    /// The format of the disk, even after a failure.
     pub fn kind(&self) -> DiskKind
         ensures kind { result ≡ self.now.kind }
         ensures count { length (S.sectors self.now.device) ≡ sector_count self.now.kind }
@@ -109,8 +108,8 @@ impl<S: Sectors> Disk<S> {
         self.kind
     }
 
-    /// The number of the first entry from `from` on that is of the user and matches a pattern, its extent included.
-    /// `None` also after a failure.
+    /// The number of the first entry from `from` on that belongs to the user and matches a pattern, with its extent. `None` after a
+    /// failure.
     pub fn find(&self, user: u8, pattern: &Pattern, from: u16) -> Option<u16>
         ensures found { result ≡ (if self.now.failed then None else found_from user pattern.now from (directory self.now.kind (S.sectors self.now.device))) }
         ensures within { IfSome result (λ k. k < entry_count self.now.kind) }
@@ -122,8 +121,8 @@ impl<S: Sectors> Disk<S> {
         find(&self.entries, user, pattern, from)
     }
 
-    /// The number of the entry of a file's extent, by the extent's number: EX, and 32 times the low six bits of S2. There is
-    /// one such entry at the most. A `?` in the name stands for itself. `None` also after a failure.
+    /// The number of the entry of a file's extent. The number of the extent is EX plus 32 times the low six bits of S2. There is at most
+    /// one such entry. A `?` in the name only matches itself. `None` after a failure.
     pub fn find_extent(&self, user: u8, name: &Name, number: u16) -> Option<u16>
         ensures found { result ≡ (if self.now.failed then None else position (is_extent_of user name.now number) (directory self.now.kind (S.sectors self.now.device))) }
         ensures within { IfSome result (λ k. k < entry_count self.now.kind) }
@@ -135,7 +134,7 @@ impl<S: Sectors> Disk<S> {
         position_of(&self.entries, user, name, number)
     }
 
-    /// The 32 bytes of an entry. After a failure each is E5H.
+    /// The 32 bytes of an entry. After a failure they are all E5H.
     pub fn entry(&self, number: u16) -> [u8; 32]
         requires { number < entry_count self.now.kind }
         ensures bytes { result ≡ (if self.now.failed then replicate 32 0xE5 else bytes_of (at (directory self.now.kind (S.sectors self.now.device)) number)) }
@@ -147,8 +146,8 @@ impl<S: Sectors> Disk<S> {
         self.entries[usize::from(number)].to_bytes()
     }
 
-    /// The count of records up to the file's last, written or not: 4,096 at the most, 65,536 on a Megabyte disk. `None` where
-    /// there is no such file, and after a failure.
+    /// The number of records up to the file's last one, whether they were written or not: at most 4,096, or 65,536 on a Megabyte disk.
+    /// `None` if there is no such file, and after a failure.
     pub fn size(&self, user: u8, name: &Name) -> Option<u32>
         ensures size { result ≡ (if self.now.failed then None else size user name.now (directory self.now.kind (S.sectors self.now.device))) }
         ensures most { user < USERS → IfSome result (λ n. n ≤ file_records self.now.kind) }
@@ -160,8 +159,8 @@ impl<S: Sectors> Disk<S> {
         size(&self.entries, user, name)
     }
 
-    /// How many entries of the directory a file has, and how many blocks these hold. Both are 0 where there is no such file,
-    /// and after a failure.
+    /// The number of directory entries that a file has, and of blocks that these have. Both are 0 if there is no such file, and after a
+    /// failure.
     pub fn usage(&self, user: u8, name: &Name) -> Usage
         ensures usage { result ≡ (if self.now.failed then no_usage else usage_of self.now.kind user name.now (directory self.now.kind (S.sectors self.now.device))) }
         ensures sound { IsSound self.now.kind (directory self.now.kind (S.sectors self.now.device)) }
@@ -175,7 +174,7 @@ impl<S: Sectors> Disk<S> {
         usage_of(self.kind, &self.entries, user, name)
     }
 
-    /// How many entries of the directory are free, and how many blocks of files are in no entry. Both are 0 after a failure.
+    /// The number of free directory entries, and of blocks for files that are in no entry. Both are 0 after a failure.
     pub fn space(&self) -> Space
         ensures space { result ≡ (if self.now.failed then no_space else space_of self.now.kind (directory self.now.kind (S.sectors self.now.device))) }
         ensures sound { IsSound self.now.kind (directory self.now.kind (S.sectors self.now.device)) }
@@ -189,7 +188,7 @@ impl<S: Sectors> Disk<S> {
         space_of(self.kind, &self.entries)
     }
 
-    /// Makes a file without records, and answers the number of its entry, the lowest free one.
+    /// Creates a file without records, and answers the number of its directory entry, the lowest that was free.
     ///
     /// # Errors
     ///
@@ -206,7 +205,7 @@ impl<S: Sectors> Disk<S> {
         if self.failed {
             return Err(DiskFault::Failed);
         }
-        // A law: a file is found by a name whose bytes are below 80H.
+        // A law: the bytes of the name are below 80H, so the file is found by it.
         is_name(name);
         let (number, entry) = creation(&self.entries, user, name)?;
         self.writable = None;
@@ -229,8 +228,8 @@ impl<S: Sectors> Disk<S> {
     ///
     /// # Errors
     ///
-    /// In this order: [`DiskFault::Failed`], [`DiskFault::NotFound`], [`DiskFault::ReadOnly`] where one that matches is
-    /// read-only, [`DiskFault::Fault`].
+    /// In this order: [`DiskFault::Failed`], [`DiskFault::NotFound`], [`DiskFault::ReadOnly`] if a matching entry is read-only,
+    /// [`DiskFault::Fault`].
     pub fn erase(&mut self, user: u8, pattern: &Pattern) -> Result<u16, DiskFault>
         requires { user < USERS }
         ensures done { IsErased S.sectors S.faults self.old self.new user pattern.now.name result }
@@ -257,8 +256,8 @@ impl<S: Sectors> Disk<S> {
         }
     }
 
-    /// Marks the entries of a user that match a pattern with an attribute, or clears them of it, whatever their extents, and
-    /// answers how many they were. A read-only file is marked too, or it could never be cleared.
+    /// Sets or clears an attribute in the entries of a user that match a pattern, whatever their extents, and answers how many they were.
+    /// It does so for a read-only file too; otherwise that attribute could never be cleared.
     ///
     /// # Errors
     ///
@@ -281,7 +280,7 @@ impl<S: Sectors> Disk<S> {
             return Err(DiskFault::Failed);
         }
         let count = marking(&self.entries, user, &pattern.name)?;
-        // A law: the names of entries have the bytes of their type.
+        // A law: the names of entries have eleven bytes, so the bytes of the type are there.
         are_entries(&self.entries);
         self.writable = None;
         let change = Change::Mark {
@@ -316,7 +315,7 @@ impl<S: Sectors> Disk<S> {
         if self.failed {
             return Err(DiskFault::Failed);
         }
-        // A law: entries take a name of as many bytes as they have, each below 80H.
+        // A law: both names have eleven bytes, as the names of entries have, each below 80H.
         is_name(old);
         is_name(new);
         renaming(&self.entries, user, old, new)?;
@@ -335,7 +334,7 @@ impl<S: Sectors> Disk<S> {
         }
     }
 
-    /// The bytes of a file's record, counted from 0.
+    /// Reads a record of a file, counted from 0.
     ///
     /// # Errors
     ///
@@ -348,7 +347,7 @@ impl<S: Sectors> Disk<S> {
         number: u32,
     ) -> Result<[u8; 128], DiskFault>
         requires { user < USERS }
-        ensures done { IsRead S.sectors S.faults self.old self.new user name.now number result }
+        ensures done { IsRecordRead S.sectors S.faults self.old self.new user name.now number result }
         ensures refusals { IfErr result (FailsOr RefusesReading) }
         ensures found { IfOk result (λ bytes. file_record self.old.kind (S.sectors self.old.device) user name.now number ≡ Some bytes) }
         ensures sound { IsSound self.new.kind (directory self.new.kind (S.sectors self.new.device)) }
@@ -371,16 +370,15 @@ impl<S: Sectors> Disk<S> {
         }
     }
 
-    /// Writes a file's record, counted from 0. The other records of a block that is new are zeros.
+    /// Writes a record of a file, counted from 0. If its block is new, the other records in it become zeros.
     ///
-    /// Where the device fails on the way, the file's records that are there are those before the call or those after it,
-    /// whole.
+    /// If the device fails on the way, the records of the file are all as before the call, or all as after it; none is half written.
     ///
     /// # Errors
     ///
-    /// In this order: [`DiskFault::Failed`], [`DiskFault::NotFound`], [`DiskFault::ReadOnly`], [`DiskFault::TooFar`] above
-    /// 4,095 (65,535 on a Megabyte disk), [`DiskFault::DirectoryFull`] where it needs an extent, [`DiskFault::DiskFull`]
-    /// where it needs a block, [`DiskFault::Fault`].
+    /// In this order: [`DiskFault::Failed`], [`DiskFault::NotFound`], [`DiskFault::ReadOnly`], [`DiskFault::TooFar`] above 4,095 (65,535
+    /// on a Megabyte disk), [`DiskFault::DirectoryFull`] if the record needs a new extent, [`DiskFault::DiskFull`] if it needs a new
+    /// block, [`DiskFault::Fault`].
     pub fn write_block_of(
         &mut self,
         user: u8,
@@ -389,7 +387,7 @@ impl<S: Sectors> Disk<S> {
         bytes: &[u8; 128],
     ) -> Result<(), DiskFault>
         requires { user < USERS }
-        ensures done { IsWritten S.sectors S.faults self.old self.new user name.now number bytes.now result }
+        ensures done { IsRecordWritten S.sectors S.faults self.old self.new user name.now number bytes.now result }
         ensures refusals { IfErr result (FailsOr RefusesWriting) }
         ensures written { OnOk result (HasRecord self.old.kind (S.sectors self.old.device) (S.sectors self.new.device) user name.now number bytes.now) }
         ensures stopped { OnErr result (HasSameRecords self.old.kind (S.sectors self.old.device) (S.sectors self.new.device) user name.now
@@ -423,7 +421,7 @@ impl<S: Sectors> Disk<S> {
         }
     }
 
-    /// The files, by user and then by name.
+    /// Lists the files, by user and then by name.
     ///
     /// # Errors
     ///

@@ -1,4 +1,4 @@
-//! Faults of a device that need not be mounted.
+//! Finds the faults of a directory that cannot be mounted.
 
 ghost use Rattle.std.specs.Prelude.{◌≡◌};
 ghost use Rattle.cpm_disk.specs.Mounting.{AreFaultsOf};
@@ -8,13 +8,13 @@ use cpm_directory::{Broken, DiskFault, faults};
 use cpm_image::{DiskKind, Sectors};
 use std::alloc::Global;
 
-/// The entries of a device's directory that break a rule, in their order, each with the first rule that it breaks: none
-/// where the device can be mounted. The device's sectors stay as they are.
+/// The entries of a device's directory that break a rule, in their order, each with the first rule that it breaks. There are none if the
+/// device can be mounted. The sectors of the device stay as they are.
 ///
 /// # Errors
 ///
-/// [`DiskFault::WrongSize`] where the device has the size of no disk, before all else; [`DiskFault::Fault`] where it
-/// failed; [`DiskFault::NoMemory`].
+/// [`DiskFault::WrongSize`] if no disk has the size of the device, before anything else; [`DiskFault::Fault`] if the device failed;
+/// [`DiskFault::NoMemory`].
 pub fn faults_of<S: Sectors>(alloc: Global, device: &mut S) -> Result<Vec<Broken>, DiskFault>
     ensures done { AreFaultsOf (λ broken. broken.items) (S.sectors device.old) (S.faults device.old) (S.faults device.new) result }
     ensures kept { S.sectors device.new ≡ S.sectors device.old }

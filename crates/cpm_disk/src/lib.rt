@@ -1,4 +1,4 @@
-//! Disks of CP/M 2.2, of two kinds, as maps of files.
+//! Disks of CP/M 2.2 in two formats, as maps of files.
 #![tactic(auto)]
 
 mod block;

@@ -1,4 +1,4 @@
-//! Reading of a directory.
+//! Reads a directory.
 
 ghost use Rattle.std.specs.Prelude.{◌≡◌, IfErr, IfOk, OnOk, length};
 ghost use Rattle.cpm_image.specs.Kind.{sector_count};
@@ -11,7 +11,7 @@ use cpm_directory::{DiskFault, Entry};
 use cpm_image::{DiskKind, Sectors};
 use std::alloc::Global;
 
-/// Adds the entries of a record of the directory.
+/// Adds the four entries of a directory record.
 fn add_entries(entries: &mut Vec<Entry>, bytes: &[u8; 128]) -> Result<(), DiskFault>
     ensures added { OnOk result (Extended entries.old.items entries.new.items bytes.now 4) }
     ensures memory { IfErr result (λ fault. fault ≡ DiskFault.NoMemory) }
@@ -23,7 +23,7 @@ fn add_entries(entries: &mut Vec<Entry>, bytes: &[u8; 128]) -> Result<(), DiskFa
     Ok(())
 }
 
-/// The entries of a device's directory.
+/// Reads all directory entries of a device.
 pub(crate) fn read_entries<S: Sectors>(
     alloc: Global,
     device: &mut S,

@@ -1,11 +1,11 @@
-//! A file that is known not to be read-only.
+//! Remembers a file that is not read-only.
 
 ghost use Rattle.std.specs.Prelude.{◌≡◌};
 ghost use Rattle.cpm_disk.specs.Private.State.{is_known};
 
 use cpm_directory::Name;
 
-/// A file that is not read-only: whose it is, and its name.
+/// The user and the name of a file that is not read-only.
 #[derive(Clone, Copy)]
 pub(crate) struct Writable {
     pub user: u8,

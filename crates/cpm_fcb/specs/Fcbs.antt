@@ -5,7 +5,7 @@ use Rattle.std.specs.List.{list_any}
 use Rattle.cpm_fcb.specs.declared.stop.Stop.{Stop}
 use Rattle.cpm_fcb.specs.declared.stop.Stop.TheVariants as stop
 use Rattle.cpm_fcb.specs.Bytes.{bytes_at}
-use Rattle.cpm_fcb.specs.Stops.{and_then}
+use Rattle.cpm_fcb.specs.Stops.{unless_stopped}
 
 abbrev pub fcb_at : ℕ → List ℕ → List ℕ
 fcb_at address memory = bytes_at address 36 memory
@@ -17,7 +17,7 @@ drive_of fcb = slice_index fcb 0
 abbrev pub name_of : List ℕ → List ℕ
 name_of fcb = take 11 (drop 1 fcb)
 
--- the second name of a rename, bytes 17 to 27
+-- the second name of a rename, in bytes 17 to 27
 abbrev pub new_name_of : List ℕ → List ℕ
 new_name_of fcb = take 11 (drop 17 fcb)
 
@@ -40,7 +40,7 @@ overflow_of fcb = slice_index fcb 35
 abbrev pub question : ℕ
 question = 0x3F
 
--- Drives: 0 and 1 are A, 2 to 16 are not there, any other is no drive.
+-- Drives: 0 and 1 are A, 2 to 16 do not exist, and any other number is not a drive.
 abbrev pub drive_judged : List ℕ → Result ⊤ Stop
 drive_judged fcb =
     if nat_le (drive_of fcb) 1 then Ok tt
@@ -50,14 +50,14 @@ drive_judged fcb =
 abbrev pub has_question : List ℕ → Bool
 has_question name = list_any (λ b. b == question) name
 
--- `?` may not stand in the name of one file
+-- no `?` is allowed in the name of one file
 abbrev pub name_judged : List ℕ → Result ⊤ Stop
 name_judged name = if has_question name then Err stop.BadFcb else Ok tt
 
--- what stops a call of a file before the disk is asked: its drive, then its name
+-- what stops a call on a file before the disk is used: its drive, then its name
 abbrev pub file_judged : List ℕ → Result ⊤ Stop
-file_judged fcb = and_then (drive_judged fcb) (name_judged (name_of fcb))
+file_judged fcb = unless_stopped (drive_judged fcb) (name_judged (name_of fcb))
 
--- the same with the name that it is to have
+-- the same, and then the name that the file is to get
 abbrev pub names_judged : List ℕ → Result ⊤ Stop
-names_judged fcb = and_then (file_judged fcb) (name_judged (new_name_of fcb))
+names_judged fcb = unless_stopped (file_judged fcb) (name_judged (new_name_of fcb))

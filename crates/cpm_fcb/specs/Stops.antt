@@ -5,17 +5,17 @@ use Rattle.cpm_directory.specs.declared.fault.DiskFault.TheVariants as fault
 use Rattle.cpm_fcb.specs.declared.stop.Stop.{Stop}
 use Rattle.cpm_fcb.specs.declared.stop.Stop.TheVariants as stop
 
--- a refusal of the disk that a call has no answer for
+-- the stop for a fault of the disk for which a call has no answer
 abbrev pub stop_of : DiskFault → Stop
 stop_of fault.ReadOnly = stop.FileReadOnly
 stop_of fault.Fault = stop.DiskFault
 stop_of fault.Failed = stop.DiskFault
 stop_of _ = stop.BadFcb
 
--- the first of two stops, or else what comes of the second
-abbrev pub and_then : {A : Type 0} → Result ⊤ Stop → Result A Stop → Result A Stop
-and_then (Ok go) next = next
-and_then (Err why) next = Err why
+-- the first stop, if there is one, and otherwise the result of the second
+abbrev pub unless_stopped : {A : Type 0} → Result ⊤ Stop → Result A Stop → Result A Stop
+unless_stopped (Ok go) next = next
+unless_stopped (Err why) next = Err why
 
 -- the value that a call answers, and the memory that it leaves
 pub record Done : Type 0 where
@@ -25,12 +25,12 @@ pub record Done : Type 0 where
 abbrev pub done : ℕ → List ℕ → Result Done Stop
 done value memory = Ok (record { value = value; memory = memory })
 
--- A call ends as its row says. A stop leaves the memory as it was.
+-- A call ends as its row says. If it stops, the memory is as it was.
 abbrev pub Ends : Result Done Stop → List ℕ → List ℕ → Result ℕ Stop → Type 0
 Ends row before now (Ok value) = row ≡ done value now
 Ends row before now (Err why) = (row ≡ Err why) × (now ≡ before)
 
--- A call is stopped before the disk is asked, which leaves the disk and the memory; or what it asks decides.
+-- A call is stopped before the disk is used, and the disk and the memory are as they were; otherwise `asked` holds.
 abbrev pub Unless : {D : Type 0} → Result ⊤ Stop → D → D → List ℕ → List ℕ → Result ℕ Stop → Type 0 → Type 0
 Unless (Err why) old new before now result asked = (result ≡ Err why) × (new ≡ old) × (now ≡ before)
 Unless (Ok go) old new before now result asked = asked

@@ -1,11 +1,11 @@
-//! Bytes in a memory whose addresses go round: after FFFFH comes 0000H.
+//! Reads and writes bytes in a memory whose addresses wrap around: after FFFFH comes 0000H.
 
 ghost use Rattle.std.specs.Prelude.{◌≡◌, ◌≤◌, ◌+◌, length};
 ghost use Rattle.cpm_fcb.specs.Bytes.{bytes_at, with_bytes};
 
 use z80_cpu::Memory;
 
-/// The bytes from an address on.
+/// N bytes from an address on.
 pub fn bytes_at<const N: usize>(memory: &Memory, address: u16) -> [u8; N]
     requires { N ≤ 65536 }
     ensures { result ≡ bytes_at address N memory.now }
@@ -17,7 +17,7 @@ pub fn bytes_at<const N: usize>(memory: &Memory, address: u16) -> [u8; N]
     bytes
 }
 
-/// Puts bytes from an address on.
+/// Writes bytes from an address on.
 pub fn put_bytes(memory: &mut Memory, address: u16, bytes: &[u8])
     requires { length bytes.now ≤ 65536 }
     ensures { memory.new ≡ with_bytes address bytes.now memory.old }
@@ -29,7 +29,7 @@ pub fn put_bytes(memory: &mut Memory, address: u16, bytes: &[u8])
     }
 }
 
-/// Puts the bytes of a field, which begins so far above an address.
+/// Writes the bytes of a field that begins `offset` bytes after an address.
 pub fn put_field(memory: &mut Memory, address: u16, offset: u16, bytes: &[u8])
     requires { length bytes.now ≤ 65536 }
     ensures { memory.new ≡ with_bytes (address + offset) bytes.now memory.old }

@@ -1,4 +1,4 @@
-//! Entries of a directory in FCBs.
+//! Copies directory entries to file control blocks.
 
 ghost use Rattle.std.specs.Prelude.{◌≡◌, ◌<◌, ◌≤◌, IfSome};
 ghost use Rattle.cpm_image.specs.Kind.{entry_count};
@@ -9,7 +9,7 @@ use cpm_disk::Disk;
 use cpm_image::Sectors;
 use z80_cpu::Memory;
 
-/// Puts the bytes of an entry, where there is one, from the one with this offset on, to an FCB.
+/// Copies the bytes of a directory entry from this offset on to a file control block, if there is an entry.
 pub fn put_entry<S: Sectors>(
     disk: &Disk<S>,
     entry: Option<u16>,

@@ -8,14 +8,14 @@ use crate::stop::Stop;
 use std::marker::Model;
 use z80_cpu::Memory;
 
-/// The byte of a name, of a drive or of EX that stands for any, `?`.
+/// `?` as a byte of a name, as a drive or as EX matches any.
 pub const QUESTION: u8 = 0x3F;
 
-/// The last drive that a byte may name, from 1 for A.
+/// The number of the last drive, P; A is 1.
 const LAST_DRIVE: u8 = 16;
 
-/// A file control block as it stands in memory: drive, eleven bytes of name, EX, S1, S2, RC, sixteen bytes of blocks, CR, and
-/// R0 to R2. A contract sees the 36 bytes.
+/// A file control block: drive, eleven bytes of name, EX, S1, S2, RC, sixteen bytes of blocks, CR, and R0 to R2. In a contract it is the
+/// list of the 36 bytes.
 #[derive(Clone, Copy, Debug, PartialEq, Eq)]
 pub struct Fcb {
     bytes: [u8; 36],
@@ -35,7 +35,7 @@ impl Fcb {
     ghost use Rattle.std.specs.Prelude.{◌≡◌};
     ghost use Rattle.cpm_fcb.specs.Fcbs.{current_of, drive_judged, drive_of, extent_of, fcb_at, file_judged, name_of, names_judged, new_name_of, random_of, overflow_of, s2_of};
 
-    /// The 36 bytes from an address on.
+    /// The file control block at an address.
     pub fn at(memory: &Memory, address: u16) -> Fcb
         ensures { result ≡ fcb_at address memory.now }
     {
@@ -44,7 +44,7 @@ impl Fcb {
         }
     }
 
-    /// The drive: 0 for the current one, or from 1 on; `?` in a search for every entry.
+    /// The drive: 0 for the current one, 1 and up for A and the next; `?` in a search for every entry.
     pub fn drive(&self) -> u8
         ensures { result ≡ drive_of self.now }
     {
@@ -59,7 +59,7 @@ impl Fcb {
         name
     }
 
-    /// The second name, which a file is to have.
+    /// The second name of a rename, which the file gets.
     pub fn new_name(&self) -> [u8; 11]
         ensures { result ≡ new_name_of self.now }
     {
@@ -102,11 +102,11 @@ impl Fcb {
         self.bytes[35]
     }
 
-    /// Judges the drive.
+    /// Tests the drive.
     ///
     /// # Errors
     ///
-    /// [`Stop::UnknownDrive`] for drives 2 to 16, [`Stop::BadFcb`] for what is no drive.
+    /// [`Stop::UnknownDrive`] for drives 2 to 16, [`Stop::BadFcb`] for any other number that is not a drive.
     pub fn judge_drive(&self) -> Result<(), Stop>
         ensures { result ≡ drive_judged self.now }
     {
@@ -117,11 +117,11 @@ impl Fcb {
         }
     }
 
-    /// Judges the drive, and then the name of a file.
+    /// Tests the drive, and then the name of a file.
     ///
     /// # Errors
     ///
-    /// Those of `judge_drive`, then [`Stop::BadFcb`] where a `?` stands in the name.
+    /// Those of `judge_drive`, then [`Stop::BadFcb`] for a `?` in the name.
     pub fn judge_file(&self) -> Result<(), Stop>
         ensures { result ≡ file_judged self.now }
     {
@@ -129,11 +129,11 @@ impl Fcb {
         judge_name(&self.name())
     }
 
-    /// Judges the drive, the name of a file, and the name that it is to have.
+    /// Tests the drive, the name of a file, and the name that it is to get.
     ///
     /// # Errors
     ///
-    /// Those of `judge_file`, then [`Stop::BadFcb`] where a `?` stands in the second name.
+    /// Those of `judge_file`, then [`Stop::BadFcb`] for a `?` in the second name.
     pub fn judge_names(&self) -> Result<(), Stop>
         ensures { result ≡ names_judged self.now }
     {
@@ -142,7 +142,7 @@ impl Fcb {
     }
 }
 
-/// Judges a name.
+/// Tests a name, in which no `?` is allowed.
 fn judge_name(name: &[u8; 11]) -> Result<(), Stop>
     ensures { result ≡ name_judged name.now }
 {

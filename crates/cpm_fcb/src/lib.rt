@@ -1,4 +1,4 @@
-//! File control blocks of CP/M 2.2 in a memory whose addresses go round, and why a system call stops.
+//! File control blocks of CP/M 2.2 in a memory whose addresses wrap around, and the reasons why a system call stops a run.
 #![tactic(auto)]
 
 mod bytes;

@@ -1,4 +1,4 @@
-//! Why a call has no answer.
+//! Why a system call stops the run.
 
 ghost use Rattle.std.specs.Prelude.{◌≡◌};
 ghost use Rattle.cpm_fcb.specs.Stops.{stop_of};
@@ -6,7 +6,7 @@ ghost use Rattle.cpm_fcb.specs.Stops.{stop_of};
 use cpm_disk::DiskFault;
 use thiserror::Error;
 
-/// Why a system call, or one of the BIOS, has no answer.
+/// Why a call of the BDOS or the BIOS stops the run instead of answering.
 #[derive(Clone, Copy, Debug, PartialEq, Eq, Error)]
 pub enum Stop {
     #[error("there is no function {0}")]
@@ -27,7 +27,7 @@ pub enum Stop {
     UnsupportedBios(u8),
 }
 
-/// What a fault of the disk stops a call with, where the call has no answer for it.
+/// The stop for a fault of the disk for which a call has no answer.
 pub fn stop_of(fault: DiskFault) -> Stop
     ensures { result ≡ stop_of fault }
 {

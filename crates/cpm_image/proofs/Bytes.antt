@@ -1,4 +1,4 @@
--- Bytes cut into sectors, and filled up.
+-- Bytes divided into sectors, and padded.
 use Rattle.std.proofs.Common.{◌≡◌, ℕ, zero, suc, ◌+◌, ◌-◌, ◌*◌, ◌≤◌, List, ◌++◌, All, length, take, drop, replicate, Ok, refl, ap, sym, ◌∙◌, arith, length-append, length-take, length-drop}
 use Rattle.std.specs.List.{concat}
 use Rattle.std.specs.Simd.{first_chunks}
@@ -48,7 +48,7 @@ filled kind n bytes image e h is =
     let whole = All-append IsWhole (first_chunks 128 n bytes) (replicate (sector_count kind - n) blank) (whole-chunks n bytes e) (All-replicate IsWhole (sector_count kind - n) blank (length-replicate {A = ℕ} 128 0xE5)) in
     ((omega arith, omega arith), count, rw is whole, ap concat is ∙ joined)
 
--- sectors that are given, and filled up
+-- the given sectors, followed by blank ones
 pub filled_up : (kind : DiskKind) (count n : ℕ) (bytes : List ℕ) (given image : List (List ℕ)) → count ≡ sector_count kind → length bytes ≡ 128 * n → n ≤ count → given ≡ first_chunks 128 n bytes → image ≡ given ++ replicate (count - length given) blank → IsImageOfKind kind bytes (Ok image)
 filled_up kind count n bytes given image sectors e h chunks is =
     let size : length given ≡ n = ap length chunks ∙ length-chunks n bytes in

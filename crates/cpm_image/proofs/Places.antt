@@ -1,4 +1,4 @@
--- The translate table, computed at each of its 26 places.
+-- The translate table, computed for each of its 26 records.
 use Rattle.std.proofs.Common.{◌≡◌, ℕ, ◌+◌, ◌-◌, ◌*◌, ◌/◌, ◌%◌, ◌<◌, ◌==◌, Option, Some, refl, ap, sym, ◌∙◌, arith, map, get_or, slice_index, position}
 use Rattle.std.specs.List.{range_with_len}
 use Rattle.std.proofs.lemmas.List.FromFn.{get_or-map-range_with_len}
@@ -14,14 +14,14 @@ agree_below f g n e b h =
     ∙ ap (λ xs. get_or xs b (f 0)) e
     ∙ get_or-map-range_with_len g 0 n b b (f 0) h (omega arith)
 
--- the sector's place on its track, from 0
+-- the number of a record's sector on its track, from 0
 abbrev place : ℕ → ℕ
 place k = slice_index translate k - 1
 
 pub steps_of_six : (k : ℕ) → k < 26 → 6 * k % 26 + k / 13 ≡ place k
 steps_of_six = agree_below (λ k. 6 * k % 26 + k / 13) place 26 refl
 
--- a place stands in the table once
+-- each sector number is in the table once
 stands_once : (k : ℕ) → k < 26 → position (λ t. t - 1 == place k) translate ≡ Some k
 stands_once = agree_below (λ k. position (λ t. t - 1 == place k) translate) Some 26 refl
 

@@ -7,19 +7,19 @@ use Rattle.cpm_image.specs.declared.fault.ImageFault.TheVariants.{NotSectors, To
 use Rattle.cpm_image.specs.declared.kind.DiskKind.{DiskKind}
 use Rattle.cpm_image.specs.declared.kind.DiskKind.TheVariants.{EightInch, Megabyte}
 
--- the bytes of an image of a kind
+-- the number of bytes in an image of a format
 abbrev pub byte_count : DiskKind → ℕ
 byte_count kind = 128 * sector_count kind
 
--- Exactly 1,048,576 bytes are a Megabyte disk; of any other length they are an eight inch one, or none.
+-- Exactly 1,048,576 bytes can only be a Megabyte disk, any other number only an eight inch one.
 abbrev pub kind_of_bytes : List ℕ → DiskKind
 kind_of_bytes bytes = if length bytes == byte_count Megabyte then Megabyte else EightInch
 
--- whole sectors, and no more than a disk of the kind has
+-- the bytes are whole sectors, and not more than a disk of the format has
 abbrev pub AreBytesOfImage : DiskKind → List ℕ → Type 0
 AreBytesOfImage kind bytes = (length bytes % 128 ≡ 0) × (length bytes ≤ byte_count kind)
 
--- The sectors that bytes hold, filled up with E5H, or the first reason why there are none. Want of memory comes last.
+-- The sectors that bytes are, padded with E5H, or the first reason why they are not an image. That memory ran out comes last.
 abbrev pub IsImageOfKind : DiskKind → List ℕ → Result (List (List ℕ)) ImageFault → Type 0
 IsImageOfKind kind bytes (Ok image) = AreBytesOfImage kind bytes
     × (length image ≡ sector_count kind)
@@ -32,6 +32,6 @@ IsImageOfKind kind bytes (Err NoMemory) = AreBytesOfImage kind bytes
 abbrev pub IsImageOf : List ℕ → Result (List (List ℕ)) ImageFault → Type 0
 IsImageOf bytes result = IsImageOfKind (kind_of_bytes bytes) bytes result
 
--- an image that was never written
+-- the image of an empty disk
 abbrev pub blank_image : DiskKind → List (List ℕ)
 blank_image kind = replicate (sector_count kind) (replicate 128 0xE5)

@@ -1,19 +1,19 @@
-//! Devices that fail, to see what they leave.
+//! Devices that fail, for tests of what a failure leaves.
 
 use crate::device::{DeviceFault, Sectors};
 use crate::memory::MemoryImage;
 use std::marker::Model;
 
-/// What a write that fails leaves of its sector.
+/// What a failed write leaves in its sector.
 #[derive(Clone, Copy, Debug, PartialEq, Eq)]
 pub enum FailedWrite {
-    /// The sector is as before.
+    /// The sector is as it was.
     Old,
     /// The sector is as written.
     New,
 }
 
-/// An image in memory of which calls to read or write fail: one alone, or one and all after it.
+/// An image in memory with a call to read or write that fails: only that call, or all calls after it too.
 #[derive(Debug, Drop)]
 pub struct Failing {
     image: MemoryImage,
@@ -35,7 +35,7 @@ impl Failing {
     ghost use Rattle.std.specs.Prelude.{◌≡◌, ◌<◌, Some, false, length, true};
     ghost use Rattle.cpm_image.specs.Failing.{after_call, is_due, left_of};
 
-    /// A device whose call of a number, counted from 0, fails, and none after it.
+    /// A device on which call number `call`, counted from 0, fails, and no call after it.
     pub fn once(image: MemoryImage, call: u32, leaves: FailedWrite) -> Failing
         ensures { result ≡ record { image = image; left = Some call; lasts = false; leaves = leaves; faults = 0 } }
     {
@@ -48,7 +48,7 @@ impl Failing {
         }
     }
 
-    /// A device whose call of a number, counted from 0, fails, and all after it.
+    /// A device on which call number `call`, counted from 0, fails, and all calls after it.
     pub fn lasting(image: MemoryImage, call: u32, leaves: FailedWrite) -> Failing
         ensures { result ≡ record { image = image; left = Some call; lasts = true; leaves = leaves; faults = 0 } }
     {
@@ -61,14 +61,14 @@ impl Failing {
         }
     }
 
-    /// The image, as the calls left it.
+    /// The image as the calls have left it.
     pub fn into_image(self) -> MemoryImage
         ensures { result ≡ self.image }
     {
         self.image
     }
 
-    /// Counts a call. Whether it fails.
+    /// Counts a call, and answers whether it fails.
     fn fails(&mut self) -> bool
         ensures due { result ≡ is_due self.old.left }
         ensures left { self.new.left ≡ after_call self.old.lasts self.old.left }
@@ -95,7 +95,7 @@ impl Failing {
 
 impl Sectors for Failing {
     ghost use Rattle.std.specs.Prelude.{◌≡◌, ◌<◌, [], OnErr, OnOk, is_err, length, slice_index_or, slice_set};
-    ghost use Rattle.cpm_image.specs.Device.{HasCause};
+    ghost use Rattle.cpm_image.specs.Device.{HasCountedFault};
     ghost use Rattle.cpm_image.specs.Failing.{after_call, is_due, left_of};
 
     ghost sectors = { λ device. device.image };
@@ -116,7 +116,7 @@ impl Sectors for Failing {
         ensures leaves { self.new.leaves ≡ self.old.leaves }
         ensures read { OnOk result (bytes.new ≡ slice_index_or self.old.image n []) }
         ensures kept { self.new.image ≡ self.old.image }
-        ensures cause { HasCause self.old.faults self.new.faults result }
+        ensures cause { HasCountedFault self.old.faults self.new.faults result }
     {
         if self.fails() {
             self.faults = self.faults.saturating_add(1);
@@ -133,7 +133,7 @@ impl Sectors for Failing {
         ensures leaves { self.new.leaves ≡ self.old.leaves }
         ensures written { OnOk result (self.new.image ≡ slice_set self.old.image n bytes.now) }
         ensures stopped { OnErr result (self.new.image ≡ left_of self.old.leaves self.old.image n bytes.now) }
-        ensures cause { HasCause self.old.faults self.new.faults result }
+        ensures cause { HasCountedFault self.old.faults self.new.faults result }
     {
         if self.fails() {
             self.faults = self.faults.saturating_add(1);

@@ -1,4 +1,4 @@
-//! Why bytes are no image.
+//! Why bytes are not an image.
 
 ghost use Rattle.std.specs.Prelude.{◌≡◌};
 ghost use Rattle.cpm_image.specs.declared.fault.ImageFault.TheVariants.{NoMemory};
@@ -6,16 +6,16 @@ ghost use Rattle.cpm_image.specs.declared.fault.ImageFault.TheVariants.{NoMemory
 use std::alloc::{AllocError, AllocFailed};
 use thiserror::Error;
 
-/// Why bytes are no image of a disk.
+/// Why bytes are not the image of a disk.
 #[derive(Clone, Copy, Debug, PartialEq, Eq, Error)]
 pub enum ImageFault {
-    /// The bytes are no whole number of sectors.
+    /// The number of bytes is not a multiple of 128.
     #[error("the image is not a whole number of 128-byte sectors")]
     NotSectors,
-    /// More than 256,256 bytes, and not 1,048,576.
+    /// There are more than 256,256 bytes, but not exactly 1,048,576.
     #[error("the image is longer than 256256 bytes, and is not of 1048576")]
     TooLong,
-    /// A growth was refused.
+    /// Memory ran out.
     #[error("out of memory")]
     NoMemory,
 }

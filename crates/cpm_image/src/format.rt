@@ -1,7 +1,7 @@
-//! The numbers of the format: eight inch, single density.
+//! The sizes of the eight inch format, single density.
 
-/// How many sectors an eight inch disk has: 77 tracks of 26. An image is 256,256 bytes.
+/// The number of sectors on an eight inch disk: 77 tracks of 26. An image has 256,256 bytes.
 pub const SECTOR_COUNT: u32 = 2_002;
 
-/// How many logical records an eight inch disk has: 243 blocks of eight. They leave the last six sectors unused.
+/// The number of logical records on an eight inch disk: 243 blocks of eight. The last six sectors are unused.
 pub const RECORD_COUNT: u32 = 1_944;

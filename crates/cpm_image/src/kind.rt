@@ -1,13 +1,13 @@
-//! The kinds of disk.
+//! The formats of a disk.
 
 use crate::format::{RECORD_COUNT, SECTOR_COUNT};
 
-/// A kind of disk, which says how much of everything there is.
+/// The format of a disk. It gives all sizes.
 #[derive(Clone, Copy, Debug, PartialEq, Eq)]
 pub enum DiskKind {
-    /// Eight inch, single density: 77 tracks of 26 sectors, the first two of the system.
+    /// Eight inch, single density: 77 tracks of 26 sectors, and the first two tracks are the system's.
     EightInch,
-    /// 1,048,576 bytes: no tracks of the system, and the records follow each other in the image.
+    /// 1,048,576 bytes: there are no system tracks, and the records are in their order in the image.
     Megabyte,
 }
 
@@ -15,7 +15,7 @@ impl DiskKind {
     ghost use Rattle.std.specs.Prelude.{◌≡◌, MatchOption};
     ghost use Rattle.cpm_image.specs.Kind.{IsDiskSize, block_count, block_records, directory_records, entry_blocks, entry_count, file_records, first_block, last_high, record_count, sector_count};
 
-    /// The kind of a disk of so many sectors.
+    /// The format of a disk with this number of sectors.
     pub fn of_size(sectors: u32) -> Option<DiskKind>
         ensures { MatchOption result (¬ IsDiskSize sectors) (λ kind. sectors ≡ sector_count kind) }
     {
@@ -28,7 +28,7 @@ impl DiskKind {
         }
     }
 
-    /// Sectors of an image.
+    /// The number of sectors in an image.
     pub fn sector_count(self) -> u32
         ensures { result ≡ sector_count self }
     {
@@ -38,7 +38,7 @@ impl DiskKind {
         }
     }
 
-    /// Records of a block.
+    /// The number of records in a block.
     pub fn block_records(self) -> u8
         ensures { result ≡ block_records self }
     {
@@ -48,7 +48,7 @@ impl DiskKind {
         }
     }
 
-    /// Blocks, numbered from 0.
+    /// The number of blocks; they are numbered from 0.
     pub fn block_count(self) -> u16
         ensures { result ≡ block_count self }
     {
@@ -58,7 +58,7 @@ impl DiskKind {
         }
     }
 
-    /// Logical records: those of the blocks. They leave the last six sectors of an eight inch disk unused.
+    /// The number of logical records, which are those of the blocks. On an eight inch disk the last six sectors are unused.
     pub fn record_count(self) -> u32
         ensures { result ≡ record_count self }
     {
@@ -68,7 +68,7 @@ impl DiskKind {
         }
     }
 
-    /// The first block of files. Those before it are the directory.
+    /// The first block that a file can have. Those before it are the directory.
     pub fn first_block(self) -> u16
         ensures { result ≡ first_block self }
     {
@@ -78,7 +78,7 @@ impl DiskKind {
         }
     }
 
-    /// Logical records of the directory, each of four entries.
+    /// The number of logical records in the directory, four entries each.
     pub fn directory_records(self) -> u32
         ensures { result ≡ directory_records self }
     {
@@ -88,7 +88,7 @@ impl DiskKind {
         }
     }
 
-    /// Entries of the directory.
+    /// The number of entries in the directory.
     pub fn entry_count(self) -> u16
         ensures { result ≡ entry_count self }
     {
@@ -98,7 +98,7 @@ impl DiskKind {
         }
     }
 
-    /// Block numbers of an entry, one for each block of an extent's 128 records.
+    /// The number of block numbers in an entry, one for each block of an extent's 128 records.
     pub fn entry_blocks(self) -> u8
         ensures { result ≡ entry_blocks self }
     {
@@ -118,7 +118,7 @@ impl DiskKind {
         }
     }
 
-    /// Records that a file may have, 4,096 for each value of S2.
+    /// The most records that a file can have: 4,096 for each value of S2.
     pub fn file_records(self) -> u32
         ensures { result ≡ file_records self }
     {

@@ -1,5 +1,4 @@
-//! Images of CP/M 2.2 disks, of two kinds: devices of 128-byte sectors, an image in memory, and where the logical
-//! records of a disk lie in its image.
+//! Images of CP/M 2.2 disks in two formats: devices of 128-byte sectors, an image in memory, and the sector of each logical record.
 #![tactic(auto)]
 
 mod device;

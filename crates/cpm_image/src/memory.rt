@@ -9,13 +9,13 @@ use crate::kind::DiskKind;
 use std::alloc::{AllocError, Global};
 use std::marker::Model;
 
-/// What a sector holds that was never written.
+/// A sector that was never written.
 const BLANK_SECTOR: [u8; 128] = [0xE5; 128];
 
-/// The bytes of a Megabyte disk.
+/// The number of bytes of a Megabyte disk.
 const MEGABYTE: usize = 1_048_576;
 
-/// The kind of disk whose image bytes may be.
+/// The format of a disk whose image has this many bytes.
 fn kind_of_bytes(bytes: &[u8]) -> DiskKind
     ensures { result ≡ kind_of_bytes bytes.now }
 {
@@ -26,7 +26,7 @@ fn kind_of_bytes(bytes: &[u8]) -> DiskKind
     }
 }
 
-/// Sectors, and blank ones behind them up to a count.
+/// These sectors, followed by blank ones up to `count`.
 fn filled_up(alloc: Global, given: &[[u8; 128]], count: usize) -> Result<Vec<[u8; 128]>, AllocError>
     requires { length given.now ≤ «count» }
     ensures { IfOk result (λ sectors. sectors.items ≡ given.now ++ replicate («count» - length given.now) (replicate 128 0xE5)) }
@@ -37,7 +37,7 @@ fn filled_up(alloc: Global, given: &[[u8; 128]], count: usize) -> Result<Vec<[u8
     Ok(sectors)
 }
 
-/// The image of a disk: 2,002 sectors of 128 bytes, or 8,192 of a Megabyte disk. A contract sees their list.
+/// The image of a disk: 2,002 sectors of 128 bytes, or 8,192 on a Megabyte disk. In a contract it is the list of them.
 #[derive(Debug, Drop)]
 pub struct MemoryImage {
     sectors: Vec<[u8; 128]>,
@@ -59,13 +59,13 @@ impl MemoryImage {
     ghost use Rattle.cpm_image.specs.Image.{IsImageOf, blank_image};
     ghost use Rattle.cpm_image.specs.declared.fault.ImageFault.TheVariants.{NoMemory};
 
-    /// The image that bytes hold, sector after sector: of a Megabyte disk where they are exactly 1,048,576, else of an
-    /// eight inch one. A shorter one is filled up with E5H, so that no bytes at all are a blank disk.
+    /// The image that these bytes are, sector after sector. Exactly 1,048,576 bytes are a Megabyte disk, any other number an eight inch
+    /// one. A shorter image is padded with E5H, so no bytes at all are an empty disk.
     ///
     /// # Errors
     ///
-    /// In this order: [`ImageFault::NotSectors`] where the bytes are no whole sectors, [`ImageFault::TooLong`] where they
-    /// are more than 256,256 and not 1,048,576, [`ImageFault::NoMemory`].
+    /// In this order: [`ImageFault::NotSectors`] if the bytes are not whole sectors, [`ImageFault::TooLong`] if they are more than
+    /// 256,256 and not 1,048,576, [`ImageFault::NoMemory`].
     pub fn from_bytes(alloc: Global, bytes: &[u8]) -> Result<MemoryImage, ImageFault>
         ensures { IsImageOf bytes.now result }
     {
@@ -81,7 +81,7 @@ impl MemoryImage {
         Ok(MemoryImage { sectors })
     }
 
-    /// The image of a disk that was never written: every byte is E5H.
+    /// The image of an empty disk: every byte is E5H.
     ///
     /// # Errors
     ///
@@ -94,7 +94,7 @@ impl MemoryImage {
         Ok(MemoryImage { sectors })
     }
 
-    /// The sectors, in the order of the image's bytes.
+    /// The sectors, in the order of the bytes of the image.
     pub fn sectors(&self) -> &[[u8; 128]]
         ensures { result.now ≡ self.now }
     {

@@ -1,4 +1,4 @@
-//! Where the logical records of a disk lie.
+//! The sector of each logical record of a disk.
 
 ghost use Rattle.std.specs.Prelude.{◌≡◌, ◌<◌, ◌≤◌, ℕ};
 ghost use Rattle.cpm_image.specs.declared.format.TheConstants.{RECORD_COUNT, SECTOR_COUNT};
@@ -7,17 +7,17 @@ ghost use Rattle.cpm_image.specs.Skew.{sector, sector_of};
 
 use crate::kind::DiskKind;
 
-/// Sectors of a track.
+/// The number of sectors on a track.
 const TRACK: u32 = 26;
-/// The tracks before the records are the system's.
+/// The number of system tracks, which come before the records.
 const SYSTEM_TRACKS: u32 = 2;
-/// How far apart consecutive records lie on a track, in sectors.
+/// The distance between consecutive records on a track, in sectors.
 const STEP: u32 = 6;
 
-/// The sector of the image, counted from 0, that holds a logical record of an eight inch single density disk.
+/// The sector of the image, counted from 0, with this logical record of an eight inch single density disk.
 ///
-/// The first two tracks are the system's. On each further track consecutive records lie six sectors apart, round and
-/// round, as the standard's translate table has it, so that a computer has time between one and the next.
+/// The first two tracks are the system's. On each other track consecutive records are six sectors apart, round and round, as in the
+/// standard translate table, so that a computer has time between two records.
 pub fn logical(number: u32) -> u32
     requires { number < RECORD_COUNT }
     ensures sector { result ≡ sector number }
@@ -26,13 +26,13 @@ pub fn logical(number: u32) -> u32
     ensures distinct { (m : ℕ) → m < RECORD_COUNT → sector m ≡ sector number → m ≡ number }
 {
     let turn = number % TRACK;
-    // Six and 26 are even: after 13 steps of six the records are back where they began, and the other 13 records of the
-    // track lie one sector further on.
+    // Six and 26 are even: after 13 steps of six the records are back where they began, and the other 13 records of the track are one
+    // sector further on.
     let place = STEP * turn % TRACK + turn / (TRACK / 2);
     TRACK * (SYSTEM_TRACKS + number / TRACK) + place
 }
 
-/// The sector of the image, counted from 0, that holds a logical record of a disk of a kind.
+/// The sector of the image, counted from 0, with this logical record of a disk of either format.
 pub fn logical_of(kind: DiskKind, number: u32) -> u32
     requires { number < record_count kind }
     ensures sector { result ≡ sector_of kind number }

@@ -10,7 +10,7 @@ low_bits : (on : Bool) (x : ℕ) → with_high on x % 128 ≡ x % 128
 low_bits true x = omega arith
 low_bits false x = omega arith
 
--- names compare without them
+-- names are compared without them
 letters_set : (name : List ℕ) (i : ℕ) (on : Bool) → letters (set name i (with_high on (get_or name i 0))) ≡ letters name
 letters_set [] i on = refl
 letters_set (x ∷ name) zero on = ap (λ b. b ∷ letters name) (low_bits on x)

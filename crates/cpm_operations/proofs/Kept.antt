@@ -1,4 +1,4 @@
--- Each step keeps the rules of a directory, also where a failing device stops it.
+-- Each operation keeps the rules of a directory, even if a failing device stops it.
 use Rattle.std.proofs.Common.{◌≡◌, ◌≢◌, ◌⊎◌, ◌<◌, ◌*◌, ◌%◌, ℕ, Bool, true, false, List, [], length, refl, sym, ap, subst, ◌∙◌, inl, inr, arith, slice_set, get_or-set_same, get_or-set_other, Some, true≢false, if◌then◌else◌}
 use Rattle.std.proofs.lemmas.Bool.{cases_Bool, cases_eq}
 use Rattle.std.proofs.lemmas.List.Quantifiers.{position-Some}
@@ -20,7 +20,7 @@ use Rattle.cpm_operations.proofs.Entries.{at_map, blank_is_not_of, is_of_file, l
 use Rattle.cpm_operations.proofs.HighBits.{letters_marked}
 use Rattle.cpm_operations.proofs.Sound.{FitsAt, Stands, fewer, one_more}
 
--- what a failing device leaves of one put entry
+-- what a failing device leaves if one entry was to be written
 pub put : (before mixed : List Entry) (number : ℕ) (e : Entry) → number < length before → IsBetween before (slice_set before number e) mixed → (k : ℕ) → Stands before number e mixed k
 put before mixed number e below between k = elim (between k) as (λ _. Stands before number e mixed k) [
   | inl same ↦ inl same
@@ -33,7 +33,7 @@ put before mixed number e below between k = elim (between k) as (λ _. Stands be
 pub keeps_by_one : (kind : DiskKind) (before : List Entry) (number : ℕ) (e : Entry) → IsSound kind before → number < length before → FitsAt kind before number e → StaysSound kind before (slice_set before number e)
 keeps_by_one kind before number e sound below fits mixed between = one_more kind before mixed number e sound fits (put before mixed number e below between)
 
--- a file may have a record
+-- a file can have a record 0
 some_records : (kind : DiskKind) → 128 * 0 < file_records kind
 some_records EightInch = omega arith
 some_records Megabyte = omega arith
@@ -78,7 +78,7 @@ erasure_keeps kind user pattern entries low sound mixed between = fewer kind ent
 pub at_renaming : (user : ℕ) (old new : List ℕ) (entries : List Entry) (k : ℕ) → user < USERS → at (after_renaming user old new entries) k ≡ renamed_by user old new (at entries k)
 at_renaming user old new entries k low = at_map (renamed_by user old new) entries k (rw (blank_is_not_of user old low) refl)
 
--- what a failing device leaves of a file's entries
+-- what a failing device leaves of a file's entry: it is as it was, or renamed
 abbrev IsRenamed : ℕ → List ℕ → List ℕ → Entry → Entry → Type 0
 IsRenamed user old new e m = (m ≡ e) ⊎ ((is_of user old e ≡ true) × (m ≡ renamed new e))
 
@@ -92,7 +92,7 @@ renamed_at user old new entries mixed low between k = elim (between k) as (λ _.
       ])
 ]
 
--- all of an entry but its name
+-- an entry without its name
 abbrev pub nameless : Entry → Entry
 nameless e = record e { name = [] }
 
@@ -122,7 +122,7 @@ renaming_keeps kind user old new entries low same_length seven sound new_file mi
     was : (k : ℕ) → is_extent (at mixed k) ≡ true → is_extent (at entries k) ≡ true
     was k ext = subst (λ x. is_extent x ≡ true) (rest k) ext
 
-    -- an entry as before does not have the new name
+    -- an entry that is as it was does not have the new name
     no_clash : (j k : ℕ) → at mixed j ≡ at entries j → is_of user old (at entries k) ≡ true → at mixed k ≡ renamed new (at entries k) → (at mixed j).user ≡ (at mixed k).user → letters (at mixed j).name ≡ letters (at mixed k).name → ⊥
     no_clash j k kept of changed same_user same_name =
         let user_is : (at entries j).user ≡ user = ap (λ x. x.user) (sym kept) ∙ same_user ∙ ap (λ x. x.user) (rest k) ∙ (of_file user old (at entries k) of).0 in
@@ -147,7 +147,7 @@ renaming_keeps kind user old new entries low same_length seven sound new_file mi
 pub at_marking : (user : ℕ) (pattern : List ℕ) (attribute : Attribute) (on : Bool) (entries : List Entry) (k : ℕ) → user < USERS → at (after_marking user pattern attribute on entries) k ≡ marked_by user pattern attribute on (at entries k)
 at_marking user pattern attribute on entries k low = at_map (marked_by user pattern attribute on) entries k (rw (blank_is_no_match user pattern low) refl)
 
--- all of an entry but the high bits of its name
+-- two entries that differ at most in the high bits of their names
 pub record IsSameButHigh (e m : Entry) : Type 0 where
   pub rest : nameless m ≡ nameless e
   pub name : letters m.name ≡ letters e.name

@@ -1,4 +1,5 @@
--- What is known of one entry decides where a record is read and written: an extent of a file has one entry.
+-- If one entry of a file's extent is known, it decides where a record is read and written, because an extent of a file has only one
+-- entry.
 use Rattle.std.proofs.Common.{[], get_or, IfSome, Option, None, ◌≡◌, ◌⊎◌, ◌<◌, ◌/◌, ◌%◌, ℕ, true, false, List, length, Some, find, position, refl, sym, ap, ◌∙◌, arith, nat_lt, nat_eq, inl, inr, lt-ltb, eqb-true, slice_get}
 use Rattle.std.proofs.lemmas.Bool.{and_parts, cases_Bool}
 use Rattle.std.proofs.lemmas.Option.{slice_get-get_or}
@@ -18,7 +19,7 @@ use Rattle.cpm_operations.specs.Near.{IsExtentAt}
 use Rattle.cpm_operations.specs.Steps.{placing_in, reading, writing, written_place}
 use Rattle.cpm_operations.proofs.Entries.{below_extent, of_file}
 
--- what the test of an extent of a file says
+-- what it means that an entry is an extent of a file
 parts : (user : ℕ) (name : List ℕ) (number : ℕ) (e : Entry) → is_extent_of user name number e ≡ true → (is_of user name e ≡ true) × (extent_number e ≡ number)
 parts user name number e is = let two = and_parts (is_of user name e) (nat_eq (extent_number e) number) is in (two.0, eqb-true (extent_number e) number two.1)
 
@@ -54,11 +55,11 @@ extent_found kind user name number entries k low sound known =
 pub file_there : (kind : DiskKind) (user : ℕ) (name : List ℕ) (number : ℕ) (entries : List Entry) (k : ℕ) → IsExtentAt kind user name number entries k → is_file user name entries ≡ true
 file_there kind user name number entries k known = list_any_at (is_of user name) entries k blank known.within (parts user name (number / 128) (at entries k) known.of_extent).0
 
--- what the code reads past the end
+-- what the code would read after the end of the list
 abbrev pub past : Entry
 past = record { user = 0; name = []; extent = 0; s1 = 0; s2 = 0; records = 0; blocks = [] }
 
--- a record is read by the entry alone
+-- only this entry decides where a record is read
 pub read_at : (kind : DiskKind) (user : ℕ) (name : List ℕ) (number : ℕ) (entries : List Entry) (k : ℕ) → user < USERS → IsSound kind entries → IsExtentAt kind user name number entries k → written_place kind (number % 128) (get_or entries k past) ≡ reading kind user name number entries
 read_at kind user name number entries k low sound known =
     let there = file_there kind user name number entries k known in
@@ -66,7 +67,7 @@ read_at kind user name number entries k low sound known =
     let found = extent_found kind user name number entries k low sound known in
     ap (written_place kind (number % 128)) (get_or_default entries k past blank known.within) ∙ rw (there, near, found) refl
 
--- and written
+-- and where it is written
 pub write_at : (kind : DiskKind) (user : ℕ) (name : List ℕ) (number : ℕ) (entries : List Entry) (k : ℕ) → user < USERS → IsSound kind entries → IsExtentAt kind user name number entries k → file_is_read_only user name entries ≡ false
     → placing_in kind k (get_or entries k past) (number % 128) entries ≡ writing kind user name number entries
 write_at kind user name number entries k low sound known free =
@@ -75,7 +76,7 @@ write_at kind user name number entries k low sound known free =
     let found = extent_position kind user name number entries k low sound known in
     ap (λ e. placing_in kind k e (number % 128) entries) (get_or_default entries k past blank known.within) ∙ rw (there, free, near, found) refl
 
--- what a search for an extent finds is its entry
+-- a search for an extent finds its entry
 pub found_extent : (kind : DiskKind) (user : ℕ) (name : List ℕ) (number : ℕ) (entries : List Entry) (r : Option ℕ) → number < file_records kind → r ≡ position (is_extent_of user name (number / 128)) entries → IfSome r (IsExtentAt kind user name number entries)
 found_extent kind user name number entries None near is = tt
 found_extent kind user name number entries (Some k) near is = let here = position-Some (is_extent_of user name (number / 128)) entries k blank (sym is) in record { near = near; within = here.0; of_extent = here.1 }

@@ -1,4 +1,4 @@
--- A record is written where it keeps the rules.
+-- A record is written to a place that keeps the rules.
 use Rattle.std.proofs.Common.{◌≡◌, ◌≢◌, ◌⊎◌, ◌<◌, ◌≤◌, ◌+◌, ◌-◌, ◌*◌, ◌/◌, ◌%◌, ◌==◌, ℕ, Bool, true, false, ◌&&◌, not, List, length, refl, sym, ap, subst, ◌∙◌, inl, inr, arith, get_or, set, nat_lt, nat_eq, Option, Some, None, Ok, position, find, true≢false, eq-eqb, ltb-false, ltb-true}
 use Rattle.std.proofs.lemmas.Bool.{eqb-false, not-true, not-false, and_parts, and_from, cases_Bool, cases_lt}
 use Rattle.std.proofs.lemmas.List.{get_or_past}
@@ -17,13 +17,13 @@ use Rattle.cpm_directory.specs.Rules.{AreBlocks, AreSameExtent, IsBlock, IsSound
 use Rattle.cpm_directory.specs.Searches.{free_block, free_entry, file_is_read_only, is_file, is_taken}
 use Rattle.cpm_operations.specs.declared.placement.Placement.{Placement}
 use Rattle.cpm_operations.specs.Kept.{IsKeptBy}
-use Rattle.cpm_operations.specs.Steps.{block_place, extent_place, found_or_new, given, placing, unless, writing}
+use Rattle.cpm_operations.specs.Steps.{block_place, extent_place, found_or_new, some_or, placing, unless, writing}
 use Rattle.cpm_operations.proofs.Entries.{blank_is_not_of, below_extent, found_at, found_in_range, is_of_file, none_at, of_file, set_cases, stands_in}
 use Rattle.cpm_operations.proofs.Results.{bind_ok, given_ok, unless_ok}
 use Rattle.cpm_operations.proofs.Sound.{FitsAt}
 use Rattle.cpm_operations.proofs.Kept.{keeps_by_one, new_extent_fits}
 
--- the numbers of a kind
+-- the first block for files is not block 0
 files_from : (kind : DiskKind) → 0 < first_block kind
 files_from EightInch = omega arith
 files_from Megabyte = omega arith
@@ -36,7 +36,7 @@ number_below : (kind : DiskKind) (number : ℕ) → 128 * number < file_records 
 number_below EightInch number small = omega arith
 number_below Megabyte number small = omega arith
 
--- a block that is put shows at its group alone, if at all
+-- a block that is set changes at most the number of its group
 block_cases : (kind : DiskKind) (e : Entry) (i b a : ℕ) → (block kind (with_record kind e i b) a ≡ block kind e a) ⊎ ((a ≡ i / block_records kind) × (block kind (with_record kind e i b) a ≡ b))
 block_cases kind e i b a =
     let put : block kind (with_record kind e i b) a ≡ get_or (set (blocks_of kind e) (i / block_records kind) b) a 0 = ap (λ bs. get_or bs a 0) (numbers-with_block kind e.blocks (i / block_records kind) b) in
@@ -45,7 +45,7 @@ block_cases kind e i b a =
       | inr here ↦ inr (here.0, put ∙ here.1)
     ]
 
--- what is not found at all passes nowhere
+-- if no entry passes a test, none does at any number
 pub none_placed : (p : Entry → Bool) (entries : List Entry) (k : ℕ) → p blank ≡ false → position p entries ≡ None → p (at entries k) ≡ false
 none_placed p entries k blank_not none = elim (cases_lt k (length entries)) as (λ _. p (at entries k) ≡ false) [
   | inl below ↦ elim (cases_Bool (nat_lt (position_or_len p entries) (length entries))) as (λ _. p (at entries k) ≡ false) [
@@ -55,7 +55,7 @@ none_placed p entries k blank_not none = elim (cases_lt k (length entries)) as (
   | inr past ↦ rw (get_or_past entries k blank past) blank_not
 ]
 
--- an entry that stands in a sound directory fits where it stands
+-- an entry of a directory that keeps the rules fits at its number
 present_fits : (kind : DiskKind) (entries : List Entry) (k : ℕ) → IsSound kind entries → is_extent (at entries k) ≡ true → FitsAt kind entries k (at entries k)
 present_fits kind entries k sound ext = record {
   good = sound.good k ext;
@@ -65,7 +65,7 @@ present_fits kind entries k sound ext = record {
   named = λ j other ext_j same. other (sound.named j k ext_j ext same);
 }
 
--- the block of a record: the one that the entry has, or one that stands nowhere
+-- the block of a record: the one that the entry has, or one that no entry has
 abbrev pub IsBlockFor : (kind : DiskKind) → List Entry → Entry → ℕ → ℕ → Type 0
 IsBlockFor kind entries e group b = ((0 < b) × (block kind e group ≡ b))
     ⊎ ((first_block kind ≤ b) × (b < block_count kind) × ((a : ℕ) → block kind e a ≡ b → ⊥) × ((k a : ℕ) → is_extent (at entries k) ≡ true → block kind (at entries k) a ≡ b → ⊥))
@@ -115,14 +115,14 @@ record_fits kind entries k e i b low fits place = record {
       ]
     ]
 
--- a block that stands nowhere stands in no entry of a file
+-- a free block is in no entry of a file
 pub not_taken : (kind : DiskKind) (entries : List Entry) (b : ℕ) → first_block kind ≤ b → is_taken kind entries b ≡ false → (k a : ℕ) → is_extent (at entries k) ≡ true → block kind (at entries k) a ≡ b → ⊥
 not_taken kind entries b some free k a ext here =
     let files = files_from kind in
     let p : Entry → Bool = λ e. is_extent e && list_any (λ c. nat_eq c b) (blocks_of kind e) in
     true≢false (sym (and_from (is_extent (at entries k)) (list_any (λ c. nat_eq c b) (blocks_of kind (at entries k))) ext (stands_in (blocks_of kind (at entries k)) a b (omega arith) here)) ∙ none_at p entries k refl free)
 
--- where an extent's entry stands: it fits there, is the file's, and has no free block
+-- the place of an extent's entry: the entry fits there, belongs to the file, and has no free block
 pub record IsPlace (kind : DiskKind) (user : ℕ) (name : List ℕ) (entries : List Entry) (place : ℕ × Entry) : Type 0 where
   pub within : place.0 < length entries
   pub fits : FitsAt kind entries place.0 place.1
@@ -143,8 +143,8 @@ place_found kind user name number entries (Some k) place low small sound found i
     let of = (and_parts (is_of user name (at entries k)) (extent_number (at entries k) == number) here.1).0 in
     subst (IsPlace kind user name entries) same (record { within = here.0; fits = present_fits kind entries k sound ext; full = λ b a some free. not_taken kind entries b some free k a ext; was = inl of; of_file = of })
 place_found kind user name number entries None place low small sound none is =
-    let (k, free, rest) = bind_ok (given (free_entry entries) fault.DirectoryFull) _ place is in
-    let (e, first, last) = bind_ok (given (find (is_of user name) entries) fault.NotFound) _ place rest in
+    let (k, free, rest) = bind_ok (some_or (free_entry entries) fault.DirectoryFull) _ place is in
+    let (e, first, last) = bind_ok (some_or (find (is_of user name) entries) fault.NotFound) _ place rest in
     let here = position-Some is_free entries k blank (given_ok (free_entry entries) fault.DirectoryFull k free) in
     let named = (of_file user name e (found_at (is_of user name) entries e (given_ok (find (is_of user name) entries) fault.NotFound e first)).3).1 in
     let same : ◌≡◌ {A = ℕ × Entry} (k, new_extent user e.name number) place = cc in
@@ -163,7 +163,7 @@ place_found kind user name number entries None place low small sound none is =
 pub block_found : (kind : DiskKind) (user : ℕ) (name : List ℕ) (entries : List Entry) (place : ℕ × Entry) (group : ℕ) (found : ℕ × Bool) → IsPlace kind user name entries place → block_place kind place.1 group entries ≡ Ok found → (first_block kind ≤ found.0) × (found.0 < block_count kind) × IsBlockFor kind entries place.1 group found.0
 unfolding free_block
 block_found kind user name entries place group found fits is = elim (cases_Bool (block kind place.1 group == 0)) as (λ _. (first_block kind ≤ found.0) × (found.0 < block_count kind) × IsBlockFor kind entries place.1 group found.0) [
-  | inl none ↦ (let (b, given_b, last) = bind_ok (given (free_block kind entries) fault.DiskFull) _ found (rw none at is) in
+  | inl none ↦ (let (b, given_b, last) = bind_ok (some_or (free_block kind entries) fault.DiskFull) _ found (rw none at is) in
       let same : b ≡ found.0 = ap (λ (p : ℕ × Bool). p.0) (let e : ◌≡◌ {A = ℕ × Bool} (b, true) found = cc in e) in
       let range = found_in_range (λ n. not (is_taken kind entries n)) (first_block kind) (block_count kind - first_block kind) b (given_ok (free_block kind entries) fault.DiskFull b given_b) in
       let free = not-true (is_taken kind entries b) range.2 in

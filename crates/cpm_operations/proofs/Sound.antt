@@ -6,7 +6,7 @@ use Rattle.cpm_directory.specs.declared.entry.Entry.{Entry}
 use Rattle.cpm_directory.specs.Entries.{at, block, is_extent}
 use Rattle.cpm_directory.specs.Rules.{AreBlocks, AreSameExtent, IsGood, IsSound}
 
--- each entry that holds an extent is as before
+-- each entry that is an extent is as it was
 pub fewer : (kind : DiskKind) (before mixed : List Entry) → IsSound kind before → ((k : ℕ) → is_extent (at mixed k) ≡ true → at mixed k ≡ at before k) → IsSound kind mixed
 fewer kind before mixed sound same =
     let was : (k : ℕ) → is_extent (at mixed k) ≡ true → is_extent (at before k) ≡ true = λ k e. subst (λ x. is_extent x ≡ true) (same k e) e in
@@ -20,7 +20,7 @@ fewer kind before mixed sound same =
           (subst (λ x. AreSameExtent x (at before k)) (same j ej) (subst (λ x. AreSameExtent (at mixed j) x) (same k ek) equal));
     }
 
--- an entry that may stand at a number of a directory
+-- an entry that can be at this number of a directory
 pub record FitsAt (kind : DiskKind) (entries : List Entry) (number : ℕ) (e : Entry) : Type 0 where
   pub good : IsGood kind e
   pub blocks : AreBlocks kind e
@@ -28,14 +28,14 @@ pub record FitsAt (kind : DiskKind) (entries : List Entry) (number : ℕ) (e : E
   pub apart : (k a b : ℕ) → k ≢ number → is_extent (at entries k) ≡ true → 0 < block kind e a → block kind (at entries k) b ≡ block kind e a → ⊥
   pub named : (k : ℕ) → k ≢ number → is_extent (at entries k) ≡ true → AreSameExtent (at entries k) e → ⊥
 
--- an entry as before, or the one that is put at a number
+-- an entry is as it was, or it is the new one at this number
 abbrev pub Stands : List Entry → ℕ → Entry → List Entry → ℕ → Type 0
 Stands before number e mixed k = (at mixed k ≡ at before k) ⊎ ((k ≡ number) × (at mixed k ≡ e))
 
 swapped : (d e : Entry) → AreSameExtent d e → AreSameExtent e d
 swapped d e (user, name, extent) = (sym user, sym name, sym extent)
 
--- one entry is put
+-- one entry is written
 pub one_more : (kind : DiskKind) (before mixed : List Entry) (number : ℕ) (e : Entry) → IsSound kind before → FitsAt kind before number e → ((k : ℕ) → Stands before number e mixed k) → IsSound kind mixed
 one_more kind before mixed number e sound fits stands =
     record {

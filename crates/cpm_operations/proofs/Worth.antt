@@ -1,4 +1,4 @@
--- From what a call answers to what it is good for.
+-- What the answer of a call guarantees.
 use Rattle.std.proofs.Common.{◌≡◌, ◌<◌, ◌≤◌, ℕ, not, List, length, Result, Ok, Err, IfOk, OnOk, sym, subst}
 use Rattle.std.proofs.lemmas.List.Quantifiers.{position-Some}
 use Rattle.cpm_directory.specs.declared.entry.TheConstants.{USERS}
@@ -12,22 +12,22 @@ use Rattle.cpm_directory.specs.Letters.{letters}
 use Rattle.cpm_directory.specs.Rules.{IsSound}
 use Rattle.cpm_directory.specs.Searches.{file_is_read_only, free_entry, is_file}
 use Rattle.cpm_operations.specs.declared.placement.Placement.{Placement}
-use Rattle.cpm_operations.specs.Kept.{IsKeptBy, IsPut, StaysSound}
-use Rattle.cpm_operations.specs.Steps.{◌>>=◌, after_renaming, creation, given, reading, renaming, unless, writing}
+use Rattle.cpm_operations.specs.Kept.{IsKeptBy, IsGoodPut, StaysSound}
+use Rattle.cpm_operations.specs.Steps.{◌>>=◌, after_renaming, creation, some_or, reading, renaming, unless, writing}
 use Rattle.cpm_operations.proofs.Kept.{creation_keeps, renaming_keeps}
 use Rattle.cpm_operations.proofs.RecordPlaces.{reading_within}
 use Rattle.cpm_operations.proofs.Placements.{writing_keeps}
 use Rattle.cpm_operations.proofs.Results.{bind_ok, given_ok, unless_ok}
 
-pub created : (kind : DiskKind) (user : ℕ) (name : List ℕ) (entries : List Entry) (r : Result (ℕ × Entry) DiskFault) → user < USERS → letters name ≡ name → r ≡ creation user name entries → IsSound kind entries → IfOk r (IsPut kind entries)
+pub created : (kind : DiskKind) (user : ℕ) (name : List ℕ) (entries : List Entry) (r : Result (ℕ × Entry) DiskFault) → user < USERS → letters name ≡ name → r ≡ creation user name entries → IsSound kind entries → IfOk r (IsGoodPut kind entries)
 created kind user name entries (Err e) low seven is sound = tt
 created kind user name entries (Ok put) low seven is sound =
-    let (new_file, is_1) = unless_ok (is_file user name entries) fault.Exists (given (free_entry entries) fault.DirectoryFull >>= λ k. Ok (k, new_extent user name 0)) put (sym is) in
-    let (k, free, last) = bind_ok (given (free_entry entries) fault.DirectoryFull) (λ k. Ok (k, new_extent user name 0)) put is_1 in
+    let (new_file, is_1) = unless_ok (is_file user name entries) fault.Exists (some_or (free_entry entries) fault.DirectoryFull >>= λ k. Ok (k, new_extent user name 0)) put (sym is) in
+    let (k, free, last) = bind_ok (some_or (free_entry entries) fault.DirectoryFull) (λ k. Ok (k, new_extent user name 0)) put is_1 in
     let found = given_ok (free_entry entries) fault.DirectoryFull k free in
     let same : ◌≡◌ {A = ℕ × Entry} (k, new_extent user name 0) put = cc in
     let here = position-Some is_free entries k blank found in
-    subst (IsPut kind entries) same (record { within = here.0; free = here.1; sound = creation_keeps kind user name entries k low seven sound new_file found })
+    subst (IsGoodPut kind entries) same (record { within = here.0; free = here.1; sound = creation_keeps kind user name entries k low seven sound new_file found })
 
 pub renamed_soundly : (kind : DiskKind) (user : ℕ) (old new : List ℕ) (entries : List Entry) (r : Result (Unit {0}) DiskFault) → user < USERS → length old ≡ length new → letters new ≡ new → r ≡ renaming user old new entries → IsSound kind entries → OnOk r (StaysSound kind entries (after_renaming user old new entries))
 renamed_soundly kind user old new entries (Err e) low long seven is sound = tt

@@ -1,4 +1,4 @@
--- Directories that lie between one and another: where a device fails, each entry is as before or as it was to be.
+-- Directories between an old one and a new one: if a device fails, each entry is as it was or as it was to be.
 use Rattle.std.specs.Prelude.{◌≡◌, ◌≢◌, ◌<◌, ◌≤◌, ◌⊎◌, ℕ, List, length, slice_set, true}
 use Rattle.cpm_directory.specs.declared.entry.Entry.{Entry}
 use Rattle.cpm_image.specs.Kind.{block_count, first_block}
@@ -7,22 +7,22 @@ use Rattle.cpm_operations.specs.declared.placement.Placement.{Placement}
 use Rattle.cpm_directory.specs.Entries.{at, block, is_extent, is_free, is_of}
 use Rattle.cpm_directory.specs.Rules.{IsSound}
 
--- each entry is that of one or of the other
+-- each entry is that of the old directory or that of the new one
 abbrev pub IsBetween : List Entry → List Entry → List Entry → Type 0
 IsBetween before after mixed = (k : ℕ) → (at mixed k ≡ at before k) ⊎ (at mixed k ≡ at after k)
 
--- the rules are kept by what a step makes, and by all that a failing device may leave of it
+-- The new directory keeps the rules, and so does each directory that a failing device may leave on the way to it.
 abbrev pub StaysSound : DiskKind → List Entry → List Entry → Type 0
 StaysSound kind before after = (mixed : List Entry) → IsBetween before after mixed → IsSound kind mixed
 
--- An entry that is put, in place of a free one, keeps the rules.
-pub record IsPut (kind : DiskKind) (entries : List Entry) (put : ℕ × Entry) : Type 0 where
+-- A new entry takes the place of a free one, and the directory keeps the rules.
+pub record IsGoodPut (kind : DiskKind) (entries : List Entry) (put : ℕ × Entry) : Type 0 where
   pub within : put.0 < length entries
   pub free : is_free (at entries put.0) ≡ true
   pub sound : StaysSound kind entries (slice_set entries put.0 put.1)
 
--- What a placement is good for: its entry is the file's, in place of one of the file or a free one; its block is of files, and of no
--- other entry; and the rules are kept.
+-- What is promised of a placement: its entry belongs to the file, and takes the place of one of that file or of a free one; its block is
+-- for files and in no other entry; and the directory keeps the rules.
 pub record IsKeptBy (kind : DiskKind) (user : ℕ) (name : List ℕ) (entries : List Entry) (p : Placement) : Type 0 where
   pub within : p.number < length entries
   pub was : (is_of user name (at entries p.number) ≡ true) ⊎ (is_free (at entries p.number) ≡ true)

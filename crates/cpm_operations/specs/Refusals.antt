@@ -1,4 +1,4 @@
--- The refusals that each operation may give.
+-- The refusals that each operation can give.
 use Rattle.std.specs.Prelude.{⊤}
 use Rattle.cpm_directory.specs.declared.fault.DiskFault.{DiskFault}
 use Rattle.cpm_directory.specs.declared.fault.DiskFault.TheVariants as fault

@@ -1,4 +1,4 @@
--- What each operation makes of a directory, or the first reason to refuse it.
+-- What each operation leaves of a directory, or the first reason to refuse it.
 use Rattle.std.specs.Prelude.{ℕ, ◌/◌, ◌%◌, ◌==◌, Bool, true, false, ◌&&◌, not, List, Option, Some, None, Result, Ok, Err, if◌then◌else◌, count_by, find, position, map, nat_lt, ⊤}
 use Rattle.std.specs.List.{list_any}
 use Rattle.cpm_image.specs.Kind.{block_records, file_records}
@@ -12,50 +12,50 @@ use Rattle.cpm_directory.specs.Entries.{at, block, erased, has_record, is_extent
 use Rattle.cpm_directory.specs.Searches.{file_is_read_only, free_block, free_entry, is_file}
 pub use Rattle.common.specs.Results.{◌>>=◌}
 
--- goes on where a test holds, else refuses
+-- refuses with `e` if the test is true, and otherwise continues with `rest`
 abbrev pub unless : {A : Type 0} → Bool → DiskFault → Result A DiskFault → Result A DiskFault
 unless test e rest = if test then Err e else rest
 
--- an option's value, or else a refusal
-abbrev pub given : {A : Type 0} → Option A → DiskFault → Result A DiskFault
-given (Some x) e = Ok x
-given None e = Err e
+-- the value of an option, or the refusal `e` if it has none
+abbrev pub some_or : {A : Type 0} → Option A → DiskFault → Result A DiskFault
+some_or (Some x) e = Ok x
+some_or None e = Err e
 
--- the number and the entry of a new file: the lowest free one
+-- the entry of a new file, and its number, the lowest that is free
 abbrev pub creation : ℕ → List ℕ → List Entry → Result (ℕ × Entry) DiskFault
 creation user name entries =
     unless (is_file user name entries) fault.Exists
-    (given (free_entry entries) fault.DirectoryFull >>= λ k.
+    (some_or (free_entry entries) fault.DirectoryFull >>= λ k.
     Ok (k, new_extent user name 0))
 
--- how many entries are erased: all that match
+-- the number of entries to erase: all that match; refused if none matches, or if one that matches is read-only
 abbrev pub erasure : ℕ → List ℕ → List Entry → Result ℕ DiskFault
 erasure user pattern entries =
     unless (not (list_any (is_match user pattern) entries)) fault.NotFound
     (unless (list_any (λ e. is_match user pattern e && is_read_only e) entries) fault.ReadOnly
     (Ok (count_by (is_match user pattern) entries)))
 
--- what erasing makes of an entry, and of all
+-- what erasing leaves of one entry, and of the directory
 abbrev pub erased_by : ℕ → List ℕ → Entry → Entry
 erased_by user pattern e = if is_match user pattern e then erased e else e
 
 abbrev pub after_erasure : ℕ → List ℕ → List Entry → List Entry
 after_erasure user pattern entries = map (erased_by user pattern) entries
 
--- how many entries are marked: all that match, those of a read-only file too
+-- the number of entries to mark: all that match, even those of a read-only file; refused if none matches
 abbrev pub marking : ℕ → List ℕ → List Entry → Result ℕ DiskFault
 marking user pattern entries =
     unless (not (list_any (is_match user pattern) entries)) fault.NotFound
     (Ok (count_by (is_match user pattern) entries))
 
--- what marking makes of an entry, and of all
+-- what marking leaves of one entry, and of the directory
 abbrev pub marked_by : ℕ → List ℕ → Attribute → Bool → Entry → Entry
 marked_by user pattern attribute on e = if is_match user pattern e then marked attribute on e else e
 
 abbrev pub after_marking : ℕ → List ℕ → Attribute → Bool → List Entry → List Entry
 after_marking user pattern attribute on entries = map (marked_by user pattern attribute on) entries
 
--- whether a file may be renamed
+-- whether a file may be renamed, or the first reason why not: it does not exist, there is a file of the new name, or it is read-only
 abbrev pub renaming : ℕ → List ℕ → List ℕ → List Entry → Result ⊤ DiskFault
 renaming user old new entries =
     unless (not (is_file user old entries)) fault.NotFound
@@ -63,48 +63,49 @@ renaming user old new entries =
     (unless (file_is_read_only user old entries) fault.ReadOnly
     (Ok tt)))
 
--- what renaming makes of an entry, and of all
+-- what renaming leaves of one entry, and of the directory
 abbrev pub renamed_by : ℕ → List ℕ → List ℕ → Entry → Entry
 renamed_by user old new e = if is_of user old e then renamed new e else e
 
 abbrev pub after_renaming : ℕ → List ℕ → List ℕ → List Entry → List Entry
 after_renaming user old new entries = map (renamed_by user old new) entries
 
--- the logical record of the disk that holds record i of an extent
+-- the logical record of the disk for record i of an extent; refused if the extent does not have it
 abbrev pub written_place : DiskKind → ℕ → Entry → Result ℕ DiskFault
 written_place kind i e = unless (not (has_record kind e i)) fault.Unwritten (Ok (place_on_disk kind e i))
 
--- the logical record of the disk that holds a file's record
+-- the logical record of the disk for a record of a file, or the first reason why the record cannot be read
 abbrev pub reading : DiskKind → ℕ → List ℕ → ℕ → List Entry → Result ℕ DiskFault
 reading kind user name number entries =
     unless (not (is_file user name entries)) fault.NotFound
     (unless (not (nat_lt number (file_records kind))) fault.TooFar
-    (given (find (is_extent_of user name (number / 128)) entries) fault.NoExtent >>= written_place kind (number % 128)))
+    (some_or (find (is_extent_of user name (number / 128)) entries) fault.NoExtent >>= written_place kind (number % 128)))
 
--- the number and the entry of a file's extent, where it has one, else the lowest free entry, with the name of the file's lowest entry
+-- the number and the entry of a file's extent: the one that it has, otherwise a new extent at the lowest free number, with the name in
+-- the file's lowest entry
 abbrev pub found_or_new : ℕ → List ℕ → ℕ → List Entry → Option ℕ → Result (ℕ × Entry) DiskFault
 found_or_new user name number entries (Some k) = Ok (k, at entries k)
 found_or_new user name number entries None =
-    given (free_entry entries) fault.DirectoryFull >>= λ k.
-    given (find (is_of user name) entries) fault.NotFound >>= λ e.
+    some_or (free_entry entries) fault.DirectoryFull >>= λ k.
+    some_or (find (is_of user name) entries) fault.NotFound >>= λ e.
     Ok (k, new_extent user e.name number)
 
 abbrev pub extent_place : ℕ → List ℕ → ℕ → List Entry → Result (ℕ × Entry) DiskFault
 extent_place user name number entries = found_or_new user name number entries (position (is_extent_of user name number) entries)
 
--- The block of a group of an entry, and whether it is new: the one that it has, else the lowest free one.
+-- the block of a group of records, and whether it is new: the block that the entry has, otherwise the lowest free one
 abbrev pub block_place : DiskKind → Entry → ℕ → List Entry → Result (ℕ × Bool) DiskFault
 block_place kind e group entries = if block kind e group == 0
-    then (given (free_block kind entries) fault.DiskFull >>= λ b. Ok (b, true))
+    then (some_or (free_block kind entries) fault.DiskFull >>= λ b. Ok (b, true))
     else Ok (block kind e group, false)
 
--- where record i of an extent goes, by the number of the extent's entry and that entry: the entry as it is to be, the block, and whether it is new
+-- where to write record i of the extent whose entry e has number k: the entry after the write, the block, and whether the block is new
 abbrev pub placing_in : DiskKind → ℕ → Entry → ℕ → List Entry → Result Placement DiskFault
 placing_in kind k e i entries =
     block_place kind e (i / block_records kind) entries >>= λ found.
     Ok (record { number = k; entry = with_record kind e i found.0; block = found.0; is_new = found.1 })
 
--- where a record of a file goes
+-- where to write a record of a file
 abbrev pub placing : DiskKind → ℕ → List ℕ → ℕ → List Entry → Result Placement DiskFault
 placing kind user name number entries =
     extent_place user name (number / 128) entries >>= λ place.

@@ -1,7 +1,7 @@
-//! What each operation on the files of a CP/M 2.2 disk of either kind makes of its directory, or the first reason to refuse it.
+//! The operations on the files of a CP/M 2.2 disk of either format: the directory that each leaves, or the first reason to refuse it.
 //!
-//! No call takes memory, and none changes anything: each says what is to be done. Whatever a device that fails on the
-//! way leaves of it, each entry as before or as it was to be, keeps the rules of a directory.
+//! No function allocates memory or changes anything: each answers what is to be done. If the device fails while that is done, each
+//! directory entry is as it was or as it was to be; whichever it is, the directory keeps its rules.
 #![tactic(auto)]
 
 mod nearby;

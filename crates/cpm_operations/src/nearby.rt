@@ -1,4 +1,4 @@
-//! Records of a file whose extent's entry is looked for at one number first.
+//! Finds records of a file faster: the entry of the extent is tried at one number first.
 
 ghost use Rattle.std.specs.Prelude.{◌≡◌, ◌<◌, ◌≤◌, ◌/◌, ◌%◌, IfErr, IfOk, IfSome, None, false, length, position, slice_index_or, true};
 ghost use Rattle.cpm_directory.specs.declared.entry.TheConstants.{USERS};
@@ -16,7 +16,7 @@ use crate::operations::{place_in, reading, record_of, writing};
 use cpm_directory::{DiskFault, Entry, Name, position_of};
 use cpm_image::DiskKind;
 
-/// Whether the entry of a number is that of a file's extent.
+/// Whether the entry with this number is that of a file's extent.
 fn is_extent_at(entries: &[Entry], at: u16, user: u8, name: &Name, number: u16) -> bool
     ensures { result ≡ true → (at < length entries.now) × (is_extent_of user name.now number (slice_index_or entries.now at blank) ≡ true) }
 {
@@ -27,8 +27,8 @@ fn is_extent_at(entries: &[Entry], at: u16, user: u8, name: &Name, number: u16) 
     entries[place].is_extent_of(user, name, number)
 }
 
-/// The number of the entry of the extent of a file's record, looked for at the entry `near` first. `None` also where a file
-/// has no record of that number.
+/// The number of the directory entry of a record's extent. The entry `near` is tried first. `None` if there is no such entry, or if no
+/// file can have a record with this number.
 pub fn extent_near(
     kind: DiskKind,
     entries: &[Entry],
@@ -51,11 +51,11 @@ pub fn extent_near(
     position_of(entries, user, name, extent)
 }
 
-/// As [`reading`], where the entry of the record's extent may be known: then no other is looked at.
+/// As [`reading`], but if the entry of the record's extent is known, it looks at no other entry.
 ///
 /// # Errors
 ///
-/// As of [`reading`].
+/// Those of [`reading`].
 pub fn reading_at(
     kind: DiskKind,
     entries: &[Entry],
@@ -77,12 +77,12 @@ pub fn reading_at(
     }
 }
 
-/// As [`writing`], where the entry of the record's extent may be known, and that the file is not read-only: where both are,
-/// other entries are looked at for a free block alone.
+/// As [`writing`], but if the entry of the record's extent is known, and that the file is not read-only, it looks at other entries only
+/// for a free block.
 ///
 /// # Errors
 ///
-/// As of [`writing`].
+/// Those of [`writing`].
 pub fn writing_at(
     kind: DiskKind,
     entries: &[Entry],

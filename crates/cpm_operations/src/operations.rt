@@ -1,4 +1,4 @@
-//! What each operation makes of a directory.
+//! What each operation leaves of a directory.
 
 ghost use Rattle.std.specs.Prelude.{◌≡◌, ◌<◌, ◌≤◌, ◌/◌, ◌%◌, ◌&&◌, Bool, IfErr, IfOk, OnOk, count_by, find, length};
 ghost use Rattle.std.specs.List.{list_any};
@@ -8,7 +8,7 @@ ghost use Rattle.cpm_directory.specs.Entries.{block, is_extent_of, is_match, is_
 ghost use Rattle.cpm_directory.specs.Rules.{IsSound};
 ghost use Rattle.cpm_image.specs.Kind.{block_records, directory_records, entry_blocks, file_records, number_limit, record_count};
 ghost use Rattle.cpm_image.specs.declared.kind.DiskKind.{DiskKind};
-ghost use Rattle.cpm_operations.specs.Kept.{IsKeptBy, IsPut, StaysSound};
+ghost use Rattle.cpm_operations.specs.Kept.{IsKeptBy, IsGoodPut, StaysSound};
 ghost use Rattle.cpm_operations.specs.Refusals.{RefusesCreation, RefusesErasure, RefusesMarking, RefusesReading, RefusesRenaming, RefusesWriting};
 ghost use Rattle.cpm_operations.specs.Steps.{after_erasure, after_marking, after_renaming, block_place, creation, erasure, extent_place, marking, placing, placing_in, reading, renaming, writing, written_place};
 
@@ -19,7 +19,7 @@ use cpm_directory::{
 };
 use cpm_image::DiskKind;
 
-/// The number of the entry that a new file takes, the lowest free one, and that entry.
+/// The entry of a new file, and its number, the lowest that is free.
 fn new_file(entries: &[Entry], user: u8, name: &Name) -> Result<(u16, Entry), DiskFault>
     requires { length entries.now ≤ 65536 }
     ensures step { result ≡ creation user name.now entries.now }
@@ -57,7 +57,7 @@ fn match_count(entries: &[Entry], user: u8, pattern: &[u8; 11]) -> u16
         .count() as u16
 }
 
-/// How many entries are erased.
+/// The number of entries to erase, or why erasing is refused.
 fn may_erase(entries: &[Entry], user: u8, pattern: &[u8; 11]) -> Result<u16, DiskFault>
     requires { length entries.now ≤ 65535 }
     ensures step { result ≡ erasure user pattern.now entries.now }
@@ -72,7 +72,7 @@ fn may_erase(entries: &[Entry], user: u8, pattern: &[u8; 11]) -> Result<u16, Dis
     Ok(match_count(entries, user, pattern))
 }
 
-/// How many entries are marked.
+/// The number of entries to mark, or why marking is refused.
 fn may_mark(entries: &[Entry], user: u8, pattern: &[u8; 11]) -> Result<u16, DiskFault>
     requires { length entries.now ≤ 65535 }
     ensures step { result ≡ marking user pattern.now entries.now }
@@ -84,7 +84,7 @@ fn may_mark(entries: &[Entry], user: u8, pattern: &[u8; 11]) -> Result<u16, Disk
     Ok(match_count(entries, user, pattern))
 }
 
-/// Whether a file may be renamed.
+/// Whether a file may be renamed, or why not.
 fn may_rename(entries: &[Entry], user: u8, old: &Name, new: &Name) -> Result<(), DiskFault>
     ensures step { result ≡ renaming user old.now new.now entries.now }
     ensures refusals { IfErr result RefusesRenaming }
@@ -125,7 +125,7 @@ fn first_entry(entries: &[Entry], user: u8, name: &Name) -> Option<Entry>
     None
 }
 
-/// The disk's logical record that holds record `i` of an extent, where that is there.
+/// The logical record of the disk that has record `i` of an extent, if the extent has it.
 pub(crate) fn record_of(kind: DiskKind, entry: &Entry, i: u8) -> Result<u32, DiskFault>
     requires { i < 128 }
     ensures step { result ≡ written_place kind i entry.now }
@@ -137,7 +137,7 @@ pub(crate) fn record_of(kind: DiskKind, entry: &Entry, i: u8) -> Result<u32, Dis
     Ok(entry.place_on_disk(kind, i))
 }
 
-/// The number of the disk's logical record that holds a file's record.
+/// The logical record of the disk that has a file's record.
 fn read_place(
     kind: DiskKind,
     entries: &[Entry],
@@ -160,8 +160,8 @@ fn read_place(
     record_of(kind, &entry, i)
 }
 
-/// The number and the entry of a file's extent: the one that it has, else the lowest free one, under the name of the
-/// file's lowest entry.
+/// The number and the entry of a file's extent. If the file does not have that extent, it is a new one at the lowest free number, with
+/// the name in the file's lowest entry.
 fn extent_of(
     entries: &[Entry],
     user: u8,
@@ -181,7 +181,7 @@ fn extent_of(
     Ok((place, Entry::new_extent(user, first.name, number)))
 }
 
-/// The block of a group of records, and whether it is new: the one that the entry has, else the lowest free one.
+/// The block of a group of records, and whether it is new: the block that the entry has, otherwise the lowest free one.
 fn block_of(
     kind: DiskKind,
     entries: &[Entry],
@@ -201,7 +201,7 @@ fn block_of(
     Ok((block, true))
 }
 
-/// Where record `i` of an extent goes, whose entry has a number.
+/// Where to write record `i` of the extent whose entry has this number.
 pub(crate) fn place_in(
     kind: DiskKind,
     entries: &[Entry],
@@ -223,7 +223,7 @@ pub(crate) fn place_in(
     })
 }
 
-/// Where a record of a file goes.
+/// Where to write a record of a file.
 fn place(
     kind: DiskKind,
     entries: &[Entry],
@@ -241,7 +241,7 @@ fn place(
     place_in(kind, entries, at, &entry, (number % 128) as u8)
 }
 
-/// Where a record of a file goes, if it may be written.
+/// Where to write a record of a file, if it may be written.
 fn write_place(
     kind: DiskKind,
     entries: &[Entry],
@@ -266,11 +266,11 @@ fn write_place(
     place(kind, entries, user, name, number)
 }
 
-/// How many entries are erased: all of the user that match a pattern, whatever their extents.
+/// The number of entries to erase: all of the user that match a pattern, whatever their extents.
 ///
 /// # Errors
 ///
-/// In this order: [`DiskFault::NotFound`] where none matches, [`DiskFault::ReadOnly`] where one that does is read-only.
+/// In this order: [`DiskFault::NotFound`] if none matches, [`DiskFault::ReadOnly`] if a matching one is read-only.
 pub fn erasure(entries: &[Entry], user: u8, pattern: &[u8; 11]) -> Result<u16, DiskFault>
     requires user { user < USERS }
     requires size { length entries.now ≤ 65535 }
@@ -281,12 +281,12 @@ pub fn erasure(entries: &[Entry], user: u8, pattern: &[u8; 11]) -> Result<u16, D
     may_erase(entries, user, pattern)
 }
 
-/// How many entries are marked with an attribute, or cleared of it: all of the user that match a pattern, whatever their
-/// extents and attributes.
+/// The number of entries whose attribute is to be set or cleared: all of the user that match a pattern, whatever their extents and
+/// attributes.
 ///
 /// # Errors
 ///
-/// [`DiskFault::NotFound`] where none matches.
+/// [`DiskFault::NotFound`] if none matches.
 pub fn marking(entries: &[Entry], user: u8, pattern: &[u8; 11]) -> Result<u16, DiskFault>
     requires user { user < USERS }
     requires size { length entries.now ≤ 65535 }
@@ -297,7 +297,7 @@ pub fn marking(entries: &[Entry], user: u8, pattern: &[u8; 11]) -> Result<u16, D
     may_mark(entries, user, pattern)
 }
 
-/// The number of the entry that a new file takes, the lowest free one, and that entry.
+/// The entry of a new file, and its number, the lowest that is free.
 ///
 /// # Errors
 ///
@@ -306,15 +306,15 @@ pub fn creation(entries: &[Entry], user: u8, name: &Name) -> Result<(u16, Entry)
     requires user { user < USERS }
     requires size { length entries.now ≤ 65535 }
     ensures step { result ≡ creation user name.now entries.now }
-    ensures kept { (kind : DiskKind) → IsSound kind entries.now → IfOk result (IsPut kind entries.now) }
+    ensures kept { (kind : DiskKind) → IsSound kind entries.now → IfOk result (IsGoodPut kind entries.now) }
     ensures refusals { IfErr result RefusesCreation }
 {
-    // A law: `kept` rests on the name's bytes being below 80H.
+    // A law: `kept` needs that the bytes of the name are below 80H.
     is_name(name);
     new_file(entries, user, name)
 }
 
-/// Whether a file may be renamed. To its own name it may not: that exists.
+/// Whether a file may be renamed. It may not be renamed to its own name, which exists.
 ///
 /// # Errors
 ///
@@ -325,13 +325,13 @@ pub fn renaming(entries: &[Entry], user: u8, old: &Name, new: &Name) -> Result<(
     ensures kept { (kind : DiskKind) → IsSound kind entries.now → OnOk result (StaysSound kind entries.now (after_renaming user old.now new.now entries.now)) }
     ensures refusals { IfErr result RefusesRenaming }
 {
-    // A law: `kept` rests on both names having eleven bytes, and the new one's being below 80H.
+    // A law: `kept` needs that both names have eleven bytes, and that those of the new one are below 80H.
     is_name(old);
     is_name(new);
     may_rename(entries, user, old, new)
 }
 
-/// The number of the disk's logical record that holds a file's record, counted from 0.
+/// The logical record of the disk that has a file's record; both are counted from 0.
 ///
 /// # Errors
 ///
@@ -352,12 +352,12 @@ pub fn reading(
     read_place(kind, entries, user, name, number)
 }
 
-/// Where a record of a file goes, counted from 0.
+/// Where to write a record of a file, counted from 0.
 ///
 /// # Errors
 ///
-/// In this order: [`DiskFault::NotFound`], [`DiskFault::ReadOnly`], [`DiskFault::TooFar`] above 4,095 (65,535 on a
-/// Megabyte disk), [`DiskFault::DirectoryFull`] where it needs an extent, [`DiskFault::DiskFull`] where it needs a block.
+/// In this order: [`DiskFault::NotFound`], [`DiskFault::ReadOnly`], [`DiskFault::TooFar`] above 4,095 (65,535 on a Megabyte disk),
+/// [`DiskFault::DirectoryFull`] if the record needs a new extent, [`DiskFault::DiskFull`] if it needs a new block.
 pub fn writing(
     kind: DiskKind,
     entries: &[Entry],

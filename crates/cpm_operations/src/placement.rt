@@ -1,15 +1,15 @@
-//! Where a record is to be written.
+//! Where to write a record.
 
 use cpm_directory::Entry;
 
-/// Where a record is to be written.
+/// Where to write a record.
 #[derive(Clone, Copy, Debug, PartialEq, Eq)]
 pub struct Placement {
-    /// The number of the entry of the record's extent.
+    /// The number of the directory entry of the record's extent.
     pub number: u16,
-    /// That entry as it is to be.
+    /// That entry after the record is written.
     pub entry: Entry,
-    /// The block that holds the record.
+    /// The block of the record.
     pub block: u16,
     /// Whether that block was free.
     pub is_new: bool,

@@ -1,4 +1,4 @@
-//! Images, and disks that are mounted.
+//! Makes calls of images and of mounted disks.
 
 use cpm_disk::{Disk, DiskFault, Name};
 use cpm_image::{DiskKind, MemoryImage, Sectors};
@@ -13,7 +13,7 @@ pub(crate) fn is_blank(image: &MemoryImage) -> bool {
         .all(|sector| sector.iter().all(|byte| *byte == 0xE5))
 }
 
-/// Writes how many sectors a blank image has.
+/// Writes the number of sectors in the image of an empty disk.
 pub(crate) fn answer_image<W: Write>(
     alloc: Global,
     out: &mut W,
@@ -25,7 +25,7 @@ pub(crate) fn answer_image<W: Write>(
     }
 }
 
-/// A blank disk. Where it is not mounted for want of memory, the device that comes back is mounted, if it is as before.
+/// Mounts an empty disk. If memory runs out, it mounts the device that comes back, provided that it is unchanged.
 pub(crate) fn mounted(alloc: Global, kind: DiskKind) -> Result<Disk<MemoryImage>, DiskFault> {
     let Ok(image) = MemoryImage::blank(alloc, kind) else {
         return Err(DiskFault::NoMemory);
@@ -44,7 +44,7 @@ pub(crate) fn mounted(alloc: Global, kind: DiskKind) -> Result<Disk<MemoryImage>
     }
 }
 
-/// How many files a disk lists; where memory is refused, it is asked again.
+/// The number of files that a disk lists. If memory runs out, the disk is asked again.
 fn count_of(alloc: Global, disk: &Disk<MemoryImage>) -> Result<usize, DiskFault> {
     match disk.list(alloc) {
         Ok(files) => Ok(files.len()),
@@ -53,14 +53,14 @@ fn count_of(alloc: Global, disk: &Disk<MemoryImage>) -> Result<usize, DiskFault>
     }
 }
 
-/// How many files are listed of a blank disk on which one is made.
+/// Creates a file on an empty disk, and answers the number of files that the disk lists.
 fn listed(alloc: Global, kind: DiskKind) -> Result<usize, DiskFault> {
     let mut disk = mounted(alloc, kind)?;
     let _at = disk.create(0, &Name::new(*b"FILE    TXT"))?;
     count_of(alloc, &disk)
 }
 
-/// Writes how many files are listed of a blank disk on which one is made.
+/// Creates a file on an empty disk, and writes the number of files that the disk lists.
 pub(crate) fn answer_mount<W: Write>(
     alloc: Global,
     out: &mut W,

@@ -1,7 +1,7 @@
-//! Makes calls of disks and of the machine that allocate, each twice in a row, and prints what each answers: for refusing each
-//! allocation in turn.
+//! Makes calls of disks and of the machine that allocate memory, each twice in a row, and prints what each answers. A test runs it and
+//! refuses each allocation in turn.
 //!
-//! A line of standard input has the name of a call and what it is of. Printed are the line and both answers.
+//! A line of standard input has the name of a call and its subject. The program prints the line and both answers.
 #![tactic(auto)]
 
 mod disks;

@@ -1,4 +1,4 @@
-//! Runs of programs.
+//! Runs programs.
 
 use crate::disks::{is_blank, mounted};
 use cpm_console::MemoryConsole;
@@ -8,10 +8,11 @@ use cpm_run::{RunEnd, Why, run};
 use std::alloc::Global;
 use std::io::Write;
 
-/// Prints `Hi`.
+/// A program that prints `Hi`.
 const HI: &[u8] = b"\x11\x09\x01\x0E\x09\xCD\x05\x00\xC9Hi$";
 
-/// Makes the file of its first word, writes a record of `Hello$` to it, opens it anew, reads the record to 2000H and prints it.
+/// A program that creates the file of its first word, writes a record of `Hello$` to it, closes and opens it, reads the record to 2000H
+/// and prints it.
 const FILE: &[u8] = b"\x0E\x1A\x11\x4C\x01\xCD\x05\x00\
 \x0E\x16\x11\x5C\x00\xCD\x05\x00\
 \x0E\x15\x11\x5C\x00\xCD\x05\x00\
@@ -34,7 +35,7 @@ fn show_end<W: Write>(out: &mut W, end: &End) -> Result<(), anyhow::Error> {
     Ok(out.write_all(end.console.output())?)
 }
 
-/// Runs a program with the disk and the console that a run gave back for want of memory, if they are as before.
+/// Runs a program with the disk and the console that a run gave back because memory ran out, if they are unchanged.
 fn run_again<W: Write>(
     alloc: Global,
     out: &mut W,
@@ -51,7 +52,7 @@ fn run_again<W: Write>(
     }
 }
 
-/// Writes how a run ends on a blank disk, with nothing typed, and what it prints.
+/// Runs a program on an empty disk without input, and writes how the run ends and what it prints.
 pub(crate) fn answer_run<W: Write>(
     alloc: Global,
     out: &mut W,

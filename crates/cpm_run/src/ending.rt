@@ -13,25 +13,25 @@ use thiserror::Error;
 /// Why a run ended.
 #[derive(Clone, Copy, Debug, PartialEq, Eq, Error)]
 pub enum Why {
-    /// The program came to the warm start, or asked for it.
+    /// The program reached the cold or the warm start of the BIOS, or a system call asked for a warm boot.
     #[error("the program finished")]
     Finished,
-    /// HALT is at the place.
+    /// HALT is at PC.
     #[error("the program halted")]
     Halted,
-    /// No documented instruction is at the place.
+    /// No documented instruction is at PC.
     #[error("no documented instruction")]
     Undocumented,
-    /// As many turns were made as were allowed.
+    /// The allowed number of steps was made.
     #[error("the limit of turns was reached")]
     TurnLimit,
-    /// A call of the system has no answer.
+    /// A system call stopped the run.
     #[error("{0}")]
     Stopped(Stop),
     /// The program has more than 64,512 bytes.
     #[error("the program is too long")]
     ComTooLong,
-    /// The words have more than 127 bytes with the spaces before them.
+    /// The command tail, the words with a space before each, has more than 127 bytes.
     #[error("the words are too long")]
     TailTooLong,
     /// Memory ran out.
@@ -39,7 +39,7 @@ pub enum Why {
     NoMemory,
 }
 
-/// Why a run that has no start ends.
+/// Why a run ends whose program cannot be started.
 pub(crate) fn unstarted(fault: StartFault) -> Why
     ensures { result ≡ unstarted fault }
 {
@@ -50,13 +50,13 @@ pub(crate) fn unstarted(fault: StartFault) -> Why
     }
 }
 
-/// How a run ended, and what it leaves.
+/// How a run ended, and the disk and the console as it leaves them.
 #[derive(Drop)]
 pub struct RunEnd<S: Sectors, C: Console> {
     pub why: Why,
-    /// How many turns were made: calls of the system and steps of the machine, the last one too.
+    /// The number of steps: system calls and steps of the machine, with the last one.
     pub turns: u64,
-    /// Where the next instruction would be.
+    /// PC at the end: the address of the next instruction.
     pub pc: u16,
     pub disk: Disk<S>,
     pub console: C,

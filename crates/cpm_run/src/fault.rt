@@ -1,15 +1,15 @@
-//! Why a program is not started.
+//! Why a program cannot be started.
 
 use std::alloc::AllocError;
 use thiserror::Error;
 
-/// Why a program is not started.
+/// Why a program cannot be started.
 #[derive(Clone, Copy, Debug, PartialEq, Eq, Error)]
 pub enum StartFault {
     /// The program has more than 64,512 bytes.
     #[error("the program is too long")]
     ComTooLong,
-    /// The words have more than 127 bytes with the spaces before them.
+    /// The command tail, the words with a space before each, has more than 127 bytes.
     #[error("the words are too long")]
     TailTooLong,
     /// Memory ran out.

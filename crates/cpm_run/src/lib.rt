@@ -1,7 +1,7 @@
-//! Programs of CP/M 2.2, run on the machine with a disk and a console.
+//! Runs a program of CP/M 2.2 on the machine, with a disk and a console.
 //!
-//! [`start`] makes the state in which a program begins: page zero, the command's words, the program at 0100H, and the entries of the
-//! system. [`run`] goes on from there to the program's end.
+//! [`start`] makes the state in which a program begins: page zero, the command tail, the program at 0100H, and the entries of the BIOS.
+//! [`run`] begins in that state and runs the program to its end.
 #![tactic(auto)]
 
 mod ending;

@@ -1,22 +1,22 @@
-//! Places of the system in memory.
+//! Addresses of the system in memory.
 
 ghost use Rattle.std.specs.Prelude.{◌≡◌};
 ghost use Rattle.cpm_run.specs.Turns.{bios_entry, is_finished};
 
-/// Where programs call the BDOS.
+/// The address at which a step is a call of the BDOS; the jump at address 5 goes there.
 pub const BDOS: u16 = 0xFE06;
 
-/// Where the BIOS has its entries, three bytes each.
+/// The address of the first entry of the BIOS. Each entry has three bytes.
 pub const BIOS: u16 = 0xFF00;
 
-/// Whether a program that comes here has finished: at the cold and the warm start of the BIOS.
+/// Whether a program with this PC has finished: it is at the cold or the warm start of the BIOS.
 pub(crate) fn is_finished(pc: u16) -> bool
     ensures { result ≡ is_finished pc }
 {
     pc == BIOS || pc == BIOS + 3
 }
 
-/// The number of the entry of the BIOS that stands here, from 2 to 16.
+/// The number of the BIOS entry at this address, from 2 to 16; `None` if there is none.
 pub(crate) fn bios_entry(pc: u16) -> Option<u8>
     ensures { result ≡ bios_entry pc }
 {

@@ -1,8 +1,8 @@
-//! Runs.
+//! Runs a program from its start to its end.
 
 ghost use Rattle.std.specs.Prelude.{◌≡◌, map};
 ghost use Rattle.z80_cpu.specs.State.{machine};
-ghost use Rattle.cpm_run.specs.Run.{Ends, IsRun};
+ghost use Rattle.cpm_run.specs.Run.{TurnsEnd, IsRun};
 
 use crate::ending::{RunEnd, Why, unstarted};
 use crate::places::{BDOS, BIOS, is_finished};
@@ -15,21 +15,21 @@ use cpm_image::Sectors;
 use std::alloc::Global;
 use z80_machine::{Cpu, Memory, Stop, Watch};
 
-/// The places of the system.
+/// The addresses at which a step is not one of the machine, so the machine stops there.
 const SYSTEM: Watch = Watch {
     from: BIOS,
     at: BDOS,
 };
 
-/// Makes turns until one ends the run, the program has finished, or as many were made as are allowed. The machine makes the steps
-/// between two places of the system at once.
+/// Makes steps until one ends the run, the program has finished, or the limit is reached. The machine makes all steps between two
+/// addresses of the system in one call.
 fn turns_of<S: Sectors, C: Console>(
     cpu: &mut Cpu,
     memory: &mut Memory,
     bdos: &mut Bdos<S, C>,
     limit: u64,
 ) -> (Why, u64)
-    ensures { Ends S.sectors S.faults C.dialog limit (record { machine = machine cpu.old memory.old; system = bdos.old }) result.0 result.1 (record { machine = machine cpu.new memory.new; system = bdos.new }) }
+    ensures { TurnsEnd S.sectors S.faults C.dialog limit (record { machine = machine cpu.old memory.old; system = bdos.old }) result.0 result.1 (record { machine = machine cpu.new memory.new; system = bdos.new }) }
 {
     let mut turns = 0;
     loop {
@@ -53,11 +53,12 @@ fn turns_of<S: Sectors, C: Console>(
     }
 }
 
-/// Runs a program from 0100H with its words, on a disk, which is drive A, and a console, for at most so many turns: calls of the system and
-/// steps of the machine.
+/// Runs a program from 0100H with its words, on a disk, which is drive A, and a console, for at most `limit` steps. A step is a system
+/// call or a step of the machine.
 ///
-/// It has finished where it comes to the warm start of the BIOS, which is judged before the limit, or calls for it. A program that is too
-/// long, words that are, or want of memory end it before the first turn. The disk and the console come back as they stand.
+/// The program has finished when it reaches the cold or the warm start of the BIOS, which is tested before the limit, or when a call asks
+/// for a warm boot. If the program or its command tail is too long, or memory runs out, the run ends before the first step. The disk and
+/// the console come back as the run leaves them.
 pub fn run<S: Sectors, C: Console>(
     alloc: Global,
     com: &[u8],

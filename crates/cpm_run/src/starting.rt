@@ -2,7 +2,7 @@
 
 ghost use Rattle.std.specs.Prelude.{◌≡◌, ◌≤◌, IfOk, length, map};
 ghost use Rattle.common.specs.declared.limits.TheConstants.{LONGEST_PROGRAM};
-ghost use Rattle.cpm_run.specs.Start.{IsStart, start_cpu, start_memory, word_at};
+ghost use Rattle.cpm_run.specs.Start.{IsStart, start_cpu, start_memory, command_word};
 ghost use Rattle.cpm_run.specs.Words.{control, tail_of};
 ghost use Rattle.cpm_run.specs.declared.words.TheConstants.{LONGEST_TAIL};
 
@@ -13,13 +13,13 @@ use cpm_fcb::put_bytes;
 use std::alloc::{AllocError, Global};
 use z80_cpu::{Cpu, Memory};
 
-/// JP to where the BIOS has its warm start.
+/// JP to the warm start of the BIOS, for address 0.
 const TO_BIOS: [u8; 3] = [0xC3, 0x03, 0xFF];
 
-/// JP to the BDOS.
+/// JP to the BDOS, for address 5.
 const TO_BDOS: [u8; 3] = [0xC3, 0x06, 0xFE];
 
-/// The entries of the BIOS, seventeen jumps, each to itself.
+/// The entries of the BIOS: seventeen jumps, each to itself.
 const BIOS_ENTRIES: [u8; 51] = [
     0xC3, 0x00, 0xFF, //
     0xC3, 0x03, 0xFF, //
@@ -40,9 +40,9 @@ const BIOS_ENTRIES: [u8; 51] = [
     0xC3, 0x30, 0xFF, //
 ];
 
-/// The word of the command with this number, in upper case, or no bytes where it has fewer.
+/// The word with this number in upper case, or no bytes if the command has fewer words.
 fn word_at(alloc: Global, words: &[&[u8]], number: usize) -> Result<Vec<u8>, AllocError>
-    ensures { IfOk result (λ word. word.items ≡ word_at (map (λ w. w.now) words.now) number) }
+    ensures { IfOk result (λ word. word.items ≡ command_word (map (λ w. w.now) words.now) number) }
 {
     match words.get(number) {
         Some(word) => upper(alloc, word),
@@ -50,16 +50,16 @@ fn word_at(alloc: Global, words: &[&[u8]], number: usize) -> Result<Vec<u8>, All
     }
 }
 
-/// The file control block of a word of the command.
+/// The first twelve bytes of the file control block of the word with this number: drive and name.
 fn control_at(alloc: Global, words: &[&[u8]], number: usize) -> Result<Vec<u8>, AllocError>
-    ensures bytes { IfOk result (λ bytes. bytes.items ≡ control (word_at (map (λ w. w.now) words.now) number)) }
+    ensures bytes { IfOk result (λ bytes. bytes.items ≡ control (command_word (map (λ w. w.now) words.now) number)) }
     ensures size { IfOk result (λ bytes. length bytes.items ≡ 12) }
 {
     let word = word_at(alloc, words, number)?;
     control(alloc, &word)
 }
 
-/// The registers. The address 0000H is on the stack.
+/// The registers at the start. Memory is 0 at SP, so a RET goes to 0000H.
 fn start_cpu() -> Cpu
     ensures { result ≡ start_cpu }
 {
@@ -69,7 +69,7 @@ fn start_cpu() -> Cpu
     cpu
 }
 
-/// The memory.
+/// The memory at the start.
 fn start_memory(
     alloc: Global,
     file: &[u8],
@@ -93,13 +93,13 @@ fn start_memory(
     Ok(memory)
 }
 
-/// The registers and the memory with which a program begins: `file` at 0100H, and page zero with the jumps to the system, the words
-/// in upper case as the command's tail at 0080H, and the first two of them as file control blocks at 005CH and 006CH.
+/// Makes the registers and the memory with which a program begins. `file` is at 0100H. Page zero has the jumps to the system, the words
+/// in upper case as the command tail at 0080H, and the first two words as file control blocks at 005CH and 006CH.
 ///
 /// # Errors
 ///
-/// [`StartFault::ComTooLong`] above 64,512 bytes; [`StartFault::TailTooLong`] where the words have more than 127 bytes with a space
-/// before each; [`StartFault::NoMemory`].
+/// [`StartFault::ComTooLong`] above 64,512 bytes; [`StartFault::TailTooLong`] if the words with a space before each have more than 127
+/// bytes; [`StartFault::NoMemory`].
 pub fn start(alloc: Global, file: &[u8], words: &[&[u8]]) -> Result<(Cpu, Memory), StartFault>
     ensures { IsStart file.now (map (λ w. w.now) words.now) result }
 {

@@ -1,10 +1,10 @@
-//! One turn of a run.
+//! One step of a run.
 
 ghost use Rattle.std.specs.Prelude.{◌≡◌};
 ghost use Rattle.z80_cpu.specs.State.{machine};
-ghost use Rattle.z80_machine.specs.Turn.{IsTurn as IsStep};
+ghost use Rattle.z80_machine.specs.Turn.{IsStep};
 ghost use Rattle.z80_machine.specs.Types.{Step};
-ghost use Rattle.cpm_run.specs.Turns.{Comes, IsTurn, TurnAt, Call, Entry, Program, State, stepped};
+ghost use Rattle.cpm_run.specs.Turns.{Comes, IsTurn, TurnAt, Call, Entry, Program, RunState, step_end};
 
 use crate::ending::Why;
 use crate::places::{BDOS, bios_entry};
@@ -14,7 +14,7 @@ use cpm_image::Sectors;
 use z80_machine::outcome::Step;
 use z80_machine::{Cpu, Memory, step};
 
-/// What a call comes to: it returns through the stack, or the run ends.
+/// Ends a system call: it returns to the program through the stack, or answers why the run ends.
 fn comes(answer: Result<After, Stop>, cpu: &mut Cpu, memory: &Memory) -> Option<Why>
     ensures { Comes answer cpu.old memory.now result (machine cpu.new memory.now) }
 {
@@ -28,7 +28,7 @@ fn comes(answer: Result<After, Stop>, cpu: &mut Cpu, memory: &Memory) -> Option<
     }
 }
 
-/// A system call.
+/// Makes a call of the BDOS.
 fn call<S: Sectors, C: Console>(
     cpu: &mut Cpu,
     memory: &mut Memory,
@@ -40,7 +40,7 @@ fn call<S: Sectors, C: Console>(
     comes(answer, cpu, memory)
 }
 
-/// An entry of the BIOS.
+/// Makes a call of an entry of the BIOS.
 fn enter<S: Sectors, C: Console>(
     entry: u8,
     cpu: &mut Cpu,
@@ -53,9 +53,9 @@ fn enter<S: Sectors, C: Console>(
     comes(answer, cpu, memory)
 }
 
-/// A step of the machine.
+/// Makes a step of the machine.
 fn stepped(cpu: &mut Cpu, memory: &mut Memory) -> Option<Why>
-    ensures { (outcome : Step) × IsStep outcome (machine cpu.old memory.old) (machine cpu.new memory.new) × (result ≡ stepped outcome) }
+    ensures { (outcome : Step) × IsStep outcome (machine cpu.old memory.old) (machine cpu.new memory.new) × (result ≡ step_end outcome) }
 {
     match step(cpu, memory) {
         Step::Done => None,
@@ -64,7 +64,7 @@ fn stepped(cpu: &mut Cpu, memory: &mut Memory) -> Option<Why>
     }
 }
 
-/// One turn: what it ends the run with, if it does.
+/// Makes one step of a run, and answers why the run ends, if it does.
 pub(crate) fn turn<S: Sectors, C: Console>(
     cpu: &mut Cpu,
     memory: &mut Memory,

@@ -1,21 +1,21 @@
-//! The words behind a command.
+//! The words after a command, as CP/M gives them to the program.
 
 ghost use Rattle.std.specs.Prelude.{◌≡◌, ◌≤◌, ◌∷◌, IfOk, length, map};
-ghost use Rattle.cpm_run.specs.Words.{before, behind, control, field, filled, name_of, place_of, tail_of, upper};
+ghost use Rattle.cpm_run.specs.Words.{before, after_first_byte, control, field, cut_or_padded, split_name, first_position, tail_of, upper_word};
 
 use std::alloc::{AllocError, Global};
 
-/// The most bytes of a command's tail.
+/// The most bytes that a command tail may have.
 pub const LONGEST_TAIL: usize = 127;
 
 /// A word in upper case.
 pub(crate) fn upper(alloc: Global, word: &[u8]) -> Result<Vec<u8>, AllocError>
-    ensures { IfOk result (λ bytes. bytes.items ≡ upper word.now) }
+    ensures { IfOk result (λ bytes. bytes.items ≡ upper_word word.now) }
 {
     word.to_ascii_uppercase(alloc)
 }
 
-/// The tail of a command.
+/// The tail of a command: its words in upper case, with a space before each.
 pub(crate) fn tail_of(alloc: Global, words: &[&[u8]]) -> Result<Vec<u8>, AllocError>
     ensures { IfOk result (λ tail. tail.items ≡ tail_of (map (λ w. w.now) words.now)) }
 {
@@ -27,29 +27,29 @@ pub(crate) fn tail_of(alloc: Global, words: &[&[u8]]) -> Result<Vec<u8>, AllocEr
     Ok(tail)
 }
 
-/// Where the first of a byte stands, or the end.
+/// The position of the first such byte in a word, or the length of the word if it has none.
 fn place_of(byte: u8, word: &[u8]) -> usize
-    ensures place { result ≡ place_of byte word.now }
+    ensures place { result ≡ first_position byte word.now }
     ensures within { result ≤ length word.now }
 {
     word.iter().take_while(|b| **b != byte).count()
 }
 
-/// What stands before the first of a byte, or all.
+/// The part of a word before the first such byte, or the whole word.
 fn before(byte: u8, word: &[u8]) -> &[u8]
     ensures { result.now ≡ before byte word.now }
 {
     &word[..place_of(byte, word)]
 }
 
-/// .. and what stands behind it.
+/// The part of a word after the first such byte; empty if it has none.
 fn behind(byte: u8, word: &[u8]) -> &[u8]
-    ensures { result.now ≡ behind byte word.now }
+    ensures { result.now ≡ after_first_byte byte word.now }
 {
     word.get(place_of(byte, word) + 1..).unwrap_or(&[])
 }
 
-/// A part of a name, cut when longer and padded with spaces; a `*` fills it with `?`.
+/// A part of a name with exactly N bytes: cut, or padded with spaces. A `*` ends the part, and then `?` pads it.
 fn field<const N: usize>(part: &[u8]) -> [u8; N]
     ensures { result ≡ field N part.now }
 {
@@ -58,9 +58,9 @@ fn field<const N: usize>(part: &[u8]) -> [u8; N]
     filled(stem, fill)
 }
 
-/// So many bytes of a part, cut when longer and filled up when shorter.
+/// The first N bytes of a part, padded with `fill` if it has fewer.
 fn filled<const N: usize>(part: &[u8], fill: u8) -> [u8; N]
-    ensures { result ≡ filled N fill part.now }
+    ensures { result ≡ cut_or_padded N fill part.now }
 {
     let len = part.len().min(N);
     let mut bytes = [fill; N];
@@ -68,9 +68,9 @@ fn filled<const N: usize>(part: &[u8], fill: u8) -> [u8; N]
     bytes
 }
 
-/// The drive that a word begins with, and the name behind it.
+/// The drive that a word begins with (`A:` is 1; 0 if there is none), and the name after it.
 fn drive_of(word: &[u8]) -> (u8, &[u8])
-    ensures { control word.now ≡ result.0 ∷ name_of result.1.now }
+    ensures { control word.now ≡ result.0 ∷ split_name result.1.now }
 {
     match word {
         [letter @ b'A'..=b'P', b':', name @ ..] => (letter - b'@', name),
@@ -78,7 +78,7 @@ fn drive_of(word: &[u8]) -> (u8, &[u8])
     }
 }
 
-/// The drive and the name of a file control block, by a word in upper case: twelve bytes.
+/// The first twelve bytes of a file control block, drive and name, from a word in upper case.
 pub(crate) fn control(alloc: Global, word: &[u8]) -> Result<Vec<u8>, AllocError>
     ensures bytes { IfOk result (λ bytes. bytes.items ≡ control word.now) }
     ensures size { IfOk result (λ bytes. length bytes.items ≡ 12) }

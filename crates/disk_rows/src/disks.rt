@@ -1,4 +1,4 @@
-//! Disks that are mounted, and their calls.
+//! Rows of mounted disks and their calls.
 
 ghost use Rattle.std.specs.Prelude.{◌<◌};
 
@@ -12,8 +12,8 @@ use cpm_image::{FailedWrite, Failing, MemoryImage};
 use std::alloc::Global;
 use std::io::Write;
 
-/// A device over an image: `good`, or `once` or `from` with the number of the call that fails, counted from 0, and `old` or `new`, which
-/// a write that fails leaves.
+/// Makes a device over an image: `good`; or `once` or `from` with the number of the call that fails, counted from 0, and `old` or `new`
+/// for what a failed write leaves.
 pub(crate) fn device_of(row: &str, image: MemoryImage) -> Result<Failing, anyhow::Error> {
     if row == "good" {
         return Ok(Failing::once(image, u32::MAX, FailedWrite::Old));
@@ -32,7 +32,7 @@ pub(crate) fn device_of(row: &str, image: MemoryImage) -> Result<Failing, anyhow
     }
 }
 
-/// A pattern, by its columns: EX, S2 and the name.
+/// Makes a pattern from its columns: EX, S2 and the name.
 fn pattern_of(alloc: Global, row: &str) -> Result<Pattern, anyhow::Error> {
     let (extent, row) = first_of(row)?;
     let (high, name) = first_of(row)?;
@@ -43,7 +43,7 @@ fn pattern_of(alloc: Global, row: &str) -> Result<Pattern, anyhow::Error> {
     })
 }
 
-/// A call that changes a disk, as a value.
+/// A call that changes a disk.
 #[derive(Clone, Copy)]
 pub(crate) enum Change {
     Create(Name),
@@ -54,7 +54,7 @@ pub(crate) enum Change {
     Write(Name, u32, u8),
 }
 
-/// Which attribute is set or cleared, and of what: the attribute, `on` or `off`, and a pattern.
+/// The attribute to set or clear, and the entries: the columns are the attribute, `on` or `off`, and a pattern.
 fn mark_of(alloc: Global, row: &str) -> Result<Change, anyhow::Error> {
     let (attribute, row) = first_of(row)?;
     let (switch, row) = first_of(row)?;
@@ -114,7 +114,7 @@ pub(crate) fn make(change: Change, user: u8, disk: &mut Disk<Failing>) -> Result
     }
 }
 
-/// Makes a change, and prints what it answers.
+/// Makes a change, and prints the answer.
 fn show_change<W: Write>(
     out: &mut W,
     change: Change,
@@ -137,7 +137,7 @@ fn show_change<W: Write>(
     }
 }
 
-/// A call that changes a disk: the user and the columns of the call.
+/// A row with a call that changes a disk: the user and the columns of the call.
 pub(crate) fn report_change<W: Write>(
     alloc: Global,
     out: &mut W,
@@ -160,7 +160,7 @@ fn marked(number: u32, mark: u8) -> [u8; 128] {
     bytes
 }
 
-/// Which records a row speaks of: the first, how many, how far apart, the byte that marks them, and the file.
+/// The records of a row: the first, how many, how far apart, the byte that marks them, and the file.
 #[derive(Clone, Copy)]
 struct Records {
     first: u32,
@@ -184,7 +184,7 @@ fn records_of(alloc: Global, row: &str) -> Result<Records, anyhow::Error> {
     })
 }
 
-/// Writes records of user 0 until one is refused: how many were written, and why the next was not.
+/// Writes records of user 0 until one is refused, and prints how many were written, and why the next was not.
 pub(crate) fn report_writes<W: Write>(
     alloc: Global,
     out: &mut W,
@@ -202,7 +202,7 @@ pub(crate) fn report_writes<W: Write>(
     Ok(write!(out, " {}", records.count)?)
 }
 
-/// Reads records of user 0, as they were written: how many are.
+/// Reads records of user 0, and prints how many are as they were written.
 pub(crate) fn report_reads<W: Write>(
     alloc: Global,
     out: &mut W,
@@ -220,7 +220,7 @@ pub(crate) fn report_reads<W: Write>(
     Ok(write!(out, " {count}")?)
 }
 
-/// An entry of the directory, by its number.
+/// A row that prints a directory entry, by its number.
 pub(crate) fn report_entry<W: Write>(
     out: &mut W,
     row: &str,
@@ -233,7 +233,7 @@ pub(crate) fn report_entry<W: Write>(
     show_bytes(out, &disk.entry(number))
 }
 
-/// What is looked for in a directory: by a pattern, from an entry on.
+/// A row that searches the directory: by a pattern, from an entry on.
 pub(crate) fn report_found<W: Write>(
     alloc: Global,
     out: &mut W,
@@ -246,7 +246,7 @@ pub(crate) fn report_found<W: Write>(
     show_number(out, disk.find(user_of(user)?, &pattern, short(from)?))
 }
 
-/// The entry of a file's extent.
+/// A row that prints the number of the entry of a file's extent.
 pub(crate) fn report_extent<W: Write>(
     alloc: Global,
     out: &mut W,
@@ -259,7 +259,7 @@ pub(crate) fn report_extent<W: Write>(
     show_number(out, disk.find_extent(user_of(user)?, &name, short(number)?))
 }
 
-/// How many records a file has.
+/// A row that prints the number of records in a file.
 pub(crate) fn report_size<W: Write>(
     alloc: Global,
     out: &mut W,
@@ -273,7 +273,7 @@ pub(crate) fn report_size<W: Write>(
     }
 }
 
-/// How many entries and blocks a file has.
+/// A row that prints the number of entries and blocks that a file has.
 pub(crate) fn report_usage<W: Write>(
     alloc: Global,
     out: &mut W,
@@ -285,7 +285,7 @@ pub(crate) fn report_usage<W: Write>(
     show_counts(out, usage.entries, usage.blocks)
 }
 
-/// How many entries and blocks of a disk are free.
+/// A row that prints the number of entries and blocks that are free.
 pub(crate) fn report_space<W: Write>(
     out: &mut W,
     disk: &Disk<Failing>,
@@ -294,7 +294,7 @@ pub(crate) fn report_space<W: Write>(
     show_counts(out, space.entries, space.blocks)
 }
 
-/// Prints a file of a list: user, name, how many records, and its attributes.
+/// Prints a file of a list: user, name, number of records, and attributes.
 fn show_listed<W: Write>(out: &mut W, file: &Listed) -> Result<(), anyhow::Error> {
     write!(out, " {}", file.user)?;
     show_bytes(out, &file.name.bytes())?;
@@ -320,7 +320,7 @@ pub(crate) fn show_list<W: Write>(out: &mut W, files: &[Listed]) -> Result<(), a
     Ok(())
 }
 
-/// All files of a disk.
+/// A row that prints all files of a disk.
 pub(crate) fn report_list<W: Write>(
     alloc: Global,
     out: &mut W,

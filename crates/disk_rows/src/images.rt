@@ -1,4 +1,4 @@
-//! Images: their sizes, sectors and records, and the entries that rows put into them.
+//! Rows of images: their sizes, sectors and records, and the entries that rows write into them.
 
 use crate::shown::{decimal, first_of, kind_of, padded, short, show_bytes};
 use anyhow::{Context, anyhow};
@@ -25,7 +25,7 @@ fn begins_with(image: &MemoryImage, bytes: &[u8]) -> bool {
     }
 }
 
-/// An image of that many bytes.
+/// A row that makes an image of this many bytes.
 pub(crate) fn report_image<W: Write>(
     alloc: Global,
     out: &mut W,
@@ -47,7 +47,7 @@ pub(crate) fn report_image<W: Write>(
     }
 }
 
-/// The kind of a disk of that many sectors.
+/// A row that prints the format of a disk with this many sectors.
 pub(crate) fn report_kind<W: Write>(out: &mut W, row: &str) -> Result<(), anyhow::Error> {
     match DiskKind::of_size(decimal(row)?) {
         Some(kind) => Ok(write!(out, " {kind:?}, {} records", kind.record_count())?),
@@ -55,7 +55,7 @@ pub(crate) fn report_kind<W: Write>(out: &mut W, row: &str) -> Result<(), anyhow
     }
 }
 
-/// The sector of a record of a kind of disk.
+/// The sector of a record, on a disk of a format.
 fn sector_of(kind: DiskKind, record: u32) -> Result<u32, anyhow::Error> {
     if record >= kind.record_count() {
         return Err(anyhow!("no such record"));
@@ -63,14 +63,14 @@ fn sector_of(kind: DiskKind, record: u32) -> Result<u32, anyhow::Error> {
     Ok(logical_of(kind, record))
 }
 
-/// The sector of a record: the kind of disk, and the record.
+/// A row that prints the sector of a record: the format, and the record.
 pub(crate) fn report_sector<W: Write>(out: &mut W, row: &str) -> Result<(), anyhow::Error> {
     let (kind, record) = first_of(row)?;
     let sector = sector_of(kind_of(kind)?, decimal(record)?)?;
     Ok(write!(out, " {sector}")?)
 }
 
-/// The sectors of a track of an eight inch disk, from 1 on, in the order of its records; with the track where that changes.
+/// A row that prints the sectors of a track of an eight inch disk, from 1 on, in the order of its records, and the track when it changes.
 pub(crate) fn report_track<W: Write>(out: &mut W, row: &str) -> Result<(), anyhow::Error> {
     let (first, count) = first_of(row)?;
     let mut track = 0;
@@ -86,7 +86,7 @@ pub(crate) fn report_track<W: Write>(out: &mut W, row: &str) -> Result<(), anyho
     Ok(())
 }
 
-/// Puts the 32 bytes of an entry into the directory of an image: its number and its bytes; zeros follow.
+/// Writes a directory entry to an image: its number and its first bytes; zeros follow.
 pub(crate) fn put_entry(
     alloc: Global,
     row: &str,
@@ -125,7 +125,7 @@ pub(crate) fn report_written<W: Write>(
     show_bytes(out, &back)
 }
 
-/// What all sectors of a range hold, or that they differ. As records, they are those of records.
+/// Prints what all sectors of a range have, or that they differ. With `as_records`, the numbers are those of logical records.
 pub(crate) fn report_range<W: Write>(
     out: &mut W,
     row: &str,
@@ -153,7 +153,7 @@ pub(crate) fn report_range<W: Write>(
     show_bytes(out, &found.context("no sector")?)
 }
 
-/// How many sectors of a range differ in two images.
+/// Prints how many sectors of a range differ in two images.
 pub(crate) fn report_changed<W: Write>(
     out: &mut W,
     row: &str,
@@ -171,7 +171,7 @@ pub(crate) fn report_changed<W: Write>(
     Ok(write!(out, " {count}")?)
 }
 
-/// The texts of some faults.
+/// Prints the texts of some faults.
 pub(crate) fn report_texts<W: Write>(out: &mut W) -> Result<(), anyhow::Error> {
     let (sectors, long, memory) = (
         ImageFault::NotSectors,

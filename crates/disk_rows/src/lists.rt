@@ -1,4 +1,4 @@
-//! Lists of entries, in which the directory's functions look.
+//! Rows of lists of entries, in which the functions of the directory search.
 
 use crate::disks::show_list;
 use crate::shown::{
@@ -14,7 +14,7 @@ use cpm_disk::DiskKind;
 use std::alloc::Global;
 use std::io::Write;
 
-/// Entries of a kind of disk.
+/// Directory entries of a format.
 #[derive(Drop)]
 pub(crate) struct List {
     pub(crate) kind: DiskKind,
@@ -41,12 +41,12 @@ fn add_extent(alloc: Global, row: &str, list: &mut List) -> Result<(), anyhow::E
     Ok(list.entries.push(entry)?)
 }
 
-/// The last entry, and takes it from the list.
+/// Takes the last entry from the list.
 fn last_of(list: &mut List) -> Result<Entry, anyhow::Error> {
     list.entries.pop().context("no entry")
 }
 
-/// An entry with a record in a block.
+/// An entry after a record is written to a block.
 fn with_record(
     entry: &Entry,
     kind: DiskKind,
@@ -67,7 +67,7 @@ fn with_record(
     }
 }
 
-/// Puts a record into the last entry: its number in the extent, and its block.
+/// Adds a record to the last entry: its number in the extent, and its block.
 fn add_record(row: &str, list: &mut List) -> Result<(), anyhow::Error> {
     let (record, block) = first_of(row)?;
     let record = u8::from_str_radix(record, 10)?;
@@ -76,14 +76,14 @@ fn add_record(row: &str, list: &mut List) -> Result<(), anyhow::Error> {
     Ok(list.entries.push(entry)?)
 }
 
-/// Marks the last entry with an attribute, or clears it of it.
+/// Sets or clears an attribute of the last entry.
 fn mark_last(row: &str, list: &mut List) -> Result<(), anyhow::Error> {
     let (attribute, switch) = first_of(row)?;
     let entry = last_of(list)?.marked(attribute_of(attribute)?, switch_of(switch)?);
     Ok(list.entries.push(entry)?)
 }
 
-/// The calls that make or change the last entry of a list.
+/// Makes calls that make or change the last entry of a list.
 pub(crate) fn change_list(
     alloc: Global,
     call: &str,
@@ -106,7 +106,7 @@ pub(crate) fn change_list(
     }
 }
 
-/// The bytes of the last entry, the number of its extent, and what it is.
+/// Prints the bytes of the last entry, the number of its extent, and what it is.
 fn report_shape<W: Write>(out: &mut W, entry: &Entry) -> Result<(), anyhow::Error> {
     show_bytes(out, &entry.to_bytes())?;
     for (is_so, word) in [
@@ -124,7 +124,7 @@ fn report_shape<W: Write>(out: &mut W, entry: &Entry) -> Result<(), anyhow::Erro
     Ok(())
 }
 
-/// Whether a record of the last entry is there, and the record of the disk at its place.
+/// Prints whether the last entry has a record, and the logical record of the disk for it.
 fn report_record<W: Write>(
     out: &mut W,
     row: &str,
@@ -143,7 +143,7 @@ fn report_record<W: Write>(
     Ok(write!(out, " {is_there}, {}", entry.place_on_disk(kind, record))?)
 }
 
-/// A block of the last entry, as a kind of disk has it: the kind, and which.
+/// Prints a block of the last entry on a disk of a format: the format, and which block.
 fn report_block<W: Write>(out: &mut W, row: &str, entry: &Entry) -> Result<(), anyhow::Error> {
     let (kind, group) = first_of(row)?;
     let kind = kind_of(kind)?;
@@ -160,7 +160,7 @@ fn show_truth<W: Write>(out: &mut W, is_so: bool) -> Result<(), anyhow::Error> {
     Ok(write!(out, " {word}")?)
 }
 
-/// The calls that look at the last entry of a list.
+/// Makes calls that look at the last entry of a list.
 pub(crate) fn report_on_last<W: Write>(
     alloc: Global,
     out: &mut W,
@@ -186,7 +186,7 @@ pub(crate) fn report_on_last<W: Write>(
     }
 }
 
-/// Whether a list keeps the rules, or its first fault.
+/// Prints whether a list keeps the rules, or its first fault.
 fn report_judged<W: Write>(out: &mut W, list: &List) -> Result<(), anyhow::Error> {
     match judge(list.kind, &list.entries) {
         Ok(()) => Ok(write!(out, " kept")?),
@@ -194,7 +194,7 @@ fn report_judged<W: Write>(out: &mut W, list: &List) -> Result<(), anyhow::Error
     }
 }
 
-/// A file of a list: its records and its attributes.
+/// Prints the records and the attributes of a file in a list.
 fn report_file<W: Write>(
     alloc: Global,
     out: &mut W,
@@ -217,7 +217,7 @@ fn report_file<W: Write>(
     Ok(())
 }
 
-/// The first free entry and the first free block of a part of a list.
+/// Prints the first free entry and the first free block of a part of a list.
 fn report_free<W: Write>(
     out: &mut W,
     row: &str,
@@ -236,7 +236,7 @@ fn report_free<W: Write>(
     show_number(out, free_block(kind, part))
 }
 
-/// The position of an extent: the user, its number and the name.
+/// Prints the position of an extent: the user, its number and the name.
 fn report_position<W: Write>(
     alloc: Global,
     out: &mut W,
@@ -255,7 +255,7 @@ fn report_position<W: Write>(
     )
 }
 
-/// The first entry that a pattern finds: the user, where to begin, EX, S2 and the name.
+/// Prints the first entry that a pattern finds: the user, where to begin, EX, S2 and the name.
 fn report_found<W: Write>(
     alloc: Global,
     out: &mut W,
@@ -277,7 +277,7 @@ fn report_found<W: Write>(
     show_number(out, find(entries, user_of(user)?, &pattern, short(from)?))
 }
 
-/// How many entries and blocks a file of a list has.
+/// Prints the number of entries and blocks that a file in a list has.
 fn report_usage<W: Write>(
     alloc: Global,
     out: &mut W,
@@ -293,7 +293,7 @@ fn report_usage<W: Write>(
     show_counts(out, usage.entries, usage.blocks)
 }
 
-/// How many entries and blocks of a list are free.
+/// Prints the number of free entries and blocks in a list.
 fn report_space<W: Write>(out: &mut W, list: &List) -> Result<(), anyhow::Error> {
     if list.entries.len() > 256 {
         return Err(anyhow!("too many entries"));
@@ -302,7 +302,7 @@ fn report_space<W: Write>(out: &mut W, list: &List) -> Result<(), anyhow::Error>
     show_counts(out, space.entries, space.blocks)
 }
 
-/// The entries of a list that break a rule.
+/// Prints the entries of a list that break a rule.
 fn report_faults<W: Write>(alloc: Global, out: &mut W, list: &List) -> Result<(), anyhow::Error> {
     if list.entries.len() > 256 {
         return Err(anyhow!("too many entries"));
@@ -310,7 +310,7 @@ fn report_faults<W: Write>(alloc: Global, out: &mut W, list: &List) -> Result<()
     show_faults(out, faults(alloc, list.kind, &list.entries))
 }
 
-/// All files of a list.
+/// Prints all files in a list.
 fn report_files<W: Write>(
     alloc: Global,
     out: &mut W,
@@ -323,7 +323,7 @@ fn report_files<W: Write>(
     }
 }
 
-/// The calls that look at a whole list.
+/// Makes calls that look at a whole list.
 pub(crate) fn report_on_list<W: Write>(
     alloc: Global,
     out: &mut W,

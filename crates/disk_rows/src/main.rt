@@ -1,6 +1,6 @@
-//! Reads rows, a line of standard input each, and prints each with the answer of the call that it names.
+//! Reads rows, one on each line of standard input, and prints each with the answer of the call that it names.
 //!
-//! The head of `stdin` says which calls there are and what stands behind each; a line of `;` is a remark.
+//! The head of `stdin` lists the calls and the columns of each; a line that begins with `;` is a remark.
 #![tactic(auto)]
 
 mod disks;
@@ -17,7 +17,7 @@ use lists::List;
 use std::alloc::Global;
 use std::io::Write;
 
-/// What the rows work on: an image or the disk that it became, the image as it was then, and a list of entries.
+/// What the rows work on: an image, or the disk mounted from it; the image as it was before; and a list of entries.
 #[derive(Drop)]
 struct State {
     image: Option<MemoryImage>,
@@ -26,7 +26,7 @@ struct State {
     list: List,
 }
 
-/// Makes a disk of the image.
+/// Mounts the image.
 fn report_mounted<W: Write>(
     alloc: Global,
     out: &mut W,
@@ -48,7 +48,7 @@ fn report_mounted<W: Write>(
     }
 }
 
-/// The faults of the directory of the image.
+/// Prints the faults of the image's directory.
 fn report_faults<W: Write>(
     alloc: Global,
     out: &mut W,
@@ -61,7 +61,7 @@ fn report_faults<W: Write>(
     shown::show_faults(out, answer)
 }
 
-/// The calls that make an image, or make a disk of it and an image of that.
+/// Makes calls that make an image, mount it, or unmount it.
 fn report_on_state<W: Write>(
     alloc: Global,
     out: &mut W,
@@ -93,7 +93,7 @@ fn report_on_state<W: Write>(
     }
 }
 
-/// The calls that use an image.
+/// Makes calls that use an image.
 fn report_on_image<W: Write>(
     alloc: Global,
     out: &mut W,
@@ -110,7 +110,7 @@ fn report_on_image<W: Write>(
     }
 }
 
-/// The calls that use a disk.
+/// Makes calls that use a disk.
 fn report_on_disk<W: Write>(
     alloc: Global,
     out: &mut W,
@@ -132,7 +132,7 @@ fn report_on_disk<W: Write>(
     }
 }
 
-/// The calls that use nothing.
+/// Makes calls that use nothing.
 fn report_alone<W: Write>(
     alloc: Global,
     out: &mut W,
@@ -151,7 +151,7 @@ fn report_alone<W: Write>(
     }
 }
 
-/// Each call.
+/// Makes any call.
 fn report<W: Write>(
     alloc: Global,
     out: &mut W,
@@ -204,7 +204,7 @@ fn report<W: Write>(
     }
 }
 
-/// A row as it stands, with the answer of its call. A remark has none.
+/// Prints a row, and then the answer of its call. A remark has no answer.
 fn report_row<W: Write>(
     alloc: Global,
     out: &mut W,

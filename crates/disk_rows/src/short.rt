@@ -1,4 +1,4 @@
-//! A device of 100 sectors, which has the size of no disk.
+//! A device of 100 sectors, which is not the size of any disk.
 
 use crate::shown::show_faults;
 use anyhow::anyhow;
@@ -7,7 +7,7 @@ use cpm_image::{DeviceFault, Sectors};
 use std::alloc::Global;
 use std::io::Write;
 
-/// It counts its calls, which all fail.
+/// A device that counts its calls, which all fail.
 #[derive(Drop)]
 struct Short {
     calls: u64,
@@ -35,7 +35,7 @@ impl Sectors for Short {
     }
 }
 
-/// Why the device is not mounted, and how often it was called.
+/// Prints why the device is not mounted, and how often it was called.
 pub(crate) fn report_short<W: Write>(alloc: Global, out: &mut W) -> Result<(), anyhow::Error> {
     match Disk::mount(alloc, Short { calls: 0 }) {
         Ok(_) => Err(anyhow!("a disk of 100 sectors")),
@@ -43,7 +43,7 @@ pub(crate) fn report_short<W: Write>(alloc: Global, out: &mut W) -> Result<(), a
     }
 }
 
-/// Why the faults of the device's directory are not known, and how often it was called.
+/// Prints why the faults of the device's directory are not found, and how often it was called.
 pub(crate) fn report_short_faults<W: Write>(
     alloc: Global,
     out: &mut W,

@@ -1,4 +1,4 @@
-//! Bytes, numbers and names of rows.
+//! Reads and prints the bytes, numbers and names of rows.
 
 use anyhow::{Context, anyhow};
 use cpm_disk::{Attribute, Broken, DiskFault, DiskKind};
@@ -13,27 +13,27 @@ pub(crate) fn show_bytes<W: Write>(out: &mut W, bytes: &[u8]) -> Result<(), anyh
     Ok(write!(out, ">")?)
 }
 
-/// A number in decimal.
+/// Parses a decimal number.
 pub(crate) fn decimal(text: &str) -> Result<u32, anyhow::Error> {
     Ok(u32::from_str_radix(text, 10)?)
 }
 
-/// A number of 16 bits in decimal.
+/// Parses a decimal number of 16 bits.
 pub(crate) fn short(text: &str) -> Result<u16, anyhow::Error> {
     Ok(u16::from_str_radix(text, 10)?)
 }
 
-/// A byte in hexadecimal.
+/// Parses a byte in hexadecimal.
 pub(crate) fn byte(text: &str) -> Result<u8, anyhow::Error> {
     Ok(u8::from_str_radix(text, 16)?)
 }
 
-/// A user, in decimal.
+/// Parses the number of a user, in decimal.
 pub(crate) fn user_of(text: &str) -> Result<u8, anyhow::Error> {
     Ok(u8::from_str_radix(text, 10)?)
 }
 
-/// The kind of disk that a word names.
+/// The format that a word names.
 pub(crate) fn kind_of(word: &str) -> Result<DiskKind, anyhow::Error> {
     match word.as_bytes() {
         b"eight" => Ok(DiskKind::EightInch),
@@ -60,7 +60,7 @@ pub(crate) fn switch_of(word: &str) -> Result<bool, anyhow::Error> {
     }
 }
 
-/// A text of that many bytes; where it is shorter, zeros follow.
+/// A text of N bytes; if it is shorter, zeros follow.
 pub(crate) fn padded<const N: usize>(alloc: Global, text: &str) -> Result<[u8; N], anyhow::Error> {
     let bytes = written_out(alloc, text)?;
     if bytes.len() > N {
@@ -89,7 +89,7 @@ pub(crate) fn show_number<W: Write>(out: &mut W, number: Option<u16>) -> Result<
     }
 }
 
-/// Prints a count of entries and one of blocks.
+/// Prints a number of entries and a number of blocks.
 pub(crate) fn show_counts<W: Write>(
     out: &mut W,
     entries: u16,
@@ -98,7 +98,7 @@ pub(crate) fn show_counts<W: Write>(
     Ok(write!(out, " {entries} entries, {blocks} blocks")?)
 }
 
-/// Prints how many entries break a rule, and of each its number, the first rule that it breaks, and its bytes.
+/// Prints how many entries break a rule, and for each its number, the first rule that it breaks, and its bytes.
 fn show_broken<W: Write>(out: &mut W, broken: &[Broken]) -> Result<(), anyhow::Error> {
     write!(out, " {} broken", broken.len())?;
     for entry in broken {
@@ -108,7 +108,7 @@ fn show_broken<W: Write>(out: &mut W, broken: &[Broken]) -> Result<(), anyhow::E
     Ok(())
 }
 
-/// Prints the entries that break a rule, or why they are not known.
+/// Prints the entries that break a rule, or why they are not found.
 pub(crate) fn show_faults<W: Write>(
     out: &mut W,
     answer: Result<Vec<Broken>, DiskFault>,
@@ -120,7 +120,7 @@ pub(crate) fn show_faults<W: Write>(
     }
 }
 
-/// Prints a number that a call answers, or why it refuses.
+/// Prints the number that a call answers, or why the call is refused.
 pub(crate) fn show_answer<W: Write>(
     out: &mut W,
     answer: Result<u16, DiskFault>,
@@ -131,7 +131,7 @@ pub(crate) fn show_answer<W: Write>(
     }
 }
 
-/// Prints that a call was done, or why it refuses.
+/// Prints that a call was done, or why it is refused.
 pub(crate) fn show_done<W: Write>(
     out: &mut W,
     answer: Result<(), DiskFault>,

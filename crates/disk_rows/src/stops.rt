@@ -1,4 +1,4 @@
-//! What a call leaves whose device fails at one of its calls, at each in turn.
+//! Makes a call on devices that fail, at each of their calls in turn, and tests what it leaves.
 
 ghost use Rattle.std.specs.Prelude.{◌<◌};
 
@@ -10,12 +10,12 @@ use cpm_image::{FailedWrite, Failing, MemoryImage};
 use std::alloc::Global;
 use std::io::Write;
 
-/// Records that are looked at of each file: at the beginning and the end of blocks and extents, and those that rows write.
+/// The records of each file that are compared: at the beginning and the end of blocks and extents, and those that rows write.
 const LOOKED_AT: [u32; 22] = [
     0, 1, 2, 3, 4, 7, 8, 9, 10, 11, 15, 16, 23, 24, 128, 129, 130, 131, 256, 300, 303, 4_100,
 ];
 
-/// What can be seen of a disk: its entries, and what reading records of its files answers.
+/// What can be seen of a disk: its entries, and the answers to reading records of its files.
 #[derive(Drop)]
 struct Seen {
     entries: Vec<[u8; 32]>,
@@ -44,7 +44,7 @@ fn mounted(alloc: Global, image: MemoryImage) -> Result<Disk<Failing>, anyhow::E
     }
 }
 
-/// Adds what reading the records of a file answers.
+/// Adds the answers to reading the records of a file.
 fn look_at_file(
     disk: &mut Disk<Failing>,
     user: u8,
@@ -69,7 +69,7 @@ fn entries_of(alloc: Global, disk: &Disk<Failing>) -> Result<Vec<[u8; 32]>, anyh
     Ok(entries)
 }
 
-/// What can be seen once an image is mounted again.
+/// What can be seen after an image is mounted again.
 fn look_at(alloc: Global, image: MemoryImage) -> Result<Seen, anyhow::Error> {
     let mut disk = mounted(alloc, image)?;
     let mut records = Vec::new(alloc);
@@ -82,7 +82,7 @@ fn look_at(alloc: Global, image: MemoryImage) -> Result<Seen, anyhow::Error> {
     })
 }
 
-/// Whether nothing is seen of a disk whose device has failed.
+/// Whether nothing can be seen of a disk whose device has failed.
 fn is_unseen(alloc: Global, disk: &Disk<Failing>, name: &Name) -> bool {
     let any = Pattern {
         name: *b"???????????",
@@ -98,7 +98,7 @@ fn is_unseen(alloc: Global, disk: &Disk<Failing>, name: &Name) -> bool {
         && has_no_entries(disk)
 }
 
-/// Whether a disk shows no entries and no blocks, of a file and of what is free.
+/// Whether a disk answers no entries and no blocks, for a file and for what is free.
 fn counts_nothing(disk: &Disk<Failing>, name: &Name) -> bool {
     let (entries, blocks) = (0, 0);
     disk.usage(0, name) == Usage { entries, blocks } && disk.space() == Space { entries, blocks }
@@ -140,7 +140,8 @@ fn fails_all(disk: &mut Disk<Failing>, name: Name) -> bool {
     true
 }
 
-/// Whether each entry is as before or as after, and where no name changes the records are all as before or all as after.
+/// Whether each entry is as it was before or as it is after the finished call; and, unless the call erases or renames files, whether all
+/// records are as before or all as after.
 fn is_between(change: Change, now: &Seen, before: &Seen, after: &Seen) -> bool {
     let mut entries = now.entries.iter().zip(&before.entries).zip(&after.entries);
     if !entries.all(|((entry, old), new)| entry == old || entry == new) {
@@ -152,7 +153,7 @@ fn is_between(change: Change, now: &Seen, before: &Seen, after: &Seen) -> bool {
         || records == after.records.as_slice()
 }
 
-/// Makes a call on a disk, and gives back whether that met the fault, whether the disk then answered as one that has failed, and the image.
+/// Makes a call on a disk. Answers whether the call met the fault, whether the disk then answered as one that has failed, and the image.
 fn stopped_at(
     alloc: Global,
     device: Failing,
@@ -172,7 +173,7 @@ fn stopped_at(
     Ok((is_met, is_failed, disk.unmount().into_image()))
 }
 
-/// The device of a call whose call of a number fails.
+/// A device on which call number `call` fails.
 fn failing(stopped: Stopped, image: MemoryImage, call: u32) -> Failing {
     if stopped.lasts {
         Failing::lasting(image, call, stopped.leaves)
@@ -181,7 +182,7 @@ fn failing(stopped: Stopped, image: MemoryImage, call: u32) -> Failing {
     }
 }
 
-/// Makes a call on a device that fails at a call of a number. Whether that met the fault.
+/// Makes a call on a device on which call number `call` fails, and answers whether the call met that fault.
 fn meets_fault(
     alloc: Global,
     image: &MemoryImage,
@@ -228,7 +229,7 @@ fn finished(alloc: Global, image: &MemoryImage, stopped: Stopped) -> Result<Seen
     look_at(alloc, left)
 }
 
-/// Makes a call on devices that fail at each of their calls in turn, until one meets no fault: at how many calls it stopped.
+/// Makes a call on devices that fail at each of their calls in turn, until it meets no fault, and prints at how many it stopped.
 pub(crate) fn report_stops<W: Write>(
     alloc: Global,
     out: &mut W,

@@ -1,4 +1,4 @@
-//! The texts of sizes and of certificates.
+//! Reads and writes sizes files and certificates.
 
 use crate::parts::show_parts;
 use crate::texts::lines_of;
@@ -8,7 +8,7 @@ use certificate::{Cert, Shape, TextFault, print_cert, print_sizes, read_cert, re
 use std::alloc::Global;
 use std::io::Write;
 
-/// Prints the first bad line of a text. Memory that is refused ends the program.
+/// Prints the first bad line of a file. If memory ran out, the program ends.
 fn show_fault<W: Write>(out: &mut W, fault: TextFault) -> Result<(), anyhow::Error> {
     match fault {
         TextFault::NoMemory => Err(fault.into()),
@@ -26,7 +26,7 @@ fn show_shape<W: Write>(alloc: Global, out: &mut W, shape: &Shape) -> Result<(),
     show_parts(out, &parts)
 }
 
-/// Prints the statements of a sizes text and whether they are printed as another text, or its first bad line.
+/// Prints the statements of a sizes file and whether they are written as another file, or its first bad line.
 pub(crate) fn report_sizes<W: Write>(
     alloc: Global,
     out: &mut W,
@@ -51,7 +51,8 @@ fn show_cert<W: Write>(out: &mut W, cert: &Cert) -> Result<(), anyhow::Error> {
     Ok(write!(out, " {:?}", cert.verdict)?)
 }
 
-/// Prints the jumps and the verdict of a certificate and whether they are printed as another text, or its first bad line.
+/// Prints the jumps and the verdict of a certificate and whether they are written as another file, or its first bad
+/// line.
 pub(crate) fn report_certificate<W: Write>(
     alloc: Global,
     out: &mut W,
@@ -69,7 +70,7 @@ pub(crate) fn report_certificate<W: Write>(
     }
 }
 
-/// Prints what the checker says of two texts.
+/// Prints the checker's answer for two files.
 pub(crate) fn report_check<W: Write>(
     alloc: Global,
     out: &mut W,
@@ -83,7 +84,7 @@ pub(crate) fn report_check<W: Write>(
     }
 }
 
-/// Prints how each fault is named, and its sentence.
+/// Prints the name of each error, and its sentence.
 pub(crate) fn report_faults<W: Write>(out: &mut W) -> Result<(), anyhow::Error> {
     for fault in [TextFault::BadLine(7), TextFault::NoMemory] {
         write!(out, " {fault:?}: {fault};")?;

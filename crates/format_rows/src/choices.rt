@@ -1,4 +1,4 @@
-//! Which jumps have to be long.
+//! Finds which jumps have to be long.
 
 use crate::texts::lines_of;
 use anyhow::{Context, anyhow};
@@ -6,7 +6,7 @@ use relax::{Growth, Ruler, Shape, Statement, Sums, grow, least};
 use std::alloc::Global;
 use std::io::Write;
 
-/// A statement, as a line of a sizes text has it.
+/// Parses a statement, as a line of a sizes file has it.
 fn statement_of(line: &str) -> Result<Statement, anyhow::Error> {
     let (word, number) = line.split_once(' ').context("no number")?;
     match word.as_bytes() {
@@ -26,7 +26,7 @@ fn statements_of(alloc: Global, row: &str) -> Result<Vec<Statement>, anyhow::Err
     Ok(statements)
 }
 
-/// Prints whether statements can be those of a program.
+/// Prints whether a program may have these statements.
 pub(crate) fn report_shape<W: Write>(
     alloc: Global,
     out: &mut W,
@@ -51,7 +51,7 @@ fn is_grown(alloc: Global, shape: &Shape, growth: &Growth) -> Result<bool, anyho
     Ok(order.as_slice() == growth.order.as_slice() && sums.asked() == growth.probes)
 }
 
-/// Prints what `least` answers, and whether `grow` answers otherwise.
+/// Prints what `least` answers, and whether `grow` answers something else.
 pub(crate) fn report_least<W: Write>(
     alloc: Global,
     out: &mut W,

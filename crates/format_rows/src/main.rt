@@ -1,4 +1,4 @@
-//! Reads rows, a line of standard input each, and prints each with the answer of the call that it names.
+//! Reads rows, one from each line of standard input, and prints each with the answer of the call that it names.
 //!
 //! The head of `stdin` says which calls there are and what their columns mean; a line of `;` is a remark.
 #![tactic(auto)]
@@ -34,7 +34,7 @@ fn report_text<W: Write>(
     }
 }
 
-/// Each call. Rows after an `object` are about it.
+/// All calls. Rows after an `object` are about that object file.
 fn report<W: Write>(
     alloc: Global,
     out: &mut W,

@@ -1,4 +1,4 @@
-//! A module in words.
+//! Prints a module in words.
 
 use crate::parts::show_parts;
 use asm_value::{Atom, Item, Room, items};
@@ -7,7 +7,7 @@ use std::alloc::Global;
 use std::io::Write;
 use zmo_module::{Hole, Module, Statement};
 
-/// A number, the number of a statement or an external, or an operator.
+/// Prints a number, the number of a statement or an external, or an operator.
 fn show_item<W: Write>(out: &mut W, item: &Item<Atom>) -> Result<(), anyhow::Error> {
     match item {
         Item::Leaf(Atom::Number(n)) => write!(out, " {n}")?,
@@ -18,7 +18,7 @@ fn show_item<W: Write>(out: &mut W, item: &Item<Atom>) -> Result<(), anyhow::Err
     Ok(())
 }
 
-/// The offset and the width of a value, and the items of its expression in postfix order.
+/// Prints the offset and the width of a fix-up, and the items of its expression in postfix order.
 fn show_hole<W: Write>(out: &mut W, hole: &Hole) -> Result<(), anyhow::Error> {
     write!(out, " ({} {:?}", hole.offset, hole.width)?;
     for item in items(&hole.value, &mut Room::new()) {
@@ -58,7 +58,7 @@ fn statement_part(alloc: Global, statement: &Statement) -> Result<Vec<u8>, anyho
     Ok(part)
 }
 
-/// The magic and the name, whether it has `ORG 0100H`, and the label of its entry.
+/// Answers the first four bytes and the name of an object file, whether it has `ORG 0100H`, and the label of its entry.
 fn head_part(alloc: Global, module: &Module) -> Result<Vec<u8>, anyhow::Error> {
     let mut part = Vec::new(alloc);
     let magic = if module.grow { "ZMO2" } else { "ZMO1" };
@@ -127,7 +127,7 @@ fn put_externals(
     Ok(())
 }
 
-/// Prints all that a module has.
+/// Prints everything that a module has.
 pub(crate) fn show_module<W: Write>(
     alloc: Global,
     out: &mut W,

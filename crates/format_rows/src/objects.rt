@@ -1,4 +1,4 @@
-//! Objects read, and written again.
+//! Reads object files, and writes them again.
 
 use crate::modules::show_module;
 use crate::parts::show_parts;
@@ -8,7 +8,7 @@ use std::alloc::Global;
 use std::io::Write;
 use zmo_object::{ObjectFault, read, write};
 
-/// Prints the module of an object and whether it is written as another object, or the first fault of the bytes.
+/// Prints the module of an object file and whether it is written as another file, or the first error of the bytes.
 pub(crate) fn report_object<W: Write>(
     alloc: Global,
     out: &mut W,
@@ -26,7 +26,7 @@ pub(crate) fn report_object<W: Write>(
     }
 }
 
-/// The same of the object of the rows, with other bytes from an offset on.
+/// Does the same for the object file of the rows, with other bytes from an offset on.
 pub(crate) fn report_with<W: Write>(
     alloc: Global,
     out: &mut W,
@@ -43,7 +43,8 @@ pub(crate) fn report_with<W: Write>(
     report_object(alloc, out, &changed)
 }
 
-/// The same of an object without a name that has one statement, which begins after 14 bytes, and the external F.
+/// Does the same for an object file without a name that has one statement, which begins after 14 bytes, and the
+/// external F.
 pub(crate) fn report_statement<W: Write>(
     alloc: Global,
     out: &mut W,
@@ -57,7 +58,7 @@ pub(crate) fn report_statement<W: Write>(
     report_object(alloc, out, &object)
 }
 
-/// The fault of bytes, or that they are an object.
+/// Answers the error of bytes, or that they are an object file.
 fn fault_part(alloc: Global, bytes: &[u8]) -> Result<Vec<u8>, anyhow::Error> {
     let mut part = Vec::new(alloc);
     match read(alloc, bytes) {
@@ -68,7 +69,7 @@ fn fault_part(alloc: Global, bytes: &[u8]) -> Result<Vec<u8>, anyhow::Error> {
     Ok(part)
 }
 
-/// The fault of the first 0, 1, 2 .. bytes of an object, and of the object with a byte more.
+/// Prints the error of the first 0, 1, 2 and so on bytes of an object file, and of the file with one byte more.
 pub(crate) fn report_cuts<W: Write>(
     alloc: Global,
     out: &mut W,
@@ -84,7 +85,7 @@ pub(crate) fn report_cuts<W: Write>(
     show_parts(out, &parts)
 }
 
-/// Whether bytes are faulty, or an object that is written as these bytes.
+/// Whether bytes have an error, or are an object file that is written as these bytes.
 fn is_faulty_or_same(alloc: Global, bytes: &[u8]) -> Result<bool, anyhow::Error> {
     match read(alloc, bytes) {
         Ok(module) => Ok(write(alloc, &module)?.as_slice() == bytes),
@@ -93,7 +94,7 @@ fn is_faulty_or_same(alloc: Global, bytes: &[u8]) -> Result<bool, anyhow::Error>
     }
 }
 
-/// Whether that holds of an object with each value of one byte.
+/// Whether that holds of an object file with each value of one byte.
 fn holds_at(alloc: Global, object: &[u8], at: usize) -> Result<bool, anyhow::Error> {
     let mut changed = object.to_vec(alloc)?;
     for value in 0..=255u8 {
@@ -107,7 +108,7 @@ fn holds_at(alloc: Global, object: &[u8], at: usize) -> Result<bool, anyhow::Err
     Ok(true)
 }
 
-/// Prints which bytes of an object have a value with which it is written as another object.
+/// Prints the numbers of those bytes of an object file that have a value with which it is written as another file.
 pub(crate) fn report_changes<W: Write>(
     alloc: Global,
     out: &mut W,

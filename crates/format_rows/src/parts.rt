@@ -1,8 +1,8 @@
-//! The parts of an answer.
+//! Prints the parts of an answer.
 
 use std::io::Write;
 
-/// Prints a part that comes several times in a row.
+/// Prints a part that occurs `count` times in a row.
 fn show_part<W: Write>(out: &mut W, count: u32, part: &[u8]) -> Result<(), anyhow::Error> {
     write!(out, " ")?;
     if count > 1 {
@@ -12,7 +12,7 @@ fn show_part<W: Write>(out: &mut W, count: u32, part: &[u8]) -> Result<(), anyho
     Ok(write!(out, ";")?)
 }
 
-/// Prints parts. Equal ones in a row are printed once, and counted.
+/// Prints parts. Equal ones in a row are printed once, with their count.
 pub(crate) fn show_parts<W: Write>(out: &mut W, parts: &[Vec<u8>]) -> Result<(), anyhow::Error> {
     let mut count = 0u32;
     for (at, part) in parts.iter().enumerate() {

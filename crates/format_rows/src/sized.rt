@@ -1,4 +1,5 @@
-//! Objects of any size, read and written as often as a row says: for measuring, and for refusing each allocation in turn.
+//! Reads and writes object files of any size, as often as a row says: for measuring, and for refusing each allocation
+//! in turn.
 
 ghost use Rattle.zmo_module.specs.Modules.{module_of};
 ghost use Rattle.zmo_module.specs.Rules.{IsModule};
@@ -55,7 +56,7 @@ fn read_often(alloc: Global, text: &[u8], times: u32) -> Result<(), ObjectFault>
     Ok(())
 }
 
-/// Whether a module is written as a text, each time.
+/// Whether a module is written as this file each time.
 fn write_often(alloc: Global, module: &Module, times: u32, text: &[u8]) -> Result<bool, AllocError>
     requires { IsModule (module_of «module».now) }
 {
@@ -74,7 +75,7 @@ fn is_same(alloc: Global, job: &Job) -> Result<bool, ObjectFault> {
     Ok(write_often(alloc, &module, job.writes, &text)?)
 }
 
-/// Prints whether each text that was written is the object, or the object's fault.
+/// Prints whether each file that was written is the object file, or the object file's error.
 pub(crate) fn report_sized<W: Write>(
     alloc: Global,
     out: &mut W,

@@ -1,31 +1,31 @@
-//! Objects of any size, spelled byte by byte.
+//! Makes object files of any size, byte by byte.
 
 use std::alloc::{AllocError, Global};
 
-/// `LD DE,X`: three bytes with a word's hole, the place of statement 0.
+/// `LD DE,X`: three bytes with a fix-up for a word, the address of statement 0.
 const HOLE: [u8; 15] = [1, 3, 0, 0x11, 0, 0, 1, 0, 1, 0, 2, 3, 2, 0, 0];
 
-/// What stands behind the head of an object.
+/// What follows the header of an object file.
 #[derive(Clone, Copy, PartialEq, Eq)]
 pub(crate) enum Kind {
-    /// Statements with a hole each, and what else belongs there.
+    /// Statements with one fix-up each, and what else belongs there.
     Holes,
-    /// Statements of which three of eight have a hole, and what else belongs there.
+    /// Statements, three in eight with a fix-up, and what else belongs there.
     Mixed,
-    /// Nothing: the head promises what is not there.
+    /// Nothing: the header promises what is not there.
     Nothing,
 }
 
-/// What an object is to have.
+/// What an object file is to have.
 #[derive(Drop)]
 pub(crate) struct Size {
     pub(crate) kind: Kind,
     pub(crate) statements: u16,
-    /// One at least: the entry is the first. Each is public.
+    /// One at least: the entry is the first label. All labels are public.
     pub(crate) labels: u16,
 }
 
-/// The bytes of a statement of the mixed kind.
+/// Answers the bytes of a statement of the mixed kind.
 fn mixed(at: u16) -> &'static [u8] {
     match at % 8 {
         0 | 3 => &HOLE,
@@ -46,7 +46,7 @@ fn digit(number: u16) -> u8 {
     b"0123456789"[usize::from(number % 10)]
 }
 
-/// The bytes of a label: the number of its statement, and L with its own number.
+/// Answers the bytes of a label: the number of its statement, and a name of L and its own number.
 fn label(at: u16, statement: u16) -> [u8; 9] {
     let [low, high] = statement.to_le_bytes();
     [
@@ -62,7 +62,7 @@ fn label(at: u16, statement: u16) -> [u8; 9] {
     ]
 }
 
-/// The head: it begins the program, is named M, has an entry and one external.
+/// Answers the header: the module says ORG 0100H, is named M, has an entry and one external.
 fn head(size: &Size) -> [u8; 17] {
     let [s0, s1] = size.statements.to_le_bytes();
     let [l0, l1] = size.labels.to_le_bytes();
@@ -96,7 +96,7 @@ fn put_publics(text: &mut Vec<u8>, size: &Size) -> Result<(), AllocError> {
     Ok(())
 }
 
-/// Puts what stands behind the head.
+/// Appends what follows the header.
 fn put_fields(text: &mut Vec<u8>, size: &Size) -> Result<(), AllocError> {
     put_statements(text, size)?;
     put_labels(text, size)?;
@@ -105,7 +105,7 @@ fn put_fields(text: &mut Vec<u8>, size: &Size) -> Result<(), AllocError> {
     Ok(())
 }
 
-/// The text of an object of a size.
+/// Answers the object file of this size.
 pub(crate) fn object_of(alloc: Global, size: &Size) -> Result<Vec<u8>, AllocError> {
     let mut text = Vec::from_slice(alloc, &head(size))?;
     if size.kind != Kind::Nothing {

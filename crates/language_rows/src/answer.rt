@@ -1,4 +1,4 @@
-//! What an expression's text and the names make, as text.
+//! Rows about expressions.
 
 use crate::tables::{define_equ, tree_of};
 use anyhow::Context;
@@ -10,7 +10,7 @@ use asm_scan::tokens;
 use std::alloc::Global;
 use std::io::Write;
 
-/// What an expression's text and the names make.
+/// What an expression is settled as.
 #[derive(Drop)]
 enum Answer {
     Expr(Expr),
@@ -18,7 +18,7 @@ enum Answer {
     Fault(ExprFault),
 }
 
-/// What names make of a tree. Memory that is refused ends the program.
+/// Settles a tree. Fails if memory runs out.
 fn made_of_tree(alloc: Global, tree: &Tree, names: &Names) -> Result<Answer, anyhow::Error> {
     if !is_defined(tree, names) {
         return Err(anyhow::anyhow!("a name that stands for nothing"));
@@ -31,7 +31,7 @@ fn made_of_tree(alloc: Global, tree: &Tree, names: &Names) -> Result<Answer, any
     }
 }
 
-/// What an expression's text and the names make.
+/// Parses and settles an expression.
 fn made(alloc: Global, text: &[u8], names: &Names) -> Result<Answer, anyhow::Error> {
     match parse(alloc, &tokens(alloc, text)?) {
         Ok(tree) => made_of_tree(alloc, &tree, names),
@@ -40,7 +40,7 @@ fn made(alloc: Global, text: &[u8], names: &Names) -> Result<Answer, anyhow::Err
     }
 }
 
-/// The number of a fixed expression, or of how many items another is made.
+/// Prints the number of a fixed expression, or how many items another expression has.
 fn show_expr<W: Write>(out: &mut W, expr: &Expr) -> Result<(), anyhow::Error> {
     match constant(expr) {
         Some(number) => write!(out, "{number:04X}H")?,
@@ -62,7 +62,7 @@ pub(crate) fn report_made<W: Write>(
     }
 }
 
-/// How an expression is kept.
+/// Prints how an expression is kept in memory.
 pub(crate) fn report_kept<W: Write>(
     alloc: Global,
     out: &mut W,
@@ -75,7 +75,7 @@ pub(crate) fn report_kept<W: Write>(
     }
 }
 
-/// What an expression is worth where the statements stand at five places.
+/// Prints the value of an expression, with the statements at five given addresses.
 pub(crate) fn report_value<W: Write>(
     alloc: Global,
     out: &mut W,
@@ -94,7 +94,7 @@ pub(crate) fn report_value<W: Write>(
     }
 }
 
-/// How far the operand of a short jump lies from `$`.
+/// Prints how far the target of a short jump's operand is from `$`.
 pub(crate) fn report_offset<W: Write>(
     alloc: Global,
     out: &mut W,
@@ -112,7 +112,7 @@ pub(crate) fn report_offset<W: Write>(
     }
 }
 
-/// Whether an expression is constant.
+/// Prints whether an expression is constant.
 pub(crate) fn report_constant<W: Write>(
     alloc: Global,
     out: &mut W,
@@ -123,7 +123,7 @@ pub(crate) fn report_constant<W: Write>(
     Ok(write!(out, "{}", is_constant(&tree, names))?)
 }
 
-/// Whether the name K is constant, which EQU gives here.
+/// Prints whether the name K is constant, once EQU has defined it by this expression.
 pub(crate) fn report_equ<W: Write>(
     alloc: Global,
     out: &mut W,
@@ -134,7 +134,7 @@ pub(crate) fn report_equ<W: Write>(
     report_constant(alloc, out, b"K", &names)
 }
 
-/// How far a statement stands from another.
+/// Prints how far one statement is from another.
 pub(crate) fn report_distance<W: Write>(
     out: &mut W,
     row: &str,

@@ -1,11 +1,11 @@
-//! Where blocks end.
+//! Rows about where blocks end.
 
 use anyhow::{Context, anyhow};
 use asm_text::{Links, Role, links_of};
 use std::alloc::Global;
 use std::io::Write;
 
-/// What a line is to blocks that has this word.
+/// The role of a line with this word.
 fn role_of(word: &str) -> Role {
     match word.as_bytes() {
         b"REPT" => Role::OpensBody,
@@ -17,7 +17,7 @@ fn role_of(word: &str) -> Role {
     }
 }
 
-/// The blocks of a text of these words, one a line.
+/// The links of lines with these words, one in each line.
 fn links_in(alloc: Global, words: &str) -> Result<Links, anyhow::Error> {
     let mut roles = Vec::new(alloc);
     for word in words.split_terminator(' ') {
@@ -29,7 +29,7 @@ fn links_in(alloc: Global, words: &str) -> Result<Links, anyhow::Error> {
     Ok(links_of(alloc, roles)?)
 }
 
-/// The first line of a block, the end of its text, and the text's words.
+/// The first line of a block, the line before which it has to end, and the links of the row's words.
 #[derive(Drop)]
 struct Asked {
     from: usize,
@@ -47,7 +47,7 @@ fn asked_by(alloc: Global, row: &str) -> Result<Asked, anyhow::Error> {
     })
 }
 
-/// How many lines a body has.
+/// Prints how many lines a body has.
 pub(crate) fn report_body<W: Write>(
     alloc: Global,
     out: &mut W,
@@ -60,7 +60,7 @@ pub(crate) fn report_body<W: Write>(
     }
 }
 
-/// How many lines each branch has.
+/// Prints how many lines each branch of an IF has.
 pub(crate) fn report_branches<W: Write>(
     alloc: Global,
     out: &mut W,
@@ -77,7 +77,7 @@ pub(crate) fn report_branches<W: Write>(
     Ok(())
 }
 
-/// The blocks of a text without lines, as they are made without memory.
+/// Prints what links of no lines answer. Making these takes no memory.
 pub(crate) fn report_no_lines<W: Write>(alloc: Global, out: &mut W) -> Result<(), anyhow::Error> {
     let links = Links::none(alloc);
     Ok(write!(out, " {} lines, {:?}", links.len(), links.body(0, 1))?)

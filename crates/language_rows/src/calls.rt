@@ -1,4 +1,4 @@
-//! Whole names replaced, and the arguments of a call.
+//! Rows about replacing names, and about the arguments of a call.
 
 use anyhow::Context;
 use asm_replace::{Names, Replacements, arguments, replace};
@@ -8,7 +8,7 @@ use std::alloc::Global;
 use std::io::Write;
 use std::rc::Rc;
 
-/// Texts with a slash behind each.
+/// The texts of a column, with a slash after each.
 fn texts_of(alloc: Global, column: &str) -> Result<Vec<Vec<u8>>, anyhow::Error> {
     let mut texts = Vec::new(alloc);
     for text in column.split_terminator('/') {
@@ -17,7 +17,7 @@ fn texts_of(alloc: Global, column: &str) -> Result<Vec<Vec<u8>>, anyhow::Error> 
     Ok(texts)
 }
 
-/// The table of a call: its parameters, its arguments, its LOCAL names and the number of the first of these.
+/// What a call replaces names by: its parameters, its arguments, its LOCAL names, and the number of the first of these.
 fn table_of(
     alloc: Global,
     parameters: &str,
@@ -37,7 +37,7 @@ fn table_of(
     })
 }
 
-/// What a line becomes in a call: the columns of the call's table, and the line, with a bar between them.
+/// Prints a line as a call shows it. The row has the columns of the call and then the line, with bars between them.
 pub(crate) fn report_replaced<W: Write>(
     alloc: Global,
     out: &mut W,
@@ -56,7 +56,7 @@ pub(crate) fn report_replaced<W: Write>(
     Ok(write!(out, ">")?)
 }
 
-/// The arguments of a call, of which a row has what stands behind the name.
+/// Prints the arguments of a call. The row has what follows the macro's name.
 pub(crate) fn report_arguments<W: Write>(
     alloc: Global,
     out: &mut W,

@@ -1,4 +1,4 @@
-//! Lists of items that make an expression, and lists that make none.
+//! Rows about lists of items, which may make an expression or not.
 
 use asm_expr::{Atom, Binary, Expr, Item, Room, Unary, constant, items};
 use std::alloc::Global;
@@ -28,7 +28,7 @@ fn items_of(alloc: Global, text: &[u8]) -> Result<Vec<Item<Atom>>, anyhow::Error
     Ok(list)
 }
 
-/// The items of the expression that a list makes, and the number where it is fixed.
+/// Prints the items of the expression that a list makes, and its number if it is fixed.
 pub(crate) fn report_items<W: Write>(
     alloc: Global,
     out: &mut W,

@@ -1,4 +1,4 @@
-//! What lines of source spell.
+//! Rows about parsed lines.
 
 use anyhow::Context;
 use asm_module::read_source;
@@ -22,7 +22,7 @@ fn show_item<W: Write>(out: &mut W, item: &Item<Term>) -> Result<(), anyhow::Err
     Ok(())
 }
 
-/// The items of an expression in postfix order.
+/// Prints the items of an expression in postfix order.
 fn show_tree<W: Write>(out: &mut W, tree: &Tree) -> Result<(), anyhow::Error> {
     for item in tree.items() {
         show_item(out, item)?;
@@ -142,7 +142,7 @@ fn show_line<W: Write>(out: &mut W, line: &Line) -> Result<(), anyhow::Error> {
     Ok(())
 }
 
-/// Whether a line is a name that a program can define, and what it spells, or its fault.
+/// Prints whether a line is a name that a program can define, and the parsed line or its error.
 pub(crate) fn report_spelled<W: Write>(
     alloc: Global,
     out: &mut W,
@@ -158,7 +158,7 @@ pub(crate) fn report_spelled<W: Write>(
     }
 }
 
-/// The tokens of a word, those of a text that many times, and those of a last text.
+/// The tokens of a word, then this many times those of a text, and then those of a last text.
 fn many_tokens<'a>(
     alloc: Global,
     word: &'a str,
@@ -175,7 +175,7 @@ fn many_tokens<'a>(
     Ok(all)
 }
 
-/// How many items a line of DB has.
+/// How many items a line of DB has; None for any other line.
 fn count_of(line: &Line) -> Option<usize> {
     match line {
         Line::Statement {
@@ -186,7 +186,7 @@ fn count_of(line: &Line) -> Option<usize> {
     }
 }
 
-/// How many items more tokens spell behind DB than a line can have, or their fault.
+/// Prints how many items DB has when it has more tokens than a line can have, or the error.
 pub(crate) fn report_many<W: Write>(
     alloc: Global,
     out: &mut W,
@@ -205,7 +205,7 @@ pub(crate) fn report_many<W: Write>(
     }
 }
 
-/// A text in which each bar ends a line.
+/// A copy of a text, with each bar replaced by a line end.
 fn with_line_ends(alloc: Global, text: &[u8]) -> Result<Vec<u8>, anyhow::Error> {
     let mut lines = text.to_vec(alloc)?;
     for byte in lines.iter_mut() {
@@ -216,8 +216,8 @@ fn with_line_ends(alloc: Global, text: &[u8]) -> Result<Vec<u8>, anyhow::Error> 
     Ok(lines)
 }
 
-/// The lines of a source with their numbers, the line that spells nothing, and the last line that is listed; or where the expansion
-/// stops.
+/// Prints the lines of a source with their numbers, the line that cannot be parsed, and the last line that is listed; or where the
+/// expansion stops.
 pub(crate) fn report_source<W: Write>(
     alloc: Global,
     out: &mut W,

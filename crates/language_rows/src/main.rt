@@ -1,6 +1,6 @@
-//! Reads rows, a line of standard input each, and prints each with the answer of the call that it names.
+//! Reads rows from standard input, one line each, and prints each with the answer of the call that it names.
 //!
-//! The head of `stdin` says which calls there are and what stands behind each; a line of `;` is a remark.
+//! The head of `stdin` explains the calls and what follows each. A line that begins with `;` is a remark.
 #![tactic(auto)]
 
 mod answer;
@@ -19,14 +19,14 @@ use row_text::written_out;
 use std::alloc::Global;
 use std::io::Write;
 
-/// The names with which expressions and statements are read.
+/// The names with which expressions and statements are read, and the number of their table.
 #[derive(Drop)]
 struct Known {
     table: u32,
     names: Names,
 }
 
-/// The calls that cut lines and spell them.
+/// Makes the calls that cut lines into tokens and parse them.
 fn report_text<W: Write>(
     alloc: Global,
     out: &mut W,
@@ -54,7 +54,7 @@ fn report_text<W: Write>(
     }
 }
 
-/// The calls with columns of their own, else those that cut lines and spell them.
+/// Makes the calls with columns of their own, or else those that cut lines into tokens and parse them.
 fn report_columns<W: Write>(
     alloc: Global,
     out: &mut W,
@@ -82,7 +82,7 @@ fn report_columns<W: Write>(
     }
 }
 
-/// The calls that read an expression with the names of a table.
+/// Makes the calls that read an expression with the names of a table.
 fn report_expression<W: Write>(
     alloc: Global,
     out: &mut W,
@@ -123,7 +123,7 @@ fn is_expression(call: &str) -> bool {
     CALLS.iter().any(|name| *name == call)
 }
 
-/// Each call.
+/// Makes the call that a row names.
 fn report<W: Write>(
     alloc: Global,
     out: &mut W,

@@ -1,11 +1,11 @@
-//! The order in which definitions are settled.
+//! Rows about the order in which definitions are settled.
 
 use anyhow::anyhow;
 use asm_names::{Turn, are_defined, order};
 use std::alloc::Global;
 use std::io::Write;
 
-/// Numbers with a comma between them.
+/// The numbers of a column, separated by commas.
 fn numbers_of(alloc: Global, column: &str) -> Result<Vec<u32>, anyhow::Error> {
     let mut numbers = Vec::new(alloc);
     for number in column.split_terminator(',') {
@@ -14,7 +14,7 @@ fn numbers_of(alloc: Global, column: &str) -> Result<Vec<u32>, anyhow::Error> {
     Ok(numbers)
 }
 
-/// The numbers of the definitions that each definition names, with a slash behind each.
+/// For each definition, the numbers of those that it names, with a slash after each list.
 fn uses_of(alloc: Global, row: &str) -> Result<Vec<Vec<u32>>, anyhow::Error> {
     let mut uses = Vec::new(alloc);
     for column in row.split_terminator('/') {
@@ -34,7 +34,7 @@ fn order_of(alloc: Global, uses: &[Vec<u32>]) -> Result<Vec<Turn>, anyhow::Error
     Ok(order(alloc, uses)?)
 }
 
-/// All definitions in an order in which they can be settled, with a star behind each that is on a circle.
+/// Prints all definitions in an order in which they can be settled, with a star after each that is on a circle.
 pub(crate) fn report_order<W: Write>(
     alloc: Global,
     out: &mut W,
@@ -47,7 +47,7 @@ pub(crate) fn report_order<W: Write>(
     Ok(())
 }
 
-/// So many definitions, each of which names the next one, and the last one these.
+/// A chain of `count` definitions: each names the next one, and the last one names those in `last`.
 fn chain(alloc: Global, count: u32, last: &str) -> Result<Vec<Vec<u32>>, anyhow::Error> {
     let mut uses = Vec::new(alloc);
     for definition in 1..count {
@@ -57,7 +57,7 @@ fn chain(alloc: Global, count: u32, last: &str) -> Result<Vec<Vec<u32>>, anyhow:
     Ok(uses)
 }
 
-/// How many definitions a chain has in order, and how many of them are on a circle.
+/// Prints how many definitions of a chain are in its order, and how many of them are on a circle.
 pub(crate) fn report_chain<W: Write>(
     alloc: Global,
     out: &mut W,
@@ -70,7 +70,7 @@ pub(crate) fn report_chain<W: Write>(
     Ok(write!(out, " {}, {circles} on a circle", turns.len())?)
 }
 
-/// Whether definitions name definitions alone.
+/// Prints whether definitions name only definitions.
 pub(crate) fn report_defined<W: Write>(
     alloc: Global,
     out: &mut W,

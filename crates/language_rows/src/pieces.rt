@@ -1,4 +1,4 @@
-//! What statements are with names: their bytes, and how many there are.
+//! Rows about statements whose names are known: their bytes, and how many there are.
 
 use crate::tables::define;
 use asm_expr::{Atom, Item, Names, Room, Statement, Tree, equate, is_defined, items};
@@ -18,7 +18,7 @@ fn show_item<W: Write>(out: &mut W, item: &Item<Atom>) -> Result<(), anyhow::Err
     Ok(())
 }
 
-/// A hole's offset and width, and the items of its expression in postfix order.
+/// Prints the offset and width of a fix-up, and the items of its expression in postfix order.
 fn show_hole<W: Write>(out: &mut W, hole: &Hole) -> Result<(), anyhow::Error> {
     write!(out, "; {} {:?}", hole.offset, hole.width)?;
     for item in items(&hole.value, &mut Room::new()) {
@@ -66,7 +66,7 @@ fn show_size<W: Write>(out: &mut W, size: Option<Statement>) -> Result<(), anyho
     Ok(())
 }
 
-/// A fault's name. Memory that is refused ends the program.
+/// Prints the name of an error. Fails if memory ran out.
 fn show_fault<W: Write>(out: &mut W, fault: StmtFault) -> Result<(), anyhow::Error> {
     match fault {
         StmtFault::NoMemory => Err(fault.into()),
@@ -74,7 +74,7 @@ fn show_fault<W: Write>(out: &mut W, fault: StmtFault) -> Result<(), anyhow::Err
     }
 }
 
-/// What a statement makes.
+/// The bytes and fix-ups of a statement; None if a name in it is not defined.
 fn made(alloc: Global, body: &Body, names: &Names) -> Result<Option<Made>, StmtFault> {
     if are_defined(body, names) {
         Ok(Some(settle(alloc, body, names)?))
@@ -96,7 +96,7 @@ fn report_statement<W: Write>(
     }
 }
 
-/// How many bytes a statement takes.
+/// Prints how many bytes a statement takes.
 fn report_body_size<W: Write>(
     alloc: Global,
     out: &mut W,
@@ -126,7 +126,7 @@ pub(crate) fn report_size<W: Write>(
     }
 }
 
-/// Defines a name by EQU.
+/// Defines a name by EQU, or prints why it has no value.
 fn report_equ<W: Write>(
     alloc: Global,
     out: &mut W,

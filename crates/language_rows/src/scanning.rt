@@ -1,4 +1,4 @@
-//! What a line is cut into, and what it says first.
+//! Rows about the tokens of a line, and about how a line begins.
 
 use asm_line::{Head, form_of, names};
 use asm_scan::{ScanFault, Token, tokens};
@@ -6,21 +6,21 @@ use row_text::show_text;
 use std::alloc::Global;
 use std::io::Write;
 
-/// A text behind what it is.
+/// Prints what a text is, and then the text.
 fn show_named<W: Write>(out: &mut W, what: &str, text: &[u8]) -> Result<(), anyhow::Error> {
     write!(out, " {what} <")?;
     show_text(out, text)?;
     Ok(write!(out, ">")?)
 }
 
-/// What a token is, and its text.
+/// Prints the kind of a token, and its text.
 fn show_token<W: Write>(out: &mut W, token: &Token<'_>) -> Result<(), anyhow::Error> {
     write!(out, " {:?} <", token.kind)?;
     show_text(out, token.text)?;
     Ok(write!(out, ">")?)
 }
 
-/// The tokens of a line, or its fault.
+/// Prints the tokens of a line, or its error.
 pub(crate) fn report_tokens<W: Write>(
     alloc: Global,
     out: &mut W,
@@ -37,7 +37,7 @@ pub(crate) fn report_tokens<W: Write>(
     }
 }
 
-/// How many tokens a line has.
+/// Prints how many tokens a line has.
 pub(crate) fn report_count<W: Write>(
     alloc: Global,
     out: &mut W,
@@ -46,7 +46,7 @@ pub(crate) fn report_count<W: Write>(
     Ok(write!(out, " {} tokens", tokens(alloc, line)?.len())?)
 }
 
-/// How the faults of a line are named.
+/// Prints the names of all scan errors.
 pub(crate) fn report_faults<W: Write>(out: &mut W) -> Result<(), anyhow::Error> {
     for fault in [
         ScanFault::BadByte,
@@ -70,7 +70,7 @@ fn show_head<W: Write>(out: &mut W, head: &Head<'_>) -> Result<(), anyhow::Error
     }
 }
 
-/// The label of a line, what it says first, and how many tokens stand behind that.
+/// Prints the label of a line, its head, and how many tokens come after these.
 pub(crate) fn report_form<W: Write>(
     alloc: Global,
     out: &mut W,
@@ -85,7 +85,7 @@ pub(crate) fn report_form<W: Write>(
     Ok(write!(out, ", then {}", form.rest.len())?)
 }
 
-/// The names that a list has.
+/// Prints the names in a list.
 pub(crate) fn report_names<W: Write>(
     alloc: Global,
     out: &mut W,

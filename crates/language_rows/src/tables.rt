@@ -1,4 +1,4 @@
-//! Tables of names.
+//! Tables of names for rows.
 
 ghost use Rattle.asm_expr.specs.Names.{IsCounted};
 
@@ -6,7 +6,7 @@ use asm_expr::{Meaning, Names, Tree, equate, is_defined, parse};
 use asm_scan::tokens;
 use std::alloc::{AllocError, Global};
 
-/// The tree of an expression.
+/// Parses an expression.
 pub(crate) fn tree_of(alloc: Global, text: &[u8]) -> Result<Tree, anyhow::Error> {
     Ok(parse(alloc, &tokens(alloc, text)?)?)
 }
@@ -48,7 +48,7 @@ enum Passed {
     Unsized,
 }
 
-/// Passes a statement.
+/// Appends a statement to a table.
 fn pass(names: &mut Names, statement: &Passed) -> Result<(), AllocError> {
     match statement {
         Passed::Fixed(size) => names.pass_fixed(*size),
@@ -57,7 +57,8 @@ fn pass(names: &mut Names, statement: &Passed) -> Result<(), AllocError> {
     }
 }
 
-/// The names of a module: its statements, the one that is `$`, labels with the numbers of theirs, and names of faulty lines.
+/// A table of names: the statements of a module, the number of the one that is `$`, and labels with the numbers of their
+/// statements.
 fn module_of(
     alloc: Global,
     statements: &[Passed],
@@ -75,7 +76,7 @@ fn module_of(
     Ok(names)
 }
 
-/// Defines names by EQU.
+/// Adds names that EQU defines to a table.
 fn with_equs(
     alloc: Global,
     mut names: Names,
@@ -87,7 +88,7 @@ fn with_equs(
     Ok(names)
 }
 
-/// A module of five statements: W before 3 bytes, X before 4, a relaxable jump at Y, V before a byte, END at the end.
+/// Four statements and five labels: W before 3 bytes, X before 4 bytes, Y at a relaxable jump, V before a byte, and END at the end.
 fn five(alloc: Global) -> Result<Names, anyhow::Error> {
     module_of(
         alloc,
@@ -102,8 +103,8 @@ fn five(alloc: Global) -> Result<Names, anyhow::Error> {
     )
 }
 
-/// That module with names that EQU gives: a fixed one, a constant, a place, five copies of the first two, a distance that varies,
-/// twice that, and twice that again; and two by names of fourteen and fifteen bytes.
+/// The same table with names that EQU defines: a fixed distance, a constant, an address, five times each of the first two, a
+/// distance that varies, twice that, and twice that again; and names of fourteen and fifteen bytes.
 fn five_with_equs(alloc: Global) -> Result<Names, anyhow::Error> {
     with_equs(
         alloc,
@@ -123,8 +124,8 @@ fn five_with_equs(alloc: Global) -> Result<Names, anyhow::Error> {
     )
 }
 
-/// X at a statement of 3 bytes, Y behind it; N a name whose own line is faulty, NM one more than it, V behind X by as
-/// much, BOTH the sum of both places.
+/// X is at a statement of 3 bytes, and Y after it. N is a name whose own line has an error, and NM is one more. V is N bytes after
+/// X, and BOTH is the sum of both addresses.
 fn beside_faulty(alloc: Global) -> Result<Names, anyhow::Error> {
     let mut names = module_of(alloc, &[Passed::Fixed(3)], 0, &[(b"X", 0), (b"Y", 1)])?;
     define(&mut names, b"N".to_vec(alloc)?, Meaning::Faulty)?;
@@ -135,8 +136,8 @@ fn beside_faulty(alloc: Global) -> Result<Names, anyhow::Error> {
     )
 }
 
-/// PA before 3 bytes, PB before a size that is not known, PC before 2 bytes, PD at a relaxable jump, PE1 before a size
-/// that is not known, PF at the end; N a name whose own line is faulty.
+/// PA is before 3 bytes, PB before a statement of unknown size, PC before 2 bytes, PD at a relaxable jump, PE1 before a statement
+/// of unknown size, and PF at the end. N is a name whose own line has an error.
 fn unsized_ones(alloc: Global) -> Result<Names, anyhow::Error> {
     let mut names = module_of(
         alloc,
@@ -161,8 +162,8 @@ fn unsized_ones(alloc: Global) -> Result<Names, anyhow::Error> {
     Ok(names)
 }
 
-/// That module with names that EQU gives: K and KL keep whether they vary, and whether HIGH or LOW is their outermost operator;
-/// KN is N.
+/// The same table with names that EQU defines: K and KL, whose values vary, and KL with LOW as its outermost operator; and KN,
+/// which is N.
 fn unsized_with_equs(alloc: Global) -> Result<Names, anyhow::Error> {
     with_equs(
         alloc,
@@ -171,9 +172,9 @@ fn unsized_with_equs(alloc: Global) -> Result<Names, anyhow::Error> {
     )
 }
 
-/// Seven statements, of which the third is `$`: one of four bytes and one of three stand before it. It takes two bytes itself. A
-/// jump that may be short or long, one byte, a statement of unknown size and one byte follow. Labels behind and ahead of `$`, an
-/// external, a name whose EQU is constant and has no value, and one whose line is faulty.
+/// Seven statements. The third is `$`: it takes two bytes itself, and statements of four and of three bytes come before it. A
+/// relaxable jump, one byte, a statement of unknown size and one byte follow. There are labels before and after `$`, an external, a
+/// constant EQU name without a value, and a name whose line has an error.
 fn seven(alloc: Global) -> Result<Names, anyhow::Error> {
     let mut names = module_of(
         alloc,
@@ -199,7 +200,7 @@ fn seven(alloc: Global) -> Result<Names, anyhow::Error> {
     Ok(names)
 }
 
-/// The table of a number: 0 has no names.
+/// The table with this number. Table 0 has no names.
 pub(crate) fn table(alloc: Global, number: u32) -> Result<Names, anyhow::Error> {
     match number {
         1 => five(alloc),

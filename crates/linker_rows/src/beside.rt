@@ -1,4 +1,5 @@
-//! What comes with a file: the address and the line of each statement, the last lines of its sources, its labels, the jumps that grew.
+//! Prints what comes with a file: the address and the line of each statement, the last lines of its sources, its labels, and the jumps that
+//! grew.
 
 use crate::sources::{build_sources, built_of, column_of, lines_of, sources_of, texts_of};
 use row_text::show_text;
@@ -34,7 +35,7 @@ pub(crate) fn report_symbols<W: Write>(
     Ok(())
 }
 
-/// Prints the last line of each source that a listing has.
+/// Prints for each source the last line that a listing shows.
 pub(crate) fn report_last<W: Write>(
     alloc: Global,
     out: &mut W,
@@ -61,7 +62,7 @@ pub(crate) fn report_grown<W: Write>(
     Ok(())
 }
 
-/// Prints the module of each label of a source that has this name and one label.
+/// Prints the module of each label, for a source that has this name and one label.
 pub(crate) fn report_module_name<W: Write>(
     alloc: Global,
     out: &mut W,

@@ -1,4 +1,4 @@
-//! Sources built, or why they are not.
+//! Builds sources, and prints the file or why there is none.
 
 use crate::linking::{report_difference, report_refused};
 use crate::shown::{show_bytes, show_checked, show_fault, show_lines};
@@ -8,7 +8,7 @@ use std::alloc::Global;
 use std::io::Write;
 use zlink::{BuildFault, Built, LinkFault, Source, build};
 
-/// Prints a file, what the checker says of its two texts, and whether its modules are linked to another one.
+/// Prints a file, the checker's answer for its sizes file and certificate, and whether linking its modules gives another program.
 fn show_built<W: Write>(
     alloc: Global,
     out: &mut W,
@@ -24,7 +24,7 @@ fn show_built<W: Write>(
     report_difference(alloc, out, texts, (grow, true), built)
 }
 
-/// Prints why no file is built, and whether its modules are refused for another reason.
+/// Prints why no file is built, and whether linking the modules is refused for another reason.
 fn show_refused<W: Write>(
     alloc: Global,
     out: &mut W,
@@ -57,7 +57,7 @@ pub(crate) fn report_build<W: Write>(
     }
 }
 
-/// The sizes and the certificate of sources, also of those for which no choice fits.
+/// Answers the sizes file and the certificate of sources, also if no choice fits.
 fn two_texts(alloc: Global, row: &str) -> Result<(Vec<u8>, Vec<u8>), anyhow::Error> {
     let (grow, rest) = column_of(row);
     let texts = texts_of(alloc, rest)?;
@@ -69,7 +69,7 @@ fn two_texts(alloc: Global, row: &str) -> Result<(Vec<u8>, Vec<u8>), anyhow::Err
     }
 }
 
-/// Prints the sizes and the certificate of sources.
+/// Prints the sizes file and the certificate of sources.
 pub(crate) fn report_texts<W: Write>(
     alloc: Global,
     out: &mut W,
@@ -82,7 +82,7 @@ pub(crate) fn report_texts<W: Write>(
     show_lines(out, &cert)
 }
 
-/// Prints what the checker says of the sizes of sources and another certificate.
+/// Prints the checker's answer for the sizes file of sources and another certificate.
 pub(crate) fn report_judged<W: Write>(
     alloc: Global,
     out: &mut W,
@@ -93,7 +93,7 @@ pub(crate) fn report_judged<W: Write>(
     show_checked(alloc, out, &sizes, &lines_of(alloc, cert)?)
 }
 
-/// Any count of sources with `~` between them, all of them named N.
+/// Answers any number of sources with `~` between them, all of them named N.
 fn many_sources(alloc: Global, text: &str) -> Result<Vec<Source<'_>>, anyhow::Error> {
     let mut sources = Vec::new(alloc);
     for part in text.split('~') {
@@ -105,14 +105,14 @@ fn many_sources(alloc: Global, text: &str) -> Result<Vec<Source<'_>>, anyhow::Er
     Ok(sources)
 }
 
-/// What is built of any count of source files. Braces may have the `~` between them.
+/// Builds any number of sources. Braces may contain the `~` between them.
 fn built_of_many(alloc: Global, row: &str) -> Result<Result<Built, BuildFault>, anyhow::Error> {
     let text = lines_of(alloc, row)?;
     let sources = many_sources(alloc, std::str::from_utf8(&text)?)?;
     Ok(build(alloc, &sources))
 }
 
-/// Prints how many bytes two programs have if their files are the same, and what the checker says of the first one's texts.
+/// Prints how many bytes two programs have if their files are the same, and the checker's answer for the first one.
 pub(crate) fn report_same<W: Write>(
     alloc: Global,
     out: &mut W,
@@ -128,7 +128,7 @@ pub(crate) fn report_same<W: Write>(
     show_checked(alloc, out, &first.sizes, &first.cert)
 }
 
-/// Prints why no file is built of any count of source files.
+/// Prints why no file is built from any number of sources.
 pub(crate) fn report_fault<W: Write>(
     alloc: Global,
     out: &mut W,
@@ -140,7 +140,7 @@ pub(crate) fn report_fault<W: Write>(
     }
 }
 
-/// Prints the sentence about a fault.
+/// Prints the sentence about an error.
 pub(crate) fn report_sentence<W: Write>(
     alloc: Global,
     out: &mut W,
@@ -152,7 +152,7 @@ pub(crate) fn report_sentence<W: Write>(
     }
 }
 
-/// Prints the sentence about memory that is refused.
+/// Prints the sentence about memory that ran out.
 pub(crate) fn report_no_memory<W: Write>(out: &mut W) -> Result<(), anyhow::Error> {
     let fault = BuildFault::Link(LinkFault::NoMemory);
     Ok(write!(out, " {fault}")?)

@@ -1,4 +1,4 @@
-//! Programs whose sources are files of the folder `data`.
+//! Builds programs whose sources are files in the folder `data`.
 
 use crate::shown::show_checked;
 use anyhow::Context;
@@ -8,17 +8,17 @@ use std::io::Write;
 use zlink::{Built, Source, build};
 use zlisting::{listing, symbols};
 
-/// Where a file is loaded.
+/// The address at which a file is loaded.
 const BASE: usize = 0x0100;
 
-/// A program that is built of files.
+/// A program that is built from files.
 #[derive(Drop)]
 pub(crate) struct Program {
     paths: String,
     built: Built,
 }
 
-/// The texts of the sources of a row, each of which is `PATH` or `NAME=PATH`.
+/// Answers the contents of the source files of a row, each given as `PATH` or `NAME=PATH`.
 fn texts_of(rt: &HostRuntime, row: &str) -> Result<Vec<Vec<u8>>, anyhow::Error> {
     let mut texts = Vec::new(rt.alloc());
     for word in row.split(' ') {
@@ -28,7 +28,7 @@ fn texts_of(rt: &HostRuntime, row: &str) -> Result<Vec<Vec<u8>>, anyhow::Error> 
     Ok(texts)
 }
 
-/// The sources of a row, which have these texts. A path without a name is the name too.
+/// Answers the sources of a row, given their contents. A path without a name is the name too.
 fn sources_of<'a>(
     alloc: Global,
     row: &'a str,
@@ -45,7 +45,7 @@ fn sources_of<'a>(
     Ok(sources)
 }
 
-/// The program of these files.
+/// Builds the program of these files.
 pub(crate) fn program_of(rt: &HostRuntime, paths: &str) -> Result<Program, anyhow::Error> {
     let alloc = rt.alloc();
     let texts = texts_of(rt, paths)?;
@@ -56,7 +56,7 @@ pub(crate) fn program_of(rt: &HostRuntime, paths: &str) -> Result<Program, anyho
     })
 }
 
-/// Prints how large a program is, and what the checker says of it.
+/// Prints how large a program is, and the checker's answer for it.
 pub(crate) fn report_program<W: Write>(
     alloc: Global,
     out: &mut W,
@@ -68,7 +68,7 @@ pub(crate) fn report_program<W: Write>(
     show_checked(alloc, out, &built.sizes, &built.cert)
 }
 
-/// Prints from which source and line the statement at an address comes.
+/// Prints the source and line that the statement at an address comes from.
 fn show_origin<W: Write>(
     out: &mut W,
     program: &Program,

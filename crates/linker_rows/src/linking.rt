@@ -1,4 +1,4 @@
-//! Sources, their modules, and what these are linked to.
+//! Assembles sources to modules, and links these.
 
 ghost use Rattle.std.specs.Prelude.{All, IfOk, map};
 ghost use Rattle.zmo_module.specs.Modules.{module_of};
@@ -11,7 +11,7 @@ use std::io::Write;
 use zlink::{Built, LinkFault, Linked, Module, Source, link};
 use zmo_object::{read, write};
 
-/// The module of a source, as it is or as it is read of its object.
+/// Answers the module of a source; if `is_read` is true, it is written as an object file and read again.
 fn module_of_source(
     alloc: Global,
     source: Source<'_>,
@@ -28,7 +28,7 @@ fn module_of_source(
     }
 }
 
-/// The modules of sources, each read of its object if `is_read` says so.
+/// Answers the modules of sources; if `is_read` is true, each is written as an object file and read again.
 fn modules_of(
     alloc: Global,
     texts: &[Vec<u8>],
@@ -46,7 +46,7 @@ fn modules_of(
     Ok(modules)
 }
 
-/// In what a program that is linked differs from one that is built; empty if they are alike.
+/// Answers how a linked program differs from a built one; empty if they are the same.
 fn difference(linked: &Linked, built: &Built) -> &'static str {
     if linked.com != built.com {
         return "; linked: another file";
@@ -66,7 +66,7 @@ fn difference(linked: &Linked, built: &Built) -> &'static str {
     ""
 }
 
-/// Prints in what the program that is linked of the modules of sources differs from one that is built.
+/// Prints how the program linked from the modules of sources differs from the built one.
 pub(crate) fn report_difference<W: Write>(
     alloc: Global,
     out: &mut W,
@@ -102,7 +102,7 @@ pub(crate) fn report_refused<W: Write>(
     }
 }
 
-/// Prints the object of a source that is named A.
+/// Prints the object file of a source that is named A.
 pub(crate) fn report_object<W: Write>(
     alloc: Global,
     out: &mut W,

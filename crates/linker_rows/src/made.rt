@@ -1,4 +1,4 @@
-//! Listings and symbols of what no build answers: made by the row.
+//! Prints listings and symbols of programs that no build answers: the row says what they have.
 
 use crate::shown::show_lines;
 use anyhow::Context;
@@ -7,7 +7,7 @@ use std::io::Write;
 use zlink::{Built, Origin, Source, Symbol};
 use zlisting::{listing, symbols};
 
-/// A file of these bytes and nothing else.
+/// Answers a program with these bytes and nothing else.
 fn made(alloc: Global, com: Vec<u8>) -> Built {
     Built {
         com,
@@ -20,7 +20,7 @@ fn made(alloc: Global, com: Vec<u8>) -> Built {
     }
 }
 
-/// A statement: its address in hexadecimal, its source and its line, with dots between them.
+/// Parses a statement: its address in hexadecimal, its source and its line, with dots between them.
 fn origin_of(text: &str) -> Result<Origin, anyhow::Error> {
     let (place, rest) = text.split_once('.').context("no source")?;
     let (source, line) = rest.split_once('.').context("no line")?;
@@ -45,7 +45,7 @@ fn put_last(built: &mut Built, column: &str) -> Result<(), anyhow::Error> {
     Ok(())
 }
 
-/// Prints the listing of a file with these statements and last lines, and of two sources.
+/// Prints the listing of two sources, for a file with these statements and last lines.
 pub(crate) fn report_listing<W: Write>(
     alloc: Global,
     out: &mut W,
@@ -70,7 +70,7 @@ pub(crate) fn report_listing<W: Write>(
     show_lines(out, &listing(alloc, &built, &sources)?)
 }
 
-/// A label: its module, its name and its address in hexadecimal, with dots between them.
+/// Parses a label: its module, its name and its address in hexadecimal, with dots between them.
 fn symbol_of(alloc: Global, text: &str) -> Result<Symbol, anyhow::Error> {
     let (module, rest) = text.split_once('.').context("no name")?;
     let (name, place) = rest.split_once('.').context("no address")?;
@@ -81,7 +81,7 @@ fn symbol_of(alloc: Global, text: &str) -> Result<Symbol, anyhow::Error> {
     })
 }
 
-/// Prints the text of these labels.
+/// Prints the symbols file of these labels.
 pub(crate) fn report_symbols<W: Write>(
     alloc: Global,
     out: &mut W,

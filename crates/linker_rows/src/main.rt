@@ -1,4 +1,4 @@
-//! Reads rows, a line of standard input each, and prints each with the answer of the call that it names.
+//! Reads rows, one from each line of standard input, and prints each with the answer of the call that it names.
 //!
 //! The head of `stdin` says which calls there are and what their columns mean; a line of `;` is a remark.
 #![tactic(auto)]
@@ -35,7 +35,7 @@ fn report_beside<W: Write>(
     }
 }
 
-/// The calls that build sources which stand in the row.
+/// The calls that build sources which are in the row.
 fn report_built<W: Write>(
     alloc: Global,
     out: &mut W,
@@ -55,7 +55,7 @@ fn report_built<W: Write>(
     }
 }
 
-/// The calls that build files, else the others. Rows after a `program` are about it.
+/// The calls that build files, and all other calls. Rows after a `program` are about that program.
 fn report<W: Write>(
     rt: &HostRuntime,
     out: &mut W,

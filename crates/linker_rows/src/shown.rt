@@ -1,4 +1,4 @@
-//! Bytes, lines and errors, as an answer shows them.
+//! Prints bytes, lines and errors, as an answer shows them.
 
 use anyhow::anyhow;
 use cert_check::{CheckFault, check};
@@ -7,7 +7,7 @@ use std::alloc::Global;
 use std::io::Write;
 use zlink::{BuildFault, LinkFault};
 
-/// Prints that many times the same byte.
+/// Prints the same byte `count` times.
 fn show_run<W: Write>(out: &mut W, count: u32, byte: u8) -> Result<(), anyhow::Error> {
     if count > 4 {
         return Ok(write!(out, "{{{count}x{byte:02X}}}")?);
@@ -18,7 +18,7 @@ fn show_run<W: Write>(out: &mut W, count: u32, byte: u8) -> Result<(), anyhow::E
     Ok(())
 }
 
-/// Prints bytes in hexadecimal; five equal ones and more in braces, with their count.
+/// Prints bytes in hexadecimal. Five or more equal bytes are printed in braces, with their count.
 pub(crate) fn show_bytes<W: Write>(out: &mut W, bytes: &[u8]) -> Result<(), anyhow::Error> {
     let mut count = 0u32;
     for (at, byte) in bytes.iter().enumerate() {
@@ -47,7 +47,7 @@ pub(crate) fn show_lines<W: Write>(out: &mut W, text: &[u8]) -> Result<(), anyho
     Ok(())
 }
 
-/// Prints what the checker says of sizes and a certificate.
+/// Prints the checker's answer for a sizes file and a certificate.
 pub(crate) fn show_checked<W: Write>(
     alloc: Global,
     out: &mut W,
@@ -61,7 +61,7 @@ pub(crate) fn show_checked<W: Write>(
     }
 }
 
-/// Prints why modules make no file. Memory that is refused ends the program.
+/// Prints why modules make no file. If memory ran out, the program ends.
 fn show_link_fault<W: Write>(
     alloc: Global,
     out: &mut W,

@@ -1,13 +1,13 @@
-//! The sources that a row has.
+//! Reads the sources that a row has.
 
 use row_text::written_out;
 use std::alloc::Global;
 use zlink::{BuildFault, Built, Source, build, build_with};
 
-/// The names of the sources of a row, eight at most.
+/// The names of the sources of a row, which has eight at most.
 const NAMES: &[u8] = b"ABCDEFGH";
 
-/// Lines, each of which but the last ends in `|`.
+/// Answers lines; each except the last ends in `|` in the row.
 pub(crate) fn lines_of(alloc: Global, row: &str) -> Result<Vec<u8>, anyhow::Error> {
     let mut text = written_out(alloc, row)?;
     for byte in text.iter_mut() {
@@ -18,7 +18,7 @@ pub(crate) fn lines_of(alloc: Global, row: &str) -> Result<Vec<u8>, anyhow::Erro
     Ok(text)
 }
 
-/// Source files with `~` between them.
+/// Answers sources with `~` between them in the row.
 pub(crate) fn texts_of(alloc: Global, row: &str) -> Result<Vec<Vec<u8>>, anyhow::Error> {
     let mut texts = Vec::new(alloc);
     for text in row.split('~') {
@@ -27,13 +27,13 @@ pub(crate) fn texts_of(alloc: Global, row: &str) -> Result<Vec<Vec<u8>>, anyhow:
     Ok(texts)
 }
 
-/// Whether a written `JR` may grow, as the first word says, and the source files after it.
+/// Answers whether a written `JR` may grow, as the first word says, and the sources after that word.
 pub(crate) fn column_of(row: &str) -> (bool, &str) {
     let (word, rest) = row.split_once(' ').unwrap_or((row, ""));
     (word == "grow", rest)
 }
 
-/// Sources with these texts, named A, B and so on.
+/// Answers sources with these texts, named A, B and so on.
 pub(crate) fn sources_of(
     alloc: Global,
     texts: &[Vec<u8>],
@@ -45,7 +45,7 @@ pub(crate) fn sources_of(
     Ok(sources)
 }
 
-/// What is built of sources.
+/// Builds sources.
 pub(crate) fn build_sources(
     alloc: Global,
     sources: &[Source<'_>],
@@ -58,7 +58,7 @@ pub(crate) fn build_sources(
     }
 }
 
-/// What is built of the source files of a row, with each written `JR` short. An error ends the program.
+/// Builds the sources of a row, with each written `JR` short. An error ends the program.
 pub(crate) fn built_of(alloc: Global, row: &str) -> Result<Built, anyhow::Error> {
     let texts = texts_of(alloc, row)?;
     let sources = sources_of(alloc, &texts)?;

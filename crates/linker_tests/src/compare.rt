@@ -1,4 +1,4 @@
-//! `least` beside `grow` over a counted ruler, and beside the plain scan.
+//! Compares `least` with `grow` over a counting ruler, and with the plain scan.
 
 ghost use Rattle.std.specs.Prelude.{◌≡◌, IfOk};
 
@@ -9,7 +9,7 @@ use std::alloc::Global;
 use std::process::Abort;
 use std::test::Fail;
 
-/// The shape of these statements, or a failed test.
+/// Answers the shape of these statements, or a failed test.
 pub(crate) fn shape_of(alloc: Global, statements: &[Statement]) -> Result<Shape, Fail>
     ensures { IfOk result (λ s. s ≡ statements.now) }
 {
@@ -19,7 +19,7 @@ pub(crate) fn shape_of(alloc: Global, statements: &[Statement]) -> Result<Shape,
     Ok(Shape::new(statements.to_vec(alloc)?))
 }
 
-/// The answer of `least`, if `grow` over a counted ruler gives the same order, and asks the ruler as often.
+/// Answers what `least` does, if `grow` over a counting ruler gives the same order and asks the ruler as often.
 pub(crate) fn grown(
     rt: &impl Abort,
     alloc: Global,
@@ -35,7 +35,7 @@ pub(crate) fn grown(
     Ok(growth)
 }
 
-/// The same, if the plain scan finds this order and this verdict too.
+/// Answers the same, if the plain scan finds this order and this verdict too.
 pub(crate) fn scanned(
     rt: &impl Abort,
     alloc: Global,

@@ -1,4 +1,4 @@
-//! A ruler that counts for itself how often it is asked.
+//! A ruler that counts by itself how often it is asked.
 
 ghost use Rattle.std.specs.Prelude.{◌≡◌};
 ghost use Rattle.ruler.specs.Choice.{chosen};
@@ -14,7 +14,7 @@ pub(crate) struct Counted {
 }
 
 impl Counted {
-    /// No call so far.
+    /// Makes a counting ruler that was not asked yet.
     pub(crate) fn new(sums: Sums) -> Counted
         ensures { result.sums ≡ sums }
     {

@@ -1,4 +1,4 @@
-//! Generated shapes: `least`, and `grow` over a counted ruler, beside the plain scan.
+//! Generated shapes: compares `least` and `grow` over a counting ruler with the plain scan.
 
 ghost use Rattle.std.specs.Prelude.{◌<◌};
 
@@ -9,7 +9,7 @@ use relax::{Growth, Statement, Verdict};
 use std::alloc::Global;
 use std::test::Fail;
 
-/// A number below `n`.
+/// Answers a number below `n`.
 fn below(random: &mut Pcg32, n: u32) -> u32
     requires { 0 < n }
     ensures { result < n }
@@ -17,8 +17,8 @@ fn below(random: &mut Pcg32, n: u32) -> u32
     random.next_u32() % n
 }
 
-/// Up to 40 statements: jumps to anywhere, some of them always short, among statements of up to 40 bytes, one in a
-/// hundred so large that no program can hold it.
+/// Answers up to 40 statements: jumps to anywhere, some of them always short, among statements of up to 40 bytes, one
+/// in a hundred so large that no program can hold it.
 fn generated(alloc: Global, random: &mut Pcg32) -> Result<Vec<Statement>, Fail> {
     let count = below(random, 41);
     let mut statements = Vec::new(alloc);
@@ -35,7 +35,7 @@ fn generated(alloc: Global, random: &mut Pcg32) -> Result<Vec<Statement>, Fail> 
     Ok(statements)
 }
 
-/// How many growths there were of each kind.
+/// How many growths of each kind there were.
 #[derive(Clone, Copy, Debug)]
 struct Kinds {
     grown: u32,
@@ -72,7 +72,7 @@ fn as_the_scan(rt: HostRuntime) -> Result<(), Fail> {
         let growth = scanned(&rt, rt.alloc(), &statements)?;
         kinds.count(&growth);
     }
-    // There were many of each kind.
+    // There were enough of each kind.
     assert!(rt; kinds.grown >= 500 && kinds.best >= 400, "{kinds:?}");
     assert!(rt; kinds.range >= 100 && kinds.too_large >= 50, "{kinds:?}");
     Ok(())

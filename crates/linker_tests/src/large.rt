@@ -1,5 +1,5 @@
 //! Shapes of up to 20,000 statements, two of them made to take long. What is expected follows from the definition, as
-//! told at each.
+//! the comment at each test says.
 
 use crate::compare::grown;
 use relax::Statement::{Fixed, Jump};
@@ -7,10 +7,10 @@ use relax::{Statement, Verdict};
 use std::alloc::Global;
 use std::test::Fail;
 
-/// How many jumps stand in a ladder.
+/// How many jumps a ladder has.
 const STEPS: u32 = 18_999;
 
-/// 20,000 jumps, each to itself: each is tested once and fits.
+/// 20,000 jumps, each to itself: each is tested once and reaches its target.
 #[test]
 fn jumps_to_themselves(rt: HostRuntime) -> Result<(), Fail> {
     let mut statements = Vec::new(rt.alloc());
@@ -24,7 +24,7 @@ fn jumps_to_themselves(rt: HostRuntime) -> Result<(), Fail> {
     Ok(())
 }
 
-/// 20,000 jumps to the end: the last 64 fit, since at most 63 jumps of two bytes are behind each.
+/// 20,000 jumps to the end: the last 64 reach it, since at most 63 jumps of two bytes come after each of them.
 #[test]
 fn jumps_to_the_end(rt: HostRuntime) -> Result<(), Fail> {
     let statements = vec![in rt.alloc(); Jump(20_000); 20_000]?;
@@ -38,7 +38,8 @@ fn jumps_to_the_end(rt: HostRuntime) -> Result<(), Fail> {
     Ok(())
 }
 
-/// Jumps that each go over the next 63 statements, and behind them one of so many bytes and 63 of two bytes.
+/// Answers jumps that each go over the next 63 statements; after them one statement of `bytes` bytes and 63 of two
+/// bytes.
 fn ladder(alloc: Global, bytes: u16) -> Result<Vec<Statement>, Fail> {
     let mut statements = Vec::new(alloc);
     for k in 0..STEPS {
@@ -51,7 +52,8 @@ fn ladder(alloc: Global, bytes: u16) -> Result<Vec<Statement>, Fail> {
     Ok(statements)
 }
 
-/// With two bytes behind the jumps each goes ahead by 126, with three the last 63 go ahead by 127: all fit.
+/// If the statement after the jumps has two bytes, each jump goes 126 bytes forward; if it has three, the last 63 go
+/// 127: all reach their targets.
 #[test]
 fn ladder_stands(rt: HostRuntime) -> Result<(), Fail> {
     for (bytes, total) in [(2, 38_126), (3, 38_127)] {
@@ -64,8 +66,8 @@ fn ladder_stands(rt: HostRuntime) -> Result<(), Fail> {
     Ok(())
 }
 
-/// With four bytes there the last 63 jumps do not fit, and any two long jumps push out each that goes over both: the
-/// first two of the 63, then the lowest that goes over these, 62 before them, and in the end all.
+/// If it has four bytes, the last 63 jumps do not reach their targets. Any two long jumps push out each jump that goes
+/// over both: the first two of the 63, then the lowest that goes over these, 62 before them, and in the end all.
 #[test]
 fn ladder_falls(rt: HostRuntime) -> Result<(), Fail> {
     let statements = ladder(rt.alloc(), 4)?;
@@ -81,9 +83,9 @@ fn ladder_falls(rt: HostRuntime) -> Result<(), Fail> {
     Ok(())
 }
 
-/// Jumps over 43 statements each, every 43rd statement one of two bytes, and behind the jumps statements of three: a
-/// jump goes ahead by 86 and one byte more for each of 42 that has three bytes. So it fits until the last of the 42 is
-/// long. The highest jump falls first, then the one before it, and the lowest last.
+/// Answers jumps over 43 statements each. Every 43rd statement has two bytes, and after the jumps come statements of
+/// three. A jump goes 86 bytes forward, and one byte more for each of 42 that has three bytes. So it reaches its target
+/// until the last of the 42 is long. The highest jump becomes long first, then the one before it, and the lowest last.
 fn dominoes(alloc: Global) -> Result<Vec<Statement>, Fail> {
     let last = STEPS - 1;
     let count = last + last / 42 + 44;
@@ -98,7 +100,8 @@ fn dominoes(alloc: Global) -> Result<Vec<Statement>, Fail> {
     Ok(statements)
 }
 
-/// All 18,999 fall in turn. Each that falls lets the 42 before it wait, fewer at the beginning, and all are tested.
+/// All 18,999 become long one after the other. Each makes the 42 before it wait, fewer at the beginning, and all are
+/// tested.
 #[test]
 fn dominoes_fall(rt: HostRuntime) -> Result<(), Fail> {
     let statements = dominoes(rt.alloc())?;

@@ -1,5 +1,5 @@
-//! What rows of `format_rows` cannot say of the crate `relax`: a ruler that counts how often it is asked, generated programs beside a
-//! plain scan, orders of thousands of jumps, and memory that is refused.
+//! Tests of the crate `relax` that rows of `format_rows` cannot express: a ruler that counts how often it is asked,
+//! generated programs compared with a plain scan, orders of thousands of jumps, and memory that is refused.
 #![tactic(auto)]
 
 #[cfg(test)]

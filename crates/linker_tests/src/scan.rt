@@ -1,5 +1,5 @@
-//! The definition of the least-first order, followed word for word: sizes are added from the beginning for each place,
-//! and after each growth the search begins again at statement 0.
+//! The definition of the least-first order, followed word for word: the sizes are added up from the beginning for each
+//! address, and after each growth the search begins again at statement 0.
 
 ghost use Rattle.std.specs.Prelude.{◌<◌, length, IfSome};
 
@@ -14,7 +14,7 @@ pub(crate) struct Scanned {
     pub(crate) verdict: Verdict,
 }
 
-/// The bytes of the first `count` statements.
+/// Answers the bytes of the first `count` statements.
 fn bytes(statements: &[Statement], long: &[bool], count: usize) -> i64 {
     let mut sum: i64 = 0;
     for (statement, long) in statements.iter().zip(long).take(count) {
@@ -28,14 +28,14 @@ fn bytes(statements: &[Statement], long: &[bool], count: usize) -> i64 {
     sum
 }
 
-/// Whether from the end of a short jump at statement `k` to statement `target` is -128 to 127 bytes.
+/// Whether statement `target` is -128 to 127 bytes from the end of a short jump at statement `k`.
 fn fits(statements: &[Statement], long: &[bool], k: usize, target: u32) -> bool {
     let from = bytes(statements, long, k).wrapping_add(2);
     let to = bytes(statements, long, target as usize);
     (-128..=127).contains(&to.wrapping_sub(from))
 }
 
-/// The lowest short jump that does not fit.
+/// Answers the lowest short jump that does not reach its target.
 fn first_misfit(statements: &[Statement], long: &[bool]) -> Option<usize>
     ensures { IfSome result (λ k. k < length long.now) }
 {
@@ -50,7 +50,7 @@ fn first_misfit(statements: &[Statement], long: &[bool]) -> Option<usize>
     None
 }
 
-/// The lowest jump that is always short and does not fit.
+/// Answers the lowest jump that is always short and does not reach its target.
 fn first_short_misfit(statements: &[Statement], long: &[bool]) -> Option<usize> {
     for (k, statement) in statements.iter().enumerate() {
         if let Statement::Short(target) = *statement
@@ -62,7 +62,7 @@ fn first_short_misfit(statements: &[Statement], long: &[bool]) -> Option<usize> 
     None
 }
 
-/// The least-first order of a shape and its verdict.
+/// Answers the least-first order of a shape and its verdict.
 pub(crate) fn scan(alloc: Global, statements: &[Statement]) -> Result<Scanned, Fail> {
     let mut long = vec![in alloc; false; statements.len()]?;
     let mut order = Vec::new(alloc);

@@ -9,7 +9,7 @@ use relax::{Statement, Sums, grow};
 use std::alloc::Global;
 use std::test::Fail;
 
-/// A statement: F and its size, or J or S and its target.
+/// Parses a statement: F and its size, or J or S and its target.
 fn statement_of(word: &str) -> Result<Statement, Fail> {
     if let Some(number) = word.strip_prefix("J") {
         return Ok(Jump(u32::from_str_radix(number, 10)?));
@@ -53,7 +53,7 @@ fn worked_programs(rt: HostRuntime) -> Result<(), Fail> {
     Ok(())
 }
 
-/// If memory is refused to it, `grow` leaves the ruler as it was: it grows as well the second time.
+/// If memory is refused to it, `grow` leaves the ruler as it was, so it works the second time.
 #[test]
 fn grows_after_a_refusal(rt: HostRuntime) -> Result<(), Fail> {
     let statements = [Jump(3), Fixed(125), Jump(4), Fixed(128), Fixed(1)];

@@ -1,12 +1,12 @@
-//! The operations on all bytes, beside a plain count in whole numbers.
+//! Compares the operations on all bytes with a plain computation in whole numbers.
 
 use anyhow::anyhow;
 use std::io::Write;
 use z80_alu::Flags;
 use z80_instr::AluOperation;
 
-/// Whether a sum or a difference of signed numbers leaves a signed byte, if each was made 128 larger: the numbers are then 0
-/// to 255, and the sum is 256 larger than it is.
+/// Whether a sum or difference of two signed bytes is outside -128 to 127. Each was made 128 larger, so it is from 0 to 255, and the sum
+/// is 256 larger than it is.
 fn leaves_byte(lifted: u32) -> bool {
     !(128..=383).contains(&lifted)
 }
@@ -20,7 +20,7 @@ fn has_even_parity(byte: u8) -> bool {
     bits.iter().filter(|&&bit| byte / bit % 2 == 1).count() % 2 == 0
 }
 
-/// The flags before an operation: all 1 but the carry.
+/// The flags before an operation: all are 1 except the carry.
 fn before(carry: bool) -> Flags {
     Flags {
         carry,
@@ -71,7 +71,7 @@ fn difference(a: u8, b: u8, borrow: bool) -> (u32, Flags) {
     )
 }
 
-/// Whether a digit of AND, XOR or OR is 1, by the digits of the two bytes.
+/// Whether a bit of AND, XOR or OR is 1, given the bits of the two bytes.
 fn is_one(operation: AluOperation, x: u8, y: u8) -> bool {
     match operation {
         AluOperation::And => x == 1 && y == 1,
@@ -80,7 +80,7 @@ fn is_one(operation: AluOperation, x: u8, y: u8) -> bool {
     }
 }
 
-/// AND, XOR and OR, digit by digit, and the flags.
+/// AND, XOR and OR bit by bit, and the flags.
 fn combination(operation: AluOperation, a: u8, b: u8) -> (u32, Flags) {
     let bits: [u8; 8] = [1, 2, 4, 8, 16, 32, 64, 128];
     let mut value = 0u8;
@@ -102,7 +102,7 @@ fn combination(operation: AluOperation, a: u8, b: u8) -> (u32, Flags) {
     )
 }
 
-/// What an operation gives, and its flags. CP has the flags of SUB and leaves A.
+/// The result of an operation, and its flags. CP has the flags of SUB and leaves A as it is.
 fn counted(operation: AluOperation, a: u8, b: u8, carry: bool) -> (u32, Flags) {
     match operation {
         AluOperation::Add => sum(a, b, false),
@@ -114,14 +114,14 @@ fn counted(operation: AluOperation, a: u8, b: u8, carry: bool) -> (u32, Flags) {
     }
 }
 
-/// Whether an operation gives what is counted.
+/// Whether an operation has the computed result and flags.
 fn is_counted(operation: AluOperation, a: u8, b: u8, carry: bool) -> bool {
     let mut flags = before(carry);
     let value = flags.operate(operation, a, b);
     (value as u32, flags) == counted(operation, a, b, carry)
 }
 
-/// How often an operation gives what is counted, of this A, all second bytes, and the carry 0 and 1.
+/// How often an operation agrees with the computation, for this A, all second bytes, and the carry 0 and 1.
 fn agreed_at(operation: AluOperation, a: u8) -> u32 {
     let mut agreed = 0u32;
     for b in 0..=255 {
@@ -134,7 +134,7 @@ fn agreed_at(operation: AluOperation, a: u8) -> u32 {
     agreed
 }
 
-/// How often an operation gives what is counted, of all pairs of bytes and the carry 0 and 1.
+/// How often an operation agrees with the computation, for all pairs of bytes and the carry 0 and 1.
 fn agreed(operation: AluOperation) -> u32 {
     let mut agreed = 0u32;
     for a in 0..=255 {
@@ -173,7 +173,7 @@ fn adjusts_difference(x: u8, y: u8) -> bool {
         && flags.zero == (adjusted == 0)
 }
 
-/// Of how many pairs of decimal numbers DAA makes the sum decimal, or the difference.
+/// The number of pairs of decimal numbers for which DAA makes the sum decimal, or the difference.
 fn agreed_decimals(subtracts: bool) -> u32 {
     let mut agreed = 0u32;
     for x in 0..100 {
@@ -196,7 +196,7 @@ const WORDS: [u16; 14] = [
     0xF000, 0xFFFF,
 ];
 
-/// Whether ADD of words gives what is counted.
+/// Whether ADD of words agrees with the computation.
 fn adds_words(a: u16, b: u16, carry: bool) -> bool {
     let (x, y) = (a as u32, b as u32);
     let mut flags = before(carry);
@@ -210,7 +210,7 @@ fn adds_words(a: u16, b: u16, carry: bool) -> bool {
     value as u32 == (x + y) % 65536 && flags == expected
 }
 
-/// Whether ADC of words gives what is counted.
+/// Whether ADC of words agrees with the computation.
 fn adds_words_with_carry(a: u16, b: u16, carry: bool) -> bool {
     let (x, y, c) = (a as u32, b as u32, carry as u32);
     let sum = (x + y + c) % 65536;
@@ -228,7 +228,7 @@ fn adds_words_with_carry(a: u16, b: u16, carry: bool) -> bool {
     value as u32 == sum && flags == expected
 }
 
-/// Whether SBC of words gives what is counted.
+/// Whether SBC of words agrees with the computation.
 fn subtracts_words(a: u16, b: u16, borrow: bool) -> bool {
     let (x, y, c) = (a as u32, b as u32, borrow as u32);
     let difference = (65536 + x - y - c) % 65536;
@@ -254,7 +254,7 @@ enum OnWords {
     Sbc,
 }
 
-/// Of how many pairs of `WORDS`, with the carry 0 and 1, an operation gives what is counted.
+/// The number of pairs of `WORDS`, with the carry 0 and 1, for which an operation agrees with the computation.
 fn agreed_words(operation: OnWords) -> u32 {
     let mut agreed = 0u32;
     for a in WORDS {
@@ -274,7 +274,7 @@ fn agreed_words(operation: OnWords) -> u32 {
     agreed
 }
 
-/// How many bytes come back from the flags that they are.
+/// The number of bytes that are the same again after they are taken as flags.
 fn agreed_flags() -> u32 {
     let mut agreed = 0u32;
     for byte in 0..=255 {
@@ -285,7 +285,7 @@ fn agreed_flags() -> u32 {
     agreed
 }
 
-/// The operation on bytes of a name.
+/// The operation on bytes with a name.
 fn operation_of(name: &str) -> Result<AluOperation, anyhow::Error> {
     match name.as_bytes() {
         b"ADD" => Ok(AluOperation::Add),
@@ -300,7 +300,7 @@ fn operation_of(name: &str) -> Result<AluOperation, anyhow::Error> {
     }
 }
 
-/// Reports of how many numbers an operation gives what is counted.
+/// Prints for how many numbers an operation agrees with the computation.
 pub(crate) fn report_every<W: Write>(out: &mut W, row: &str) -> Result<(), anyhow::Error> {
     let agreed = match row.as_bytes() {
         b"ADD and DAA" => agreed_decimals(false),
@@ -314,7 +314,7 @@ pub(crate) fn report_every<W: Write>(out: &mut W, row: &str) -> Result<(), anyho
     Ok(write!(out, "{agreed}")?)
 }
 
-/// Reports the letters of flags.
+/// Prints the letters of flags.
 pub(crate) fn report_flags<W: Write>(out: &mut W, row: &str) -> Result<(), anyhow::Error> {
     let flags = Flags::from_byte(u8::from_str_radix(row, 16)?);
     Ok(write!(out, "{flags}")?)

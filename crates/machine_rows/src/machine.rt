@@ -1,4 +1,4 @@
-//! Programs and single turns of the machine.
+//! Rows of programs, and of single steps of the machine.
 
 use anyhow::{Context, anyhow};
 use std::alloc::Global;
@@ -7,10 +7,10 @@ use z80_instr::InterruptMode;
 use z80_machine::outcome::Step;
 use z80_machine::{Cpu, Flags, Memory, Registers, Watch, run, step};
 
-/// More turns than any program of `halt` takes.
+/// More steps than any program of `halt` makes.
 const LIMIT: u32 = 10_000;
 
-/// A machine, and where `run` stops it.
+/// A machine, and the addresses at which `run` stops it.
 #[derive(Drop)]
 struct Job {
     cpu: Cpu,
@@ -27,7 +27,7 @@ fn store(memory: &mut Memory, from: u16, bytes: &[u8]) {
     }
 }
 
-/// Sets a pair of registers, if the name is one's.
+/// Sets a register pair, if this is the name of one.
 fn set_pair(registers: &mut Registers, name: &str, word: u16) -> bool {
     match name.as_bytes() {
         b"af" => registers.set_af(word),
@@ -39,7 +39,7 @@ fn set_pair(registers: &mut Registers, name: &str, word: u16) -> bool {
     true
 }
 
-/// Sets what is a byte or less in the processor, if the name is one's.
+/// Sets a register of a byte or less, if this is the name of one.
 fn set_byte(cpu: &mut Cpu, name: &str, byte: u8) -> bool {
     match name.as_bytes() {
         b"f" => cpu.main.flags = Flags::from_byte(byte),
@@ -61,7 +61,7 @@ fn set_byte(cpu: &mut Cpu, name: &str, byte: u8) -> bool {
     true
 }
 
-/// Sets a word in the machine, if the name is one's.
+/// Sets a register of a word or a watched address, if this is the name of one.
 fn set_word(job: &mut Job, name: &str, word: u16) -> bool {
     match name.as_bytes() {
         b"pc" => job.cpu.pc = word,
@@ -93,7 +93,7 @@ fn set_register(job: &mut Job, name: &str, value: &str) -> Result<(), anyhow::Er
     }
 }
 
-/// Sets memory from an address of four digits on, or a register.
+/// Sets memory from an address of four digits on, or sets a register.
 fn set(alloc: Global, job: &mut Job, setting: &str) -> Result<(), anyhow::Error> {
     let (name, value) = setting.split_once('=').context("no value")?;
     match u16::from_str_radix(name, 16) {
@@ -105,8 +105,8 @@ fn set(alloc: Global, job: &mut Job, setting: &str) -> Result<(), anyhow::Error>
     }
 }
 
-/// A machine with PC 0100H and SP 8000H, that stops where a system stands with its BIOS at FF00H and its entry at FE06H; and
-/// then what a row sets.
+/// Makes a machine with PC 0100H and SP 8000H, which stops at the addresses of a system whose BIOS is at FF00H and whose BDOS is at
+/// FE06H. Then it sets what a row says.
 fn job_of(alloc: Global, settings: &str) -> Result<Job, anyhow::Error> {
     let mut job = Job {
         cpu: Cpu::default(),
@@ -124,7 +124,7 @@ fn job_of(alloc: Global, settings: &str) -> Result<Job, anyhow::Error> {
     Ok(job)
 }
 
-/// What is not a word in the processor: I, R, the mode and both flip-flops.
+/// The registers that are smaller than a word: I, R, the mode and both flip-flops.
 fn small_ones(cpu: &Cpu) -> [(&'static str, u16); 4] {
     let mode = match cpu.mode {
         InterruptMode::Zero => 0,
@@ -139,7 +139,7 @@ fn small_ones(cpu: &Cpu) -> [(&'static str, u16); 4] {
     ]
 }
 
-/// The words in the processor.
+/// The registers that are words.
 fn words(cpu: &Cpu) -> [(&'static str, u16); 12] {
     let (main, shadow) = (&cpu.main, &cpu.shadow);
     [
@@ -158,7 +158,7 @@ fn words(cpu: &Cpu) -> [(&'static str, u16); 12] {
     ]
 }
 
-/// Prints each register that changed, and what it holds.
+/// Prints each register that changed, with its value.
 fn show_changes<W: Write>(out: &mut W, old: &Cpu, new: &Cpu) -> Result<(), anyhow::Error> {
     for ((name, before), (_, after)) in words(old).into_iter().zip(words(new)) {
         if before != after {
@@ -173,7 +173,7 @@ fn show_changes<W: Write>(out: &mut W, old: &Cpu, new: &Cpu) -> Result<(), anyho
     Ok(())
 }
 
-/// Reports the registers as a trace shows them.
+/// Prints the registers as a trace shows them.
 pub(crate) fn report_line<W: Write>(
     alloc: Global,
     out: &mut W,
@@ -183,7 +183,7 @@ pub(crate) fn report_line<W: Write>(
     Ok(write!(out, "{}", job.cpu)?)
 }
 
-/// Reports what each of some turns comes to, and what it changes.
+/// Prints what each of some steps answers, and what it changes.
 pub(crate) fn report_turns<W: Write>(
     alloc: Global,
     out: &mut W,
@@ -202,7 +202,7 @@ pub(crate) fn report_turns<W: Write>(
     Ok(())
 }
 
-/// Reports how many turns `run` makes, why it stops, and what has changed.
+/// Prints how many steps `run` makes, why it stops, and what has changed.
 pub(crate) fn report_run<W: Write>(
     alloc: Global,
     out: &mut W,
@@ -217,7 +217,7 @@ pub(crate) fn report_run<W: Write>(
     show_changes(out, &before, &job.cpu)
 }
 
-/// Steps to HALT, and answers whether the machine came to it.
+/// Makes steps until HALT, and answers whether the machine reached it.
 fn is_halted(cpu: &mut Cpu, memory: &mut Memory) -> bool {
     for _ in 0..LIMIT {
         match step(cpu, memory) {
@@ -244,7 +244,7 @@ fn show_end<W: Write>(
     Ok(write!(out, "{high:02X}{low:02X}")?)
 }
 
-/// Reports what a program leaves at HALT.
+/// Prints what a program leaves at HALT.
 pub(crate) fn report_halt<W: Write>(
     alloc: Global,
     out: &mut W,

@@ -1,6 +1,6 @@
-//! Reads rows, a line of standard input each, and prints each with the answer of the call that it names.
+//! Reads rows, one on each line of standard input, and prints each with the answer of the call that it names.
 //!
-//! The head of `stdin` says which calls there are and what follows the name of each; a line of `;` is a remark.
+//! The head of `stdin` lists the calls and what follows the name of each; a line that begins with `;` is a remark.
 #![tactic(auto)]
 
 mod counted;
@@ -14,7 +14,7 @@ use std::alloc::Global;
 use std::io;
 use std::io::Write;
 
-/// The calls that run programs.
+/// Makes calls that run programs.
 fn report_machine<W: Write>(
     alloc: Global,
     out: &mut W,
@@ -30,7 +30,7 @@ fn report_machine<W: Write>(
     }
 }
 
-/// All calls.
+/// Makes any call.
 fn report<W: Write>(
     alloc: Global,
     out: &mut W,

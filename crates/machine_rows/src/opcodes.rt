@@ -1,4 +1,4 @@
-//! Rows of the published opcode table, with letters for their numbers.
+//! Rows of the published opcode table, with letters in place of their numbers.
 
 use crate::spelling::{has_short_fronts, is_written};
 use anyhow::Context;
@@ -6,7 +6,7 @@ use std::alloc::Global;
 use std::io::Write;
 use z80_table::{DecodeFault, Instr, decode};
 
-/// Bytes after an opcode: numbers at 0, at their greatest and between, displacements of -128, -5, 0, 52 and 127.
+/// Bytes after an opcode: numbers that are 0, at their greatest and between, and displacements of -128, -5, 0, 52 and 127.
 const TAILS: [[u8; 3]; 6] = [
     [0x00, 0x00, 0x00],
     [0xFF, 0xFF, 0x00],
@@ -16,7 +16,7 @@ const TAILS: [[u8; 3]; 6] = [
     [0xFB, 0x07, 0x00],
 ];
 
-/// The number of a byte in two's complement.
+/// A byte as a signed number.
 fn signed(byte: u8) -> i16 {
     if byte < 128 {
         byte as i16
@@ -25,7 +25,7 @@ fn signed(byte: u8) -> i16 {
     }
 }
 
-/// The bytes of a row, with these numbers for its letters, and what is left of them after the row.
+/// The bytes of a row, with these numbers in place of its letters, and then the numbers that are left.
 fn filled(alloc: Global, row: &str, tail: [u8; 3]) -> Result<Vec<u8>, anyhow::Error> {
     let mut bytes = Vec::new(alloc);
     let mut numbers = tail.iter();
@@ -41,7 +41,7 @@ fn filled(alloc: Global, row: &str, tail: [u8; 3]) -> Result<Vec<u8>, anyhow::Er
     Ok(bytes)
 }
 
-/// A text with a letter for a number.
+/// A text with a letter in place of a number.
 fn replaced(
     alloc: Global,
     text: &str,
@@ -63,33 +63,33 @@ fn number_text(alloc: Global, digits: &str) -> Result<String, anyhow::Error> {
     }
 }
 
-/// The text of an instruction with n for a byte.
+/// The text of an instruction, with n in place of a byte.
 fn with_byte(alloc: Global, text: &str, byte: u8) -> Result<String, anyhow::Error> {
     let digits = format!(in alloc; "{byte:02X}")?;
     let number = number_text(alloc, digits.as_str())?;
     replaced(alloc, text, number.as_str(), "n")
 }
 
-/// The text of an instruction with nn for a word, whose low byte comes first.
+/// The text of an instruction, with nn in place of a word, whose low byte comes first.
 fn with_word(alloc: Global, text: &str, low: u8, high: u8) -> Result<String, anyhow::Error> {
     let digits = format!(in alloc; "{high:02X}{low:02X}")?;
     let number = number_text(alloc, digits.as_str())?;
     replaced(alloc, text, number.as_str(), "nn")
 }
 
-/// The text of an instruction with d for a displacement.
+/// The text of an instruction, with d in place of a displacement.
 fn with_displacement(alloc: Global, text: &str, byte: u8) -> Result<String, anyhow::Error> {
     let number = format!(in alloc; "{:+}", signed(byte))?;
     replaced(alloc, text, number.as_str(), "+d")
 }
 
-/// The text of a relative jump with e for its goal.
+/// The text of a relative jump, with e in place of its target.
 fn with_goal(alloc: Global, text: &str, byte: u8) -> Result<String, anyhow::Error> {
     let number = format!(in alloc; "${:+}", signed(byte).wrapping_add(2))?;
     replaced(alloc, text, number.as_str(), "e")
 }
 
-/// The text of an instruction with the letters of its row for its numbers.
+/// The text of an instruction, with the letters of its row in place of its numbers.
 fn with_letters(
     alloc: Global,
     row: &str,
@@ -114,7 +114,7 @@ fn with_letters(
     }
 }
 
-/// What is read of a row with these numbers: the text with letters; or the decoder's fault.
+/// What is read from a row with these numbers: the text with letters, or the error of the decoder.
 fn line_of(alloc: Global, row: &str, tail: [u8; 3]) -> Result<String, anyhow::Error> {
     let bytes = filled(alloc, row, tail)?;
     let size = row.split(' ').count();
@@ -133,7 +133,8 @@ fn line_of(alloc: Global, row: &str, tail: [u8; 3]) -> Result<String, anyhow::Er
     }
 }
 
-/// Another line than this that a row has with any first number and the second 34H, or else with the numbers of `TAILS`.
+/// A line other than this one that a row has with any first number and then 34H and 12H, or with the numbers of `TAILS`; None if there is
+/// none.
 fn other_line(alloc: Global, row: &str, line: &str) -> Result<Option<String>, anyhow::Error> {
     for first in 0..=255 {
         let other = line_of(alloc, row, [first, 0x34, 0x12])?;
@@ -150,7 +151,7 @@ fn other_line(alloc: Global, row: &str, line: &str) -> Result<Option<String>, an
     Ok(None)
 }
 
-/// Reports what a row of the table reads as, whatever its numbers are.
+/// Prints what a row of the table is read as, whatever its numbers are.
 pub(crate) fn report_opcode<W: Write>(
     alloc: Global,
     out: &mut W,
@@ -164,7 +165,7 @@ pub(crate) fn report_opcode<W: Write>(
     Ok(())
 }
 
-/// Reports how many bytes after a prefix, with 34H and 12H behind them, are an opcode, and how many are undocumented.
+/// Prints how many bytes after a prefix, followed by 34H and 12H, are an opcode, and how many are undocumented.
 pub(crate) fn report_page<W: Write>(
     alloc: Global,
     out: &mut W,

@@ -16,7 +16,7 @@ pub(crate) fn show_bytes<W: Write>(out: &mut W, instr: &Instr) -> Result<(), any
     Ok(())
 }
 
-/// Whether `encode` writes these bytes for an instruction, leaves the others alone, and `size` counts as many.
+/// Whether `encode` writes these bytes for an instruction and no others, and `size` answers their number.
 pub(crate) fn is_written(instr: &Instr, bytes: &[u8]) -> bool {
     let mut out = [0xAA; 4];
     let count = encode(instr, &mut out);
@@ -24,7 +24,7 @@ pub(crate) fn is_written(instr: &Instr, bytes: &[u8]) -> bool {
     written == bytes && rest.iter().all(|byte| *byte == 0xAA) && size(instr) == count
 }
 
-/// Whether each part of the bytes of an instruction that lacks its end is too short for the decoder.
+/// Whether the decoder answers Short for each beginning of an instruction's bytes that is not all of them.
 pub(crate) fn has_short_fronts(bytes: &[u8]) -> bool {
     for count in 0..bytes.len() {
         if decode(&bytes[..count]) != Err(DecodeFault::Short) {
@@ -34,7 +34,8 @@ pub(crate) fn has_short_fronts(bytes: &[u8]) -> bool {
     true
 }
 
-/// Prints the bytes of an instruction, its own text if that is not the row's, and whether its bytes are read as another.
+/// Prints the bytes of an instruction, its own text if that differs from the row's, and whether its bytes are read as another
+/// instruction.
 fn show_instr<W: Write>(
     alloc: Global,
     out: &mut W,
@@ -55,7 +56,7 @@ fn show_instr<W: Write>(
     Ok(())
 }
 
-/// Reports the bytes of an instruction that is text.
+/// Prints the bytes of an instruction that is given as text.
 pub(crate) fn report_bytes<W: Write>(
     alloc: Global,
     out: &mut W,
@@ -68,8 +69,7 @@ pub(crate) fn report_bytes<W: Write>(
     }
 }
 
-/// Reports the instruction at the front of bytes, how many of them it takes, and the bytes that `encode` writes for it if
-/// they are others.
+/// Prints the instruction at the front of bytes, how many of them it takes, and the bytes that `encode` writes for it if they differ.
 pub(crate) fn report_decoded<W: Write>(
     alloc: Global,
     out: &mut W,
@@ -89,7 +89,7 @@ pub(crate) fn report_decoded<W: Write>(
     }
 }
 
-/// Calls the function whose contract is that no instruction's bytes begin another's.
+/// Calls the law that no instruction's bytes are the beginning of another's.
 pub(crate) fn report_law<W: Write>(out: &mut W) -> Result<(), anyhow::Error> {
     laws::prefix();
     Ok(write!(out, "returned")?)

@@ -1,4 +1,4 @@
-//! A line as an instruction with its numbers.
+//! Reads a line as an instruction with its numbers.
 
 use asm_parse::{Binary, Item, Term, Tree, Unary};
 use asm_scan::tokens;
@@ -7,17 +7,17 @@ use std::alloc::Global;
 use z80_form::{Field, with_numbers};
 use z80_instr::Instr;
 
-/// What a line is read as.
+/// The result of reading a line.
 #[derive(Debug)]
 pub(crate) enum Reading {
     Instr(Instr),
-    /// No instruction.
+    /// The line is not an instruction.
     None,
-    /// A number may not stand where it does.
+    /// A number is not allowed where it is.
     Number,
 }
 
-/// The value of `n`, `-n`, `+n`, `$`, `$+n` and `$-n`, `$` counting nothing; None of any other expression.
+/// The value of `n`, `-n`, `+n`, `$`, `$+n` and `$-n`, with `$` as 0; None for any other expression.
 fn value_of(tree: &Tree) -> Option<u16> {
     match tree.items() {
         [Item::Leaf(Term::Number(n))] => Some(*n),
@@ -37,8 +37,8 @@ fn value_of(tree: &Tree) -> Option<u16> {
     }
 }
 
-/// The number that an expression puts into a field. The goal of a relative jump counts from the jump, its distance from the
-/// instruction behind.
+/// The number that an expression puts into a field. The target of a relative jump counts from the jump, but its distance counts from the
+/// next instruction.
 fn number_of(field: Field, tree: &Tree) -> Option<u16> {
     let value = value_of(tree)?;
     match field {
@@ -66,7 +66,7 @@ fn filled(
     }
 }
 
-/// The instruction that a line is, with the expressions of its numbers.
+/// The instruction of a line, with the expressions of its numbers.
 fn code_of(line: &Line) -> Option<(Instr, &[(Field, Tree)])> {
     let Line::Statement { label: _, body } = line else {
         return None;

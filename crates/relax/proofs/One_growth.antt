@@ -8,7 +8,7 @@ use Rattle.relax.specs.declared.growth.Verdict.{Verdict}
 use Rattle.relax.specs.declared.growth.Verdict.TheVariants.{Best, Range, TooLarge}
 use Rattle.relax.specs.Growth.{Holds, IsLeastFirst, Misses, SettledBelow, after}
 
--- the lowest jump that misses is not behind another that misses
+-- no jump below the lowest one that misses its target misses it
 not_behind : (c : Choice) (shape : List Statement) (j k : ℕ) → Misses c shape j → SettledBelow c shape k → j < k → ⊥
 not_behind c shape j k m below lt = m.misses (below j m.target lt m.jump m.short)
 
@@ -34,7 +34,7 @@ agree shape a b of_a of_b (suc i) le ge =
     let e : suc i ≡ i + 1 = omega arith in
     rw e (take_more_same a b i 0 in_a in_b before here)
 
--- none goes further than another
+-- neither order is longer than the other
 no_longer : (shape : List Statement) (a b : List ℕ) → IsLeastFirst shape a → IsLeastFirst shape b → length a < length b → ⊥
 no_longer shape a b of_a of_b lt =
     let before : a ≡ take (length a) b = sym (take_all (length a) a (omega arith)) ∙ agree shape a b of_a of_b (length a) (omega arith) (omega arith) in

@@ -16,7 +16,7 @@ use Rattle.relax.specs.Private.Worklist.{statement_of, target_of, AreRelaxable, 
 use Rattle.relax.proofs.Forcing.{after-push, count-set, each-push}
 use Rattle.relax.proofs.Window.{in_window, still_fits}
 
--- what holds between two turns: the jumps that do not wait are long or fit
+-- what holds between two turns of the loop: each jump that does not wait is long or reaches its target
 pub record BetweenTurns (shape : List Statement) (jumps : List RelaxableJump) (c : Choice) (order : List ℕ) (long pending : List Bool) (asked : ℕ) : Type 0 where
   pub same_long : length long ≡ length jumps
   pub same_pending : length pending ≡ length jumps
@@ -30,7 +30,7 @@ pub record BetweenTurns (shape : List Statement) (jumps : List RelaxableJump) (c
   pub least : length jumps ≤ asked + pending_count pending
   pub most : asked + pending_count pending ≤ length jumps + 126 * length order
 
--- a later jump stands further on
+-- of two jumps, the one with the higher number comes later in the program
 pub jumps-lt : (shape : List Statement) (jumps : List RelaxableJump) → AreRelaxable shape jumps → (p q : ℕ) → p < q → q < length jumps → statement_of jumps p < statement_of jumps q
 jumps-lt shape jumps are p zero lt len = absurd (omega arith)
 jumps-lt shape jumps are p (suc q) lt len =
@@ -50,7 +50,7 @@ jumps-ne shape jumps are p q lp lq ne e =
       ]
     ]
 
--- a flag that is cleared
+-- clearing a flag leaves one flag fewer set
 pub pending_count-clear : (flags : List Bool) (p : ℕ) → p < length flags → chosen flags p ≡ true → pending_count (set flags p false) + 1 ≡ pending_count flags
 pending_count-clear flags p lt was =
     let sums = sum_by-set (λ b. cond b 1 0) flags p false false lt in
@@ -65,7 +65,7 @@ flag_lt (b ∷ flags) (suc p) is = let ih = flag_lt flags p is in omega arith
 chosen-clear_other : (flags : List Bool) (p q : ℕ) (b : Bool) → q ≢ p → chosen (set flags p b) q ≡ chosen flags q
 chosen-clear_other flags p q b ne = get_or-set_other flags p q b false ne
 
--- a cleared list of flags, where a flag is set
+-- if a flag is set in the list with flag p cleared, it was set before and is not flag p
 cleared_set : (flags : List Bool) (p q : ℕ) → p < length flags → chosen (set flags p false) q ≡ true → (q ≢ p) × (chosen flags q ≡ true)
 cleared_set flags p q lt is =
     let ne : (q ≢ p) = λ e. (let there = get_or-set_same flags p false false lt in both_ways (chosen (set flags p false) p) there (rw e at is)) in
@@ -81,7 +81,7 @@ module _ (shape : List Statement) (jumps : List RelaxableJump) (are : AreRelaxab
   pub found_short : c (statement_of jumps p) ≡ false
   found_short = sym (was.flags p found_lt) ∙ was.short p found.set
 
-  -- the jump fits
+  -- the tested jump reaches its target
   pub turn_fits : Fits c shape (statement_of jumps p) → BetweenTurns shape jumps c order long (set pending p false) (asked + 1)
   turn_fits fits =
       let lt : p < length pending = flag_lt pending p found.set in
@@ -103,7 +103,7 @@ module _ (shape : List Statement) (jumps : List RelaxableJump) (are : AreRelaxab
         most = (let before = was.most in omega arith);
       }
 
-  -- what is said of the jump that is made long
+  -- the tested jump misses its target
   misses_now : ¬ Fits c shape (statement_of jumps p) → Misses c shape (statement_of jumps p)
   misses_now misses = record {
     target = target_of jumps p;
@@ -130,7 +130,7 @@ module _ (shape : List Statement) (jumps : List RelaxableJump) (are : AreRelaxab
       let fit_j : Fits c shape j = subst (Fits c shape) at fit in
       fit_j t jump
 
-  -- the jump is made long
+  -- the tested jump becomes long
   pub turn_grows : (d : Choice) → IsLengthened c d (statement_of jumps p) → ¬ Fits c shape (statement_of jumps p) → (is : List Bool) → Requeued jumps (set long p true) (set pending p false) is p → BetweenTurns shape jumps d (order ++ statement_of jumps p ∷ []) (set long p true) is (asked + 1)
   turn_grows d longer misses is requeued =
       let lt : p < length pending = flag_lt pending p found.set in
@@ -179,7 +179,7 @@ pending_count-none (b ∷ flags) none =
     let ih = pending_count-none flags (λ p. none (suc p)) in
     omega (arith, e, first, ih)
 
--- nothing waits
+-- no jump waits any more
 pub finished : (shape : List Statement) (jumps : List RelaxableJump) → AreRelaxable shape jumps → (c : Choice) (order : List ℕ) (long pending : List Bool) (asked : ℕ) → BetweenTurns shape jumps c order long pending asked → ((p : ℕ) → chosen pending p ≡ false) → IsLeastFirst shape order × IsProbeCount shape asked
 finished shape jumps are c order long pending asked was none =
     let same : c ≡ after order = fun_ext was.follows in

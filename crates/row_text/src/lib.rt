@@ -1,10 +1,10 @@
-//! Rows of tests as text: what a row writes in short is written out, and bytes are shown so that a row can hold them.
+//! The rows of tests as text: expands what a row abbreviates in braces, and prints bytes in the form that a row can contain.
 #![tactic(auto)]
 
 use std::alloc::Global;
 use std::io::Write;
 
-/// Writes one copy of a text, in which `|` ends a line, `#` is the number of this copy, from 0, and `^` the next number.
+/// Writes one copy of a text. In it, `|` ends a line, `#` is the number of this copy, from 0, and `^` is the next number.
 fn put_copy(out: &mut Vec<u8>, text: &[u8], number: u32) -> Result<(), anyhow::Error> {
     for byte in text {
         match byte {
@@ -17,7 +17,7 @@ fn put_copy(out: &mut Vec<u8>, text: &[u8], number: u32) -> Result<(), anyhow::E
     Ok(())
 }
 
-/// Writes that many copies of a text.
+/// Writes this many copies of a text.
 fn put_copies(out: &mut Vec<u8>, count: &str, text: &[u8]) -> Result<(), anyhow::Error> {
     for number in 0..u32::from_str_radix(count, 10)? {
         put_copy(out, text, number)?;
@@ -25,7 +25,7 @@ fn put_copies(out: &mut Vec<u8>, count: &str, text: &[u8]) -> Result<(), anyhow:
     Ok(())
 }
 
-/// Writes a byte in hexadecimal that many times.
+/// Writes a byte, given in hexadecimal, this many times.
 fn put_bytes(out: &mut Vec<u8>, count: &str, byte: &str) -> Result<(), anyhow::Error> {
     let byte = u8::from_str_radix(byte, 16)?;
     for _ in 0..u32::from_str_radix(count, 10)? {
@@ -34,7 +34,7 @@ fn put_bytes(out: &mut Vec<u8>, count: &str, byte: &str) -> Result<(), anyhow::E
     Ok(())
 }
 
-/// Writes what braces stand for: `N*TEXT` is N copies of a text, `NxHH` N times the byte HH in hexadecimal, and `HH` that byte.
+/// Writes what is in braces: `N*TEXT` is N copies of a text, `NxHH` is N times the byte HH in hexadecimal, and `HH` is that byte.
 fn put_braced(out: &mut Vec<u8>, braced: &str) -> Result<(), anyhow::Error> {
     if let Some((count, text)) = braced.split_once('*') {
         return put_copies(out, count, text.as_bytes());
@@ -45,7 +45,7 @@ fn put_braced(out: &mut Vec<u8>, braced: &str) -> Result<(), anyhow::Error> {
     }
 }
 
-/// The bytes of a row, with what stands in braces written out.
+/// The bytes of a row, with everything in braces expanded.
 pub fn written_out(alloc: Global, row: &str) -> Result<Vec<u8>, anyhow::Error> {
     let mut out = Vec::new(alloc);
     for part in row.split('{') {
@@ -60,7 +60,7 @@ pub fn written_out(alloc: Global, row: &str) -> Result<Vec<u8>, anyhow::Error> {
     Ok(out)
 }
 
-/// Prints a text. A byte that is no letter of ASCII, and a brace, stands in braces in hexadecimal.
+/// Prints a text. A brace, and each byte that is not printable ASCII, is printed in braces in hexadecimal.
 pub fn show_text<W: Write>(out: &mut W, text: &[u8]) -> Result<(), anyhow::Error> {
     for byte in text {
         match byte {
@@ -71,14 +71,14 @@ pub fn show_text<W: Write>(out: &mut W, text: &[u8]) -> Result<(), anyhow::Error
     Ok(())
 }
 
-/// A byte, and how often it follows itself.
+/// A byte, and how often it is repeated.
 #[derive(Clone, Copy)]
 struct Run {
     byte: u8,
     count: usize,
 }
 
-/// Prints equal bytes: more than eight as their count and the byte, in braces.
+/// Prints equal bytes. More than eight are printed in braces as their count and the byte.
 fn show_run<W: Write>(out: &mut W, run: Run) -> Result<(), anyhow::Error> {
     if run.count > 8 {
         return Ok(write!(out, "{{{}x{:02X}}}", run.count, run.byte)?);
@@ -89,7 +89,7 @@ fn show_run<W: Write>(out: &mut W, run: Run) -> Result<(), anyhow::Error> {
     Ok(())
 }
 
-/// Prints bytes as `show_text` does, but more than eight equal ones as `{9x41}`.
+/// Prints bytes as `show_text` does, except that more than eight equal ones are printed as `{9x41}`.
 pub fn show_runs<W: Write>(out: &mut W, bytes: &[u8]) -> Result<(), anyhow::Error> {
     let mut run = Run { byte: 0, count: 0 };
     for byte in bytes {

@@ -25,6 +25,6 @@ bytes-le c shape a (suc b) le =
       | inr ge ↦ (let next : suc b ≡ b + 1 = omega arith in rw next (omega (arith, bytes-le c shape a b ge, bytes-next c shape b)))
     ]
 
--- the next place
+-- the address of the next statement
 pub place-next : (c : Choice) (shape : List Statement) (k : ℕ) (s : Statement) → slice_get shape k ≡ Some s → place c shape (k + 1) ≡ place c shape k + size_of (c k) s
 place-next c shape k s e = omega (arith, bytes-next c shape k, size-there c shape k s e)

@@ -17,7 +17,7 @@ size_of-le b n (Short t) is = (omega arith, omega arith)
 pub size-read : (c : Choice) (shape : List Statement) (k : ℕ) (d : Statement) → k < length shape → size_at c shape k ≡ size_of (c k) (get_or shape k d)
 size-read c shape k d lt = ap (λ o. option_map_or (size_of (c k)) o 0) (slice_get-get_or shape k d lt)
 
--- no bytes past the end
+-- past the last statement there are no bytes
 size_past : (c : Choice) (shape : List Statement) (k : ℕ) → length shape ≤ k → size_at c shape k ≡ 0
 size_past c shape k le = ap (λ o. option_map_or (size_of (c k)) o 0) (slice_get_past shape k le)
 
@@ -41,7 +41,7 @@ bytes_le c shape is (suc k) =
 pub bytes-bound : (c : Choice) (shape : List Statement) → IsShape shape → (k : ℕ) → bytes_before c shape k ≤ 1310700000
 bytes-bound c shape is k = let le = (bytes_le c shape is k).1 in let few = is.few in omega arith
 
--- a byte at least for each statement between
+-- the statements between a and b take a byte each at least
 pub bytes-apart : (c : Choice) (shape : List Statement) → IsShape shape → (a b : ℕ) → a ≤ b → b ≤ length shape → bytes_before c shape a + b ≤ bytes_before c shape b + a
 unfolding bytes_before
 bytes-apart c shape is a zero le within = let e : a ≡ 0 = omega arith in rw e (omega arith)
@@ -52,7 +52,7 @@ bytes-apart c shape is a (suc b) le within =
       | inr ge ↦ (let ih = bytes-apart c shape is a b ge (omega arith) in omega arith)
     ]
 
--- with no flag set every jump is short
+-- if no flag is set, every jump is short
 pub chosen-replicate : (n k : ℕ) → chosen (replicate n false) k ≡ false
 chosen-replicate zero k = refl
 chosen-replicate (suc n) zero = refl

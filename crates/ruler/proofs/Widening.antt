@@ -1,4 +1,4 @@
--- The spans that a ruler keeps, from the first on and through each growth.
+-- The spans that a ruler keeps are right at first, and stay right each time a jump becomes long.
 use Rattle.std.proofs.Common.{◌≡◌, ◌||◌, subst, Some, get_or, ℕ, ◌+◌, ◌<◌, ◌≤◌, ◌↔◌, true, false, List, length, refl, ap, sym, ◌∙◌, arith, inl, inr, min, take, drop, ◌++◌, get_or-set_same, get_or-set_other}
 use Rattle.std.proofs.lemmas.Bool.{cases_lt, cases_eq, eq-eqb, ne_eqb, leb-true, le-leb}
 use Rattle.std.proofs.Math.Dec.{leb}
@@ -21,7 +21,7 @@ use Rattle.ruler.proofs.Places.{bytes-zero, bytes-next}
 use Rattle.ruler.proofs.Sizes.{bytes-apart, chosen-replicate}
 use Rattle.ruler.proofs.Moves.{moved}
 
--- a jump reaches its target just where its span is no longer than 129
+-- a jump reaches its target exactly if its span is 129 at most
 pub near : (from to span : ℕ) → IsSpan from to span → (span ≤ LONGEST) ↔ IsNear (256 + from) (256 + to)
 near from to span is =
     elim (cases_lt to from) as (λ _. (span ≤ LONGEST) ↔ IsNear (256 + from) (256 + to)) [
@@ -31,13 +31,13 @@ near from to span is =
           (λ le. (let e = exact le in (omega arith, omega arith)), λ n. (let a = n.0 in let b = n.1 in omega arith)))
     ]
 
--- the first place
+-- the first address
 pub places-first : (shape : List Statement) (places : List ℕ) (n : ℕ) → places ≡ replicate n 0 → 0 < n → (j : ℕ) → j ≤ 0 → slice_index places j ≡ bytes_before none_long shape j
 places-first shape places n zeros lt j le =
     let first : j ≡ 0 = omega arith in
     rw (first, zeros, bytes-zero none_long shape) (get_or-replicate {A = ℕ} n 0 0 0 lt)
 
--- one place more
+-- one more address
 pub places-more : (shape : List Statement) (places : List ℕ) (k at size : ℕ) → k < length shape → length places ≡ length shape + 1 → ((j : ℕ) → j ≤ k → slice_index places j ≡ bytes_before none_long shape j) → at ≡ slice_index places k → size ≡ size_at none_long shape k → (j : ℕ) → j ≤ k + 1 → slice_index (set places (k + 1) (at + size)) j ≡ bytes_before none_long shape j
 places-more shape places k at size lt len each read is j le =
     let next = bytes-next none_long shape k in
@@ -47,7 +47,7 @@ places-more shape places k at size lt len each read is j le =
       | inr other ↦ get_or-set_other places (k + 1) j (at + size) 0 other ∙ each j (omega arith)
     ]
 
--- a span by one byte more
+-- a span that grows by one byte
 more-ahead : (from to was is : ℕ) → from ≤ to → IsSpan from to was → is ≡ min (was + 1) 255 → IsSpan from (to + 1) is
 more-ahead from to was is le span e =
     let most = (span.ahead le).0 in let exact = (span.ahead le).1 in
@@ -64,7 +64,7 @@ more-behind from to was is gt span e =
       behind = λ l. (omega arith, λ short. (let same = exact (omega arith) in omega arith));
     }
 
--- a span that is out of reach, and longer than it is kept
+-- if a target out of reach moves further away, what is kept of the span may stay
 far-ahead : (from to was : ℕ) → from + 129 < to → IsSpan from to was → IsSpan from (to + 1) was
 far-ahead from to was far span =
     let most = (span.ahead (omega arith)).0 in let exact = (span.ahead (omega arith)).1 in
@@ -81,7 +81,7 @@ far-behind from to was far span =
       behind = λ l. (omega arith, λ short. (let same = exact short in absurd (omega arith)));
     }
 
--- both places move alike
+-- if both ends move by one byte, the span stays
 both : (from to was : ℕ) → IsSpan from to was → IsSpan (from + 1) (to + 1) was
 both from to was span =
     record {
@@ -93,7 +93,7 @@ module _ (c d : Choice) (shape : List Statement) (is_shape : IsShape shape) (k u
   at : (m : ℕ) → (m ≤ k → bytes_before d shape m ≡ bytes_before c shape m) × (k < m → bytes_before d shape m ≡ bytes_before c shape m + 1)
   at = moved c d shape k u jump short longer
 
-  -- each span after jump k has grown
+  -- each span is right after jump k has become long
   pub span-widened : (targets was is : List ℕ) → Widened targets was is k → (j : ℕ) → j < length targets → length targets ≡ length shape → slice_index targets j ≤ length shape → IsSpan (bytes_before c shape j) (bytes_before c shape (slice_index targets j)) (slice_index was j) → IsSpan (bytes_before d shape j) (bytes_before d shape (slice_index targets j)) (slice_index is j)
   span-widened targets was is wide j lt len within span =
       let t : ℕ = slice_index targets j in
@@ -118,7 +118,7 @@ module _ (c d : Choice) (shape : List Statement) (is_shape : IsShape shape) (k u
         ]
       ]
 
--- one flag more
+-- one more flag is set
 pub chosen-set : (long : List Bool) (k : ℕ) → k < length long → IsLengthened (chosen long) (chosen (set long k true)) k
 chosen-set long k lt j =
     elim (cases_eq j k) [
@@ -136,7 +136,7 @@ pub target-within : (shape : List Statement) (targets : List ℕ) → IsShape sh
 target-within shape targets is each k lt =
     rw (each k _ (slice_get-get_or shape k (Fixed 0) lt)) (target_of-le (length shape) k (get_or shape k (Fixed 0)) lt (All-get_or (IsStatement (length shape)) shape k (Fixed 0) lt is.each))
 
--- what is kept of a program whose jumps are short
+-- what is kept of a program whose jumps are all short
 pub holds-first : (shape : List Statement) (long : List Bool) (targets places spans : List ℕ) (bytes : ℕ) → IsShape shape → long ≡ replicate (length shape) false → length long ≡ length shape → length targets ≡ length shape → length spans ≡ length shape → AreTargets shape targets → ArePlaces shape places → AreSpans targets places spans → bytes ≡ slice_index places (length shape) → HoldsSpans shape long targets spans bytes
 holds-first shape long targets places spans bytes is none len_long len_targets len_spans goes stands far all =
     let same : ◌≡◌ {A = Choice} none_long (chosen long) = fun_ext (λ k. sym (ap (λ (l : List Bool). chosen l k) none ∙ chosen-replicate (length shape) k)) in
@@ -162,13 +162,13 @@ module _ (shape : List Statement) (long : List Bool) (targets spans : List ℕ) 
       let here : IsSpan (bytes_before (chosen long) shape k) (bytes_before (chosen long) shape (target_of k s)) (slice_index spans k) = rw to at span in
       near _ _ _ here
 
-  -- the same, where a span is read and compared
+  -- the same, given a span that is read and compared
   pub reaches-read : (read : ℕ) → slice_index spans k ≡ read → (s : Statement) → slice_get shape k ≡ Some s → (leb read LONGEST ≡ true) ↔ Reaches (chosen long) shape k (target_of k s)
   reaches-read read at s e =
       let by = reaches-by s e in
       (λ yes_it. by.0 (let le = leb-true read LONGEST yes_it in omega arith), λ reaches. le-leb read LONGEST (let le = by.1 reaches in omega arith))
 
-  -- what is kept after jump k has grown
+  -- what is kept after jump k has become long
   pub holds-grown : (u : ℕ) → IsJump shape k u → chosen long k ≡ false → (is : List ℕ) → Widened targets spans is k → HoldsSpans shape (set long k true) targets is (bytes + 1)
   holds-grown u jump short is wide =
       let lt : k < length shape = slice_get_within shape k (Jump u) jump in
@@ -186,6 +186,6 @@ module _ (shape : List Statement) (long : List Bool) (targets spans : List ℕ) 
         all = (let before = holds.all in omega arith);
       }
 
--- a list that was lent whole
+-- a list that was borrowed as a whole and is given back
 pub given-back : (n : ℕ) (new items : List ℕ) → length new ≡ n → take n (new ++ drop (length new) items) ≡ new
 given-back n new items e = rw (← e) (take-append_seam new (drop (length new) items))

@@ -5,9 +5,9 @@ ghost use Rattle.ruler.specs.Private.Spans.{IsSpan};
 /// The longest span over which a short jump reaches its target.
 pub(crate) const LONGEST: u8 = 129;
 
-/// How far it is from a short jump to its target: the bytes from one place to the other, and three more where the
-/// target is behind, since a short jump reaches 129 bytes ahead of its first byte and 126 back. 255 stands for all
-/// that is longer.
+/// Answers how far it is from a short jump to its target: the bytes between their addresses, and three more if the
+/// target comes first, since a short jump reaches 129 bytes forward from its first byte and 126 back. 255 stands for
+/// everything longer.
 pub(crate) fn span(from: u32, to: u32) -> u8
     ensures { IsSpan from to result }
 {

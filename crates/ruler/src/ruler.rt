@@ -5,7 +5,7 @@ ghost use Rattle.ruler.specs.declared.shape.Statement.{Statement};
 ghost use Rattle.ruler.specs.Choice.{Choice, IsJump, IsAnyJump, Fits};
 ghost use Rattle.ruler.specs.Ruler.{IsLengthened};
 
-/// A program, which of its jumps are long, and a count of the tests whether one fits.
+/// A program, a choice of its long jumps, and a count of the tests whether a jump fits.
 ///
 /// No method tells a size: whoever holds a ruler learns of sizes by [`fits`](Ruler::fits) alone.
 pub trait Ruler {
@@ -22,7 +22,7 @@ pub trait Ruler {
     fn len(&self) -> u32
         ensures { result ≡ length (shape self.now) };
 
-    /// The number of the statement that jump `k` goes to, and `None` where `k` is no jump whose size may be chosen.
+    /// The number of the statement that jump `k` goes to, or `None` if `k` is not a relaxable jump.
     fn target(&self, k: u32) -> Option<u32>
         requires { k < length (shape self.now) }
         ensures { MatchOption result (¬ IsAnyJump (shape self.now) k) (IsJump (shape self.now) k) };

@@ -3,13 +3,13 @@
 use common::MOST_STATEMENTS;
 use std::marker::Model;
 
-/// One statement of a program, as far as sizes go. Targets are numbers of statements, counted from 0; the count of all
-/// statements stands for the end.
+/// The size of one statement of a program. Targets are numbers of statements, counted from 0; the count of all
+/// statements means the end.
 #[derive(Clone, Copy, Debug, PartialEq, Eq)]
 pub enum Statement {
-    /// As many bytes as it says, from 1 to 65,535.
+    /// This many bytes, from 1 to 65,535.
     Fixed(u16),
-    /// A jump to a statement, of two bytes or three: `JP` to a label.
+    /// A relaxable jump to a statement, of two bytes or three.
     Jump(u32),
     /// A jump to a statement that always takes two bytes: `JR` or `DJNZ`.
     Short(u32),
@@ -20,7 +20,7 @@ impl Statement {
     ghost use Rattle.common.specs.declared.limits.TheConstants.{MOST_BYTES};
     ghost use Rattle.ruler.specs.Choice.{size_of, IsStatement};
 
-    /// Whether it may stand in a program of `count` statements.
+    /// Whether a program of `count` statements may have it.
     fn is_within(self, count: usize) -> bool
         ensures { IsTrue result ↔ IsStatement count self }
     {
@@ -30,7 +30,7 @@ impl Statement {
         }
     }
 
-    /// How many bytes it takes, as a long jump or not.
+    /// How many bytes it takes, given whether it is long.
     pub fn size(self, long: bool) -> u32
         ensures value { result ≡ size_of long self }
         ensures bound { result ≤ MOST_BYTES }
@@ -65,7 +65,7 @@ impl Shape {
     ghost use Rattle.std.specs.Prelude.{◌≡◌, ◌↔◌, IsTrue};
     ghost use Rattle.ruler.specs.Choice.{IsShape};
 
-    /// The shape of these statements. [`is_shape`](Shape::is_shape) tests what it needs.
+    /// Makes the shape of these statements. [`is_shape`](Shape::is_shape) has to be true of them.
     pub fn new(statements: Vec<Statement>) -> Self
         requires { IsShape statements.items }
         ensures { result ≡ statements.items }
@@ -73,8 +73,8 @@ impl Shape {
         Shape { statements }
     }
 
-    /// Whether these are the statements of a shape: at most 20,000, none of 0 bytes, and each target a statement's
-    /// number or their count.
+    /// Whether these statements are a shape: at most 20,000, none of 0 bytes, and each target the number of a statement
+    /// or their count.
     pub fn is_shape(statements: &[Statement]) -> bool
         ensures { IsTrue result ↔ IsShape statements.now }
     {

@@ -1,4 +1,4 @@
-//! How far each jump of a program goes, kept up while jumps grow.
+//! Keeps how far each jump of a program goes, while jumps become long.
 
 ghost use Rattle.std.specs.Prelude.{◌≡◌, ℕ, ◌+◌, ◌<◌, ◌≤◌, true, false, length, vec_len, min, slice_index, IfOk};
 ghost use Rattle.common.specs.declared.limits.TheConstants.{MOST_STATEMENTS};
@@ -9,10 +9,11 @@ use crate::reach::span;
 use crate::shape::Statement;
 use std::alloc::{AllocError, Global};
 
-/// How many statements away a jump may stand and go over another in reach: each takes a byte at least.
+/// The most statements between a jump and another that it goes over, if it reaches its target: each of them takes a
+/// byte at least.
 const NEAR: usize = 128;
 
-/// The statement that each statement goes to, itself where it is no jump.
+/// Answers the target of each statement, or the statement itself if it is not a jump.
 pub(crate) fn all_targets(alloc: Global, statements: &[Statement]) -> Result<Vec<u16>, AllocError>
     requires { IsShape statements.now }
     ensures len { IfOk result (λ v. vec_len v ≡ length statements.now) }
@@ -29,7 +30,7 @@ pub(crate) fn all_targets(alloc: Global, statements: &[Statement]) -> Result<Vec
     Ok(targets)
 }
 
-/// How many bytes stand before each statement and before the end, where each jump is short.
+/// Answers how many bytes come before each statement and before the end, if every jump is short.
 pub(crate) fn all_places(alloc: Global, statements: &[Statement]) -> Result<Vec<u32>, AllocError>
     requires { IsShape statements.now }
     ensures len { IfOk result (λ v. vec_len v ≡ length statements.now + 1) }
@@ -42,7 +43,7 @@ pub(crate) fn all_places(alloc: Global, statements: &[Statement]) -> Result<Vec<
     Ok(places)
 }
 
-/// How far each statement's target is.
+/// Answers how far the target of each statement is.
 pub(crate) fn all_spans(
     alloc: Global,
     targets: &[u16],
@@ -60,7 +61,7 @@ pub(crate) fn all_spans(
     Ok(spans)
 }
 
-/// A span that grows by a byte where the jump goes over the statement that grew.
+/// Answers a span that has grown by a byte if the jump goes over the statement that grew.
 fn widened(span: u8, over: bool) -> u8
     ensures over { over ≡ true → result ≡ min (span + 1) 255 }
     ensures apart { over ≡ false → result ≡ span }
@@ -68,7 +69,7 @@ fn widened(span: u8, over: bool) -> u8
     span.saturating_add(u8::from(over))
 }
 
-/// Widens the spans from `low` to below `high` of what goes to statements behind `k`.
+/// Widens the spans of the statements from `low` to below `high` whose targets are after `k`.
 fn widen_ahead(targets: &[u16], spans: &mut [u8], k: u16, low: usize, high: usize)
     requires order { low ≤ high }
     requires in_range { high ≤ length targets.now }
@@ -85,7 +86,7 @@ fn widen_ahead(targets: &[u16], spans: &mut [u8], k: u16, low: usize, high: usiz
     }
 }
 
-/// Widens the spans from `low` to below `high` of what goes to `k` or to statements before it.
+/// Widens the spans of the statements from `low` to below `high` whose targets are `k` or before it.
 fn widen_back(targets: &[u16], spans: &mut [u8], k: u16, low: usize, high: usize)
     requires order { low ≤ high }
     requires in_range { high ≤ length targets.now }
@@ -102,7 +103,8 @@ fn widen_back(targets: &[u16], spans: &mut [u8], k: u16, low: usize, high: usize
     }
 }
 
-/// Widens the spans of what goes over statement `k`, which grew by a byte, except where that is out of reach anyway.
+/// Widens the span of each jump that goes over statement `k`, which grew by a byte. It leaves out jumps that do not
+/// reach their targets anyway.
 #[inline(never)]
 pub(crate) fn widen(targets: &[u16], spans: &mut [u8], k: usize)
     requires at { k < length targets.now }

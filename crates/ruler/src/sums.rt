@@ -7,15 +7,15 @@ use crate::spans::{all_places, all_spans, all_targets, widen};
 use std::alloc::{AllocError, Global};
 use std::marker::Model;
 
-/// A program with how far each of its jumps goes. A test reads one number, and a change goes over the 257 statements
-/// around it at most.
+/// A program with how far each of its jumps goes. A test reads one number. Making a jump long changes at most the 257
+/// spans around it.
 #[derive(Drop)]
 pub struct Sums {
     statements: Vec<Statement>,
     long: Vec<bool>,
-    /// The statement that each goes to, itself where it is no jump.
+    /// The target of each statement, or the statement itself if it is not a jump.
     targets: Vec<u16>,
-    /// How far that is, exact as far as a short jump reaches.
+    /// How far the target of each statement is; exact as far as a short jump reaches.
     spans: Vec<u8>,
     /// The bytes of all statements.
     bytes: u32,
@@ -23,10 +23,10 @@ pub struct Sums {
 }
 
 impl Model for Sums {
-    ghost use Rattle.ruler.specs.Sums.{Layout};
+    ghost use Rattle.ruler.specs.Sums.{SumsState};
     ghost use Rattle.ruler.specs.Private.Spans.{HoldsSpans};
 
-    ghost Value = { Layout };
+    ghost Value = { SumsState };
 
     ghost view = { λ s. record { shape = s.statements.items; long = s.long.items; asked = s.asked } };
 
@@ -37,8 +37,8 @@ impl Sums {
     ghost use Rattle.std.specs.Prelude.{◌≡◌, ◌<◌, ◌↔◌, ℕ, true, false, length, vec_len, IfOk, IsTrue, MatchOption};
     ghost use Rattle.ruler.specs.Choice.{chosen, total, IsJump, IsShort, Reaches, ShortsReach, IsLowestShortMiss};
 
-    /// The program with every jump short, and no test counted. Its only error is that memory runs out; no other method
-    /// takes any.
+    /// Makes a ruler with every jump short and no test counted. The only error is that memory ran out; no other method
+    /// allocates.
     pub fn new(alloc: Global, shape: &Shape) -> Result<Sums, AllocError>
         ensures shape { IfOk result (λ s. s.shape ≡ shape.now) }
         ensures short { IfOk result (λ s. (k : ℕ) → chosen s.long k ≡ false) }

@@ -1,4 +1,4 @@
--- Each text is a module, or has a first fault.
+-- Each source is a module, or has a first error.
 use Rattle.std.proofs.Common.{◌≡◌, ◌≢◌, ◌≤◌, refl, ap, subst, ℕ, Bool, true, false, List, [], ◌∷◌, ◌++◌, Option, Some, None, Result, Ok, Err, option_map, map, length, filter_map}
 use Rattle.std.proofs.lemmas.Option.{slice_get_past}
 use Rattle.std.specs.Option.{option_map_or}
@@ -21,21 +21,21 @@ use Rattle.asm_names.specs.Layout.{Layout}
 use Rattle.asm_module.specs.declared.line_fault.LineFault.{LineFault}
 use Rattle.asm_module.specs.Reads.Read.{taken, unread}
 use Rattle.asm_statements.specs.declared.fault.StateFault.{StateFault}
-use Rattle.asm_statements.specs.Module.Faults.{body_fault, not_label, undefined, value_by, valueless}
+use Rattle.asm_statements.specs.Module.Faults.{body_fault, not_label, undefined_name, made_fault, value_fault}
 use Rattle.asm_statements.specs.Module.Stated as stated
 use Rattle.asm_piece.specs.Made.{Made, made}
 use Rattle.asm_module.specs.declared.fault.AsmFault.{AsmFault}
 use Rattle.asm_module.specs.declared.fault.Why.{Why}
 use Rattle.asm_module.specs.Assembled.{Assembled, Assembles, HasCause, answer, assembled}
-use Rattle.asm_module.specs.Source.{at, equ_fault, first_pass, layout, source_fault, state_fault, table}
+use Rattle.asm_module.specs.Source.{fault_on_line, first_equ_line_fault, first_pass, layout, source_fault, state_fault, source_table}
 use Rattle.asm_module.specs.Whys.{equ_why, line_why, macro_why, name_why, state_why}
 use Rattle.source_laws.proofs.Reach.{is_led, is_passed}
 
--- no fault is want of memory, on whatever line
+-- The error, if there is one, is not that memory ran out, whatever its line is.
 abbrev NoneIs : {A : Type 0} → A → Option (ℕ × A) → Type 0
 NoneIs memory fault = (n : ℕ) → fault ≢ Some (n, memory)
 
--- the first of several, the first of which is on a line
+-- the first of several errors, if that of the first line and those of the others have a cause
 first_none : {A : Type 0} (memory : A) (number : ℕ) (one : Option A) (others : List (Option (ℕ × A))) → one ≢ Some memory → NoneIs memory (first others) → NoneIs memory (first (option_map (λ why. (number, why)) one ∷ others))
 first_none {A} memory number (Some why) others is_not rest n is = is_not (ap (option_map (λ (f : ℕ × A). f.1)) is)
 first_none {A} memory number None others is_not rest n is = rest n is
@@ -48,39 +48,39 @@ if_so_none : {A : Type 0} (memory why : A) (b : Bool) → why ≢ memory → if_
 if_so_none memory why true is_not = λ is. is_not (cc is)
 if_so_none memory why false is_not = λ is. absurd (cc is)
 
--- names
-name_caused : (before : List Taken) (l : Taken) → defined.line_fault before l ≢ Some NameFault.NoMemory
+-- the errors of names
+name_caused : (before : List Taken) (l : Taken) → defined.name_fault before l ≢ Some NameFault.NoMemory
 name_caused before l =
     first_of NameFault.NoMemory (defined.duplicate before l) _ (if_so_none NameFault.NoMemory NameFault.Duplicate _ (λ is. absurd (cc is)))
     (first_of NameFault.NoMemory (defined.too_many_statements before l) _ (if_so_none NameFault.NoMemory NameFault.TooManyStatements _ (λ is. absurd (cc is)))
     (first_of NameFault.NoMemory (defined.too_many_names before l) [] (if_so_none NameFault.NoMemory NameFault.TooManyNames _ (λ is. absurd (cc is))) (λ is. absurd (cc is))))
 
-names_caused : (before lines : List Taken) → NoneIs NameFault.NoMemory (first (defined.faults before lines))
+names_caused : (before lines : List Taken) → NoneIs NameFault.NoMemory (first (defined.name_faults before lines))
 names_caused before [] = λ n is. absurd (cc is)
-names_caused before (l ∷ ls) = first_none NameFault.NoMemory l.number (defined.line_fault before l) (defined.faults (before ++ l ∷ []) ls) (name_caused before l) (names_caused (before ++ l ∷ []) ls)
+names_caused before (l ∷ ls) = first_none NameFault.NoMemory l.number (defined.name_fault before l) (defined.name_faults (before ++ l ∷ []) ls) (name_caused before l) (names_caused (before ++ l ∷ []) ls)
 
--- other lines
-valued_caused : (made : Result Made StmtFault) → value_by made ≢ Some StateFault.NoMemory
+-- the errors of the values in statements
+valued_caused : (made : Result Made StmtFault) → made_fault made ≢ Some StateFault.NoMemory
 valued_caused (Ok made) = λ is. absurd (cc is)
 valued_caused (Err why) = λ is. absurd (cc is)
 
 body_caused : (known : Names) (t : Table) (body : Body) → body_fault known t body ≢ Some StateFault.NoMemory
 body_caused known t body =
-    first_of StateFault.NoMemory (undefined known body) _ (if_so_none StateFault.NoMemory StateFault.Undefined _ (λ is. absurd (cc is)))
-    (first_of StateFault.NoMemory (valueless t body) _ (valued_caused (made t body))
+    first_of StateFault.NoMemory (undefined_name known body) _ (if_so_none StateFault.NoMemory StateFault.Undefined _ (λ is. absurd (cc is)))
+    (first_of StateFault.NoMemory (value_fault t body) _ (valued_caused (made t body))
     (first_of StateFault.NoMemory (not_label known body) [] (if_so_none StateFault.NoMemory StateFault.PublicNotLabel _ (λ is. absurd (cc is))) (λ is. absurd (cc is))))
 
-state_caused : (known : Names) (t : Table) (l : Line) → stated.line_fault known t l ≢ Some StateFault.NoMemory
+state_caused : (known : Names) (t : Table) (l : Line) → stated.statement_fault known t l ≢ Some StateFault.NoMemory
 state_caused known t (line.Statement label (Some body)) = body_caused known t body
 state_caused known t (line.Statement label None) = λ is. absurd (cc is)
 state_caused known t (line.Equ name e) = λ is. absurd (cc is)
 
 states_caused : (known : Names) (t : Table) (where_laid : Layout) (lines : List (ℕ × Taken))
-    → NoneIs StateFault.NoMemory (first (map (λ l. option_map (λ why. (l.1.number, why)) (stated.line_fault known (stated.behind where_laid t l.0) l.1.line)) lines))
+    → NoneIs StateFault.NoMemory (first (map (λ l. option_map (λ why. (l.1.number, why)) (stated.statement_fault known (stated.table_at_line where_laid t l.0) l.1.line)) lines))
 states_caused known t where_laid [] = λ n is. absurd (cc is)
-states_caused known t where_laid (l ∷ ls) = first_none StateFault.NoMemory l.1.number _ _ (state_caused known (stated.behind where_laid t l.0) l.1.line) (states_caused known t where_laid ls)
+states_caused known t where_laid (l ∷ ls) = first_none StateFault.NoMemory l.1.number _ _ (state_caused known (stated.table_at_line where_laid t l.0) l.1.line) (states_caused known t where_laid ls)
 
--- a fault of a source
+-- An error of a source is not that memory ran out.
 abbrev IsCaused : Option AsmFault → Type 0
 IsCaused (Some fault) = fault.why ≢ Why.NoMemory
 IsCaused None = Unit {0}
@@ -101,25 +101,25 @@ macro_caused (MacroFault.Scan why) h is = absurd (cc is)
 macro_caused (MacroFault.Expr why) h is = absurd (cc is)
 macro_caused MacroFault.NoMemory h is = h refl
 
-at_names : (fault : Option (ℕ × NameFault)) → NoneIs NameFault.NoMemory fault → IsCaused (at name_why fault)
+at_names : (fault : Option (ℕ × NameFault)) → NoneIs NameFault.NoMemory fault → IsCaused (fault_on_line name_why fault)
 at_names (Some (n, NameFault.Duplicate)) h = λ is. absurd (cc is)
 at_names (Some (n, NameFault.TooManyStatements)) h = λ is. absurd (cc is)
 at_names (Some (n, NameFault.TooManyNames)) h = λ is. absurd (cc is)
 at_names (Some (n, NameFault.NoMemory)) h = absurd (h n refl)
 at_names None h = tt
 
-at_line : (fault : Option (ℕ × LineFault)) → IsCaused (at line_why fault)
+at_line : (fault : Option (ℕ × LineFault)) → IsCaused (fault_on_line line_why fault)
 at_line (Some (n, LineFault.Scan why)) = λ is. absurd (cc is)
 at_line (Some (n, LineFault.Stmt why)) = λ is. absurd (cc is)
 at_line None = tt
 
-at_equ : (fault : Option (ℕ × EquFault)) → IsCaused (at equ_why fault)
+at_equ : (fault : Option (ℕ × EquFault)) → IsCaused (fault_on_line equ_why fault)
 at_equ (Some (n, EquFault.Undefined)) = λ is. absurd (cc is)
 at_equ (Some (n, EquFault.EquCircle)) = λ is. absurd (cc is)
 at_equ (Some (n, EquFault.Expr why)) = λ is. absurd (cc is)
 at_equ None = tt
 
-at_state : (fault : Option (ℕ × StateFault)) → NoneIs StateFault.NoMemory fault → IsCaused (at state_why fault)
+at_state : (fault : Option (ℕ × StateFault)) → NoneIs StateFault.NoMemory fault → IsCaused (fault_on_line state_why fault)
 at_state (Some (n, StateFault.Undefined)) h = λ is. absurd (cc is)
 at_state (Some (n, StateFault.Stmt why)) h = λ is. absurd (cc is)
 at_state (Some (n, StateFault.PublicNotLabel)) h = λ is. absurd (cc is)
@@ -128,11 +128,11 @@ at_state None h = tt
 
 source_caused : (grow : Bool) (lines : List Numbered) (circle : ℕ → Bool) → IsCaused (source_fault grow lines circle)
 source_caused grow lines circle =
-    let pass = first_caused (at name_why (defined.first_fault (taken lines))) _ (at_names _ (names_caused [] (taken lines))) (first_caused (at line_why (unread lines)) [] (at_line (unread lines)) tt) in
+    let pass = first_caused (fault_on_line name_why (defined.first_name_fault (taken lines))) _ (at_names _ (names_caused [] (taken lines))) (first_caused (fault_on_line line_why (unread lines)) [] (at_line (unread lines)) tt) in
     let laid = layout grow (taken lines) circle in
     first_caused (first_pass lines) _ pass
-    (first_caused (equ_fault (taken lines) circle laid) _ (at_equ _)
-    (first_caused (state_fault (taken lines) circle laid) [] (at_state _ (states_caused (names (taken lines)) (table (taken lines) circle laid) laid (placed (taken lines)))) tt))
+    (first_caused (first_equ_line_fault (taken lines) circle laid) _ (at_equ _)
+    (first_caused (state_fault (taken lines) circle laid) [] (at_state _ (states_caused (names (taken lines)) (source_table (taken lines) circle laid) laid (placed (taken lines)))) tt))
 
 -- which EQU lines lead back to themselves
 abbrev circles : List Taken → ℕ → Bool
@@ -176,7 +176,7 @@ of_end name text grow lines Ended is h = of_lines name text grow lines (Ended, t
 of_end name text grow lines (Stopped number why) is h =
     (Err (record { line = number; why = macro_why why }), macro_caused why (h number why refl), (Err (number, why), is_expanded text number why (h number why refl) (lines, is), (λ k. false), tt, refl))
 
--- with what `some_expansion` says
+-- given the clauses of `some_expansion`
 module _
     (some : (text : List ℕ) → (lines : List Numbered) × (end : End) × IsExpansion text lines end)
     (caused : (text : List ℕ) (lines : List Numbered) (number : ℕ) (why : MacroFault) → IsExpansion text lines (Stopped number why) → why ≢ MacroFault.NoMemory)

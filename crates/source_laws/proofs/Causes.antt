@@ -1,4 +1,4 @@
--- Where an expansion stops, the fault has a cause in the text: it is never want of memory.
+-- If an expansion stops, its error has a cause in the source: it is never that memory ran out.
 use Rattle.std.proofs.Common.{◌≢◌, ◌∙◌, ◌&&◌, if◌then◌else◌, ap, inl, inr, ℕ, suc, Bool, true, false, nat_le, is_some, List, [], ◌∷◌, Option, Some, None, Result, Ok, Err}
 use Rattle.asm_macro.specs.declared.expansion.TheConstants.{MOST_LINES}
 use Rattle.asm_scan.specs.declared.fault.ScanFault.{ScanFault}
@@ -10,19 +10,19 @@ use Rattle.asm_line.specs.declared.forms.BlockWord.{BlockWord}
 use Rattle.asm_line.specs.Forms.{Form, Head}
 use Rattle.asm_line.specs.Forms as line
 use Rattle.asm_text.specs.Lines.{Numbered, form_of}
-use Rattle.asm_text.specs.Sections.Blocks.{body_of, branches_of}
+use Rattle.asm_text.specs.Sections.Blocks.{block_body, branches_of}
 use Rattle.asm_text.specs.Sections.Onward.{Next}
 use Rattle.asm_macro.specs.declared.fault.MacroFault.{MacroFault}
-use Rattle.asm_macro.specs.State.{State, counted, macro_named, table, room}
-use Rattle.asm_macro.specs.Judged.{first, is_counted, is_stray, line_fault, redefined, stray, too_many, unclosed, unless_some, unread}
-use Rattle.asm_macro.specs.Parts.{Part, Stop, Last, Go, Within, part, resumed}
+use Rattle.asm_macro.specs.State.{State, with_line_counted, macro_named, constant_table, room}
+use Rattle.asm_macro.specs.Judged.{first_macro_fault, is_counted, is_stray, line_fault, redefined, stray_fault, too_many_lines, unclosed, unless_some, unscanned}
+use Rattle.asm_macro.specs.Parts.{ExpansionPart, Stop, Last, Go, Within, line_part, resumed}
 use Rattle.asm_macro.specs.Leads.{IsOfBlocks, IsOfLine, Leads, StopsFor}
 use Rattle.asm_macro.specs.Leads as leads
 use Rattle.asm_macro.specs.Expands.{End, Whole, Ended, Stopped, Expands, nothing, line, Comes, stop, last, go, within, Follows, whole, ended, stopped, IsExpansion, long, short}
 use Rattle.source_laws.proofs.Faults.{scans_caused, worth_caused}
 
--- why a part or a text stops, if it does
-abbrev why_of : Part → MacroFault
+-- why a part of an expansion stops, if it does
+abbrev why_of : ExpansionPart → MacroFault
 why_of (Stop given number why) = why
 why_of _ = MacroFault.Stray
 
@@ -30,14 +30,14 @@ abbrev pub why_behind : End → MacroFault
 why_behind (Stopped number why) = why
 why_behind _ = MacroFault.Stray
 
-abbrev IsCaused : Part → Type 0
+abbrev IsCaused : ExpansionPart → Type 0
 IsCaused p = why_of p ≢ MacroFault.NoMemory
 
 abbrev NoneOf : Option MacroFault → Type 0
 NoneOf fault = fault ≢ Some MacroFault.NoMemory
 
--- a fault has a cause where each of its kind has one
-cause_of : (Why : MacroFault → Type 0) (p : Part) → ((why : MacroFault) → Why why → why ≢ MacroFault.NoMemory) → StopsFor Why p → IsCaused p
+-- an error has a cause if each error of its kind has one
+cause_of : (Why : MacroFault → Type 0) (p : ExpansionPart) → ((why : MacroFault) → Why why → why ≢ MacroFault.NoMemory) → StopsFor Why p → IsCaused p
 cause_of Why (Stop given number why) each h = each why h
 cause_of Why (Last l) each h = λ is. absurd (cc is)
 cause_of Why (Go given e rest) each h = λ is. absurd (cc is)
@@ -49,19 +49,19 @@ of_blocks_caused _ leads.unclosed = λ is. absurd (cc is)
 of_blocks_caused _ leads.deep = λ is. absurd (cc is)
 of_blocks_caused _ leads.many = λ is. absurd (cc is)
 
--- the faults that a line has when it is met
-first_caused : (fault : Option MacroFault) (faults : List (Option MacroFault)) → NoneOf fault → NoneOf (first faults) → NoneOf (first (fault ∷ faults))
+-- the errors of a line that expansion reads
+first_caused : (fault : Option MacroFault) (faults : List (Option MacroFault)) → NoneOf fault → NoneOf (first_macro_fault faults) → NoneOf (first_macro_fault (fault ∷ faults))
 first_caused (Some fault) faults one others = one
 first_caused None faults one others = others
 
-no_fault : NoneOf (first [])
+no_fault : NoneOf (first_macro_fault [])
 no_fault is = absurd (cc is)
 
 if_caused : (b : Bool) (why : MacroFault) → why ≢ MacroFault.NoMemory → NoneOf (if b then Some why else None)
 if_caused true why h = λ is. h (cc is)
 if_caused false why h = λ is. absurd (cc is)
 
-unread_caused : (text : List ℕ) (s : Result (List Lexeme) ScanFault) → Scans text s → NoneOf (unread s)
+unread_caused : (text : List ℕ) (s : Result (List Lexeme) ScanFault) → Scans text s → NoneOf (unscanned s)
 unread_caused text (Ok tokens) scans = λ is. absurd (cc is)
 unread_caused text (Err why) scans = λ is. scans_caused text why scans (cc is)
 
@@ -77,8 +77,8 @@ unless_some_caused true = λ is. absurd (cc is)
 unless_some_caused false = λ is. absurd (cc is)
 
 block_caused : (h : Head) (rest : List Numbered) → NoneOf (unclosed h rest)
-block_caused (line.Macro name) rest = unless_some_caused (is_some (body_of rest))
-block_caused (line.Block BlockWord.Rept) rest = unless_some_caused (is_some (body_of rest))
+block_caused (line.Macro name) rest = unless_some_caused (is_some (block_body rest))
+block_caused (line.Block BlockWord.Rept) rest = unless_some_caused (is_some (block_body rest))
 block_caused (line.Block BlockWord.If) rest = unless_some_caused (is_some (branches_of rest))
 block_caused (line.Block BlockWord.Macro) rest = λ is. absurd (cc is)
 block_caused (line.Block BlockWord.Local) rest = λ is. absurd (cc is)
@@ -89,33 +89,33 @@ block_caused (line.Equ name) rest = λ is. absurd (cc is)
 block_caused (line.Word name) rest = λ is. absurd (cc is)
 block_caused line.Nothing rest = λ is. absurd (cc is)
 
--- with `asm_scan::laws::scanned` and `asm_macro::laws::parts`
+-- given the clauses of `asm_scan::laws::scanned` and `asm_macro::laws::parts`
 module _
     (scans : (text : List ℕ) → Scans text (scanned text))
-    (parts : (depth : ℕ) (e : State) (l : Numbered) (rest : List Numbered) → Leads (IsOfLine depth e l rest) 1 (room e) (part depth e l rest))
+    (parts : (depth : ℕ) (e : State) (l : Numbered) (rest : List Numbered) → Leads (IsOfLine depth e l rest) 1 (room e) (line_part depth e l rest))
     (onward : (depth : ℕ) (next : Next) (e : State) → Leads IsOfBlocks 0 (suc (room e)) (resumed depth next e))
   where
     line_caused : (depth : ℕ) (e : State) (l : Numbered) (rest : List Numbered) → NoneOf (line_fault depth e l rest)
     line_caused depth e l rest =
         let f = form_of l.text in
-        first_caused (too_many e f.head) _ (if_caused (is_counted f.head && nat_le MOST_LINES e.count) MacroFault.TooManyLines (λ is. absurd (cc is)))
-        (first_caused (unread (scanned l.text)) _ (unread_caused l.text (scanned l.text) (scans l.text))
-        (first_caused (stray depth f) _ (if_caused (is_stray depth f f.head) MacroFault.Stray (λ is. absurd (cc is)))
+        first_caused (too_many_lines e f.head) _ (if_caused (is_counted f.head && nat_le MOST_LINES e.count) MacroFault.TooManyLines (λ is. absurd (cc is)))
+        (first_caused (unscanned (scanned l.text)) _ (unread_caused l.text (scanned l.text) (scans l.text))
+        (first_caused (stray_fault depth f) _ (if_caused (is_stray depth f f.head) MacroFault.Stray (λ is. absurd (cc is)))
         (first_caused (redefined e f.head) _ (redefined_caused e f.head)
         (first_caused (unclosed f.head rest) [] (block_caused f.head rest) no_fault))))
 
     of_line_caused : (depth : ℕ) (e : State) (l : Numbered) (rest : List Numbered) (why : MacroFault) → IsOfLine depth e l rest why → why ≢ MacroFault.NoMemory
     of_line_caused depth e l rest why (inl of_blocks) = of_blocks_caused why of_blocks
     of_line_caused depth e l rest why (inr (inl own)) = λ is. line_caused depth e l rest (own ∙ ap Some is)
-    of_line_caused depth e l rest why (inr (inr valued)) = λ is. worth_caused (table (counted e)) (form_of l.text).rest (valued ∙ ap Err is)
+    of_line_caused depth e l rest why (inr (inr valued)) = λ is. worth_caused (constant_table (with_line_counted e)) (form_of l.text).rest (valued ∙ ap Err is)
 
     mutual
       expands_caused : (d : ℕ) (e : State) (text lines : List Numbered) (end : End) → Expands d e text lines end → why_behind end ≢ MacroFault.NoMemory
       expands_caused d e [] _ _ nothing = λ is. absurd (cc is)
       expands_caused d e (l ∷ rest) lines end (line a) =
-          comes_caused d (part d e l rest) lines end (cause_of (IsOfLine d e l rest) (part d e l rest) (of_line_caused d e l rest) (parts d e l rest).2) a
+          comes_caused d (line_part d e l rest) lines end (cause_of (IsOfLine d e l rest) (line_part d e l rest) (of_line_caused d e l rest) (parts d e l rest).2) a
 
-      comes_caused : (d : ℕ) (p : Part) (lines : List Numbered) (end : End) → IsCaused p → Comes d p lines end → why_behind end ≢ MacroFault.NoMemory
+      comes_caused : (d : ℕ) (p : ExpansionPart) (lines : List Numbered) (end : End) → IsCaused p → Comes d p lines end → why_behind end ≢ MacroFault.NoMemory
       comes_caused d (Stop given n why) _ _ h stop = h
       comes_caused d (Last l) _ _ h last = λ is. absurd (cc is)
       comes_caused d (Go given e rest) _ end h (go lines a) = expands_caused d e rest lines end a

@@ -1,4 +1,4 @@
--- What lines and expressions have against them has a cause in the text: it is never want of memory.
+-- The errors of lines and expressions have a cause in the source: they are never that memory ran out.
 use Rattle.std.proofs.Common.{◌≢◌, ◌+◌, if◌then◌else◌, refl, subst, ℕ, zero, suc, true, false, nat_lt, List, [], ◌∷◌, Option, Some, None, Result, Ok, Err}
 use Rattle.std.specs.List.{list_all}
 use Rattle.asm_scan.specs.declared.fault.ScanFault.{ScanFault}
@@ -20,20 +20,20 @@ use Rattle.asm_expr.specs.declared.answer.Settled.{Settled}
 use Rattle.asm_expr.specs.Names.{Table}
 use Rattle.asm_expr.specs.Origins.{is_number_item}
 use Rattle.asm_expr.specs.Below.{source}
-use Rattle.asm_expr.specs.Settling.{division_fault, divisions_fault, divisor_fault, fault, fault_behind, first, replaced, settled, size, size_of, stands_for, too_large, unless_fault}
+use Rattle.asm_expr.specs.Settling.{division_fault, divisions_fault, divisor_fault, fault, fault_behind, first_of_two, replaced, settled, expression_size, operand_size, stands_for, too_large, unless_fault}
 use Rattle.asm_expr.specs.Settling as settling
 use Rattle.asm_macro.specs.declared.fault.MacroFault.{MacroFault}
 use Rattle.asm_macro.specs.Faults.{fault_of_expr, fault_of_scan}
-use Rattle.asm_macro.specs.Values.{number_of, worth, worth_of_items}
+use Rattle.asm_macro.specs.Values.{settled_number, value_of_tokens, worth_of_items}
 
--- what a line comes to is what it scans to, so it does scan
+-- the answer of scanning a line is never that memory ran out
 no_scan : (text : List ℕ) (r : Result (List Lexeme) ScanFault) → Scans text r → r ≢ Err ScanFault.NoMemory
 no_scan text r scans is = let stops = subst (Scans text) is scans in stops.1.stopped
 
 abbrev NoneOf : Option ExprFault → Type 0
 NoneOf fault = fault ≢ Some ExprFault.NoMemory
 
-first_caused : (a b : Option ExprFault) → NoneOf a → NoneOf b → NoneOf (first a b)
+first_caused : (a b : Option ExprFault) → NoneOf a → NoneOf b → NoneOf (first_of_two a b)
 first_caused (Some x) b one other = one
 first_caused None b one other = other
 
@@ -61,12 +61,12 @@ divisions_caused t (Prefix op a) = divisions_caused t a
 divisions_caused t (Infix op a b) = first_caused _ _ (divisions_caused t a) (first_caused _ _ (divisions_caused t b) (division_caused t op b))
 
 behind_caused : (n : ℕ) (t : Table) (e : Expression Operand) → NoneOf (fault_behind n t e)
-behind_caused n t (Leaf operand) = first_caused _ _ (too_large_caused (n + size_of t operand)) (divisions_caused t (stands_for t operand))
-behind_caused n t (Prefix op a) = first_caused _ _ (behind_caused n t a) (too_large_caused (n + size t (Prefix op a)))
+behind_caused n t (Leaf operand) = first_caused _ _ (too_large_caused (n + operand_size t operand)) (divisions_caused t (stands_for t operand))
+behind_caused n t (Prefix op a) = first_caused _ _ (behind_caused n t a) (too_large_caused (n + expression_size t (Prefix op a)))
 behind_caused n t (Infix op a b) =
-    first_caused _ _ (behind_caused n t a) (first_caused _ _ (behind_caused (n + size t a) t b) (first_caused _ _ (too_large_caused (n + size t (Infix op a b))) (division_caused t op (replaced t b))))
+    first_caused _ _ (behind_caused n t a) (first_caused _ _ (behind_caused (n + expression_size t a) t b) (first_caused _ _ (too_large_caused (n + expression_size t (Infix op a b))) (division_caused t op (replaced t b))))
 
--- a fault of an expression
+-- An answer for an expression is not that memory ran out.
 abbrev Caused : {A : Type 0} → Result A ExprFault → Type 0
 Caused r = r ≢ Err ExprFault.NoMemory
 
@@ -81,7 +81,7 @@ parsed_caused (Some phrase) = elim (nat_lt MOST_OPEN (depth phrase)) as (λ b. C
   | false ↦ λ is. absurd (cc is)
 ]
 
--- a fault of an expansion
+-- An answer of an expansion is not that memory ran out.
 abbrev IsCaused : {A : Type 0} → Result A MacroFault → Type 0
 IsCaused r = r ≢ Err MacroFault.NoMemory
 
@@ -100,22 +100,22 @@ scan_caused ScanFault.LineTooLong none is = absurd (cc is)
 scan_caused ScanFault.BadNumber none is = absurd (cc is)
 scan_caused ScanFault.NoMemory none is = none refl
 
--- .. of a line that scans to something
+-- the scan error of a line, as an error of the expansion
 pub scans_caused : (text : List ℕ) (why : ScanFault) → Scans text (Err why) → fault_of_scan why ≢ MacroFault.NoMemory
 scans_caused text why scans = scan_caused why (λ is. no_scan text (Err why) scans (cc is))
 
-number_caused : (r : Result Settled ExprFault) → Caused r → IsCaused (number_of r)
+number_caused : (r : Result Settled ExprFault) → Caused r → IsCaused (settled_number r)
 number_caused (Ok (Settled.Known (Item.Leaf (Atom.Number n) ∷ []))) none is = absurd (cc is)
 number_caused (Ok _) none is = absurd (cc is)
 number_caused (Err why) none is = expr_caused why (λ w. none (cc w)) (cc is)
 
 items_caused : (t : Table) (r : Result (List (Item Operand)) ExprFault) → Caused r → IsCaused (worth_of_items t r)
 items_caused t (Ok items) none =
-    elim (list_all (is_number_item t) items) as (λ b. IsCaused (if b then number_of (settled t (source items)) else Err MacroFault.ConditionNamesLabel)) [
+    elim (list_all (is_number_item t) items) as (λ b. IsCaused (if b then settled_number (settled t (source items)) else Err MacroFault.ConditionNamesLabel)) [
       | true ↦ number_caused (settled t (source items)) (unless_caused _ _ (behind_caused 0 t (source items)))
       | false ↦ λ is. absurd (cc is)
     ]
 items_caused t (Err why) none = λ is. expr_caused why (λ w. none (cc w)) (cc is)
 
-pub worth_caused : (t : Table) (tokens : List Lexeme) → IsCaused (worth t tokens)
+pub worth_caused : (t : Table) (tokens : List Lexeme) → IsCaused (value_of_tokens t tokens)
 worth_caused t tokens = items_caused t (parsed tokens) (search (parsed_caused))

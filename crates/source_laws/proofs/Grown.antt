@@ -1,13 +1,13 @@
--- The written JRs that grew are those that every settled choice has long.
+-- The jumps that were written as a JR and grew are those that are long in every settled choice.
 use Rattle.std.proofs.Common.{◌≡◌, ◌+◌, ◌⊎◌, ◌↔◌, ◌&&◌, ◌∙◌, if◌then◌else◌, inl, inr, refl, sym, subst, ap, ℕ, zero, suc, Bool, true, false, true≢false, List, [], ◌∷◌, Some, None, option_map, map, slice_get, Contains, arith}
 use Rattle.std.proofs.lemmas.Bool.{and_parts}
 use Rattle.std.specs.List.{cons_option, enumerate_from, filter_map}
 use Rattle.ruler.specs.Choice.{Choice, IsJump, IsSettled}
 use Rattle.relax.specs.Growth.{after}
 use Rattle.zmo_module.specs.Modules as object
-use Rattle.zmo_module.specs.Modules.{Module, Statement}
+use Rattle.zmo_module.specs.Modules.{Module, ModuleStatement}
 use Rattle.zlink.specs.Program.Whole.{Placed, program}
-use Rattle.zlink.specs.File.Objects.{grown_at, is_marked, shape, sized_by}
+use Rattle.zlink.specs.File.Objects.{grown_at, is_marked, placed_shape, sized_by}
 use Rattle.zlink.specs.Linked.{IsOutput, Output}
 use Rattle.source_laws.specs.Grown.{IsMarkedJump}
 
@@ -21,7 +21,7 @@ head_or_tail : {X : Type 0} (x z : X) (xs : List X) → Contains (x ∷ xs) z �
 head_or_tail x z xs (zero, below, is) = inl is
 head_or_tail x z xs (suc k, below, is) = inr (k, omega (arith, below), is)
 
--- a marked jump among some, the first of which has a number, that is long
+-- Statement k is a marked jump that is long in the choice. It is one of these statements, the first of which has number n.
 record IsLong (c : Choice) (n : ℕ) (ps : List Placed) (k : ℕ) : Type 0 where
   at : ℕ
   placed : Placed
@@ -71,8 +71,8 @@ in_long c n (p ∷ ps) k zero placed number there marked long =
 in_long c n (p ∷ ps) k (suc at) placed number there marked long =
     found_more n k _ (is_marked p.statement && c n) (in_long c (n + 1) ps k at placed (omega (arith, number)) there marked long)
 
--- a marked jump is one of the shape
-sized_jump : (stands : ℕ → ℕ) (s : Statement) → is_marked s ≡ true → (t : ℕ) × (sized_by stands s ≡ sized_by stands (object.Jump true None t))
+-- a marked jump is a jump of the shape
+sized_jump : (stands : ℕ → ℕ) (s : ModuleStatement) → is_marked s ≡ true → (t : ℕ) × (sized_by stands s ≡ sized_by stands (object.Jump true None t))
 sized_jump stands (object.Jump marked condition to) is = (to, refl)
 sized_jump stands (object.Bytes bytes holes) is = absurd (true≢false (sym is))
 sized_jump stands (object.Short branch to) is = absurd (true≢false (sym is))
@@ -83,13 +83,13 @@ get_map f [] k x there = absurd (cc there)
 get_map f (y ∷ ys) zero x there = ap (option_map f) there
 get_map f (y ∷ ys) (suc k) x there = get_map f ys k x there
 
-jump_at : (ps : List Placed) (k : ℕ) (is : IsMarkedJump ps k) → (t : ℕ) × IsJump (shape ps) k t
+jump_at : (ps : List Placed) (k : ℕ) (is : IsMarkedJump ps k) → (t : ℕ) × IsJump (placed_shape ps) k t
 jump_at ps k is =
     let j = sized_jump is.placed.stands is.placed.statement is.marked in
     (is.placed.stands j.0, get_map (λ p. sized_by p.stands p.statement) ps k is.placed is.there ∙ ap Some j.1)
 
 pub grown_are_needed : (modules : List Module) (order : List ℕ) (o : Output) → IsOutput modules order o → (k : ℕ)
-    → Contains o.grown k ↔ (IsMarkedJump (program modules) k × ((c : Choice) → IsSettled c (shape (program modules)) → c k ≡ true))
+    → Contains o.grown k ↔ (IsMarkedJump (program modules) k × ((c : Choice) → IsSettled c (placed_shape (program modules)) → c k ≡ true))
 grown_are_needed modules order o is k =
     let c = after order in
     let ps = program modules in (

@@ -1,4 +1,5 @@
--- Whether a number leads to another is told by a computation: by what may lie between, all numbers below some, one more at a time.
+-- Whether a number leads to another can be computed: a way may go over all numbers below some bound, and the bound grows by one
+-- each time.
 use Rattle.std.proofs.Common.{◌≡◌, ◌<◌, ◌≤◌, ◌↔◌, ◌⊎◌, ◌||◌, ◌&&◌, inl, inr, refl, sym, subst, ℕ, zero, suc, Bool, true, false, List, [], nat_eq, true≢false, Contains, arith}
 use Rattle.std.proofs.lemmas.Bool.{and_parts, eqb-true}
 use Rattle.std.proofs.lemmas.Cmp.{nat_eq_equiv}
@@ -11,7 +12,7 @@ leads_on : {named : ℕ → List ℕ} {a b c : ℕ} → LeadsTo named a b → Le
 leads_on (next names) more = further names more
 leads_on (further names rest) more = further names (leads_on rest more)
 
--- it leads there over numbers below one
+-- a leads to b over numbers less than the bound
 abbrev Passes : (ℕ → List ℕ) → ℕ → ℕ → ℕ → Type 0
 Passes named zero a b = Contains (named a) b
 Passes named (suc k) a b = Passes named k a b ⊎ (Passes named k a k × Passes named k k b)
@@ -38,7 +39,7 @@ last_or_below (suc m) (suc k) h = one_more m k (last_or_below m k (omega (arith,
   one_more m k (inl same) = inl (omega (arith, same))
   one_more m k (inr less) = inr (omega (arith, less))
 
--- a way over numbers below one, and another behind it, are one way, if the number between them is below too
+-- a way to m and a way from m, both over numbers less than the bound, make one way if m is less than it too
 passes_by : (named : ℕ → List ℕ) (k : ℕ) → ((m a b : ℕ) → m < k → Passes named k a m → Passes named k m b → Passes named k a b)
     → (m a b : ℕ) → (m ≡ k) ⊎ (m < k) → Passes named (suc k) a m → Passes named (suc k) m b → Passes named (suc k) a b
 passes_by named k on m a b (inl same) p q =
@@ -75,12 +76,12 @@ over : (named : ℕ → List ℕ) (n : ℕ) → ((k : ℕ) → n ≤ k → named
 over named n none a b c names rest p (inl below) = passes_on named n c a b below (at_once named n a c names) p
 over named n none a b c names rest p (inr beyond) = let some = names_some rest in absurd (contains_none some.0 (subst (λ xs. Contains xs some.0) (none c beyond) some.1))
 
--- where no number from one on names anything, each way goes over numbers below it
+-- if no number from n on names anything, each way goes over numbers less than n
 passes : (named : ℕ → List ℕ) (n : ℕ) → ((k : ℕ) → n ≤ k → named k ≡ []) → {a b : ℕ} → LeadsTo named a b → Passes named n a b
 passes named n none {a} {b} (next names) = at_once named n a b names
 passes named n none {a} {b} (further {b = c} names rest) = over named n none a b c names rest (passes named n none rest) (below_or_not c n)
 
--- .. as a computation
+-- the same as a computation
 abbrev pub is_passed : (ℕ → List ℕ) → ℕ → ℕ → ℕ → Bool
 is_passed named zero a b = list_any (nat_eq b) (named a)
 is_passed named (suc k) a b = is_passed named k a b || (is_passed named k a k && is_passed named k k b)

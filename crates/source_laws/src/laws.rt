@@ -1,4 +1,4 @@
-//! Laws of sources, as functions that do nothing.
+//! Laws about sources, as functions that do nothing. A caller calls one to use its clauses.
 
 ghost use Rattle.std.specs.Prelude.{◌≡◌, ◌≢◌, ◌⊎◌, ◌↔◌, Bool, Contains, List, Result, true, ℕ};
 ghost use Rattle.asm_macro.specs.declared.fault.MacroFault.{MacroFault};
@@ -11,12 +11,12 @@ ghost use Rattle.source_laws.specs.Grown.{IsMarkedJump};
 ghost use Rattle.zlink.specs.declared.source.Source.{Source};
 ghost use Rattle.zlink.specs.Linked.{IsOutput, Output};
 ghost use Rattle.zlink.specs.Sources.{Assembly, AreAssembled, IsFirstFaulty};
-ghost use Rattle.zlink.specs.File.Objects.{shape};
+ghost use Rattle.zlink.specs.File.Objects.{placed_shape};
 ghost use Rattle.zlink.specs.Program.Whole.{program};
 ghost use Rattle.zmo_module.specs.Modules.{Module};
 
-/// Each text has an expansion, which may stop with a fault; so with `asm_macro::laws::one_expansion` it has one. The fault is never
-/// `NoMemory`.
+/// Each source has an expansion, which may stop with an error. By `asm_macro::laws::one_expansion` it has only one. The error is
+/// never `NoMemory`.
 pub fn some_expansion()
     ensures some { (text : List ℕ) → (lines : List Numbered) × (end : End) × IsExpansion text lines end }
     ensures caused { (text : List ℕ) (lines : List Numbered) (number : ℕ) (why : MacroFault) → IsExpansion text lines (Stopped number why) → why ≢ MacroFault.NoMemory }
@@ -25,15 +25,16 @@ pub fn some_expansion()
     asm_macro::laws::parts();
 }
 
-/// Each text is a module, or has a first fault, which is not `NoMemory`; so with `asm_module::laws::one_answer` it is one, or has one.
+/// Each source is a module, or has a first error, which is not `NoMemory`. By `asm_module::laws::one_answer` only one of these
+/// holds, and only one module or error is possible.
 pub fn some_answer()
     ensures { (name text : List ℕ) (grow : Bool) → (result : Result Assembled AsmFault) × HasCause result × Assembles name text grow result }
 {
     some_expansion();
 }
 
-/// Each list of sources is a list of programs, one a source, or has a first source that is faulty, with its first fault. So what `zlink`
-/// says of sources each of which is a program, and of those of which one is none, it says of all.
+/// Each list of sources is a list of programs, one for each source, or has a first source with an error, and its first error. So
+/// what `zlink` says about lists in which each source is a program, and about lists in which one is not, covers all lists.
 pub fn some_sources()
     ensures { (grow : Bool) (sources : List Source) →
         ((assemblies : List Assembly) × AreAssembled grow sources assemblies) ⊎ ((number : ℕ) × (fault : AsmFault) × IsFirstFaulty grow sources number fault) }
@@ -41,9 +42,9 @@ pub fn some_sources()
     some_answer();
 }
 
-/// The jumps that were written as a JR and grew, as `link` and `build_with` list them, are those that every choice has long in which each
-/// short jump reaches its target.
+/// The jumps that were written as a JR and grew, as `link` and `build_with` list them, are those that are long in every choice in
+/// which each short jump reaches its target.
 pub fn grown_are_needed()
     ensures { (modules : List Module) (order : List ℕ) (o : Output) → IsOutput modules order o → (k : ℕ) →
-        Contains o.grown k ↔ (IsMarkedJump (program modules) k × ((c : Choice) → IsSettled c (shape (program modules)) → c k ≡ true)) }
+        Contains o.grown k ↔ (IsMarkedJump (program modules) k × ((c : Choice) → IsSettled c (placed_shape (program modules)) → c k ≡ true)) }
 {}

@@ -1,4 +1,4 @@
-//! Laws of the language that no call has to say.
+//! Laws about the language that no contract of a call has to state.
 //!
 //! There is no code here.
 #![tactic(auto)]

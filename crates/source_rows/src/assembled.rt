@@ -1,4 +1,4 @@
-//! Sources assembled.
+//! Rows that assemble a source.
 
 use anyhow::Context;
 use asm_module::{
@@ -18,7 +18,7 @@ fn report_lines<W: Write>(out: &mut W, lines: &Lines) -> Result<(), anyhow::Erro
     Ok(writeln!(out, " of {}", lines.last)?)
 }
 
-/// Prints the first fault of a source.
+/// Prints the first error of a source.
 fn report_fault<W: Write>(out: &mut W, fault: AsmFault) -> Result<(), anyhow::Error> {
     write!(out, "line {}: ", fault.line)?;
     match fault.why {
@@ -34,7 +34,8 @@ fn report_fault<W: Write>(out: &mut W, fault: AsmFault) -> Result<(), anyhow::Er
     Ok(writeln!(out)?)
 }
 
-/// Says where a call that lets no `JR` grow answers another module than that of the object, or other lines; or fails.
+/// Prints a line if a call that lets no `JR` grow answers another module than that of the object, or other lines. Fails if such a
+/// call fails.
 fn report_others<W: Write>(
     alloc: Global,
     out: &mut W,
@@ -64,7 +65,7 @@ fn module_of(columns: &str) -> Result<(&str, bool), anyhow::Error> {
     Ok((name, word == "grow"))
 }
 
-/// Prints the object of a source, or its first fault.
+/// Prints the object file of a source, or its first error.
 pub(crate) fn report_assembled<W: Write>(
     alloc: Global,
     out: &mut W,
@@ -86,7 +87,7 @@ pub(crate) fn report_assembled<W: Write>(
     }
 }
 
-/// Prints how many statements the module of a source has, and the last line that is listed.
+/// Prints how many statements the module of a source has, and the last line that is listed; or its first error.
 pub(crate) fn report_count<W: Write>(
     alloc: Global,
     out: &mut W,

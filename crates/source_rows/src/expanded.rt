@@ -1,4 +1,4 @@
-//! The expansion of a source, whole and line by line.
+//! Rows that expand a source, as a whole or line by line.
 
 use anyhow::Context;
 use asm_macro::{Expander, Line, MacroFault, expand};
@@ -17,7 +17,7 @@ fn show_fault<W: Write>(out: &mut W, fault: (u32, MacroFault)) -> Result<(), any
     Ok(writeln!(out, "line {}: {:?}", fault.0, fault.1)?)
 }
 
-/// All lines of an expansion with their numbers, or the line that is faulty.
+/// Prints all lines of an expansion with their numbers, or the line that has an error.
 pub(crate) fn report_expanded<W: Write>(
     alloc: Global,
     out: &mut W,
@@ -34,7 +34,7 @@ pub(crate) fn report_expanded<W: Write>(
     }
 }
 
-/// How often a row asks.
+/// How often a row asks for the next line.
 fn times_of(columns: &str) -> Result<u32, anyhow::Error> {
     let (times, _) = columns.split_once(' ').context("no title")?;
     Ok(u32::from_str_radix(times, 10)?)
@@ -51,7 +51,7 @@ fn show_next<W: Write>(
     }
 }
 
-/// What an expander answers, asked so often for the next line.
+/// Prints what an expander answers if it is asked this often for the next line.
 fn show_lines<W: Write>(
     out: &mut W,
     expander: &mut Expander<'_>,
@@ -63,7 +63,7 @@ fn show_lines<W: Write>(
     Ok(())
 }
 
-/// What the expander of a source answers, asked so often for the next line.
+/// Prints what the expander of a source answers if it is asked for the next line as often as the row says.
 pub(crate) fn report_lines<W: Write>(
     alloc: Global,
     out: &mut W,
@@ -75,7 +75,7 @@ pub(crate) fn report_lines<W: Write>(
     show_lines(out, &mut expander, times)
 }
 
-/// How many tokens were kept of a line.
+/// Prints how many tokens of a line were kept.
 fn show_kept<W: Write>(out: &mut W, kept: Option<Vec<Token<'_>>>) -> Result<(), anyhow::Error> {
     match kept {
         Some(tokens) => Ok(write!(out, "{} tokens", tokens.len())?),
@@ -83,7 +83,7 @@ fn show_kept<W: Write>(out: &mut W, kept: Option<Vec<Token<'_>>>) -> Result<(), 
     }
 }
 
-/// The next line, and what is kept of it: its tokens, and then none.
+/// Prints the next line, and twice what is kept of it: its tokens, and then nothing.
 fn show_line_kept<W: Write>(out: &mut W, expander: &mut Expander<'_>) -> Result<(), anyhow::Error> {
     show_text(out, expander.line().text)?;
     write!(out, " : ")?;
@@ -93,7 +93,7 @@ fn show_line_kept<W: Write>(out: &mut W, expander: &mut Expander<'_>) -> Result<
     Ok(writeln!(out)?)
 }
 
-/// The next line and its tokens, or the fault.
+/// Prints the next line and its tokens, or the error.
 fn show_step<W: Write>(out: &mut W, expander: &mut Expander<'_>) -> Result<(), anyhow::Error> {
     match expander.advance() {
         Ok(true) => show_line_kept(out, expander),
@@ -102,7 +102,7 @@ fn show_step<W: Write>(out: &mut W, expander: &mut Expander<'_>) -> Result<(), a
     }
 }
 
-/// The tokens that are kept of that many lines.
+/// Prints the tokens that are kept of this many lines.
 fn show_steps<W: Write>(
     out: &mut W,
     expander: &mut Expander<'_>,
@@ -114,7 +114,7 @@ fn show_steps<W: Write>(
     Ok(())
 }
 
-/// The tokens that are kept of that many lines of a source.
+/// Prints the tokens that are kept of the lines of a source, as many as the row says.
 pub(crate) fn report_kept<W: Write>(
     alloc: Global,
     out: &mut W,

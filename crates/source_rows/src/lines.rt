@@ -1,4 +1,4 @@
-//! The lines of a row, and the layout that its columns are.
+//! Reads the lines of a row, and the layout in its columns.
 
 use anyhow::Context;
 use asm_expr::Statement;
@@ -7,13 +7,13 @@ use asm_scan::tokens;
 use asm_spell::statement;
 use std::alloc::Global;
 
-/// The line that a text spells.
+/// Parses one line.
 fn line_of(alloc: Global, number: u32, text: &str) -> Result<SourceLine, anyhow::Error> {
     let line = statement(alloc, &tokens(alloc, text.as_bytes())?)?;
     Ok(SourceLine { number, line })
 }
 
-/// The lines that a text spells, numbered from 1.
+/// Parses the lines of a text, numbered from 1.
 pub(crate) fn lines_of(alloc: Global, text: &[u8]) -> Result<Vec<SourceLine>, anyhow::Error> {
     let mut lines = Vec::new(alloc);
     let mut number = 0u32;
@@ -24,7 +24,7 @@ pub(crate) fn lines_of(alloc: Global, text: &[u8]) -> Result<Vec<SourceLine>, an
     Ok(lines)
 }
 
-/// The size of a statement: a number of bytes, or that of a jump that may be short or long.
+/// The size of a statement: a number of bytes, or `jump` for a relaxable jump.
 fn size_of(word: &str) -> Result<Statement, anyhow::Error> {
     if word == "jump" {
         return Ok(Statement::Relaxable);
@@ -32,13 +32,13 @@ fn size_of(word: &str) -> Result<Statement, anyhow::Error> {
     Ok(Statement::Sized(u16::from_str_radix(word, 10)?))
 }
 
-/// Words with a comma between them; `-` stands for none.
+/// The words of a column, separated by commas. `-` is an empty list.
 fn words_in(column: &str) -> &str {
     column.strip_prefix('-').unwrap_or(column)
 }
 
-/// The layout that two columns are, and what stands behind them: the number of the next statement at each line, and the sizes of the
-/// statements.
+/// The layout in the first two columns: the number of the next statement at each line, and the size of each statement. The title
+/// follows them.
 pub(crate) fn layout_of(alloc: Global, columns: &str) -> Result<Layout, anyhow::Error> {
     let (numbers, rest) = columns.split_once(' ').context("no sizes")?;
     let (sizes, _) = rest.split_once(' ').context("no title")?;

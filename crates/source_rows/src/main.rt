@@ -1,7 +1,7 @@
-//! Reads rows, several lines of standard input each, and prints each with the answer of the call that it names.
+//! Reads rows from standard input, several lines each, and prints each with the answer of the call that it names.
 //!
-//! A line `==== CALL COLUMNS TITLE` begins a row, whose text goes on to the next such line. The head of `stdin` says which calls there
-//! are and what their columns mean.
+//! A line `==== CALL COLUMNS TITLE` begins a row, and its text ends before the next such line. The head of `stdin` explains the
+//! calls and their columns.
 #![tactic(auto)]
 
 mod assembled;
@@ -16,14 +16,14 @@ use row_text::written_out;
 use std::alloc::Global;
 use std::io::Write;
 
-/// The words behind the mark, and the text.
+/// A row: the words after its mark, and its text.
 #[derive(Drop)]
 struct Row {
     head: String,
     text: Vec<u8>,
 }
 
-/// A row without a text.
+/// A row with no text yet.
 fn begun(alloc: Global, head: &str) -> Result<Row, anyhow::Error> {
     Ok(Row {
         head: head.to_string(alloc)?,
@@ -31,7 +31,7 @@ fn begun(alloc: Global, head: &str) -> Result<Row, anyhow::Error> {
     })
 }
 
-/// Adds a line, with its end but behind a last `\`.
+/// Adds a line to a text, with a line end, unless the line ends in `\`.
 fn add_line(alloc: Global, text: &mut Vec<u8>, line: &str) -> Result<(), anyhow::Error> {
     match line.strip_suffix('\\') {
         Some(front) => text.extend_from_slice(&written_out(alloc, front)?)?,
@@ -43,7 +43,7 @@ fn add_line(alloc: Global, text: &mut Vec<u8>, line: &str) -> Result<(), anyhow:
     Ok(())
 }
 
-/// Each call, by what stands behind its name.
+/// Makes the call that a row names, given what follows the call's name.
 fn report_call<W: Write>(
     alloc: Global,
     out: &mut W,
@@ -74,7 +74,7 @@ fn report_call<W: Write>(
     }
 }
 
-/// Prints what a row answers. A note answers nothing.
+/// Prints the answer of a row. A note has none.
 fn report<W: Write>(alloc: Global, out: &mut W, row: &Row) -> Result<(), anyhow::Error> {
     let (call, rest) = row.head.split_once(' ').context("no title")?;
     if call == "note" {

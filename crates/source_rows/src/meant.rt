@@ -1,4 +1,4 @@
-//! What names stand for.
+//! Rows about what names stand for.
 
 use crate::lines::{layout_of, lines_of};
 use anyhow::{Context, anyhow};
@@ -8,7 +8,7 @@ use common::MOST_STATEMENTS;
 use std::alloc::Global;
 use std::io::Write;
 
-/// What the names of a row stand for by a layout of its statements.
+/// What the names of a row stand for, given a layout of its statements.
 fn settled(alloc: Global, text: &[u8], layout: &Layout) -> Result<SettledNames, anyhow::Error> {
     let lines = lines_of(alloc, text)?;
     if lines.len() >= 100_000 || layout.statements.len() > MOST_STATEMENTS {
@@ -21,7 +21,7 @@ fn settled(alloc: Global, text: &[u8], layout: &Layout) -> Result<SettledNames, 
     Ok(settle_names(alloc, &lines, &names, &turns, layout)?)
 }
 
-/// What a name stands for.
+/// Prints what a name stands for.
 fn show_meaning<W: Write>(out: &mut W, meaning: Option<&Meaning>) -> Result<(), anyhow::Error> {
     match meaning {
         Some(Meaning::Label(statement)) => write!(out, "label {statement}")?,
@@ -34,7 +34,7 @@ fn show_meaning<W: Write>(out: &mut W, meaning: Option<&Meaning>) -> Result<(), 
     Ok(())
 }
 
-/// What a name stands for, and the first fault of the EQU lines.
+/// Prints what a name stands for, and the first error of the EQU lines.
 fn show_settled<W: Write>(
     out: &mut W,
     name: &str,
@@ -48,7 +48,7 @@ fn show_settled<W: Write>(
     }
 }
 
-/// What a name of a row stands for, and the first fault of the row's EQU lines.
+/// Prints what a name of a row stands for, and the first error of the row's EQU lines.
 pub(crate) fn report_meaning<W: Write>(
     alloc: Global,
     out: &mut W,

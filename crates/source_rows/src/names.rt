@@ -1,4 +1,4 @@
-//! The names that lines define, and the order in which EQU lines are settled.
+//! Rows about the names that lines define, and about the order in which EQU lines are settled.
 
 use crate::lines::lines_of;
 use anyhow::{Context, anyhow};
@@ -6,7 +6,7 @@ use asm_names::{NameTable, names_of, turns_of};
 use std::alloc::Global;
 use std::io::Write;
 
-/// What some names are, and how many names there are.
+/// Prints what these names are, and how many names there are.
 fn show_names<W: Write>(out: &mut W, asked: &str, names: &NameTable) -> Result<(), anyhow::Error> {
     for name in asked.split(',') {
         match names.kind(name.as_bytes()) {
@@ -17,7 +17,7 @@ fn show_names<W: Write>(out: &mut W, asked: &str, names: &NameTable) -> Result<(
     Ok(writeln!(out, "{} names", names.len())?)
 }
 
-/// What the names of a row are that its first column asks for, and how many there are; or the first line that is faulty.
+/// Prints what the names in the first column are, and how many names the row's lines define; or the first line that has an error.
 pub(crate) fn report_names<W: Write>(
     alloc: Global,
     out: &mut W,
@@ -31,7 +31,7 @@ pub(crate) fn report_names<W: Write>(
     }
 }
 
-/// The lines of a row in an order in which they can be settled, counted from 0, with a star behind each that is on a circle.
+/// Prints the lines of a row, counted from 0, in an order in which they can be settled, with a star after each that is on a circle.
 pub(crate) fn report_turns<W: Write>(
     alloc: Global,
     out: &mut W,

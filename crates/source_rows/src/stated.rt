@@ -1,4 +1,4 @@
-//! What the lines of a source state.
+//! Rows about the statements of a source.
 
 use crate::lines::{layout_of, lines_of};
 use anyhow::{Context, anyhow};
@@ -8,7 +8,7 @@ use common::MOST_STATEMENTS;
 use std::alloc::Global;
 use std::io::Write;
 
-/// A statement.
+/// Prints a statement.
 fn show_statement<W: Write>(out: &mut W, statement: &Statement) -> Result<(), anyhow::Error> {
     match statement {
         Statement::Bytes { bytes, holes } => {
@@ -32,7 +32,7 @@ fn show_statement<W: Write>(out: &mut W, statement: &Statement) -> Result<(), an
     Ok(())
 }
 
-/// What the lines of a row state by a layout of their statements.
+/// The statements of a row's lines, given their layout.
 fn stated(
     alloc: Global,
     text: &[u8],
@@ -52,7 +52,7 @@ fn stated(
     Ok(state_lines(alloc, lines, &table, settled.names, layout, grow))
 }
 
-/// The statements of a row, each with its line; or the first line that is faulty.
+/// Prints the statements of a row, each with its line; or the first line that has an error.
 pub(crate) fn report_stated<W: Write>(
     alloc: Global,
     out: &mut W,

@@ -1,4 +1,4 @@
--- Bytes that are written piece by piece.
+-- Bytes that are written part by part.
 use Rattle.std.proofs.Common.{◌≡◌, ℕ, ◌+◌, ◌-◌, ◌<◌, ◌≤◌, Bor, List, [], ◌++◌, Result, Ok, Err, length, get_or, refl, take, drop, ap, sym, subst, ◌∙◌, arith}
 use Rattle.std.proofs.Math.Seq.{take-add}
 use Rattle.std.proofs.lemmas.List.{append_assoc, drop-drop, length-drop, flat_map_more, take-append-drop, take_all, take_more, take_at}
@@ -12,7 +12,7 @@ use Rattle.streams.specs.declared.writing.WriteFailed.{WriteFailed}
 use Rattle.streams.specs.Stream.{Stream, counted}
 use Rattle.streams.specs.Writing.{AppendsFront, Hands_on, Puts}
 
--- the first of the bytes are written, the rest is to be written, and the stream did not fail meanwhile
+-- the first of the bytes are written, `rest` is still to be written, and the stream has not failed
 pub record Written (old new : Stream) (bytes rest : List ℕ) : Type 0 where
   pub count : ℕ
   pub rest_is : rest ≡ drop count bytes
@@ -29,7 +29,7 @@ more old mid new bytes rest n was within put same = record {
   unfailed = same ∙ was.unfailed;
 }
 
--- A front of a piece, after what is written before it, is a front of all.
+-- If the first bytes of one part are written after what comes before it, the first bytes of everything are.
 pub front_of_all : (old mid new : Stream) (before piece after : List ℕ) (n : ℕ) → Appends old.bytes mid.bytes before → Appends mid.bytes new.bytes (take n piece)
     → (m : ℕ) × Appends old.bytes new.bytes (take m (before ++ piece ++ after))
 front_of_all old mid new before piece after n first rest =
@@ -38,12 +38,12 @@ front_of_all old mid new before piece after n first rest =
     ap (λ p. before ++ p ++ after) (sym (take-append-drop n piece)) ∙ ap (λ p. p ++ after) (sym (append_assoc before (take n piece) (drop n piece))) ∙ append_assoc front (drop n piece) after in
     (length front, subst (Appends old.bytes new.bytes) (sym (ap (take (length front)) whole ∙ take_at front (drop n piece ++ after) (length front) refl)) (Appends-trans old.bytes mid.bytes new.bytes before (take n piece) first rest))
 
--- A call that did not put all of the bytes put a front of them, and the stream failed.
+-- A call that did not write all the bytes wrote the first of them, and the stream failed.
 pub not_put : (old new : Stream) (bytes : List ℕ) (result : Result Unit WriteFailed) → IsErr result → AppendsFront old new bytes → new.failures ≡ counted old.failures → Puts old new bytes result
 not_put old new bytes (Ok _) none front failed = absurd (false≢true none)
 not_put old new bytes (Err _) none front failed = (front, failed)
 
--- all of some pieces is those before one, that one, and those after it
+-- all parts are those before one, that one, and those after it
 pub parts : (pieces : List (Bor (List ℕ))) (k : ℕ) (d : Bor (List ℕ)) → k < length pieces
     → flat_map (λ piece. piece.now) pieces ≡ flat_map (λ piece. piece.now) (take k pieces) ++ (get_or pieces k d).now ++ flat_map (λ piece. piece.now) (drop (k + 1) pieces)
 parts pieces k d lt =
@@ -52,7 +52,7 @@ parts pieces k d lt =
     ∙ ap (λ front. flat_map f front ++ flat_map f (drop (k + 1) pieces)) (take_more pieces k d lt)
     ∙ ap (λ front. front ++ flat_map f (drop (k + 1) pieces)) (sym (flat_map_more f [] (take k pieces) (get_or pieces k d)))
 
--- all of the bytes are written, and then what a buffer holds back is handed on
+-- all bytes are written, and then those that a buffer holds back are written out
 pub handed_on : (old mid new : Stream) (bytes : List ℕ) (result : Result Unit WriteFailed) → Puts old mid bytes (Ok tt) → Hands_on mid new result → Puts old new bytes result
 handed_on old mid new bytes (Ok _) put flushed = (Appends-kept old.bytes mid.bytes new.bytes bytes put.0 flushed.0, flushed.1 ∙ put.1)
 handed_on old mid new bytes (Err _) put flushed =

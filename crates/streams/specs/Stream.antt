@@ -1,8 +1,8 @@
--- A stream as a promise sees it.
+-- A stream as contracts see it.
 use Rattle.std.specs.Prelude.{ℕ, Bool, ◌+◌, ◌-◌, ◌^◌, List, Option, min}
 
--- The bytes that were written, where they are known; how often the stream failed; how often a signal interrupted it; and whether a buffer may
--- hold some of the bytes back.
+-- The bytes that were written, if they are known; the number of failures; the number of interruptions; and whether a buffer may hold some
+-- of the bytes back.
 pub record Stream : Type 0 where
   pub bytes : Option (List ℕ)
   pub failures : ℕ
@@ -12,6 +12,6 @@ pub record Stream : Type 0 where
 abbrev pub stream_of : Option (List ℕ) → ℕ → ℕ → Bool → Stream
 stream_of bytes failures interruptions held = record { bytes = bytes; failures = failures; interruptions = interruptions; held = held }
 
--- a count of 64 bits after one more: at its greatest it stays
+-- a count of 64 bits plus one; at its greatest value it stays
 abbrev pub counted : ℕ → ℕ
 counted n = min (n + 1) (2 ^ 64 - 1)

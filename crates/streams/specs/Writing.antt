@@ -6,13 +6,13 @@ use Rattle.streams.specs.declared.sink.WriteFault.TheVariants.{Interrupted, Fail
 use Rattle.streams.specs.declared.writing.WriteFailed.{WriteFailed}
 use Rattle.streams.specs.Stream.{Stream, counted}
 
--- neither count rose
+-- neither count has risen
 pub record Succeeds (old new : Stream) : Type 0 where
   pub failures : new.failures ≡ old.failures
   pub interruptions : new.interruptions ≡ old.interruptions
 
--- A signal came in between, and the stream counts it. The count has 64 bits and does not stay at its greatest, so a stream that were
--- interrupted for ever would fail in the end.
+-- A signal interrupted the call, and the stream counts that. The count has 64 bits and must rise, so a stream that is interrupted for
+-- ever has to fail in the end.
 pub record IsInterrupted (old new : Stream) : Type 0 where
   pub failures : new.failures ≡ old.failures
   pub interruptions : new.interruptions ≡ old.interruptions + 1
@@ -22,7 +22,7 @@ pub record IsInterrupted (old new : Stream) : Type 0 where
 pub record HasFailed (old new : Stream) : Type 0 where
   pub failures : new.failures ≡ counted old.failures
 
--- One write: it takes the first bytes, at least one; or none, since the stream was interrupted or failed.
+-- One write: it takes the first bytes, at least one; or none, because the stream was interrupted or failed.
 abbrev pub Writes : Stream → Stream → List ℕ → Result ℕ WriteFault → Type 0
 Writes old new bytes (Ok n) = (0 < n) × (n ≤ length bytes) × Appends old.bytes new.bytes (take n bytes) × Succeeds old new
 Writes old new bytes (Err Interrupted) = Keeps old.bytes new.bytes × IsInterrupted old new
@@ -33,7 +33,7 @@ Flushes old new (Ok _) = Keeps old.bytes new.bytes × (new.held ≡ false) × Su
 Flushes old new (Err Interrupted) = Keeps old.bytes new.bytes × IsInterrupted old new
 Flushes old new (Err Failed) = Keeps old.bytes new.bytes × HasFailed old new
 
--- known bytes grow by a front of these
+-- the first n of these bytes were added, for some n
 abbrev pub AppendsFront : Stream → Stream → List ℕ → Type 0
 AppendsFront old new bytes = (n : ℕ) × Appends old.bytes new.bytes (take n bytes)
 
@@ -41,7 +41,7 @@ AppendsFront old new bytes = (n : ℕ) × Appends old.bytes new.bytes (take n by
 abbrev pub PutsAll : Stream → Stream → List ℕ → Type 0
 PutsAll old new bytes = Appends old.bytes new.bytes bytes × (new.failures ≡ old.failures)
 
--- the stream failed once, and a front of the bytes is written
+-- the stream failed once, and only the first of the bytes are written
 abbrev pub PutsFront : Stream → Stream → List ℕ → Type 0
 PutsFront old new bytes = AppendsFront old new bytes × (new.failures ≡ counted old.failures)
 
@@ -50,11 +50,11 @@ abbrev pub Puts : Stream → Stream → List ℕ → Result Unit WriteFailed →
 Puts old new bytes (Ok _) = PutsAll old new bytes
 Puts old new bytes (Err _) = PutsFront old new bytes
 
--- Handing on what a buffer holds back, which was written already.
+-- The bytes that a buffer holds back are written out; they already count as written.
 abbrev pub Hands_on : Stream → Stream → Result Unit WriteFailed → Type 0
 Hands_on old new (Ok _) = Keeps old.bytes new.bytes × (new.failures ≡ old.failures) × (new.held ≡ false)
 Hands_on old new (Err _) = Keeps old.bytes new.bytes × (new.failures ≡ counted old.failures)
 
--- the line of an error
+-- the line that reports an error
 abbrev pub error_line : List ℕ → List ℕ
 error_line text = codes "error: " ++ text ++ 10 ∷ []

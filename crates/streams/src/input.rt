@@ -1,4 +1,4 @@
-//! Where a text is read from.
+//! Reads bytes from a stream.
 
 ghost use Rattle.std.specs.Prelude.{◌≡◌, ◌+◌, ◌-◌, ◌^◌, ◌<◌, ◌≤◌, ℕ, Bool, false, List, Option};
 ghost use Rattle.std.specs.Io.KnownBytes.{ReadConsumes};
@@ -7,37 +7,35 @@ ghost use Rattle.streams.specs.Reading.{interruption_count, is_failure};
 
 use std::io::{ErrorKind, Read};
 
-/// Why a read gives no bytes.
+/// Why a read answers no bytes.
 #[derive(Clone, Copy, Debug, PartialEq, Eq)]
 pub enum ReadFault {
-    /// A signal came in between. The read may be tried again.
+    /// A signal interrupted the read, which may be tried again.
     Interrupted,
-    /// The stream failed. It is not read again.
+    /// The stream failed. It must not be read again.
     Failed,
 }
 
-/// A reader that counts its reads, and of which it is known whether it failed. Bytes in memory, [`Bytes`], never fail; any
-/// other reader is watched by [`Watched`].
+/// A reader that counts its reads and says in contracts whether it has failed. Bytes in memory, [`Bytes`], never fail. [`Watched`] makes
+/// one of any other reader.
 pub trait Input {
-    /// The bytes that reads will give from here on, where they are known.
+    /// The bytes that later reads will answer, if they are known.
     ghost remaining: { Self → Option (List ℕ) };
 
     /// Whether a read has failed.
     ghost failed: { Self → Bool };
 
-    /// How many reads there were.
+    /// The number of reads.
     ghost reads: { Self → ℕ };
 
-    /// How many of them were interrupted.
+    /// The number of reads that were interrupted.
     ghost interruptions: { Self → ℕ };
 
-    /// Reads some bytes into the front of a buffer, and returns how many: none only at the end, or where there is no
-    /// room.
+    /// Reads some bytes into the front of a buffer, and answers how many. It answers 0 only at the end, or if the buffer has no room.
     ///
     /// # Errors
     ///
-    /// [`ReadFault::Interrupted`], after which the same bytes are still to be read, and [`ReadFault::Failed`], after
-    /// which the reader may not be asked again.
+    /// [`ReadFault::Interrupted`]: the same bytes are still to be read. [`ReadFault::Failed`]: the reader must not be used again.
     fn read(&mut self, buffer: &mut [u8]) -> Result<usize, ReadFault>
         requires sound { failed self.old ≡ false }
         requires room { reads self.old < 2 ^ 64 - 1 }
@@ -56,7 +54,7 @@ pub struct Bytes<'a> {
 }
 
 impl<'a> Bytes<'a> {
-    /// All of them are still to be read.
+    /// A reader of these bytes; it has read none yet.
     pub fn new(bytes: &'a [u8]) -> Bytes<'a>
         ensures bytes { result.rest ≡ bytes.entry }
         ensures reads { result.reads ≡ 0 }
@@ -88,7 +86,7 @@ impl Input for Bytes<'_> {
     }
 }
 
-/// A reader, whether it failed, how often it was read, and how many of the reads were interrupted.
+/// A reader, whether it has failed, the number of reads, and how many of these were interrupted.
 #[derive(Drop)]
 pub struct Watched<R> {
     stream: R,
@@ -99,7 +97,7 @@ pub struct Watched<R> {
 }
 
 impl<R> Watched<R> {
-    /// Of a reader that has not failed and was not read yet.
+    /// Wraps a reader that has not failed and was not read yet.
     pub fn new(stream: R) -> Watched<R>
         ensures stream { result.stream ≡ stream }
         ensures failed { result.failed ≡ false }
@@ -114,14 +112,14 @@ impl<R> Watched<R> {
         }
     }
 
-    /// Whether a read failed.
+    /// Whether a read has failed.
     pub fn has_failed(&self) -> bool
         ensures { result ≡ self.now.failed }
     {
         self.failed
     }
 
-    /// How often it was read.
+    /// The number of reads.
     pub fn reads(&self) -> u64
         ensures { result ≡ self.now.reads }
     {

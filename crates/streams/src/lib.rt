@@ -1,8 +1,8 @@
 //! Byte streams whose failures have a cause.
 //!
-//! The readers and writers of `std` do not tell a contract whether they failed or were interrupted. An [`Input`] and a [`Sink`] do: they
-//! count it, so a call above can promise that it fails only if its stream failed. [`Watched`] makes an [`Input`] of any reader,
-//! [`WatchedSink`] a [`Sink`] of any writer; [`Bytes`] and [`MemorySink`] are in memory.
+//! The readers and writers of `std` do not tell a contract whether they failed or were interrupted. An [`Input`] and a [`Sink`] count it,
+//! so a caller can promise that it fails only if its stream failed. [`Watched`] makes an [`Input`] of any reader, and [`WatchedSink`] a
+//! [`Sink`] of any writer; [`Bytes`] and [`MemorySink`] are in memory.
 #![tactic(auto)]
 
 mod input;

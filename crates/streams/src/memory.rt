@@ -1,4 +1,4 @@
-//! Writing to memory.
+//! Writes to memory.
 
 ghost use Rattle.std.specs.Prelude.{◌≡◌, [], Some, false};
 ghost use Rattle.streams.specs.Stream.{stream_of};
@@ -6,7 +6,7 @@ ghost use Rattle.streams.specs.Stream.{stream_of};
 use crate::sink::{Sink, WriteFault};
 use std::alloc::Global;
 
-/// A writer that keeps what is written in memory. It fails only if memory is refused.
+/// A writer that keeps its bytes in memory. It fails only if memory runs out.
 #[derive(Debug, Drop)]
 pub struct MemorySink {
     bytes: Vec<u8>,
@@ -14,7 +14,7 @@ pub struct MemorySink {
 }
 
 impl MemorySink {
-    /// One that holds nothing and has not failed.
+    /// A writer without bytes, which has not failed.
     pub fn new(alloc: Global) -> MemorySink
         ensures bytes { result.bytes.items ≡ [] }
         ensures failures { result.failures ≡ 0 }
@@ -25,14 +25,14 @@ impl MemorySink {
         }
     }
 
-    /// What was written.
+    /// The bytes that were written.
     pub fn into_bytes(self) -> Vec<u8>
         ensures { result ≡ self.bytes }
     {
         self.bytes
     }
 
-    /// How often memory was refused.
+    /// How often memory ran out.
     pub fn failures(&self) -> u64
         ensures { result ≡ self.now.failures }
     {

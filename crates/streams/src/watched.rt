@@ -1,4 +1,4 @@
-//! Writing to any writer of `std`.
+//! Writes to any writer of `std`.
 
 ghost use Rattle.std.specs.Prelude.{◌≡◌};
 ghost use Rattle.streams.specs.Private.Steps.{Counts};
@@ -7,8 +7,8 @@ ghost use Rattle.streams.specs.Stream.{counted, stream_of};
 use crate::sink::{Sink, WriteFault};
 use std::io::{Error, ErrorKind, Write};
 
-/// A writer, how often it failed, how often a signal interrupted it, and whether it may hold bytes back: it may from the beginning, and after each
-/// write.
+/// A writer, the number of its failures, the number of interruptions, and whether it may hold bytes back. It may from the beginning, and
+/// after each write.
 #[derive(Drop)]
 pub struct WatchedSink<W> {
     stream: W,
@@ -18,7 +18,7 @@ pub struct WatchedSink<W> {
 }
 
 impl<W> WatchedSink<W> {
-    /// Of a writer that has not failed.
+    /// Wraps a writer that has not failed.
     pub fn new(stream: W) -> WatchedSink<W>
         ensures stream { result.stream ≡ stream }
         ensures failures { result.failures ≡ 0 }
@@ -32,7 +32,7 @@ impl<W> WatchedSink<W> {
         }
     }
 
-    /// How often it failed.
+    /// The number of failures.
     pub fn failures(&self) -> u64
         ensures { result ≡ self.now.failures }
     {
@@ -74,7 +74,7 @@ impl<W: Write> Sink for WatchedSink<W> {
     fn write(&mut self, bytes: &[u8]) -> Result<usize, WriteFault> {
         self.held = true;
         match self.stream.write(bytes) {
-            // A writer that takes nothing would be asked for ever.
+            // A writer that never takes a byte would be called for ever.
             Ok(0) => Err(self.failed()),
             Ok(count) => Ok(count),
             Err(error) => Err(self.fault(&error)),

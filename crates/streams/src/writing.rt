@@ -1,4 +1,4 @@
-//! Writing all of some bytes.
+//! Writes all of some bytes.
 
 ghost use Rattle.std.specs.Prelude.{◌≡◌, ◌<◌, OnOk, false, length};
 ghost use Rattle.std.specs.List.{flat_map};
@@ -11,7 +11,7 @@ use crate::sink::{Sink, WriteFault};
 #[derive(Clone, Copy, Debug, PartialEq, Eq)]
 pub struct WriteFailed;
 
-/// Writes some of the bytes, and returns how many. A write that a signal interrupts is tried again.
+/// Writes some of the bytes, and answers how many. A write that a signal interrupts is tried again.
 fn put_some<S: Sink>(sink: &mut S, bytes: &[u8]) -> Result<usize, WriteFailed>
     requires some { 0 < length bytes.now }
     ensures { PutsSome (S.stream sink.old) (S.stream sink.new) bytes.now result }
@@ -25,7 +25,7 @@ fn put_some<S: Sink>(sink: &mut S, bytes: &[u8]) -> Result<usize, WriteFailed>
     }
 }
 
-/// Hands on what a buffer holds back. A call that a signal interrupts is tried again.
+/// Writes out the bytes that a buffer holds back. A call that a signal interrupts is tried again.
 pub fn flush<S: Sink>(sink: &mut S) -> Result<(), WriteFailed>
     ensures { Hands_on (S.stream sink.old) (S.stream sink.new) result }
 {
@@ -42,7 +42,7 @@ pub fn flush<S: Sink>(sink: &mut S) -> Result<(), WriteFailed>
 ///
 /// # Errors
 ///
-/// If the writer fails. Some of the bytes may be written then, from the first on.
+/// If the writer fails. Then only the first of the bytes may be written.
 pub fn put<S: Sink>(sink: &mut S, bytes: &[u8]) -> Result<(), WriteFailed>
     ensures { Puts (S.stream sink.old) (S.stream sink.new) bytes.now result }
 {
@@ -54,11 +54,11 @@ pub fn put<S: Sink>(sink: &mut S, bytes: &[u8]) -> Result<(), WriteFailed>
     Ok(())
 }
 
-/// Writes all the pieces, one after the other.
+/// Writes all these byte strings, one after the other.
 ///
 /// # Errors
 ///
-/// If the writer fails. Some of the bytes may be written then, from the first on.
+/// If the writer fails. Then only the first of the bytes may be written.
 pub fn put_all<S: Sink>(sink: &mut S, pieces: &[&[u8]]) -> Result<(), WriteFailed>
     ensures { Puts (S.stream sink.old) (S.stream sink.new) (flat_map (λ piece. piece.now) pieces.now) result }
 {
@@ -68,11 +68,11 @@ pub fn put_all<S: Sink>(sink: &mut S, pieces: &[&[u8]]) -> Result<(), WriteFaile
     Ok(())
 }
 
-/// Writes all the bytes, and hands on what a buffer holds back.
+/// Writes all the bytes, and writes out those that a buffer holds back.
 ///
 /// # Errors
 ///
-/// If the writer fails. Some of the bytes may be written then, from the first on.
+/// If the writer fails. Then only the first of the bytes may be written.
 pub fn print<S: Sink>(sink: &mut S, bytes: &[u8]) -> Result<(), WriteFailed>
     ensures puts { Puts (S.stream sink.old) (S.stream sink.new) bytes.now result }
     ensures handed { OnOk result ((S.stream sink.new).held ≡ false) }
@@ -85,7 +85,7 @@ pub fn print<S: Sink>(sink: &mut S, bytes: &[u8]) -> Result<(), WriteFailed>
 ///
 /// # Errors
 ///
-/// If the writer fails. A part of the line may be written then, from its beginning on.
+/// If the writer fails. Then only the beginning of the line may be written.
 pub fn tell<S: Sink>(sink: &mut S, text: &[u8]) -> Result<(), WriteFailed>
     ensures { Puts (S.stream sink.old) (S.stream sink.new) (error_line text.now) result }
 {

@@ -1,4 +1,4 @@
-//! System calls, and entries of the BIOS.
+//! Rows of system calls, and of entries of the BIOS.
 
 use crate::machine::Machine;
 use crate::shown::{byte, decimal, word};
@@ -8,7 +8,7 @@ use std::alloc::Global;
 use std::io::Write;
 use z80_cpu::Cpu;
 
-/// Whether the registers are those before a call, but for HL, A as L and B as H where it has a value.
+/// Whether the registers are those before a call, except HL, A and B if the call has a value; A has to be L, and B has to be H.
 fn others_stay(answer: Result<After, Stop>, before: Cpu, after: Cpu) -> bool {
     let mut wanted = before;
     if answer == Ok(After::Return) {
@@ -51,7 +51,7 @@ fn make_call<W: Write>(
     Ok(())
 }
 
-/// One call: the function and the argument.
+/// A row with one call: the function and the argument.
 pub(crate) fn report_call<W: Write>(
     out: &mut W,
     row: &str,
@@ -69,7 +69,7 @@ fn add_number(machine: &mut Machine, fcb: u16, step: u16) {
     machine.memory.set_word(address, number);
 }
 
-/// A call made many times: what each answers.
+/// Makes a call many times, and collects the answers.
 fn answers_of(
     alloc: Global,
     function: u8,
@@ -88,7 +88,7 @@ fn answers_of(
     Ok(answers)
 }
 
-/// Prints the answers of many calls, or the one that all of them have.
+/// Prints the answers of many calls, or only one if they are all equal.
 fn show_answers<W: Write>(out: &mut W, answers: &[u16]) -> Result<(), anyhow::Error> {
     let first = *answers.first().context("no call")?;
     if answers.iter().all(|answer| *answer == first) {
@@ -100,7 +100,8 @@ fn show_answers<W: Write>(out: &mut W, answers: &[u16]) -> Result<(), anyhow::Er
     Ok(())
 }
 
-/// Many calls: how many, what is added to the number of the file control block before each, the function and the argument.
+/// A row with many calls: how many, what is added to the record number in the file control block before each, the function and the
+/// argument.
 pub(crate) fn report_calls<W: Write>(
     alloc: Global,
     out: &mut W,
@@ -119,7 +120,7 @@ pub(crate) fn report_calls<W: Write>(
     show_answers(out, &answers_of(alloc, function, columns, machine)?)
 }
 
-/// An entry of the BIOS, with C: what it leaves in A.
+/// A row with an entry of the BIOS and C. Prints what the entry leaves in A.
 pub(crate) fn report_bios<W: Write>(
     out: &mut W,
     row: &str,

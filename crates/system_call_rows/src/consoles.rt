@@ -1,4 +1,4 @@
-//! Terminals over a console: bytes that are put, and lines that are read.
+//! Rows of terminals: bytes that are put, and lines that are read.
 
 use crate::machine::{Keyboard, console_of};
 use crate::memory::put;
@@ -12,7 +12,7 @@ use std::io::Write;
 use streams::{MemorySink, WatchedSink};
 use z80_cpu::Memory;
 
-/// A terminal at a column, by its columns: the column, which calls fail, and a text.
+/// Makes a terminal from its columns: the column, which calls fail, and what is typed.
 fn terminal_of(
     alloc: Global,
     column: &str,
@@ -24,13 +24,13 @@ fn terminal_of(
     Ok(terminal)
 }
 
-/// Prints all that a terminal put.
+/// Prints all bytes that a terminal put.
 fn show_put<W: Write>(out: &mut W, terminal: Terminal<Keyboard>) -> Result<(), anyhow::Error> {
     let Terminal { console, .. } = terminal;
     show_bytes(out, console.into_console().output())
 }
 
-/// Puts bytes at a column: the column after them, how often that failed, and what was put.
+/// Puts bytes at a column, and prints the column after them, how often that failed, and what was put.
 pub(crate) fn report_put<W: Write>(
     alloc: Global,
     out: &mut W,
@@ -48,7 +48,7 @@ pub(crate) fn report_put<W: Write>(
     show_put(out, terminal)
 }
 
-/// Prints the line that was read, into a buffer.
+/// Prints the line that was read into a buffer.
 fn show_line<W: Write>(
     out: &mut W,
     answer: Result<Option<u8>, ConsoleError>,
@@ -61,7 +61,8 @@ fn show_line<W: Write>(
     }
 }
 
-/// Reads a line: the room, the column, which calls fail, and what is typed. The line, whether input is left, and what was put.
+/// Reads a line: the columns are the room, the column, which calls fail, and what is typed. Prints the line, whether input is left, and
+/// what was put.
 pub(crate) fn report_line<W: Write>(
     alloc: Global,
     out: &mut W,
@@ -81,7 +82,7 @@ pub(crate) fn report_line<W: Write>(
     show_put(out, terminal)
 }
 
-/// Prints a text in memory up to its `$`: the address and the text.
+/// Prints a text in memory up to its `$`: the columns are the address and the text.
 pub(crate) fn report_dollar<W: Write>(
     alloc: Global,
     out: &mut W,
@@ -97,7 +98,7 @@ pub(crate) fn report_dollar<W: Write>(
     show_put(out, terminal)
 }
 
-/// Prints each byte that a console gives, until it gives none.
+/// Prints each byte that a console gives, until there is none.
 fn show_taken<W: Write, C: Console>(out: &mut W, console: &mut C) -> Result<(), anyhow::Error> {
     for _ in 0..256u32 {
         let is_ready = console.ready();
@@ -110,7 +111,7 @@ fn show_taken<W: Write, C: Console>(out: &mut W, console: &mut C) -> Result<(), 
     Ok(())
 }
 
-/// A console over a writer: what is typed, and what is put, of which the last byte is put raw.
+/// Tests a console over a writer: the columns are what is typed and what is put. The last byte is put on the console directly.
 pub(crate) fn report_stream<W: Write>(
     alloc: Global,
     out: &mut W,
@@ -130,7 +131,7 @@ pub(crate) fn report_stream<W: Write>(
     show_bytes(out, &console.into_writer().into_bytes())
 }
 
-/// Puts bytes with a console over a writer: each fault, the column after them, how often the writer failed, and what it took.
+/// Puts bytes on a console over a writer, and prints each fault, the column after them, how often the writer failed, and what it took.
 pub(crate) fn report_writer<W: Write>(
     alloc: Global,
     out: &mut W,

@@ -1,4 +1,4 @@
-//! Machines: a processor with memory over the system calls, with a disk and a console that may fail.
+//! Machines that make system calls, with a disk and a console that may fail.
 
 use crate::shown::{decimal, show_bytes};
 use anyhow::{Context, anyhow};
@@ -13,7 +13,7 @@ use z80_cpu::{Cpu, Flags, Memory};
 /// A console in memory that may fail.
 pub(crate) type Keyboard = FailingConsole<MemoryConsole>;
 
-/// A processor with memory, and the system behind its calls.
+/// A processor with memory, and the system that answers its calls.
 #[derive(Drop)]
 pub(crate) struct Machine {
     pub(crate) bdos: Bdos<Failing, Keyboard>,
@@ -21,7 +21,7 @@ pub(crate) struct Machine {
     pub(crate) memory: Memory,
 }
 
-/// The kind of disk that a word names.
+/// The format that a word names.
 pub(crate) fn kind_of(word: &str) -> Result<DiskKind, anyhow::Error> {
     match word.as_bytes() {
         b"eight" => Ok(DiskKind::EightInch),
@@ -30,7 +30,7 @@ pub(crate) fn kind_of(word: &str) -> Result<DiskKind, anyhow::Error> {
     }
 }
 
-/// A console with an input. A word says which of its calls fail, those that take a byte and those that put one counted from 0.
+/// A console with input. A word says which of its calls fail; calls that take a byte and calls that put one are counted together from 0.
 pub(crate) fn console_of(
     alloc: Global,
     fails: &str,
@@ -52,7 +52,7 @@ pub(crate) fn console_of(
     }
 }
 
-/// The disk of an image, whose device makes that many good calls, and fails from then on.
+/// Mounts an image on a device that makes `good_calls` good calls and then fails.
 fn mounted(
     alloc: Global,
     image: MemoryImage,
@@ -65,12 +65,12 @@ fn mounted(
     }
 }
 
-/// A blank disk that does not fail.
+/// An empty disk that does not fail.
 pub(crate) fn blank_disk(alloc: Global, kind: DiskKind) -> Result<Disk<Failing>, anyhow::Error> {
     mounted(alloc, MemoryImage::blank(alloc, kind)?, u32::MAX)
 }
 
-/// Registers that no call answers with.
+/// Registers with values that no call answers.
 fn marked_cpu() -> Cpu {
     let mut cpu = Cpu::new();
     cpu.main.a = 0x5A;
@@ -84,7 +84,7 @@ fn marked_cpu() -> Cpu {
     cpu
 }
 
-/// A machine over a disk and a console.
+/// A machine with a disk and a console.
 pub(crate) fn machine_over(
     alloc: Global,
     disk: Disk<Failing>,
@@ -97,7 +97,7 @@ pub(crate) fn machine_over(
     })
 }
 
-/// A machine with a blank disk, by its columns: the kind of disk, which calls of the console fail, and what is typed.
+/// Makes a machine with an empty disk from its columns: the format, which calls of the console fail, and what is typed.
 pub(crate) fn new_machine(
     alloc: Global,
     row: &str,
@@ -115,7 +115,7 @@ fn image_of(machine: Machine) -> MemoryImage {
     disk.unmount().into_image()
 }
 
-/// A fresh machine with the disk of another, whose device makes that many good calls after those of mounting, and then fails.
+/// A new machine with the disk of another. Its device makes `good_calls` good calls after those of mounting, and then fails.
 pub(crate) fn with_device(
     alloc: Global,
     machine: Machine,
@@ -123,13 +123,13 @@ pub(crate) fn with_device(
 ) -> Result<Machine, anyhow::Error> {
     let image = image_of(machine);
     let kind = DiskKind::of_size(image.len()).context("no disk")?;
-    // Mounting reads the whole directory, a record a call.
+    // Mounting reads the whole directory, with one call for each record.
     let first = good_calls.saturating_add(kind.directory_records());
     let disk = mounted(alloc, image, first)?;
     machine_over(alloc, disk, console_of(alloc, "good", &[])?)
 }
 
-/// Puts the front of the first entry into the directory of an eight inch disk. The rest of the entry is 0.
+/// Writes the beginning of the first entry to the directory of an eight inch disk. The rest of the entry is 0.
 fn put_entry(image: &mut MemoryImage, front: &[u8]) -> Result<(), anyhow::Error> {
     let mut record = [0xE5; 128];
     for (at, byte) in record[..32].iter_mut().enumerate() {
@@ -142,7 +142,7 @@ fn put_entry(image: &mut MemoryImage, front: &[u8]) -> Result<(), anyhow::Error>
     Ok(image.write(sector, &record)?)
 }
 
-/// A machine with an eight inch disk whose first entry begins so.
+/// A machine with an eight inch disk whose first entry begins with these bytes.
 pub(crate) fn with_entry(alloc: Global, front: &[u8]) -> Result<Machine, anyhow::Error> {
     let mut image = MemoryImage::blank(alloc, DiskKind::EightInch)?;
     put_entry(&mut image, front)?;
@@ -150,7 +150,7 @@ pub(crate) fn with_entry(alloc: Global, front: &[u8]) -> Result<Machine, anyhow:
     machine_over(alloc, disk, console_of(alloc, "good", &[])?)
 }
 
-/// All that a machine put to its console.
+/// Prints all bytes that a machine put on its console.
 pub(crate) fn report_output<W: Write>(out: &mut W, machine: Machine) -> Result<(), anyhow::Error> {
     let Machine { bdos, .. } = machine;
     let (_disk, console) = bdos.into_parts();

@@ -1,6 +1,6 @@
-//! Reads rows, a line of standard input each, and prints each with the answer of the call that it names.
+//! Reads rows, one on each line of standard input, and prints each with the answer of the call that it names.
 //!
-//! The head of `stdin` says which calls there are and what stands behind each; a line of `;` is a remark.
+//! The head of `stdin` lists the calls and the columns of each; a line that begins with `;` is a remark.
 #![tactic(auto)]
 
 mod calls;
@@ -18,7 +18,7 @@ use shown::decimal;
 use std::alloc::Global;
 use std::io::Write;
 
-/// The calls that make a machine, or take one apart.
+/// Makes calls that make a machine, or take one apart.
 fn next_machine<W: Write>(
     alloc: Global,
     out: &mut W,
@@ -42,7 +42,7 @@ fn next_machine<W: Write>(
     }
 }
 
-/// The calls that use a machine.
+/// Makes calls that use a machine.
 fn report_on_machine<W: Write>(
     alloc: Global,
     out: &mut W,
@@ -62,7 +62,7 @@ fn report_on_machine<W: Write>(
     }
 }
 
-/// Each call.
+/// Makes any call.
 fn report<W: Write>(
     alloc: Global,
     out: &mut W,
@@ -91,7 +91,7 @@ fn report<W: Write>(
     }
 }
 
-/// A row as it stands, with the answer of its call. A remark has none.
+/// Prints a row, and then the answer of its call. A remark has no answer.
 fn report_row<W: Write>(
     alloc: Global,
     out: &mut W,

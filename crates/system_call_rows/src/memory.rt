@@ -1,4 +1,4 @@
-//! Bytes of memory, and file control blocks.
+//! Rows of bytes in memory, and of file control blocks.
 
 use crate::machine::Machine;
 use crate::shown::{byte, decimal, show_bytes, word};
@@ -8,7 +8,7 @@ use std::alloc::Global;
 use std::io::Write;
 use z80_cpu::Memory;
 
-/// Puts bytes from an address on, across the top of memory too.
+/// Writes bytes from an address on, even across the top of memory.
 pub(crate) fn put(memory: &mut Memory, address: u16, bytes: &[u8]) {
     let mut next = address;
     for byte in bytes {
@@ -17,7 +17,7 @@ pub(crate) fn put(memory: &mut Memory, address: u16, bytes: &[u8]) {
     }
 }
 
-/// Puts bytes: the address and the bytes.
+/// A row that writes bytes: the address and the bytes.
 pub(crate) fn put_row(
     alloc: Global,
     row: &str,
@@ -32,7 +32,7 @@ pub(crate) fn put_row(
     Ok(())
 }
 
-/// Puts a file control block whose bytes are 0, but for its name, EX, S2 and CR.
+/// Writes a file control block with a name, EX, S2 and CR; its other bytes are 0.
 fn put_block(memory: &mut Memory, address: u16, name: &[u8], place: [u8; 3]) {
     let [extent, high, current] = place;
     put(memory, address, &[0; 36]);
@@ -42,7 +42,7 @@ fn put_block(memory: &mut Memory, address: u16, name: &[u8], place: [u8; 3]) {
     memory.set(address.wrapping_add(32), current);
 }
 
-/// Puts a file control block: the address, EX, S2, CR and the name.
+/// A row that writes a file control block: the address, EX, S2, CR and the name.
 pub(crate) fn put_fcb(
     alloc: Global,
     row: &str,
@@ -61,7 +61,7 @@ pub(crate) fn put_fcb(
     Ok(())
 }
 
-/// The bytes of memory: the address and how many.
+/// A row that prints bytes of memory: the address and how many.
 pub(crate) fn report_bytes<W: Write>(
     alloc: Global,
     out: &mut W,
@@ -78,7 +78,7 @@ pub(crate) fn report_bytes<W: Write>(
     show_bytes(out, &bytes)
 }
 
-/// EX, S2 and CR of a file control block.
+/// A row that prints EX, S2 and CR of a file control block.
 pub(crate) fn report_place<W: Write>(
     out: &mut W,
     row: &str,

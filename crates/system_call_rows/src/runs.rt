@@ -1,4 +1,4 @@
-//! Programs that run, and the state in which they begin.
+//! Rows of programs that run, and of the state in which they begin.
 
 use crate::machine::{Keyboard, Machine, blank_disk, console_of, kind_of, machine_over};
 use crate::shown::show_bytes;
@@ -10,7 +10,7 @@ use row_text::written_out;
 use std::alloc::Global;
 use std::io::Write;
 
-/// Words with a slash behind each.
+/// The words of a column, each with a slash after it.
 fn words_of(alloc: Global, column: &str) -> Result<Vec<Vec<u8>>, anyhow::Error> {
     let mut words = Vec::new(alloc);
     for word in column.split_terminator('/') {
@@ -19,7 +19,7 @@ fn words_of(alloc: Global, column: &str) -> Result<Vec<Vec<u8>>, anyhow::Error> 
     Ok(words)
 }
 
-/// The words, lent.
+/// The words as slices.
 fn lent<'a>(alloc: Global, words: &'a [Vec<u8>]) -> Result<Vec<&'a [u8]>, anyhow::Error> {
     let mut lent = Vec::new(alloc);
     for word in words {
@@ -28,7 +28,7 @@ fn lent<'a>(alloc: Global, words: &'a [Vec<u8>]) -> Result<Vec<&'a [u8]>, anyhow
     Ok(lent)
 }
 
-/// A program that is to run: the kind of disk, the limit, the words of its command, and its bytes.
+/// A program to run: the format of the disk, the limit, the words of its command, and its bytes.
 #[derive(Drop)]
 struct Program {
     kind: DiskKind,
@@ -49,7 +49,7 @@ fn program_of(alloc: Global, row: &str) -> Result<Program, anyhow::Error> {
     })
 }
 
-/// Runs a program on a blank disk, with nothing typed.
+/// Runs a program on an empty disk, without input.
 fn ended(alloc: Global, program: &Program) -> Result<RunEnd<Failing, Keyboard>, anyhow::Error> {
     let words = lent(alloc, &program.words)?;
     let console = console_of(alloc, "good", &[])?;
@@ -57,7 +57,8 @@ fn ended(alloc: Global, program: &Program) -> Result<RunEnd<Failing, Keyboard>, 
     Ok(run(alloc, &program.bytes, &words, disk, console, program.limit))
 }
 
-/// Runs a program: why it ends, after how many turns, where, and what it put. The machine that it leaves has its disk.
+/// Runs a program, and prints why it ends, after how many steps, where, and what it put. The machine that it answers has the disk of the
+/// run.
 pub(crate) fn report_run<W: Write>(
     alloc: Global,
     out: &mut W,
@@ -75,7 +76,8 @@ pub(crate) fn report_run<W: Write>(
     machine_over(alloc, disk, console_of(alloc, "good", &[])?)
 }
 
-/// The state in which a program begins: the words and the program. The machine that it leaves has its memory and registers.
+/// Prints the state in which a program begins: the columns are the words and the program. The machine that it answers has that memory and
+/// those registers.
 pub(crate) fn report_start<W: Write>(
     alloc: Global,
     out: &mut W,

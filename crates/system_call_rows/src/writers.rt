@@ -1,4 +1,4 @@
-//! Writers whose writes end as a row asks for it.
+//! Writers whose writes end as a row says.
 
 use std::alloc::Global;
 use std::io::{Error, ErrorKind, Result, Write};

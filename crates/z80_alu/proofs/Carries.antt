@@ -1,4 +1,4 @@
--- Carries, borrows and overflows, told from the bits of a, b and the result.
+-- Carries, borrows and overflows can be seen from the bits of a, b and the result.
 use Rattle.std.proofs.Common.{◌≡◌, ℕ, ◌+◌, ◌-◌, ◌/◌, ◌%◌, ◌<◌, ◌≤◌, arith, nat_eq, nat_le, nat_lt, min, pos, ◌+ℤ◌, ◌-ℤ◌}
 use Rattle.std.specs.Int.{w8, w16, cast_signed}
 use Rattle.std.proofs.lemmas.Int.{ints}

@@ -1,4 +1,4 @@
--- Eight flags shifted to their places make the byte that is their sum.
+-- Eight flags, each shifted to its bit, make the byte that is their sum.
 use Rattle.std.proofs.Common.{◌≡◌, ℕ, ◌+◌, ◌*◌, ◌%◌, ◌≤◌, ap, ◌∙◌, arith, bit_or}
 use Rattle.z80_alu.proofs.Masks.{or_low}
 

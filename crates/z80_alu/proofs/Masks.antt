@@ -34,7 +34,7 @@ xor_and_xor_is_set a b u v k =
     ∙ ap (λ n. nat_eq (min n (bit_at (bit_xor u v) k)) 1) (bit_at_xor a b k)
     ∙ ap (λ n. nat_eq (min ((bit_at a k + bit_at b k) % 2) n) 1) (bit_at_xor u v k)
 
--- `x | low`, x having nothing in its low k bits
+-- `x | low`, if the low k bits of x are 0
 pub or_low : (x high k low : ℕ) → x ≡ high * 2 ^ k → low < 2 ^ k → bit_or x low ≡ x + low
 or_low x high k low e h = rw e (or_shifted high k low h)
 

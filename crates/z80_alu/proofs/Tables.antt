@@ -1,4 +1,4 @@
--- Rules that the checker computes at each byte.
+-- Rules that the checker tests by computing them for each byte.
 use Rattle.std.proofs.Common.{◌≡◌, ℕ, ◌-◌, ◌*◌, ◌+◌, ◌%◌, ◌^◌, ◌<◌, Bool, true, false, ◌&&◌, ◌||◌, refl, nat_eq, nat_lt, cond, bit_and, bit_or, map}
 use Rattle.std.specs.Int.{bit_at}
 use Rattle.std.specs.List.{range_with_len}
@@ -12,7 +12,7 @@ use Rattle.z80_alu.specs.Rotations.{bit_of, set_bit, reset_bit}
 abbrev pub mask : Octal → ℕ
 mask bit = 1 * 2 ^ octal_code bit % 256
 
--- A rule of a bit's number and a byte, computed at all of them.
+-- A rule about a bit's number and a byte, computed for all of them.
 at_each : {X : Type 0} (f g : Octal → ℕ → X) → map (λ v. octals.values X (λ bit. f bit v)) (range_with_len 0 256) ≡ map (λ v. octals.values X (λ bit. g bit v)) (range_with_len 0 256) →
     (bit : Octal) (v : ℕ) → v < 256 → f bit v ≡ g bit v
 at_each {X} f g e bit v h =
@@ -31,7 +31,7 @@ or_mask = at_each (λ bit v. bit_or v (mask bit)) set_bit refl
 pub and_not_mask : (bit : Octal) (v : ℕ) → v < 256 → bit_and v (255 - mask bit) ≡ reset_bit bit v
 and_not_mask = at_each (λ bit v. bit_and v (255 - mask bit)) reset_bit refl
 
--- DAA: the low digit carried or borrowed where bit 4 of A is turned over.
+-- DAA: there was a carry or borrow of the low digit exactly if bit 4 of A changed.
 abbrev adjusted_by : (half carry subtract : Bool) → ℕ → ℕ
 adjusted_by half carry subtract a =
     let correction = cond (half || nat_lt 9 (a % 16)) 0x06 0 + cond (carry || nat_lt 0x99 a) 0x60 0 in

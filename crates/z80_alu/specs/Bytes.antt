@@ -1,17 +1,17 @@
 -- The 8-bit arithmetic group, and DAA, CPL, NEG, CCF and SCF of the general-purpose group.
 --
--- Z80 CPU User Manual (Zilog UM0080), "8-Bit Arithmetic Group" and "General-Purpose Arithmetic and CPU Control Groups".
--- A carry that comes in is a flag. Flags that a definition does not name are kept.
+-- Z80 CPU User Manual (Zilog UM0080), "8-Bit Arithmetic Group" and "General-Purpose Arithmetic and CPU Control Groups". A carry or borrow
+-- into an operation is a flag. A flag that a definition does not name is kept.
 use Rattle.std.specs.Prelude.{ℕ, ◌+◌, ◌-◌, ◌%◌, Bool, true, false, not, ◌&&◌, ◌||◌, if◌then◌else◌, pos, ◌+ℤ◌, ◌-ℤ◌, nat_le, nat_lt, bit_and, bit_or, bit_xor}
 use Rattle.std.specs.Int.{w8, cast_signed, from_bool}
 use Rattle.z80_alu.specs.Types.{Flags, AluOperation}
 use Rattle.z80_alu.specs.Flags.{is_negative_byte, is_zero, has_even_parity, overflows}
 
--- ADD and ADC: a + b, and the carry that comes in
+-- ADD and ADC: a + b, plus 1 if the carry is set
 abbrev pub sum_of : ℕ → ℕ → Bool → ℕ
 sum_of a b carry = (a + b + from_bool carry) % 256
 
--- H is a carry out of bit 3, where the low digits reach 16; C is one out of bit 7, where the sum reaches 256
+-- H is a carry out of bit 3: the low digits reach 16. C is a carry out of bit 7: the sum reaches 256.
 abbrev pub add_flags : ℕ → ℕ → Bool → Flags → Flags
 add_flags a b carry f = record f {
   sign = is_negative_byte (sum_of a b carry);
@@ -22,11 +22,11 @@ add_flags a b carry f = record f {
   carry = nat_le 256 (a + b + from_bool carry);
 }
 
--- SUB, SBC, CP and NEG: a - b, and the borrow that comes in
+-- SUB, SBC, CP and NEG: a - b, minus 1 if the borrow is set
 abbrev pub difference_of : ℕ → ℕ → Bool → ℕ
 difference_of a b borrow = (256 + a - (b + from_bool borrow)) % 256
 
--- H is a borrow of the low digit, C one of the whole
+-- H is a borrow of the low digit, C a borrow of the whole byte
 abbrev pub subtract_flags : ℕ → ℕ → Bool → Flags → Flags
 subtract_flags a b borrow f = record f {
   sign = is_negative_byte (difference_of a b borrow);
@@ -47,7 +47,7 @@ parity_flags value half_carry f = record f {
   subtract = false;
 }
 
--- AND, XOR, OR: H is 1 for AND alone, C is 0
+-- AND, XOR, OR: C is 0, and H is 1 only for AND
 abbrev pub logic_flags : ℕ → Bool → Flags → Flags
 logic_flags value half_carry f = record (parity_flags value half_carry f) { carry = false }
 
@@ -72,25 +72,24 @@ operation_flags AluOperation.Xor a b f = logic_flags (bit_xor a b) false f
 operation_flags AluOperation.Or a b f = logic_flags (bit_or a b) false f
 operation_flags AluOperation.Cp a b f = subtract_flags a b false f
 
--- INC and DEC of a byte: ADD and SUB of 1, but C is kept
+-- INC and DEC of a byte: as ADD and SUB of 1, but C is kept
 abbrev pub increment_flags : ℕ → Flags → Flags
 increment_flags value f = record (add_flags value 1 false f) { carry = f.carry }
 
 abbrev pub decrement_flags : ℕ → Flags → Flags
 decrement_flags value f = record (subtract_flags value 1 false f) { carry = f.carry }
 
--- DAA: 06H where H is set or the low digit is above 9, and 60H where C is set or A is above 99H ..
+-- what DAA adds or subtracts: 06H if H is set or the low digit is above 9, and 60H if C is set or A is above 99H
 abbrev pub correction : ℕ → Flags → ℕ
 correction a f =
     (if f.half_carry || nat_lt 9 (a % 16) then 0x06 else 0) + (if f.carry || nat_lt 0x99 a then 0x60 else 0)
 
--- .. taken away where N is set, else added
+-- DAA: subtracts this if N is set, and adds it otherwise
 abbrev pub adjusted : ℕ → Flags → ℕ
 adjusted a f = if f.subtract then difference_of a (correction a f) false else sum_of a (correction a f) false
 
--- S, Z and P of the result; N is kept. C is 1 where it was, or where A was above 99H, so that a digit went out at the top. H, which
--- the manual leaves open, is by this project's choice whether the correction of the low digit carried out of it, or borrowed where N
--- is set.
+-- DAA sets S, Z and P for the result and keeps N. C is 1 if it was 1 or A was above 99H, so that the high digit overflowed. The manual
+-- leaves H open. This project's choice: H says whether the correction of the low digit caused a carry, or a borrow if N is set.
 abbrev pub adjust_flags : ℕ → Flags → Flags
 adjust_flags a f = record f {
   sign = is_negative_byte (adjusted a f);
@@ -100,7 +99,7 @@ adjust_flags a f = record f {
   carry = f.carry || nat_lt 0x99 a;
 }
 
--- CPL: every bit of A turned over; H 1, N 1
+-- CPL: every bit of A is inverted, and H and N are 1
 abbrev pub complemented : ℕ → ℕ
 complemented a = 255 - a
 

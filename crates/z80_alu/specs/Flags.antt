@@ -1,6 +1,6 @@
--- The flag register F, and what each flag says of a result.
+-- The flag register F, and what each flag says about a result.
 --
--- Z80 CPU User Manual (Zilog UM0080), "Z80 Status Indicator Flags". Numbers are whole numbers: nothing wraps but by `%`.
+-- Z80 CPU User Manual (Zilog UM0080), "Z80 Status Indicator Flags". Numbers have no bounds; only `%` wraps them.
 use Rattle.std.specs.Prelude.{ℕ, ◌+◌, ◌*◌, ◌%◌, Bool, ◌||◌, ℤ, pos, neg_ℤ, int_lt, int_le, nat_le, ◌==◌, count_ones}
 use Rattle.std.specs.Int.{bit_at, from_bool}
 use Rattle.z80_alu.specs.Types.{Flags}
@@ -11,7 +11,7 @@ byte_of f =
     128 * from_bool f.sign + 64 * from_bool f.zero + 32 * from_bool f.bit_5 + 16 * from_bool f.half_carry
     + 8 * from_bool f.bit_3 + 4 * from_bool f.parity_overflow + 2 * from_bool f.subtract + from_bool f.carry
 
--- the flags that a byte stands for
+-- the flags in a byte F
 abbrev pub flags_of : ℕ → Flags
 flags_of byte = record {
   sign = bit_at byte 7 == 1;
@@ -35,10 +35,10 @@ is_negative_word value = nat_le 32768 value
 abbrev pub is_zero : ℕ → Bool
 is_zero value = value == 0
 
--- P: the count of ones is even
+-- P: the number of ones is even
 abbrev pub has_even_parity : ℕ → Bool
 has_even_parity value = count_ones value % 2 == 0
 
--- V: a number leaves -half to half - 1, the range of a signed type
+-- V: a number is outside -half to half - 1, the range of a signed type
 abbrev pub overflows : ℕ → ℤ → Bool
 overflows half z = int_lt z (neg_ℤ (pos half)) || int_le (pos half) z

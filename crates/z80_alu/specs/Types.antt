@@ -1,4 +1,4 @@
--- The types that the definitions speak of, in one place for the files of this crate.
+-- The types that the definitions use, collected for the files of this crate.
 pub use Rattle.z80_alu.specs.declared.flags.Flags.{Flags}
 pub use Rattle.z80_instr.specs.declared.AluOperation.{AluOperation}
 pub use Rattle.z80_instr.specs.declared.Rotation.{Rotation}

@@ -1,6 +1,6 @@
 -- The 16-bit arithmetic group.
 --
--- Z80 CPU User Manual (Zilog UM0080), "16-Bit Arithmetic Group". Flags that a definition does not name are kept.
+-- Z80 CPU User Manual (Zilog UM0080), "16-Bit Arithmetic Group". A flag that a definition does not name is kept.
 use Rattle.std.specs.Prelude.{ℕ, ◌+◌, ◌-◌, ◌%◌, Bool, true, false, pos, ◌+ℤ◌, ◌-ℤ◌, nat_le, nat_lt}
 use Rattle.std.specs.Int.{w16, cast_signed, from_bool}
 use Rattle.z80_alu.specs.Types.{Flags}
@@ -10,7 +10,7 @@ use Rattle.z80_alu.specs.Flags.{is_negative_word, is_zero, overflows}
 abbrev pub word_sum_of : ℕ → ℕ → Bool → ℕ
 word_sum_of a b carry = (a + b + from_bool carry) % 65536
 
--- ADD HL, ADD IX, ADD IY: H is a carry out of bit 11, C one out of bit 15
+-- ADD HL, ADD IX, ADD IY: H is a carry out of bit 11, and C a carry out of bit 15
 abbrev pub add_word_flags : ℕ → ℕ → Bool → Flags → Flags
 add_word_flags a b carry f = record f {
   half_carry = nat_le 4096 (a % 4096 + b % 4096 + from_bool carry);

@@ -1,4 +1,4 @@
-//! Tests of bits that tell what a result's flags are.
+//! Tests of bits, from which the flags of a result follow.
 ghost use Rattle.std.specs.Prelude.{◌≡◌, ◌+◌, ◌-◌, ◌%◌, Bool, pos, ◌+ℤ◌, ◌-ℤ◌, nat_le, nat_lt};
 ghost use Rattle.std.specs.Int.{w8, w16, cast_signed, from_bool};
 ghost use Rattle.z80_alu.specs.Flags.{is_negative_byte, is_negative_word, has_even_parity, overflows};
@@ -19,7 +19,7 @@ pub(crate) fn has_even_parity(value: u8) -> bool
     value.count_ones() & 1 == 0
 }
 
-/// Whether the low digit carried or borrowed: bit 4 of the result is not that of a without carries.
+/// Whether the low digit had a carry or a borrow: bit 4 of the result differs from what it is without one.
 #[inline(always)]
 pub(crate) fn half_carries(a: u8, b: u8, value: u8) -> bool
     ensures adding { (carry : Bool) → value ≡ sum_of a b carry →
@@ -30,7 +30,7 @@ pub(crate) fn half_carries(a: u8, b: u8, value: u8) -> bool
     (a ^ b ^ value) & 0x10 != 0
 }
 
-/// Whether a sum left the signed bytes: it has the sign of neither a nor b.
+/// Whether a sum is outside -128 to 127: a and b have the same sign, and the sum has the other.
 #[inline(always)]
 pub(crate) fn add_overflows(a: u8, b: u8, sum: u8) -> bool
     ensures { (carry : Bool) → sum ≡ sum_of a b carry →
@@ -39,7 +39,7 @@ pub(crate) fn add_overflows(a: u8, b: u8, sum: u8) -> bool
     (a ^ sum) & (b ^ sum) & 0x80 != 0
 }
 
-/// Whether a difference left the signed bytes: a has the sign of neither b nor the difference.
+/// Whether a difference is outside -128 to 127: b and the difference have the same sign, and a has the other.
 #[inline(always)]
 pub(crate) fn subtract_overflows(a: u8, b: u8, difference: u8) -> bool
     ensures { (borrow : Bool) → difference ≡ difference_of a b borrow →
@@ -54,7 +54,7 @@ pub(crate) fn is_negative_word(value: u16) -> bool
     value & 0x8000 != 0
 }
 
-/// Whether bit 11 carried or borrowed.
+/// Whether the low 12 bits had a carry or a borrow: bit 12 of the result differs from what it is without one.
 #[inline(always)]
 pub(crate) fn half_carries_word(a: u16, b: u16, value: u16) -> bool
     ensures adding { (carry : Bool) → value ≡ word_sum_of a b carry →

@@ -8,7 +8,7 @@ impl Flags {
     ghost use Rattle.std.specs.Prelude.{◌≡◌, false, bit_and, bit_or, bit_xor};
     ghost use Rattle.z80_alu.specs.Bytes.{sum_of, add_flags, difference_of, subtract_flags, parity_flags, logic_flags, accumulator_after, operation_flags, increment_flags, decrement_flags};
 
-    /// ADD and ADC: a + b, and 1 where a carry comes in.
+    /// ADD and ADC: a + b, plus 1 if `carry` is set.
     #[inline(always)]
     pub fn add(&mut self, a: u8, b: u8, carry: bool) -> u8
         ensures value { result ≡ sum_of a b carry }
@@ -25,7 +25,7 @@ impl Flags {
         value
     }
 
-    /// SUB, SBC, CP and NEG: a - b, and 1 less where a borrow comes in.
+    /// SUB, SBC, CP and NEG: a - b, minus 1 if `borrow` is set.
     #[inline(always)]
     pub fn subtract(&mut self, a: u8, b: u8, borrow: bool) -> u8
         ensures value { result ≡ difference_of a b borrow }
@@ -42,7 +42,7 @@ impl Flags {
         value
     }
 
-    /// S, Z and parity of a value, N 0 and the given H; C is kept.
+    /// Sets S, Z and P for a value, N to 0 and H as given; C is kept.
     #[inline(always)]
     pub fn set_parity(&mut self, value: u8, half_carry: bool)
         ensures { self.new ≡ parity_flags value half_carry self.old }
@@ -54,7 +54,7 @@ impl Flags {
         self.subtract = false;
     }
 
-    /// The flags of AND, XOR and OR.
+    /// Sets the flags for AND, XOR and OR.
     #[inline(always)]
     pub fn set_logic(&mut self, value: u8, half_carry: bool)
         ensures { self.new ≡ logic_flags value half_carry self.old }
@@ -63,7 +63,7 @@ impl Flags {
         self.carry = false;
     }
 
-    /// An operation on A and a byte: what A is afterwards.
+    /// An operation on A and a byte. Answers what A is after it.
     #[inline(always)]
     pub fn operate(&mut self, operation: AluOperation, a: u8, b: u8) -> u8
         ensures value { result ≡ accumulator_after operation a b self.old }

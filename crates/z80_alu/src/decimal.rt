@@ -1,4 +1,4 @@
-//! Decimal adjustment, and the operations on A and C alone.
+//! DAA, CPL, SCF and CCF.
 
 use crate::bits::{has_even_parity, is_negative};
 use crate::flags::Flags;
@@ -7,7 +7,7 @@ impl Flags {
     ghost use Rattle.std.specs.Prelude.{◌≡◌};
     ghost use Rattle.z80_alu.specs.Bytes.{correction, adjusted, adjust_flags, complemented, complement_flags, set_carry_flags, complement_carry_flags};
 
-    /// DAA: A made the decimal result of the last operation.
+    /// DAA: A becomes the decimal result of the last operation.
     #[inline(always)]
     pub fn adjust(&mut self, a: u8) -> u8
         ensures value { result ≡ adjusted a self.old }
@@ -34,7 +34,7 @@ impl Flags {
         }
     }
 
-    /// What is added to A, or taken away.
+    /// What DAA adds to A, or subtracts if N is set.
     #[inline(always)]
     fn correction(&self, a: u8) -> u8
         ensures { result ≡ correction a self.now }
@@ -48,7 +48,7 @@ impl Flags {
         low + high
     }
 
-    /// CPL: every bit of A turned over.
+    /// CPL: every bit of A is inverted.
     #[inline(always)]
     pub fn complement(&mut self, a: u8) -> u8
         ensures value { result ≡ complemented a }

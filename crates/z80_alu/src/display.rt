@@ -3,7 +3,7 @@
 use crate::flags::Flags;
 use std::fmt;
 
-/// `SZ5H3PNC`, from bit 7 down, with `-` in the place of a flag that is 0.
+/// `SZ5H3PNC`, from bit 7 down, with `-` for a flag that is 0.
 impl fmt::Display for Flags {
     fn fmt<W: fmt::Write>(&self, f: &mut fmt::Formatter<W>) -> fmt::Result {
         let letters = [

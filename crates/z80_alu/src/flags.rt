@@ -1,6 +1,6 @@
 //! The flag register F.
 
-/// The flags. Bits 5 and 3 of F have no meaning: they are kept by all but `POP AF` and `EX AF,AF'`.
+/// The flags. Bits 5 and 3 of F have no meaning; only `POP AF` and `EX AF,AF'` change them.
 #[derive(Clone, Copy, Debug, Default, PartialEq, Eq)]
 pub struct Flags {
     /// S, bit 7: the result is negative.
@@ -23,7 +23,7 @@ impl Flags {
     ghost use Rattle.std.specs.Prelude.{◌≡◌};
     ghost use Rattle.z80_alu.specs.Flags.{byte_of, flags_of};
 
-    /// The flags that a byte stands for.
+    /// The flags in a byte F.
     #[inline(always)]
     pub fn from_byte(byte: u8) -> Flags
         ensures { result ≡ flags_of byte }
@@ -40,7 +40,7 @@ impl Flags {
         }
     }
 
-    /// F: S Z 5 H 3 P/V N C from bit 7 down.
+    /// The byte F: S Z 5 H 3 P/V N C from bit 7 down.
     #[inline(always)]
     pub fn to_byte(self) -> u8
         ensures { result ≡ byte_of self }

@@ -1,8 +1,7 @@
-//! The arithmetic and logic unit of the Zilog Z80: what operations on bytes and words give, and what they leave in the
-//! flags.
+//! The arithmetic and logic unit of the Zilog Z80: the results of operations on bytes and words, and the flags that they leave.
 //!
-//! The terms and the order are those of the Z80 CPU User Manual (UM0080). Each operation is a method of [`Flags`] that
-//! returns its result. Nothing here takes memory.
+//! The terms and the order are those of the Z80 CPU User Manual (UM0080). Each operation is a method of [`Flags`] that returns its
+//! result. No function allocates memory.
 #![tactic(auto)]
 
 mod bits;

@@ -12,7 +12,7 @@ impl Flags {
     ghost use Rattle.std.specs.Prelude.{false};
     ghost use Rattle.z80_alu.specs.Bytes.{parity_flags};
 
-    /// RLCA, RRCA, RLA and RRA, of the rotation's name without the A.
+    /// RLCA, RRCA, RLA and RRA. `rotation` is the one with the same name but for the A.
     #[inline(always)]
     pub fn rotate_accumulator(&mut self, rotation: Rotation, value: u8) -> u8
         ensures value { result ≡ rotated rotation value self.old.carry }
@@ -37,7 +37,7 @@ impl Flags {
         outcome
     }
 
-    /// RLD: A and the byte, with their low three digits turned to the left.
+    /// RLD: moves the two digits of the byte and the low digit of A one place to the left, in a circle.
     #[inline(always)]
     pub fn rotate_digits_left(&mut self, a: u8, value: u8) -> (u8, u8)
         ensures accumulator { result.0 ≡ rld_accumulator a value }
@@ -49,7 +49,7 @@ impl Flags {
         (accumulator, value << 4 | a & 0x0F)
     }
 
-    /// RRD: the other way round.
+    /// RRD: moves the two digits of the byte and the low digit of A one place to the right, in a circle.
     #[inline(always)]
     pub fn rotate_digits_right(&mut self, a: u8, value: u8) -> (u8, u8)
         ensures accumulator { result.0 ≡ rrd_accumulator a value }
@@ -103,7 +103,7 @@ fn rotated(rotation: Rotation, value: u8, carry: bool) -> u8
     }
 }
 
-/// The bit that goes out: C afterwards.
+/// The bit that a rotation or shift moves out, which becomes C.
 #[inline(always)]
 fn bit_out(rotation: Rotation, value: u8) -> bool
     ensures { result ≡ rotations.bit_out rotation value }

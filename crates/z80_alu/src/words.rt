@@ -9,7 +9,7 @@ impl Flags {
     ghost use Rattle.std.specs.Prelude.{◌≡◌, false};
     ghost use Rattle.z80_alu.specs.Words.{word_sum_of, add_word_flags, adc_word_flags, word_difference_of, sbc_word_flags};
 
-    /// ADD HL, ADD IX and ADD IY: a + b, and 1 where a carry comes in. S, Z and P/V are kept.
+    /// ADD HL, ADD IX and ADD IY: a + b, plus 1 if `carry` is set. S, Z and P/V are kept.
     #[inline(always)]
     pub fn add_word(&mut self, a: u16, b: u16, carry: bool) -> u16
         ensures value { result ≡ word_sum_of a b carry }

@@ -1,4 +1,4 @@
--- Arithmetic on registers, and LD A,I and LD A,R. What the operations give is said in the crate of the unit.
+-- Arithmetic on registers, and LD A,I and LD A,R. `z80_alu` defines the results and the flags of the operations.
 --
 -- Z80 CPU User Manual (Zilog UM0080), the arithmetic groups and "Rotate and Shift Group".
 use Rattle.std.specs.Prelude.{ℕ, false}

@@ -15,7 +15,7 @@ top cpu memory = word_at cpu.sp memory
 abbrev pub popped : Cpu → Cpu
 popped cpu = record cpu { sp = up_by 2 cpu.sp }
 
--- CALL and RST: what is pushed is the address of the instruction that follows
+-- CALL and RST: the address of the next instruction is pushed
 abbrev pub called : ℕ → Machine → Machine
 called address m = on_cpu (with_pc address) (pushed m.cpu.pc m)
 

@@ -1,6 +1,6 @@
 -- The machine: its registers, and its memory of 65,536 bytes as a list.
 --
--- Z80 CPU User Manual (Zilog UM0080), "CPU Registers". A word in two registers or two bytes has 256 times its high byte.
+-- Z80 CPU User Manual (Zilog UM0080), "CPU Registers". A word in two registers or two bytes is 256 times its high byte plus its low byte.
 -- Addresses are taken modulo 65,536.
 use Rattle.std.specs.Prelude.{ℕ, ◌+◌, ◌-◌, ◌*◌, ◌/◌, ◌%◌, List, ℤ, slice_index, slice_set}
 use Rattle.std.specs.Int.{w16, cast_unsigned}
@@ -36,18 +36,18 @@ with_pc address cpu = record cpu { pc = address }
 
 -- Addresses.
 
--- n more, and n less
+-- an address n higher, and n lower
 abbrev pub up_by : ℕ → ℕ → ℕ
 up_by n address = (address + n) % 65536
 
 abbrev pub down_by : ℕ → ℕ → ℕ
 down_by n address = (address + (65536 - n)) % 65536
 
--- a byte that is counted down
+-- a byte less 1, modulo 256
 abbrev pub one_less : ℕ → ℕ
 one_less value = (value + 255) % 256
 
--- a signed distance away
+-- the address at a signed distance from another
 abbrev pub displaced : ℕ → ℤ → ℕ
 displaced address d = (address + cast_unsigned w16 d) % 65536
 
@@ -88,7 +88,7 @@ with_register Register.H value r = record r { h = value }
 with_register Register.L value r = record r { l = value }
 with_register Register.A value r = record r { a = value }
 
--- Pairs of them.
+-- Pairs of 8-bit registers.
 
 abbrev pub af : Registers → ℕ
 af r = 256 * r.a + byte_of r.flags
@@ -152,7 +152,7 @@ abbrev pub with_hl_or_index : HlOrIndex → ℕ → Cpu → Cpu
 with_hl_or_index HlOrIndex.Hl word cpu = record cpu { main = with_hl word cpu.main }
 with_hl_or_index (HlOrIndex.Index index) word cpu = with_index index word cpu
 
--- what is added to an index register
+-- the value that ADD IX or ADD IY adds
 abbrev pub addend_value : IndexRegister → Addend → Cpu → ℕ
 addend_value index Addend.Bc cpu = bc cpu.main
 addend_value index Addend.De cpu = de cpu.main

@@ -1,4 +1,4 @@
--- The types of an instruction's parts and of the machine, in one place for the files of this crate.
+-- The types of an instruction's parts and of the machine, collected for the files of this crate.
 pub use Rattle.z80_instr.specs.declared.Register.{Register}
 pub use Rattle.z80_instr.specs.declared.IndexRegister.{IndexRegister}
 pub use Rattle.z80_instr.specs.declared.Memory.{Memory as MemoryOperand}

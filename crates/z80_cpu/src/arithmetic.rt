@@ -2,7 +2,7 @@
 ghost use Rattle.std.specs.Prelude.{◌≡◌};
 ghost use Rattle.z80_cpu.specs.State.{machine};
 ghost use Rattle.z80_cpu.specs.Types.{Instr};
-ghost use Rattle.z80_cpu.specs.Effect.{effect};
+ghost use Rattle.z80_cpu.specs.Effect.{instruction_effect};
 ghost use Rattle.z80_cpu.specs.Arithmetic.{loaded_from_control, operated, adjusted_a, complemented_a, negated_a, added_to_hl, added_to_hl_with_carry, subtracted_from_hl, added_to_index, incremented, decremented};
 
 use crate::memory::Memory;
@@ -10,7 +10,7 @@ use crate::registers::Cpu;
 use z80_instr::{Addend, AluOperation, IndexRegister, Operand, RegisterPair, WordRegister};
 
 impl Cpu {
-    /// LD A,I and LD A,R, of the register's value.
+    /// LD A,I and LD A,R, with the value of I or R.
     #[inline(always)]
     pub fn load_from_control(&mut self, value: u8)
         ensures { self.new ≡ loaded_from_control value self.old }
@@ -31,7 +31,7 @@ impl Cpu {
     /// INC of a byte.
     #[inline(always)]
     pub fn increment(&mut self, memory: &mut Memory, operand: Operand)
-        ensures { machine self.new memory.new ≡ effect (Instr.Inc operand) (machine self.old memory.old) }
+        ensures { machine self.new memory.new ≡ instruction_effect (Instr.Inc operand) (machine self.old memory.old) }
     {
         let value = self.operand(memory, operand);
         let sum = self.main.flags.increment(value);
@@ -41,7 +41,7 @@ impl Cpu {
     /// DEC of a byte.
     #[inline(always)]
     pub fn decrement(&mut self, memory: &mut Memory, operand: Operand)
-        ensures { machine self.new memory.new ≡ effect (Instr.Dec operand) (machine self.old memory.old) }
+        ensures { machine self.new memory.new ≡ instruction_effect (Instr.Dec operand) (machine self.old memory.old) }
     {
         let value = self.operand(memory, operand);
         let difference = self.main.flags.decrement(value);

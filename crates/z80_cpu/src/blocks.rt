@@ -1,14 +1,14 @@
 //! Block transfer, search, input and output.
 ghost use Rattle.std.specs.Prelude.{◌≡◌};
 ghost use Rattle.z80_cpu.specs.State.{machine, byte_at, hl};
-ghost use Rattle.z80_cpu.specs.Blocks.{port_value, stepped, repeats, again_if, loaded, compared, counted_down, block};
+ghost use Rattle.z80_cpu.specs.Blocks.{port_value, stepped, repeats, again_if, loaded, compared, counted_down, block_effect};
 ghost use Rattle.z80_cpu.specs.Types.{BlockOperation};
 
 use crate::memory::Memory;
 use crate::registers::Cpu;
 use z80_instr::{BlockOperation, BlockStep};
 
-/// What a port gives: none is there.
+/// What IN reads: FFH, since there are no ports.
 pub const PORT_VALUE: u8 = 0xFF;
 
 #[inline(always)]
@@ -34,7 +34,7 @@ fn repeats(step: BlockStep) -> bool
 impl Cpu {
     #[inline(always)]
     pub fn block(&mut self, memory: &mut Memory, operation: BlockOperation, step: BlockStep)
-        ensures { machine self.new memory.new ≡ block operation step (machine self.old memory.old) }
+        ensures { machine self.new memory.new ≡ block_effect operation step (machine self.old memory.old) }
     {
         match operation {
             BlockOperation::Load => self.block_load(memory, step),
@@ -50,7 +50,7 @@ impl Cpu {
     /// LDI, LDD, LDIR and LDDR.
     #[inline(always)]
     fn block_load(&mut self, memory: &mut Memory, step: BlockStep)
-        ensures { machine self.new memory.new ≡ block BlockOperation.Load step (machine self.old memory.old) }
+        ensures { machine self.new memory.new ≡ block_effect BlockOperation.Load step (machine self.old memory.old) }
     {
         let (from, to) = (self.main.hl(), self.main.de());
         let count = self.main.bc().wrapping_sub(1);
@@ -83,7 +83,7 @@ impl Cpu {
         self.repeat_if(count != 0 && difference != 0, step);
     }
 
-    /// INI to OTDR but for the byte itself.
+    /// INI to OTDR, except for the byte itself.
     #[inline(always)]
     fn count_down(&mut self, step: BlockStep)
         ensures { self.new ≡ counted_down step self.old }
@@ -96,7 +96,7 @@ impl Cpu {
         self.repeat_if(count != 0, step);
     }
 
-    /// PC back to the instruction where a repeating form goes on.
+    /// Moves PC back to a repeating instruction that has to repeat.
     #[inline(always)]
     fn repeat_if(&mut self, more: bool, step: BlockStep)
         ensures { self.new ≡ again_if more step self.old }

@@ -2,7 +2,7 @@
 ghost use Rattle.std.specs.Prelude.{◌≡◌};
 ghost use Rattle.z80_cpu.specs.State.{machine};
 ghost use Rattle.z80_cpu.specs.Types.{Instr};
-ghost use Rattle.z80_cpu.specs.Effect.{effect};
+ghost use Rattle.z80_cpu.specs.Effect.{instruction_effect};
 ghost use Rattle.z80_cpu.specs.Exchange.{with_others_of, ex_de_hl, ex_af, exx};
 
 use crate::memory::Memory;
@@ -11,7 +11,7 @@ use std::mem;
 use z80_instr::HlOrIndex;
 
 impl Registers {
-    /// All but A and F exchanged with those of another set.
+    /// Exchanges all registers but A and F with those of another set.
     #[inline(always)]
     fn exchange(&mut self, other: &mut Registers)
         ensures own { self.new ≡ with_others_of other.old self.old }
@@ -55,7 +55,7 @@ impl Cpu {
     /// EX (SP),HL and EX (SP),IX.
     #[inline(always)]
     pub fn ex_sp(&mut self, memory: &mut Memory, register: HlOrIndex)
-        ensures { machine self.new memory.new ≡ effect (Instr.ExSp register) (machine self.old memory.old) }
+        ensures { machine self.new memory.new ≡ instruction_effect (Instr.ExSp register) (machine self.old memory.old) }
     {
         let word = memory.word(self.sp);
         memory.set_word(self.sp, self.hl_or_index(register));

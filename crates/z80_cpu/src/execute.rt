@@ -1,7 +1,7 @@
-//! Each instruction, PC being at the one that follows.
+//! Carries out each instruction. PC is already at the next one.
 ghost use Rattle.std.specs.Prelude.{◌≡◌};
 ghost use Rattle.z80_cpu.specs.State.{machine};
-ghost use Rattle.z80_cpu.specs.Effect.{effect};
+ghost use Rattle.z80_cpu.specs.Effect.{instruction_effect};
 
 use crate::blocks::PORT_VALUE;
 use crate::memory::Memory;
@@ -10,9 +10,9 @@ use crate::registers::Cpu;
 use z80_instr::{Instr, Rotation};
 
 impl Cpu {
-    /// What the instruction does, by the groups of the manual.
+    /// Carries out the instruction. The groups are those of the manual.
     pub fn execute(&mut self, memory: &mut Memory, instr: Instr)
-        ensures { machine self.new memory.new ≡ effect instr (machine self.old memory.old) }
+        ensures { machine self.new memory.new ≡ instruction_effect instr (machine self.old memory.old) }
     {
         match instr {
             // 8-bit load group

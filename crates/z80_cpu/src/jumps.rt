@@ -4,7 +4,7 @@ ghost use Rattle.z80_cpu.specs.State.{machine, displaced};
 ghost use Rattle.z80_cpu.specs.Operands.{condition_holds, short_condition_holds};
 ghost use Rattle.z80_cpu.specs.Jumps.{jumped_if, counted_and_jumped};
 ghost use Rattle.z80_cpu.specs.Types.{Instr};
-ghost use Rattle.z80_cpu.specs.Effect.{effect};
+ghost use Rattle.z80_cpu.specs.Effect.{instruction_effect};
 
 use crate::conditions::{condition_holds, short_condition_holds};
 use crate::memory::Memory;
@@ -48,7 +48,7 @@ impl Cpu {
     /// CALL cc.
     #[inline(always)]
     pub fn call_if(&mut self, memory: &mut Memory, condition: Cond, address: u16)
-        ensures { machine self.new memory.new ≡ effect (Instr.CallIf condition address) (machine self.old memory.old) }
+        ensures { machine self.new memory.new ≡ instruction_effect (Instr.CallIf condition address) (machine self.old memory.old) }
     {
         if condition_holds(condition, &self.main.flags) {
             self.call(memory, address);
@@ -58,16 +58,16 @@ impl Cpu {
     /// RET cc.
     #[inline(always)]
     pub fn ret_if(&mut self, memory: &Memory, condition: Cond)
-        ensures { machine self.new memory.now ≡ effect (Instr.RetIf condition) (machine self.old memory.now) }
+        ensures { machine self.new memory.now ≡ instruction_effect (Instr.RetIf condition) (machine self.old memory.now) }
     {
         if condition_holds(condition, &self.main.flags) {
             self.ret(memory);
         }
     }
 
-    /// RETN: interrupts are accepted as before the non-maskable one.
+    /// RETN: returns, and allows interrupts if they were allowed before the non-maskable one.
     pub fn retn(&mut self, memory: &Memory)
-        ensures { machine self.new memory.now ≡ effect Instr.Retn (machine self.old memory.now) }
+        ensures { machine self.new memory.now ≡ instruction_effect Instr.Retn (machine self.old memory.now) }
     {
         self.ret(memory);
         self.iff1 = self.iff2;

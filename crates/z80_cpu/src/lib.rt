@@ -1,9 +1,9 @@
 //! The registers of the Zilog Z80 and 64 KB of memory, and what each documented instruction does to them, by the Z80 CPU User
 //! Manual (UM0080).
 //!
-//! [`Cpu`] has the registers, [`Memory`] the bytes, and [`Cpu::execute`] carries out an instruction, PC being at the one that
-//! follows. Where the next instruction is found is another crate's matter. Time, interrupts and ports are left out: `IN` gives
-//! FFH, `OUT` goes nowhere, and R is a plain byte.
+//! [`Cpu`] has the registers, [`Memory`] the bytes, and [`Cpu::execute`] carries out an instruction, with PC at the next one.
+//! `z80_machine` finds the instruction at PC. Time, interrupts and ports are left out: `IN` gives FFH, `OUT` does nothing, and R is a
+//! plain byte.
 #![tactic(auto)]
 
 mod arithmetic;

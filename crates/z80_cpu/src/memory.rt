@@ -3,10 +3,10 @@
 use std::alloc::{AllocError, Global};
 use std::marker::Model;
 
-/// How many bytes there are: one for each address of 16 bits.
+/// The number of bytes: one for each address of 16 bits.
 pub const MEMORY_SIZE: usize = 65_536;
 
-/// 65,536 bytes. A contract sees their list.
+/// The memory: 65,536 bytes. In a contract it is the list of them.
 #[derive(Debug, Drop)]
 pub struct Memory {
     bytes: Vec<u8>,
@@ -27,7 +27,7 @@ impl Memory {
     ghost use Rattle.std.specs.Prelude.{◌≡◌, IfOk, replicate, slice_index, slice_set, length};
     ghost use Rattle.z80_cpu.specs.declared.memory.TheConstants.{MEMORY_SIZE};
 
-    /// Memory of zeros. Its only error is that memory runs out.
+    /// Memory in which all bytes are 0. The only error is that memory runs out.
     pub fn new(alloc: Global) -> Result<Memory, AllocError>
         ensures { IfOk result (λ memory. memory ≡ replicate MEMORY_SIZE 0) }
     {
@@ -59,7 +59,7 @@ impl Memory {
     ghost use Rattle.std.specs.Prelude.{◌≡◌};
     ghost use Rattle.z80_cpu.specs.State.{word_at, with_word_at};
 
-    /// The word at an address and the next, the low byte first.
+    /// The word at an address and the next one, low byte first.
     #[inline(always)]
     pub fn word(&self, address: u16) -> u16
         ensures { result ≡ word_at address self.now }
@@ -67,7 +67,7 @@ impl Memory {
         u16::from_le_bytes([self.get(address), self.get(address.wrapping_add(1))])
     }
 
-    /// Sets the word at an address and the next, the low byte first, and no other byte.
+    /// Sets the word at an address and the next one, low byte first, and no other byte.
     #[inline(always)]
     pub fn set_word(&mut self, address: u16, word: u16)
         ensures { self.new ≡ with_word_at address word self.old }

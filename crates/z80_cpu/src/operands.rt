@@ -7,7 +7,7 @@ use crate::memory::Memory;
 use crate::registers::Cpu;
 use z80_instr::{Memory as MemoryOperand, Operand, Pointer};
 
-/// The address that is a signed distance away.
+/// The address at a signed distance from another, modulo 65,536.
 #[inline(always)]
 pub fn displaced(address: u16, distance: i8) -> u16
     ensures { result ≡ displaced address distance }

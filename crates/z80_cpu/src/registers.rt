@@ -3,7 +3,7 @@
 use z80_alu::Flags;
 use z80_instr::{InterruptMode, Register};
 
-/// One of the two sets of registers. The low one of a pair comes first, as in a word of the host's memory.
+/// One of the two sets of registers. The low register of a pair comes first, as in a word of the host's memory.
 #[derive(Clone, Copy, Debug, Default, PartialEq, Eq)]
 pub struct Registers {
     pub a: u8,
@@ -131,9 +131,9 @@ pub struct Cpu {
     pub pc: u16,
     pub i: u8,
     pub r: u8,
-    /// The first interrupt flip-flop: interrupts are accepted.
+    /// The first interrupt flip-flop: whether interrupts are allowed.
     pub iff1: bool,
-    /// The second, which keeps the first during a non-maskable interrupt.
+    /// The second interrupt flip-flop, which keeps the first one during a non-maskable interrupt.
     pub iff2: bool,
     pub mode: InterruptMode,
 }
@@ -142,7 +142,7 @@ impl Cpu {
     ghost use Rattle.std.specs.Prelude.{◌≡◌};
     ghost use Rattle.z80_cpu.specs.Cleared.{cleared};
 
-    /// Every register 0, interrupts not accepted, in mode 0.
+    /// Every register is 0, and interrupts are not allowed, in mode 0.
     pub fn new() -> Cpu
         ensures { result ≡ cleared }
     {
@@ -166,7 +166,7 @@ impl Default for Cpu {
     ghost use Rattle.std.specs.Prelude.{◌≡◌};
     ghost use Rattle.z80_cpu.specs.Cleared.{cleared};
 
-    /// Every register 0, interrupts not accepted, in mode 0, as [`Cpu::new`].
+    /// Every register is 0, and interrupts are not allowed, in mode 0, as in [`Cpu::new`].
     fn default() -> Cpu
         ensures { result ≡ cleared }
     {

@@ -2,7 +2,7 @@
 ghost use Rattle.std.specs.Prelude.{◌≡◌};
 ghost use Rattle.z80_cpu.specs.State.{machine};
 ghost use Rattle.z80_cpu.specs.Types.{Instr};
-ghost use Rattle.z80_cpu.specs.Effect.{effect};
+ghost use Rattle.z80_cpu.specs.Effect.{instruction_effect};
 ghost use Rattle.z80_cpu.specs.Arithmetic.{rotated_a};
 
 use crate::memory::Memory;
@@ -11,7 +11,7 @@ use z80_alu::{reset_bit, set_bit};
 use z80_instr::{Octal, Operand, Rotation};
 
 impl Cpu {
-    /// RLCA, RLA, RRCA and RRA, of the rotation's name without the A.
+    /// RLCA, RLA, RRCA and RRA. `rotation` is the one with the same name but for the A.
     #[inline(always)]
     pub fn rotate_accumulator(&mut self, rotation: Rotation)
         ensures { self.new ≡ rotated_a rotation self.old }
@@ -20,7 +20,7 @@ impl Cpu {
     }
 
     pub fn rotate(&mut self, memory: &mut Memory, rotation: Rotation, operand: Operand)
-        ensures { machine self.new memory.new ≡ effect (Instr.Rotate rotation operand) (machine self.old memory.old) }
+        ensures { machine self.new memory.new ≡ instruction_effect (Instr.Rotate rotation operand) (machine self.old memory.old) }
     {
         let value = self.operand(memory, operand);
         let outcome = self.main.flags.rotate(rotation, value);
@@ -30,7 +30,7 @@ impl Cpu {
     /// RLD.
     #[inline(always)]
     pub fn rotate_digits_left(&mut self, memory: &mut Memory)
-        ensures { machine self.new memory.new ≡ effect Instr.Rld (machine self.old memory.old) }
+        ensures { machine self.new memory.new ≡ instruction_effect Instr.Rld (machine self.old memory.old) }
     {
         let address = self.main.hl();
         let (a, value) = self
@@ -44,7 +44,7 @@ impl Cpu {
     /// RRD.
     #[inline(always)]
     pub fn rotate_digits_right(&mut self, memory: &mut Memory)
-        ensures { machine self.new memory.new ≡ effect Instr.Rrd (machine self.old memory.old) }
+        ensures { machine self.new memory.new ≡ instruction_effect Instr.Rrd (machine self.old memory.old) }
     {
         let address = self.main.hl();
         let (a, value) = self
@@ -57,7 +57,7 @@ impl Cpu {
 
     /// SET.
     pub fn set_bit(&mut self, memory: &mut Memory, bit: Octal, operand: Operand)
-        ensures { machine self.new memory.new ≡ effect (Instr.Set bit operand) (machine self.old memory.old) }
+        ensures { machine self.new memory.new ≡ instruction_effect (Instr.Set bit operand) (machine self.old memory.old) }
     {
         let value = self.operand(memory, operand);
         self.set_operand(memory, operand, set_bit(bit, value));
@@ -65,7 +65,7 @@ impl Cpu {
 
     /// RES.
     pub fn reset_bit(&mut self, memory: &mut Memory, bit: Octal, operand: Operand)
-        ensures { machine self.new memory.new ≡ effect (Instr.Res bit operand) (machine self.old memory.old) }
+        ensures { machine self.new memory.new ≡ instruction_effect (Instr.Res bit operand) (machine self.old memory.old) }
     {
         let value = self.operand(memory, operand);
         self.set_operand(memory, operand, reset_bit(bit, value));

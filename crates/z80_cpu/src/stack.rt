@@ -7,7 +7,7 @@ use crate::memory::Memory;
 use crate::registers::Cpu;
 
 impl Cpu {
-    /// Puts a word on the stack: PUSH.
+    /// PUSH: puts a word on the stack.
     #[inline(always)]
     pub fn push(&mut self, memory: &mut Memory, word: u16)
         ensures { machine self.new memory.new ≡ pushed word (machine self.old memory.old) }
@@ -16,7 +16,7 @@ impl Cpu {
         memory.set_word(self.sp, word);
     }
 
-    /// Takes a word off the stack: POP.
+    /// POP: takes a word off the stack.
     #[inline(always)]
     pub fn pop(&mut self, memory: &Memory) -> u16
         ensures value { result ≡ top self.old memory.now }
@@ -36,7 +36,7 @@ impl Cpu {
         self.pc = address;
     }
 
-    /// Takes PC off the stack: RET.
+    /// RET: takes PC off the stack.
     #[inline(always)]
     pub fn ret(&mut self, memory: &Memory)
         ensures { self.new ≡ returned memory.now self.old }

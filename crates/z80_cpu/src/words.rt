@@ -1,4 +1,4 @@
-//! Registers of 16 bits, by the names that instructions have for them.
+//! Registers of 16 bits, by the types that instructions have for them.
 ghost use Rattle.std.specs.Prelude.{◌≡◌};
 ghost use Rattle.z80_cpu.specs.State.{index_value, with_index, pair_value, with_pair, word_value, with_word, hl_or_index_value, with_hl_or_index, addend_value, stack_operand_value, with_stack_operand};
 

@@ -1,4 +1,4 @@
--- How many bytes a canonical spelling has, by its row.
+-- The number of bytes in a canonical encoding, by its row.
 use Rattle.std.proofs.Common.{◌≤◌, length, arith}
 use Rattle.z80_instr.specs.declared.Memory.{Memory}
 use Rattle.z80_instr.specs.declared.Operand.{Operand}

@@ -1,2 +1,2 @@
--- What private contracts alone cite: no reviewer need believe it.
+-- Definitions that only private contracts use, so no public promise depends on them.
 pub mod Writes

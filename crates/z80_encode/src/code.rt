@@ -1,4 +1,4 @@
-//! The codes of the fields of an opcode.
+//! The codes of registers, conditions and operations in an opcode.
 ghost use Rattle.std.specs.Prelude.{◌≡◌, ◌<◌};
 ghost use Rattle.z80_instr.specs.Table;
 ghost use Rattle.z80_encode.specs.Private.Writes.{operand_code};
@@ -23,7 +23,7 @@ pub(crate) fn register_code(register: Register) -> u8
     }
 }
 
-/// A register's code; 6 for a byte in memory.
+/// The code of a register, or 6 for a byte in memory.
 pub(crate) fn operand_code(operand: Operand) -> u8
     ensures code { result ≡ operand_code operand }
     ensures small { result < 8 }

@@ -1,4 +1,4 @@
-//! How many bytes the canonical spelling of an instruction has.
+//! The number of bytes in the canonical encoding of an instruction.
 ghost use Rattle.std.specs.Prelude.{◌≡◌, ◌+◌, ◌<◌, ◌≤◌, ℕ, length};
 ghost use Rattle.z80_instr.specs.declared.Instr.{Instr};
 ghost use Rattle.z80_instr.specs.declared.Register.{Register};
@@ -11,7 +11,7 @@ use z80_instr::{
     HlOrIndex, Instr, Memory, Operand, Pointer, RegisterPair, StackOperand, WordRegister,
 };
 
-/// The length of an instruction of one opcode on an operand; a second opcode or a number adds 1.
+/// The length of an instruction with one opcode byte and this operand. A second opcode byte or a number adds 1.
 fn operand_size(operand: Operand) -> u8
     ensures load { (r : Register) → result ≡ length (canonical (Instr.Load r operand)) }
     ensures alu { (a : AluOperation) → result ≡ length (canonical (Instr.Alu a operand)) }
@@ -29,7 +29,7 @@ fn operand_size(operand: Operand) -> u8
     }
 }
 
-/// The length of the canonical spelling, 1 to 4.
+/// The length of the canonical encoding, 1 to 4.
 pub fn size(instr: &Instr) -> u8
     ensures length { result ≡ length (canonical instr.now) }
     ensures least { 0 < result }

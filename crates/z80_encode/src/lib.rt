@@ -1,4 +1,4 @@
-//! From instructions of the Z80 to bytes: how many, and which.
+//! Writes the bytes of an instruction of the Z80, and tells how many they are.
 #![tactic(auto)]
 
 ghost use Rattle.std.specs.Prelude.{◌≡◌, ◌≤◌, ◌++◌, length, drop};
@@ -22,7 +22,7 @@ use put::{
 };
 use z80_instr::{Instr, InterruptMode};
 
-/// Writes the canonical spelling of an instruction at the front of the buffer, and returns its length.
+/// Writes the canonical encoding of an instruction at the front of the buffer, and answers its length.
 ///
 /// The other bytes of the buffer stay as they are.
 pub fn encode(instr: &Instr, out: &mut [u8; 4]) -> u8
@@ -35,7 +35,7 @@ pub fn encode(instr: &Instr, out: &mut [u8; 4]) -> u8
     put_instr(out, instr)
 }
 
-/// Writes the spelling, an arm for each instruction in the manual's groups and order.
+/// Writes the encoding, with an arm for each instruction in the manual's groups and order.
 fn put_instr(out: &mut [u8; 4], instr: Instr) -> u8
     ensures codes { Codes instr (canonical instr) }
     ensures spells { Spells instr out.old out.new result }

@@ -1,4 +1,4 @@
-//! Writes the spellings of instructions that differ by their operand alone.
+//! Writes the encodings of instructions that differ only in an operand.
 ghost use Rattle.std.specs.Prelude.{◌≡◌, ◌+◌, ◌*◌, ◌≤◌, ◌∷◌, length};
 ghost use Rattle.z80_instr.specs.declared.Instr.{Instr};
 ghost use Rattle.z80_instr.specs.declared.Register.{Register};
@@ -13,7 +13,7 @@ use z80_instr::{
     HlOrIndex, Memory, Operand, Pointer, Register, RegisterPair, StackOperand, WordRegister,
 };
 
-/// Writes the bytes at the front of the buffer, and returns how many they are.
+/// Writes the bytes at the front of the buffer, and answers how many they are.
 pub(crate) fn put(out: &mut [u8; 4], bytes: &[u8]) -> u8
     requires { length bytes.now ≤ 4 }
     ensures { Writes bytes.now out.old out.new result }
@@ -22,7 +22,7 @@ pub(crate) fn put(out: &mut [u8; 4], bytes: &[u8]) -> u8
     bytes.len() as u8
 }
 
-/// Writes an instruction of one opcode on an operand. The operand's code is in the opcode already.
+/// Writes an instruction with one opcode byte and this operand. The opcode already has the operand's code in it.
 pub(crate) fn put_operand(out: &mut [u8; 4], opcode: u8, operand: Operand) -> u8
     ensures load { (r : Register) → opcode ≡ 0x40 + 8 * Table.register_code r + operand_code operand →
         Spells (Instr.Load r operand) out.old out.new result }
@@ -41,7 +41,7 @@ pub(crate) fn put_operand(out: &mut [u8; 4], opcode: u8, operand: Operand) -> u8
     }
 }
 
-/// Writes an instruction with an opcode after CB. The operand's code is in the opcode already.
+/// Writes an instruction with an opcode after CB. The opcode already has the operand's code in it.
 pub(crate) fn put_bits(out: &mut [u8; 4], opcode: u8, operand: Operand) -> u8
     ensures rotate { (t : Rotation) → opcode ≡ 8 * Table.rotation_code t + operand_code operand →
         Spells (Instr.Rotate t operand) out.old out.new result }
@@ -84,7 +84,7 @@ pub(crate) fn put_load_byte(out: &mut [u8; 4], operand: Operand, n: u8) -> u8
     }
 }
 
-/// Writes LD between A and a byte that only A is moved from or to, by the opcode at (BC).
+/// Writes LD between A and a byte that only A can be loaded from or stored to. `opcode` is that for (BC).
 pub(crate) fn put_pointer(out: &mut [u8; 4], opcode: u8, pointer: Pointer) -> u8
     requires { opcode ≤ 0x0A }
     ensures load { opcode ≡ 0x0A → Spells (Instr.LoadA pointer) out.old out.new result }
@@ -111,7 +111,7 @@ pub(crate) fn put_load_word(out: &mut [u8; 4], register: WordRegister, nn: u16) 
     }
 }
 
-/// Writes LD between a register and the word at an address, by the opcode of HL and, after ED, of BC.
+/// Writes LD between a register and the word at an address. `opcode` is that for HL, and `extended` the one after ED for BC.
 pub(crate) fn put_word_at(
     out: &mut [u8; 4],
     opcode: u8,
@@ -145,7 +145,7 @@ pub(crate) fn put_hl_or_index(out: &mut [u8; 4], opcode: u8, register: HlOrIndex
     }
 }
 
-/// Writes PUSH or POP, by the opcode of BC.
+/// Writes PUSH or POP. `opcode` is that for BC.
 pub(crate) fn put_stack(out: &mut [u8; 4], opcode: u8, operand: StackOperand) -> u8
     requires { opcode ≤ 0xC5 }
     ensures push { opcode ≡ 0xC5 → Spells (Instr.Push operand) out.old out.new result }
@@ -160,7 +160,7 @@ pub(crate) fn put_stack(out: &mut [u8; 4], opcode: u8, operand: StackOperand) ->
     }
 }
 
-/// Writes INC or DEC of a 16-bit register, by the opcode of BC.
+/// Writes INC or DEC of a 16-bit register. `opcode` is that for BC.
 pub(crate) fn put_count(out: &mut [u8; 4], opcode: u8, register: WordRegister) -> u8
     requires { opcode ≤ 0x0B }
     ensures inc { opcode ≡ 0x03 → Spells (Instr.IncWord register) out.old out.new result }
@@ -172,7 +172,7 @@ pub(crate) fn put_count(out: &mut [u8; 4], opcode: u8, register: WordRegister) -
     }
 }
 
-/// Writes an opcode and a word, its low byte first.
+/// Writes an opcode and a word, low byte first.
 pub(crate) fn put_word(out: &mut [u8; 4], opcode: u8, nn: u16) -> u8
     ensures { Writes (opcode ∷ Table.word nn) out.old out.new result }
 {

@@ -1,10 +1,10 @@
--- Tests over the forms of an operand.
+-- Tests over all forms of an operand.
 use Rattle.std.proofs.Common.{◌≡◌, List, [], ◌∷◌, ap, get_or}
 use Rattle.z80_instr.proofs.Finite.{Finite, indexes}
 use Rattle.z80_form.proofs.Words.Finite.{names}
 use Rattle.z80_form.specs.Types.{Pointed, Form}
 
--- the forms that are no name and name no index register
+-- the forms that are no name and contain no index register
 abbrev pub others : (X : Type 0) → (Form → X) → List X
 others X f = f (Form.At Pointed.Hl) ∷ f (Form.At Pointed.Bc) ∷ f (Form.At Pointed.De) ∷ f (Form.At Pointed.Sp) ∷ f (Form.At Pointed.C) ∷ f Form.AtNumber ∷ f Form.Number ∷ []
 

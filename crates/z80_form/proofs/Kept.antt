@@ -1,9 +1,9 @@
--- Numbers put in change neither the row, nor what is filled, nor the length of the bytes.
+-- Putting numbers in changes neither the row, nor which fields are filled, nor the count of bytes.
 use Rattle.std.proofs.Common.{◌≡◌, ℕ, List, [], ◌∷◌, refl, ap, ◌∙◌, length, ℤ, pos}
 use Rattle.z80_instr.specs.Table.{canonical}
 use Rattle.z80_form.specs.Types.{Memory, Operand, Pointer, RegisterPair, WordRegister, Octal, InterruptMode, Instr, Field, Mnemonic, Form, Name}
-use Rattle.z80_form.specs.Rows.{row, operand, memory, pointer, register, two, one, on_a}
-use Rattle.z80_form.specs.Numbers.{memory_at, operand_at, pointer_at, with_displacement, with_byte, with_word, with_distance, with_bit, with_mode, with_restart, with_number, with_numbers, number_field, field_of, blank}
+use Rattle.z80_form.specs.Rows.{row, operand_form, memory, pointer, register, two, one, on_a}
+use Rattle.z80_form.specs.Numbers.{memory_at, operand_at, pointer_at, with_displacement, with_byte, with_word_operand, with_distance, with_bit, with_mode, with_restart, with_number, with_numbers, number_field, field_of, with_zeros}
 
 -- Rows.
 
@@ -11,7 +11,7 @@ memory_steady : (d : ℤ) (m : Memory) → memory (memory_at d m) ≡ memory m
 memory_steady d Memory.Hl = refl
 memory_steady d (Memory.Indexed x e) = refl
 
-operand_steady : (d : ℤ) (s : Operand) → operand (operand_at d s) ≡ operand s
+operand_steady : (d : ℤ) (s : Operand) → operand_form (operand_at d s) ≡ operand_form s
 operand_steady d (Operand.Register r) = refl
 operand_steady d (Operand.Memory m) = memory_steady d m
 
@@ -37,7 +37,7 @@ row_byte : (n : ℕ) (i : Instr) → row (with_byte n i) ≡ row i
 row_byte n (Instr.LoadByte m k) = refl
 row_byte n _ = refl
 
-row_word : (nn : ℕ) (i : Instr) → row (with_word nn i) ≡ row i
+row_word : (nn : ℕ) (i : Instr) → row (with_word_operand nn i) ≡ row i
 row_word nn (Instr.LoadA p) = ap (two Mnemonic.Ld (Form.Name Name.A)) (pointer_steady nn p)
 row_word nn (Instr.StoreA p) = ap (λ f. two Mnemonic.Ld f (Form.Name Name.A)) (pointer_steady nn p)
 row_word nn _ = refl
@@ -110,7 +110,7 @@ size_byte n (Instr.LoadByte (Operand.Memory Memory.Hl) m) = refl
 size_byte n (Instr.LoadByte (Operand.Memory (Memory.Indexed x k)) m) = refl
 size_byte n _ = refl
 
-size_word : (nn : ℕ) (i : Instr) → size (with_word nn i) ≡ size i
+size_word : (nn : ℕ) (i : Instr) → size (with_word_operand nn i) ≡ size i
 size_word nn (Instr.LoadA Pointer.Bc) = refl
 size_word nn (Instr.LoadA Pointer.De) = refl
 size_word nn (Instr.LoadA (Pointer.Address mm)) = refl
@@ -185,9 +185,9 @@ pub sizes_steady : (ns : List (Field × ℕ)) (i : Instr) → length (canonical 
 sizes_steady [] i = refl
 sizes_steady (n ∷ ns) i = sizes_steady ns (with_number n.0 n.1 i) ∙ size_steady n.0 n.1 i
 
--- What an operand's expression fills.
+-- The field that an operand's expression fills.
 
-number_word : (nn : ℕ) (i : Instr) → number_field (with_word nn i) ≡ number_field i
+number_word : (nn : ℕ) (i : Instr) → number_field (with_word_operand nn i) ≡ number_field i
 number_word nn (Instr.LoadA Pointer.Bc) = refl
 number_word nn (Instr.LoadA Pointer.De) = refl
 number_word nn (Instr.LoadA (Pointer.Address mm)) = refl
@@ -245,7 +245,7 @@ operand_flat : (s : Operand) → operand_at (pos 0) (operand_at (pos 0) s) ≡ o
 operand_flat (Operand.Register r) = refl
 operand_flat (Operand.Memory m) = ap Operand.Memory (memory_flat m)
 
-pub blank_is_flat : (i : Instr) → with_displacement (pos 0) (blank i) ≡ blank i
+pub blank_is_flat : (i : Instr) → with_displacement (pos 0) (with_zeros i) ≡ with_zeros i
 blank_is_flat (Instr.Load r s) = ap (λ s. Instr.Load r s) (operand_flat s)
 blank_is_flat (Instr.Store m r) = ap (λ m. Instr.Store m r) (memory_flat m)
 blank_is_flat (Instr.LoadByte m n) = ap (λ s. Instr.LoadByte s 0) (operand_flat m)

@@ -1,4 +1,5 @@
--- Every instruction is that of its row with its numbers put in: a test for each row of the table.
+-- Every instruction whose numbers are within their types is that of its row with these numbers put in: one test for each row of the
+-- table.
 use Rattle.std.proofs.Common.{◌≡◌, ℕ, ◌-◌, ◌*◌, ◌/◌, ◌%◌, ◌<◌, List, [], ◌∷◌, true, refl, ℤ, pos, negsuc, arith}
 use Rattle.std.proofs.lemmas.Bool.{ltb-true, and_parts}
 use Rattle.std.proofs.lemmas.List.Elements.{All-cons}
@@ -6,7 +7,7 @@ use Rattle.z80_instr.specs.Table.{octal_code, octal_of}
 use Rattle.z80_instr.specs.Codes.{in_range, is_signed_byte}
 use Rattle.z80_instr.proofs.Finite.{agree_below, ◌⊗◌, registers, indexes, pairs, addends, conditions, short_conditions, operations, rotations, octals, block_operations, block_steps}
 use Rattle.z80_form.specs.Types.{Memory, Operand, Pointer, WordRegister, HlOrIndex, StackOperand, Octal, InterruptMode, Instr, Field}
-use Rattle.z80_form.specs.Numbers.{allows, fields, signed, with_number, blank, HasNumbers}
+use Rattle.z80_form.specs.Numbers.{allows, fields, signed, with_number, with_zeros, HasNumbers}
 
 -- Numbers in fields.
 
@@ -48,13 +49,13 @@ Allowed n = allows n.0 n.1 ≡ true
 abbrev Numbered : Instr → Type 0
 Numbered instr = (numbers : List (Field × ℕ)) × HasNumbers instr numbers
 
-none : (instr : Instr) → [] ≡ fields instr → blank instr ≡ instr → Numbered instr
+none : (instr : Instr) → [] ≡ fields instr → with_zeros instr ≡ instr → Numbered instr
 none instr f e = ([], record { fields_are = f; allowed = λ k d h. absurd (omega arith); filled = e })
 
-one_number : (instr : Instr) (field : Field) (n : ℕ) → field ∷ [] ≡ fields instr → allows field n ≡ true → with_number field n (blank instr) ≡ instr → Numbered instr
+one_number : (instr : Instr) (field : Field) (n : ℕ) → field ∷ [] ≡ fields instr → allows field n ≡ true → with_number field n (with_zeros instr) ≡ instr → Numbered instr
 one_number instr field n f ok e = ((field, n) ∷ [], record { fields_are = f; allowed = All-cons Allowed (field, n) [] ok (λ k d h. absurd (omega arith)); filled = e })
 
-two_numbers : (instr : Instr) (a b : Field) (m n : ℕ) → a ∷ b ∷ [] ≡ fields instr → allows a m ≡ true → allows b n ≡ true → with_number b n (with_number a m (blank instr)) ≡ instr → Numbered instr
+two_numbers : (instr : Instr) (a b : Field) (m n : ℕ) → a ∷ b ∷ [] ≡ fields instr → allows a m ≡ true → allows b n ≡ true → with_number b n (with_number a m (with_zeros instr)) ≡ instr → Numbered instr
 two_numbers instr a b m n f first second e = ((a, m) ∷ (b, n) ∷ [], record { fields_are = f; allowed = All-cons Allowed (a, m) ((b, n) ∷ []) first (All-cons Allowed (b, n) [] second (λ k d h. absurd (omega arith))); filled = e })
 
 pub complete : (instr : Instr) → in_range instr ≡ true → Numbered instr

@@ -1,4 +1,4 @@
--- Where the numbers stand in the bytes: a test for each row that has one.
+-- Where the numbers are in the bytes: one test for each row that has one.
 use Rattle.std.proofs.Common.{◌≡◌, ℕ, ◌%◌, [], ◌∷◌, ◌++◌, refl, ap, arith, true, Some}
 use Rattle.std.specs.Prelude.{slice_set}
 use Rattle.std.specs.Int.{w8, cast_unsigned}
@@ -43,7 +43,7 @@ word_last (Instr.Call nn) value h = refl
 word_last (Instr.CallIf condition nn) value h = refl
 word_last _ value h = absurd cc
 
--- the byte of the signed number of a low byte is that byte
+-- a low byte as a signed number and back is the same byte
 signed_byte : (value : ℕ) → cast_unsigned w8 (signed value) ≡ value % 256
 signed_byte value = of_z-to_z w8 (value % 256) (omega arith)
 
@@ -59,7 +59,7 @@ distance_last (Instr.StoreA Pointer.De) value h = absurd cc
 distance_last (Instr.StoreA (Pointer.Address nn)) value h = absurd cc
 distance_last _ value h = absurd cc
 
--- the third byte is the displacement's
+-- the third byte is the displacement
 third : (instr : Instr) (value : ℕ) → canonical (with_number Field.Displacement value instr) ≡ slice_set (canonical instr) 2 (cast_unsigned w8 (signed value)) → canonical (with_number Field.Displacement value instr) ≡ slice_set (canonical instr) 2 (value % 256)
 third instr value e = rw (signed_byte value) at e
 

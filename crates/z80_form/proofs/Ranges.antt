@@ -1,11 +1,11 @@
--- Allowed numbers put in are of their types, and so are zeros.
+-- Allowed numbers are within their types, and so are zeros.
 use Rattle.std.proofs.Common.{◌≡◌, ℕ, ◌%◌, Bool, true, ◌&&◌, nat_lt, refl, arith, ℤ}
 use Rattle.std.specs.Int.{w8, cast_signed}
 use Rattle.std.proofs.lemmas.Bool.{lt-ltb, and_parts}
 use Rattle.z80_instr.specs.Codes.{in_range, is_signed_byte, memory_in_range, operand_in_range, pointer_in_range}
 use Rattle.z80_instr.proofs.Finite.{agree_below}
 use Rattle.z80_form.specs.Types.{Memory, Operand, Pointer, Octal, InterruptMode, Instr, Field}
-use Rattle.z80_form.specs.Numbers.{allows, signed, memory_at, operand_at, pointer_at, with_byte, with_word, with_displacement, with_distance, with_bit, with_mode, with_restart, with_number, blank}
+use Rattle.z80_form.specs.Numbers.{allows, signed, memory_at, operand_at, pointer_at, with_byte, with_word_operand, with_displacement, with_distance, with_bit, with_mode, with_restart, with_number, with_zeros}
 
 both : (a b : Bool) → a ≡ true → b ≡ true → (a && b) ≡ true
 both a b e f = rw (e, f) refl
@@ -36,7 +36,7 @@ range_byte n small (Instr.InA k) ok = small
 range_byte n small (Instr.OutA k) ok = small
 range_byte n small _ ok = ok
 
-range_word : (nn : ℕ) → nat_lt nn 65536 ≡ true → (i : Instr) → in_range i ≡ true → in_range (with_word nn i) ≡ true
+range_word : (nn : ℕ) → nat_lt nn 65536 ≡ true → (i : Instr) → in_range i ≡ true → in_range (with_word_operand nn i) ≡ true
 range_word nn small (Instr.LoadA p) ok = pointer_range nn small p
 range_word nn small (Instr.StoreA p) ok = pointer_range nn small p
 range_word nn small (Instr.LoadWord dd k) ok = small
@@ -90,7 +90,7 @@ range_kept Field.Bit value i allowed ok = range_bit _ i ok
 range_kept Field.Mode value i allowed ok = range_mode _ i ok
 range_kept Field.Restart value i allowed ok = range_restart _ i ok
 
-pub blank_range : (i : Instr) → in_range (blank i) ≡ true
+pub blank_range : (i : Instr) → in_range (with_zeros i) ≡ true
 blank_range (Instr.Load r (Operand.Register s)) = refl
 blank_range (Instr.Load r (Operand.Memory Memory.Hl)) = refl
 blank_range (Instr.Load r (Operand.Memory (Memory.Indexed x d))) = refl

@@ -1,20 +1,20 @@
--- Each instruction is read from its row, with (IX+d) and with (IX): a test for each row of the table.
+-- Each instruction is read from its row, with (IX+d) and with (IX): one test for each row of the table.
 use Rattle.std.proofs.Common.{◌≡◌, ◌⊎◌, ◌++◌, inl, inr, List, Option, Some, refl, ap, sym, ◌∙◌, map}
 use Rattle.z80_instr.proofs.Finite.{Finite, ◌⊗◌, registers, indexes, pairs, addends, conditions, short_conditions, operations, rotations, octals, block_operations, block_steps}
 use Rattle.z80_form.specs.Types.{Memory, Operand, Pointer, WordRegister, HlOrIndex, StackOperand, InterruptMode, Instr, Form, Field, Mnemonic}
 use Rattle.z80_form.specs.Rows.{row}
 use Rattle.z80_form.specs.Spelling.{without_displacement, Spells}
-use Rattle.z80_form.specs.Numbers.{blank, fields, fields_of, displacement_fields, number_fields}
+use Rattle.z80_form.specs.Numbers.{with_zeros, fields, fields_of, displacement_fields, number_fields}
 use Rattle.z80_form.specs.Private.Reading.{instruction_read}
 
--- the bit stands before the displacement, a byte behind it
+-- the fields of an instruction in the order of its operands: a bit comes before the displacement, a byte after it
 abbrev ordered : Instr → List Field
 ordered (Instr.Bit b m) = number_fields (Instr.Bit b m) ++ displacement_fields (Instr.Bit b m)
 ordered (Instr.Set b m) = number_fields (Instr.Set b m) ++ displacement_fields (Instr.Set b m)
 ordered (Instr.Res b m) = number_fields (Instr.Res b m) ++ displacement_fields (Instr.Res b m)
 ordered instr = displacement_fields instr ++ number_fields instr
 
--- what is read of both texts of an instruction, and what their expressions fill; and what that is to be
+-- what both source forms of an instruction are read as, and which fields their expressions fill; and what these should be
 abbrev Texts : Type 0
 Texts = Option Instr × Option Instr × List Field × List Field
 
@@ -25,7 +25,7 @@ abbrev reading : Instr → Texts
 reading instr = (instruction_read (row instr).mnemonic (row instr).operands, instruction_read (row instr).mnemonic (short instr), fields instr, fields_of instr (short instr))
 
 abbrev answer : Instr → Texts
-answer instr = (Some (blank instr), Some (blank instr), ordered instr, number_fields instr)
+answer instr = (Some (with_zeros instr), Some (with_zeros instr), ordered instr, number_fields instr)
 
 -- the rows of a family over a finite type
 over : {A : Type 0} (V : Finite A) (f : A → Instr) → V.values _ (λ a. reading (f a)) ≡ V.values _ (λ a. answer (f a)) → (a : A) → reading (f a) ≡ answer (f a)
@@ -141,16 +141,16 @@ both (Instr.InC a) = over registers (λ a. Instr.InC a) refl a
 both (Instr.OutA n) = refl
 both (Instr.OutC a) = over registers (λ a. Instr.OutC a) refl a
 
--- What spells an instruction is read as that instruction.
-pub found : (m : Mnemonic) (operands : List Form) (instr : Instr) → Spells m operands instr → instruction_read m operands ≡ Some (blank instr)
+-- A source form of an instruction is read as that instruction.
+pub found : (m : Mnemonic) (operands : List Form) (instr : Instr) → Spells m operands instr → instruction_read m operands ≡ Some (with_zeros instr)
 found m operands instr spells =
     let word : instruction_read m operands ≡ instruction_read (row instr).mnemonic operands = ap (λ w. instruction_read w operands) (sym spells.mnemonic_is) in
-    elim spells.operands_are as (λ _. instruction_read m operands ≡ Some (blank instr)) [
+    elim spells.operands_are as (λ _. instruction_read m operands ≡ Some (with_zeros instr)) [
       | inl long ↦ word ∙ ap (instruction_read (row instr).mnemonic) long ∙ ap (λ (p : Texts). p.0) (both instr)
       | inr flat ↦ word ∙ ap (instruction_read (row instr).mnemonic) flat.0 ∙ ap (λ (p : Texts). p.1) (both instr)
     ]
 
--- What the expressions of both texts fill.
+-- The fields that the expressions of both source forms fill.
 either_order : (instr : Instr) → (ordered instr ≡ displacement_fields instr ++ number_fields instr) ⊎ (ordered instr ≡ number_fields instr ++ displacement_fields instr)
 either_order (Instr.Bit b m) = inr refl
 either_order (Instr.Set b m) = inr refl

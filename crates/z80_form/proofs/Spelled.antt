@@ -1,14 +1,14 @@
--- A number put in for an operand that has it leaves the instruction one that the text spells.
+-- An instruction keeps its source form when a number is put into a field of one of its operands.
 use Rattle.std.proofs.Common.{◌≡◌, ◌≢◌, ℕ, inl, inr, Bool, true, false, List, [], ◌∷◌, Option, Some, None, All, refl, ap, sym, ◌∙◌, map, ℤ, pos, subst}
 use Rattle.std.specs.List.{Contains, cons_option}
 use Rattle.std.proofs.lemmas.List.Elements.{All-nil, All-cons, All-head, All-tail, All-contains}
 use Rattle.z80_form.specs.Types.{Pointer, Octal, InterruptMode, Instr, Form, Field, Mnemonic}
 use Rattle.z80_form.specs.Rows.{row}
-use Rattle.z80_form.specs.Numbers.{field_of, fields_of, number_field, with_byte, with_word, with_displacement, with_distance, with_bit, with_mode, with_restart, with_number, with_numbers}
+use Rattle.z80_form.specs.Numbers.{field_of, fields_of, number_field, with_byte, with_word_operand, with_displacement, with_distance, with_bit, with_mode, with_restart, with_number, with_numbers}
 use Rattle.z80_form.specs.Spelling.{without_displacement, AreOperands, Spells}
 use Rattle.z80_form.proofs.Kept.{row_steady, field_steady}
 
--- The number of an instruction is no displacement.
+-- The number field of an instruction is no displacement.
 
 abbrev is_displacement : Option Field → Bool
 is_displacement (Some Field.Displacement) = true
@@ -45,13 +45,13 @@ others i (Form.Displaced x ∷ forms) = others i forms
 others i (Form.AtNumber ∷ forms) = of_number (number_field i) (fields_of i (map without_displacement forms)) (number_is_other i) (others i forms)
 others i (Form.Number ∷ forms) = of_number (number_field i) (fields_of i (map without_displacement forms)) (number_is_other i) (others i forms)
 
--- Another number leaves the displacement.
+-- Putting another number in does not change the displacement.
 
 past_byte : (d : ℤ) (n : ℕ) (i : Instr) → with_displacement d (with_byte n i) ≡ with_byte n (with_displacement d i)
 past_byte d n (Instr.LoadByte m k) = refl
 past_byte d n _ = refl
 
-past_word : (d : ℤ) (nn : ℕ) (i : Instr) → with_displacement d (with_word nn i) ≡ with_word nn (with_displacement d i)
+past_word : (d : ℤ) (nn : ℕ) (i : Instr) → with_displacement d (with_word_operand nn i) ≡ with_word_operand nn (with_displacement d i)
 past_word d nn (Instr.LoadA p) = refl
 past_word d nn _ = refl
 

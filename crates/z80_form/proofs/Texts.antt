@@ -1,4 +1,4 @@
--- What is read has the row that was read: a test for each mnemonic over the forms.
+-- The instruction that is read has the row that was read: one test for each mnemonic, over all forms.
 use Rattle.std.proofs.Common.{◌≡◌, ◌≢◌, not, arith, inl, inr, ◌↔◌, List, [], ◌∷◌, Option, Some, None, Bool, true, false, ◌||◌, refl, ap, sym, subst, ◌∙◌, map, cond, length, pos}
 use Rattle.std.specs.Option.{option_map, is_some, IfSome}
 use Rattle.std.specs.List.{list_all}
@@ -9,20 +9,20 @@ use Rattle.z80_form.specs.Types.{AluOperation, Instr, Form, Mnemonic, Field}
 use Rattle.z80_form.specs.Rows.{row}
 use Rattle.z80_form.specs.Spelling.{without_displacement, Spells, AreOperands, instruction_of}
 use Rattle.z80_instr.specs.Table.{canonical}
-use Rattle.z80_form.specs.Numbers.{zeros, blank, with_displacement, field_of, has_expression, HasFields}
+use Rattle.z80_form.specs.Numbers.{zeros, with_zeros, with_displacement, field_of, has_expression, HasFields}
 use Rattle.z80_form.specs.Private.Reading.{instruction_read, two_read}
 use Rattle.z80_form.proofs.Words.Finite.{mnemonics}
 use Rattle.z80_form.proofs.Finite.{operand_forms}
 use Rattle.z80_form.proofs.Rows.{found}
 use Rattle.z80_form.proofs.Kept.{sizes_steady, blank_is_flat}
 
--- whether (IX) or (IY) stands among the operands
+-- whether (IX) or (IY) is among the operands
 abbrev has_index : List Form → Bool
 has_index [] = false
 has_index (Form.AtIndex x ∷ forms) = true
 has_index (form ∷ forms) = has_index forms
 
--- the operands of an instruction, without the displacement where the operands that were read have none
+-- the operands of an instruction, without displacement if the operands that were read contain (IX) or (IY)
 abbrev written : List Form → Instr → List Form
 written forms instr = cond (has_index forms) (map without_displacement (row instr).operands) (row instr).operands
 
@@ -34,7 +34,7 @@ abbrev Seen : Type 0
 Seen = Mnemonic × List Form × Instr × Bool
 
 abbrev seen : List Form → Instr → Seen
-seen forms instr = ((row instr).mnemonic, written forms instr, blank instr, list_all (fills instr) forms)
+seen forms instr = ((row instr).mnemonic, written forms instr, with_zeros instr, list_all (fills instr) forms)
 
 abbrev wanted : Mnemonic → List Form → Instr → Seen
 wanted m forms instr = (m, forms, instr, true)
@@ -74,10 +74,10 @@ sound m (form ∷ []) = (mnemonics ⊗ operand_forms).agree _ (λ p. option_map 
 sound m (left ∷ right ∷ []) = two_sound m left right
 sound m (a ∷ b ∷ c ∷ forms) = refl
 
-spelled : (m : Mnemonic) (forms : List Form) (instr : Instr) → seen forms instr ≡ wanted m forms instr → Spells m forms instr × (blank instr ≡ instr) × (list_all (fills instr) forms ≡ true)
+spelled : (m : Mnemonic) (forms : List Form) (instr : Instr) → seen forms instr ≡ wanted m forms instr → Spells m forms instr × (with_zeros instr ≡ instr) × (list_all (fills instr) forms ≡ true)
 spelled m forms instr e =
     let operands : written forms instr ≡ forms = ap (λ (s : Seen). s.1) e in
-    let zeros : blank instr ≡ instr = ap (λ (s : Seen). s.2) e in
+    let zeros : with_zeros instr ≡ instr = ap (λ (s : Seen). s.2) e in
     let split : AreOperands forms instr =
     elim (cases_Bool (has_index forms)) [
       | inl short ↦ inr (sym (rw short at operands), subst (λ i. with_displacement (pos 0) i ≡ i) zeros (blank_is_flat instr))
@@ -85,21 +85,21 @@ spelled m forms instr e =
     ] in
     (record { mnemonic_is = ap (λ (s : Seen). s.0) e; operands_are = split }, zeros, ap (λ (s : Seen). s.3) e)
 
-is_spelled : (m : Mnemonic) (forms : List Form) (instr : Instr) (read : Option Instr) → IsSound m forms read → read ≡ Some instr → Spells m forms instr × (blank instr ≡ instr) × (list_all (fills instr) forms ≡ true)
+is_spelled : (m : Mnemonic) (forms : List Form) (instr : Instr) (read : Option Instr) → IsSound m forms read → read ≡ Some instr → Spells m forms instr × (with_zeros instr ≡ instr) × (list_all (fills instr) forms ≡ true)
 is_spelled m forms instr None e is = absurd cc
 is_spelled m forms instr (Some found) e is =
     let same : found ≡ instr = cc in
     let whole : ◌≡◌ {A = Seen} (seen forms found) (wanted m forms found) = cc in
     spelled m forms instr (rw same at whole)
 
--- What is read of a mnemonic and operands is the one instruction that they spell.
-instruction_is : (m : Mnemonic) (forms : List Form) (instr : Instr) → (instruction_read m forms ≡ Some instr) ↔ (Spells m forms instr × (blank instr ≡ instr))
+-- A mnemonic and operands are read as the one instruction that they are a source form of.
+instruction_is : (m : Mnemonic) (forms : List Form) (instr : Instr) → (instruction_read m forms ≡ Some instr) ↔ (Spells m forms instr × (with_zeros instr ≡ instr))
 instruction_is m forms instr = (
   λ is. let all = is_spelled m forms instr (instruction_read m forms) (sound m forms) is in (all.0, all.1),
   λ spells. found m forms instr spells.0 ∙ ap Some spells.1,
 )
 
--- Each expression of what is read fills a field of the instruction.
+-- Each expression of the operands fills a field of the instruction that was read.
 fills_field : (expression : Bool) (field : Option Field) → (not expression || is_some field) ≡ true → expression ≡ true → field ≢ None
 fills_field false field ok e none = cc
 fills_field true None ok e none = cc
@@ -115,7 +115,7 @@ pub fields_filled : (m : Mnemonic) (forms : List Form) (read : Option Instr) →
 fields_filled m forms None e = tt
 fields_filled m forms (Some instr) e = has_fields instr forms (is_spelled m forms instr (instruction_read m forms) (sound m forms) e).2
 
--- Nothing is read exactly where no instruction is spelled.
+-- Reading answers None exactly if the mnemonic and operands are no source form.
 none_by : (m : Mnemonic) (forms : List Form) (read : Option Instr) → instruction_read m forms ≡ read → ((instr : Instr) → Spells m forms instr → ⊥) → read ≡ None
 none_by m forms None e never = refl
 none_by m forms (Some instr) e never = absurd (never instr ((instruction_is m forms instr).0 e).0)
@@ -126,22 +126,22 @@ none_is m forms = (
   λ never. none_by m forms (instruction_read m forms) refl never,
 )
 
--- What a text spells is one instruction but for its numbers: it is read as both.
-pub one_blank : (m : Mnemonic) (forms : List Form) (a b : Instr) → Spells m forms a → Spells m forms b → blank a ≡ blank b
+-- A mnemonic and operands are the source form of one instruction, apart from its numbers: they are read as both.
+pub one_blank : (m : Mnemonic) (forms : List Form) (a b : Instr) → Spells m forms a → Spells m forms b → with_zeros a ≡ with_zeros b
 one_blank m forms a b first second =
-    let same : ◌≡◌ {A = Option Instr} (Some (blank a)) (Some (blank b)) = sym (found m forms a first) ∙ found m forms b second in
+    let same : ◌≡◌ {A = Option Instr} (Some (with_zeros a)) (Some (with_zeros b)) = sym (found m forms a first) ∙ found m forms b second in
     cc
 
 pub one_size : (m : Mnemonic) (forms : List Form) (a b : Instr) → Spells m forms a → Spells m forms b → length (canonical a) ≡ length (canonical b)
 one_size m forms a b first second =
     sym (sizes_steady zeros a) ∙ ap (λ i. length (canonical i)) (one_blank m forms a b first second) ∙ sizes_steady zeros b
 
--- The same of what is found.
+-- The same for `instruction_of`.
 pub found_is_read : (m : Mnemonic) (forms : List Form) → instruction_of m forms ≡ instruction_read m forms
 unfolding instruction_of
 found_is_read m forms = refl
 
-pub found_is : (m : Mnemonic) (forms : List Form) (instr : Instr) → (instruction_of m forms ≡ Some instr) ↔ (Spells m forms instr × (blank instr ≡ instr))
+pub found_is : (m : Mnemonic) (forms : List Form) (instr : Instr) → (instruction_of m forms ≡ Some instr) ↔ (Spells m forms instr × (with_zeros instr ≡ instr))
 found_is m forms instr = rw (found_is_read m forms) (instruction_is m forms instr)
 
 pub found_none : (m : Mnemonic) (forms : List Form) → (instruction_of m forms ≡ None) ↔ ((instr : Instr) → Spells m forms instr → ⊥)

@@ -1,5 +1,5 @@
--- What a word names, as functions: it is looked up in the list of all mnemonics, or of all registers and conditions. For definitions
--- that speak of the word that a text has; laws::named says the same by specs/Words.antt.
+-- What a word names, as functions: the word is looked up in the list of all mnemonics, or of all registers and conditions. These
+-- are here for definitions about the words of a source; laws::named says the same in terms of specs/Words.antt.
 use Rattle.std.specs.Prelude.{ℕ, List, [], ◌∷◌, Option}
 use Rattle.std.specs.List.{find}
 use Rattle.std.specs.Str.{bytes_eq}
@@ -8,7 +8,7 @@ use Rattle.z80_instr.specs.declared.Rotation.{Rotation}
 use Rattle.z80_instr.specs.declared.BlockOperation.{BlockOperation}
 use Rattle.z80_instr.specs.declared.BlockStep.{BlockStep}
 use Rattle.z80_form.specs.Types.{Name, Mnemonic}
-use Rattle.z80_form.specs.Words.{upper, word, operand_word}
+use Rattle.z80_form.specs.Words.{upper_letters, mnemonic_word, operand_word}
 
 abbrev pub each_mnemonic : List Mnemonic
 each_mnemonic =
@@ -37,9 +37,9 @@ each_mnemonic =
     Mnemonic.Scf ∷ Mnemonic.Set ∷ Mnemonic.Rotate Rotation.Sla ∷ Mnemonic.Rotate Rotation.Sra ∷
     Mnemonic.Rotate Rotation.Srl ∷ Mnemonic.Alu AluOperation.Sub ∷ Mnemonic.Alu AluOperation.Xor ∷ []
 
--- the mnemonic whose word this is, in upper case or lower
+-- the mnemonic whose word this is, in upper or lower case
 unfoldable pub mnemonic_named : List ℕ → Option Mnemonic
-mnemonic_named name = find (λ m. bytes_eq (upper name) (word m)) each_mnemonic
+mnemonic_named name = find (λ m. bytes_eq (upper_letters name) (mnemonic_word m)) each_mnemonic
 
 abbrev pub each_name : List Name
 each_name =
@@ -47,6 +47,6 @@ each_name =
     Name.De ∷ Name.Hl ∷ Name.Ix ∷ Name.Iy ∷ Name.Sp ∷ Name.Nz ∷ Name.Z ∷ Name.Nc ∷ Name.Po ∷ Name.Pe ∷ Name.P ∷
     Name.M ∷ []
 
--- the register or condition whose word this is, in upper case or lower
+-- the register or condition whose word this is, in upper or lower case
 unfoldable pub name_named : List ℕ → Option Name
-name_named name = find (λ n. bytes_eq (upper name) (operand_word n)) each_name
+name_named name = find (λ n. bytes_eq (upper_letters name) (operand_word n)) each_name

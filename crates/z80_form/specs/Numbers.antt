@@ -6,7 +6,7 @@ use Rattle.z80_instr.specs.Table.{octal_of}
 use Rattle.z80_form.specs.Types.{Memory, Operand, Pointer, Octal, InterruptMode, Instr, Form, Field}
 use Rattle.z80_form.specs.Rows.{row}
 
--- what the operand `n`, `nn`, `(n)`, `(nn)`, `e`, `b` or `p` of an instruction fills, if it has one
+-- the field that the operand `n`, `nn`, `(n)`, `(nn)`, `e`, `b` or `p` of an instruction fills, if it has one
 abbrev pub number_field : Instr → Option Field
 number_field (Instr.LoadByte m n) = Some Field.Byte
 number_field (Instr.LoadA (Pointer.Address nn)) = Some Field.Word
@@ -31,7 +31,7 @@ number_field (Instr.InA n) = Some Field.Byte
 number_field (Instr.OutA n) = Some Field.Byte
 number_field _ = None
 
--- what the expression of an operand fills
+-- the field that the expression of an operand fills
 abbrev pub field_of : Instr → Form → Option Field
 field_of instr (Form.Displaced x) = Some Field.Displacement
 field_of instr Form.AtNumber = number_field instr
@@ -49,21 +49,21 @@ has_expression _ = false
 abbrev pub HasFields : Instr → List Form → Type 0
 HasFields instr operands = All (λ form. has_expression form ≡ true → field_of instr form ≢ None) operands
 
--- what the expressions of operands fill, from left to right
+-- the fields that the expressions of operands fill, from left to right
 abbrev pub fields_of : Instr → List Form → List Field
 fields_of instr operands = filter_map (field_of instr) operands
 
--- .. those of the instruction's row
+-- the fields that the expressions in the instruction's row fill
 abbrev pub fields : Instr → List Field
 fields instr = fields_of instr (row instr).operands
 
--- A number is one of 16 bits; the negative ones are their remainders by 65,536.
+-- Numbers have 16 bits; negative ones are given modulo 65,536.
 
--- -128 to -1
+-- whether a number is from -128 to -1, modulo 65,536
 abbrev pub is_negative : ℕ → Bool
 is_negative value = nat_le (65536 - 128) value && nat_lt value 65536
 
--- whether a number may stand in a field
+-- whether a field allows a number
 abbrev pub allows : Field → ℕ → Bool
 allows Field.Byte value = nat_lt value 256 || is_negative value
 allows Field.Word value = nat_lt value 65536
@@ -73,7 +73,7 @@ allows Field.Bit value = nat_lt value 8
 allows Field.Mode value = nat_lt value 3
 allows Field.Restart value = nat_lt value 64 && (value % 8 == 0)
 
--- Numbers put in.
+-- Putting numbers in.
 
 abbrev pub memory_at : ℤ → Memory → Memory
 memory_at d Memory.Hl = Memory.Hl
@@ -107,17 +107,17 @@ abbrev pub pointer_at : ℕ → Pointer → Pointer
 pointer_at nn (Pointer.Address _) = Pointer.Address nn
 pointer_at nn pointer = pointer
 
-abbrev pub with_word : ℕ → Instr → Instr
-with_word nn (Instr.LoadA from) = Instr.LoadA (pointer_at nn from)
-with_word nn (Instr.StoreA to) = Instr.StoreA (pointer_at nn to)
-with_word nn (Instr.LoadWord dd _) = Instr.LoadWord dd nn
-with_word nn (Instr.LoadWordFrom dd _) = Instr.LoadWordFrom dd nn
-with_word nn (Instr.StoreWord dd _) = Instr.StoreWord dd nn
-with_word nn (Instr.Jump _) = Instr.Jump nn
-with_word nn (Instr.JumpIf cc _) = Instr.JumpIf cc nn
-with_word nn (Instr.Call _) = Instr.Call nn
-with_word nn (Instr.CallIf cc _) = Instr.CallIf cc nn
-with_word nn instr = instr
+abbrev pub with_word_operand : ℕ → Instr → Instr
+with_word_operand nn (Instr.LoadA from) = Instr.LoadA (pointer_at nn from)
+with_word_operand nn (Instr.StoreA to) = Instr.StoreA (pointer_at nn to)
+with_word_operand nn (Instr.LoadWord dd _) = Instr.LoadWord dd nn
+with_word_operand nn (Instr.LoadWordFrom dd _) = Instr.LoadWordFrom dd nn
+with_word_operand nn (Instr.StoreWord dd _) = Instr.StoreWord dd nn
+with_word_operand nn (Instr.Jump _) = Instr.Jump nn
+with_word_operand nn (Instr.JumpIf cc _) = Instr.JumpIf cc nn
+with_word_operand nn (Instr.Call _) = Instr.Call nn
+with_word_operand nn (Instr.CallIf cc _) = Instr.CallIf cc nn
+with_word_operand nn instr = instr
 
 abbrev pub with_distance : ℤ → Instr → Instr
 with_distance e (Instr.JumpRelative _) = Instr.JumpRelative e
@@ -144,14 +144,14 @@ mode_of zero = InterruptMode.Zero
 mode_of (suc zero) = InterruptMode.One
 mode_of _ = InterruptMode.Two
 
--- the signed number of the low byte
+-- the low byte as a signed number
 abbrev pub signed : ℕ → ℤ
 signed value = cast_signed w8 (value % 256)
 
--- A number is put in: of a byte its low byte, of a restart its address.
+-- The instruction with a number in its field. A byte takes the low byte of the number, and a restart takes its address.
 abbrev pub with_number : Field → ℕ → Instr → Instr
 with_number Field.Byte value instr = with_byte (value % 256) instr
-with_number Field.Word value instr = with_word value instr
+with_number Field.Word value instr = with_word_operand value instr
 with_number Field.Displacement value instr = with_displacement (signed value) instr
 with_number Field.Distance value instr = with_distance (signed value) instr
 with_number Field.Bit value instr = with_bit (octal_of value) instr
@@ -165,26 +165,26 @@ with_numbers (n ∷ ns) instr = with_numbers ns (with_number n.0 n.1 instr)
 abbrev pub AreAllowed : List (Field × ℕ) → Type 0
 AreAllowed numbers = All (λ n. allows n.0 n.1 ≡ true) numbers
 
--- zeros in place of the numbers
+-- a zero for each field
 abbrev pub zeros : List (Field × ℕ)
 zeros = (Field.Byte, 0) ∷ (Field.Word, 0) ∷ (Field.Displacement, 0) ∷ (Field.Distance, 0) ∷ (Field.Bit, 0) ∷ (Field.Mode, 0) ∷ (Field.Restart, 0) ∷ []
 
-abbrev pub blank : Instr → Instr
-blank instr = with_numbers zeros instr
+abbrev pub with_zeros : Instr → Instr
+with_zeros instr = with_numbers zeros instr
 
 -- The instruction has these numbers, one for each expression of its operands, from left to right.
 pub record HasNumbers (instr : Instr) (numbers : List (Field × ℕ)) : Type 0 where
   pub fields_are : map (λ n. n.0) numbers ≡ fields instr
   pub allowed : AreAllowed numbers
-  pub filled : with_numbers numbers (blank instr) ≡ instr
+  pub filled : with_numbers numbers (with_zeros instr) ≡ instr
 
--- Where the numbers stand in the bytes.
+-- Where the numbers are in the bytes.
 
 -- the bytes without the last n
 abbrev pub but_last : ℕ → List ℕ → List ℕ
 but_last n bytes = take (length bytes - n) bytes
 
--- whether an operand is a byte at IX or IY and a displacement
+-- whether an operand is a byte at IX or IY plus a displacement
 abbrev pub memory_is_displaced : Memory → Bool
 memory_is_displaced Memory.Hl = false
 memory_is_displaced (Memory.Indexed x d) = true

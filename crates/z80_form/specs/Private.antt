@@ -1,3 +1,3 @@
--- What private contracts alone cite: no reviewer need believe it.
+-- Only private contracts use these definitions. A reviewer may skip them.
 pub mod Lists
 pub mod Reading

@@ -1,4 +1,4 @@
--- The types of an instruction, of its words and of its operands' forms, in one place for the files of this crate.
+-- The types of instructions, of their words and of their operands' forms, in one module for the files of this crate.
 pub use Rattle.z80_instr.specs.declared.Register.{Register}
 pub use Rattle.z80_instr.specs.declared.IndexRegister.{IndexRegister}
 pub use Rattle.z80_instr.specs.declared.Memory.{Memory}

@@ -9,9 +9,9 @@ use Rattle.z80_instr.specs.declared.BlockOperation.{BlockOperation}
 use Rattle.z80_instr.specs.declared.BlockStep.{BlockStep}
 use Rattle.z80_form.specs.Types.{Mnemonic, Name}
 
--- a word's letters in upper case; other bytes stay
-abbrev pub upper : List ℕ → List ℕ
-upper word = map to_ascii_uppercase word
+-- a word with its letters in upper case; other bytes stay as they are
+abbrev pub upper_letters : List ℕ → List ℕ
+upper_letters word = map to_ascii_uppercase word
 
 abbrev pub block_word : BlockOperation → BlockStep → List ℕ
 block_word BlockOperation.Load BlockStep.Decrement = codes "LDD"
@@ -51,46 +51,46 @@ rotation_word Rotation.Sra = codes "SRA"
 rotation_word Rotation.Srl = codes "SRL"
 
 -- the word of a mnemonic
-abbrev pub word : Mnemonic → List ℕ
-word Mnemonic.Ld = codes "LD"
-word Mnemonic.Push = codes "PUSH"
-word Mnemonic.Pop = codes "POP"
-word Mnemonic.Ex = codes "EX"
-word Mnemonic.Exx = codes "EXX"
-word (Mnemonic.Block operation step) = block_word operation step
-word (Mnemonic.Alu operation) = operation_word operation
-word Mnemonic.Inc = codes "INC"
-word Mnemonic.Dec = codes "DEC"
-word Mnemonic.Daa = codes "DAA"
-word Mnemonic.Cpl = codes "CPL"
-word Mnemonic.Neg = codes "NEG"
-word Mnemonic.Ccf = codes "CCF"
-word Mnemonic.Scf = codes "SCF"
-word Mnemonic.Nop = codes "NOP"
-word Mnemonic.Halt = codes "HALT"
-word Mnemonic.Di = codes "DI"
-word Mnemonic.Ei = codes "EI"
-word Mnemonic.Im = codes "IM"
-word Mnemonic.Rlca = codes "RLCA"
-word Mnemonic.Rla = codes "RLA"
-word Mnemonic.Rrca = codes "RRCA"
-word Mnemonic.Rra = codes "RRA"
-word (Mnemonic.Rotate rotation) = rotation_word rotation
-word Mnemonic.Rld = codes "RLD"
-word Mnemonic.Rrd = codes "RRD"
-word Mnemonic.Bit = codes "BIT"
-word Mnemonic.Set = codes "SET"
-word Mnemonic.Res = codes "RES"
-word Mnemonic.Jp = codes "JP"
-word Mnemonic.Jr = codes "JR"
-word Mnemonic.Djnz = codes "DJNZ"
-word Mnemonic.Call = codes "CALL"
-word Mnemonic.Ret = codes "RET"
-word Mnemonic.Reti = codes "RETI"
-word Mnemonic.Retn = codes "RETN"
-word Mnemonic.Rst = codes "RST"
-word Mnemonic.In = codes "IN"
-word Mnemonic.Out = codes "OUT"
+abbrev pub mnemonic_word : Mnemonic → List ℕ
+mnemonic_word Mnemonic.Ld = codes "LD"
+mnemonic_word Mnemonic.Push = codes "PUSH"
+mnemonic_word Mnemonic.Pop = codes "POP"
+mnemonic_word Mnemonic.Ex = codes "EX"
+mnemonic_word Mnemonic.Exx = codes "EXX"
+mnemonic_word (Mnemonic.Block operation step) = block_word operation step
+mnemonic_word (Mnemonic.Alu operation) = operation_word operation
+mnemonic_word Mnemonic.Inc = codes "INC"
+mnemonic_word Mnemonic.Dec = codes "DEC"
+mnemonic_word Mnemonic.Daa = codes "DAA"
+mnemonic_word Mnemonic.Cpl = codes "CPL"
+mnemonic_word Mnemonic.Neg = codes "NEG"
+mnemonic_word Mnemonic.Ccf = codes "CCF"
+mnemonic_word Mnemonic.Scf = codes "SCF"
+mnemonic_word Mnemonic.Nop = codes "NOP"
+mnemonic_word Mnemonic.Halt = codes "HALT"
+mnemonic_word Mnemonic.Di = codes "DI"
+mnemonic_word Mnemonic.Ei = codes "EI"
+mnemonic_word Mnemonic.Im = codes "IM"
+mnemonic_word Mnemonic.Rlca = codes "RLCA"
+mnemonic_word Mnemonic.Rla = codes "RLA"
+mnemonic_word Mnemonic.Rrca = codes "RRCA"
+mnemonic_word Mnemonic.Rra = codes "RRA"
+mnemonic_word (Mnemonic.Rotate rotation) = rotation_word rotation
+mnemonic_word Mnemonic.Rld = codes "RLD"
+mnemonic_word Mnemonic.Rrd = codes "RRD"
+mnemonic_word Mnemonic.Bit = codes "BIT"
+mnemonic_word Mnemonic.Set = codes "SET"
+mnemonic_word Mnemonic.Res = codes "RES"
+mnemonic_word Mnemonic.Jp = codes "JP"
+mnemonic_word Mnemonic.Jr = codes "JR"
+mnemonic_word Mnemonic.Djnz = codes "DJNZ"
+mnemonic_word Mnemonic.Call = codes "CALL"
+mnemonic_word Mnemonic.Ret = codes "RET"
+mnemonic_word Mnemonic.Reti = codes "RETI"
+mnemonic_word Mnemonic.Retn = codes "RETN"
+mnemonic_word Mnemonic.Rst = codes "RST"
+mnemonic_word Mnemonic.In = codes "IN"
+mnemonic_word Mnemonic.Out = codes "OUT"
 
 -- the word of a register or a condition
 abbrev pub operand_word : Name → List ℕ

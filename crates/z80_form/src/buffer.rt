@@ -1,8 +1,8 @@
-//! A word in upper case, without an allocation.
+//! A short word in upper case, kept in place.
 
 use std::marker::Model;
 
-/// How many letters the longest word has that names an operation.
+/// The length of the longest word that names an operation or an operand.
 const LONGEST: usize = 4;
 
 /// Up to four bytes.
@@ -25,12 +25,12 @@ impl Model for Buffer {
 
 impl Buffer {
     ghost use Rattle.std.specs.Prelude.{◌≡◌, ◌≤◌, ◌<◌, IfSome, length, None, ◌↔◌, OnSome};
-    ghost use Rattle.z80_form.specs.Words.{upper};
+    ghost use Rattle.z80_form.specs.Words.{upper_letters};
     ghost use Rattle.z80_form.specs.declared.buffer.TheConstants.{LONGEST};
 
-    /// The word in upper case; None where it is longer than any that is looked for.
+    /// The word in upper case; None if it is longer than each word that can be found.
     pub(crate) fn upper(word: &[u8]) -> Option<Buffer>
-        ensures short { IfSome result (λ b. b ≡ upper word.now) }
+        ensures short { IfSome result (λ b. b ≡ upper_letters word.now) }
         ensures long { result ≡ None → LONGEST < length word.now }
     {
         if word.len() > LONGEST {

@@ -1,30 +1,30 @@
-//! The numbers of an instruction.
+//! The numbers of an instruction: where they go, which are allowed, and putting them in.
 
 ghost use Rattle.std.specs.Prelude.{◌≡◌, ◌<◌, FitsSigned, length, true};
 ghost use Rattle.std.specs.Int.{w8};
 ghost use Rattle.z80_instr.specs.Table.{canonical};
 ghost use Rattle.z80_form.specs.Rows.{row};
-ghost use Rattle.z80_form.specs.Numbers.{AreAllowed, allows, field_of, memory_at, number_field, operand_at, pointer_at, signed, with_bit, with_byte, with_displacement, with_distance, with_number, with_numbers, with_restart, with_mode, with_word, mode_of};
+ghost use Rattle.z80_form.specs.Numbers.{AreAllowed, allows, field_of, memory_at, number_field, operand_at, pointer_at, signed, with_bit, with_byte, with_displacement, with_distance, with_number, with_numbers, with_restart, with_mode, with_word_operand, mode_of};
 
 use crate::form::Form;
 use z80_instr::{Instr, InterruptMode, Memory, Octal, Operand, Pointer};
 
-/// What a number is to an instruction.
+/// The fields of instructions: what a number of an instruction is.
 #[derive(Clone, Copy, Debug, PartialEq, Eq)]
 pub enum Field {
-    /// n
+    /// A byte: `n` in the manual.
     Byte,
-    /// nn
+    /// A word: `nn` in the manual.
     Word,
-    /// d, of IX or IY.
+    /// The displacement from IX or IY: `d`.
     Displacement,
-    /// e, of a relative jump, from the instruction that follows.
+    /// The distance of a relative jump, from the instruction that follows it: `e`.
     Distance,
-    /// b
+    /// The number of a bit: `b`.
     Bit,
-    /// Of `IM`.
+    /// The mode of `IM`.
     Mode,
-    /// p, the address of `RST`.
+    /// The address of `RST`: `p`.
     Restart,
 }
 
@@ -32,8 +32,8 @@ impl Field {
     ghost use Rattle.std.specs.Prelude.{◌≡◌};
     ghost use Rattle.z80_form.specs.Numbers.{allows};
 
-    /// Whether a number may stand in this field. A negative one is its remainder by 65,536, as the language's arithmetic
-    /// gives it: 0FFFBH is -5.
+    /// Whether this field allows a number. A negative number is given modulo 65,536, as arithmetic in expressions gives it: 0FFFBH
+    /// is -5.
     pub fn allows(self, value: u16) -> bool
         ensures { result ≡ allows self value }
     {
@@ -48,7 +48,7 @@ impl Field {
     }
 }
 
-/// What an operand `n`, `(nn)`, `e`, `b` or `p` of the instruction fills.
+/// The field that an operand `n`, `nn`, `(n)`, `(nn)`, `e`, `b` or `p` of the instruction fills, if it has such an operand.
 fn number_field(instr: Instr) -> Option<Field>
     ensures { result ≡ number_field instr }
 {
@@ -73,7 +73,7 @@ fn number_field(instr: Instr) -> Option<Field>
     }
 }
 
-/// What the expression of an operand of the instruction fills; None where it has no expression.
+/// The field that the expression of an operand fills; None if an operand of this form has no expression.
 pub fn field_of(instr: Instr, form: Form) -> Option<Field>
     ensures { result ≡ field_of instr form }
 {
@@ -84,7 +84,7 @@ pub fn field_of(instr: Instr, form: Form) -> Option<Field>
     }
 }
 
-/// The number of the low byte, which is signed.
+/// The low byte as a signed number.
 fn signed(value: u16) -> i8
     ensures value { result ≡ signed value }
     ensures fits { FitsSigned w8 result }
@@ -150,7 +150,7 @@ fn pointer_at(nn: u16, pointer: Pointer) -> Pointer
 }
 
 fn with_word(nn: u16, instr: Instr) -> Instr
-    ensures { result ≡ with_word nn instr }
+    ensures { result ≡ with_word_operand nn instr }
 {
     match instr {
         Instr::LoadA(from) => Instr::LoadA(pointer_at(nn, from)),
@@ -216,19 +216,19 @@ fn mode_of(value: u16) -> InterruptMode
     }
 }
 
-/// The instruction with a number put in; one without such a field stays as it is.
+/// The instruction with a number in its field. An instruction without such a field stays as it is.
 pub fn with_number(instr: Instr, field: Field, value: u16) -> Instr
     requires { allows field value ≡ true }
     ensures number { result ≡ with_number field value instr }
 
-    // The text stays the same but for the number, and the bytes as many.
+    // The source form stays the same apart from the number, and so does the count of bytes.
     ensures row { row result ≡ row instr }
     ensures size { length (canonical result) ≡ length (canonical instr) }
 {
     filled(instr, field, value)
 }
 
-/// The instruction with a number put in, by the kind of the field.
+/// The instruction with a number in its field, for each kind of field.
 fn filled(instr: Instr, field: Field, value: u16) -> Instr
     requires { allows field value ≡ true }
     ensures { result ≡ with_number field value instr }
@@ -244,7 +244,7 @@ fn filled(instr: Instr, field: Field, value: u16) -> Instr
     }
 }
 
-/// The instruction with each of these numbers put in, from left to right.
+/// The instruction with each of these numbers in its field, put in from left to right.
 pub fn with_numbers(instr: Instr, numbers: &[(Field, u16)]) -> Instr
     requires { AreAllowed numbers.now }
     ensures numbers { result ≡ with_numbers numbers.entry.now instr }

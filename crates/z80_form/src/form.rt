@@ -1,9 +1,9 @@
-//! The forms of an operand.
+//! The forms of operands.
 
 use crate::name::Name;
 use z80_instr::IndexRegister;
 
-/// A register that stands in parentheses by itself; `(C)` is the port that C names.
+/// A register that may be in parentheses by itself. `(C)` is the port that C names.
 #[derive(Clone, Copy, Debug, PartialEq, Eq)]
 pub enum Pointed {
     Hl,
@@ -13,7 +13,7 @@ pub enum Pointed {
     C,
 }
 
-/// An operand as it is written, its expression left out.
+/// The form of an operand: how it is written, without its expression.
 #[derive(Clone, Copy, Debug, PartialEq, Eq)]
 pub enum Form {
     /// `A`, `HL`, `NZ`

@@ -1,8 +1,8 @@
 //! Finds the instruction of the Zilog Z80 that a mnemonic and the forms of its operands name.
 //!
-//! [`mnemonic_of`] and [`name_of`] look words up, in upper case or lower. [`instruction`] returns the instruction that a
-//! mnemonic and operands spell, with zeros in place of its numbers, and [`with_numbers`] puts numbers in. The words and
-//! the rows are those of the Z80 CPU User Manual (UM0080), documented forms only. Nothing here takes memory.
+//! [`mnemonic_of`] and [`name_of`] look up words in upper or lower case. [`instruction`] answers the instruction that a mnemonic
+//! and operands name, with zeros in place of its numbers, and [`with_numbers`] puts numbers in. The words and the rows are those of
+//! the Z80 CPU User Manual (UM0080), documented forms only. Nothing here takes memory.
 #![tactic(auto)]
 
 mod buffer;

@@ -8,7 +8,7 @@ use crate::name::Name;
 use crate::part::{hl_or_index, memory, operand, register, word_register};
 use z80_instr::{Instr, Operand, Pointer, Register};
 
-/// The instruction, where the operand is A.
+/// The instruction, if the operand is A.
 pub(crate) fn if_a(form: Form, instr: Instr) -> Option<Instr>
     ensures { result ≡ reading.if_a form instr }
 {
@@ -18,7 +18,7 @@ pub(crate) fn if_a(form: Form, instr: Instr) -> Option<Instr>
     }
 }
 
-/// `LD r,n`, `LD dd,nn` and their kin.
+/// The instruction of `LD r,n`, `LD (HL),n`, `LD (IX+d),n`, `LD dd,nn` or `LD IX,nn`.
 fn load_number(to: Form) -> Option<Instr>
     ensures { result ≡ reading.load_number to }
 {
@@ -28,7 +28,7 @@ fn load_number(to: Form) -> Option<Instr>
     }
 }
 
-/// `LD A,(nn)`, `LD dd,(nn)`
+/// The instruction of `LD A,(nn)`, `LD dd,(nn)` or `LD IX,(nn)`.
 fn load_at_number(to: Form) -> Option<Instr>
     ensures { result ≡ reading.load_at_number to }
 {
@@ -38,7 +38,7 @@ fn load_at_number(to: Form) -> Option<Instr>
     }
 }
 
-/// `LD (nn),A`, `LD (nn),dd`
+/// The instruction of `LD (nn),A`, `LD (nn),dd` or `LD (nn),IX`.
 fn store_at_number(from: Form) -> Option<Instr>
     ensures { result ≡ reading.store_at_number from }
 {
@@ -48,7 +48,7 @@ fn store_at_number(from: Form) -> Option<Instr>
     }
 }
 
-/// `LD A,I`, `LD A,R`, `LD A,r`
+/// The instruction of `LD A,I`, `LD A,R` or `LD A,r`.
 fn load_a(from: Form) -> Option<Instr>
     ensures { result ≡ reading.load_a from }
 {
@@ -59,7 +59,7 @@ fn load_a(from: Form) -> Option<Instr>
     }
 }
 
-/// `LD` from a register.
+/// The instruction of `LD` from a name: a register, a pair of registers, or I or R.
 fn load_name(to: Form, from: Form) -> Option<Instr>
     ensures { result ≡ reading.load_name to from }
 {
@@ -82,7 +82,7 @@ fn load_name(to: Form, from: Form) -> Option<Instr>
     }
 }
 
-/// `LD`
+/// The instruction of `LD` with these operands.
 pub(crate) fn load(to: Form, from: Form) -> Option<Instr>
     ensures { result ≡ reading.load to from }
 {

@@ -2,7 +2,7 @@
 
 ghost use Rattle.std.specs.Prelude.{◌≡◌, ◌∷◌, ◌↔◌, Some};
 ghost use Rattle.z80_form.specs.Types.{Mnemonic};
-ghost use Rattle.z80_form.specs.Words.{upper, word};
+ghost use Rattle.z80_form.specs.Words.{upper_letters, mnemonic_word};
 ghost use Rattle.z80_form.specs.Named.{mnemonic_named};
 ghost use Rattle.z80_form.specs.Private.Lists.{mnemonic_read};
 
@@ -56,16 +56,16 @@ pub enum Mnemonic {
     Out,
 }
 
-/// The mnemonic that a word is, in upper case or lower.
+/// The mnemonic that a word is, in upper or lower case.
 pub fn mnemonic_of(name: &[u8]) -> Option<Mnemonic>
-    ensures spelled { (m : Mnemonic) → (result ≡ Some m) ↔ (upper name.now ≡ word m) }
+    ensures spelled { (m : Mnemonic) → (result ≡ Some m) ↔ (upper_letters name.now ≡ mnemonic_word m) }
     ensures named { result ≡ mnemonic_named name.now }
 {
     let buffer = Buffer::upper(name)?;
     read(buffer.as_slice())
 }
 
-/// The mnemonic that a word in upper case is. Its first letter leaves at most fifteen to compare it with.
+/// The mnemonic that a word in upper case is. There are at most fifteen with its first letter to compare it with.
 fn read(name: &[u8]) -> Option<Mnemonic>
     ensures { result ≡ mnemonic_read name.now }
 {

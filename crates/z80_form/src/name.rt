@@ -2,7 +2,7 @@
 
 ghost use Rattle.std.specs.Prelude.{◌≡◌, ◌↔◌, Some};
 ghost use Rattle.z80_form.specs.Types.{Name};
-ghost use Rattle.z80_form.specs.Words.{upper, operand_word};
+ghost use Rattle.z80_form.specs.Words.{upper_letters, operand_word};
 ghost use Rattle.z80_form.specs.Named.{name_named};
 ghost use Rattle.z80_form.specs.Private.Lists.{name_read};
 
@@ -38,9 +38,9 @@ pub enum Name {
     M,
 }
 
-/// The register or condition that a word is, in upper case or lower.
+/// The register or condition that a word is, in upper or lower case.
 pub fn name_of(word: &[u8]) -> Option<Name>
-    ensures spelled { (n : Name) → (result ≡ Some n) ↔ (upper word.now ≡ operand_word n) }
+    ensures spelled { (n : Name) → (result ≡ Some n) ↔ (upper_letters word.now ≡ operand_word n) }
     ensures named { result ≡ name_named word.now }
 {
     let buffer = Buffer::upper(word)?;

@@ -1,4 +1,4 @@
-//! What an operand's form can be to an instruction. Numbers are 0.
+//! What a form can be as an operand of an instruction. Numbers are 0.
 
 ghost use Rattle.std.specs.Prelude.{◌≡◌};
 ghost use Rattle.z80_form.specs.Private.Reading.{addend_in, at_hl_or_index_in, condition_in, hl_or_index_in, index_in, memory_in, operand_in, pair_in, register_in, short_condition_in, stack_operand_in, word_register_in};
@@ -84,7 +84,7 @@ pub(crate) fn hl_or_index(form: Form) -> Option<HlOrIndex>
     }
 }
 
-/// `(HL)`, `(IX)`
+/// HL or an index register, if the form is `(HL)`, `(IX)` or `(IY)`.
 pub(crate) fn at_hl_or_index(form: Form) -> Option<HlOrIndex>
     ensures { result ≡ at_hl_or_index_in form }
 {
@@ -95,7 +95,7 @@ pub(crate) fn at_hl_or_index(form: Form) -> Option<HlOrIndex>
     }
 }
 
-/// What is added to the index register x.
+/// The register that may be added to the index register x.
 pub(crate) fn addend(x: IndexRegister, form: Form) -> Option<Addend>
     ensures { result ≡ addend_in x form }
 {

@@ -1,9 +1,9 @@
-//! From a mnemonic and its operands to the instruction.
+//! Finds the instruction that a mnemonic and its operands name.
 
 ghost use Rattle.std.specs.Prelude.{◌≡◌, ◌↔◌, Some, None, IfSome};
 ghost use Rattle.z80_form.specs.Types.{Instr};
 ghost use Rattle.z80_form.specs.Spelling.{Spells, instruction_of};
-ghost use Rattle.z80_form.specs.Numbers.{blank, HasFields};
+ghost use Rattle.z80_form.specs.Numbers.{with_zeros, HasFields};
 ghost use Rattle.z80_form.specs.Private.Reading as reading;
 
 use crate::form::{Form, Pointed};
@@ -16,10 +16,10 @@ use crate::part::{
 };
 use z80_instr::{AluOperation, IndexRegister, Instr, InterruptMode, Octal};
 
-/// The instruction that a mnemonic and its operands spell, with zeros in place of its numbers.
+/// The instruction that a mnemonic and its operands name, with zeros in place of its numbers; None if they name none.
 pub fn instruction(mnemonic: Mnemonic, operands: &[Form]) -> Option<Instr>
     ensures spelled { (instr : Instr) →
-        (result ≡ Some instr) ↔ (Spells mnemonic operands.entry.now instr × (blank instr ≡ instr)) }
+        (result ≡ Some instr) ↔ (Spells mnemonic operands.entry.now instr × (with_zeros instr ≡ instr)) }
     ensures fields { IfSome result (λ instr. HasFields instr operands.entry.now) }
     ensures none { (result ≡ None) ↔ ((instr : Instr) → Spells mnemonic operands.entry.now instr → ⊥) }
     ensures found { result ≡ instruction_of mnemonic operands.entry.now }
@@ -27,7 +27,7 @@ pub fn instruction(mnemonic: Mnemonic, operands: &[Form]) -> Option<Instr>
     read(mnemonic, operands)
 }
 
-/// What is spelled, by the count of the operands.
+/// The instruction, for each count of operands.
 fn read(mnemonic: Mnemonic, operands: &[Form]) -> Option<Instr>
     ensures { result ≡ reading.instruction_read mnemonic operands.entry.now }
 {
@@ -39,7 +39,7 @@ fn read(mnemonic: Mnemonic, operands: &[Form]) -> Option<Instr>
     }
 }
 
-/// A word without operands.
+/// An instruction without operands.
 fn alone(mnemonic: Mnemonic) -> Option<Instr>
     ensures { result ≡ reading.alone_read mnemonic }
 {
@@ -68,7 +68,7 @@ fn alone(mnemonic: Mnemonic) -> Option<Instr>
     }
 }
 
-/// The instruction, where the operand is a number.
+/// The instruction, if the operand is a number.
 fn if_number(form: Form, instr: Instr) -> Option<Instr>
     ensures { result ≡ reading.if_number form instr }
 {
@@ -78,7 +78,7 @@ fn if_number(form: Form, instr: Instr) -> Option<Instr>
     }
 }
 
-/// A word with one operand.
+/// An instruction with one operand.
 fn one(mnemonic: Mnemonic, form: Form) -> Option<Instr>
     ensures { result ≡ reading.one_read mnemonic form }
 {
@@ -106,7 +106,7 @@ fn one(mnemonic: Mnemonic, form: Form) -> Option<Instr>
     }
 }
 
-/// An operation with A and a byte.
+/// An operation on A and a byte.
 fn on_byte(operation: AluOperation, form: Form) -> Option<Instr>
     ensures { result ≡ reading.on_byte operation form }
 {
@@ -116,7 +116,7 @@ fn on_byte(operation: AluOperation, form: Form) -> Option<Instr>
     }
 }
 
-/// The operations that do not name A.
+/// Operations on A whose source form does not name A.
 fn one_on_byte(operation: AluOperation, form: Form) -> Option<Instr>
     ensures { result ≡ reading.one_on_byte operation form }
 {
@@ -126,7 +126,7 @@ fn one_on_byte(operation: AluOperation, form: Form) -> Option<Instr>
     }
 }
 
-/// `JP nn`, `JP (HL)`, `JP (IX)`
+/// The instruction of `JP nn`, `JP (HL)` or `JP (IX)`.
 fn jump(form: Form) -> Option<Instr>
     ensures { result ≡ reading.jump form }
 {
@@ -136,7 +136,7 @@ fn jump(form: Form) -> Option<Instr>
     }
 }
 
-/// A word with two operands.
+/// An instruction with two operands.
 fn two(mnemonic: Mnemonic, left: Form, right: Form) -> Option<Instr>
     ensures { result ≡ reading.two_read mnemonic left right }
 {
@@ -152,7 +152,7 @@ fn two(mnemonic: Mnemonic, left: Form, right: Form) -> Option<Instr>
     }
 }
 
-/// `EX`
+/// The instruction of `EX` with these operands.
 fn exchange(left: Form, right: Form) -> Option<Instr>
     ensures { result ≡ reading.exchange left right }
 {
@@ -164,7 +164,7 @@ fn exchange(left: Form, right: Form) -> Option<Instr>
     }
 }
 
-/// The operations that name A, HL, or an index register.
+/// Operations whose source form names A, HL or an index register.
 fn two_on_byte(operation: AluOperation, left: Form, right: Form) -> Option<Instr>
     ensures { result ≡ reading.two_on_byte operation left right }
 {
@@ -181,14 +181,14 @@ fn two_on_byte(operation: AluOperation, left: Form, right: Form) -> Option<Instr
     }
 }
 
-/// `ADD IX,pp`
+/// The instruction of `ADD IX,pp`.
 fn add_index(x: IndexRegister, form: Form) -> Option<Instr>
     ensures { result ≡ reading.add_index x form }
 {
     addend(x, form).map(|pp| Instr::AddIndex(x, pp))
 }
 
-/// `BIT`, `SET`, `RES`
+/// The instruction of `BIT`, `SET` or `RES`.
 fn on_bit(mnemonic: Mnemonic, number: Form, form: Form) -> Option<Instr>
     ensures { result ≡ reading.on_bit mnemonic number form }
 {
@@ -204,7 +204,7 @@ fn on_bit(mnemonic: Mnemonic, number: Form, form: Form) -> Option<Instr>
     }
 }
 
-/// `JP cc,nn`, `JR cc,e`, `CALL cc,nn`
+/// The instruction of `JP cc,nn`, `JR cc,e` or `CALL cc,nn`.
 fn conditional(mnemonic: Mnemonic, cc: Form, goal: Form) -> Option<Instr>
     ensures { result ≡ reading.conditional mnemonic cc goal }
 {
@@ -219,7 +219,7 @@ fn conditional(mnemonic: Mnemonic, cc: Form, goal: Form) -> Option<Instr>
     }
 }
 
-/// `IN A,(n)`, `IN r,(C)`
+/// The instruction of `IN A,(n)` or `IN r,(C)`.
 fn input(to: Form, port: Form) -> Option<Instr>
     ensures { result ≡ reading.input to port }
 {
@@ -230,7 +230,7 @@ fn input(to: Form, port: Form) -> Option<Instr>
     }
 }
 
-/// `OUT (n),A`, `OUT (C),r`
+/// The instruction of `OUT (n),A` or `OUT (C),r`.
 fn output(port: Form, from: Form) -> Option<Instr>
     ensures { result ≡ reading.output port from }
 {

@@ -11,7 +11,7 @@ agree_below f g n e b h =
     ∙ ap (λ xs. get_or xs b (f 0)) e
     ∙ get_or-map-range_with_len g 0 n b b (f 0) h (omega arith)
 
--- A type whose values can be gone through: functions that agree on all of them, side by side, agree at each.
+-- A type with finitely many values: two functions that agree on the list of all of them agree at each.
 pub record Finite (A : Type 0) : Type 1 where
   pub Values : Type 0 → Type 0
   pub values : (X : Type 0) → (A → X) → Values X

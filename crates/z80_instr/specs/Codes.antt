@@ -1,11 +1,11 @@
--- Which bytes spell which instruction, which begin a spelling, and which do neither.
+-- Defines when bytes are an encoding of an instruction, when they are only the beginning of one, and when they are neither.
 use Rattle.std.specs.Prelude.{◌≡◌, ◌≢◌, ℕ, ◌⊎◌, List, Some, [], ◌++◌, Bool, true, ◌&&◌, nat_lt, ℤ, pos, negsuc}
 use Rattle.z80_instr.specs.Types.{Memory, Operand, Pointer, Instr}
 use Rattle.z80_instr.specs.Table.{canonical, other}
 
--- A number in a definition has no bounds, so that those of an instruction's types are said here.
+-- Numbers in a definition have no bounds, so the bounds of the types of an instruction's numbers are defined here.
 
--- whether a number is one of a signed byte, -128 to 127: `negsuc n` is -1 - n
+-- whether a number is from -128 to 127; `negsuc n` is -1 - n
 abbrev pub is_signed_byte : ℤ → Bool
 is_signed_byte (pos n) = nat_lt n 128
 is_signed_byte (negsuc n) = nat_lt n 128
@@ -22,7 +22,7 @@ abbrev pub pointer_in_range : Pointer → Bool
 pointer_in_range (Pointer.Address nn) = nat_lt nn 65536
 pointer_in_range _ = true
 
--- whether each number of an instruction is one of its type
+-- whether each number of an instruction is within the bounds of its type
 abbrev pub in_range : Instr → Bool
 in_range (Instr.Load _ operand) = operand_in_range operand
 in_range (Instr.Store memory _) = memory_in_range memory
@@ -51,19 +51,19 @@ in_range (Instr.InA n) = nat_lt n 256
 in_range (Instr.OutA n) = nat_lt n 256
 in_range _ = true
 
--- The bytes are a spelling of the instruction.
+-- The bytes are an encoding of the instruction.
 pub record Codes (instr : Instr) (bytes : List ℕ) : Type 0 where
   pub numbers : in_range instr ≡ true
   pub spelled : (bytes ≡ canonical instr) ⊎ (other instr ≡ Some bytes)
 
--- The bytes are a proper prefix of a spelling: with more behind them they spell an instruction.
+-- The bytes are the beginning of a longer encoding.
 pub record IsProperPrefix (bytes : List ℕ) : Type 0 where
   pub rest : List ℕ
   pub instr : Instr
   pub codes : Codes instr (bytes ++ rest)
   pub more : rest ≢ []
 
--- No spelling begins the bytes, and they begin none.
+-- No encoding is at the front of the bytes, and they are not the beginning of one.
 pub record IsUndocumented (bytes : List ℕ) : Type 0 where
   pub none_begins : (instr : Instr) (spelling rest : List ℕ) → Codes instr spelling → bytes ≢ spelling ++ rest
   pub begins_none : (instr : Instr) (rest : List ℕ) → Codes instr (bytes ++ rest) → ⊥

@@ -1,14 +1,14 @@
--- The documented instructions of the Z80 and their spellings, a row an equation.
+-- The documented instructions of the Z80 and their encodings, one equation for each row.
 --
--- From the Z80 CPU User Manual (Zilog UM0080), "Z80 Instruction Description": the manual's groups, in its
--- order, its mnemonic at the end of each row. Where a row has IX, the manual has one for IY too.
+-- From the Z80 CPU User Manual (Zilog UM0080), "Z80 Instruction Description": the manual's groups, in its order, its mnemonic at the end
+-- of each row. Where a row has IX, the manual has one for IY too.
 use Rattle.std.specs.Prelude.{ℕ, ◌+◌, ◌*◌, ◌/◌, ◌%◌, List, [], ◌∷◌, Option, Some, None, ℤ, slice_index_or}
 use Rattle.std.specs.Int.{w8, cast_unsigned}
 use Rattle.z80_instr.specs.Types.{Register, IndexRegister, Memory, Operand, Pointer, RegisterPair, WordRegister, HlOrIndex, Addend, StackOperand, Cond, ShortCond, AluOperation, Rotation, Octal, InterruptMode, BlockOperation, BlockStep, Instr}
 
 -- Codes of the fields of an opcode.
 
--- r; in the place of a register (HL) has code 6
+-- r; (HL) as an operand has code 6
 abbrev pub register_code : Register → ℕ
 register_code Register.B = 0
 register_code Register.C = 1
@@ -79,7 +79,7 @@ octal_code Octal.Five = 5
 octal_code Octal.Six = 6
 octal_code Octal.Seven = 7
 
--- the one of a number below 8
+-- a number below 8 as a value of the type
 abbrev pub octal_of : ℕ → Octal
 octal_of n = slice_index_or (Octal.Zero ∷ Octal.One ∷ Octal.Two ∷ Octal.Three ∷ Octal.Four ∷ Octal.Five ∷ Octal.Six ∷ Octal.Seven ∷ []) n Octal.Zero
 
@@ -102,25 +102,25 @@ abbrev pub prefix : IndexRegister → ℕ
 prefix IndexRegister.Ix = 0xDD
 prefix IndexRegister.Iy = 0xFD
 
--- nn: the low byte first
+-- nn: low byte first
 abbrev pub word : ℕ → List ℕ
 word nn = (nn % 256) ∷ (nn / 256) ∷ []
 
 -- d and e: the byte of a signed number, in two's complement
-abbrev pub signed : ℤ → ℕ
-signed d = cast_unsigned w8 d
+abbrev pub signed_byte : ℤ → ℕ
+signed_byte d = cast_unsigned w8 d
 
--- The canonical spelling of each instruction. Of two rows that fit, the upper one holds.
+-- The canonical encoding of each instruction. If two rows fit, the upper one counts.
 abbrev pub canonical : Instr → List ℕ
 -- 8-bit load group
 canonical (Instr.Load r (Operand.Register s)) = (0x40 + 8 * register_code r + register_code s) ∷ []  -- LD r,r'
 canonical (Instr.LoadByte (Operand.Register r) n) = (0x06 + 8 * register_code r) ∷ n ∷ []  -- LD r,n
 canonical (Instr.Load r (Operand.Memory Memory.Hl)) = (0x46 + 8 * register_code r) ∷ []  -- LD r,(HL)
-canonical (Instr.Load r (Operand.Memory (Memory.Indexed x d))) = prefix x ∷ (0x46 + 8 * register_code r) ∷ signed d ∷ []  -- LD r,(IX+d)
+canonical (Instr.Load r (Operand.Memory (Memory.Indexed x d))) = prefix x ∷ (0x46 + 8 * register_code r) ∷ signed_byte d ∷ []  -- LD r,(IX+d)
 canonical (Instr.Store Memory.Hl r) = (0x70 + register_code r) ∷ []  -- LD (HL),r
-canonical (Instr.Store (Memory.Indexed x d) r) = prefix x ∷ (0x70 + register_code r) ∷ signed d ∷ []  -- LD (IX+d),r
+canonical (Instr.Store (Memory.Indexed x d) r) = prefix x ∷ (0x70 + register_code r) ∷ signed_byte d ∷ []  -- LD (IX+d),r
 canonical (Instr.LoadByte (Operand.Memory Memory.Hl) n) = 0x36 ∷ n ∷ []  -- LD (HL),n
-canonical (Instr.LoadByte (Operand.Memory (Memory.Indexed x d)) n) = prefix x ∷ 0x36 ∷ signed d ∷ n ∷ []  -- LD (IX+d),n
+canonical (Instr.LoadByte (Operand.Memory (Memory.Indexed x d)) n) = prefix x ∷ 0x36 ∷ signed_byte d ∷ n ∷ []  -- LD (IX+d),n
 canonical (Instr.LoadA Pointer.Bc) = 0x0A ∷ []  -- LD A,(BC)
 canonical (Instr.LoadA Pointer.De) = 0x1A ∷ []  -- LD A,(DE)
 canonical (Instr.LoadA (Pointer.Address nn)) = 0x3A ∷ word nn  -- LD A,(nn)
@@ -163,13 +163,13 @@ canonical (Instr.Block operation step) = 0xED ∷ (0xA0 + 8 * block_step_code st
 canonical (Instr.Alu operation (Operand.Register r)) = (0x80 + 8 * operation_code operation + register_code r) ∷ []  -- ADD A,r .. CP r
 canonical (Instr.AluByte operation n) = (0xC6 + 8 * operation_code operation) ∷ n ∷ []  -- ADD A,n .. CP n
 canonical (Instr.Alu operation (Operand.Memory Memory.Hl)) = (0x86 + 8 * operation_code operation) ∷ []  -- ADD A,(HL) .. CP (HL)
-canonical (Instr.Alu operation (Operand.Memory (Memory.Indexed x d))) = prefix x ∷ (0x86 + 8 * operation_code operation) ∷ signed d ∷ []  -- ADD A,(IX+d) .. CP (IX+d)
+canonical (Instr.Alu operation (Operand.Memory (Memory.Indexed x d))) = prefix x ∷ (0x86 + 8 * operation_code operation) ∷ signed_byte d ∷ []  -- ADD A,(IX+d) .. CP (IX+d)
 canonical (Instr.Inc (Operand.Register r)) = (0x04 + 8 * register_code r) ∷ []  -- INC r
 canonical (Instr.Inc (Operand.Memory Memory.Hl)) = 0x34 ∷ []  -- INC (HL)
-canonical (Instr.Inc (Operand.Memory (Memory.Indexed x d))) = prefix x ∷ 0x34 ∷ signed d ∷ []  -- INC (IX+d)
+canonical (Instr.Inc (Operand.Memory (Memory.Indexed x d))) = prefix x ∷ 0x34 ∷ signed_byte d ∷ []  -- INC (IX+d)
 canonical (Instr.Dec (Operand.Register r)) = (0x05 + 8 * register_code r) ∷ []  -- DEC r
 canonical (Instr.Dec (Operand.Memory Memory.Hl)) = 0x35 ∷ []  -- DEC (HL)
-canonical (Instr.Dec (Operand.Memory (Memory.Indexed x d))) = prefix x ∷ 0x35 ∷ signed d ∷ []  -- DEC (IX+d)
+canonical (Instr.Dec (Operand.Memory (Memory.Indexed x d))) = prefix x ∷ 0x35 ∷ signed_byte d ∷ []  -- DEC (IX+d)
 -- General-purpose arithmetic and CPU control groups
 canonical Instr.Daa = 0x27 ∷ []  -- DAA
 canonical Instr.Cpl = 0x2F ∷ []  -- CPL
@@ -199,27 +199,27 @@ canonical Instr.Rrca = 0x0F ∷ []  -- RRCA
 canonical Instr.Rra = 0x1F ∷ []  -- RRA
 canonical (Instr.Rotate rotation (Operand.Register r)) = 0xCB ∷ (8 * rotation_code rotation + register_code r) ∷ []  -- RLC r .. SRL r
 canonical (Instr.Rotate rotation (Operand.Memory Memory.Hl)) = 0xCB ∷ (0x06 + 8 * rotation_code rotation) ∷ []  -- RLC (HL) .. SRL (HL)
-canonical (Instr.Rotate rotation (Operand.Memory (Memory.Indexed x d))) = prefix x ∷ 0xCB ∷ signed d ∷ (0x06 + 8 * rotation_code rotation) ∷ []  -- RLC (IX+d) .. SRL (IX+d)
+canonical (Instr.Rotate rotation (Operand.Memory (Memory.Indexed x d))) = prefix x ∷ 0xCB ∷ signed_byte d ∷ (0x06 + 8 * rotation_code rotation) ∷ []  -- RLC (IX+d) .. SRL (IX+d)
 canonical Instr.Rld = 0xED ∷ 0x6F ∷ []  -- RLD
 canonical Instr.Rrd = 0xED ∷ 0x67 ∷ []  -- RRD
 -- Bit set, reset, and test group
 canonical (Instr.Bit b (Operand.Register r)) = 0xCB ∷ (0x40 + 8 * octal_code b + register_code r) ∷ []  -- BIT b,r
 canonical (Instr.Bit b (Operand.Memory Memory.Hl)) = 0xCB ∷ (0x46 + 8 * octal_code b) ∷ []  -- BIT b,(HL)
-canonical (Instr.Bit b (Operand.Memory (Memory.Indexed x d))) = prefix x ∷ 0xCB ∷ signed d ∷ (0x46 + 8 * octal_code b) ∷ []  -- BIT b,(IX+d)
+canonical (Instr.Bit b (Operand.Memory (Memory.Indexed x d))) = prefix x ∷ 0xCB ∷ signed_byte d ∷ (0x46 + 8 * octal_code b) ∷ []  -- BIT b,(IX+d)
 canonical (Instr.Set b (Operand.Register r)) = 0xCB ∷ (0xC0 + 8 * octal_code b + register_code r) ∷ []  -- SET b,r
 canonical (Instr.Set b (Operand.Memory Memory.Hl)) = 0xCB ∷ (0xC6 + 8 * octal_code b) ∷ []  -- SET b,(HL)
-canonical (Instr.Set b (Operand.Memory (Memory.Indexed x d))) = prefix x ∷ 0xCB ∷ signed d ∷ (0xC6 + 8 * octal_code b) ∷ []  -- SET b,(IX+d)
+canonical (Instr.Set b (Operand.Memory (Memory.Indexed x d))) = prefix x ∷ 0xCB ∷ signed_byte d ∷ (0xC6 + 8 * octal_code b) ∷ []  -- SET b,(IX+d)
 canonical (Instr.Res b (Operand.Register r)) = 0xCB ∷ (0x80 + 8 * octal_code b + register_code r) ∷ []  -- RES b,r
 canonical (Instr.Res b (Operand.Memory Memory.Hl)) = 0xCB ∷ (0x86 + 8 * octal_code b) ∷ []  -- RES b,(HL)
-canonical (Instr.Res b (Operand.Memory (Memory.Indexed x d))) = prefix x ∷ 0xCB ∷ signed d ∷ (0x86 + 8 * octal_code b) ∷ []  -- RES b,(IX+d)
+canonical (Instr.Res b (Operand.Memory (Memory.Indexed x d))) = prefix x ∷ 0xCB ∷ signed_byte d ∷ (0x86 + 8 * octal_code b) ∷ []  -- RES b,(IX+d)
 -- Jump group
 canonical (Instr.Jump nn) = 0xC3 ∷ word nn  -- JP nn
 canonical (Instr.JumpIf cc nn) = (0xC2 + 8 * condition_code cc) ∷ word nn  -- JP cc,nn
-canonical (Instr.JumpRelative e) = 0x18 ∷ signed e ∷ []  -- JR e
-canonical (Instr.JumpRelativeIf cc e) = (0x20 + 8 * short_condition_code cc) ∷ signed e ∷ []  -- JR C,e; JR NC,e; JR Z,e; JR NZ,e
+canonical (Instr.JumpRelative e) = 0x18 ∷ signed_byte e ∷ []  -- JR e
+canonical (Instr.JumpRelativeIf cc e) = (0x20 + 8 * short_condition_code cc) ∷ signed_byte e ∷ []  -- JR C,e; JR NC,e; JR Z,e; JR NZ,e
 canonical (Instr.JumpIndirect HlOrIndex.Hl) = 0xE9 ∷ []  -- JP (HL)
 canonical (Instr.JumpIndirect (HlOrIndex.Index x)) = prefix x ∷ 0xE9 ∷ []  -- JP (IX)
-canonical (Instr.Djnz e) = 0x10 ∷ signed e ∷ []  -- DJNZ e
+canonical (Instr.Djnz e) = 0x10 ∷ signed_byte e ∷ []  -- DJNZ e
 -- Call and return group
 canonical (Instr.Call nn) = 0xCD ∷ word nn  -- CALL nn
 canonical (Instr.CallIf cc nn) = (0xC4 + 8 * condition_code cc) ∷ word nn  -- CALL cc,nn
@@ -234,7 +234,7 @@ canonical (Instr.InC r) = 0xED ∷ (0x40 + 8 * register_code r) ∷ []  -- IN r,
 canonical (Instr.OutA n) = 0xD3 ∷ n ∷ []  -- OUT (n),A
 canonical (Instr.OutC r) = 0xED ∷ (0x41 + 8 * register_code r) ∷ []  -- OUT (C),r
 
--- The rows LD dd,(nn) and LD (nn),dd hold for HL too, and so these two instructions have a second spelling.
+-- The rows LD dd,(nn) and LD (nn),dd also hold for HL, so these two instructions have a second encoding.
 abbrev pub other : Instr → Option (List ℕ)
 other (Instr.LoadWordFrom (WordRegister.Pair RegisterPair.Hl) nn) = Some (0xED ∷ 0x6B ∷ word nn)
 other (Instr.StoreWord (WordRegister.Pair RegisterPair.Hl) nn) = Some (0xED ∷ 0x63 ∷ word nn)

@@ -1,4 +1,4 @@
--- The types of an instruction and its parts, in one place for the files of this crate.
+-- The types of an instruction and its parts, collected for the files of this crate.
 pub use Rattle.z80_instr.specs.declared.Register.{Register}
 pub use Rattle.z80_instr.specs.declared.IndexRegister.{IndexRegister}
 pub use Rattle.z80_instr.specs.declared.Memory.{Memory}

@@ -1,4 +1,4 @@
-//! The documented instructions of the Zilog Z80 as values, and which bytes spell each.
+//! The documented instructions of the Zilog Z80 as values, and the bytes of each.
 //!
 //! The terms and the order are those of the Z80 CPU User Manual (UM0080). Every value of [`Instr`]
 //! is a documented instruction: forms that the manual does not have cannot be written.
@@ -42,7 +42,7 @@ pub enum Operand {
     Memory(Memory),
 }
 
-/// A byte in memory that only A is loaded from or stored to.
+/// A byte in memory that only A can be loaded from or stored to.
 #[derive(Clone, Copy, Debug, PartialEq, Eq)]
 pub enum Pointer {
     /// `(BC)`
@@ -62,7 +62,7 @@ pub enum RegisterPair {
     Sp,
 }
 
-/// A 16-bit register that is loaded, stored and counted.
+/// A 16-bit register that LD, INC and DEC can have.
 #[derive(Clone, Copy, Debug, PartialEq, Eq)]
 pub enum WordRegister {
     Pair(RegisterPair),
@@ -76,7 +76,7 @@ pub enum HlOrIndex {
     Index(IndexRegister),
 }
 
-/// What is added to an index register: the manual's pp and rr.
+/// What ADD IX and ADD IY add: the manual's pp and rr.
 #[derive(Clone, Copy, Debug, PartialEq, Eq)]
 pub enum Addend {
     Bc,
@@ -86,7 +86,7 @@ pub enum Addend {
     Sp,
 }
 
-/// What is pushed and popped: the manual's qq, and the index registers.
+/// What PUSH and POP take: the manual's qq, and the index registers.
 #[derive(Clone, Copy, Debug, PartialEq, Eq)]
 pub enum StackOperand {
     Bc,
@@ -109,7 +109,7 @@ pub enum Cond {
     Minus,
 }
 
-/// A condition that a relative jump can take.
+/// A condition that JR can have.
 #[derive(Clone, Copy, Debug, PartialEq, Eq)]
 pub enum ShortCond {
     NotZero,
@@ -118,7 +118,7 @@ pub enum ShortCond {
     Carry,
 }
 
-/// How a jump that is always short branches.
+/// The kind of a jump that is always short.
 #[derive(Clone, Copy, Debug, PartialEq, Eq)]
 pub enum Branch {
     /// `JR`, with its condition if it has one.
@@ -187,7 +187,7 @@ pub enum BlockOperation {
     Output,
 }
 
-/// Which way a block instruction steps, and whether it repeats.
+/// Whether a block instruction counts up or down, and whether it repeats.
 #[derive(Clone, Copy, Debug, PartialEq, Eq)]
 pub enum BlockStep {
     Increment,

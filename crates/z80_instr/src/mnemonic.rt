@@ -1,4 +1,4 @@
-//! Instructions as text: the manual's mnemonics.
+//! Writes instructions as text, with the manual's mnemonics.
 
 use crate::{
     Addend, AluOperation, BlockOperation, BlockStep, Cond, HlOrIndex, IndexRegister, Instr,
@@ -7,11 +7,11 @@ use crate::{
 };
 use std::fmt;
 
-/// The manual's mnemonic with its operands, as the assembler of this product reads it.
+/// The manual's mnemonic with its operands, as this assembler reads it.
 ///
-/// Bytes and words are hexadecimal, with an H behind them and a 0 before a letter: `07H`, `0FFH`,
-/// `0006H`. A displacement is signed and decimal: `(IX-5)`, `(IX+0)`. The goal of a relative jump is
-/// its distance from the jump itself, e + 2: `JR $+5`. Bit numbers and interrupt modes are one digit.
+/// Bytes and words are hexadecimal, with an H at the end and a 0 before a letter: `07H`, `0FFH`, `0006H`. A displacement is signed and
+/// decimal: `(IX-5)`, `(IX+0)`. The target of a relative jump is its distance from the jump itself, e + 2: `JR $+5`. Bit numbers and
+/// interrupt modes are one digit.
 impl fmt::Display for Instr {
     fn fmt<W: fmt::Write>(&self, f: &mut fmt::Formatter<W>) -> fmt::Result {
         write!(f, "{}", line_of(*self))
@@ -36,12 +36,12 @@ impl fmt::Display for Line {
     }
 }
 
-/// An operand as it is written.
+/// An operand as it is printed.
 #[derive(Clone, Copy)]
 enum Text {
     /// A register or a condition.
     Name(&'static str),
-    /// `(HL)`, of a register by its name.
+    /// A register in parentheses: `(HL)`
     At(&'static str),
     /// `(IX+d)`
     Indexed(&'static str, i8),
@@ -53,7 +53,7 @@ enum Text {
     AtByte(u8),
     /// `(nn)`
     AtWord(u16),
-    /// Of a relative jump, of which e counts from the instruction that follows.
+    /// The target of a relative jump with the distance e, which counts from the next instruction.
     Goal(i8),
 }
 
@@ -73,7 +73,7 @@ impl fmt::Display for Text {
     }
 }
 
-/// The 0 that a number has before a letter.
+/// The 0 before a number that begins with a letter.
 fn zero_before(letter: bool) -> &'static str {
     if letter { "0" } else { "" }
 }
@@ -162,7 +162,7 @@ fn line_of(instr: Instr) -> Line {
     }
 }
 
-/// An operation on A: three of the mnemonics name A, to tell it from HL.
+/// An operation on A. ADD, ADC and SBC name A, because they exist for HL too.
 fn alu(operation: AluOperation, operand: Text) -> Line {
     match operation {
         AluOperation::Add => Line::Two("ADD", Text::Name("A"), operand),
@@ -273,7 +273,7 @@ fn hl_or_index(register: HlOrIndex) -> &'static str {
     }
 }
 
-/// What is added to the index register x.
+/// The register that ADD adds to the index register x.
 fn addend(x: IndexRegister, addend: Addend) -> Text {
     Text::Name(match addend {
         Addend::Bc => "BC",

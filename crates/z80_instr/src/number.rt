@@ -6,7 +6,7 @@ impl Octal {
     ghost use Rattle.std.specs.Prelude.{◌≡◌, ◌<◌};
     ghost use Rattle.z80_instr.specs.Table.{octal_code, octal_of};
 
-    /// The number that it is.
+    /// This value as a number.
     pub fn number(self) -> u8
         ensures code { result ≡ octal_code self }
         ensures small { result < 8 }
@@ -23,7 +23,7 @@ impl Octal {
         }
     }
 
-    /// The one that a number below 8 is.
+    /// A number below 8 as a value of this type.
     pub fn from_number(number: u8) -> Octal
         requires { number < 8 }
         ensures octal { result ≡ octal_of number }

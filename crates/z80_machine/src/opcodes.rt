@@ -1,7 +1,8 @@
-//! The opcode table: the turn of each instruction without a prefix, at its opcode.
+//! The opcode table once more, only for speed: each opcode without a prefix has a row with the function that makes its step. A `try_`
+//! function has some of the rows; it answers `None`, and changes nothing, if the opcode is not among them.
 //!
-//! Thirty-two opcodes are a function, and the host's compiler makes one jump of four of them, to code that knows its registers. A
-//! prefix is a row of that jump too, from which it goes straight on to the table of what stands behind it.
+//! Each `try_` function has a range of 32 opcodes. The host's compiler makes one jump of four such functions, to code in which the
+//! registers are constants. A prefix is a row of that jump too; in a run, the jump of the opcode after the prefix follows at once.
 ghost use Rattle.std.specs.Prelude.{◌≡◌};
 ghost use Rattle.z80_cpu.specs.State.{machine, byte_at};
 ghost use Rattle.z80_machine.specs.Private.Opcodes.{read_from, IsTurnBy, IsTurnOrNone, IsRow};
@@ -27,7 +28,7 @@ use z80_turns::{
     turn_rra, turn_rrca, turn_set_carry, turn_store, turn_store_a, turn_store_a_at, turn_store_hl,
 };
 
-/// What the table has at an opcode: a turn, which is made, or a prefix, where nothing has changed yet.
+/// What the table has for an opcode: an instruction, whose step is made, or a prefix, and then nothing has changed yet.
 #[derive(Clone, Copy)]
 pub(crate) enum Row {
     Turned(Step),
@@ -41,10 +42,10 @@ pub(crate) enum Row {
     Iy,
 }
 
-/// The turn of the instruction at PC, whose first byte is the opcode.
+/// Makes the step of the instruction at PC, whose first byte is `opcode`.
 ///
-/// The table is compiled twice, once for the loop of a run and once for single turns: what is called from one place alone stands
-/// there without a call.
+/// The table is compiled twice, for the loop of a run and for a single step. So each of its functions is called from only one place, and
+/// the compiler inlines it there.
 #[inline(always)]
 pub(crate) fn turn_of<const IN_RUN: bool>(cpu: &mut Cpu, memory: &mut Memory, opcode: u8) -> Step
     requires { opcode ≡ byte_at cpu.old.pc memory.old }
@@ -66,8 +67,8 @@ pub(crate) fn turn_of<const IN_RUN: bool>(cpu: &mut Cpu, memory: &mut Memory, op
     }
 }
 
-/// From 80H on, with the pages behind the prefixes in the same place: in that of a single turn they would be too much, and are
-/// called.
+/// Makes the step of an opcode from 80H on, in a run. The tables after the prefixes are inlined here; in a single step they would be too
+/// much code, so there they are called.
 #[inline(always)]
 fn turn_upper_in_run(cpu: &mut Cpu, memory: &mut Memory, opcode: u8) -> Step
     requires { opcode ≡ byte_at cpu.old.pc memory.old }
@@ -83,7 +84,7 @@ fn turn_upper_in_run(cpu: &mut Cpu, memory: &mut Memory, opcode: u8) -> Step
     }
 }
 
-/// Opcodes below 80H: the compiler makes one jump of them, before it puts them where they are due.
+/// Makes the step of an opcode below 80H. The compiler makes one jump of these four functions before it inlines them.
 fn turn_lower<const IN_RUN: bool>(cpu: &mut Cpu, memory: &mut Memory, opcode: u8) -> Step
     requires { opcode ≡ byte_at cpu.old.pc memory.old }
     ensures { IsTurnBy (read_from opcode (machine cpu.old memory.old)) result
@@ -104,7 +105,7 @@ fn turn_lower<const IN_RUN: bool>(cpu: &mut Cpu, memory: &mut Memory, opcode: u8
     turn_decoded(cpu, memory)
 }
 
-/// Below 20H: counts, loads of what follows, sums of words, rotations of A, and DJNZ and JR.
+/// Opcodes 00H to 1FH: INC and DEC, LD of a number, ADD HL, LD between A and (BC) or (DE), rotations of A, NOP, EX AF,AF', DJNZ and JR.
 fn try_first<const IN_RUN: bool>(cpu: &mut Cpu, memory: &mut Memory, opcode: u8) -> Option<Step>
     ensures { IsTurnOrNone (read_from opcode (machine cpu.old memory.old)) result
         (machine cpu.old memory.old) (machine cpu.new memory.new) }
@@ -145,7 +146,7 @@ fn try_first<const IN_RUN: bool>(cpu: &mut Cpu, memory: &mut Memory, opcode: u8)
     )
 }
 
-/// From 20H on, below 40H: the same, JR on a condition, and what else changes A or its flags alone.
+/// Opcodes 20H to 3FH: INC and DEC, LD of a number, ADD HL, LD between A or HL and an address, JR on a condition, DAA, CPL, SCF and CCF.
 fn try_second<const IN_RUN: bool>(cpu: &mut Cpu, memory: &mut Memory, opcode: u8) -> Option<Step>
     ensures { IsTurnOrNone (read_from opcode (machine cpu.old memory.old)) result
         (machine cpu.old memory.old) (machine cpu.new memory.new) }
@@ -186,7 +187,7 @@ fn try_second<const IN_RUN: bool>(cpu: &mut Cpu, memory: &mut Memory, opcode: u8
     )
 }
 
-/// LD of B, C, D and E.
+/// LD to B, C, D and E, from a register or (HL).
 #[inline(always)]
 fn try_loads_low(cpu: &mut Cpu, memory: &mut Memory, opcode: u8) -> Option<Step>
     ensures { IsTurnOrNone (read_from opcode (machine cpu.old memory.old)) result
@@ -200,7 +201,7 @@ fn try_loads_low(cpu: &mut Cpu, memory: &mut Memory, opcode: u8) -> Option<Step>
     )
 }
 
-/// LD of H, L and A, and of a register to (HL); and HALT.
+/// LD to H, L and A, from a register or (HL); LD of a register to (HL); and HALT.
 #[inline(always)]
 fn try_loads_high(cpu: &mut Cpu, memory: &mut Memory, opcode: u8) -> Option<Step>
     ensures { IsTurnOrNone (read_from opcode (machine cpu.old memory.old)) result
@@ -214,7 +215,7 @@ fn try_loads_high(cpu: &mut Cpu, memory: &mut Memory, opcode: u8) -> Option<Step
     )
 }
 
-/// Opcodes from 80H on.
+/// Makes the step of an opcode from 80H on, or finds that it is a prefix.
 fn turn_upper<const IN_RUN: bool>(cpu: &mut Cpu, memory: &mut Memory, opcode: u8) -> Row
     requires { opcode ≡ byte_at cpu.old.pc memory.old }
     ensures { IsRow opcode result (machine cpu.old memory.old) (machine cpu.new memory.new) }
@@ -241,7 +242,7 @@ fn turn_upper<const IN_RUN: bool>(cpu: &mut Cpu, memory: &mut Memory, opcode: u8
     Row::Turned(turn_decoded(cpu, memory))
 }
 
-/// ADD, ADC, SUB and SBC with A.
+/// ADD, ADC, SUB and SBC with a register or (HL).
 fn try_sums<const IN_RUN: bool>(cpu: &mut Cpu, memory: &mut Memory, opcode: u8) -> Option<Step>
     ensures { IsTurnOrNone (read_from opcode (machine cpu.old memory.old)) result
         (machine cpu.old memory.old) (machine cpu.new memory.new) }
@@ -254,7 +255,7 @@ fn try_sums<const IN_RUN: bool>(cpu: &mut Cpu, memory: &mut Memory, opcode: u8) 
     )
 }
 
-/// AND, XOR, OR and CP with A.
+/// AND, XOR, OR and CP with a register or (HL).
 fn try_logic<const IN_RUN: bool>(cpu: &mut Cpu, memory: &mut Memory, opcode: u8) -> Option<Step>
     ensures { IsTurnOrNone (read_from opcode (machine cpu.old memory.old)) result
         (machine cpu.old memory.old) (machine cpu.new memory.new) }
@@ -267,7 +268,7 @@ fn try_logic<const IN_RUN: bool>(cpu: &mut Cpu, memory: &mut Memory, opcode: u8)
     )
 }
 
-/// From C0H on, below E0H: jumps, calls, returns, the stack, operations on A and what follows, ports.
+/// Opcodes C0H to DFH: jumps, calls, returns, the stack, operations on A and a number, ports, and EXX.
 fn try_third<const IN_RUN: bool>(cpu: &mut Cpu, memory: &mut Memory, opcode: u8) -> Option<Step>
     ensures { IsTurnOrNone (read_from opcode (machine cpu.old memory.old)) result
         (machine cpu.old memory.old) (machine cpu.new memory.new) }
@@ -306,7 +307,7 @@ fn try_third<const IN_RUN: bool>(cpu: &mut Cpu, memory: &mut Memory, opcode: u8)
     )
 }
 
-/// From E0H on: the same, exchanges and interrupts.
+/// Opcodes E0H to FFH: jumps, calls, returns, the stack, operations on A and a number, exchanges, LD SP,HL, DI and EI.
 fn try_fourth<const IN_RUN: bool>(cpu: &mut Cpu, memory: &mut Memory, opcode: u8) -> Option<Step>
     ensures { IsTurnOrNone (read_from opcode (machine cpu.old memory.old)) result
         (machine cpu.old memory.old) (machine cpu.new memory.new) }

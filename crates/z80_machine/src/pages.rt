@@ -1,5 +1,5 @@
-//! The opcode table behind the prefixes CB, ED, DD and FD: the turn of each instruction there, at its opcode. What has no row
-//! is decoded.
+//! The opcode table after the prefixes CB, ED, DD and FD once more, only for speed: each opcode has a row with the function that makes
+//! its step. An opcode without a row is decoded by `z80_table`.
 ghost use Rattle.std.specs.Prelude.{◌≡◌};
 ghost use Rattle.z80_cpu.specs.State.{machine, byte_at, up_by};
 ghost use Rattle.z80_table.specs.Reading.{read, bits_entry, extended_entry};
@@ -27,7 +27,7 @@ use z80_turns::{
     turn_store_pair, turn_subtract_pair_with_carry,
 };
 
-/// Behind CB, for a single turn, which calls it.
+/// The step of an instruction after CB, as a call: [`turn_bits`] is not inlined into a single step.
 #[inline(never)]
 pub(crate) fn call_bits(cpu: &mut Cpu, memory: &mut Memory) -> Step
     requires { read (bytes_at_pc (machine cpu.old memory.old)) ≡
@@ -38,7 +38,7 @@ pub(crate) fn call_bits(cpu: &mut Cpu, memory: &mut Memory) -> Step
     turn_bits::<false>(cpu, memory)
 }
 
-/// Behind CB.
+/// Makes the step of an instruction after CB.
 pub(crate) fn turn_bits<const IN_RUN: bool>(cpu: &mut Cpu, memory: &mut Memory) -> Step
     requires { read (bytes_at_pc (machine cpu.old memory.old)) ≡
         read_second bits_entry (byte_at (up_by 1 cpu.old.pc) memory.old) (machine cpu.old memory.old) }
@@ -52,7 +52,7 @@ pub(crate) fn turn_bits<const IN_RUN: bool>(cpu: &mut Cpu, memory: &mut Memory) 
     turn_decoded(cpu, memory)
 }
 
-/// By the upper bit of the opcode behind CB.
+/// Chooses by the upper bit of the opcode after CB.
 #[inline(always)]
 fn try_bits<const IN_RUN: bool>(cpu: &mut Cpu, memory: &mut Memory, second: u8) -> Option<Step>
     ensures { IsTurnOrNone (read_second bits_entry second (machine cpu.old memory.old)) result
@@ -65,7 +65,7 @@ fn try_bits<const IN_RUN: bool>(cpu: &mut Cpu, memory: &mut Memory, second: u8) 
     }
 }
 
-/// Behind CB, below 80H.
+/// Opcodes below 80H after CB: rotations, shifts and BIT.
 fn try_bits_lower<const IN_RUN: bool>(
     cpu: &mut Cpu,
     memory: &mut Memory,
@@ -86,7 +86,8 @@ fn try_bits_lower<const IN_RUN: bool>(
     try_rotations_left::<IN_RUN>(cpu, memory, second)
 }
 
-/// Behind CB, from 80H on. It is called: RES and SET in the loop of a run would leave the others there too few registers.
+/// Opcodes from 80H on after CB: RES and SET. This is a call even in a run: inlined into its loop, they would leave the other
+/// instructions too few of the host's registers.
 #[inline(never)]
 fn try_bits_upper(cpu: &mut Cpu, memory: &mut Memory, second: u8) -> Option<Step>
     ensures { IsTurnOrNone (read_second bits_entry second (machine cpu.old memory.old)) result
@@ -218,7 +219,7 @@ fn try_sets_high(cpu: &mut Cpu, memory: &mut Memory, second: u8) -> Option<Step>
     )
 }
 
-/// Behind ED, for a single turn, which calls it.
+/// The step of an instruction after ED, as a call: [`turn_extended`] is not inlined into a single step.
 #[inline(never)]
 pub(crate) fn call_extended(cpu: &mut Cpu, memory: &mut Memory) -> Step
     requires { read (bytes_at_pc (machine cpu.old memory.old)) ≡
@@ -229,7 +230,7 @@ pub(crate) fn call_extended(cpu: &mut Cpu, memory: &mut Memory) -> Step
     turn_extended::<false>(cpu, memory)
 }
 
-/// Behind ED.
+/// Makes the step of an instruction after ED.
 pub(crate) fn turn_extended<const IN_RUN: bool>(cpu: &mut Cpu, memory: &mut Memory) -> Step
     requires { read (bytes_at_pc (machine cpu.old memory.old)) ≡
         read_second extended_entry (byte_at (up_by 1 cpu.old.pc) memory.old) (machine cpu.old memory.old) }
@@ -249,7 +250,7 @@ pub(crate) fn turn_extended<const IN_RUN: bool>(cpu: &mut Cpu, memory: &mut Memo
     turn_decoded(cpu, memory)
 }
 
-/// Block transfer, search, input and output.
+/// Block transfer, search, input and output (LDI to OTDR).
 fn try_blocks<const IN_RUN: bool>(cpu: &mut Cpu, memory: &mut Memory, second: u8) -> Option<Step>
     ensures { IsTurnOrNone (read_second extended_entry second (machine cpu.old memory.old)) result
         (machine cpu.old memory.old) (machine cpu.new memory.new) }
@@ -274,7 +275,7 @@ fn try_blocks<const IN_RUN: bool>(cpu: &mut Cpu, memory: &mut Memory, second: u8
     )
 }
 
-/// SBC and ADC of HL, and LD of a register pair from and to memory.
+/// SBC and ADC of HL, and LD between a register pair and an address.
 #[inline(always)]
 fn try_pairs(cpu: &mut Cpu, memory: &mut Memory, second: u8) -> Option<Step>
     ensures { IsTurnOrNone (read_second extended_entry second (machine cpu.old memory.old)) result
@@ -288,7 +289,7 @@ fn try_pairs(cpu: &mut Cpu, memory: &mut Memory, second: u8) -> Option<Step>
     )
 }
 
-/// Negation, returns, interrupts, digits, and ports by C.
+/// NEG, RETN and RETI, IM, LD of I and R, RRD and RLD, and IN and OUT with the port in C.
 #[inline(always)]
 fn try_rest(cpu: &mut Cpu, memory: &mut Memory, second: u8) -> Option<Step>
     ensures { IsTurnOrNone (read_second extended_entry second (machine cpu.old memory.old)) result
@@ -324,7 +325,7 @@ fn try_rest(cpu: &mut Cpu, memory: &mut Memory, second: u8) -> Option<Step>
     )
 }
 
-/// Behind DD and FD, for a single turn, which calls it.
+/// The step of an instruction after DD or FD, as a call: [`turn_index`] is not inlined into a single step.
 #[inline(never)]
 pub(crate) fn call_index<const IS_IY: bool>(
     cpu: &mut Cpu,
@@ -339,7 +340,8 @@ pub(crate) fn call_index<const IS_IY: bool>(
     turn_index::<false, IS_IY>(cpu, memory, index)
 }
 
-/// Behind DD and FD. It is compiled for IX and for IY, so that each copy knows its register.
+/// Makes the step of an instruction after DD or FD. It is compiled once for IX and once for IY, so the register is a constant in each
+/// copy.
 pub(crate) fn turn_index<const IN_RUN: bool, const IS_IY: bool>(
     cpu: &mut Cpu,
     memory: &mut Memory,
@@ -363,7 +365,7 @@ pub(crate) fn turn_index<const IN_RUN: bool, const IS_IY: bool>(
     turn_decoded(cpu, memory)
 }
 
-/// Loads, operations and counts of a byte at IX or IY and a displacement.
+/// LD, operations on A, INC and DEC with the byte at IX or IY plus a displacement.
 fn try_index_bytes<const IN_RUN: bool, const IS_IY: bool>(
     cpu: &mut Cpu,
     memory: &mut Memory,
@@ -402,7 +404,7 @@ fn try_index_bytes<const IN_RUN: bool, const IS_IY: bool>(
     )
 }
 
-/// Words: loads, counts, sums, the stack, and JP to IX or IY.
+/// The instructions on IX or IY as a word: LD, INC, DEC, ADD, the stack, EX (SP), and JP.
 #[inline(always)]
 fn try_index_words(
     cpu: &mut Cpu,
@@ -431,7 +433,7 @@ fn try_index_words(
     )
 }
 
-/// After CB, a displacement and an opcode.
+/// The second byte is CB: a displacement and an opcode follow.
 #[inline(always)]
 fn try_index_bits<const IN_RUN: bool, const IS_IY: bool>(
     cpu: &mut Cpu,
@@ -448,7 +450,7 @@ fn try_index_bits<const IN_RUN: bool, const IS_IY: bool>(
     }
 }
 
-/// The rotate, shift and bit groups at IX or IY and a displacement.
+/// Rotations, shifts, BIT, RES and SET of the byte at IX or IY plus a displacement.
 fn try_bits_at_index<const IN_RUN: bool, const IS_IY: bool>(
     cpu: &mut Cpu,
     memory: &mut Memory,

@@ -1,7 +1,8 @@
-//! Rows of the opcode table: opcodes that differ in an operand or a register pair alone.
+//! Macros for rows of the opcode table whose opcodes differ only in a register or a register pair. They exist only for speed, as the
+//! table does.
 
-/// A match on the opcode by rows of eight, for B C D E H L (HL) A: the turn that is named first has the register as its
-/// last argument, and the second is that of `(HL)`.
+/// Matches the opcode against rows of eight, for B C D E H L (HL) A. A row names two functions: the first is called with the register as
+/// its last argument, the second for (HL).
 macro_rules! operand_rows {
     ($cpu:ident, $memory:ident, $opcode:ident;
      $($b:literal $c:literal $d:literal $e:literal $h:literal $l:literal $hl:literal $a:literal
@@ -22,7 +23,7 @@ macro_rules! operand_rows {
     };
 }
 
-/// The same by rows of four, for BC DE HL SP.
+/// Matches the opcode against rows of four, for BC DE HL SP.
 macro_rules! pair_rows {
     ($cpu:ident, $memory:ident, $opcode:ident;
      $($bc:literal $de:literal $hl:literal $sp:literal => $turn:ident;)*) => {
@@ -38,7 +39,8 @@ macro_rules! pair_rows {
     };
 }
 
-/// The same, where the row that stands first is of a turn that stores a register, and of one that has the place of `(HL)`.
+/// Matches the opcode against rows of eight as `operand_rows` does. But the first row is of a function that stores a register in (HL),
+/// and of another one for the opcode of (HL), which is HALT.
 macro_rules! stored_rows {
     ($cpu:ident, $memory:ident, $opcode:ident;
      $sb:literal $sc:literal $sd:literal $se:literal $sh:literal $sl:literal $between:literal $sa:literal
@@ -69,7 +71,7 @@ macro_rules! stored_rows {
     };
 }
 
-/// The same by rows of one opcode.
+/// Matches the opcode against rows of one opcode.
 macro_rules! single_rows {
     ($cpu:ident, $memory:ident, $opcode:ident; $($one:literal => $turn:ident ($($argument:expr),*);)*) => {
         match $opcode {

@@ -1,4 +1,4 @@
-//! Many turns at once.
+//! Many steps in one call.
 ghost use Rattle.std.specs.Prelude.{◌≡◌, ◌<◌, ℕ, false};
 ghost use Rattle.z80_cpu.specs.State.{machine};
 ghost use Rattle.z80_machine.specs.Run.{is_watched, Ran};
@@ -7,7 +7,7 @@ use crate::turn::turn_by_table;
 use z80_cpu::{Cpu, Memory};
 use z80_turns::outcome::Step;
 
-/// Addresses at which a run stops: those from `from` on, and `at`.
+/// The addresses at which a run stops: all from `from` on, and `at`.
 #[derive(Clone, Copy, Debug, PartialEq, Eq)]
 pub struct Watch {
     pub from: u16,
@@ -21,7 +21,7 @@ impl Watch {
         address >= self.from || address == self.at
     }
 
-    /// The lowest address that is watched.
+    /// An address below which none is watched: the lower one of `from` and `at`.
     fn first(self) -> u16
         ensures { (address : ℕ) → address < result → is_watched self address ≡ false }
     {
@@ -32,7 +32,7 @@ impl Watch {
         }
     }
 
-    /// The same as `has`, where the lowest address is known: most addresses are below it.
+    /// The same as `has`, but faster if no address below `first` is watched: most addresses are below it.
     fn has_beyond(self, first: u16, address: u16) -> bool
         requires { (address : ℕ) → address < first → is_watched self address ≡ false }
         ensures { result ≡ is_watched self address }
@@ -50,12 +50,12 @@ pub enum Stop {
     Halted,
     /// No documented instruction is at PC.
     Undocumented,
-    /// As many turns were made as were allowed.
+    /// The allowed number of steps was made.
     Limit,
 }
 
-/// Makes turns until `limit` of them are made, PC is watched, or HALT or no documented instruction is at PC. The answer is how
-/// many were made, and why it stopped. Where the limit is reached nothing is said of the place.
+/// Makes steps until `limit` of them are made, PC is watched, or HALT or no documented instruction is at PC. Answers how many steps it
+/// made, and why it stopped. If it reached the limit, that says nothing about what is at PC.
 pub fn run(cpu: &mut Cpu, memory: &mut Memory, watch: Watch, limit: u64) -> (u64, Stop)
     ensures { Ran watch limit result.0 result.1 (machine cpu.old memory.old) (machine cpu.new memory.new) }
 {

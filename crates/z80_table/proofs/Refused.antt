@@ -1,14 +1,14 @@
--- What the public definitions say where the edits in wrong-bodies/ would say otherwise.
+-- What the public definitions say about the bytes for which the wrong bodies in wrong-bodies/ answer otherwise.
 use Rattle.std.proofs.Common.{ℕ, List, [], ◌∷◌, refl, inl, inr, pos}
 use Rattle.z80_instr.specs.Codes.{Codes, IsUndocumented}
 use Rattle.z80_table.specs.Types.{IndexRegister, Memory, Operand, RegisterPair, WordRegister, Octal, Instr}
 use Rattle.z80_table.proofs.Spellings.{none_foreign}
 
--- ED 6B 06 00 spells LD HL,(0006H)
+-- ED 6B 06 00 is LD HL,(0006H)
 pub ed_6b : ¬ IsUndocumented (0xED ∷ 0x6B ∷ 0x06 ∷ 0x00 ∷ [])
 ed_6b none = none.begins_none (Instr.LoadWordFrom (WordRegister.Pair RegisterPair.Hl) 0x0006) [] (record { numbers = refl; spelled = inr refl })
 
--- nothing begins with DD 00
+-- no instruction begins with DD 00
 pub dd_00 : (rest : List ℕ) → IsUndocumented (0xDD ∷ 0x00 ∷ rest)
 dd_00 rest = none_foreign (0xDD ∷ 0x00 ∷ rest) refl
 

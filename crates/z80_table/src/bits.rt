@@ -1,13 +1,13 @@
-//! The opcodes behind CB.
+//! Reads the opcodes after CB.
 ghost use Rattle.std.specs.Prelude.{◌≡◌, ◌/◌, ◌%◌, ℕ, List};
 ghost use Rattle.z80_instr.specs.Table.{octal_of};
-ghost use Rattle.z80_table.specs.Reading.{filled, bit_entry, bits_entry, read_page};
+ghost use Rattle.z80_table.specs.Reading.{with_operand_bytes, bit_entry, bits_entry, read_page};
 
 use crate::field::{byte_of, operand_of, rotation_of, y_of, z_of};
 use crate::{DecodeFault, Decoded};
 use z80_instr::{Instr, Operand};
 
-/// The instruction behind CB.
+/// Reads the instruction after CB.
 pub(crate) fn bits(bytes: &[u8]) -> Decoded
     ensures { result ≡ read_page bits_entry bytes.now }
 {
@@ -15,10 +15,10 @@ pub(crate) fn bits(bytes: &[u8]) -> Decoded
     bit(opcode, operand_of(z_of(opcode)), 2)
 }
 
-/// A rotation, BIT, RES or SET on the operand, in a spelling of this size.
+/// The rotation, BIT, RES or SET of the operand that this opcode after CB stands for, in an encoding of `size` bytes.
 pub(crate) fn bit(opcode: u8, operand: Operand, size: u8) -> Decoded
     ensures { (rest : List ℕ) →
-        result ≡ filled size (bit_entry (opcode / 64) (octal_of (opcode / 8 % 8)) operand) rest }
+        result ≡ with_operand_bytes size (bit_entry (opcode / 64) (octal_of (opcode / 8 % 8)) operand) rest }
 {
     let y = y_of(opcode);
     match opcode / 64 {

@@ -1,6 +1,6 @@
-//! The opcodes behind ED.
+//! Reads the opcodes after ED.
 ghost use Rattle.std.specs.Prelude.{◌≡◌, ℕ, List};
-ghost use Rattle.z80_table.specs.Reading.{filled, interrupt_entry, special_entry, leave_entry, extended_middle, extended_quarter, extended_entry, read_page};
+ghost use Rattle.z80_table.specs.Reading.{with_operand_bytes, interrupt_entry, special_entry, leave_entry, extended_middle, extended_quarter, extended_entry, read_page};
 
 use crate::field::{
     block_operation_of, is_odd, pair_of, register_of, step_of, word_of, y_of, z_of,
@@ -8,7 +8,7 @@ use crate::field::{
 use crate::{DecodeFault, Decoded};
 use z80_instr::{Instr, InterruptMode, Octal, WordRegister};
 
-/// The instruction behind ED. Only opcodes from 40H to 7FH and block instructions are documented.
+/// Reads the instruction after ED. Only opcodes from 40H to 7FH and block instructions are documented.
 pub(crate) fn extended(bytes: &[u8]) -> Decoded
     ensures { result ≡ read_page extended_entry bytes.now }
 {
@@ -25,9 +25,9 @@ pub(crate) fn extended(bytes: &[u8]) -> Decoded
     }
 }
 
-/// Opcodes from 40H to 7FH: a column of the table for each z.
+/// Opcodes from 40H to 7FH; each z is a column of the table.
 fn extended_low(y: Octal, z: Octal, rest: &[u8]) -> Decoded
-    ensures { result ≡ filled 2 (extended_middle y z) rest.now }
+    ensures { result ≡ with_operand_bytes 2 (extended_middle y z) rest.now }
 {
     match z {
         Octal::Zero => match register_of(y) {
@@ -63,9 +63,9 @@ fn extended_low(y: Octal, z: Octal, rest: &[u8]) -> Decoded
     }
 }
 
-/// LD of I and R, and the digit rotations.
+/// LD of I and R, RRD and RLD.
 fn special(y: Octal) -> Decoded
-    ensures { (rest : List ℕ) → result ≡ filled 2 (special_entry y) rest }
+    ensures { (rest : List ℕ) → result ≡ with_operand_bytes 2 (special_entry y) rest }
 {
     match y {
         Octal::Zero => Ok((Instr::LoadIFromA, 2)),
@@ -80,7 +80,7 @@ fn special(y: Octal) -> Decoded
 
 /// RETN and RETI.
 fn leave(y: Octal) -> Decoded
-    ensures { (rest : List ℕ) → result ≡ filled 2 (leave_entry y) rest }
+    ensures { (rest : List ℕ) → result ≡ with_operand_bytes 2 (leave_entry y) rest }
 {
     match y {
         Octal::Zero => Ok((Instr::Retn, 2)),
@@ -91,7 +91,7 @@ fn leave(y: Octal) -> Decoded
 
 /// IM.
 fn interrupt(y: Octal) -> Decoded
-    ensures { (rest : List ℕ) → result ≡ filled 2 (interrupt_entry y) rest }
+    ensures { (rest : List ℕ) → result ≡ with_operand_bytes 2 (interrupt_entry y) rest }
 {
     match y {
         Octal::Zero => Ok((Instr::Im(InterruptMode::Zero), 2)),
@@ -101,9 +101,9 @@ fn interrupt(y: Octal) -> Decoded
     }
 }
 
-/// The block instructions.
+/// The block instructions, LDI to OTDR.
 fn block(y: Octal, z: Octal) -> Decoded
-    ensures { (rest : List ℕ) → result ≡ filled 2 (extended_quarter 2 y z) rest }
+    ensures { (rest : List ℕ) → result ≡ with_operand_bytes 2 (extended_quarter 2 y z) rest }
 {
     match (step_of(y), block_operation_of(z)) {
         (Some(step), Some(operation)) => Ok((Instr::Block(operation, step), 2)),

@@ -1,9 +1,9 @@
-//! The fields of an opcode, and the numbers behind it.
+//! The fields of an opcode, and the numbers after it.
 //!
-//! An opcode has three fields: x, its bits 7 and 6, y, bits 5 to 3, and z, bits 2 to 0.
+//! An opcode has three fields: x is bits 7 and 6, y is bits 5 to 3, and z is bits 2 to 0.
 ghost use Rattle.std.specs.Prelude.{◌≡◌, ◌/◌, ◌%◌};
 ghost use Rattle.z80_instr.specs.Table.{octal_of};
-ghost use Rattle.z80_table.specs.Reading.{byte_at, word_at, signed_at, both_at, is_odd, pair_at, operand_at, condition_at, operation_at, rotation_at, register_at, step_at, block_operation_at, addend_at};
+ghost use Rattle.z80_table.specs.Reading.{byte_in_front, word_in_front, signed_at, both_at, is_odd, pair_at, octal_operand, condition_at, operation_at, rotation_at, register_at, step_at, block_operation_at, addend_at};
 
 use crate::DecodeFault;
 use z80_instr::{
@@ -23,7 +23,7 @@ pub(crate) fn z_of(opcode: u8) -> Octal
     Octal::from_number(opcode % 8)
 }
 
-/// A register pair, by the upper two bits of y.
+/// The register pair that the upper two bits of y stand for.
 pub(crate) fn pair_of(y: Octal) -> RegisterPair
     ensures { result ≡ pair_at y }
 {
@@ -35,10 +35,10 @@ pub(crate) fn pair_of(y: Octal) -> RegisterPair
     }
 }
 
-/// An operand, by y or z.
+/// The register or (HL) that y or z stands for.
 #[inline(always)]
 pub(crate) fn operand_of(y: Octal) -> Operand
-    ensures { result ≡ operand_at y }
+    ensures { result ≡ octal_operand y }
 {
     match y {
         Octal::Zero => Operand::Register(Register::B),
@@ -52,7 +52,7 @@ pub(crate) fn operand_of(y: Octal) -> Operand
     }
 }
 
-/// A condition, by y.
+/// The condition that y stands for.
 pub(crate) fn condition_of(y: Octal) -> Cond
     ensures { result ≡ condition_at y }
 {
@@ -68,7 +68,7 @@ pub(crate) fn condition_of(y: Octal) -> Cond
     }
 }
 
-/// An operation on A, by y.
+/// The operation on A that y stands for.
 #[inline(always)]
 pub(crate) fn operation_of(y: Octal) -> AluOperation
     ensures { result ≡ operation_at y }
@@ -85,7 +85,7 @@ pub(crate) fn operation_of(y: Octal) -> AluOperation
     }
 }
 
-/// A register, by y; 6 is none.
+/// The register that y stands for; 6 stands for none.
 pub(crate) fn register_of(y: Octal) -> Option<Register>
     ensures { result ≡ register_at y }
 {
@@ -101,7 +101,7 @@ pub(crate) fn register_of(y: Octal) -> Option<Register>
     }
 }
 
-/// A rotation or a shift, by y; 6 is none.
+/// The rotation or shift that y stands for; 6 stands for none that is documented.
 pub(crate) fn rotation_of(y: Octal) -> Option<Rotation>
     ensures { result ≡ rotation_at y }
 {
@@ -117,7 +117,7 @@ pub(crate) fn rotation_of(y: Octal) -> Option<Rotation>
     }
 }
 
-/// What is added to an index register, by the upper two bits of y.
+/// What ADD IX or ADD IY adds, by the upper two bits of y.
 pub(crate) fn addend_of(y: Octal) -> Addend
     ensures { result ≡ addend_at y }
 {
@@ -129,7 +129,7 @@ pub(crate) fn addend_of(y: Octal) -> Addend
     }
 }
 
-/// The step of a block instruction, by y.
+/// Whether a block instruction counts up or down and whether it repeats, by y; `None` below 4.
 pub(crate) fn step_of(y: Octal) -> Option<BlockStep>
     ensures { result ≡ step_at y }
 {
@@ -142,7 +142,7 @@ pub(crate) fn step_of(y: Octal) -> Option<BlockStep>
     }
 }
 
-/// What a block instruction does, by z.
+/// What a block instruction does, by z; `None` from 4 on.
 pub(crate) fn block_operation_of(z: Octal) -> Option<BlockOperation>
     ensures { result ≡ block_operation_at z }
 {
@@ -155,16 +155,16 @@ pub(crate) fn block_operation_of(z: Octal) -> Option<BlockOperation>
     }
 }
 
-/// The lowest bit of y, which picks one of two operations on a pair.
+/// Whether y is odd. Its lowest bit picks one of two instructions on a register pair.
 pub(crate) fn is_odd(y: Octal) -> bool
     ensures { result ≡ is_odd y }
 {
     matches!(y, Octal::One | Octal::Three | Octal::Five | Octal::Seven)
 }
 
-/// The number n.
+/// The number n, or Short if there is no byte.
 pub(crate) fn byte_of(rest: &[u8]) -> Result<u8, DecodeFault>
-    ensures { result ≡ byte_at rest.now }
+    ensures { result ≡ byte_in_front rest.now }
 {
     match rest {
         [n, ..] => Ok(*n),
@@ -172,9 +172,9 @@ pub(crate) fn byte_of(rest: &[u8]) -> Result<u8, DecodeFault>
     }
 }
 
-/// The word nn, its low byte first.
+/// The word nn, low byte first, or Short if a byte is missing.
 pub(crate) fn word_of(rest: &[u8]) -> Result<u16, DecodeFault>
-    ensures { result ≡ word_at rest.now }
+    ensures { result ≡ word_in_front rest.now }
 {
     match rest {
         [low, high, ..] => Ok(*low as u16 + 256 * (*high as u16)),
@@ -182,7 +182,7 @@ pub(crate) fn word_of(rest: &[u8]) -> Result<u16, DecodeFault>
     }
 }
 
-/// The displacement d or the distance e.
+/// The displacement d or the distance e, or Short if there is no byte.
 pub(crate) fn signed_of(rest: &[u8]) -> Result<i8, DecodeFault>
     ensures { result ≡ signed_at rest.now }
 {
@@ -192,7 +192,7 @@ pub(crate) fn signed_of(rest: &[u8]) -> Result<i8, DecodeFault>
     }
 }
 
-/// The displacement d and then the number n.
+/// The displacement d and then the number n, or Short if a byte is missing.
 pub(crate) fn both_of(rest: &[u8]) -> Result<(i8, u8), DecodeFault>
     ensures { result ≡ both_at rest.now }
 {

@@ -1,8 +1,8 @@
-//! The opcodes behind DD and FD.
+//! Reads the opcodes after DD and FD.
 ghost use Rattle.std.specs.Prelude.{◌≡◌, ℕ, List};
 ghost use Rattle.z80_instr.specs.declared.Memory.{Memory};
 ghost use Rattle.z80_instr.specs.declared.Operand.{Operand};
-ghost use Rattle.z80_table.specs.Reading.{filled, index_low, index_load, index_high, index_entry, read_index_bits, read_index};
+ghost use Rattle.z80_table.specs.Reading.{with_operand_bytes, index_low, index_load, index_high, index_entry, read_index_bits, read_index};
 
 use crate::bits::bit;
 use crate::field::{addend_of, both_of, operand_of, operation_of, signed_of, word_of, y_of, z_of};
@@ -11,7 +11,7 @@ use z80_instr::{
     HlOrIndex, IndexRegister, Instr, Memory, Octal, Operand, Register, StackOperand, WordRegister,
 };
 
-/// The instruction behind DD or FD: one of HL or (HL) with the index register in its place.
+/// Reads the instruction after DD or FD: one of HL or (HL), with the index register in its place.
 pub(crate) fn indexed(index: IndexRegister, bytes: &[u8]) -> Decoded
     ensures { result ≡ read_index index bytes.now }
 {
@@ -22,9 +22,9 @@ pub(crate) fn indexed(index: IndexRegister, bytes: &[u8]) -> Decoded
     }
 }
 
-/// An instruction whose opcode follows the prefix.
+/// Reads an instruction whose opcode is right after the prefix.
 fn index_page(index: IndexRegister, opcode: u8, rest: &[u8]) -> Decoded
-    ensures { result ≡ filled 2 (index_entry index opcode) rest.now }
+    ensures { result ≡ with_operand_bytes 2 (index_entry index opcode) rest.now }
 {
     let y = y_of(opcode);
     let z = z_of(opcode);
@@ -45,7 +45,7 @@ fn index_page(index: IndexRegister, opcode: u8, rest: &[u8]) -> Decoded
 
 /// Opcodes below 40H, by z and y.
 fn index_words(index: IndexRegister, y: Octal, z: Octal, rest: &[u8]) -> Decoded
-    ensures { result ≡ filled 2 (index_low index y z) rest.now }
+    ensures { result ≡ with_operand_bytes 2 (index_low index y z) rest.now }
 {
     let word = WordRegister::Index(index);
     match (z, y) {
@@ -68,9 +68,9 @@ fn index_words(index: IndexRegister, y: Octal, z: Octal, rest: &[u8]) -> Decoded
     }
 }
 
-/// LD between a register and the indexed byte, which stands in the place of (HL).
+/// LD between a register and the byte at the index register plus a displacement, which takes the place of (HL).
 fn index_loads(index: IndexRegister, to: Operand, from: Operand, rest: &[u8]) -> Decoded
-    ensures { result ≡ filled 2 (index_load index to from) rest.now }
+    ensures { result ≡ with_operand_bytes 2 (index_load index to from) rest.now }
 {
     match (to, from) {
         (Operand::Register(to), Operand::Memory(_)) => Ok((
@@ -87,7 +87,7 @@ fn index_loads(index: IndexRegister, to: Operand, from: Operand, rest: &[u8]) ->
 
 /// Opcodes from C0H, by z and y.
 fn index_rest(index: IndexRegister, y: Octal, z: Octal) -> Decoded
-    ensures { (rest : List ℕ) → result ≡ filled 2 (index_high index y z) rest }
+    ensures { (rest : List ℕ) → result ≡ with_operand_bytes 2 (index_high index y z) rest }
 {
     match (z, y) {
         (Octal::One, Octal::Four) => Ok((Instr::Pop(StackOperand::Index(index)), 2)),
@@ -99,7 +99,7 @@ fn index_rest(index: IndexRegister, y: Octal, z: Octal) -> Decoded
     }
 }
 
-/// The displacement and the opcode behind CB, which must be one on (HL).
+/// Reads the displacement and the opcode after DD CB or FD CB. Only opcodes of (HL), with z 6, are documented.
 fn index_bits(index: IndexRegister, bytes: &[u8]) -> Decoded
     ensures { result ≡ read_index_bits index bytes.now }
 {
@@ -112,7 +112,7 @@ fn index_bits(index: IndexRegister, bytes: &[u8]) -> Decoded
     }
 }
 
-/// The byte at an index register and a displacement.
+/// The byte at an index register plus a displacement, as an operand.
 fn at_index(index: IndexRegister, d: i8) -> Operand
     ensures { result ≡ Operand.Memory (Memory.Indexed index d) }
 {

@@ -1,6 +1,6 @@
-//! The opcodes without a prefix.
+//! Reads the opcodes without a prefix.
 ghost use Rattle.std.specs.Prelude.{◌≡◌, ℕ, List};
-ghost use Rattle.z80_table.specs.Reading.{filled, relative_entry, indirect_entry, accumulator_at, low_entry, load_of, pop_entry, exchange_entry, push_entry, high_entry, plain_entry};
+ghost use Rattle.z80_table.specs.Reading.{with_operand_bytes, relative_entry, indirect_entry, accumulator_at, low_entry, load_of, pop_entry, exchange_entry, push_entry, high_entry, plain_entry};
 
 use crate::field::{
     byte_of, condition_of, is_odd, operand_of, operation_of, pair_of, signed_of, word_of, y_of,
@@ -12,10 +12,10 @@ use z80_instr::{
     StackOperand, WordRegister,
 };
 
-/// The instruction of an opcode that has no prefix, with the numbers from the bytes behind it.
+/// Reads the instruction of an opcode without a prefix, with its numbers from the bytes that follow.
 #[inline(always)]
 pub(crate) fn plain(opcode: u8, rest: &[u8]) -> Decoded
-    ensures { result ≡ filled 1 (plain_entry opcode) rest.now }
+    ensures { result ≡ with_operand_bytes 1 (plain_entry opcode) rest.now }
 {
     let y = y_of(opcode);
     let z = z_of(opcode);
@@ -28,10 +28,10 @@ pub(crate) fn plain(opcode: u8, rest: &[u8]) -> Decoded
     }
 }
 
-/// Opcodes below 40H: a column of the table for each z.
+/// Opcodes below 40H; each z is a column of the table.
 #[inline(always)]
 fn low(y: Octal, z: Octal, rest: &[u8]) -> Decoded
-    ensures { result ≡ filled 1 (low_entry y z) rest.now }
+    ensures { result ≡ with_operand_bytes 1 (low_entry y z) rest.now }
 {
     match z {
         Octal::Zero => relative(y, rest),
@@ -60,10 +60,10 @@ fn low(y: Octal, z: Octal, rest: &[u8]) -> Decoded
     }
 }
 
-/// NOP, EX AF,AF' and the relative jumps.
+/// NOP, EX AF,AF', DJNZ and JR.
 #[inline(always)]
 fn relative(y: Octal, rest: &[u8]) -> Decoded
-    ensures { result ≡ filled 1 (relative_entry y) rest.now }
+    ensures { result ≡ with_operand_bytes 1 (relative_entry y) rest.now }
 {
     match y {
         Octal::Zero => Ok((Instr::Nop, 1)),
@@ -85,7 +85,7 @@ fn relative(y: Octal, rest: &[u8]) -> Decoded
 
 /// LD between A or HL and the byte or word at an address.
 fn indirect(y: Octal, rest: &[u8]) -> Decoded
-    ensures { result ≡ filled 1 (indirect_entry y) rest.now }
+    ensures { result ≡ with_operand_bytes 1 (indirect_entry y) rest.now }
 {
     match y {
         Octal::Zero => Ok((Instr::StoreA(Pointer::Bc), 1)),
@@ -105,7 +105,7 @@ fn indirect(y: Octal, rest: &[u8]) -> Decoded
     }
 }
 
-/// LD of an operand to an operand. In the place of LD (HL),(HL) there is HALT.
+/// LD of an operand to an operand. HALT has the opcode that LD (HL),(HL) would have.
 #[inline(always)]
 fn load(to: Operand, from: Operand) -> Instr
     ensures { result ≡ load_of to from }
@@ -117,7 +117,7 @@ fn load(to: Operand, from: Operand) -> Instr
     }
 }
 
-/// What works on A and the flags alone.
+/// The instructions that change only A or its flags.
 fn accumulator_of(y: Octal) -> Instr
     ensures { result ≡ accumulator_at y }
 {
@@ -133,10 +133,10 @@ fn accumulator_of(y: Octal) -> Instr
     }
 }
 
-/// Opcodes from C0H: a column of the table for each z.
+/// Opcodes from C0H on; each z is a column of the table.
 #[inline(always)]
 fn high(y: Octal, z: Octal, rest: &[u8]) -> Decoded
-    ensures { result ≡ filled 1 (high_entry y z) rest.now }
+    ensures { result ≡ with_operand_bytes 1 (high_entry y z) rest.now }
 {
     match z {
         Octal::Zero => Ok((Instr::RetIf(condition_of(y)), 1)),
@@ -152,7 +152,7 @@ fn high(y: Octal, z: Octal, rest: &[u8]) -> Decoded
 
 /// POP, RET, EXX, JP (HL) and LD SP,HL.
 fn pops(y: Octal) -> Decoded
-    ensures { (rest : List ℕ) → result ≡ filled 1 (pop_entry y) rest }
+    ensures { (rest : List ℕ) → result ≡ with_operand_bytes 1 (pop_entry y) rest }
 {
     let instr = match y {
         Octal::Zero => Instr::Pop(StackOperand::Bc),
@@ -169,7 +169,7 @@ fn pops(y: Octal) -> Decoded
 
 /// JP nn, the ports, the exchanges, DI and EI. CB is a prefix.
 fn exchange(y: Octal, rest: &[u8]) -> Decoded
-    ensures { result ≡ filled 1 (exchange_entry y) rest.now }
+    ensures { result ≡ with_operand_bytes 1 (exchange_entry y) rest.now }
 {
     match y {
         Octal::Zero => Ok((Instr::Jump(word_of(rest)?), 3)),
@@ -185,7 +185,7 @@ fn exchange(y: Octal, rest: &[u8]) -> Decoded
 
 /// PUSH and CALL nn. DD, ED and FD are prefixes.
 fn push(y: Octal, rest: &[u8]) -> Decoded
-    ensures { result ≡ filled 1 (push_entry y) rest.now }
+    ensures { result ≡ with_operand_bytes 1 (push_entry y) rest.now }
 {
     match y {
         Octal::Zero => Ok((Instr::Push(StackOperand::Bc), 1)),

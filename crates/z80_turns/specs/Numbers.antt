@@ -1,9 +1,9 @@
--- The numbers behind an opcode, and behind a prefix and its opcode.
+-- The numbers after an opcode at PC, and after a prefix and its opcode.
 use Rattle.std.specs.Prelude.{ℕ, ◌+◌, ◌*◌, ℤ}
 use Rattle.std.specs.Int.{w8, cast_signed}
 use Rattle.z80_cpu.specs.State.{Machine, byte_at, up_by}
 
--- the numbers n, e and nn behind an opcode
+-- the numbers n, e and nn after an opcode
 abbrev pub next_byte : Machine → ℕ
 next_byte m = byte_at (up_by 1 m.cpu.pc) m.memory
 
@@ -13,7 +13,7 @@ next_signed m = cast_signed w8 (next_byte m)
 abbrev pub next_word : Machine → ℕ
 next_word m = next_byte m + 256 * byte_at (up_by 2 m.cpu.pc) m.memory
 
--- and those behind a prefix and its opcode
+-- the bytes and words after a prefix and its opcode
 abbrev pub third_byte : Machine → ℕ
 third_byte m = byte_at (up_by 2 m.cpu.pc) m.memory
 

@@ -1,4 +1,4 @@
-//! Whole turns of what changes A or its flags alone.
+//! Steps of the instructions that change only A or its flags.
 ghost use Rattle.std.specs.Prelude.{◌≡◌};
 ghost use Rattle.z80_cpu.specs.State.{machine};
 ghost use Rattle.z80_turns.specs.Turning.{IsTurnOf};

@@ -1,4 +1,4 @@
-//! Whole turns of the rotate, shift and bit groups, behind CB.
+//! Steps of the rotate, shift and bit groups, after CB.
 ghost use Rattle.std.specs.Prelude.{◌≡◌};
 ghost use Rattle.z80_cpu.specs.State.{machine};
 ghost use Rattle.z80_turns.specs.Turning.{IsTurnOf};

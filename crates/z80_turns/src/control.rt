@@ -1,4 +1,4 @@
-//! Whole turns of exchanges, of CPU control, and of input and output at a port that is named.
+//! Steps of exchanges, of CPU control, and of IN and OUT with the port as a number.
 ghost use Rattle.std.specs.Prelude.{◌≡◌};
 ghost use Rattle.z80_cpu.specs.State.{machine};
 ghost use Rattle.z80_turns.specs.Turning.{IsTurnOf};
@@ -19,7 +19,7 @@ pub fn turn_nop(cpu: &mut Cpu, memory: &mut Memory) -> Step
     Step::Done
 }
 
-/// HALT: PC stays there.
+/// HALT. PC does not move.
 #[inline(always)]
 pub fn turn_halt(cpu: &mut Cpu, memory: &mut Memory) -> Step
     ensures { IsTurnOf Instr.Halt 1 result

@@ -1,4 +1,4 @@
-//! Whole turns of INC and DEC of a byte.
+//! Steps of INC and DEC of a byte.
 ghost use Rattle.std.specs.Prelude.{◌≡◌};
 ghost use Rattle.z80_cpu.specs.State.{machine};
 ghost use Rattle.z80_turns.specs.Turning.{IsTurnOf};

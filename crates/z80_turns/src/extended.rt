@@ -1,4 +1,4 @@
-//! Whole turns of what stands behind ED.
+//! Steps of the instructions after ED.
 ghost use Rattle.std.specs.Prelude.{◌≡◌};
 ghost use Rattle.z80_cpu.specs.State.{machine};
 ghost use Rattle.z80_turns.specs.Turning.{IsTurnOf};
@@ -101,7 +101,7 @@ pub fn turn_block(
     Step::Done
 }
 
-/// Any instruction behind a prefix, by its group: of those that are rare.
+/// Any instruction of two bytes after a prefix, through `execute`. The rare ones have no function of their own.
 pub fn turn_behind_prefix(cpu: &mut Cpu, memory: &mut Memory, instr: Instr) -> Step
     ensures done { result ≡ Step.Done }
     ensures carried { machine cpu.new memory.new ≡ carried_out instr 2 (machine cpu.old memory.old) }

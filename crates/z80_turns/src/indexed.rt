@@ -1,4 +1,4 @@
-//! Whole turns of what takes IX or IY, behind DD and FD.
+//! Steps of the instructions on IX and IY, after DD and FD.
 ghost use Rattle.std.specs.Prelude.{◌≡◌};
 ghost use Rattle.z80_cpu.specs.State.{machine};
 ghost use Rattle.z80_turns.specs.Turning.{IsTurnOf};

@@ -1,4 +1,4 @@
-//! Whole turns of the rotate, shift and bit groups at IX or IY and a displacement, behind DD CB and FD CB.
+//! Steps of the rotate, shift and bit groups at IX or IY plus a displacement, after DD CB and FD CB.
 ghost use Rattle.std.specs.Prelude.{◌≡◌};
 ghost use Rattle.z80_cpu.specs.State.{machine};
 ghost use Rattle.z80_turns.specs.Turning.{IsTurnOf};

@@ -1,4 +1,4 @@
-//! Whole turns of the jump group, and of calls and returns.
+//! Steps of jumps, calls and returns.
 ghost use Rattle.std.specs.Prelude.{◌≡◌};
 ghost use Rattle.z80_cpu.specs.State.{machine};
 ghost use Rattle.z80_turns.specs.Turning.{IsTurnOf};

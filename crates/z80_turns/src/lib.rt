@@ -1,5 +1,6 @@
-//! The turn of each documented instruction of the Z80 that an emulator meets often, as a function that knows its registers: PC is
-//! moved behind the instruction, which is then carried out. Which of them is due is another crate's matter.
+//! This crate exists only for speed. It has a function for each common form of a documented instruction, in which the registers are
+//! constants. The function makes the step: it moves PC to the next instruction and carries out this one. `execute` of `z80_cpu` carries
+//! out any instruction, but has to find out first which one it is. `z80_machine` chooses the function.
 #![tactic(auto)]
 
 mod accumulator;

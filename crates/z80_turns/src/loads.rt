@@ -1,4 +1,4 @@
-//! Whole turns of the 8-bit load group.
+//! Steps of the 8-bit load group.
 ghost use Rattle.std.specs.Prelude.{◌≡◌};
 ghost use Rattle.z80_cpu.specs.State.{machine};
 ghost use Rattle.z80_turns.specs.Turning.{IsTurnOf};

@@ -1,4 +1,4 @@
-//! Whole turns of the 8-bit arithmetic group on A.
+//! Steps of the 8-bit arithmetic group on A.
 ghost use Rattle.std.specs.Prelude.{◌≡◌};
 ghost use Rattle.z80_cpu.specs.State.{machine};
 ghost use Rattle.z80_turns.specs.Turning.{IsTurnOf};
@@ -10,7 +10,7 @@ use crate::outcome::Step;
 use z80_cpu::{Cpu, Memory};
 use z80_instr::{AluOperation, Register};
 
-/// ADD to CP with a register.
+/// ADD, ADC, SUB, SBC, AND, XOR, OR or CP of A with a register.
 #[inline(always)]
 pub fn turn_operate(
     cpu: &mut Cpu,
@@ -38,7 +38,7 @@ pub fn turn_operate_at_hl(cpu: &mut Cpu, memory: &mut Memory, operation: AluOper
     Step::Done
 }
 
-/// ADD to CP with the byte that follows.
+/// ADD, ADC, SUB, SBC, AND, XOR, OR or CP of A with the number that follows.
 #[inline(always)]
 pub fn turn_operate_byte(cpu: &mut Cpu, memory: &mut Memory, operation: AluOperation) -> Step
     ensures { IsTurnOf (Instr.AluByte operation (next_byte (machine cpu.old memory.old))) 2 result

@@ -1,4 +1,4 @@
-//! Whole turns of the 16-bit load and arithmetic groups.
+//! Steps of the 16-bit load and arithmetic groups.
 ghost use Rattle.std.specs.Prelude.{◌≡◌};
 ghost use Rattle.z80_cpu.specs.State.{machine};
 ghost use Rattle.z80_turns.specs.Turning.{IsTurnOf};

@@ -1,4 +1,4 @@
--- How an end is reported that has a fault.
+-- How an end with an error is reported.
 use Rattle.std.proofs.Common.{◌≡◌, ℕ, ◌++◌, List, Result, Err, codes, subst}
 use Rattle.streams.specs.Stream.{Stream}
 use Rattle.streams.specs.Writing.{error_line}
@@ -9,14 +9,14 @@ use Rattle.z80dev_finish.specs.declared.end.End.TheVariants as end
 use Rattle.z80dev_finish.specs.End.{IsPut, Tells, TellsOf, end_status}
 use Rattle.z80dev.specs.declared.fault.Fault.{Fault}
 use Rattle.z80dev.specs.declared.fault.Fault.TheVariants as fault
-use Rattle.z80dev.specs.Pipe.{Ends, said_at, status_at}
+use Rattle.z80dev.specs.Pipe.{PrintingEnds, said_at, status_at}
 use Rattle.z80dev.specs.Private.Steps.{Reports}
 
--- what happened, what the status is and what is said are of one end
+-- the exit status, what was written and the line on standard error belong to one end
 abbrev pub OneEnd : List ℕ → Type 0 → Stream → Stream → ℕ → Stream → Stream → Type 0
-OneEnd text Cut old new status before after = (e : Result Unit Fault) × (status ≡ status_at e) × Ends text Cut old new e × TellsOf (said_at e) before after
+OneEnd text Cut old new status before after = (e : Result Unit Fault) × (status ≡ status_at e) × PrintingEnds text Cut old new e × TellsOf (said_at e) before after
 
-pub reported : (text : List ℕ) (Cut : Type 0) (old new : Stream) (status : ℕ) (before after : Stream) (failure : Fault) (e : End) → Ends text Cut old new (Err failure)
+pub reported : (text : List ℕ) (Cut : Type 0) (old new : Stream) (status : ℕ) (before after : Stream) (failure : Fault) (e : End) → PrintingEnds text Cut old new (Err failure)
     → Reports failure e → status ≡ end_status e → Tells e before after → OneEnd text Cut old new status before after
 reported text Cut old new status before after fault.File (end.File path ending) ends is same told =
     (Err fault.File, same, ends, subst (λ p. IsPut before after (error_line (codes "file " ++ p))) is told)

@@ -1,10 +1,10 @@
--- A text that is read piece by piece.
+-- An input that is read piece by piece.
 use Rattle.std.proofs.Common.{◌≡◌, ℕ, ◌+◌, ◌≤◌, Bool, false, List, Option, length}
 use Rattle.std.specs.Io.KnownBytes.{Consumes}
 use Rattle.common.specs.declared.limits.TheConstants.{LONGEST_TEXT}
 
--- What was read is what the reader gave, and is within the limit; it has not failed, and each turn is one read, which gave a byte at
--- least or was interrupted.
+-- What was read so far is what the reader gave, and is within the limit. The reader has not failed. Each turn of the
+-- loop made one read, which gave at least one byte or was interrupted.
 pub record TextSoFar (old new : Option (List ℕ)) (text : List ℕ) (failed : Bool) (reads interruptions turns : ℕ) : Type 0 where
   pub limit : length text ≤ LONGEST_TEXT
   pub taken : Consumes old new text

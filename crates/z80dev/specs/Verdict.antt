@@ -1,4 +1,4 @@
--- What `check` prints of a sizes text and its certificate, and how it ends.
+-- What `check` prints for a sizes file and its certificate, and how it ends.
 use Rattle.std.specs.Prelude.{◌≡◌, ℕ, List, [], ◌∷◌, ◌++◌, Err, codes, decimal, string_bytes}
 use Rattle.certificate.specs.declared.cert.Verdict.{Verdict}
 use Rattle.certificate.specs.declared.cert.Verdict.TheVariants.{Best, Range, TooLarge}
@@ -17,11 +17,11 @@ judged_line (Best n) = codes "best " ++ decimal n ++ 10 ∷ []
 judged_line (Range k) = codes "range " ++ decimal k ++ 10 ∷ []
 judged_line (TooLarge n) = codes "size " ++ decimal n ++ 10 ∷ []
 
--- the texts are accepted with a verdict, and what is written has to do with its line
+-- the files are accepted with a verdict, and Written holds of its line
 abbrev pub WithVerdict : List ℕ → List ℕ → (List ℕ → Type 0) → Type 0
 WithVerdict sizes cert Written = (v : Verdict) × Accepts sizes cert v × Written (judged_line v)
 
--- The texts have this first fault. Want of memory is no fault of texts.
+-- The files have this first error. That memory ran out is not an error of files.
 abbrev pub IsRefusedBy : List ℕ → List ℕ → List ℕ → Type 0
 IsRefusedBy sizes cert text = (fault : CheckFault) × Checks sizes cert (Err fault) × (text ≡ check_text fault)
 

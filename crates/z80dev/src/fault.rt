@@ -15,12 +15,12 @@ use zlink::{BuildFault, LinkFault};
 /// The name of the one source.
 pub const SOURCE_NAME: &str = "MAIN";
 
-/// Why a source text is not printed as a file.
+/// Why the file of a source is not printed.
 #[derive(Debug, Drop)]
 pub enum Fault {
-    /// The text cannot be read, is above its limit, or the output cannot be written.
+    /// The source cannot be read or is too long, or the output cannot be written.
     File,
-    /// No file is built of the text, or memory ran out.
+    /// No file can be built from the source, or memory ran out.
     Build(BuildFault),
 }
 
@@ -41,7 +41,7 @@ impl From<AllocError> for Fault {
 }
 
 impl Fault {
-    /// The exit status: 3 for a file, 1 for a text that is refused.
+    /// Answers the exit status: 3 for a file, 1 for a source that is refused.
     pub fn status(&self) -> u8
         ensures { result ≡ status_of self.now }
     {
@@ -52,8 +52,8 @@ impl Fault {
     }
 }
 
-/// What is printed after `error: `: a fault of the source as `MAIN(LINE): NAME`, any other by its name. A name is that of
-/// the innermost variant, with its numbers in parentheses.
+/// What is printed after `error: `: an error of the source as `MAIN(LINE): NAME`, any other by its name. A name is that
+/// of the innermost variant, with its numbers in parentheses.
 impl fmt::Display for Fault {
     ghost use Rattle.std.specs.Prelude.{Some};
     ghost use Rattle.z80dev.specs.FaultTexts.{fault_text};

@@ -1,4 +1,4 @@
-//! Laws of the calls together, as functions that do nothing.
+//! Laws about the calls together. A law is a function that does nothing and whose clause is a theorem.
 
 ghost use Rattle.std.specs.Prelude.{◌≡◌, ◌⊎◌, ℕ, Bool, Err, List, Ok, Result, Vec, length};
 ghost use Rattle.std.specs.Global.{Global};
@@ -18,8 +18,9 @@ ghost use Rattle.zlink.specs.Certified.{told_verdict};
 ghost use Rattle.zlink.specs.Judged.{verdict_of};
 ghost use Rattle.zlink.specs.Linked.{IsLinked};
 
-/// The checker says of the two texts that go with a file that its length is the best, and of those that go with a refusal its reason: out of
-/// memory aside, it answers nothing else. So of what is built of sources, and of what is linked of modules.
+/// The checker confirms the sizes file and certificate of a built program with `best` and the program's length, and
+/// those of a refusal with its reason. Unless memory runs out, it answers nothing else. The same holds for what is
+/// linked from modules.
 pub fn checked()
     ensures built { (grow : Bool) (sources : List Source) (b : Built) (answer : Result Verdict CheckFault) → IsBuilt grow sources (Ok b) →
         IsChecked b.sizes.items b.cert.items answer → (answer ≡ Ok (verdict.Best (length b.com.items))) ⊎ (answer ≡ Err check.NoMemory) }
@@ -32,6 +33,6 @@ pub fn checked()
         IsLinked modules (Err (link.NoFit why sizes cert)) →
         IsChecked sizes.items cert.items answer → (answer ≡ Ok (told_verdict (verdict_of why))) ⊎ (answer ≡ Err check.NoMemory) }
 {
-    // A law, which does nothing: this one follows from its contract.
+    // A law: it does nothing, and this law follows from its contract.
     cert_check::laws::one_answer();
 }

@@ -1,5 +1,5 @@
-//! The calls of the command `z80dev`. [`pipe`] reads a source file and prints its program, [`check_texts`] prints the verdict of a
-//! certificate, and the crates below answer the other commands.
+//! The calls of the command `z80dev`. [`pipe`] reads a source and prints its program, [`check_texts`] prints the
+//! verdict of a certificate, and the crates below answer the other commands.
 #![tactic(auto)]
 
 mod fault;

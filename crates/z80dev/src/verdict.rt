@@ -1,4 +1,4 @@
-//! What `check` prints of a sizes text and its certificate.
+//! Prints what `check` finds about a sizes file and its certificate.
 
 ghost use Rattle.std.specs.Prelude.{◌≡◌, IfOk, string_bytes};
 ghost use Rattle.z80dev.specs.Private.Steps.{IsTextOf, Judges, end_of};
@@ -10,7 +10,7 @@ use std::alloc::{AllocError, Global};
 use streams::{Sink, print};
 use z80dev_finish::End;
 
-/// The line of a verdict.
+/// Answers the line of a verdict.
 fn line_of(alloc: Global, verdict: Verdict) -> Result<String, AllocError>
     ensures { IfOk result (λ line. string_bytes line ≡ judged_line verdict) }
 {
@@ -21,7 +21,7 @@ fn line_of(alloc: Global, verdict: Verdict) -> Result<String, AllocError>
     }
 }
 
-/// What is printed after `error: `: the name of the fault, with its number in parentheses.
+/// Answers what is printed after `error: `: the name of the error, with its number in parentheses.
 fn text_of(alloc: Global, fault: CheckFault) -> Result<String, AllocError>
     ensures { IfOk result (λ text. IsTextOf fault (string_bytes text)) }
 {
@@ -38,7 +38,7 @@ fn text_of(alloc: Global, fault: CheckFault) -> Result<String, AllocError>
     }
 }
 
-/// What the texts prove, or how the command ends because they prove nothing.
+/// Answers what the files prove, or how the command ends because they prove nothing.
 fn judge(alloc: Global, sizes: &[u8], cert: &[u8]) -> Result<Verdict, End<'static>>
     ensures { Judges sizes.now cert.now result }
 {
@@ -48,7 +48,7 @@ fn judge(alloc: Global, sizes: &[u8], cert: &[u8]) -> Result<Verdict, End<'stati
     }
 }
 
-/// Checks the texts and writes the line of what they prove.
+/// Checks the files and writes the line of what they prove.
 fn print_verdict<W: Sink>(
     alloc: Global,
     sizes: &[u8],
@@ -65,9 +65,9 @@ fn print_verdict<W: Sink>(
     }
 }
 
-/// Checks a sizes text and its certificate, and writes what they prove to `output`: `best N`, `range K` or `size N`. The
-/// result says how that ended: [`End::Done`] if the line is written; [`End::Refused`] with the name of the fault if the
-/// texts prove nothing; [`End::Stream`] if writing fails.
+/// Checks a sizes file and its certificate, and writes what they prove to `output`: `best N`, `range K` or `size N`.
+/// The result says how that ended: [`End::Done`] if the line is written; [`End::Refused`] with the name of the error if
+/// the files prove nothing; [`End::Stream`] if writing fails.
 pub fn check_texts<W: Sink>(
     alloc: Global,
     sizes: &[u8],

@@ -1,4 +1,4 @@
-//! Each case built, and its answer.
+//! Builds each case and tests the answer.
 
 use crate::choices::{FEW, count_of, fewest};
 use crate::layout::{Layout, MOST, Shape, layout_of, shape_of};
@@ -20,18 +20,18 @@ use zlink::Why::{self, Duplicate, EquCircle, Macro, Stmt, Undefined};
 use zlink::{AsmFault, BuildFault, Built, LinkFault, Misfit, Source, build};
 use zlisting::listing;
 
-/// How many cases came to what.
+/// The number of cases with each kind of answer.
 #[derive(Clone, Copy, Debug)]
 pub struct Tally {
-    /// Built, and of these how many turns they ran in all.
+    /// Cases that were built, and the number of steps that they ran in all.
     pub built: u32,
     pub turns: u64,
-    /// Refused for their faulty line.
+    /// Cases that were refused for their wrong line.
     pub spoiled: u32,
-    /// Refused since a short jump does not reach, or for their size.
+    /// Cases that were refused because a short jump does not reach, or for their size.
     pub range: u32,
     pub size: u32,
-    /// All choices of short and long jumps were tried.
+    /// Cases for which all choices of short and long jumps were tried.
     pub tried: u32,
 }
 
@@ -48,7 +48,7 @@ impl Tally {
     }
 }
 
-/// The fault of a faulty line.
+/// The error of a wrong line.
 fn why_of(spoil: Spoil) -> Why {
     match spoil {
         Spoil::UnknownWord => Stmt(UnknownWord),
@@ -69,7 +69,7 @@ fn why_of(spoil: Spoil) -> Why {
     }
 }
 
-/// The sources of a case, named by a letter each.
+/// The sources of a case, each named with a letter.
 fn sources_of<'a>(alloc: Global, case: &'a Case) -> Result<Vec<Source<'a>>, AllocError> {
     let names: [&'static [u8]; 3] = [b"A", b"B", b"C"];
     let mut sources = Vec::new(alloc);
@@ -79,7 +79,7 @@ fn sources_of<'a>(alloc: Global, case: &'a Case) -> Result<Vec<Source<'a>>, Allo
     Ok(sources)
 }
 
-/// Whether each statement stands where it is to stand, comes from its line, and has its own bytes.
+/// Tests that each statement is at its address, comes from its line and has its own bytes.
 fn check_statements(case: &Case, layout: &Layout, built: &Built) -> Result<(), Missed> {
     let is_counted = built.statements.len() == case.statements.len();
     if !is_counted || built.com.len() != layout.total() as usize {
@@ -99,7 +99,7 @@ fn check_statements(case: &Case, layout: &Layout, built: &Built) -> Result<(), M
     }
 }
 
-/// Whether a listing has the bytes of the file.
+/// Tests that a listing has the bytes of the file.
 fn check_listing(alloc: Global, case: &Case, built: &Built) -> Result<(), Missed> {
     let sources = sources_of(alloc, case)?;
     let text = listing(alloc, built, &sources)?;
@@ -109,7 +109,7 @@ fn check_listing(alloc: Global, case: &Case, built: &Built) -> Result<(), Missed
     }
 }
 
-/// Whether the checker proves a verdict.
+/// Tests that the checker proves this verdict.
 fn check_verdict(alloc: Global, sizes: &[u8], cert: &[u8], wanted: Verdict) -> Result<(), Missed> {
     match check(alloc, sizes, cert) {
         Ok(verdict) if verdict == wanted => Ok(()),
@@ -117,7 +117,7 @@ fn check_verdict(alloc: Global, sizes: &[u8], cert: &[u8], wanted: Verdict) -> R
     }
 }
 
-/// Whether what is built is right, and how many turns it ran.
+/// Tests what was built, and answers the number of steps that it ran.
 fn check_built(alloc: Global, case: &Case, layout: &Layout, built: &Built) -> Result<u64, Missed> {
     check_statements(case, layout, built)?;
     let best = Verdict::Best(layout.total());
@@ -126,7 +126,7 @@ fn check_built(alloc: Global, case: &Case, layout: &Layout, built: &Built) -> Re
     walk(alloc, case, layout, &built.com)
 }
 
-/// Whether a refusal is that no choice fits, for this reason.
+/// Tests that a case is refused because no choice fits, for this reason.
 fn check_unfit(alloc: Global, fault: &LinkFault, wanted: Misfit) -> Result<(), Missed> {
     let LinkFault::NoFit { why, sizes, cert } = fault else {
         return Err(Missed::Refusal);
@@ -141,7 +141,7 @@ fn check_unfit(alloc: Global, fault: &LinkFault, wanted: Misfit) -> Result<(), M
     check_verdict(alloc, sizes, cert, verdict)
 }
 
-/// Whether of a small case all choices have no fewer bytes.
+/// Tests, for a small case, that no choice of jumps has fewer bytes.
 fn check_fewest(alloc: Global, shape: &Shape, layout: &Layout) -> Result<(), Missed> {
     let wanted = match layout.out_of_range {
         Some(_) => None,
@@ -154,7 +154,7 @@ fn check_fewest(alloc: Global, shape: &Shape, layout: &Layout) -> Result<(), Mis
     }
 }
 
-/// Why no choice of a layout fits, if none does.
+/// Why no choice fits, if none does.
 fn misfit_of(layout: &Layout) -> Option<Misfit> {
     match layout.out_of_range {
         Some(statement) => Some(Misfit::Range((statement % 65_536) as u32)),
@@ -163,7 +163,7 @@ fn misfit_of(layout: &Layout) -> Option<Misfit> {
     }
 }
 
-/// Whether the answer of a case without a faulty line is right.
+/// Tests the answer for a case without a wrong line.
 fn check_answer(
     alloc: Global,
     case: &Case,
@@ -196,13 +196,13 @@ fn check_answer(
     }
 }
 
-/// What is built of a case.
+/// Builds a case.
 fn answer_of(alloc: Global, case: &Case) -> Result<Result<Built, BuildFault>, AllocError> {
     let sources = sources_of(alloc, case)?;
     Ok(build(alloc, &sources))
 }
 
-/// Whether a case is refused for its faulty line.
+/// Tests that a case is refused for its wrong line.
 fn check_spoiled(answer: &Result<Built, BuildFault>, spoiled: Spoiled) -> Result<(), Missed> {
     let fault = AsmFault {
         line: spoiled.line,
@@ -219,10 +219,9 @@ fn check_spoiled(answer: &Result<Built, BuildFault>, spoiled: Spoiled) -> Result
     }
 }
 
-/// Builds the random program of a seed, and compares all that is answered with what plain code says.
+/// Builds the random program of a seed, and compares the whole answer with what plain code computes.
 ///
-/// # Errors
-/// The first difference.
+/// # Errors The first difference.
 pub fn try_program(alloc: Global, seed: u64, tally: &mut Tally) -> Result<(), Missed> {
     let case = random_program(alloc, seed)?;
     let answer = answer_of(alloc, &case)?;

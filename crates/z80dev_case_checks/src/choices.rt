@@ -1,12 +1,12 @@
-//! All choices of short and long jumps of a small case.
+//! Tries all choices of short and long jumps of a small case.
 
 use crate::layout::{Shape, places_of, reaches};
 use std::alloc::{AllocError, Global};
 
-/// The most jumps of which all choices are tried.
+/// The greatest number of jumps for which all choices are tried.
 pub(crate) const FEW: usize = 8;
 
-/// The choice of a number: bit k says whether the k-th jump that may be long is.
+/// The choice with a number: bit k says whether the k-th jump that can be long is long.
 fn choice_of(alloc: Global, shape: &Shape, number: u32) -> Result<Vec<bool>, AllocError> {
     let mut long = vec![in alloc; false; shape.sizes.len()]?;
     let mut bits = number;
@@ -21,7 +21,7 @@ fn choice_of(alloc: Global, shape: &Shape, number: u32) -> Result<Vec<bool>, All
     Ok(long)
 }
 
-/// Whether each jump that is short reaches its target.
+/// Whether each short jump reaches its target.
 fn fits(shape: &Shape, places: &[u32], long: &[bool]) -> bool {
     for jump in &shape.jumps {
         let is_long = matches!(long.get(jump.statement), Some(true));
@@ -32,12 +32,12 @@ fn fits(shape: &Shape, places: &[u32], long: &[bool]) -> bool {
     true
 }
 
-/// How many jumps of a shape may be long.
+/// The number of jumps that can be long.
 pub(crate) fn count_of(shape: &Shape) -> usize {
     shape.jumps.iter().filter(|jump| jump.may_grow).count()
 }
 
-/// The fewest bytes of all choices that fit, where one does.
+/// The fewest bytes of all choices that fit, if one does.
 pub(crate) fn fewest(alloc: Global, shape: &Shape) -> Result<Option<u32>, AllocError> {
     let mut fewest: Option<u32> = None;
     for number in 0..256 {

@@ -1,14 +1,14 @@
-//! Where the statements of a case stand, with as many short jumps as there can be: the sizes are added from the beginning for
-//! each place, and a jump that does not reach is made long, until none is left.
+//! Finds the addresses of the statements of a case, with as many short jumps as possible. For each address it adds up the sizes from the
+//! beginning. It makes a jump that does not reach long, until none is left.
 
 use std::alloc::{AllocError, Global};
 use z80_table::size;
 use z80dev_cases::{Case, Kind};
 
-/// The most bytes of a program.
+/// The most bytes that a program can have.
 pub(crate) const MOST: u32 = 64_512;
 
-/// A jump that has a target and may be short.
+/// A jump with a target that can be short.
 #[derive(Clone, Copy)]
 pub(crate) struct Jump {
     pub(crate) statement: usize,
@@ -17,24 +17,24 @@ pub(crate) struct Jump {
     pub(crate) may_grow: bool,
 }
 
-/// The sizes of the statements with short jumps alone, and the jumps.
+/// The sizes of the statements if all jumps are short, and the jumps.
 #[derive(Drop)]
 pub(crate) struct Shape {
     pub(crate) sizes: Vec<u32>,
     pub(crate) jumps: Vec<Jump>,
 }
 
-/// Places of the statements and of the end, and which are long.
+/// The addresses of the statements and of the end, and which jumps are long.
 #[derive(Drop)]
 pub(crate) struct Layout {
     pub(crate) places: Vec<u32>,
     pub(crate) long: Vec<bool>,
-    /// The lowest statement that is always short and does not reach.
+    /// The number of the first jump that is always short and does not reach.
     pub(crate) out_of_range: Option<usize>,
 }
 
 impl Layout {
-    /// The place of a statement, and of one behind the last the end.
+    /// The address of a statement, or of the end if it is after the last one.
     pub(crate) fn place(&self, statement: usize) -> u32 {
         match self.places.get(statement) {
             Some(place) => *place,
@@ -42,7 +42,7 @@ impl Layout {
         }
     }
 
-    /// How many bytes there are.
+    /// The number of bytes.
     pub(crate) fn total(&self) -> u32 {
         match self.places.last() {
             Some(end) => end.saturating_sub(0x100),
@@ -55,7 +55,7 @@ impl Layout {
     }
 }
 
-/// The statement of a label.
+/// The number of the statement of a label.
 pub(crate) fn target_of(case: &Case, label: usize) -> usize {
     match case.labels.get(label) {
         Some(statement) => *statement,
@@ -90,7 +90,7 @@ pub(crate) fn shape_of(alloc: Global, case: &Case) -> Result<Shape, AllocError> 
     Ok(Shape { sizes, jumps })
 }
 
-/// The places under a choice.
+/// The addresses with a choice of long jumps.
 pub(crate) fn places_of(
     alloc: Global,
     shape: &Shape,
@@ -111,7 +111,7 @@ pub(crate) fn places_of(
     Ok(places)
 }
 
-/// Whether a short jump reaches its target: from 126 bytes before it to 129 behind it.
+/// Whether a short jump reaches its target, which has to be at most 126 bytes before its address and at most 129 after it.
 pub(crate) fn reaches(places: &[u32], jump: Jump) -> bool {
     match (places.get(jump.statement), places.get(jump.target)) {
         (Some(from), Some(to)) => to.saturating_add(126) >= *from

@@ -1,4 +1,4 @@
-//! Random programs of the whole language, each built, and its answer beside what plain code says that it is to be.
+//! Builds random programs of the whole language, and compares each answer with what plain code computes.
 #![tactic(auto)]
 
 mod answers;

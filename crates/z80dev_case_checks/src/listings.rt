@@ -1,4 +1,4 @@
-//! The bytes of a listing, in its order.
+//! Reads the bytes of a listing, in its order.
 
 use std::alloc::{AllocError, Global};
 
@@ -11,7 +11,7 @@ fn digit(byte: u8) -> Option<u32> {
     }
 }
 
-/// The bytes of digits, two a byte, up to a blank.
+/// The bytes in hexadecimal digits, two for each byte, up to a blank.
 fn bytes_of(alloc: Global, digits: &[u8]) -> Result<Vec<u8>, AllocError> {
     let mut bytes = Vec::new(alloc);
     for pair in digits.chunks(2) {
@@ -25,8 +25,8 @@ fn bytes_of(alloc: Global, digits: &[u8]) -> Result<Vec<u8>, AllocError> {
     Ok(bytes)
 }
 
-/// The bytes of a listing's rows, or None where a row's address is not that of its first byte: four digits, two blanks, eight
-/// places for up to four bytes.
+/// The bytes in the rows of a listing, or None if the address of a row is not that of its first byte. A row has four digits, two blanks,
+/// and eight characters for up to four bytes.
 pub(crate) fn listed(alloc: Global, listing: &[u8]) -> Result<Option<Vec<u8>>, AllocError> {
     let mut all: Vec<u8> = Vec::new(alloc);
     for row in listing.split(|byte| *byte == b'\n') {

@@ -1,31 +1,31 @@
-//! Where an answer differs from what plain code says.
+//! The difference between an answer and what plain code computes.
 
 use std::alloc::{AllocError, AllocFailed};
 
-/// Where an answer differs from what plain code says.
+/// The difference between an answer and what plain code computes.
 #[derive(Clone, Copy, Debug, PartialEq, Eq)]
 pub enum Missed {
     /// Memory ran out.
     NoMemory,
-    /// The count of statements or bytes.
+    /// The number of statements or of bytes.
     Length,
-    /// The place, the source or the line of a statement.
+    /// The address, the source or the line of a statement.
     Origin(usize),
     /// The bytes of a statement.
     Bytes(usize),
     /// The bytes of the listing.
     Listing,
-    /// What the checker proves.
+    /// The verdict that the checker proves.
     Certificate,
-    /// A choice of short and long jumps has fewer bytes, or one fits where none was found.
+    /// A choice of short and long jumps has fewer bytes, or one fits although none was found.
     Fewest,
-    /// A turn of the machine, at an address.
+    /// A step of the machine, at an address.
     Turn(u16),
-    /// A byte of memory that the machine has written, or not.
+    /// A byte of memory that differs after the machine's steps and after those of the statements.
     Memory(u16),
-    /// A program that is to be refused was built.
+    /// A program that has to be refused was built.
     Built,
-    /// A program was refused, or for another reason.
+    /// A program was refused that has to be built, or for the wrong reason.
     Refusal,
 }
 

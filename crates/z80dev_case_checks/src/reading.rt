@@ -1,4 +1,4 @@
-//! The bytes of each statement, read back.
+//! Reads the bytes of each statement back.
 
 use crate::layout::{Layout, target_of};
 use z80_form::{Field, with_number};
@@ -6,13 +6,13 @@ use z80_instr::Branch;
 use z80_table::{Cond, Instr, ShortCond, decode};
 use z80dev_cases::{Case, Kind};
 
-/// The address that a label and an addend come to.
+/// The address of a label plus an addend.
 fn sum_of(case: &Case, layout: &Layout, label: usize, add: u16) -> u16 {
     let place = layout.place(target_of(case, label));
     ((place % 65_536) as u16).wrapping_add(add)
 }
 
-/// How far it is from behind a short jump to its target.
+/// The distance from the end of a short jump to its target.
 fn distance(from: u16, to: u16) -> i8 {
     let far = to.wrapping_sub(from).wrapping_sub(2);
     i8::from_le_bytes([(far % 256) as u8])
@@ -43,7 +43,7 @@ fn short_jump(branch: Branch, from: u16, to: u16) -> Instr {
     }
 }
 
-/// The instruction that a statement is, with its numbers; None of data.
+/// The instruction of a statement, with its numbers; None for data.
 pub(crate) fn instruction_at(case: &Case, layout: &Layout, statement: usize) -> Option<Instr> {
     let stated = case.statements.get(statement)?;
     let from = (layout.place(statement) % 65_536) as u16;
@@ -69,7 +69,7 @@ pub(crate) fn instruction_at(case: &Case, layout: &Layout, statement: usize) -> 
     }
 }
 
-/// Whether bytes are the data that a statement is.
+/// Whether these bytes are the data of a statement.
 fn is_data(case: &Case, layout: &Layout, kind: Kind, bytes: &[u8]) -> bool {
     match kind {
         Kind::Data(from, count) => {
@@ -88,7 +88,7 @@ fn is_data(case: &Case, layout: &Layout, kind: Kind, bytes: &[u8]) -> bool {
     }
 }
 
-/// The first statement whose bytes are others than those that it is to have.
+/// The number of the first statement that does not have its bytes.
 pub(crate) fn first_other(case: &Case, layout: &Layout, com: &[u8]) -> Option<usize> {
     for (statement, stated) in case.statements.iter().enumerate() {
         let from = layout.place(statement).saturating_sub(0x100) as usize;

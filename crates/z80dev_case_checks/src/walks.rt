@@ -1,4 +1,4 @@
-//! The machine beside a walk of statements.
+//! Compares the machine with a walk over the statements.
 
 use crate::layout::{Layout, target_of};
 use crate::missed::Missed;
@@ -9,7 +9,7 @@ use z80_machine::{Cpu, Memory, step};
 use z80_table::{Instr, ShortCond, size};
 use z80dev_cases::{Case, Kind};
 
-/// The statements by the bytes of a file at which they begin.
+/// For each byte of a file, the statement that begins there, if any.
 #[derive(Drop)]
 struct Begins {
     at: Vec<Option<usize>>,
@@ -41,7 +41,7 @@ impl Begins {
     }
 }
 
-/// Whether the bytes of a statement are still those of the file.
+/// Whether the bytes of a statement in memory are still those of the file.
 fn is_untouched(memory: &Memory, com: &[u8], pc: u16, size: u8) -> bool {
     for ahead in 0..u16::from(size) {
         let address = pc.wrapping_add(ahead);
@@ -71,7 +71,7 @@ struct Walker {
     memory: Memory,
 }
 
-/// A file at 0100H, with the stack above it.
+/// A machine with a file at 0100H and the stack above it.
 fn started(alloc: Global, com: &[u8]) -> Result<Walker, AllocError> {
     let mut memory = Memory::new(alloc)?;
     let mut address: u16 = 0x100;
@@ -86,7 +86,8 @@ fn started(alloc: Global, com: &[u8]) -> Result<Walker, AllocError> {
 }
 
 impl Walker {
-    /// The turn of a statement: a jump to a label goes there or on, whatever its form; another instruction does what it does.
+    /// Makes the step of a statement. A jump to a label goes there or to the next statement, whether it is short or long; any other
+    /// instruction is carried out.
     fn take(&mut self, case: &Case, layout: &Layout, statement: usize, instr: Instr) {
         let next = (layout.place(statement.saturating_add(1)) % 65_536) as u16;
         self.cpu.pc = next;
@@ -101,14 +102,14 @@ impl Walker {
     }
 }
 
-/// What comes of a turn: it goes on, it ends, or the machine does otherwise.
+/// The result of a step: the walk continues, it ends, or the machine differs.
 enum Turn {
     GoesOn,
     Ends,
     Differs,
 }
 
-/// A turn of both, at a statement that is an instruction and that nothing was written into.
+/// Makes a step on both sides, if the statement is an instruction and the program has not written into it.
 fn turn_of(
     case: &Case,
     layout: &Layout,
@@ -138,11 +139,10 @@ fn first_difference(one: &Memory, other: &Memory) -> Option<u16> {
     (0..=0xFFFF).find(|address| one.get(*address) != other.get(*address))
 }
 
-/// Goes with the machine and with the statements, for a thousand turns, or until the machine comes to what is no instruction among the
-/// statements, or to one that it has written into. How many turns were made.
+/// Walks with the machine and with the statements, for a thousand steps, or until PC is not at a statement that is an instruction, or is
+/// at one that the program has written into. Answers the number of steps.
 ///
-/// # Errors
-/// Where the machine does otherwise than the statements, the address.
+/// # Errors The address at which the machine differs from the statements.
 pub(crate) fn walk(alloc: Global, case: &Case, layout: &Layout, com: &[u8]) -> Result<u64, Missed> {
     let begins = begins_of(alloc, case, layout, com)?;
     let mut machine = started(alloc, com)?;

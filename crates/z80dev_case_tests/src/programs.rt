@@ -1,9 +1,9 @@
-//! Six hundred programs.
+//! Builds six hundred random programs.
 
 use std::test::Fail;
 use z80dev_case_checks::{Missed, Tally, try_program};
 
-/// Each program's answer is right, and there are many of each kind.
+/// Each program has the right answer, and there are many programs of each kind.
 #[test]
 fn random_programs(rt: HostRuntime) -> Result<(), Fail> {
     let mut tally = Tally::new();

@@ -1,38 +1,38 @@
-//! Programs, and what is to become of them.
+//! Programs, and the statements that they have to be.
 
 use z80_instr::{Branch, Instr, ShortCond};
 
-/// What a statement is to be. Labels are numbered; a place is the address of a label, and an addend goes round at 65,536.
+/// What a statement has to be. Labels are numbered. An addend is added to the address of a label modulo 65,536.
 #[derive(Clone, Copy, Debug)]
 pub enum Kind {
     /// An instruction with its numbers.
     Code(Instr),
-    /// An instruction whose word is a place and an addend.
+    /// An instruction whose word is the address of a label plus an addend.
     Labelled(Instr, usize, u16),
     /// A `JP` that may become a `JR`.
     Jump(Option<ShortCond>, usize),
     /// A `JR` or `DJNZ` to a label.
     Short(Branch, usize),
-    /// So many bytes of the case's data, from one on.
+    /// Bytes of the case's data, by the number of the first and how many they are.
     Data(usize, usize),
-    /// A word that is a place and an addend.
+    /// A word that is the address of a label plus an addend.
     Place(usize, u16),
-    /// The upper byte of a place and an addend, or the lower one.
+    /// The upper byte of the address of a label plus an addend, or the lower one.
     Half(bool, usize, u16),
-    /// So many bytes of a fill.
+    /// A number of equal bytes.
     Space(u16, u8),
 }
 
-/// A statement, and where it comes from.
+/// A statement, and the line that it comes from.
 #[derive(Clone, Copy, Debug)]
 pub struct Stated {
     pub source: usize,
-    /// From 1 on; of a call or a REPT its own.
+    /// From 1 on. A statement of a macro call or a REPT has the line of the call or the REPT.
     pub line: u32,
     pub kind: Kind,
 }
 
-/// What a faulty line is.
+/// What is wrong with a line.
 #[derive(Clone, Copy, Debug)]
 pub enum Spoil {
     UnknownWord,
@@ -52,7 +52,7 @@ pub enum Spoil {
     Duplicate,
 }
 
-/// The faulty line of a case.
+/// The wrong line of a case.
 #[derive(Clone, Copy, Debug)]
 pub struct Spoiled {
     pub source: usize,
@@ -60,14 +60,14 @@ pub struct Spoiled {
     pub why: Spoil,
 }
 
-/// A program as its texts, and what its statements are to be.
+/// A program as its sources, and what its statements have to be.
 #[derive(Debug, Drop)]
 pub struct Case {
     pub texts: Vec<Vec<u8>>,
     pub statements: Vec<Stated>,
-    /// For each label the number of its statement, or the count of them for the end.
+    /// For each label the number of its statement; for one at the end, the number of all statements.
     pub labels: Vec<usize>,
     pub data: Vec<u8>,
-    /// The one faulty line, if there is one.
+    /// The one wrong line, if there is one.
     pub spoiled: Option<Spoiled>,
 }

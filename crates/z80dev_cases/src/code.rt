@@ -1,4 +1,4 @@
-//! Random instructions and their texts.
+//! Makes random instructions and their source text.
 
 use crate::draw::Draw;
 use crate::expression::{Scope, text_of};
@@ -6,7 +6,7 @@ use std::alloc::{AllocError, Global};
 use z80_instr::Instr;
 use z80_table::decode;
 
-/// Four bytes, which begin with a prefix in two of three cases.
+/// Four random bytes, which begin with a prefix in two of three cases.
 fn random_bytes(draw: &mut Draw) -> [u8; 4] {
     let [a, b, c, d] = [draw.byte(), draw.byte(), draw.byte(), draw.byte()];
     match draw.below(12) {
@@ -20,7 +20,7 @@ fn random_bytes(draw: &mut Draw) -> [u8; 4] {
     }
 }
 
-/// An instruction of the table, with random numbers.
+/// A random instruction of the table, with random numbers.
 pub(crate) fn random_code(draw: &mut Draw) -> Instr {
     for _ in 0..30 {
         if let Ok((instr, _)) = decode(&random_bytes(draw)) {
@@ -30,14 +30,14 @@ pub(crate) fn random_code(draw: &mut Draw) -> Instr {
     Instr::Nop
 }
 
-/// A text, and whether a label stands in it for a word.
+/// The text of an instruction, and whether it has a label as its word.
 #[derive(Drop)]
 pub(crate) struct Coded {
     pub(crate) text: String,
     pub(crate) has_label: bool,
 }
 
-/// The value of digits with an H behind them, or of decimal ones, with a sign or without.
+/// The value of a number, hexadecimal with an H at the end or decimal, with a sign or without.
 fn value_of(digits: &[u8]) -> u16 {
     let base = if digits.ends_with(b"H") { 16 } else { 10 };
     let mut value: u16 = 0;
@@ -56,15 +56,15 @@ fn value_of(digits: &[u8]) -> u16 {
     }
 }
 
-/// What stands in an instruction in place of its numbers.
+/// What an instruction gets in place of its numbers.
 #[derive(Clone, Copy)]
 pub(crate) struct Numbers<'a> {
     pub(crate) scope: Scope<'a>,
-    /// The text of a label, for a word.
+    /// The text of a label, in place of a word.
     pub(crate) label: Option<&'a str>,
 }
 
-/// Adds another text of a number. Words have four digits at least and an H.
+/// Adds another way to write a number. A word has at least four digits and an H.
 fn put_number(
     alloc: Global,
     draw: &mut Draw,
@@ -91,7 +91,7 @@ fn put_number(
     Ok(())
 }
 
-/// The text of an instruction, with other texts in place of its numbers. Distances stay as they are.
+/// The text of an instruction, with other ways to write its numbers. Distances of relative jumps stay as they are.
 pub(crate) fn code_text(
     alloc: Global,
     draw: &mut Draw,

@@ -1,18 +1,18 @@
-//! Random expressions, each with its value. Names are constants `K0`, `K1` and so on, whose values are given.
+//! Makes random expressions with their values. Names are constants `K0`, `K1` and so on, whose values are given.
 
 use crate::draw::Draw;
 use std::alloc::{AllocError, Global};
 
-/// What may stand in an expression.
+/// What an expression may contain.
 #[derive(Clone, Copy)]
 pub(crate) struct Scope<'a> {
     /// The values of the constants.
     pub(crate) names: &'a [u16],
-    /// Whether places may, where they leave a number.
+    /// Whether it may contain addresses whose difference is a number.
     pub(crate) has_places: bool,
 }
 
-/// Where a fixed value may stand.
+/// The scope of an expression with a fixed value.
 pub(crate) fn scope_of(names: &[u16]) -> Scope<'_> {
     Scope {
         names,
@@ -20,7 +20,7 @@ pub(crate) fn scope_of(names: &[u16]) -> Scope<'_> {
     }
 }
 
-/// Where a constant may stand.
+/// The scope of an expression that is a constant.
 pub(crate) fn constant_of(names: &[u16]) -> Scope<'_> {
     Scope {
         names,
@@ -98,7 +98,7 @@ impl Operator {
         }
     }
 
-    /// Modulo 65,536 and without signs.
+    /// The value of an operation, modulo 65,536 and without signs.
     fn value(self, left: u16, right: u16) -> u16 {
         match self {
             Operator::Times => left.wrapping_mul(right),
@@ -156,7 +156,7 @@ fn plain(alloc: Global, draw: &mut Draw, value: u16) -> Result<Expression, Alloc
     })
 }
 
-/// A number that is small more often than not.
+/// A number that is usually small.
 fn some_number(alloc: Global, draw: &mut Draw) -> Result<Expression, AllocError> {
     let value = if draw.one_in(3) {
         draw.word()
@@ -201,7 +201,7 @@ fn prefixed(alloc: Global, draw: &mut Draw) -> Result<Expression, AllocError> {
     })
 }
 
-/// A sum in parentheses, or the same place twice, which is no distance.
+/// A sum in parentheses, or an address minus itself, which is 0.
 fn parenthesized(
     alloc: Global,
     draw: &mut Draw,
@@ -268,7 +268,7 @@ fn sum(alloc: Global, draw: &mut Draw, scope: Scope<'_>) -> Result<Expression, A
     Ok(all)
 }
 
-/// A comparison, or none, with NOT before it now and then.
+/// A comparison or only a sum, sometimes with NOT before it.
 fn comparison(alloc: Global, draw: &mut Draw, scope: Scope<'_>) -> Result<Expression, AllocError> {
     let mut all = sum(alloc, draw, scope)?;
     if draw.one_in(4) {
@@ -294,7 +294,7 @@ fn conjunction(alloc: Global, draw: &mut Draw, scope: Scope<'_>) -> Result<Expre
     Ok(left)
 }
 
-/// An expression of all levels of operators.
+/// An expression with operators of all levels.
 pub(crate) fn some_expression(
     alloc: Global,
     draw: &mut Draw,
@@ -309,10 +309,10 @@ pub(crate) fn some_expression(
     Ok(left)
 }
 
-/// The most characters of an expression within another: with two of them and what stands about them a line is not too long.
+/// The most characters of an expression within another. A line with two of them and the text around them is not too long.
 const LONGEST: usize = 80;
 
-/// Some text of this value that begins with no parenthesis.
+/// A random text with this value that does not begin with a parenthesis.
 pub(crate) fn text_of(
     alloc: Global,
     draw: &mut Draw,

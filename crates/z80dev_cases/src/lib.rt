@@ -1,5 +1,5 @@
-//! Random cases for tests: programs in the whole language, each with what its statements are to be, and random numbers. The same seed
-//! gives the same case.
+//! Makes random cases for tests: programs in the whole language, each with what its statements have to be, and random numbers. The same
+//! seed gives the same case.
 #![tactic(auto)]
 
 mod case;

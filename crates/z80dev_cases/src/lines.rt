@@ -1,4 +1,4 @@
-//! Lines that are one statement each.
+//! Makes lines that are one statement each.
 
 use crate::case::Kind;
 use crate::code::{Coded, Numbers, code_text, random_code};
@@ -7,7 +7,7 @@ use crate::maker::{Maker, Style};
 use std::alloc::AllocError;
 use z80_instr::{Branch, Instr, ShortCond};
 
-/// A condition, or none, and how it is written.
+/// A condition or none, and how it is written.
 pub(crate) const CONDITIONS: [(Option<ShortCond>, &str); 5] = [
     (None, ""),
     (Some(ShortCond::NotZero), "NZ,"),
@@ -16,10 +16,10 @@ pub(crate) const CONDITIONS: [(Option<ShortCond>, &str); 5] = [
     (Some(ShortCond::Carry), "C,"),
 ];
 
-/// As many characters of a line, and no item more comes to it.
+/// With this number of characters a line gets no more items.
 const FULL: usize = 110;
 
-/// Characters of strings, two of which are their own quotes.
+/// Characters of strings. Two of them are quotes, which are written twice.
 const LETTERS: [(u8, &str); 6] = [
     (b'a', "a"),
     (b'Z', "Z"),
@@ -37,7 +37,7 @@ impl Maker {
         }
     }
 
-    /// A line that is one statement, by the style of the program.
+    /// Adds a line that is one statement, by the style of the program.
     pub(crate) fn put_simple(&mut self) -> Result<(), AllocError> {
         let (jumps, data, spaces) = match self.style {
             Style::Mixed => (20, 35, 40),
@@ -59,7 +59,7 @@ impl Maker {
         }
     }
 
-    /// `JP` to a label, near or anywhere.
+    /// Adds a `JP` to a label, near or anywhere.
     fn put_jump(&mut self) -> Result<(), AllocError> {
         let label = if self.draw.one_in(3) {
             self.near_label()
@@ -72,7 +72,7 @@ impl Maker {
         self.put_line(&line)
     }
 
-    /// `JR` or `DJNZ` to a label that is near, where no far one is next to it.
+    /// Adds a `JR` or `DJNZ` to a near label.
     fn put_short(&mut self) -> Result<(), AllocError> {
         let label = self.near_label();
         let line = if self.draw.one_in(3) {
@@ -86,7 +86,7 @@ impl Maker {
         self.put_line(&line)
     }
 
-    /// An instruction, with a label for its word now and then.
+    /// Adds an instruction, sometimes with a label as its word.
     fn put_code(&mut self) -> Result<(), AllocError> {
         let instr = random_code(&mut self.draw);
         let may_be_bare = !matches!(instr, Instr::Jump(_) | Instr::JumpIf(..));
@@ -155,7 +155,7 @@ impl Maker {
         }
     }
 
-    /// Notes the data from a number on as a statement.
+    /// Notes the data from a number on as one statement.
     fn state_data(&mut self, from: usize) -> Result<(), AllocError> {
         let count = self.data.len().saturating_sub(from);
         self.state(Kind::Data(from, count))
@@ -200,7 +200,7 @@ impl Maker {
         self.put_line(&line)
     }
 
-    /// A byte from -128 to 255.
+    /// Adds a byte from -128 to 255.
     fn put_byte(&mut self, line: &mut String) -> Result<(), AllocError> {
         let byte = self.draw.byte();
         let value = if byte >= 128 && self.draw.one_in(2) {

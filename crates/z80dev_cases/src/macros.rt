@@ -1,4 +1,4 @@
-//! Macros: their definitions and their calls.
+//! Makes macros and calls of them.
 
 use crate::case::Kind;
 use crate::code::{Numbers, code_text, random_code};
@@ -37,7 +37,7 @@ pub(crate) struct Macro {
     pub(crate) lines: Vec<Template>,
 }
 
-/// What a call passes on.
+/// The arguments of a call.
 #[derive(Clone, Copy)]
 struct Passed {
     byte: u8,
@@ -138,7 +138,7 @@ impl Maker {
             scope_of(&self.names),
             passed.word,
         )?;
-        // An argument more is dropped.
+        // An extra argument is ignored.
         let more = if self.draw.one_in(6) { ",(1,2)" } else { "" };
         let line = format!(in self.alloc; "M{number} {byte} ,{word},L{}{more}", passed.goal)?;
         self.within = Some(self.next_line());
@@ -175,7 +175,7 @@ impl Maker {
         Ok(())
     }
 
-    /// The first macro calls none.
+    /// Expands the first macro, which calls no other.
     fn expand_first(&mut self, passed: Passed) -> Result<(), AllocError> {
         let local = self.new_local()?;
         let lines = self.templates(0)?;

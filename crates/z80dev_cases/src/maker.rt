@@ -1,20 +1,20 @@
-//! A case while it is made.
+//! The case that is being made.
 
 use crate::case::{Kind, Spoiled, Stated};
 use crate::draw::Draw;
 use crate::macros::Macro;
 use std::alloc::{AllocError, Global};
 
-/// What kind of program is made.
+/// The kind of program to make.
 #[derive(Clone, Copy, Debug, PartialEq)]
 pub(crate) enum Style {
-    /// All there is.
+    /// With everything.
     Mixed,
-    /// Hardly any data.
+    /// With hardly any data.
     Code,
-    /// A few jumps with spaces between them.
+    /// With a few jumps, and spaces between them.
     Few,
-    /// Many jumps with spaces between them.
+    /// With many jumps, and spaces between them.
     Far,
 }
 
@@ -23,7 +23,7 @@ pub(crate) enum Style {
 pub(crate) struct Own {
     pub(crate) first: usize,
     pub(crate) end: usize,
-    /// The next that is not placed yet.
+    /// The next label that has no statement yet.
     pub(crate) next: usize,
 }
 
@@ -32,19 +32,19 @@ pub(crate) struct Maker {
     pub(crate) alloc: Global,
     pub(crate) draw: Draw,
     pub(crate) style: Style,
-    /// The text of the module so far, its number, and how many lines it has.
+    /// The text of the module so far, its number, and the number of its lines.
     pub(crate) text: Vec<u8>,
     pub(crate) source: usize,
     pub(crate) lines: u32,
-    /// The line of a call or a REPT, in one.
+    /// Within a call or a REPT, the number of its line.
     pub(crate) within: Option<u32>,
     /// The values of the module's constants.
     pub(crate) names: Vec<u16>,
     pub(crate) macros: Vec<Macro>,
     pub(crate) own: Own,
-    /// How many labels have names of their own.
+    /// The number of labels with names.
     pub(crate) named: usize,
-    /// Where each label stands: the number of a statement.
+    /// The number of the statement of each label.
     pub(crate) labels: Vec<usize>,
     pub(crate) statements: Vec<Stated>,
     pub(crate) data: Vec<u8>,
@@ -52,12 +52,12 @@ pub(crate) struct Maker {
 }
 
 impl Maker {
-    /// The number of the line that comes next.
+    /// The number of the next line.
     pub(crate) fn next_line(&self) -> u32 {
         self.lines.saturating_add(1)
     }
 
-    /// Ends the line that is begun.
+    /// Ends the current line.
     pub(crate) fn end_line(&mut self) -> Result<(), AllocError> {
         if self.draw.one_in(12) {
             self.text.extend_from_slice(b"\t; it's \"here: DS 5")?;
@@ -92,7 +92,7 @@ impl Maker {
         Ok(())
     }
 
-    /// The next label stands before the next statement. Whether it has a line of its own.
+    /// Places the next label before the next statement, and answers whether it has a line of its own.
     pub(crate) fn place_label(&mut self) -> Result<(), AllocError> {
         let label = self.own.next;
         if let Some(place) = self.labels.get_mut(label) {
@@ -104,12 +104,12 @@ impl Maker {
         Ok(())
     }
 
-    /// How many labels are not placed yet.
+    /// The number of labels that have no statement yet.
     pub(crate) fn labels_left(&self) -> usize {
         self.own.end.saturating_sub(self.own.next)
     }
 
-    /// A label of this module, or now and then one of another.
+    /// A label of this module, or sometimes one of another.
     pub(crate) fn some_label(&mut self) -> usize {
         if self.draw.one_in(6) {
             // Every third label is public.
@@ -120,7 +120,7 @@ impl Maker {
         self.own.first.saturating_add(self.draw.index(count))
     }
 
-    /// The last label that is placed, or the next one.
+    /// The last label that has a statement, or the next one.
     pub(crate) fn near_label(&mut self) -> usize {
         let next = self.own.next;
         if next >= self.own.end || next > self.own.first && self.draw.one_in(2) {
@@ -130,7 +130,7 @@ impl Maker {
         }
     }
 
-    /// A label with a number behind it, and that number; none behind it where it may stand alone.
+    /// A label with a number after it, and that number; without one if the label may be alone.
     pub(crate) fn goal(&mut self, may_be_bare: bool) -> Result<(String, usize, u16), AllocError> {
         let label = self.some_label();
         let alloc = self.alloc;

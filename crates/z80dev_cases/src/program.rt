@@ -1,4 +1,4 @@
-//! Random programs.
+//! Makes random programs.
 
 use crate::case::{Case, Spoil, Spoiled};
 use crate::draw::Draw;
@@ -24,7 +24,7 @@ const SPOILS: [Spoil; 15] = [
     Spoil::Duplicate,
 ];
 
-/// The text of a faulty line; `L` is followed by the number of the module's first label.
+/// The text of a wrong line. `L` is followed by the number of the module's first label.
 fn spoiled_text(why: Spoil) -> (&'static str, bool) {
     match why {
         Spoil::UnknownWord => ("FOO 5", false),
@@ -46,7 +46,7 @@ fn spoiled_text(why: Spoil) -> (&'static str, bool) {
 }
 
 impl Maker {
-    /// Adds a faulty line.
+    /// Adds a wrong line.
     fn spoil(&mut self) -> Result<(), AllocError> {
         let Some(why) = SPOILS.get(self.draw.index(SPOILS.len())) else {
             return Ok(());
@@ -72,7 +72,7 @@ impl Maker {
         Ok(())
     }
 
-    /// Lines that are repeated.
+    /// Adds a REPT with its lines.
     fn put_repeated(&mut self) -> Result<(), AllocError> {
         let times = self.draw.below(4);
         let from = self.statements.len();
@@ -105,7 +105,7 @@ impl Maker {
         Ok(())
     }
 
-    /// A branch of an IF.
+    /// Adds a branch of an IF.
     fn put_branch(&mut self, is_taken: bool) -> Result<(), AllocError> {
         let from = self.statements.len();
         for _ in 0..self.draw.below(3) {
@@ -137,7 +137,7 @@ impl Maker {
         self.put_line("ENDIF")
     }
 
-    /// The constants of the module.
+    /// Adds the constants of the module.
     fn put_constants(&mut self) -> Result<(), AllocError> {
         for index in 0..self.names.len() {
             let value = match self.names.get(index) {
@@ -152,7 +152,7 @@ impl Maker {
         Ok(())
     }
 
-    /// What a module has for others, and what it has of them: every third label.
+    /// Adds PUBLIC and EXTRN: every third label is public.
     fn put_publics(&mut self) -> Result<(), AllocError> {
         for label in 0..self.named {
             if label % 3 == 0 {
@@ -165,7 +165,7 @@ impl Maker {
         Ok(())
     }
 
-    /// One line, or those of a block.
+    /// Adds one line, or the lines of a block.
     fn put_item(&mut self) -> Result<(), AllocError> {
         let has_blocks = self.style != Style::Few;
         match self.draw.below(30) {
@@ -177,7 +177,7 @@ impl Maker {
         }
     }
 
-    /// Puts the labels that are due, where so many items are left.
+    /// Places the labels that are due, if this many items are left.
     fn put_due(&mut self, left: u32) -> Result<(), AllocError> {
         for _ in 0..self.labels_left() {
             if self.labels_left() <= self.draw.index(left as usize) {
@@ -193,7 +193,7 @@ impl Maker {
         Ok(())
     }
 
-    /// The lines of a module between its head and its end.
+    /// Adds the lines of a module between its head and its end.
     fn put_body(&mut self, count: u32, is_spoiled: bool) -> Result<(), AllocError> {
         let faulty = self.draw.below(count.max(1));
         for done in 0..count {
@@ -250,7 +250,7 @@ fn style_of(draw: &mut Draw) -> Style {
     }
 }
 
-/// How many lines each module has.
+/// The number of lines in each module.
 fn lines_of(draw: &mut Draw, style: Style) -> u32 {
     match style {
         Style::Few => 4 + draw.below(12),

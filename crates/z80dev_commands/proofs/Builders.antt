@@ -1,4 +1,4 @@
--- What a step of building a command adds.
+-- What each step of building a command adds.
 use Rattle.std.proofs.Common.{◌≡◌, ◌∙◌, ◌||◌, false, ap, ap₂, subst}
 use Rattle.std.specs.Prelude.{IfOk, Ok, Result}
 use Rattle.std.proofs.lemmas.Result.{IfOk-weaker}
@@ -8,14 +8,14 @@ use Rattle.clap.specs.declared.builder.command.Command.{Command}
 use Rattle.clap.specs.declared.builder.command.Command.TheViews.{out-Command}
 use Rattle.z80dev_commands.specs.Private.{alone, with_target}
 
--- the command is this one, and has no global argument
+-- the command has these rules, and no global argument
 abbrev pub IsMade : Command → App → Type 0
 IsMade c a = (app_of c ≡ a) × ((out-Command c).has_globals ≡ false)
 
 pub with_argument : (old new : Command) (arg : Arg) (a : App) (r : Rule) → AddsArg old arg new → rule_of arg ≡ r → arg.global ≡ false → IsMade old a → IsMade new (with_rule a r)
 with_argument old new arg a r adds is local made = (adds.shape local ∙ ap₂ with_rule made.0 is, adds.globals ∙ ap₂ (λ x y. x || y) made.1 local)
 
--- .. with the image that it changes
+-- the same after the arguments of the image that it changes are added
 pub with_image : (old new : Command) (a : App) → app_of new ≡ with_target (app_of old) → (out-Command new).has_globals ≡ false → IsMade old a → IsMade new (with_target a)
 with_image old new a is local made = (is ∙ ap with_target made.0, local)
 
@@ -23,7 +23,7 @@ pub with_command : (old sub new : Command) (a : App) (s : Shape) → AddsSubcomm
     → app_of new ≡ with_subcommand a s
 with_command old sub new a s adds local before is = adds.shape local ∙ ap₂ with_subcommand before (ap (λ (x : App). x.top) is)
 
--- .. of commands that memory may not have lasted for
+-- the same after a command is added, unless memory ran out for one of them
 pub with_made : {E : Type 0} (old sub new : Result Command E) (a : App) (s : Shape) → IfOk old (λ c. app_of c ≡ a) → IfOk sub (λ c. app_of c ≡ alone s)
     → IfOk sub (λ c. (out-Command c).has_globals ≡ false) → IfOk new (λ n. (o : Command) × (m : Command) × (old ≡ Ok o) × (sub ≡ Ok m) × AddsSubcommand o m n)
     → IfOk new (λ c. app_of c ≡ with_subcommand a s)

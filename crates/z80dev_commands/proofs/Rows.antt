@@ -1,4 +1,4 @@
--- What a parse that succeeds found for a command.
+-- What a parse without an error found for a command.
 use Rattle.std.proofs.Common.{◌≡◌, ◌∙◌, ◌<◌, ◌≤◌, ◌^◌, ◌⊎◌, arith, inl, inr, ℕ, Bool, true, false, List, [], Option, None, Some, is_some, codes, refl, sym, ap, subst}
 use Rattle.std.specs.Prelude.{Err, IfSome, Ok, Result, option_and_then, slice_get}
 use Rattle.std.specs.Option.{option_map, option_map_or}
@@ -11,13 +11,13 @@ use Rattle.clap.specs.Words.{App, HasMatchesOf, ReadsOne, Row, Text, all_of, bui
 use Rattle.clap.specs.declared.parser.matches.ArgMatches.{ArgMatches}
 use Rattle.clap.specs.declared.parser.matches.ArgMatches.TheViews.{out-ArgMatches, out-SubCommand}
 use Rattle.clap.specs.declared.parser.matches.SubCommand.{SubCommand}
-use Rattle.z80dev_commands.specs.Commands.{FindsNumber, IsParsed, ReadsAs, is_on, z80dev}
+use Rattle.z80dev_commands.specs.Commands.{FindsNumber, AreParsed, ReadsAs, is_on, z80dev}
 use Rattle.z80dev_commands.specs.Private.{AreFound, HasTarget, IsFlag, IsNumber}
 use Rattle.z80dev_commands.proofs.Values.{each_named, flag_value, has_parser, is_bool, is_up_to, number_value, required_value, requires}
 
--- a parse of the words succeeds, and finds these rows for the command of this name
+-- the words are parsed without an error, and the parse found these rows for the command with this name
 abbrev pub IsMet : List Text → Text → List Row → Type 0
-IsMet words name rows = IsParsed words × (subcommand_of z80dev words ≡ Some (name, rows))
+IsMet words name rows = AreParsed words × (subcommand_of z80dev words ≡ Some (name, rows))
 
 rows_met : {Z : Type 0} (o : Option (Box SubCommand Z)) (name : Text) (rows : List Row) → Some name ≡ option_map (λ b. (out-SubCommand (box_value b)).name.now) o
     → Some rows ≡ option_map (λ p. p.1) (subcommand_rows o) → subcommand_rows o ≡ Some (name, rows)
@@ -34,9 +34,9 @@ met_by a words m name rows same kinds has is are = (
   sym (subst (λ a. HasMatchesOf a words m) same has refl).1 ∙ rows_met (out-ArgMatches m).subcommand name rows is are,
 )
 
--- and where the parse meets no command
+-- and if the parse found no command
 pub unmet_by : (a : App) (words : List Text) (m : ArgMatches) → a ≡ z80dev → (is_simple_and_free a ≡ true → fault_of a words ≡ []) → HasMatchesOf a words m
-    → None ≡ subcommand_name_of m → IsParsed words × (subcommand_of z80dev words ≡ None)
+    → None ≡ subcommand_name_of m → AreParsed words × (subcommand_of z80dev words ≡ None)
 unmet_by a words m same kinds has is = (
   subst (λ a. is_simple_and_free a ≡ true → fault_of a words ≡ []) same kinds refl,
   sym (subst (λ a. HasMatchesOf a words m) same has refl).1 ∙ none (out-ArgMatches m).subcommand is,
@@ -66,7 +66,7 @@ pub has_target : (name : Text) (rows : List Row) → each_named name (requires (
     → each_named name (has_parser is_bool (codes "no-lock")) (built z80dev).subs ≡ true → AreFound name rows → HasTarget rows
 has_target name rows image user lock met = (has_text name (codes "IMG") rows image met, reads_number 31 name (codes "N") rows user met, reads_flag name (codes "no-lock") rows lock met)
 
--- what `get_one` answers of a number, where it reads (`G`) as a type of so many bits does, which holds the most that it may be
+-- What `get_one` answers for a number: the value reads (`G`) as a type of `bits` bits does, and that type can hold `most`.
 module _ (E : Type 0) (G : Text → Result ℕ E → Type 0) (bits most : ℕ) (fits : most < 2 ^ bits) (reads : (t : Text) (r : Result ℕ E) → G t r → ParsesUnsigned bits 10 t r) where
   pub number_is : (id : Text) (rows : List Row) (read : Option Text) (answer : Option ℕ) → one_of id rows ≡ read → IsNumber id most rows → (read ≡ None → answer ≡ None)
       → ((t : Text) → read ≡ Some t → ReadsOne G t answer) → FindsNumber id answer rows × IfSome answer (λ n. n ≤ most)

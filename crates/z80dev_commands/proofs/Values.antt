@@ -1,4 +1,4 @@
--- Where a parse has no fault, an argument that has to be given has a value, and each value is one that its argument takes.
+-- If a parse has no error, each required argument has a value, and each value is one that its argument accepts.
 use Rattle.std.proofs.lemmas.Bool.Decides.{nat_tests}
 use Rattle.std.proofs.Common.{◌≡◌, ◌∙◌, ◌<◌, ◌≤◌, leb-true, le_trans, ◌&&◌, ◌||◌, ℕ, Bool, cond, true, false, not, zero, suc, refl, sym, ap, subst, arith, List, [], ◌∷◌, ◌++◌, length, drop, Option, Some, None, is_some, true≢false, nat_lt, codes, ◌⊎◌, inl, inr}
 use Rattle.std.specs.Prelude.{IfSome, encode_utf8, find, nat_le, option_and_then, slice_get}
@@ -36,14 +36,14 @@ use Rattle.clap.specs.declared.parser.matches.ValueSource.TheVariants as source
 use Rattle.z80dev_commands.specs.Commands.{ReadsAs}
 use Rattle.z80dev_commands.specs.Private.{IsFlag, IsNumber}
 
--- an argument of this id takes the value
+-- whether an argument with this id accepts the value
 abbrev pub is_taken : List Rule → Text → Text → Bool
 is_taken c id v = list_any (λ a. bytes_eq a.id id && accepts a.ignore_case (parser_of_value a.parser) v) c
 
 abbrev AreTaken : List Rule → Text → List Text → Type 0
 AreTaken c id = AllByRecursion (λ v. is_taken c id v ≡ true)
 
--- a row has values, an argument of its id takes them, and they are read as they are written
+-- a row has values, an argument with its id accepts them, and they are read as they are written
 abbrev IsKept : List Rule → Row → Type 0
 IsKept c r = (0 < length r.values) × AreTaken c r.id r.values × (r.reading ≡ reading.AsWritten)
 
@@ -52,7 +52,7 @@ AreKept c = AllByRecursion (IsKept c)
 
 -- ---- rules whose uses leave a value
 
--- the action keeps the values of a use as they are
+-- whether the action keeps the values that are given
 abbrev keeps_values : ArgAction → Bool
 keeps_values action.Set = true
 keeps_values action.Append = true
@@ -60,11 +60,11 @@ keeps_values action.SetTrue = true
 keeps_values action.SetFalse = true
 keeps_values _ = false
 
--- one value at least is wanted, or one stands for a use without
+-- whether at least one value is needed, or there is one for a use without a value
 abbrev some_stand : Rule → Bool
 some_stand a = nat_lt 0 (unwrap_or_range a.range).start_inclusive || not (is_empty a.missing)
 
--- a use without a fault leaves a value
+-- whether each use without an error leaves a value
 abbrev pub is_valued : Rule → Bool
 is_valued a = is_request (action_of a) || (keeps_values (action_of a) && some_stand a)
 
@@ -76,7 +76,7 @@ as_written : (how : Reading) → is_as_written how ≡ true → how ≡ reading.
 as_written reading.AsWritten e = refl
 as_written _ e = absurd (true≢false (sym e))
 
--- .. and each is read as it is written
+-- whether this is true of all rules, and each value is read as it is written
 abbrev pub are_valued : List Rule → Bool
 are_valued = list_all (λ a. is_valued a && is_as_written (reading_by a))
 
@@ -98,13 +98,13 @@ wanted : (a b : Bool) → (not a || b) ≡ true → a ≡ true → b ≡ true
 wanted true b e is = e
 wanted false b e is = absurd (true≢false (sym is))
 
--- ---- lists of which something holds
+-- ---- lists with an element that has a property
 
 joined : {X : Type 0} (P : X → Type 0) (xs ys : List X) → AllByRecursion P xs → AllByRecursion P ys → AllByRecursion P (xs ++ ys)
 joined P [] ys h g = g
 joined P (x ∷ xs) ys h g = (h.0, joined P xs ys h.1 g)
 
--- what is found, and that it is what was looked for
+-- an element that a search found has the property, and passed the test
 found : {X : Type 0} (P : X → Type 0) (p : X → Bool) (xs : List X) → AllByRecursion P xs → IfSome (find p xs) (λ x. P x × (p x ≡ true))
 found P p [] h = tt
 found P p (x ∷ rest) h = go (p x) refl (found P p rest h.1)
@@ -115,7 +115,7 @@ found P p (x ∷ rest) h = go (p x) refl (found P p rest h.1)
 
 -- ---- what an argument takes
 
--- the values that pass the argument's parser are taken
+-- the argument accepts all values that its parser accepts
 abbrev Suits : List Rule → Rule → Type 0
 Suits c a = (v : Text) → accepts a.ignore_case (parser_of_value a.parser) v ≡ true → is_taken c a.id v ≡ true
 
@@ -150,7 +150,7 @@ some_left : (xs ys : List Text) → 0 < length xs → 0 < length (xs ++ ys)
 some_left [] ys lt = absurd (omega (arith, lt))
 some_left (x ∷ xs) ys lt = omega arith
 
--- no value, where one is wanted, is a fault
+-- no value is an error if at least one is needed
 none_wanted : (least most : ℕ) (b : Bool) → nat_lt 0 least ≡ b → range_kinds least most 0 ≡ [] → b ≡ false
 none_wanted least most false is e = refl
 none_wanted least most true is e = absurd (cc (rw is at e))
@@ -201,7 +201,7 @@ module _ (c : List Rule) where
   action_keeps action.HelpLong stand again a values rows suits as_is valued some e h = h
   action_keeps action.Version stand again a values rows suits as_is valued some e h = h
 
--- a rule whose uses leave values, which it takes, and reads as they are written
+-- a rule whose uses leave values, which it accepts and reads as they are written
 abbrev IsGood : List Rule → Rule → Type 0
 IsGood c a = (is_valued a ≡ true) × Suits c a × (reading_by a ≡ reading.AsWritten)
 
@@ -265,7 +265,7 @@ module _ (c : List Rule) (all : AreGood c) (again : Bool) where
       go false (Some v) e = had
       go false None e = react_keeps a [] h one e had
 
-  -- a step of a bundle, where what comes next keeps values
+  -- one letter of a group of short flags, if what follows keeps the values
   short_keeps : (o : Option Rule) (rest : Text) (h : Held) (f : Held → Kinds) (g : Held → Held × Outcome) → ((h : Held) → f h ≡ [] → AreKept c h.rows → AreKept c (g h).0.rows)
       → IfSome o (IsGood c) → short_fault c again o rest h f ≡ [] → AreKept c h.rows → AreKept c (short_met c o rest h g).0.rows
   short_keeps None rest h f g each one e had = had
@@ -395,7 +395,7 @@ module _ (c : List Rule) where
 
 -- ---- a level
 
--- at the end of a level without a fault each row has values, which its argument takes
+-- at the end of a level without an error, each row has values that its argument accepts
 level_keeps : (s : Shape) (words : List Text) → are_valued s.rules ≡ true → level_fault s [] nothing_held words false [] ≡ [] → AreKept s.rules (rows_after s.rules [] words)
 level_keeps s words valued e =
     let all = good_of s.rules valued in
@@ -409,7 +409,7 @@ level_keeps s words valued e =
 
 -- ---- what has to be given
 
--- an argument of this id has to be given
+-- whether an argument with this id is required
 abbrev pub is_required : List Rule → Text → Bool
 is_required rules id = list_any (λ a. a.required && bytes_eq a.id id) rules
 
@@ -469,12 +469,12 @@ abbrev pub is_bool : ValueParser → Bool
 is_bool parser.Bool = true
 is_bool _ = false
 
--- numbers of `u64`, this one at most
+-- whether the parser accepts only numbers, of at most `most`
 abbrev pub is_up_to : ℕ → ValueParser → Bool
 is_up_to most (parser.Unsigned low high) = nat_le high most
 is_up_to most _ = false
 
--- each argument of this id has such a parser
+-- whether each argument with this id has such a parser
 abbrev pub have_parser : (ValueParser → Bool) → List Rule → Text → Bool
 have_parser p rules id = list_all (λ a. not (bytes_eq a.id id) || p (parser_of_value a.parser)) rules
 
@@ -493,7 +493,7 @@ number_of most (parser.Unsigned low high) ignore_case v is e =
     (digits_value 10 (without_leading_plus v), (in_bounds.0, refl, in_bounds.1), le_trans in_bounds.3 below)
 number_of most _ ignore_case v is e = absurd (true≢false (sym is))
 
--- what holds of the texts that such a parser takes holds of each value that is taken
+-- what holds of the texts that such a parser accepts holds of each value that is accepted
 module _ (p : ValueParser → Bool) (Q : Text → Type 0) (each : (q : ValueParser) (ignore_case : Bool) (v : Text) → p q ≡ true → accepts ignore_case q v ≡ true → Q v) where
   taken_by : (c : List Rule) (id v : Text) → have_parser p c id ≡ true → is_taken c id v ≡ true → Q v
   taken_by [] id v is e = absurd (true≢false (sym e))
@@ -506,7 +506,7 @@ module _ (p : ValueParser → Bool) (Q : Text → Type 0) (each : (q : ValuePars
       go false true takes is e below = below e
       go false false takes is e below = below e
 
-  -- an argument's value is read as it is written, and is a text of its parser
+  -- the value of an argument is read as it is written, and is a text that its parser accepts
   read_there : (c : List Rule) (id : Text) (rows : List Row) → have_parser p c id ≡ true → AreKept c rows → (one_of id rows ≡ first_of id rows) × IfSome (first_of id rows) Q
   read_there c id rows is had = go (find (λ r. bytes_eq r.id id) rows) (found (IsKept c) (λ r. bytes_eq r.id id) rows had)
     where
@@ -522,7 +522,7 @@ module _ (p : ValueParser → Bool) (Q : Text → Type 0) (each : (q : ValuePars
 
 -- ---- a subcommand
 
--- The level of the parse at which a subcommand's rows were found.
+-- The level of the parse at which the rows of a subcommand were found.
 record IsLevel (subs : List Shape) (name : Text) (rows : List Row) : Type 0 where
   shape : Shape
   words : List Text
@@ -567,22 +567,22 @@ level_of a words name rows met e =
     let own = walk_fault top (names_of (built a)) (walk_from nothing_held) (argument_words a words) in
     entered_level (built a) (stop_after top.rules (names_of (built a)) (argument_words a words)) (name, rows) met (first _ _ (second own _ e))
 
--- each subcommand of this name passes a test
+-- whether each subcommand with this name passes a test
 abbrev pub each_named : Text → (Shape → Bool) → List Shape → Bool
 each_named name test = list_all (λ s. not (bytes_eq s.name name) || test s)
 
 test_at : (name : Text) (test : Shape → Bool) (subs : List Shape) (rows : List Row) → each_named name test subs ≡ true → (l : IsLevel subs name rows) → test l.shape ≡ true
 test_at name test subs rows is l = wanted (bytes_eq l.shape.name name) _ (l.tests (λ s. not (bytes_eq s.name name) || test s) is) ((bytes_eq-Decides l.shape.name name).1 l.named)
 
--- uses leave values, and an argument of this id has to be given
+-- whether uses leave values, and an argument with this id is required
 abbrev pub requires : Text → Shape → Bool
 requires id s = are_valued s.rules && is_required s.rules id
 
--- uses leave values, and the arguments of this id have such a parser
+-- whether uses leave values, and the arguments with this id have such a parser
 abbrev pub has_parser : (ValueParser → Bool) → Text → Shape → Bool
 has_parser p id s = are_valued s.rules && have_parser p s.rules id
 
--- a parse without a fault, which names a subcommand, has a value for each argument that has to be given to it
+-- a parse without an error that names a subcommand has a value for each required argument of it
 pub required_value : (a : App) (words : List Text) (name id : Text) (rows : List Row) → each_named name (requires id) (built a).subs ≡ true
     → subcommand_of a words ≡ Some (name, rows) → fault_of a words ≡ [] → is_some (first_of id rows) ≡ true
 required_value a words name id rows is met e =
@@ -590,7 +590,7 @@ required_value a words name id rows is met e =
     let two = both (are_valued l.shape.rules) _ (test_at name (requires id) (built a).subs rows is l) in
     subst (λ r. is_some (first_of id r) ≡ true) l.ends (level_value l.shape l.words id two.0 two.1 l.parsed)
 
--- and what is read of an argument, where it has a value, is a text of its parser, as it is written
+-- and the value of an argument, if it has one, is a text that its parser accepts, read as it is written
 read_value : (p : ValueParser → Bool) (Q : Text → Type 0) → ((q : ValueParser) (ignore_case : Bool) (v : Text) → p q ≡ true → accepts ignore_case q v ≡ true → Q v)
     → (a : App) (words : List Text) (name id : Text) (rows : List Row) → each_named name (has_parser p id) (built a).subs ≡ true
     → subcommand_of a words ≡ Some (name, rows) → fault_of a words ≡ [] → (one_of id rows ≡ first_of id rows) × IfSome (first_of id rows) Q
@@ -599,14 +599,14 @@ read_value p Q each a words name id rows is met e =
     let two = both (are_valued l.shape.rules) _ (test_at name (has_parser p id) (built a).subs rows is l) in
     subst (λ r. (one_of id r ≡ first_of id r) × IfSome (first_of id r) Q) l.ends (read_there p Q each l.shape.rules id (rows_after l.shape.rules [] l.words) two.1 (level_keeps l.shape l.words two.0 l.parsed))
 
--- so a flag reads as a bool
+-- so the value of a flag is `true` or `false`
 pub flag_value : (a : App) (words : List Text) (name id : Text) (rows : List Row) → each_named name (has_parser is_bool id) (built a).subs ≡ true
     → subcommand_of a words ≡ Some (name, rows) → fault_of a words ≡ [] → IsFlag id rows
 flag_value a words name id rows is met e =
     let read = read_value is_bool (λ v. (v ≡ codes "true") ⊎ (v ≡ codes "false")) bool_text_of a words name id rows is met e in
     subst (λ o. IfSome o (λ v. (v ≡ codes "true") ⊎ (v ≡ codes "false"))) (sym read.0) read.1
 
--- and a number as one
+-- and the value of a number is a number
 pub number_value : (most : ℕ) (a : App) (words : List Text) (name id : Text) (rows : List Row) → each_named name (has_parser (is_up_to most) id) (built a).subs ≡ true
     → subcommand_of a words ≡ Some (name, rows) → fault_of a words ≡ [] → IsNumber id most rows
 number_value most = read_value (is_up_to most) (λ v. (n : ℕ) × ReadsAs v n × (n ≤ most)) (number_of most)

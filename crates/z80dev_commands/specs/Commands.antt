@@ -1,4 +1,4 @@
--- The words that the command takes, and which job they ask for.
+-- Which words the command accepts, and which job they ask for.
 use Rattle.std.specs.Prelude.{◌≡◌, ◌<◌, ◌^◌, ◌⊎◌, ℕ, Bool, true, false, not, if◌then◌else◌, IfSome, List, [], ◌∷◌, ◌++◌, Option, None, Some, codes, length, map, option_map, unwrap_or}
 use Rattle.std.specs.Borrow.{Bor}
 use Rattle.std.specs.Option.{option_map_or}
@@ -20,15 +20,15 @@ use Rattle.z80dev_commands.specs.declared.Target.{Target}
 
 -- ---- arguments
 
--- a path that has to be given
+-- a required path
 abbrev pub path_rule : Text → Rule
 path_rule name = record (new_rule name) { required = true; action = Some Set }
 
--- a name that may be left out
+-- a name that need not be given
 abbrev pub name_rule : Text → Rule
 name_rule name = record (path_rule name) { required = false }
 
--- one path or more
+-- one or more paths
 abbrev pub paths_rule : Text → Rule
 paths_rule name = record (new_rule name) {
   required = true;
@@ -36,31 +36,31 @@ paths_rule name = record (new_rule name) {
   range = Some (record { start_inclusive = 1; end_inclusive = usize_max });
 }
 
--- words, none or more
+-- any number of words, even none
 abbrev pub words_rule : Text → Rule
 words_rule name = record (paths_rule name) { required = false }
 
--- `--out BASE`, which has to be given
+-- `--out BASE`, which is required
 abbrev pub out_rule : Rule
 out_rule = record (path_rule (codes "BASE")) { long = Some (codes "out") }
 
--- `--NAME ID`, which may be left out
+-- `--NAME ID`, which need not be given
 abbrev pub option_rule : Text → Text → Rule
 option_rule name id = record (new_rule id) { long = Some name; action = Some Set }
 
--- .. whose value is a number, this one at most
+-- the same with a number from 0 to `most` as its value
 abbrev pub number_rule : Text → Text → ℕ → Rule
 number_rule name id most = record (option_rule name id) { parser = Some (Unsigned 0 most) }
 
--- `--steps N`, any number of `u64`
+-- `--steps N`, with any number below 2 ^ 64
 abbrev pub steps_rule : Rule
 steps_rule = number_rule (codes "steps") (codes "N") 18446744073709551615
 
--- `--user N`, one of 32 users
+-- `--user N`, with a number from 0 to 31
 abbrev pub user_rule : Rule
 user_rule = number_rule (codes "user") (codes "N") 31
 
--- `--NAME`
+-- the flag `--NAME`
 abbrev pub flag_rule : Text → Rule
 flag_rule name = record (new_rule name) { long = Some name; action = Some SetTrue }
 
@@ -68,13 +68,13 @@ flag_rule name = record (new_rule name) { long = Some name; action = Some SetTru
 abbrev pub verbose_rule : Rule
 verbose_rule = record (flag_rule (codes "verbose")) { short = Some 118 }
 
--- the image that a command changes, and how: `[--user N] [--no-lock] IMG`
+-- the arguments of a command that changes an image: `[--user N] [--no-lock] IMG`
 abbrev pub target_rules : List Rule
 target_rules = user_rule ∷ flag_rule (codes "no-lock") ∷ path_rule (codes "IMG") ∷ []
 
 -- ---- commands
 
--- a command of this name with these arguments
+-- a command with this name and these arguments
 abbrev pub with_rules : Text → List Rule → Shape
 with_rules name rules = record (new_shape name) { rules = rules }
 
@@ -133,152 +133,152 @@ abbrev pub run_shape : Shape
 run_shape = with_rules (codes "run")
     (option_rule (codes "disk") (codes "IMG") ∷ flag_rule (codes "no-lock") ∷ steps_rule ∷ path_rule (codes "COM") ∷ words_rule (codes "WORD") ∷ [])
 
--- the command's own words: its help and its version
+-- the command `z80dev` without its commands: its help and its version
 abbrev pub bare : App
 bare = record { top = record (new_shape (codes "z80dev")) { disable_help_subcommand = true; has_version = true }; subs = [] }
 
--- the command with its commands that make programs
+-- the command with the commands that make programs
 abbrev pub programs : App
 programs = with_subcommand (with_subcommand (with_subcommand (with_subcommand bare asm_shape) link_shape) build_shape) check_shape
 
--- .. with those that list, copy and erase the files of a disk
+-- with those that list, copy, erase and rename the files of a disk
 abbrev pub with_files : App
 with_files = with_subcommand (with_subcommand (with_subcommand (with_subcommand (with_subcommand programs dir_shape) put_shape) get_shape) erase_shape) rename_shape
 
--- .. with the others on disks, and with the one that runs a program
+-- with the other commands on disks, and with `run`
 abbrev pub z80dev : App
 z80dev = with_subcommand (with_subcommand (with_subcommand (with_subcommand (with_subcommand with_files (protect_shape (codes "protect"))) (protect_shape (codes "unprotect"))) check_disk_shape)
     blank_shape) run_shape
 
 -- ---- jobs
 
--- a parse of the words succeeds
-abbrev pub IsParsed : List Text → Type 0
-IsParsed words = fault_of z80dev words ≡ []
+-- the words are parsed without an error
+abbrev pub AreParsed : List Text → Type 0
+AreParsed words = fault_of z80dev words ≡ []
 
--- the argument's value is this text
-abbrev pub Finds : Text → Bor Text → List Row → Type 0
-Finds id value rows = first_of id rows ≡ Some value.now
+-- the value of the argument is this text
+abbrev pub HasValue : Text → Bor Text → List Row → Type 0
+HasValue id value rows = first_of id rows ≡ Some value.now
 
--- its values are these texts, in this order
+-- the values of the argument are these texts, in this order
 abbrev pub FindsAll : Text → List (Bor Text) → List Row → Type 0
 FindsAll id values rows = all_of id rows ≡ Some (map (λ value. value.now) values)
 
--- its only value is this text
+-- the argument has one value, this text
 abbrev pub FindsOnly : Text → Bor Text → List Row → Type 0
 FindsOnly id value rows = all_of id rows ≡ Some (value.now ∷ [])
 
--- the argument's value is this text, where it has one
+-- the value of the argument is this text, or it has no value and there is no text
 abbrev pub FindsIfGiven : Text → Option (Bor Text) → List Row → Type 0
 FindsIfGiven id value rows = first_of id rows ≡ option_map (λ text. text.now) value
 
--- all values of an argument, none where it is not given
+-- all values of an argument; none if it is not given
 abbrev pub values_of : Text → List Row → List Text
 values_of id rows = unwrap_or (all_of id rows) []
 
--- its values are these texts, in this order, and none where it has none
+-- the values of the argument are these texts, in this order; there are none if it is not given
 abbrev pub FindsAny : Text → List (Bor Text) → List Row → Type 0
 FindsAny id values rows = values_of id rows ≡ map (λ value. value.now) values
 
--- the value of one argument and all those of another are these texts, in this order
+-- these texts are the value of the first argument and then all values of the second
 abbrev pub FindsJoined : Text → Text → List (Bor Text) → List Row → Type 0
 FindsJoined one more values rows = (text : Text) × (first_of one rows ≡ Some text) × (text ∷ values_of more rows ≡ map (λ value. value.now) values)
 
--- `u64` reads the text as this number: its decimal digits, a plus before them or none
+-- the text reads as this number of 64 bits: decimal digits, with or without a plus in front
 abbrev pub ReadsAs : Text → ℕ → Type 0
 ReadsAs text n = IsNumeral 10 (without_leading_plus text) × (digits_value 10 (without_leading_plus text) ≡ n) × (n < 2 ^ 64)
 
--- the argument's value reads as this number, where it has one
+-- the value of the argument reads as this number, or the argument has no value and there is no number
 abbrev pub FindsNumber : Text → Option ℕ → List Row → Type 0
 FindsNumber id None rows = first_of id rows ≡ None
 FindsNumber id (Some n) rows = (text : Text) × (first_of id rows ≡ Some text) × ReadsAs text n
 
--- the flag's value reads as true
+-- whether the flag is given: its value is `true`
 abbrev pub is_on : Text → List Row → Bool
 is_on id rows = option_map_or (λ text. bytes_eq text (codes "true")) (one_of id rows) false
 
--- `--user` gives this user, where it is given; there are 32 users
+-- `--user` gives this user, below 32, or it is not given and there is no user
 abbrev pub FindsUser : Option ℕ → List Row → Type 0
 FindsUser user rows = FindsNumber (codes "N") user rows × IfSome user (λ n. n < 32)
 
--- .. and it is user 0 where `--user` is not given
+-- the user that `--user` gives, or user 0 if it is not given
 abbrev pub FindsUserOrZero : ℕ → List Row → Type 0
 FindsUserOrZero user rows = (user < 32) × (given : Option ℕ) × FindsNumber (codes "N") given rows × (unwrap_or given 0 ≡ user)
 
--- an image is locked, unless `--no-lock` is given
+-- the image is locked unless `--no-lock` is given
 abbrev pub FindsLock : Bool → List Row → Type 0
 FindsLock lock rows = is_on (codes "no-lock") rows ≡ not lock
 
--- the image that a command changes
+-- the image that a command changes, with the user and whether it is locked
 abbrev pub FindsTarget : Target → List Row → Type 0
-FindsTarget target rows = Finds (codes "IMG") target.image rows × FindsUserOrZero target.user rows × FindsLock target.lock rows
+FindsTarget target rows = HasValue (codes "IMG") target.image rows × FindsUserOrZero target.user rows × FindsLock target.lock rows
 
--- how files are put
+-- whether files are replaced, and whether they are put as texts
 abbrev pub FindsManner : Manner → List Row → Type 0
 FindsManner manner rows = (is_on (codes "replace") rows ≡ manner.replace) × (is_on (codes "text") rows ≡ manner.text)
 
--- the command that sets an attribute of files, and the one that takes it away
+-- the name of the command that sets an attribute of files, and of the one that clears it
 abbrev pub protect_name : Bool → Text
 protect_name on = if on then codes "protect" else codes "unprotect"
 
--- the attribute is the one that `--system` names
-abbrev pub is_system : Attribute → Bool
-is_system ReadOnly = false
-is_system System = true
+-- whether the attribute is the one that `--system` names
+abbrev pub is_system_attribute : Attribute → Bool
+is_system_attribute ReadOnly = false
+is_system_attribute System = true
 
--- the parse met the command of this name, and of the rows that it found this holds
+-- the parse found the command with this name, and `Holds` is true of the rows that it found for its arguments
 abbrev pub Meets : Option (Text × List Row) → Text → (List Row → Type 0) → Type 0
 Meets met name Holds = (rows : List Row) × (met ≡ Some (name, rows)) × Holds rows
 
--- the job of the command that a parse met, with the values that it found
+-- The job of the command that a parse found, with the values of its arguments.
 abbrev pub IsJobOf : Option (Text × List Row) → Job → Type 0
 IsJobOf met Pipe = met ≡ None
 IsJobOf met (Asm out grow source) =
-    Meets met (codes "asm") (λ rows. Finds (codes "BASE") out rows × (is_on (codes "grow") rows ≡ grow) × Finds (codes "SRC") source rows)
-IsJobOf met (Link out objects) = Meets met (codes "link") (λ rows. Finds (codes "BASE") out rows × FindsAll (codes "OBJ") objects.items rows)
-IsJobOf met (Build out grow list verbose sources) = Meets met (codes "build") (λ rows. Finds (codes "BASE") out rows
+    Meets met (codes "asm") (λ rows. HasValue (codes "BASE") out rows × (is_on (codes "grow") rows ≡ grow) × HasValue (codes "SRC") source rows)
+IsJobOf met (Link out objects) = Meets met (codes "link") (λ rows. HasValue (codes "BASE") out rows × FindsAll (codes "OBJ") objects.items rows)
+IsJobOf met (Build out grow list verbose sources) = Meets met (codes "build") (λ rows. HasValue (codes "BASE") out rows
     × (is_on (codes "grow") rows ≡ grow) × (is_on (codes "list") rows ≡ list) × (is_on (codes "verbose") rows ≡ verbose) × FindsAll (codes "SRC") sources.items rows)
-IsJobOf met (Check sizes cert) = Meets met (codes "check") (λ rows. Finds (codes "SIZES") sizes rows × Finds (codes "CERT") cert rows)
-IsJobOf met (Dir image user long name) = Meets met (codes "dir") (λ rows. Finds (codes "IMG") image rows
+IsJobOf met (Check sizes cert) = Meets met (codes "check") (λ rows. HasValue (codes "SIZES") sizes rows × HasValue (codes "CERT") cert rows)
+IsJobOf met (Dir image user long name) = Meets met (codes "dir") (λ rows. HasValue (codes "IMG") image rows
     × FindsUser user rows × (is_on (codes "long") rows ≡ long) × FindsIfGiven (codes "NAME") name rows)
 IsJobOf met (Put target manner file name) = Meets met (codes "put") (λ rows. (is_on (codes "to") rows ≡ false)
-    × FindsTarget target rows × FindsManner manner rows × Finds (codes "FILE") file rows × FindsOnly (codes "NAME") name rows)
+    × FindsTarget target rows × FindsManner manner rows × HasValue (codes "FILE") file rows × FindsOnly (codes "NAME") name rows)
 IsJobOf met (PutAll target manner files) = Meets met (codes "put") (λ rows. (is_on (codes "to") rows ≡ true)
     × FindsTarget target rows × FindsManner manner rows × FindsJoined (codes "FILE") (codes "NAME") files.items rows)
 IsJobOf met (Get image user text name file) = Meets met (codes "get") (λ rows. (is_on (codes "all") rows ≡ false)
-    × Finds (codes "IMG") image rows × FindsUserOrZero user rows × (is_on (codes "text") rows ≡ text) × Finds (codes "NAME") name rows × FindsOnly (codes "FILE") file rows)
+    × HasValue (codes "IMG") image rows × FindsUserOrZero user rows × (is_on (codes "text") rows ≡ text) × HasValue (codes "NAME") name rows × FindsOnly (codes "FILE") file rows)
 IsJobOf met (GetAll image user text folder) = Meets met (codes "get") (λ rows. (is_on (codes "all") rows ≡ true)
-    × Finds (codes "IMG") image rows × FindsUserOrZero user rows × (is_on (codes "text") rows ≡ text) × Finds (codes "NAME") folder rows × FindsAny (codes "FILE") [] rows)
+    × HasValue (codes "IMG") image rows × FindsUserOrZero user rows × (is_on (codes "text") rows ≡ text) × HasValue (codes "NAME") folder rows × FindsAny (codes "FILE") [] rows)
 IsJobOf met (Erase target names) = Meets met (codes "erase") (λ rows. FindsTarget target rows × FindsAll (codes "NAME") names.items rows)
-IsJobOf met (Rename target old new) = Meets met (codes "rename") (λ rows. FindsTarget target rows × Finds (codes "OLD") old rows × Finds (codes "NEW") new rows)
+IsJobOf met (Rename target old new) = Meets met (codes "rename") (λ rows. FindsTarget target rows × HasValue (codes "OLD") old rows × HasValue (codes "NEW") new rows)
 IsJobOf met (Protect target attribute on names) = Meets met (protect_name on) (λ rows. FindsTarget target rows
-    × (is_on (codes "system") rows ≡ is_system attribute) × FindsAll (codes "NAME") names.items rows)
-IsJobOf met (CheckDisk image) = Meets met (codes "check-disk") (λ rows. Finds (codes "IMG") image rows)
+    × (is_on (codes "system") rows ≡ is_system_attribute attribute) × FindsAll (codes "NAME") names.items rows)
+IsJobOf met (CheckDisk image) = Meets met (codes "check-disk") (λ rows. HasValue (codes "IMG") image rows)
 IsJobOf met (Blank mega keep lock image) = Meets met (codes "blank") (λ rows. (is_on (codes "mega") rows ≡ mega)
-    × (is_on (codes "keep") rows ≡ keep) × FindsLock lock rows × Finds (codes "IMG") image rows)
+    × (is_on (codes "keep") rows ≡ keep) × FindsLock lock rows × HasValue (codes "IMG") image rows)
 IsJobOf met (Run disk lock steps program words) = Meets met (codes "run") (λ rows. FindsIfGiven (codes "IMG") disk rows
-    × FindsLock lock rows × FindsNumber (codes "N") steps rows × Finds (codes "COM") program rows × FindsAny (codes "WORD") words.items rows)
+    × FindsLock lock rows × FindsNumber (codes "N") steps rows × HasValue (codes "COM") program rows × FindsAny (codes "WORD") words.items rows)
 
--- The parse succeeds, and the job is that of the command which the words name, with the values that the parse finds.
+-- The words are parsed without an error, and the job is that of the command that they name, with the values that the parse found.
 abbrev pub IsJob : List Text → Job → Type 0
-IsJob words job = IsParsed words × IsJobOf (subcommand_of z80dev words) job
+IsJob words job = AreParsed words × IsJobOf (subcommand_of z80dev words) job
 
 -- ---- a wrong number of paths
 
--- How many paths there are, and how many there have to be: some are missing, or there are too many.
+-- Whether there are fewer paths than are needed (some are missing) or more (there are too many).
 abbrev pub Miscounts : ℕ → ℕ → ErrorKind → Type 0
 Miscounts there wanted kind = ((there < wanted) × (kind ≡ MissingRequiredArgument)) ⊎ ((wanted < there) × (kind ≡ TooManyValues))
 
--- `put` without `--to` has to have one NAME. `get` has to have one FILE, and none with `--all`.
+-- `put` without `--to` needs exactly one NAME. `get` needs exactly one FILE, and none with `--all`.
 abbrev pub IsMiscountedOf : Option (Text × List Row) → ErrorKind → Type 0
 IsMiscountedOf met kind =
     Meets met (codes "put") (λ rows. (is_on (codes "to") rows ≡ false) × Miscounts (length (values_of (codes "NAME") rows)) 1 kind)
     ⊎ Meets met (codes "get") (λ rows. Miscounts (length (values_of (codes "FILE") rows)) (if is_on (codes "all") rows then 0 else 1) kind)
 
--- The parse succeeds, and the command which the words name has too few or too many paths, as the kind says.
+-- The words are parsed without an error, but the command that they name has too few or too many paths, as the kind says.
 abbrev pub IsMiscounted : List Text → ErrorKind → Type 0
-IsMiscounted words kind = IsParsed words × IsMiscountedOf (subcommand_of z80dev words) kind
+IsMiscounted words kind = AreParsed words × IsMiscountedOf (subcommand_of z80dev words) kind
 
--- The words are not refused for the number of their paths.
-abbrev pub IsCounted : List Text → Type 0
-IsCounted words = (kind : ErrorKind) → IsMiscounted words kind → ⊥
+-- The words do not have a wrong number of paths.
+abbrev pub HasRightCount : List Text → Type 0
+HasRightCount words = (kind : ErrorKind) → IsMiscounted words kind → ⊥

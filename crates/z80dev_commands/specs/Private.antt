@@ -1,9 +1,9 @@
--- What private contracts say of the rows that a parse finds.
+-- What private contracts say about the rows that a parse finds.
 use Rattle.std.specs.Prelude.{◌≡◌, ◌⊎◌, ◌≤◌, ℕ, true, IfSome, List, [], Option, Some, codes, is_some}
 use Rattle.clap.specs.Words.{App, Row, Shape, Text, first_of, kind_of, one_of, subcommand_of, with_rule}
 use Rattle.clap.specs.declared.error.Error.{Error}
 use Rattle.clap.specs.declared.error.kind.ErrorKind.TheVariants.{OutOfMemory}
-use Rattle.z80dev_commands.specs.Commands.{IsMiscountedOf, IsParsed, ReadsAs, flag_rule, path_rule, user_rule, z80dev}
+use Rattle.z80dev_commands.specs.Commands.{IsMiscountedOf, AreParsed, ReadsAs, flag_rule, path_rule, user_rule, z80dev}
 
 -- a command by itself
 abbrev pub alone : Shape → App
@@ -13,22 +13,22 @@ alone s = record { top = s; subs = [] }
 abbrev pub with_target : App → App
 with_target a = with_rule (with_rule (with_rule a user_rule) (flag_rule (codes "no-lock"))) (path_rule (codes "IMG"))
 
--- a parse that succeeds finds these rows for the command of this name
+-- a parse without an error found these rows for the command with this name
 abbrev pub AreFound : Text → List Row → Type 0
-AreFound name rows = (words : List Text) × IsParsed words × (subcommand_of z80dev words ≡ Some (name, rows))
+AreFound name rows = (words : List Text) × AreParsed words × (subcommand_of z80dev words ≡ Some (name, rows))
 
--- what a flag's value reads as
+-- the value of a flag, if it has one, is `true` or `false`
 abbrev pub IsFlag : Text → List Row → Type 0
 IsFlag id rows = IfSome (one_of id rows) (λ text. (text ≡ codes "true") ⊎ (text ≡ codes "false"))
 
--- what an option's value is read from, as it is written: a number of `u64`, this one at most
+-- the value of an option, if it is given, is read as it is written, and is a number of at most `most`
 abbrev pub IsNumber : Text → ℕ → List Row → Type 0
 IsNumber id most rows = (one_of id rows ≡ first_of id rows) × IfSome (first_of id rows) (λ text. (n : ℕ) × ReadsAs text n × (n ≤ most))
 
--- what the image that a command changes is read from
+-- the rows have what the image that a command changes is made from: its path, the user and the lock
 abbrev pub HasTarget : List Row → Type 0
 HasTarget rows = (is_some (first_of (codes "IMG") rows) ≡ true) × IsNumber (codes "N") 31 rows × IsFlag (codes "no-lock") rows
 
--- memory ran out, or the command that a parse met has a wrong number of paths
+-- memory ran out, or the command that the parse found has a wrong number of paths
 abbrev pub IsRefused : Option (Text × List Row) → Error → Type 0
 IsRefused met e = (kind_of e ≡ OutOfMemory) ⊎ IsMiscountedOf met (kind_of e)

@@ -1,6 +1,6 @@
-//! The end of each command's help, below its arguments: what the command reads, writes and prints, and an example.
+//! The text at the end of each command's help, after its arguments: what the command reads, writes and prints, and an example.
 
-/// The end of the help of `z80dev` itself.
+/// The text at the end of the help of `z80dev` itself.
 pub(crate) const WITHOUT_COMMAND: &str =
     r"Without a command, z80dev reads a source file from standard input to its end
 (at a terminal, press Ctrl-D) and prints the program's bytes in hexadecimal.
@@ -73,7 +73,7 @@ prints lines such as 0 GAME.COM 3.
 Example: z80dev dir --user 3 a.img '*.COM'
 prints the lines of user 3's programs.";
 
-/// The two forms of `put`.
+/// The two forms of `put`, for its usage line.
 pub(crate) const PUT_FORMS: &str = r"z80dev put [OPTIONS] <IMG> <FILE> <NAME>
        z80dev put [OPTIONS] --to <IMG> <FILE>...";
 
@@ -105,7 +105,7 @@ Example: z80dev put a.img game.com GAME.COM
 Example: z80dev put --to --replace a.img game.com notes.txt
 adds or replaces GAME.COM and NOTES.TXT.";
 
-/// The two forms of `get`.
+/// The two forms of `get`, for its usage line.
 pub(crate) const GET_FORMS: &str = r"z80dev get [OPTIONS] <IMG> <NAME> <FILE>
        z80dev get [OPTIONS] --all <IMG> <FOLDER>";
 

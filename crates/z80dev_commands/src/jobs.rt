@@ -1,8 +1,8 @@
-//! The job of the command that a parse met, with the values that it found.
+//! Makes the job of a parsed command from the values that the parse found.
 
 ghost use Rattle.std.specs.Prelude.{◌≡◌, ◌∷◌, [], true, IfOk, MatchResult, Some, codes, is_some, length, map};
 ghost use Rattle.clap.specs.Words.{all_of, first_of, found_of, kind_of, rows_of};
-ghost use Rattle.z80dev_commands.specs.Commands.{Finds, FindsAll, FindsAny, FindsIfGiven, FindsLock, FindsManner, FindsNumber, FindsTarget, FindsUser, FindsUserOrZero, IsJobOf, Miscounts, is_on, is_system, protect_name};
+ghost use Rattle.z80dev_commands.specs.Commands.{HasValue, FindsAll, FindsAny, FindsIfGiven, FindsLock, FindsManner, FindsNumber, FindsTarget, FindsUser, FindsUserOrZero, IsJobOf, Miscounts, is_on, is_system_attribute, protect_name};
 ghost use Rattle.z80dev_commands.specs.Private.{AreFound, HasTarget, IsFlag, IsNumber, IsRefused};
 
 use crate::{Attribute, Job, Manner, Target, usage};
@@ -10,24 +10,24 @@ use clap::error::ErrorKind;
 use clap::{ArgMatches, Command, Error};
 use std::alloc::{AllocError, Global};
 
-/// The form of `put` without `--to`.
+/// The message if `put` without `--to` has a wrong number of paths.
 const ONE_NAME: &str = "without --to, put takes IMG, one FILE and one NAME";
 
-/// The form of `get` without `--all`.
+/// The message if `get` without `--all` has a wrong number of paths.
 const ONE_FILE: &str = "without --all, get takes IMG, one NAME and one FILE";
 
-/// The form of `get` with `--all`.
+/// The message if `get` with `--all` has a wrong number of paths.
 const NO_FILE: &str = "with --all, get takes IMG and one FOLDER";
 
-/// The value of an argument that has one.
+/// The value of an argument that is sure to have one.
 fn text<'a>(found: &ArgMatches<'a>, id: &str) -> &'a str
     requires { is_some (first_of id.now (rows_of (found_of found.now))) ≡ true }
-    ensures { Finds id.now result (rows_of (found_of found.now)) }
+    ensures { HasValue id.now result (rows_of (found_of found.now)) }
 {
     found.get_str(id).unwrap()
 }
 
-/// The values of an argument that has some.
+/// The values of an argument that is sure to have at least one.
 fn texts<'a>(alloc: Global, found: &ArgMatches<'a>, id: &str) -> Result<Vec<&'a str>, AllocError>
     requires { is_some (all_of id.now (rows_of (found_of found.now))) ≡ true }
     ensures { IfOk result (λ texts. FindsAll id.now texts.items (rows_of (found_of found.now))) }
@@ -35,14 +35,14 @@ fn texts<'a>(alloc: Global, found: &ArgMatches<'a>, id: &str) -> Result<Vec<&'a 
     found.get_strs(id).unwrap().to_vec(alloc)
 }
 
-/// The value of an argument that may have one.
+/// The value of an argument, if it has one.
 fn text_if_given<'a>(found: &ArgMatches<'a>, id: &str) -> Option<&'a str>
     ensures { FindsIfGiven id.now result (rows_of (found_of found.now)) }
 {
     found.get_str(id)
 }
 
-/// The values of an argument that may have some.
+/// The values of an argument; none if it is not given.
 fn texts_if_given<'a>(
     alloc: Global,
     found: &ArgMatches<'a>,
@@ -56,7 +56,7 @@ fn texts_if_given<'a>(
     }
 }
 
-/// The number of an option that may be given.
+/// The number that an option gives, if it is given.
 fn number(found: &ArgMatches, id: &str) -> Option<u64>
     requires { IsNumber id.now 18446744073709551615 (rows_of (found_of found.now)) }
     ensures { FindsNumber id.now result (rows_of (found_of found.now)) }
@@ -64,7 +64,7 @@ fn number(found: &ArgMatches, id: &str) -> Option<u64>
     found.get_one(id)
 }
 
-/// The user of an option that may be given.
+/// The user that `--user` gives, if it is given.
 fn user(found: &ArgMatches) -> Option<u8>
     requires { IsNumber (codes "N") 31 (rows_of (found_of found.now)) }
     ensures { FindsUser result (rows_of (found_of found.now)) }
@@ -72,7 +72,7 @@ fn user(found: &ArgMatches) -> Option<u8>
     found.get_one("N")
 }
 
-/// The user of an option that stands for user 0 where it is not given.
+/// The user that `--user` gives, or user 0 if it is not given.
 fn user_or_zero(found: &ArgMatches) -> u8
     requires { IsNumber (codes "N") 31 (rows_of (found_of found.now)) }
     ensures { FindsUserOrZero result (rows_of (found_of found.now)) }
@@ -88,7 +88,7 @@ fn flag(found: &ArgMatches, id: &str) -> bool
     found.get_flag(id)
 }
 
-/// Whether the image is locked.
+/// Whether the command locks the image: it does without `--no-lock`.
 fn lock(found: &ArgMatches) -> bool
     requires { IsFlag (codes "no-lock") (rows_of (found_of found.now)) }
     ensures { FindsLock result (rows_of (found_of found.now)) }
@@ -96,7 +96,7 @@ fn lock(found: &ArgMatches) -> bool
     !flag(found, "no-lock")
 }
 
-/// The image that a command changes.
+/// The image that a command changes, with the user and whether it is locked.
 fn target<'a>(found: &ArgMatches<'a>) -> Target<'a>
     requires { HasTarget (rows_of (found_of found.now)) }
     ensures { FindsTarget result (rows_of (found_of found.now)) }
@@ -108,11 +108,11 @@ fn target<'a>(found: &ArgMatches<'a>) -> Target<'a>
     }
 }
 
-/// The only one of some paths.
+/// The path, if there is exactly one.
 ///
 /// # Errors
 ///
-/// There is none, or there are more.
+/// `MissingRequiredArgument` if there is none, `TooManyValues` if there are more.
 fn only<'a>(texts: &[&'a str]) -> Result<&'a str, ErrorKind>
     ensures { MatchResult result (λ text. texts.now ≡ text ∷ []) (Miscounts (length texts.now) 1) }
 {
@@ -123,7 +123,7 @@ fn only<'a>(texts: &[&'a str]) -> Result<&'a str, ErrorKind>
     }
 }
 
-/// The error of a command that has too few or too many paths, with the form that it has to have and with its usage.
+/// The error of a command with too few or too many paths. It shows the form that the command needs, and the usage of the command.
 fn miscounted(
     command: Result<Command<'_>, AllocError>,
     kind: ErrorKind,
@@ -191,7 +191,7 @@ fn dir<'a>(found: &ArgMatches<'a>) -> Job<'a>
     }
 }
 
-/// How `put` puts files.
+/// Whether `put` replaces files, and whether it puts them as texts.
 fn manner(found: &ArgMatches) -> Manner
     requires { AreFound (codes "put") (rows_of (found_of found.now)) }
     ensures { FindsManner result (rows_of (found_of found.now)) }
@@ -229,7 +229,7 @@ fn put<'a>(alloc: Global, found: &ArgMatches<'a>) -> Result<Job<'a>, Error>
     }
 }
 
-/// `get --all`, with the values of its list.
+/// The job of `get --all`, or an error if a second path is given.
 fn get_all<'a>(alloc: Global, found: &ArgMatches<'a>, files: &[&'a str]) -> Result<Job<'a>, Error>
     requires found { AreFound (codes "get") (rows_of (found_of found.now)) }
     requires all { is_on (codes "all") (rows_of (found_of found.now)) ≡ true }
@@ -289,10 +289,10 @@ fn rename<'a>(found: &ArgMatches<'a>) -> Job<'a>
     }
 }
 
-/// The attribute that `protect` sets and `unprotect` takes away.
+/// The attribute that `protect` sets and `unprotect` clears.
 fn attribute(found: &ArgMatches) -> Attribute
     requires { IsFlag (codes "system") (rows_of (found_of found.now)) }
-    ensures { is_on (codes "system") (rows_of (found_of found.now)) ≡ is_system result }
+    ensures { is_on (codes "system") (rows_of (found_of found.now)) ≡ is_system_attribute result }
 {
     if flag(found, "system") {
         Attribute::System
@@ -301,7 +301,7 @@ fn attribute(found: &ArgMatches) -> Attribute
     }
 }
 
-/// `protect`, and `unprotect` where `on` is false.
+/// The job of `protect`, or of `unprotect` if `on` is false.
 fn protect<'a>(alloc: Global, on: bool, found: &ArgMatches<'a>) -> Result<Job<'a>, AllocError>
     requires { AreFound (protect_name on) (rows_of (found_of found.now)) }
     ensures { IfOk result (IsJobOf (Some (protect_name on, rows_of (found_of found.now)))) }
@@ -348,7 +348,7 @@ fn run<'a>(alloc: Global, found: &ArgMatches<'a>) -> Result<Job<'a>, AllocError>
     })
 }
 
-/// The job of the command of this name.
+/// The job of the command with this name.
 pub(crate) fn job<'a>(alloc: Global, name: &str, found: &ArgMatches<'a>) -> Result<Job<'a>, Error>
     requires { AreFound name.now (rows_of (found_of found.now)) }
     ensures { MatchResult result (IsJobOf (Some (name.now, rows_of (found_of found.now)))) (IsRefused (Some (name.now, rows_of (found_of found.now)))) }

@@ -1,4 +1,4 @@
-//! The command as `clap` has it: its commands, and the arguments of each.
+//! The command for `clap`: its commands, and the arguments of each.
 
 ghost use Rattle.std.specs.Prelude.{◌≡◌, IfOk, Ok, false, codes};
 ghost use Rattle.clap.specs.Words.{AddsSubcommand, app_of, new_app, rule_of};
@@ -11,10 +11,10 @@ use clap::builder::ValueParser;
 use clap::{Arg, ArgAction, Command, value_parser};
 use std::alloc::{AllocError, Global};
 
-/// What `--version` prints after the command's name.
+/// The version that `--version` prints after the command's name.
 const VERSION: &str = "0.2.0";
 
-/// A path that has to be given, and what is said of it.
+/// A required path, with its help.
 fn path<'a>(alloc: Global, name: &'a str, help: &'a str) -> Arg<'a>
     ensures rule { rule_of result ≡ path_rule name.now }
     ensures local { result.global ≡ false }
@@ -25,7 +25,7 @@ fn path<'a>(alloc: Global, name: &'a str, help: &'a str) -> Arg<'a>
         .help(help)
 }
 
-/// One path or more.
+/// One or more paths.
 fn paths<'a>(alloc: Global, name: &'a str, help: &'a str) -> Arg<'a>
     ensures rule { rule_of result ≡ paths_rule name.now }
     ensures local { result.global ≡ false }
@@ -37,7 +37,7 @@ fn paths<'a>(alloc: Global, name: &'a str, help: &'a str) -> Arg<'a>
         .help(help)
 }
 
-/// None or more.
+/// Any number of words, even none.
 fn words<'a>(alloc: Global, name: &'a str, help: &'a str) -> Arg<'a>
     ensures rule { rule_of result ≡ words_rule name.now }
     ensures local { result.global ≡ false }
@@ -58,7 +58,7 @@ fn out<'a>(alloc: Global) -> Arg<'a>
     .long("out")
 }
 
-/// `--NAME ID`, which may be left out.
+/// The option `--NAME ID`, which need not be given.
 fn option<'a>(alloc: Global, name: &'a str, id: &'a str, help: &'a str) -> Arg<'a>
     ensures rule { rule_of result ≡ option_rule name.now id.now }
     ensures local { result.global ≡ false }
@@ -91,7 +91,7 @@ fn user<'a>(alloc: Global, help: &'a str) -> Arg<'a>
     option(alloc, "user", "N", help).value_parser(ValueParser::unsigned(0, 31))
 }
 
-/// A flag of this name.
+/// The flag `--NAME`.
 fn flag<'a>(alloc: Global, name: &'a str, help: &'a str) -> Arg<'a>
     ensures rule { rule_of result ≡ flag_rule name.now }
     ensures local { result.global ≡ false }
@@ -127,7 +127,7 @@ fn verbose<'a>(alloc: Global) -> Arg<'a>
     .short('v')
 }
 
-/// A command without its arguments: what it does in a line, and what stands below its help.
+/// A command without its arguments: its name, what it does, and the text at the end of its help.
 fn titled<'a>(alloc: Global, name: &'a str, about: &'a str, below: &'a str) -> Command<'a>
     ensures app { app_of result ≡ new_app name.now }
     ensures local { (out-Command result).has_globals ≡ false }
@@ -206,7 +206,7 @@ fn check<'a>(alloc: Global) -> Result<Command<'a>, AllocError>
     ))
 }
 
-/// The command without its commands.
+/// The command `z80dev` without its commands.
 fn bare<'a>(alloc: Global) -> Result<Command<'a>, AllocError>
     ensures app { IfOk result (λ c. app_of c ≡ bare) }
 {
@@ -234,7 +234,7 @@ fn no_lock<'a>(alloc: Global) -> Arg<'a>
     flag(alloc, "no-lock", "Does not lock IMG")
 }
 
-/// `--user N`, where user 0 is meant without it.
+/// `--user N`, which means user 0 if it is not given.
 fn user_or_zero<'a>(alloc: Global) -> Arg<'a>
     ensures rule { rule_of result ≡ user_rule }
     ensures local { result.global ≡ false }
@@ -242,7 +242,7 @@ fn user_or_zero<'a>(alloc: Global) -> Arg<'a>
     user(alloc, "The user whose files they are, 0 to 31 [default: 0]")
 }
 
-/// A command with the image that it changes: whose files, whether it is locked, and its path.
+/// Adds the arguments of a command that changes an image: `--user N`, `--no-lock` and the path of the image.
 fn with_target<'a>(alloc: Global, command: Command<'a>) -> Result<Command<'a>, AllocError>
     requires { (out-Command command).has_globals ≡ false }
     ensures app { IfOk result (λ c. app_of c ≡ with_target (app_of command.entry)) }
@@ -254,7 +254,7 @@ fn with_target<'a>(alloc: Global, command: Command<'a>) -> Result<Command<'a>, A
         .arg(image(alloc))
 }
 
-/// A name of files to list, which may be left out.
+/// The name of the files to list, which need not be given.
 fn name_if_given<'a>(alloc: Global) -> Arg<'a>
     ensures rule { rule_of result ≡ name_rule (codes "NAME") }
     ensures local { result.global ≡ false }
@@ -282,7 +282,7 @@ fn dir<'a>(alloc: Global) -> Result<Command<'a>, AllocError>
         .arg(name_if_given(alloc))
 }
 
-/// A command of two forms, whose usage is said in words, since `clap` knows of one.
+/// A command that has two forms. Its usage is written out here, because `clap` shows only one form.
 fn of_two_forms<'a>(
     alloc: Global,
     name: &'a str,
@@ -296,7 +296,7 @@ fn of_two_forms<'a>(
     titled(alloc, name, about, below).override_usage(forms)
 }
 
-/// `put`, by itself: an error of it has its usage.
+/// The command `put` by itself, so that an error shows the usage of `put`.
 pub(crate) fn put<'a>(alloc: Global) -> Result<Command<'a>, AllocError>
     ensures app { IfOk result (λ c. app_of c ≡ alone put_shape) }
     ensures local { IfOk result (λ c. (out-Command c).has_globals ≡ false) }
@@ -328,7 +328,7 @@ pub(crate) fn put<'a>(alloc: Global) -> Result<Command<'a>, AllocError>
         ))
 }
 
-/// `get`, by itself: an error of it has its usage.
+/// The command `get` by itself, so that an error shows the usage of `get`.
 pub(crate) fn get<'a>(alloc: Global) -> Result<Command<'a>, AllocError>
     ensures app { IfOk result (λ c. app_of c ≡ alone get_shape) }
     ensures local { IfOk result (λ c. (out-Command c).has_globals ≡ false) }
@@ -356,7 +356,7 @@ pub(crate) fn get<'a>(alloc: Global) -> Result<Command<'a>, AllocError>
     .arg(words(alloc, "FILE", "The path of the file to write"))
 }
 
-/// The names of one file or more on a disk.
+/// One or more names of files on a disk.
 fn names<'a>(alloc: Global) -> Arg<'a>
     ensures rule { rule_of result ≡ paths_rule (codes "NAME") }
     ensures local { result.global ≡ false }
@@ -386,7 +386,7 @@ fn rename<'a>(alloc: Global) -> Result<Command<'a>, AllocError>
         .arg(path(alloc, "NEW", "The name that it gets"))
 }
 
-/// `protect` and `unprotect`, which have the same arguments.
+/// The command `protect` or `unprotect`; both have the same arguments.
 fn protecting<'a>(
     alloc: Global,
     name: &'a str,
@@ -477,7 +477,7 @@ fn run<'a>(alloc: Global) -> Result<Command<'a>, AllocError>
         .arg(words(alloc, "WORD", "The words of its command line"))
 }
 
-/// A command with one more, where memory lasted for both.
+/// Adds a command to a command, unless memory ran out for one of them.
 fn with_command<'a>(
     command: Result<Command<'a>, AllocError>,
     more: Result<Command<'a>, AllocError>,
@@ -487,7 +487,7 @@ fn with_command<'a>(
     command?.subcommand(more?)
 }
 
-/// The command with its commands that make programs.
+/// The command with the commands that make programs.
 fn programs<'a>(alloc: Global) -> Result<Command<'a>, AllocError>
     ensures app { IfOk result (λ c. app_of c ≡ programs) }
 {
@@ -497,7 +497,7 @@ fn programs<'a>(alloc: Global) -> Result<Command<'a>, AllocError>
     with_command(command, check(alloc))
 }
 
-/// .. and with those that list, copy, erase and rename the files of a disk.
+/// The command with those and the commands that list, copy, erase and rename the files of a disk.
 fn with_files<'a>(alloc: Global) -> Result<Command<'a>, AllocError>
     ensures app { IfOk result (λ c. app_of c ≡ with_files) }
 {

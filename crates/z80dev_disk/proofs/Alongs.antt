@@ -8,7 +8,7 @@ use Rattle.z80dev_disk.specs.Private.{IsRefusedAt}
 use Rattle.z80dev_disk.specs.declared.refusal.Refusal.{Refusal}
 use Rattle.z80dev_disk.specs.declared.refusal.Refusal.TheVariants as refusal
 
--- the elements before one, and it
+-- the first n + 1 elements are the first n and then element n
 taken_more : {X : Type 0} (xs : List X) (n : ℕ) (x : X) → slice_get xs n ≡ Some x → take (n + 1) xs ≡ take n xs ++ x ∷ []
 taken_more [] n x at = absurd cc
 taken_more (y ∷ ys) zero x at = let same : y ≡ x = cc in ap (λ z. z ∷ []) same
@@ -16,7 +16,7 @@ taken_more (y ∷ ys) (suc n) x at =
     let next : suc n + 1 ≡ suc (n + 1) = omega arith in
     ap (λ m. take m (y ∷ ys)) next ∙ ap (λ zs. y ∷ zs) (taken_more ys n x at)
 
--- the element that a loop has come to, of a list and of its images
+-- element n of a list is there
 pub got_at : {X : Type 0} (xs : List X) (n : ℕ) (d : X) → n < length xs → slice_get xs n ≡ Some (get_or xs n d)
 got_at [] n d below = absurd (omega (arith, below))
 got_at (y ∷ ys) zero d below = refl
@@ -27,19 +27,19 @@ image_at f [] n x below is = absurd (omega (arith, below))
 image_at f (y ∷ ys) zero x below is = ap (λ z. Some (f z)) (sym is)
 image_at f (y ∷ ys) (suc n) x below is = image_at f ys n x (omega (arith, below)) is
 
--- one element more at the end
+-- one more element at the end of a list whose work is done
 along_more : {X : Type 0} (Does : X → Image → Image → Type 0) (xs : List X) (x : X) (old mid new : Image) → Along Does xs old mid → Does x mid new → Along Does (xs ++ x ∷ []) old new
 along_more Does [] x old mid new same does = (new, subst (λ image. Does x image new) same does, refl)
 along_more Does (y ∷ ys) x old mid new (between, first, rest) does = (between, first, along_more Does ys x between mid new rest does)
 
--- .. of those that a loop has taken
+-- the same for the first n elements of a list: the step of a loop
 pub along_step : {X : Type 0} (Does : X → Image → Image → Type 0) (xs : List X) (n : ℕ) (x : X) (old mid new : Image) → slice_get xs n ≡ Some x → Along Does (take n xs) old mid → Does x mid new → Along Does (take (n + 1) xs) old new
 along_step Does xs n x old mid new at so_far does = subst (λ ys. Along Does ys old new) (sym (taken_more xs n x at)) (along_more Does (take n xs) x old mid new so_far does)
 
 pub along_all : {X : Type 0} (Does : X → Image → Image → Type 0) (xs : List X) (n : ℕ) (old new : Image) → length xs ≤ n → Along Does (take n xs) old new → Along Does xs old new
 along_all Does xs n old new past so_far = subst (λ ys. Along Does ys old new) (take_all n xs past) so_far
 
--- That element is refused.
+-- Element n is refused after the work for those before it is done, so the list is refused.
 pub stops_at : {X : Type 0} (Does : X → Image → Image → Type 0) (Stops : X → Image → DiskFault → Type 0) (named : X → Image → DiskFault → List ℕ) (xs : List X) (n : ℕ) (x : X) (old image : Image) (why : Refusal)
     → slice_get xs n ≡ Some x → Along Does (take n xs) old image → IsRefusedAt Stops named x image why → IsRefusedAlong Does Stops named xs old why
 stops_at Does Stops named xs n x old image (refusal.Named why name) at before (stops, is) = (n, x, record { image = image; is_there = at; before = before; stops = stops }, is)

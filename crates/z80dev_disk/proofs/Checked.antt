@@ -6,10 +6,10 @@ use Rattle.cpm_directory.specs.declared.broken.Broken.{Broken}
 use Rattle.cpm_directory.specs.declared.entry.Entry.{Entry}
 use Rattle.cpm_directory.specs.declared.fault.DiskFault.{DiskFault}
 use Rattle.cpm_directory.specs.declared.fault.DiskFault.TheVariants as fault
-use Rattle.z80dev_disk.specs.Check.{first_fault}
-use Rattle.z80dev_disk.specs.Refusals.{Refuses, RefusesNone}
+use Rattle.z80dev_disk.specs.Check.{first_broken_rule}
+use Rattle.z80dev_disk.specs.Refusals.{IsRefusalOf, RefusesNone}
 
--- a fault of an entry is that of a rule
+-- each fault of an entry is a fault of a rule
 of_rule : (kind : DiskKind) (before : List Entry) (e : Entry) (why : DiskFault) → IsFaultOf kind before e why → IsRuleFault why
 of_rule kind before e fault.BadEntry is = tt
 of_rule kind before e fault.BlockRange is = tt
@@ -17,7 +17,7 @@ of_rule kind before e fault.BlockTwice is = tt
 of_rule kind before e fault.NameTwice is = tt
 of_rule kind before e _ is = absurd is
 
--- So the first fault is a refusal of bytes that are no disk.
-pub refuses : (kind : DiskKind) (entries : List Entry) (broken : List Broken) → AreBroken kind entries broken → IfSome (first_fault broken) (Refuses RefusesNone)
+-- So the first fault is one of the refusals that every command has.
+pub refuses : (kind : DiskKind) (entries : List Entry) (broken : List Broken) → AreBroken kind entries broken → IfSome (first_broken_rule broken) (IsRefusalOf RefusesNone)
 refuses kind entries [] are = tt
 refuses kind entries (first ∷ rest) are = inl (of_rule kind (take first.number entries) first.entry first.fault (are.each 0 first (omega arith)).fault_of)

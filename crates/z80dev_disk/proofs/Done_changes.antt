@@ -20,7 +20,7 @@ use Rattle.z80dev_disk.specs.Put.{is_replaced}
 use Rattle.z80dev_disk.proofs.Memory.{itself, never, refused_by}
 use Rattle.z80dev_disk.proofs.Others.{file_matches}
 
--- the files that match are erased
+-- what `erase` of the disk answers and leaves makes `Erases` hold
 pub erased : (old new : Mounted Image) (user : ℕ) (asked pattern : List ℕ) (number : ℕ) → asked ≡ pattern → disk.IsErased itself never old new user asked (Ok number)
     → ((name : List ℕ) → name_matches asked name ≡ true → IsNoFile new.kind new.device user name) → OthersAreSame old.kind old.device new.device (IsMatched user asked) → IsSound new.kind (directory new.kind new.device)
     → Erases old.kind user pattern old.device new.device
@@ -33,7 +33,7 @@ erased old new user asked pattern number is (was, sound, same, calm, count, may,
   sound = subst (λ k. IsSound k (directory k new.device)) same rules;
 })
 
--- .. or marked
+-- what `mark` of the disk answers and leaves makes `Marks` hold
 pub marked : (old new : Mounted Image) (user : ℕ) (attribute : Attribute) (on : Bool) (asked pattern : List ℕ) (number : ℕ) → asked ≡ pattern → disk.IsMarked itself never old new user asked attribute on (Ok number)
     → ((name : List ℕ) → name_matches asked name ≡ true → IsMarkedFile old.kind old.device new.device user name attribute on) → OthersAreSame old.kind old.device new.device (IsMatched user asked) → IsSound new.kind (directory new.kind new.device)
     → Marks old.kind user attribute on pattern old.device new.device
@@ -46,7 +46,7 @@ marked old new user attribute on asked pattern number is (was, sound, same, calm
   sound = subst (λ k. IsSound k (directory k new.device)) same rules;
 })
 
--- A file that is there is not erased where it is read-only, and for no other reason.
+-- If the user has the file, being read-only is the only reason for which it is not erased.
 read_only : (user : ℕ) (name : List ℕ) (entries : List Entry) (why : DiskFault) → is_file user name entries ≡ true → erasure user name entries ≡ Err why → why ≡ fault.ReadOnly
 read_only user name entries why is asked = by_test (list_any (λ e. is_match user name e && is_read_only e) entries) (sym (ap (λ b. unless (not b) fault.NotFound rest) (file_matches user name entries is)) ∙ asked)
   where

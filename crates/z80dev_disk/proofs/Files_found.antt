@@ -12,12 +12,12 @@ use Rattle.z80dev_disk.specs.Names.{is_host_name}
 use Rattle.z80dev_disk.specs.Private.{AreAsked}
 use Rattle.z80dev_disk.specs.declared.refusal.Refusal.TheVariants as refusal
 
--- where there are files, the first name that the host cannot take is the reason
+-- if there are files, the only reason is the first name that the host cannot take
 pub reason : (pattern : List ℕ) (files : List Listed) → (length files == 0) ≡ false → refusal_of pattern files ≡ option_map (λ f. refusal.BadFile f.name) (find (λ f. not (is_host_name f.name)) files)
 reason pattern [] some = absurd (true≢false some)
 reason pattern (file ∷ files) some = refl
 
--- what a listing says of a file, and so of those that are asked for
+-- What a listing says of each of its files, and so of each that is asked for: its user is below the limit, and its records are its size.
 abbrev pub IsListed : DiskKind → Image → Listed → Type 0
 IsListed kind image file = (file.user < USERS) × (file.records ≡ unwrap_or (size file.user file.name (directory kind image)) 0)
 

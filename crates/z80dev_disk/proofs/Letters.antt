@@ -1,4 +1,4 @@
--- The eleven bytes of a name that a word spells.
+-- The eleven bytes of the name that a word gives.
 use Rattle.std.proofs.Common.{◌≡◌, ◌≤◌, ◌+◌, ◌-◌, ◌%◌, ◌&&◌, not, ℕ, zero, suc, true, List, [], ◌∷◌, ◌++◌, length, take, drop, replicate, refl, sym, ap, ap₂, ◌∙◌, arith}
 use Rattle.std.specs.Char.{is_ascii_graphic, is_ascii_lowercase}
 use Rattle.std.specs.List.{list_all}
@@ -7,7 +7,7 @@ use Rattle.std.proofs.Math.Seq.{drop-append_seam, take-append_seam}
 use Rattle.std.proofs.lemmas.List.{append_assoc, drop-replicate, length-append, length-replicate, map-append, replicate-append-replicate}
 use borrow.Rule.Slice.PartMut.{put_mid}
 use Rattle.cpm_directory.specs.Letters.{letters}
-use Rattle.z80dev_disk.specs.Words.{filled, is_name_byte, is_name_part}
+use Rattle.z80dev_disk.specs.Words.{padded, is_name_byte, is_name_part}
 
 seven : (b : ℕ) → is_name_byte b ≡ true → b % 128 ≡ b
 seven b is =
@@ -26,19 +26,19 @@ same_spaces : (n : ℕ) → letters (replicate n 0x20) ≡ replicate n 0x20
 same_spaces zero = refl
 same_spaces (suc n) = ap (λ xs. 0x20 ∷ xs) (same_spaces n)
 
-same_filled : (n most : ℕ) (part : List ℕ) → is_name_part part most ≡ true → letters (filled n part) ≡ filled n part
+same_filled : (n most : ℕ) (part : List ℕ) → is_name_part part most ≡ true → letters (padded n part) ≡ padded n part
 same_filled n most part is =
     let (short, all) = and_parts _ _ is in
     map-append (λ b. b % 128) part (replicate (n - length part) 0x20) ∙ ap₂ (λ xs ys. xs ++ ys) (same_letters part all) (same_spaces (n - length part))
 
-pub same_name : (name kind : List ℕ) → is_name_part name 8 ≡ true → is_name_part kind 3 ≡ true → letters (filled 8 name ++ filled 3 kind) ≡ filled 8 name ++ filled 3 kind
-same_name name kind good also = map-append (λ b. b % 128) (filled 8 name) (filled 3 kind) ∙ ap₂ (λ xs ys. xs ++ ys) (same_filled 8 8 name good) (same_filled 3 3 kind also)
+pub same_name : (name kind : List ℕ) → is_name_part name 8 ≡ true → is_name_part kind 3 ≡ true → letters (padded 8 name ++ padded 3 kind) ≡ padded 8 name ++ padded 3 kind
+same_name name kind good also = map-append (λ b. b % 128) (padded 8 name) (padded 3 kind) ∙ ap₂ (λ xs ys. xs ++ ys) (same_filled 8 8 name good) (same_filled 3 3 kind also)
 
--- both parts in their places
+-- the name and the type, each copied to its field of eleven spaces
 pub laid : (name kind one two : List ℕ) (k : ℕ) → length name ≤ 8 → one ≡ name → two ≡ kind → k ≡ length kind
-    → put_mid 8 k (one ++ drop (length name) (replicate 11 0x20)) two ≡ filled 8 name ++ filled 3 kind
+    → put_mid 8 k (one ++ drop (length name) (replicate 11 0x20)) two ≡ padded 8 name ++ padded 3 kind
 laid name kind one two k short one_is two_is k_is =
-    let front = filled 8 name in
+    let front = padded 8 name in
     let spaces : List ℕ = replicate 3 0x20 in
     let left : 11 - length name ≡ 8 - length name + 3 = omega (arith, short) in
     let all : one ++ drop (length name) (replicate 11 0x20) ≡ front ++ spaces =

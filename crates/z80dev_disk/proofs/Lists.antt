@@ -1,4 +1,4 @@
--- Lists that are joined piece by piece.
+-- Lists that are joined part by part.
 use Rattle.std.proofs.Common.{◌≡◌, ◌<◌, ◌≤◌, ℕ, zero, suc, ◌+◌, min, get_or, length, take, drop, codes, inl, inr, List, [], ◌∷◌, ◌++◌, refl, sym, ap, ◌∙◌, arith}
 use Rattle.std.proofs.lemmas.Bool.{cases_lt}
 use Rattle.std.specs.List.{concat, flat_map, range_with_len}
@@ -11,7 +11,7 @@ pub flattened : (xs : List (List ℕ)) → flat_map (λ x. x) xs ≡ concat xs
 flattened [] = refl
 flattened (x ∷ xs) = flat_map-cons (λ y. y) x xs ∙ ap (λ ys. x ++ ys) (flattened xs)
 
--- one number more
+-- the bytes for n + 1 numbers are those for n numbers and then those for the last
 one_next : (f : ℕ → List ℕ) (a n : ℕ) → flat_map f (range_with_len a (suc n)) ≡ flat_map f (range_with_len a n) ++ f (a + n)
 one_next f a zero = let here : a ≡ a + 0 = omega arith in append-nil (f a) ∙ ap f here
 one_next f a (suc n) =
@@ -25,11 +25,11 @@ one_more f n =
     let here : 0 + n ≡ n = omega arith in
     ap (λ m. flat_map f (range_with_len 0 m)) next ∙ one_next f 0 n ∙ ap (λ m. flat_map f (range_with_len 0 n) ++ f m) here
 
--- what a loop makes of the elements that it has taken, and of one more
+-- the bytes for n + 1 elements are those for n elements and then those for element n: the step of a loop
 pub flat_step : {X : Type 0} (f : X → List ℕ) (xs : List X) (n : ℕ) (x : X) → n < length xs → x ≡ get_or xs n x → flat_map f (take (n + 1) xs) ≡ flat_map f (take n xs) ++ f x
 flat_step f xs n x below is = ap (flat_map f) (take_more xs n x below ∙ ap (λ y. take n xs ++ y ∷ []) (sym is)) ∙ sym (flat_map_more f [] (take n xs) x)
 
--- what is cut off at the front of what is left
+-- the first record of the rest of a file, and what follows it
 pub cut_off : (rest : List ℕ) (m : ℕ) → m ≡ min (length rest) 128 → (length (take m rest) ≤ 128) × (take m rest ≡ take 128 rest) × (drop m rest ≡ drop 128 rest)
 cut_off rest m is = elim (cases_lt (length rest) 128) as (λ _. (length (take m rest) ≤ 128) × (take m rest ≡ take 128 rest) × (drop m rest ≡ drop 128 rest)) [
   | inl short ↦ (
@@ -40,12 +40,12 @@ cut_off rest m is = elim (cases_lt (length rest) 128) as (λ _. (length (take m 
       (omega (arith, whole, length-take m rest), ap (λ n. take n rest) whole, ap (λ n. drop n rest) whole))
 ]
 
--- the pieces of a line
+-- a line of `dir` is equal to another if all its parts are
 pub line_is : (user name kind records usage only system : List ℕ) (u n k r t o s : List ℕ) → u ≡ user → n ≡ name → k ≡ kind → r ≡ records → t ≡ usage → o ≡ only → s ≡ system
     → concat (u ∷ n ∷ codes "." ∷ k ∷ r ∷ t ∷ o ∷ s ∷ (10 ∷ []) ∷ []) ≡ concat (user ∷ name ∷ codes "." ∷ kind ∷ records ∷ usage ∷ only ∷ system ∷ (10 ∷ []) ∷ [])
 line_is user name kind records usage only system u n k r t o s a b c d e f g = rw (a, b, c, d, e, f, g) refl
 
--- .. and of one about an entry
+-- the same for a line of `check-disk`
 pub broken_is : (number user name kind rule : List ℕ) (n u a k r : List ℕ) → n ≡ number → u ≡ user → a ≡ name → k ≡ kind → r ≡ rule
     → concat (n ∷ u ∷ a ∷ codes "." ∷ k ∷ codes " " ∷ r ∷ (10 ∷ []) ∷ []) ≡ concat (number ∷ user ∷ name ∷ codes "." ∷ kind ∷ codes " " ∷ rule ∷ (10 ∷ []) ∷ [])
 broken_is number user name kind rule n u a k r b c d e f = rw (b, c, d, e, f) refl

@@ -3,10 +3,10 @@ use Rattle.std.proofs.Common.{◌≡◌, ℕ, false, Result, Err, sym, ◌∙◌
 use Rattle.cpm_image.specs.Device.{HasRisen}
 use Rattle.cpm_directory.specs.declared.fault.DiskFault.{DiskFault}
 use Rattle.cpm_directory.specs.declared.fault.DiskFault.TheVariants as fault
-use Rattle.cpm_disk.specs.Calls.{Mounted, Outcome}
+use Rattle.cpm_disk.specs.Calls.{Mounted, HasOutcome}
 use Rattle.cpm_disk.specs.Image.{Image}
 
--- the device of an image in memory: its sectors, and its faults, of which there are none
+-- an image in memory as a device: its sectors are the image, and it never fails
 abbrev pub itself : Image → Image
 itself image = image
 
@@ -17,9 +17,9 @@ pub never_risen : HasRisen 0 0 → ⊥
 never_risen (inl less) = omega (arith, less)
 never_risen (inr (most, still)) = omega (arith, most)
 
--- A refusal is that of the operation, and changes nothing.
+-- If the call is refused, the operation refuses it for the same reason, and the disk is unchanged.
 pub refused_by : {X : Type 0} (old new : Mounted Image) (expected : Result X DiskFault) (stopped : X → Type 0) (why : DiskFault) → old.failed ≡ false
-    → Outcome {Y = Unit {0}} never old new expected (λ x y. Unit {0}) stopped (Err why) → (expected ≡ Err why) × (new ≡ old)
+    → HasOutcome {Y = Unit {0}} never old new expected (λ x y. Unit {0}) stopped (Err why) → (expected ≡ Err why) × (new ≡ old)
 refused_by old new expected stopped fault.Fault sound done = let (was, failed, same, risen, x, asked, left) = done in absurd (never_risen risen)
 refused_by old new expected stopped fault.Failed sound done = absurd (true≢false (sym done.0 ∙ sound))
 refused_by old new expected stopped why sound done = (done.1, done.2)

@@ -19,7 +19,7 @@ use Rattle.cpm_disk.specs.Image.{Image, directory}
 use Rattle.z80dev_disk.specs.Private.{HaveNames}
 use Rattle.z80dev_disk.specs.Words.{is_wild}
 
--- two changes that name the same files
+-- two changes, one after the other, that leave all files but the same ones as before
 pub both : (kind : DiskKind) (first second third : Image) (named : ℕ → List ℕ → Type 0) → OthersAreSame kind first second named → OthersAreSame kind second third named → OthersAreSame kind first third named
 both kind first second third named one two user name low apart =
     let a = one user name low apart in
@@ -31,13 +31,13 @@ both kind first second third named one two user name low apart =
       system = b.system ∙ a.system;
     }
 
--- a change of nothing
+-- no change leaves every file as before
 pub neither : (kind : DiskKind) (image : Image) (named : ℕ → List ℕ → Type 0) → OthersAreSame kind image image named
 neither kind image named user name low apart = record { counts = λ n. refl; records = λ n i within. refl; read_only = refl; system = refl }
 
 -- ---- no file
 
--- a file without extents is none
+-- a user has no file of a name if none of its extents has an entry
 pub no_file : (user : ℕ) (name : List ℕ) (entries : List Entry) → ((number : ℕ) → find (is_extent_of user name number) entries ≡ None) → is_file user name entries ≡ false
 no_file user name [] none = refl
 no_file user name (x ∷ xs) none = elim (cases_Bool (is_of user name x)) as (λ _. is_file user name (x ∷ xs) ≡ false) [
@@ -50,14 +50,14 @@ no_file user name (x ∷ xs) none = elim (cases_Bool (is_of user name x)) as (λ
       ap (λ b. b || is_file user name xs) other ∙ rest)
 ]
 
--- .. and one that is none has none
+-- if the user has no file of a name, no extent of it has an entry
 pub no_extent : (user : ℕ) (name : List ℕ) (number : ℕ) (entries : List Entry) → is_file user name entries ≡ false → find (is_extent_of user name number) entries ≡ None
 no_extent user name number [] none = refl
 no_extent user name number (x ∷ xs) none =
     let (other, rest) = or_parts (is_of user name x) (is_file user name xs) none in
     ap (λ b. if b && (extent_number x == number) then Some x else find (is_extent_of user name number) xs) other ∙ no_extent user name number xs rest
 
--- where a file is neither before nor after, it is as before
+-- a file that is neither on the old disk nor on the new one is as before
 none_same : (kind : DiskKind) (old new : Image) (user : ℕ) (name : List ℕ) → is_file user name (directory kind old) ≡ false → is_file user name (directory kind new) ≡ false → SameFile kind old new user name
 none_same kind old new user name before after = record {
   counts = λ n. ap (option_map (λ e. e.records)) (no_extent user name n (directory kind new) after ∙ sym (no_extent user name n (directory kind old) before));
@@ -68,14 +68,14 @@ none_same kind old new user name before after = record {
 
 -- ---- a name as a pattern
 
--- a byte that is no `?` matches itself alone
+-- a byte other than `?` matches only itself
 same_byte : (p b : ℕ) → (p == 0x3F) ≡ false → p % 128 ≡ p → b % 128 ≡ b → byte_matches p b ≡ true → p ≡ b
 same_byte p b plain low low_too matches = elim (or_cases (p == 0x3F) (p % 128 == b % 128) matches) as (λ _. p ≡ b) [
   | inl wild ↦ absurd (true≢false (sym wild ∙ plain))
   | inr same ↦ sym low ∙ eqb-true (p % 128) (b % 128) same ∙ low_too
 ]
 
--- so does a name
+-- a name without `?` matches only itself
 pub same_name : (name other : List ℕ) → is_wild name ≡ false → letters name ≡ name → letters other ≡ other → length name ≡ length other → name_matches name other ≡ true → name ≡ other
 same_name [] [] plain low low_too long matches = refl
 same_name [] (b ∷ other) plain low low_too long matches = absurd (omega (arith, long))
@@ -89,7 +89,7 @@ same_name (a ∷ name) (b ∷ other) plain low low_too long matches =
     let other_low : letters other ≡ other = cc in
     ap₂ (λ x xs. x ∷ xs) (same_byte a b first a_low b_low here) (same_name name other rest name_low other_low (omega (arith, long)) there)
 
--- A name matches itself, and a pattern of letters every name of these letters.
+-- each name matches itself
 pub itself_matches : (name : List ℕ) → name_matches name name ≡ true
 itself_matches [] = refl
 itself_matches (b ∷ name) = and_from (byte_matches b b) (name_matches name name) (or_right (b == 0x3F) (b % 128 == b % 128) (eq-eqb (b % 128) (b % 128) refl)) (itself_matches name)
@@ -100,7 +100,7 @@ letters_match (b ∷ name) =
     let low : b % 128 % 128 ≡ b % 128 = omega arith in
     and_from (byte_matches (b % 128) b) (name_matches (letters name) name) (or_right (b % 128 == 0x3F) (b % 128 % 128 == b % 128) (eq-eqb (b % 128 % 128) (b % 128) low)) (letters_match name)
 
--- So a file is matched by its name.
+-- So the name of a file matches an entry of it.
 pub file_matches : (user : ℕ) (name : List ℕ) (entries : List Entry) → is_file user name entries ≡ true → list_any (is_match user name) entries ≡ true
 file_matches user name [] some = absurd (true≢false (sym some))
 file_matches user name (x ∷ xs) some = elim (or_cases (is_of user name x) (is_file user name xs) some) as (λ _. list_any (is_match user name) (x ∷ xs) ≡ true) [
@@ -111,7 +111,7 @@ file_matches user name (x ∷ xs) some = elim (or_cases (is_of user name x) (is_
   | inr later ↦ or_right (is_match user name x) (list_any (is_match user name) xs) (file_matches user name xs later)
 ]
 
--- A file of another name that a name matches as a pattern is none.
+-- The user has no file of another name that this name matches as a pattern.
 not_there : (kind : DiskKind) (image : Image) (user : ℕ) (name other : List ℕ) → is_wild name ≡ false → letters name ≡ name → length name ≡ 11 → HaveNames kind image
     → name_matches name other ≡ true → (other ≡ name → ⊥) → is_file user other (directory kind image) ≡ false
 not_there kind image user name other plain low long named matches apart = list_any_none (is_of user other) (directory kind image) (λ k d below.
@@ -124,7 +124,7 @@ not_there kind image user name other plain low long named matches apart = list_a
     let other_long : length other ≡ 11 = sym (ap length name_is) ∙ length-map (at (directory kind image) k).name (λ b. b % 128) ∙ named k within in
     apart (sym (same_name name other plain low other_low (long ∙ sym other_long) matches))))
 
--- Erasing with a name as the pattern leaves every other file.
+-- Erasing with a name without `?` as the pattern leaves every other file as it was.
 pub erased_alone : (kind : DiskKind) (old new : Image) (user : ℕ) (name : List ℕ) → is_wild name ≡ false → letters name ≡ name → length name ≡ 11 → HaveNames kind old
     → ((other : List ℕ) → name_matches name other ≡ true → IsNoFile kind new user other) → OthersAreSame kind old new (IsMatched user name) → OthersAreSame kind old new (IsFile user name)
 erased_alone kind old new user name plain low long named gone others other_user other low_user apart = elim (cases_Bool (name_matches name other)) as (λ _. SameFile kind old new other_user other) [

@@ -1,17 +1,17 @@
--- The eleven bytes of a pattern that a word spells.
+-- The eleven bytes of the pattern that a word gives.
 use Rattle.std.proofs.Common.{◌≡◌, ◌≤◌, ◌+◌, ◌-◌, ◌==◌, ℕ, true, not, ◌&&◌, List, [], ◌∷◌, ◌++◌, Some, None, drop, if◌then◌else◌, length, replicate, take, sym, ap, ap₂, ◌∙◌, arith, leb-true}
 use Rattle.std.proofs.lemmas.Bool.{and_parts}
 use Rattle.std.proofs.lemmas.List.{append-nil, drop_all, length-append, length-drop, length-replicate, length-take, take_at}
 use borrow.Rule.Slice.PartMut.{post_of}
 use Rattle.z80dev_disk.specs.Words.{before_point, before_star, behind_point, filled_pattern, has_star, is_pattern, is_pattern_part, pattern_of}
 
--- a part fills its place
+-- a padded part has n bytes
 pub filled_length : (n : ℕ) (part : List ℕ) → length (before_star part) ≤ n → length (filled_pattern n part) ≡ n
 filled_length n part short =
     let rest : List ℕ = replicate (n - length (before_star part)) (if has_star part then 0x3F else 0x20) in
     length-append (before_star part) rest ∙ omega (arith, short, length-replicate {A = ℕ} (n - length (before_star part)) (if has_star part then 0x3F else 0x20))
 
--- both parts in their places
+-- the parts for the name and the type, each copied to its field
 laid : (one two : List ℕ) → length one ≡ 8 → take 8 (one ++ 32 ∷ 32 ∷ 32 ∷ []) ++ (two ++ post_of 8 3 (one ++ 32 ∷ 32 ∷ 32 ∷ [])) ≡ one ++ two
 laid one two eight =
     let all : List ℕ = one ++ 32 ∷ 32 ∷ 32 ∷ [] in
@@ -25,7 +25,7 @@ short_parts word is =
     let (some, good) = and_parts (not (length (before_point word) == 0)) (is_pattern_part (before_point word) 8) front in
     (leb-true (length (before_star (before_point word))) 8 (and_parts _ _ good).0, leb-true (length (before_star (behind_point word))) 3 (and_parts _ _ back).0)
 
--- what the two parts spell
+-- the two padded parts are the pattern that the word gives
 pub spelled : (word one two : List ℕ) → is_pattern word ≡ true → one ≡ filled_pattern 8 (before_point word) → two ≡ filled_pattern (length (take 3 (drop 8 (one ++ 32 ∷ 32 ∷ 32 ∷ [])))) (behind_point word)
     → ◌≡◌ (Some (take 8 (one ++ 32 ∷ 32 ∷ 32 ∷ []) ++ (two ++ post_of 8 3 (one ++ 32 ∷ 32 ∷ 32 ∷ [])))) (pattern_of word)
 spelled word one two is one_is two_is =

@@ -12,14 +12,14 @@ use Rattle.cpm_disk.specs.Image.{Image}
 use Rattle.cpm_disk.specs.Mounting.{IsMountFault, RefusesMount}
 use Rattle.z80dev_finish.specs.Answers as finish
 use Rattle.z80dev_finish.specs.declared.answer.Answer as made
-use Rattle.z80dev_disk.specs.Disks.{Edited, IsDisk, IsNoDisk, OfDisk, UnlessMemory, refused}
+use Rattle.z80dev_disk.specs.Disks.{Edited, IsDisk, IsDiskRefusal, OfDisk, UnlessMemory, refused}
 use Rattle.z80dev_disk.specs.Private.{IsAnswered, answer_at, refusal_at}
-use Rattle.z80dev_disk.specs.Refusals.{Refuses, RefusesNone, WithName, of_disk, of_image}
+use Rattle.z80dev_disk.specs.Refusals.{IsRefusalOf, RefusesNone, WithName, of_disk, of_image}
 use Rattle.z80dev_disk.specs.declared.refusal.Refusal.{Refusal}
 use Rattle.z80dev_disk.specs.declared.refusal.Refusal.TheVariants as refusal
 
--- bytes that are no image
-pub no_image : (stored : List ℕ) (why : ImageFault) → IsImageOf stored (Err why) → Refuses RefusesNone (of_image why) × UnlessMemory (IsNoDisk stored) (of_image why)
+-- the refusal of bytes that are not an image
+pub no_image : (stored : List ℕ) (why : ImageFault) → IsImageOf stored (Err why) → IsRefusalOf RefusesNone (of_image why) × UnlessMemory (IsDiskRefusal stored) (of_image why)
 no_image stored bytes.NoMemory is = (tt, tt)
 no_image stored bytes.NotSectors is = (tt, is)
 no_image stored bytes.TooLong is = (tt, is)
@@ -28,8 +28,8 @@ size_of : (kind : DiskKind) (n : ℕ) → n ≡ sector_count kind → IsDiskSize
 size_of EightInch n is = inl is
 size_of Megabyte n is = inr is
 
--- an image that is not mounted
-pub no_disk : (stored : List ℕ) (image : Image) (why : DiskFault) → IsImageOf stored (Ok image) → IsMountFault image 0 0 why → RefusesMount why → Refuses RefusesNone (of_disk why) × UnlessMemory (IsNoDisk stored) (of_disk why)
+-- the refusal of an image whose directory breaks a rule
+pub no_disk : (stored : List ℕ) (image : Image) (why : DiskFault) → IsImageOf stored (Ok image) → IsMountFault image 0 0 why → RefusesMount why → IsRefusalOf RefusesNone (of_disk why) × UnlessMemory (IsDiskRefusal stored) (of_disk why)
 no_disk stored image fault.BadEntry is (same, (kind, count, first)) rule = (inl tt, (kind, image, is, count, first))
 no_disk stored image fault.BlockRange is (same, (kind, count, first)) rule = (inl tt, (kind, image, is, count, first))
 no_disk stored image fault.BlockTwice is (same, (kind, count, first)) rule = (inl tt, (kind, image, is, count, first))
@@ -48,7 +48,7 @@ no_disk stored image fault.NoExtent is first rule = absurd rule
 no_disk stored image fault.Failed is first rule = absurd rule
 no_disk stored image fault.TooFar is first rule = absurd rule
 
--- This holds of a refusal, also where memory may have run out.
+-- what holds of a refusal also holds of it unless memory ran out
 pub unless_memory : (Holds : Refusal → Type 0) (why : Refusal) → Holds why → UnlessMemory Holds why
 unless_memory Holds refusal.BadName is = is
 unless_memory Holds (refusal.BadFile name) is = is
@@ -57,8 +57,8 @@ unless_memory Holds (refusal.Disk why) is = is
 unless_memory Holds (refusal.Named why name) is = is
 unless_memory Holds refusal.NoMemory is = tt
 
--- What refuses bytes refuses each command on them.
-pub of_bytes : (Own : Refusal → Type 0) (Says : _) (stored : List ℕ) (why : Refusal) → Refuses RefusesNone why × UnlessMemory (IsNoDisk stored) why → Refuses Own why × UnlessMemory (λ w. OfDisk stored Says (refused w)) why
+-- Every command refuses bytes that are not the image of a disk.
+pub of_bytes : (Own : Refusal → Type 0) (Says : _) (stored : List ℕ) (why : Refusal) → IsRefusalOf RefusesNone why × UnlessMemory (IsDiskRefusal stored) why → IsRefusalOf Own why × UnlessMemory (λ w. OfDisk stored Says (refused w)) why
 of_bytes Own Says stored refusal.BadName (refuses, is) = absurd refuses
 of_bytes Own Says stored (refusal.BadFile name) (refuses, is) = absurd refuses
 of_bytes Own Says stored (refusal.Image why) (refuses, is) = (tt, inr (refusal.Image why, is, refl))
@@ -67,8 +67,8 @@ of_bytes Own Says stored (refusal.Disk why) (inr none, is) = absurd none
 of_bytes Own Says stored (refusal.Named why name) (refuses, is) = absurd refuses
 of_bytes Own Says stored refusal.NoMemory (refuses, is) = (tt, tt)
 
--- how a command ends, as an answer
-pub answers : (Own : Refusal → Type 0) (Is : finish.Answer → Type 0) (r : Result (made.Answer Refusal) Refusal) → IsAnswered Own Is r → finish.MemoryAside Is (answer_at r) × IfSome (refusal_at r) (Refuses Own)
+-- how a command ends, as an answer and its refusal
+pub answers : (Own : Refusal → Type 0) (Is : finish.Answer → Type 0) (r : Result (made.Answer Refusal) Refusal) → IsAnswered Own Is r → finish.MemoryAside Is (answer_at r) × IfSome (refusal_at r) (IsRefusalOf Own)
 answers Own Is (Ok answer) (refuses, is) = (inr is, refuses)
 answers Own Is (Err refusal.BadName) (refuses, is) = (inr is, refuses)
 answers Own Is (Err (refusal.BadFile name)) (refuses, is) = (inr is, refuses)
@@ -79,9 +79,9 @@ answers Own Is (Err refusal.NoMemory) (refuses, is) = (inl refl, refuses)
 
 -- ---- changes
 
--- .. and each change of them.
+-- A command that changes a disk refuses bytes that are not the image of one.
 pub no_edit : (Own : Refusal → Type 0) (Does : DiskKind → Image → Image → Type 0) (Stops : DiskKind → Image → Refusal → Type 0) (stored : List ℕ) (why : Refusal)
-    → Refuses RefusesNone why × UnlessMemory (IsNoDisk stored) why → Refuses Own why × Edited stored Does Stops (Err why)
+    → IsRefusalOf RefusesNone why × UnlessMemory (IsDiskRefusal stored) why → IsRefusalOf Own why × Edited stored Does Stops (Err why)
 no_edit Own Does Stops stored refusal.BadName (refuses, is) = absurd refuses
 no_edit Own Does Stops stored (refusal.BadFile name) (refuses, is) = absurd refuses
 no_edit Own Does Stops stored (refusal.Image why) (refuses, is) = (tt, inl is)
@@ -90,12 +90,12 @@ no_edit Own Does Stops stored (refusal.Disk why) (inr none, is) = absurd none
 no_edit Own Does Stops stored (refusal.Named why name) (refuses, is) = absurd refuses
 no_edit Own Does Stops stored refusal.NoMemory (refuses, is) = (tt, tt)
 
--- a change that is refused by the disk
+-- a change that the disk refuses
 pub stopped_edit : (Does : DiskKind → Image → Image → Type 0) (Stops : DiskKind → Image → Refusal → Type 0) (stored : List ℕ) (kind : DiskKind) (old : Image) (why : Refusal) → IsDisk stored kind old → Stops kind old why → Edited stored Does Stops (Err why)
-stopped_edit Does Stops stored kind old why disk stops = unless_memory (λ w. IsNoDisk stored w ⊎ ((k : DiskKind) × (image : Image) × IsDisk stored k image × Stops k image w)) why (inr (kind, old, disk, stops))
+stopped_edit Does Stops stored kind old why disk stops = unless_memory (λ w. IsDiskRefusal stored w ⊎ ((k : DiskKind) × (image : Image) × IsDisk stored k image × Stops k image w)) why (inr (kind, old, disk, stops))
 
--- what is refused by name
-pub by_name : (Of : DiskFault → Type 0) (why : Refusal) → WithName Of why → Refuses (WithName Of) why
+-- a refusal with a name is one of the command's own
+pub by_name : (Of : DiskFault → Type 0) (why : Refusal) → WithName Of why → IsRefusalOf (WithName Of) why
 by_name Of refusal.BadName is = is
 by_name Of (refusal.BadFile name) is = is
 by_name Of (refusal.Image why) is = absurd is

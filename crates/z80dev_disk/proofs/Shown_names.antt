@@ -1,4 +1,4 @@
--- Names of files as they are shown.
+-- Names of files as they are printed.
 use Rattle.std.proofs.Common.{◌≡◌, ◌<◌, ◌+◌, ◌==◌, ◌&&◌, ℕ, suc, false, not, IsAscii, List, [], ◌∷◌, ◌++◌, codes, drop, get_or, length, take, refl, sym, ap, subst, ◌∙◌, inl, inr, arith, ne_eqb}
 use Rattle.std.proofs.lemmas.Bool.{cases_lt}
 use Rattle.std.proofs.lemmas.List.{get_or-drop, get_or-take, get_or_past, length-take}
@@ -11,7 +11,7 @@ use Rattle.z80dev_disk.specs.Names.{host_name, trimmed, when}
 some : (n : ℕ) → (suc n == 0) ≡ false
 some n = ne_eqb (suc n) 0 (λ none. omega (arith, none))
 
--- A name is blank where both its parts are.
+-- A name is blank if both its parts are.
 both_blank : (one two : List ℕ) → (length (one ++ (when (not (length two == 0)) (codes ".") ++ two)) == 0) ≡ ((length one == 0) && (length two == 0))
 both_blank [] [] = refl
 both_blank [] (b ∷ two) = ap (λ t. length (when (not t) (codes ".") ++ b ∷ two) == 0) (some (length two)) ∙ some (suc (length two)) ∙ sym (some (length two))
@@ -22,7 +22,7 @@ is_blank name = both_blank (trimmed (take 8 name)) (trimmed (drop 8 name))
 
 -- ---- names are texts
 
--- a part of low bytes
+-- the first n of bytes that are ASCII are ASCII
 ascii_taken : (xs : List ℕ) (n : ℕ) → IsAscii xs → IsAscii (take n xs)
 ascii_taken xs n low i = elim (cases_lt i n) as (λ _. get_or (take n xs) i 0 < 128) [
   | inl below ↦ subst (λ b. b < 128) (sym (get_or-take n xs i 0 below)) (low i)

@@ -15,7 +15,7 @@ use Rattle.cpm_disk.specs.Files.{count_of}
 use Rattle.cpm_disk.specs.Image.{Image, directory}
 use Rattle.z80dev_disk.proofs.Records.{HoldsFirst}
 
--- the greatest of numbers is at least where it began, and each of them
+-- the greatest of these numbers is at least the number that the search began with
 from_start : (p : Entry → Bool) (f : Entry → ℕ) (xs : List Entry) (a : ℕ) → a ≤ fold max a (map f (filter p xs))
 from_start p f [] a = omega arith
 from_start p f (x ∷ xs) a = kept (p x) (from_start p f xs)
@@ -36,7 +36,7 @@ each_counts p f (x ∷ xs) a (suc k) below is = kept (p x) (λ c. each_counts p 
     kept true rest = rest (max a (f x))
     kept false rest = rest a
 
--- .. and no more than a bound of all
+-- the greatest of these numbers is at most n if each is, and the one that the search began with
 no_more : (p : Entry → Bool) (f : Entry → ℕ) (xs : List Entry) (a n : ℕ) → a ≤ n → ((k : ℕ) → k < length xs → p (at xs k) ≡ true → f (at xs k) ≤ n) → fold max a (map f (filter p xs)) ≤ n
 no_more p f [] a n start each = start
 no_more p f (x ∷ xs) a n start each = kept (p x) (each 0 (omega arith)) (λ c low. no_more p f xs c n low (λ k below. each (suc k) (omega (arith, below))))
@@ -49,7 +49,7 @@ module _ (kind : DiskKind) (image : Image) (user : ℕ) (name file : List ℕ) (
   abbrev pub entries : List Entry
   entries = directory kind image
 
-  -- the entry of an extent that is there
+  -- the entry of an extent that the file has
   entry_at : (extent c : ℕ) (o : Option Entry) → o ≡ find (is_extent_of user name extent) entries → option_map (λ e. e.records) o ≡ Some c
       → (k : ℕ) × (k < length entries) × (is_of user name (at entries k) ≡ true) × (record_end (at entries k) ≡ 128 * extent + c)
   entry_at extent c None found is = absurd cc
@@ -61,7 +61,7 @@ module _ (kind : DiskKind) (image : Image) (user : ℕ) (name file : List ℕ) (
       let ends : record_end e ≡ 128 * extent + c = omega (arith, number, count) in
       (k, below, subst (λ x. is_of user name x ≡ true) is_at parts.0, subst (λ x. record_end x ≡ 128 * extent + c) is_at ends)
 
-  -- no entry goes beyond
+  -- no entry of the file has a record after the first n
   within : (k : ℕ) → k < length entries → is_of user name (at entries k) ≡ true → record_end (at entries k) ≤ n
   within k below of = go (extent_number (at entries k)) refl
     where
@@ -101,7 +101,7 @@ module _ (kind : DiskKind) (image : Image) (user : ℕ) (name file : List ℕ) (
     | inr none ↦ omega (arith, none)
   ]
 
-  -- the size is the count of the records
+  -- the size of the file is n
   pub size_is : size user name entries ≡ Some n
   size_is =
       let most = no_more (is_of user name) record_end entries 0 n (omega arith) within in

@@ -3,31 +3,31 @@ use Rattle.std.proofs.Common.{◌≡◌, ◌<◌, ◌+◌, ◌==◌, ℕ, Bool, 
 use Rattle.std.specs.List.{list_any, prefix_len}
 use Rattle.std.proofs.lemmas.Bool.{cases_Bool, or_from, or_parts}
 use Rattle.std.proofs.lemmas.List.Folds.{list_any-append}
-use Rattle.z80dev_disk.specs.Text.{begins_line, cpm_byte, cpm_text, host_text, without_cr}
+use Rattle.z80dev_disk.specs.Text.{begins_with_line_feed, cpm_byte, cpm_text, host_text, without_cr}
 
--- no line begins with LF
-no_line : (text : List ℕ) → begins_line (flat_map cpm_byte text) ≡ false
+-- a text in the form of CP/M never begins with LF
+no_line : (text : List ℕ) → begins_with_line_feed (flat_map cpm_byte text) ≡ false
 no_line [] = refl
-no_line (b ∷ text) = elim (cases_Bool (b == 10)) as (λ _. begins_line (flat_map cpm_byte (b ∷ text)) ≡ false) [
-  | inl line ↦ ap (λ t. begins_line ((if t then 13 ∷ 10 ∷ [] else b ∷ []) ++ flat_map cpm_byte text)) line
-  | inr other ↦ ap (λ t. begins_line ((if t then 13 ∷ 10 ∷ [] else b ∷ []) ++ flat_map cpm_byte text)) other ∙ other
+no_line (b ∷ text) = elim (cases_Bool (b == 10)) as (λ _. begins_with_line_feed (flat_map cpm_byte (b ∷ text)) ≡ false) [
+  | inl line ↦ ap (λ t. begins_with_line_feed ((if t then 13 ∷ 10 ∷ [] else b ∷ []) ++ flat_map cpm_byte text)) line
+  | inr other ↦ ap (λ t. begins_with_line_feed ((if t then 13 ∷ 10 ∷ [] else b ∷ []) ++ flat_map cpm_byte text)) other ∙ other
 ]
 
--- a CR that no LF follows stays, and so does any other byte
-pub stays : (b : ℕ) (rest : List ℕ) → ((b == 13) && begins_line rest) ≡ false → without_cr (b ∷ rest) ≡ b ∷ without_cr rest
+-- a byte stays unless it is a CR before an LF
+pub stays : (b : ℕ) (rest : List ℕ) → ((b == 13) && begins_with_line_feed rest) ≡ false → without_cr (b ∷ rest) ≡ b ∷ without_cr rest
 unfolding without_cr
 stays b rest not_so = ap (λ t. if t then without_cr rest else b ∷ without_cr rest) not_so
 
-pub goes : (b : ℕ) (rest : List ℕ) → ((b == 13) && begins_line rest) ≡ true → without_cr (b ∷ rest) ≡ without_cr rest
+pub goes : (b : ℕ) (rest : List ℕ) → ((b == 13) && begins_with_line_feed rest) ≡ true → without_cr (b ∷ rest) ≡ without_cr rest
 unfolding without_cr
 goes b rest so = ap (λ t. if t then without_cr rest else b ∷ without_cr rest) so
 
--- .. of the first byte
-pub first_stays : (text : List ℕ) → 0 < length text → ((slice_index text 0 == 13) && begins_line (drop 1 text)) ≡ false → without_cr text ≡ take 1 text ++ without_cr (drop 1 text)
+-- the same for the first byte of a text
+pub first_stays : (text : List ℕ) → 0 < length text → ((slice_index text 0 == 13) && begins_with_line_feed (drop 1 text)) ≡ false → without_cr text ≡ take 1 text ++ without_cr (drop 1 text)
 first_stays [] some not_so = absurd (omega (arith, some))
 first_stays (b ∷ rest) some not_so = stays b rest not_so
 
-pub first_goes : (text : List ℕ) → 0 < length text → ((slice_index text 0 == 13) && begins_line (drop 1 text)) ≡ true → without_cr text ≡ without_cr (drop 1 text)
+pub first_goes : (text : List ℕ) → 0 < length text → ((slice_index text 0 == 13) && begins_with_line_feed (drop 1 text)) ≡ true → without_cr text ≡ without_cr (drop 1 text)
 first_goes [] some so = absurd (omega (arith, some))
 first_goes (b ∷ rest) some so = goes b rest so
 
@@ -35,7 +35,7 @@ pub none_left : without_cr [] ≡ []
 unfolding without_cr
 none_left = refl
 
--- each LF that became CR LF comes back
+-- each CR LF becomes LF again
 lines_back : (text : List ℕ) → without_cr (flat_map cpm_byte text) ≡ text
 lines_back [] = none_left
 lines_back (b ∷ text) = elim (cases_Bool (b == 10)) as (λ _. without_cr (flat_map cpm_byte (b ∷ text)) ≡ b ∷ text) [
@@ -53,7 +53,7 @@ lines_back (b ∷ text) = elim (cases_Bool (b == 10)) as (λ _. without_cr (flat
     and_false true = refl
     and_false false = refl
 
--- a text without 1AH is kept without one
+-- a text without 1AH has none in its form of CP/M, apart from the one at the end
 no_end : (text : List ℕ) → list_any (λ b. b == 0x1A) text ≡ false → list_any (λ b. b == 0x1A) (flat_map cpm_byte text) ≡ false
 no_end [] none = refl
 no_end (b ∷ text) none =
@@ -64,7 +64,7 @@ no_end (b ∷ text) none =
     in_byte true here = refl
     in_byte false here = ap (λ t. t || false) here
 
--- what comes before the first 1AH
+-- the bytes before the first 1AH
 before_end : (xs ys : List ℕ) → list_any (λ b. b == 0x1A) xs ≡ false → take_while (λ b. not (b == 0x1A)) (xs ++ 0x1A ∷ ys) ≡ xs
 before_end [] ys none = refl
 before_end (x ∷ xs) ys none =

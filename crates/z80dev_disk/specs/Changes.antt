@@ -33,23 +33,24 @@ pub record Erases (kind : DiskKind) (user : ℕ) (pattern : List ℕ) (old new :
 abbrev pub StopsErasing : DiskKind → ℕ → List ℕ → Image → DiskFault → Type 0
 StopsErasing kind user pattern old why = erasure user pattern (directory kind old) ≡ Err why
 
--- the letters of the first entry that has a property, or else these
+-- the letters of the name in the first entry for which p holds, or `otherwise` if there is no such entry
 abbrev pub first_name : (Entry → Bool) → List Entry → List ℕ → List ℕ
 first_name p entries otherwise = unwrap_or (option_map (λ e. letters e.name) (find p entries)) otherwise
 
--- Which name goes with a refusal: that of the first entry that is read-only, or else the pattern itself.
-abbrev pub named_by : DiskKind → ℕ → List ℕ → Image → DiskFault → List ℕ
-named_by kind user pattern image fault.ReadOnly = first_name (λ e. is_match user pattern e && is_read_only e) (directory kind image) pattern
-named_by kind user pattern image _ = pattern
+-- The name that is reported with a refusal: for a read-only file the name in the first matching entry that is read-only, otherwise the
+-- pattern.
+abbrev pub refused_name : DiskKind → ℕ → List ℕ → Image → DiskFault → List ℕ
+refused_name kind user pattern image fault.ReadOnly = first_name (λ e. is_match user pattern e && is_read_only e) (directory kind image) pattern
+refused_name kind user pattern image _ = pattern
 
--- `erase`: the files that match each pattern in turn are erased; or none is.
-abbrev pub IsErased : List ℕ → ℕ → List (List ℕ) → Result (Vec ℕ Global) Refusal → Type 0
-IsErased bytes user patterns result =
-    Edited bytes (λ kind. Along (Erases kind user) patterns) (λ kind. IsRefusedAlong (Erases kind user) (StopsErasing kind user) (named_by kind user) patterns) result
+-- What `erase` answers: the image after the files that match each pattern in turn are erased; or why it is refused, and no image.
+abbrev pub IsErasedImage : List ℕ → ℕ → List (List ℕ) → Result (Vec ℕ Global) Refusal → Type 0
+IsErasedImage bytes user patterns result =
+    Edited bytes (λ kind. Along (Erases kind user) patterns) (λ kind. IsRefusedAlong (Erases kind user) (StopsErasing kind user) (refused_name kind user) patterns) result
 
 -- ---- renaming
 
--- A file gets another name, every other file is as before, and the directory keeps its rules.
+-- A file of a user gets another name, every other file is as before, and the directory keeps its rules.
 pub record Renames (kind : DiskKind) (user : ℕ) (from to : List ℕ) (old new : Image) : Type 0 where
   pub may : renaming user from to (directory kind old) ≡ Ok tt
   pub changed : Changed kind old new (after_renaming user from to (directory kind old))
@@ -61,9 +62,9 @@ abbrev pub StopsRenaming : DiskKind → ℕ → List ℕ → List ℕ → Image 
 StopsRenaming kind user from to old (refusal.Disk why) = renaming user from to (directory kind old) ≡ Err why
 StopsRenaming kind user from to old _ = ⊥
 
--- `rename`
-abbrev pub IsRenamed : List ℕ → ℕ → List ℕ → List ℕ → Result (Vec ℕ Global) Refusal → Type 0
-IsRenamed bytes user from to result = Edited bytes (λ kind. Renames kind user from to) (λ kind. StopsRenaming kind user from to) result
+-- What `rename` answers: the image after the file is renamed; or why it is refused, and no image.
+abbrev pub IsRenamedImage : List ℕ → ℕ → List ℕ → List ℕ → Result (Vec ℕ Global) Refusal → Type 0
+IsRenamedImage bytes user from to result = Edited bytes (λ kind. Renames kind user from to) (λ kind. StopsRenaming kind user from to) result
 
 -- ---- attributes
 
@@ -80,11 +81,12 @@ pub record Marks (kind : DiskKind) (user : ℕ) (attribute : Attribute) (on : Bo
 abbrev pub StopsMarking : DiskKind → ℕ → List ℕ → Image → DiskFault → Type 0
 StopsMarking kind user pattern old why = marking user pattern (directory kind old) ≡ Err why
 
--- the pattern itself
+-- The name that is reported with a refusal to mark files is always the pattern.
 abbrev pub pattern_itself : List ℕ → Image → DiskFault → List ℕ
 pattern_itself pattern image why = pattern
 
--- `protect` and `unprotect`: the files that match each pattern in turn are marked; or none is.
-abbrev pub IsMarked : List ℕ → ℕ → Attribute → Bool → List (List ℕ) → Result (Vec ℕ Global) Refusal → Type 0
-IsMarked bytes user attribute on patterns result =
+-- What `protect` and `unprotect` answer: the image after the attribute of the files that match each pattern in turn is set or cleared; or
+-- why it is refused, and no image.
+abbrev pub IsMarkedImage : List ℕ → ℕ → Attribute → Bool → List (List ℕ) → Result (Vec ℕ Global) Refusal → Type 0
+IsMarkedImage bytes user attribute on patterns result =
     Edited bytes (λ kind. Along (Marks kind user attribute on) patterns) (λ kind. IsRefusedAlong (Marks kind user attribute on) (StopsMarking kind user) pattern_itself patterns) result

@@ -16,24 +16,24 @@ use Rattle.z80dev_disk.specs.Refusals.{disk_name, refusal_text}
 use Rattle.z80dev_disk.specs.declared.refusal.Refusal.{Refusal}
 use Rattle.z80dev_disk.specs.declared.refusal.Refusal.TheVariants as refusal
 
--- `NUMBER USER NAME.TYP RULE`, the number from 0
+-- the line of a broken entry: `NUMBER USER NAME.TYP RULE`, with NUMBER from 0
 abbrev pub broken_line : Broken → List ℕ
 broken_line broken = concat ((decimal broken.number ++ codes " ") ∷ (decimal broken.entry.user ++ codes " ") ∷ trimmed (take 8 (letters broken.entry.name)) ∷ codes "."
     ∷ trimmed (drop 8 (letters broken.entry.name)) ∷ codes " " ∷ disk_name broken.fault ∷ (10 ∷ []) ∷ [])
 
--- the first fault
-abbrev pub first_fault : List Broken → Option Refusal
-first_fault broken = option_map (λ b. refusal.Disk b.fault) (slice_get broken 0)
+-- the fault of the first broken entry, as a refusal
+abbrev pub first_broken_rule : List Broken → Option Refusal
+first_broken_rule broken = option_map (λ b. refusal.Disk b.fault) (slice_get broken 0)
 
--- The lines are printed, and then the first fault is said, where there is one.
+-- All lines are printed, and then the first fault, if there is one, is reported.
 abbrev pub checked : List Broken → finish.Answer
-checked broken = record { files = []; printed = flat_map broken_line broken; said = option_map refusal_text (first_fault broken) }
+checked broken = record { files = []; printed = flat_map broken_line broken; said = option_map refusal_text (first_broken_rule broken) }
 
--- the entries that break a rule, in their order
+-- The answer is about exactly those entries of the image's directory that break a rule, in their order.
 abbrev pub CheckOf : DiskKind → Image → finish.Answer → Type 0
 CheckOf kind image answer = (broken : List Broken) × AreBroken kind (directory kind image) broken × (answer ≡ checked broken)
 
--- The bytes are an image, whose directory is checked; or they are none, and that is said.
+-- If the bytes are an image, its directory is checked; otherwise the reason why they are not an image is reported.
 abbrev pub IsCheck : List ℕ → finish.Answer → Type 0
 IsCheck bytes answer =
     ((kind : DiskKind) × (image : Image) × IsImageOf bytes (Ok image) × (length image ≡ sector_count kind) × CheckOf kind image answer)

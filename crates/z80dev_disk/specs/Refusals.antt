@@ -10,7 +10,7 @@ use Rattle.z80dev_disk.specs.Names.{host_name}
 use Rattle.z80dev_disk.specs.declared.refusal.Refusal.{Refusal}
 use Rattle.z80dev_disk.specs.declared.refusal.Refusal.TheVariants as refusal
 
--- want of memory is one refusal, wherever it came
+-- A lack of memory is always the same refusal, whichever part reports it.
 abbrev pub of_image : ImageFault → Refusal
 of_image bytes.NoMemory = refusal.NoMemory
 of_image fault = refusal.Image fault
@@ -42,16 +42,16 @@ disk_name fault.TooFar = codes "TooFar"
 disk_name fault.NoMemory = codes "NoMemory"
 disk_name fault.WrongSize = codes "WrongSize"
 
--- `RULE(NAME.TYP)`, by the low seven bits of each byte of the name
-abbrev pub with_name : List ℕ → List ℕ → List ℕ
-with_name rule name = rule ++ (codes "(" ++ (host_name (letters name) ++ codes ")"))
+-- `RULE(NAME.TYP)`, with the low seven bits of each byte of the name
+abbrev pub rule_and_name : List ℕ → List ℕ → List ℕ
+rule_and_name rule name = rule ++ (codes "(" ++ (host_name (letters name) ++ codes ")"))
 
 abbrev pub refusal_text : Refusal → List ℕ
 refusal_text refusal.BadName = codes "BadName"
-refusal_text (refusal.BadFile name) = with_name (codes "BadName") name
+refusal_text (refusal.BadFile name) = rule_and_name (codes "BadName") name
 refusal_text (refusal.Image fault) = image_name fault
 refusal_text (refusal.Disk fault) = disk_name fault
-refusal_text (refusal.Named why name) = with_name (disk_name why) name
+refusal_text (refusal.Named why name) = rule_and_name (disk_name why) name
 refusal_text refusal.NoMemory = codes "NoMemory"
 
 -- a refusal without the name of its file
@@ -60,19 +60,19 @@ unnamed (refusal.BadFile name) = refusal.BadName
 unnamed (refusal.Named why name) = refusal.Disk why
 unnamed why = why
 
--- The refusals of a command: of bytes that are no disk, and its own. A device in memory never fails, so that no fault of a device is
--- among them.
-abbrev pub Refuses : (Refusal → Type 0) → Refusal → Type 0
-Refuses Own (refusal.Image why) = ⊤
-Refuses Own (refusal.Disk why) = IsRuleFault why ⊎ Own (refusal.Disk why)
-Refuses Own refusal.NoMemory = ⊤
-Refuses Own why = Own why
+-- The refusals of a command: those of bytes that are not the image of a disk, and its own. A device in memory never fails, so no refusal
+-- is about a fault of the device.
+abbrev pub IsRefusalOf : (Refusal → Type 0) → Refusal → Type 0
+IsRefusalOf Own (refusal.Image why) = ⊤
+IsRefusalOf Own (refusal.Disk why) = IsRuleFault why ⊎ Own (refusal.Disk why)
+IsRefusalOf Own refusal.NoMemory = ⊤
+IsRefusalOf Own why = Own why
 
--- none of its own
+-- a command that has no refusals of its own
 abbrev pub RefusesNone : Refusal → Type 0
 RefusesNone why = ⊥
 
--- what the disk refuses, with the name of the file, and without
+-- The refusals of a command whose disk refuses a call for one of the reasons `Of`: each with the name of a file, or each without.
 abbrev pub WithName : (DiskFault → Type 0) → Refusal → Type 0
 WithName Of (refusal.Named why name) = Of why
 WithName Of why = ⊥
@@ -81,22 +81,22 @@ abbrev pub WithoutName : (DiskFault → Type 0) → Refusal → Type 0
 WithoutName Of (refusal.Disk why) = Of why
 WithoutName Of why = ⊥
 
--- .. of `dir`: a pattern that no file matches
+-- the refusal of `dir`: no file matches the pattern that is given
 abbrev pub RefusesDir : Option (List ℕ) → Refusal → Type 0
 RefusesDir pattern (refusal.Named fault.NotFound name) = pattern ≡ Some name
 RefusesDir pattern why = ⊥
 
--- .. of `get`
+-- the refusal of `get`: the user has no such file
 abbrev pub IsNotFound : DiskFault → Type 0
 IsNotFound why = why ≡ fault.NotFound
 
--- .. of files that match a pattern: there is none, or the host cannot take the name of one
+-- the refusals of `get` with a pattern: no file matches, or the host cannot take the name of one
 abbrev pub RefusesGetAll : List ℕ → Refusal → Type 0
 RefusesGetAll pattern (refusal.Named fault.NotFound name) = name ≡ pattern
 RefusesGetAll pattern (refusal.BadFile name) = ⊤
 RefusesGetAll pattern why = ⊥
 
--- .. of a file that is not there and is put
+-- the refusals of a new file that is put on a disk
 abbrev pub RefusesStore : DiskFault → Type 0
 RefusesStore fault.Exists = ⊤
 RefusesStore fault.DirectoryFull = ⊤
@@ -104,7 +104,7 @@ RefusesStore fault.DiskFull = ⊤
 RefusesStore fault.TooFar = ⊤
 RefusesStore why = ⊥
 
--- .. of `put`: a file that is there stops it where it is not to be replaced, or is read-only
+-- The refusals of `put`. A file of the same name stops it: always if it is not to be replaced, otherwise only if it is read-only.
 abbrev pub RefusesPut : Bool → DiskFault → Type 0
 RefusesPut false fault.Exists = ⊤
 RefusesPut true fault.ReadOnly = ⊤

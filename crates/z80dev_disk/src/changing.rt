@@ -1,12 +1,12 @@
-//! Files that are erased, renamed and marked.
+//! Erases, renames and marks files of a disk.
 
 ghost use Rattle.std.specs.Prelude.{◌≡◌, ◌<◌, IfErr, OnOk, false};
 ghost use Rattle.cpm_directory.specs.declared.entry.TheConstants.{USERS};
 ghost use Rattle.cpm_operations.specs.Refusals.{RefusesErasure, RefusesMarking, RefusesRenaming};
 ghost use Rattle.z80dev_disk.specs.Along.{Along, IsRefusedAlong};
-ghost use Rattle.z80dev_disk.specs.Changes.{Erases, IsErased, IsMarked, IsRenamed, Marks, StopsErasing, StopsMarking, named_by, pattern_itself};
+ghost use Rattle.z80dev_disk.specs.Changes.{Erases, IsErasedImage, IsMarkedImage, IsRenamedImage, Marks, StopsErasing, StopsMarking, refused_name, pattern_itself};
 ghost use Rattle.z80dev_disk.specs.Private.{IsRefusedAt};
-ghost use Rattle.z80dev_disk.specs.Refusals.{Refuses, WithName, WithoutName};
+ghost use Rattle.z80dev_disk.specs.Refusals.{IsRefusalOf, WithName, WithoutName};
 
 use crate::entries::{of_any_extent, read_only_name};
 use crate::image::{disk_of, image_bytes};
@@ -16,10 +16,11 @@ use cpm_disk::Disk;
 use cpm_image::MemoryImage;
 use std::alloc::Global;
 
-/// The name that goes with a refusal: that of the first entry that matches and is read-only, or else the pattern.
+/// The name that is reported with a refusal: for a read-only file the name in the first matching entry that is read-only, otherwise the
+/// pattern.
 fn named_by(disk: &Disk<MemoryImage>, user: u8, pattern: &[u8; 11], why: DiskFault) -> [u8; 11]
     requires { disk.now.failed ≡ false }
-    ensures { result ≡ named_by disk.now.kind user pattern.now disk.now.device why }
+    ensures { result ≡ refused_name disk.now.kind user pattern.now disk.now.device why }
 {
     match why {
         DiskFault::ReadOnly => read_only_name(disk, user, pattern),
@@ -27,14 +28,14 @@ fn named_by(disk: &Disk<MemoryImage>, user: u8, pattern: &[u8; 11], why: DiskFau
     }
 }
 
-/// Erases the files that match a pattern.
+/// Erases the files of a user that match a pattern.
 fn erase_one(disk: &mut Disk<MemoryImage>, user: u8, pattern: &[u8; 11]) -> Result<(), Refusal>
     requires sound { disk.old.failed ≡ false }
     requires user { user < USERS }
     ensures kind { disk.new.kind ≡ disk.old.kind }
     ensures sound { OnOk result (disk.new.failed ≡ false) }
     ensures erased { OnOk result (Erases disk.old.kind user pattern.now disk.old.device disk.new.device) }
-    ensures stopped { IfErr result (IsRefusedAt (StopsErasing disk.old.kind user) (named_by disk.old.kind user) pattern.now disk.old.device) }
+    ensures stopped { IfErr result (IsRefusedAt (StopsErasing disk.old.kind user) (refused_name disk.old.kind user) pattern.now disk.old.device) }
     ensures refusals { IfErr result (WithName RefusesErasure) }
 {
     match disk.erase(user, &of_any_extent(pattern)) {
@@ -43,12 +44,12 @@ fn erase_one(disk: &mut Disk<MemoryImage>, user: u8, pattern: &[u8; 11]) -> Resu
     }
 }
 
-/// Erases the files that match each pattern in turn.
+/// Erases the files of a user that match each pattern, one pattern after the other, until one is refused.
 fn erase_all(disk: &mut Disk<MemoryImage>, user: u8, patterns: &[[u8; 11]]) -> Result<(), Refusal>
     requires sound { disk.old.failed ≡ false }
     requires user { user < USERS }
     ensures erased { OnOk result (Along (Erases disk.old.kind user) patterns.now disk.old.device disk.new.device) }
-    ensures stopped { IfErr result (IsRefusedAlong (Erases disk.old.kind user) (StopsErasing disk.old.kind user) (named_by disk.old.kind user) patterns.now disk.old.device) }
+    ensures stopped { IfErr result (IsRefusedAlong (Erases disk.old.kind user) (StopsErasing disk.old.kind user) (refused_name disk.old.kind user) patterns.now disk.old.device) }
     ensures refusals { IfErr result (WithName RefusesErasure) }
 {
     for pattern in patterns {
@@ -57,14 +58,14 @@ fn erase_all(disk: &mut Disk<MemoryImage>, user: u8, patterns: &[[u8; 11]]) -> R
     Ok(())
 }
 
-/// The image of the disk whose image bytes are, without the files of a user that match each pattern in turn. A byte `?` of a pattern
-/// matches whatever stands there.
+/// Answers the image without the files of a user that match these patterns, which it takes one after the other. A byte `?` of a pattern
+/// matches any byte.
 ///
 /// # Errors
 ///
-/// In this order: [`ImageFault`](crate::ImageFault) where the bytes are no image; the first fault of the directory; of each pattern in
-/// turn [`DiskFault::NotFound`], with the pattern, where no file matches that those before it left, and [`DiskFault::ReadOnly`], with the
-/// name of the file whose entry is the first that is read-only. [`Refusal::NoMemory`].
+/// In this order: [`ImageFault`](crate::ImageFault) if the bytes are not an image; the first fault of the directory; then for each
+/// pattern in turn [`DiskFault::NotFound`], with the pattern, if it matches none of the files that are left, and [`DiskFault::ReadOnly`],
+/// with the name in the first matching entry that is read-only. [`Refusal::NoMemory`].
 pub fn erase(
     alloc: Global,
     image: &[u8],
@@ -72,21 +73,21 @@ pub fn erase(
     patterns: &[[u8; 11]],
 ) -> Result<Vec<u8>, Refusal>
     requires { user < USERS }
-    ensures answer { IsErased image.now user patterns.now result }
-    ensures refusals { IfErr result (Refuses (WithName RefusesErasure)) }
+    ensures answer { IsErasedImage image.now user patterns.now result }
+    ensures refusals { IfErr result (IsRefusalOf (WithName RefusesErasure)) }
 {
     let mut disk = disk_of(alloc, image)?;
     erase_all(&mut disk, user, patterns)?;
     Ok(image_bytes(alloc, &disk.unmount())?)
 }
 
-/// The image of the disk whose image bytes are, with a file of a user under another name.
+/// Answers the image with one file of a user renamed.
 ///
 /// # Errors
 ///
-/// In this order: [`ImageFault`](crate::ImageFault) where the bytes are no image; the first fault of the directory;
-/// [`DiskFault::NotFound`], [`DiskFault::Exists`] where the user has a file of the new name, [`DiskFault::ReadOnly`], each without a
-/// name. [`Refusal::NoMemory`].
+/// In this order: [`ImageFault`](crate::ImageFault) if the bytes are not an image; the first fault of the directory;
+/// [`DiskFault::NotFound`]; [`DiskFault::Exists`] if the user has a file of the new name; [`DiskFault::ReadOnly`]. None of the last three
+/// has a name with it. [`Refusal::NoMemory`].
 pub fn rename(
     alloc: Global,
     image: &[u8],
@@ -95,15 +96,15 @@ pub fn rename(
     new: &Name,
 ) -> Result<Vec<u8>, Refusal>
     requires { user < USERS }
-    ensures answer { IsRenamed image.now user old.now new.now result }
-    ensures refusals { IfErr result (Refuses (WithoutName RefusesRenaming)) }
+    ensures answer { IsRenamedImage image.now user old.now new.now result }
+    ensures refusals { IfErr result (IsRefusalOf (WithoutName RefusesRenaming)) }
 {
     let mut disk = disk_of(alloc, image)?;
     disk.rename(user, old, new)?;
     Ok(image_bytes(alloc, &disk.unmount())?)
 }
 
-/// Marks the files that match a pattern.
+/// Sets or clears an attribute of the files of a user that match a pattern.
 fn mark_one(
     disk: &mut Disk<MemoryImage>,
     user: u8,
@@ -125,7 +126,7 @@ fn mark_one(
     }
 }
 
-/// Marks the files that match each pattern in turn.
+/// Sets or clears an attribute of the files of a user that match each pattern, one pattern after the other, until one is refused.
 fn mark_all(
     disk: &mut Disk<MemoryImage>,
     user: u8,
@@ -145,13 +146,13 @@ fn mark_all(
     Ok(())
 }
 
-/// The image of the disk whose image bytes are, with an attribute of the files of a user that match each pattern in turn set, or, where
-/// `on` is false, taken away. A read-only file may be marked too.
+/// Answers the image with an attribute of the files of a user that match these patterns set, or cleared if `on` is false. The attributes
+/// of a read-only file may be changed too.
 ///
 /// # Errors
 ///
-/// In this order: [`ImageFault`](crate::ImageFault) where the bytes are no image; the first fault of the directory; of each pattern in
-/// turn [`DiskFault::NotFound`], with the pattern, where no file matches. [`Refusal::NoMemory`].
+/// In this order: [`ImageFault`](crate::ImageFault) if the bytes are not an image; the first fault of the directory; then for each
+/// pattern in turn [`DiskFault::NotFound`], with the pattern, if no file matches it. [`Refusal::NoMemory`].
 pub fn mark(
     alloc: Global,
     image: &[u8],
@@ -161,8 +162,8 @@ pub fn mark(
     patterns: &[[u8; 11]],
 ) -> Result<Vec<u8>, Refusal>
     requires { user < USERS }
-    ensures answer { IsMarked image.now user attribute on patterns.now result }
-    ensures refusals { IfErr result (Refuses (WithName RefusesMarking)) }
+    ensures answer { IsMarkedImage image.now user attribute on patterns.now result }
+    ensures refusals { IfErr result (IsRefusalOf (WithName RefusesMarking)) }
 {
     let mut disk = disk_of(alloc, image)?;
     mark_all(&mut disk, user, attribute, on, patterns)?;

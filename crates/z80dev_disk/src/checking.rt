@@ -3,10 +3,10 @@
 ghost use Rattle.std.specs.Prelude.{◌≡◌, IfOk, IfSome};
 ghost use Rattle.std.specs.List.{flat_map};
 ghost use Rattle.z80dev_finish.specs.Answers.{MemoryAside};
-ghost use Rattle.z80dev_disk.specs.Check.{IsCheck, broken_line, checked, first_fault};
-ghost use Rattle.z80dev_disk.specs.Disks.{answer_of};
+ghost use Rattle.z80dev_disk.specs.Check.{IsCheck, broken_line, checked, first_broken_rule};
+ghost use Rattle.z80dev_disk.specs.Disks.{disk_answer};
 ghost use Rattle.z80dev_disk.specs.Private.{IsAnswered};
-ghost use Rattle.z80dev_disk.specs.Refusals.{Refuses, RefusesNone};
+ghost use Rattle.z80dev_disk.specs.Refusals.{IsRefusalOf, RefusesNone};
 
 use crate::image::answered;
 use crate::refusal::{Refusal, disk_name};
@@ -52,10 +52,10 @@ fn broken_lines(alloc: Global, broken: &[Broken]) -> Result<Vec<u8>, AllocError>
     Ok(lines)
 }
 
-/// The answer about entries that break a rule.
+/// The answer for these broken entries: their lines, and the first fault, if there is one, as the refusal.
 fn checked(alloc: Global, broken: &[Broken]) -> Result<Answer<Refusal>, AllocError>
-    ensures answer { IfOk result (λ answer. answer_of answer ≡ checked broken.now) }
-    ensures refusal { IfOk result (λ answer. answer.refusal ≡ first_fault broken.now) }
+    ensures answer { IfOk result (λ answer. disk_answer answer ≡ checked broken.now) }
+    ensures refusal { IfOk result (λ answer. answer.refusal ≡ first_broken_rule broken.now) }
 {
     Ok(Answer {
         files: Vec::new(alloc),
@@ -64,7 +64,7 @@ fn checked(alloc: Global, broken: &[Broken]) -> Result<Answer<Refusal>, AllocErr
     })
 }
 
-/// The directory of an image, checked.
+/// Checks the directory of an image; or answers why the bytes are not an image.
 fn checked_image(alloc: Global, image: &[u8]) -> Result<Answer<Refusal>, Refusal>
     ensures { IsAnswered RefusesNone (IsCheck image.now) result }
 {
@@ -73,14 +73,14 @@ fn checked_image(alloc: Global, image: &[u8]) -> Result<Answer<Refusal>, Refusal
     Ok(checked(alloc, &broken)?)
 }
 
-/// Answers a line for each entry that breaks a rule, of the directory of the disk whose image bytes are: `NUMBER USER NAME.TYP RULE`,
-/// where the number counts from 0 and RULE is the first that the entry breaks. Then the first of these faults is the refusal; it is the
-/// one for which every other command refuses the image.
+/// Checks the directory of the disk whose image these bytes are, and answers a line for each entry that breaks a rule: `NUMBER USER
+/// NAME.TYP RULE`. NUMBER counts entries from 0, and RULE is the first rule that the entry breaks. The refusal is the first of these
+/// faults; every other command refuses the image for the same fault.
 ///
-/// Refused with no line where the bytes are no image: [`ImageFault`](crate::ImageFault).
+/// If the bytes are not an image, the refusal is [`ImageFault`](crate::ImageFault), and there are no lines.
 pub fn check_disk(alloc: Global, image: &[u8]) -> Answer<Refusal>
-    ensures answer { MemoryAside (IsCheck image.now) (answer_of result) }
-    ensures refusals { IfSome result.refusal (Refuses RefusesNone) }
+    ensures answer { MemoryAside (IsCheck image.now) (disk_answer result) }
+    ensures refusals { IfSome result.refusal (IsRefusalOf RefusesNone) }
 {
     answered(alloc, checked_image(alloc, image))
 }

@@ -1,4 +1,4 @@
-//! Entries of a disk's directory.
+//! Reads the entries of a disk's directory.
 
 ghost use Rattle.std.specs.Prelude.{◌≡◌, ◌&&◌, ◌<◌, false};
 ghost use Rattle.cpm_image.specs.Kind.{entry_count};
@@ -11,7 +11,7 @@ use cpm_directory::{Entry, Name, Pattern};
 use cpm_disk::Disk;
 use cpm_image::MemoryImage;
 
-/// The pattern of names, for the entries of all extents.
+/// A pattern for the entries of all extents of the files that `name` matches.
 pub(crate) fn of_any_extent(name: &[u8; 11]) -> Pattern
     ensures { result.name ≡ name.now }
 {
@@ -22,7 +22,7 @@ pub(crate) fn of_any_extent(name: &[u8; 11]) -> Pattern
     }
 }
 
-/// An entry of the directory.
+/// The directory entry with this number.
 fn entry_at(disk: &Disk<MemoryImage>, number: u16) -> Entry
     requires sound { disk.now.failed ≡ false }
     requires within { number < entry_count disk.now.kind }
@@ -31,7 +31,7 @@ fn entry_at(disk: &Disk<MemoryImage>, number: u16) -> Entry
     Entry::from_bytes(&disk.entry(number))
 }
 
-/// A law: the names of a directory's entries have eleven bytes.
+/// A law: the name in each directory entry has eleven bytes. The loop only gives the prover each entry.
 pub(crate) fn has_names(disk: &Disk<MemoryImage>)
     requires { disk.now.failed ≡ false }
     ensures { HaveNames disk.now.kind disk.now.device }
@@ -41,7 +41,7 @@ pub(crate) fn has_names(disk: &Disk<MemoryImage>)
     }
 }
 
-/// The name of the first entry of a user that matches a pattern and is read-only, or else the pattern.
+/// The name in the first read-only entry of a user that matches a pattern, or the pattern itself if there is no such entry.
 pub(crate) fn read_only_name(disk: &Disk<MemoryImage>, user: u8, pattern: &[u8; 11]) -> [u8; 11]
     requires { disk.now.failed ≡ false }
     ensures { result ≡ first_name (λ e. is_match user pattern.now e && is_read_only e) (directory disk.now.kind disk.now.device) pattern.now }

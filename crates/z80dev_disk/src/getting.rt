@@ -1,4 +1,4 @@
-//! Files that are copied from a disk.
+//! Copies files from a disk.
 
 ghost use Rattle.std.specs.Prelude.{◌≡◌, ◌<◌, ◌≤◌, All, IfErr, IfOk, IfSome, false, find, map, not, option_map, unwrap_or};
 ghost use Rattle.cpm_image.specs.Kind.{file_records};
@@ -6,11 +6,11 @@ ghost use Rattle.cpm_directory.specs.declared.entry.TheConstants.{USERS};
 ghost use Rattle.cpm_directory.specs.Searches.{size};
 ghost use Rattle.cpm_disk.specs.Image.{directory};
 ghost use Rattle.z80dev_finish.specs.Answers.{MemoryAside};
-ghost use Rattle.z80dev_disk.specs.Disks.{answer_of};
-ghost use Rattle.z80dev_disk.specs.Get.{IsGet, IsGetAll, as_asked, copied, copied_below, gotten, host_file, refusal_of};
+ghost use Rattle.z80dev_disk.specs.Disks.{disk_answer};
+ghost use Rattle.z80dev_disk.specs.Get.{IsGet, IsGetAll, as_asked, copied_record, copied_below, gotten, host_file, refusal_of};
 ghost use Rattle.z80dev_disk.specs.Names.{is_host_name};
 ghost use Rattle.z80dev_disk.specs.Private.{IsAnswered};
-ghost use Rattle.z80dev_disk.specs.Refusals.{IsNotFound, Refuses, RefusesGetAll, WithoutName};
+ghost use Rattle.z80dev_disk.specs.Refusals.{IsNotFound, IsRefusalOf, RefusesGetAll, WithoutName};
 ghost use Rattle.z80dev_disk.specs.declared.refusal.Refusal.TheVariants as refusal;
 
 use crate::image::{answered, disk_of, one_file};
@@ -24,7 +24,7 @@ use cpm_image::MemoryImage;
 use std::alloc::{AllocError, Global};
 use z80dev_finish::Answer;
 
-/// A file of a disk as the host takes it.
+/// A file of a disk, ready to be written on the host.
 #[derive(Debug, Drop)]
 pub struct Gotten {
     /// Its name on the host: `NAME`, or `NAME.TYP`.
@@ -32,12 +32,12 @@ pub struct Gotten {
     pub bytes: Vec<u8>,
 }
 
-/// A record of a user's file, zeros where it is not there.
+/// A record of a user's file, or 128 zeros if the file has no such record.
 fn copied(disk: &mut Disk<MemoryImage>, user: u8, name: &Name, number: u32) -> [u8; 128]
     requires sound { disk.old.failed ≡ false }
     requires user { user < USERS }
     requires within { number < file_records disk.old.kind }
-    ensures bytes { result ≡ copied disk.old.kind disk.old.device user name.now number }
+    ensures bytes { result ≡ copied_record disk.old.kind disk.old.device user name.now number }
     ensures same { disk.new ≡ disk.old }
 {
     match disk.read_block_of(user, name, number) {
@@ -46,7 +46,7 @@ fn copied(disk: &mut Disk<MemoryImage>, user: u8, name: &Name, number: u32) -> [
     }
 }
 
-/// The first records of a user's file.
+/// The first `count` records of a user's file, one after the other, with zeros for a record that the file does not have.
 fn copied_below(
     alloc: Global,
     disk: &mut Disk<MemoryImage>,
@@ -67,7 +67,7 @@ fn copied_below(
     Ok(bytes)
 }
 
-/// Bytes, or the text that they are.
+/// These bytes, or if a text is asked for, the text in them in the host's form.
 fn as_asked(alloc: Global, text: bool, bytes: Vec<u8>) -> Result<Vec<u8>, AllocError>
     ensures { IfOk result (λ made. made.items ≡ as_asked text bytes.items) }
 {
@@ -77,7 +77,7 @@ fn as_asked(alloc: Global, text: bool, bytes: Vec<u8>) -> Result<Vec<u8>, AllocE
     Ok(bytes)
 }
 
-/// The file of an image.
+/// A file of an image; or why the command is refused.
 fn got(
     alloc: Global,
     image: &[u8],
@@ -96,20 +96,20 @@ fn got(
     Ok(one_file(alloc, as_asked(alloc, text, bytes)?)?)
 }
 
-/// Answers the file of a user that has this name on the disk whose image bytes are: all records below its size, zeros for one that was
-/// not written; or, where it is to be a text, what comes before the first 1AH of these, without the CR before each LF.
+/// Answers a file of a user from the disk whose image these bytes are: all its records below its size, with zeros for one that was never
+/// written. With `text`, the answer is only what comes before the first 1AH, without the CR before each LF.
 ///
-/// Refused in this order: [`ImageFault`](crate::ImageFault) where the bytes are no image; the first fault of the directory;
+/// Refused, in this order: [`ImageFault`](crate::ImageFault) if the bytes are not an image; the first fault of the directory;
 /// [`DiskFault::NotFound`].
 pub fn get(alloc: Global, image: &[u8], user: u8, name: &Name, text: bool) -> Answer<Refusal>
     requires { user < USERS }
-    ensures answer { MemoryAside (IsGet image.now user name.now text) (answer_of result) }
-    ensures refusals { IfSome result.refusal (Refuses (WithoutName IsNotFound)) }
+    ensures answer { MemoryAside (IsGet image.now user name.now text) (disk_answer result) }
+    ensures refusals { IfSome result.refusal (IsRefusalOf (WithoutName IsNotFound)) }
 {
     answered(alloc, got(alloc, image, user, name, text))
 }
 
-/// The first file whose name the host cannot take.
+/// A refusal with the first name in this list that the host cannot take; `None` if it can take all.
 fn bad_file(files: &[Listed]) -> Option<Refusal>
     ensures { result ≡ option_map (λ f. refusal.BadFile f.name) (find (λ f. not (is_host_name f.name)) files.now) }
 {
@@ -122,7 +122,8 @@ fn bad_file(files: &[Listed]) -> Option<Refusal>
     None
 }
 
-/// Why files are not gotten.
+/// Why these files, which match a pattern, are not copied: there are none, or the host cannot take the name of one. `None` if nothing is
+/// wrong.
 fn refusal_of(pattern: &[u8; 11], files: &[Listed]) -> Option<Refusal>
     ensures reason { result ≡ refusal_of pattern.now files.now }
     ensures refusals { IfSome result (RefusesGetAll pattern.now) }
@@ -133,7 +134,7 @@ fn refusal_of(pattern: &[u8; 11], files: &[Listed]) -> Option<Refusal>
     bad_file(files)
 }
 
-/// A file with its name for the host.
+/// Copies a file of a listing, and gives it its name on the host.
 fn file_for_host(
     alloc: Global,
     disk: &mut Disk<MemoryImage>,
@@ -157,7 +158,7 @@ fn file_for_host(
     })
 }
 
-/// Files with their names for the host.
+/// Copies the files of a listing, each with its name on the host.
 fn files_for_host(
     alloc: Global,
     disk: &mut Disk<MemoryImage>,
@@ -175,14 +176,14 @@ fn files_for_host(
     Ok(made)
 }
 
-/// Every file of a user that matches a pattern, on the disk whose image bytes are, in the order of their names, each with its name for
-/// the host. A byte `?` of the pattern matches whatever stands there. The bytes are those that [`get`] answers.
+/// Answers every file of a user that matches a pattern, in the order of their names, each with its name on the host. The image is given
+/// by its bytes. A byte `?` of the pattern matches any byte. The bytes of a file are those that [`get`] answers.
 ///
 /// # Errors
 ///
-/// In this order: [`ImageFault`](crate::ImageFault) where the bytes are no image; the first fault of the directory;
-/// [`DiskFault::NotFound`], with the pattern, where no file matches; [`Refusal::BadFile`] with the first name that the host cannot take:
-/// one that is blank, or has a byte outside 20H to 7EH, a `/` or a point. [`Refusal::NoMemory`].
+/// In this order: [`ImageFault`](crate::ImageFault) if the bytes are not an image; the first fault of the directory;
+/// [`DiskFault::NotFound`], with the pattern, if no file matches; [`Refusal::BadFile`] with the first name that the host cannot take: one
+/// that is blank, or has a byte outside 20H to 7EH, a `/` or a point. [`Refusal::NoMemory`].
 pub fn get_all(
     alloc: Global,
     image: &[u8],
@@ -191,7 +192,7 @@ pub fn get_all(
     text: bool,
 ) -> Result<Vec<Gotten>, Refusal>
     ensures answer { IsGetAll image.now user pattern.now text result }
-    ensures refusals { IfErr result (Refuses (RefusesGetAll pattern.now)) }
+    ensures refusals { IfErr result (IsRefusalOf (RefusesGetAll pattern.now)) }
 {
     let mut disk = disk_of(alloc, image)?;
     let files = asked_for(alloc, &disk, Some(user), Some(*pattern))?;

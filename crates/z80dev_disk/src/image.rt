@@ -1,9 +1,9 @@
-//! Bytes as a disk, and disks as bytes.
+//! Mounts the bytes of an image as a disk, and makes the bytes and answers that a command gives back.
 
 ghost use Rattle.std.specs.Prelude.{◌≡◌, IfOk};
 ghost use Rattle.std.specs.List.{concat};
 ghost use Rattle.cpm_image.specs.Image.{blank_image};
-ghost use Rattle.z80dev_disk.specs.Disks.{IsMounted, answer_of, one_file};
+ghost use Rattle.z80dev_disk.specs.Disks.{IsMounted, disk_answer, one_file};
 ghost use Rattle.z80dev_disk.specs.Private.{answer_at, refusal_at};
 
 use crate::refusal::Refusal;
@@ -12,11 +12,11 @@ use cpm_image::{DiskKind, MemoryImage};
 use std::alloc::{AllocError, Global};
 use z80dev_finish::{Answer, Kind, NewFile};
 
-/// The disk whose image bytes are, mounted.
+/// Mounts the image that these bytes are.
 ///
 /// # Errors
 ///
-/// In this order: [`ImageFault`](crate::ImageFault) where the bytes are no image; the first fault of the directory.
+/// In this order: [`ImageFault`](crate::ImageFault) if the bytes are not an image; the first fault of the directory.
 pub fn disk_of(alloc: Global, bytes: &[u8]) -> Result<Disk<MemoryImage>, Refusal>
     ensures { IsMounted bytes.now result }
 {
@@ -27,9 +27,9 @@ pub fn disk_of(alloc: Global, bytes: &[u8]) -> Result<Disk<MemoryImage>, Refusal
     }
 }
 
-/// The answer that a file is to be written.
+/// An answer that writes one file with these bytes and prints nothing.
 pub fn one_file(alloc: Global, bytes: Vec<u8>) -> Result<Answer<Refusal>, AllocError>
-    ensures { IfOk result (λ answer. answer_of answer ≡ one_file bytes.items) }
+    ensures { IfOk result (λ answer. disk_answer answer ≡ one_file bytes.items) }
 {
     let mut files = Vec::with_capacity(alloc, 1)?;
     files.push(NewFile {
@@ -46,9 +46,9 @@ pub(crate) fn image_bytes(alloc: Global, image: &MemoryImage) -> Result<Vec<u8>,
     Vec::from_slice(alloc, image.sectors().as_flattened())
 }
 
-/// The answer of a command, or that it is refused.
+/// The answer of a command; a refusal becomes an answer that writes and prints nothing and has this refusal.
 pub(crate) fn answered(alloc: Global, answer: Result<Answer<Refusal>, Refusal>) -> Answer<Refusal>
-    ensures answer { answer_of result ≡ answer_at answer }
+    ensures answer { disk_answer result ≡ answer_at answer }
     ensures refusal { result.refusal ≡ refusal_at answer }
 {
     match answer {
@@ -57,7 +57,7 @@ pub(crate) fn answered(alloc: Global, answer: Result<Answer<Refusal>, Refusal>) 
     }
 }
 
-/// The bytes of the image of a disk that was never written: 256,256 or 1,048,576 bytes E5H.
+/// The image of an empty disk of a format: 256,256 or 1,048,576 bytes, all E5H.
 pub fn blank(alloc: Global, kind: DiskKind) -> Result<Vec<u8>, AllocError>
     ensures { IfOk result (λ bytes. bytes.items ≡ concat (blank_image kind)) }
 {

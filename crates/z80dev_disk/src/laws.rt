@@ -7,21 +7,21 @@ ghost use Rattle.cpm_directory.specs.Searches.{size};
 ghost use Rattle.cpm_disk.specs.Image.{Image, directory};
 ghost use Rattle.z80dev_disk.specs.Disks.{one_file};
 ghost use Rattle.z80dev_disk.specs.Get.{got};
-ghost use Rattle.z80dev_disk.specs.Put.{HasFile, record_count};
+ghost use Rattle.z80dev_disk.specs.Put.{HasFile, records_to_put};
 ghost use Rattle.z80dev_disk.specs.Text.{cpm_text, host_text};
 
-/// What is put is gotten: the file, filled up with 1AH to whole records.
+/// A file that was put on a disk comes back with `get`, padded with 1AH to whole records.
 pub fn put_is_gotten()
     ensures { (kind : DiskKind) (old new : Image) (user : ℕ) (name file : List ℕ) → HasFile kind old new user name file
-        → got kind new user name false (size user name (directory kind new)) ≡ one_file (file ++ replicate (128 * record_count file - length file) 0x1A) }
+        → got kind new user name false (size user name (directory kind new)) ≡ one_file (file ++ replicate (128 * records_to_put file - length file) 0x1A) }
 {}
 
-/// A text comes back from its form of CP/M, with any number of 1AH behind it.
+/// A text without 1AH comes back unchanged from its form of CP/M, whatever number of bytes 1AH follows.
 pub fn text_comes_back()
     ensures { (text : List ℕ) (n : ℕ) → list_any (λ b. b == 0x1A) text ≡ false → host_text (cpm_text text ++ replicate n 0x1A) ≡ text }
 {}
 
-/// What is put as a text is gotten as a text.
+/// A text without 1AH that was put on a disk as a text comes back unchanged as a text.
 pub fn text_is_gotten()
     ensures { (kind : DiskKind) (old new : Image) (user : ℕ) (name text : List ℕ) → list_any (λ b. b == 0x1A) text ≡ false
         → HasFile kind old new user name (cpm_text text) → got kind new user name true (size user name (directory kind new)) ≡ one_file text }

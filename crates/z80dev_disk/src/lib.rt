@@ -1,7 +1,7 @@
 //! What the commands on disks do with the bytes of an image of a disk.
 //!
-//! Each call takes what stands in the files that its command reads, touches nothing, and answers the bytes that are to be written, what
-//! is printed, or why the command is refused.
+//! Each function takes the bytes of the files that its command reads. It changes no file: it answers the bytes to write, the text to
+//! print, or why the command is refused.
 #![tactic(auto)]
 
 mod changing;

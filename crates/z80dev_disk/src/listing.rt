@@ -4,10 +4,10 @@ ghost use Rattle.std.specs.Prelude.{◌≡◌, IfErr, IfOk, IfSome, false, filte
 ghost use Rattle.std.specs.List.{flat_map};
 ghost use Rattle.cpm_directory.specs.declared.fault.DiskFault.TheVariants as fault;
 ghost use Rattle.z80dev_finish.specs.Answers.{MemoryAside};
-ghost use Rattle.z80dev_disk.specs.Dir.{IsDir, is_asked, is_named, is_users, line_of, listing, space_line, usage_text};
-ghost use Rattle.z80dev_disk.specs.Disks.{answer_of};
+ghost use Rattle.z80dev_disk.specs.Dir.{IsDir, is_asked, is_named, is_users, dir_line, dir_lines, space_line, usage_text};
+ghost use Rattle.z80dev_disk.specs.Disks.{disk_answer};
 ghost use Rattle.z80dev_disk.specs.Private.{AreAsked, IsAnswered};
-ghost use Rattle.z80dev_disk.specs.Refusals.{Refuses, RefusesDir};
+ghost use Rattle.z80dev_disk.specs.Refusals.{IsRefusalOf, RefusesDir};
 
 use crate::image::{answered, disk_of};
 use crate::refusal::Refusal;
@@ -21,15 +21,15 @@ use z80dev_finish::Answer;
 /// Which files are listed, and how.
 #[derive(Clone, Copy, Debug)]
 pub struct Asked {
-    /// Those of this user, or of all.
+    /// Only files of this user; `None` is the files of all users.
     pub user: Option<u8>,
-    /// Those whose names match this pattern, or all. A byte `?` matches whatever stands there.
+    /// Only files whose names match this pattern; `None` is all names. A byte `?` matches any byte.
     pub pattern: Option<[u8; 11]>,
-    /// Whether a line says too how many bytes, entries of the directory and blocks a file takes, and a last line what is left.
+    /// Whether each line also gives the bytes, directory entries and blocks of its file, and a last line the space that is left.
     pub long: bool,
 }
 
-/// Whether a file is of the user that is asked for.
+/// Whether a file belongs to the user that is asked for, or no user is asked for.
 fn is_users(user: Option<u8>, file: &Listed) -> bool
     ensures { result ≡ is_users user file.now }
 {
@@ -39,7 +39,7 @@ fn is_users(user: Option<u8>, file: &Listed) -> bool
     }
 }
 
-/// Whether a file's name matches the pattern that is asked for.
+/// Whether a file's name matches the pattern that is asked for, or no pattern is asked for.
 fn is_named(pattern: Option<[u8; 11]>, file: &Listed) -> bool
     ensures { result ≡ is_named pattern file.now }
 {
@@ -51,14 +51,14 @@ fn is_named(pattern: Option<[u8; 11]>, file: &Listed) -> bool
     }
 }
 
-/// Whether a file is asked for.
+/// Whether a file is of the user and matches the pattern that are asked for.
 fn is_asked(user: Option<u8>, pattern: Option<[u8; 11]>, file: &Listed) -> bool
     ensures { result ≡ is_asked user pattern file.now }
 {
     is_users(user, file) && is_named(pattern, file)
 }
 
-/// The files among these that are asked for.
+/// Those of these files that are of the user and match the pattern, in their order.
 fn chosen(
     alloc: Global,
     files: &[Listed],
@@ -91,7 +91,7 @@ pub(crate) fn asked_for(
     Ok(chosen(alloc, &files, user, pattern)?)
 }
 
-/// What a file takes of the disk: ` BYTES ENTRIES BLOCKS`.
+/// How much of the disk a file takes: ` BYTES ENTRIES BLOCKS`.
 fn usage_text(alloc: Global, file: &Listed, usage: Usage) -> Result<String, AllocError>
     ensures { IfOk result (λ text. string_bytes text ≡ usage_text file.now usage) }
 {
@@ -101,7 +101,8 @@ fn usage_text(alloc: Global, file: &Listed, usage: Usage) -> Result<String, Allo
     format!(in alloc; " {bytes} {entries} {blocks}")
 }
 
-/// The line of a file: `USER NAME.TYP RECORDS`, in a long listing what it takes of the disk, then ` RO` and ` SYS` where they are set.
+/// The line of a file: `USER NAME.TYP RECORDS`, in a long listing ` BYTES ENTRIES BLOCKS`, then ` RO` if the file is read-only and ` SYS`
+/// if it is a system file.
 fn line_of(
     alloc: Global,
     disk: &Disk<MemoryImage>,
@@ -109,7 +110,7 @@ fn line_of(
     file: &Listed,
 ) -> Result<Vec<u8>, AllocError>
     requires { disk.now.failed ≡ false }
-    ensures { IfOk result (λ line. line.items ≡ line_of long disk.now.kind disk.now.device file.now) }
+    ensures { IfOk result (λ line. line.items ≡ dir_line long disk.now.kind disk.now.device file.now) }
 {
     let name = file.name.bytes();
     let number = file.user;
@@ -133,7 +134,7 @@ fn line_of(
     )
 }
 
-/// What is left of a disk: `free: BLOCKS blocks, ENTRIES entries`.
+/// The space that is left on a disk: `free: BLOCKS blocks, ENTRIES entries`.
 fn space_line(alloc: Global, space: Space) -> Result<String, AllocError>
     ensures { IfOk result (λ line. string_bytes line ≡ space_line space) }
 {
@@ -142,7 +143,7 @@ fn space_line(alloc: Global, space: Space) -> Result<String, AllocError>
     format!(in alloc; "free: {blocks} blocks, {entries} entries\n")
 }
 
-/// The lines of files.
+/// The lines of these files, one after the other.
 fn lines_of(
     alloc: Global,
     disk: &Disk<MemoryImage>,
@@ -150,7 +151,7 @@ fn lines_of(
     files: &[Listed],
 ) -> Result<Vec<u8>, AllocError>
     requires { disk.now.failed ≡ false }
-    ensures { IfOk result (λ lines. lines.items ≡ flat_map (line_of long disk.now.kind disk.now.device) files.now) }
+    ensures { IfOk result (λ lines. lines.items ≡ flat_map (dir_line long disk.now.kind disk.now.device) files.now) }
 {
     let mut lines = Vec::new(alloc);
     for file in files {
@@ -159,7 +160,7 @@ fn lines_of(
     Ok(lines)
 }
 
-/// The lines of files, and in a long listing the last.
+/// The lines of these files, and in a long listing the line with the space that is left.
 fn listing(
     alloc: Global,
     disk: &Disk<MemoryImage>,
@@ -167,7 +168,7 @@ fn listing(
     files: &[Listed],
 ) -> Result<Vec<u8>, AllocError>
     requires { disk.now.failed ≡ false }
-    ensures { IfOk result (λ lines. lines.items ≡ listing long disk.now.kind disk.now.device files.now) }
+    ensures { IfOk result (λ lines. lines.items ≡ dir_lines long disk.now.kind disk.now.device files.now) }
 {
     let mut lines = lines_of(alloc, disk, long, files)?;
     let last = space_line(alloc, disk.space())?;
@@ -175,7 +176,7 @@ fn listing(
     Ok(lines)
 }
 
-/// The lines of the files of an image that are asked for.
+/// The listing of the files of an image that are asked for; or why the command is refused.
 fn listed(alloc: Global, image: &[u8], asked: &Asked) -> Result<Answer<Refusal>, Refusal>
     ensures { IsAnswered (RefusesDir asked.now.pattern) (IsDir image.now asked.now) result }
 {
@@ -190,15 +191,15 @@ fn listed(alloc: Global, image: &[u8], asked: &Asked) -> Result<Answer<Refusal>,
     Ok(Answer::done(Vec::new(alloc), lines))
 }
 
-/// Answers a line for each file that is asked for of the disk whose image bytes are, by user and then by name: `USER NAME.TYP RECORDS`,
-/// where blanks at the end of both parts are cut and the point stays, then ` RO` where it is read-only and ` SYS` where it is a file of
-/// the system. In a long listing ` BYTES ENTRIES BLOCKS` follows the records, and the last line is `free: BLOCKS blocks, ENTRIES entries`.
+/// Lists the files of an image that are asked for, by user and then by name, with a line for each: `USER NAME.TYP RECORDS`, then ` RO` if
+/// it is read-only and ` SYS` if it is a system file. Blanks at the end of the name and of the type are left out; the point is always
+/// there. In a long listing ` BYTES ENTRIES BLOCKS` follows the records, and the last line is `free: BLOCKS blocks, ENTRIES entries`.
 ///
-/// Refused in this order: [`ImageFault`](crate::ImageFault) where the bytes are no image; the first fault of the directory;
-/// [`DiskFault::NotFound`], with the pattern, where one is given and no file matches.
+/// Refused, in this order: [`ImageFault`](crate::ImageFault) if the bytes are not an image; the first fault of the directory;
+/// [`DiskFault::NotFound`], with the pattern, if a pattern is given and no file matches.
 pub fn dir(alloc: Global, image: &[u8], asked: &Asked) -> Answer<Refusal>
-    ensures answer { MemoryAside (IsDir image.now asked.now) (answer_of result) }
-    ensures refusals { IfSome result.refusal (Refuses (RefusesDir asked.now.pattern)) }
+    ensures answer { MemoryAside (IsDir image.now asked.now) (disk_answer result) }
+    ensures refusals { IfSome result.refusal (IsRefusalOf (RefusesDir asked.now.pattern)) }
 {
     answered(alloc, listed(alloc, image, asked))
 }

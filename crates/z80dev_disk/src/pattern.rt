@@ -1,4 +1,4 @@
-//! Patterns of names as words.
+//! Parses the words of a command that are patterns of names.
 
 ghost use Rattle.std.specs.Prelude.{◌≡◌, ◌≤◌, length};
 ghost use Rattle.std.specs.List.{list_all};
@@ -6,7 +6,7 @@ ghost use Rattle.z80dev_disk.specs.Words.{before_star, filled_pattern, has_star,
 
 use crate::name::{before_point, behind_point, is_name_byte};
 
-/// Whether a pattern matches more than one name: it has a `?`.
+/// Whether a pattern has a `?`, so that it may match several names.
 pub fn is_wild(pattern: &[u8; 11]) -> bool
     ensures { result ≡ is_wild pattern.now }
 {
@@ -20,7 +20,7 @@ fn has_star(part: &[u8]) -> bool
     !part.is_empty() && part[part.len() - 1] == b'*'
 }
 
-/// What stands before that star.
+/// A part of a pattern without the star at its end, if it has one.
 fn before_star(part: &[u8]) -> &[u8]
     ensures { result.now ≡ before_star part.now }
 {
@@ -30,28 +30,28 @@ fn before_star(part: &[u8]) -> &[u8]
     part
 }
 
-/// Whether a pattern may have a byte.
+/// Whether a pattern may contain this byte, apart from the star at the end of a part.
 fn is_pattern_byte(byte: u8) -> bool
     ensures { result ≡ is_pattern_byte byte }
 {
     is_name_byte(byte) || byte == b'?'
 }
 
-/// Whether a pattern may have all these bytes.
+/// Whether a pattern may contain each of these bytes, apart from the star at the end of a part.
 fn is_spelled(part: &[u8]) -> bool
     ensures { result ≡ list_all is_pattern_byte part.now }
 {
     part.iter().all(|byte| is_pattern_byte(*byte))
 }
 
-/// Whether bytes are a part of a pattern, of at most so many before its star.
+/// Whether these bytes can be a part of a pattern: without a star at the end, at most `most` bytes, each allowed in a pattern.
 fn is_pattern_part(part: &[u8], most: usize) -> bool
     ensures { result ≡ is_pattern_part part.now most }
 {
     before_star(part).len() <= most && is_spelled(before_star(part))
 }
 
-/// Whether a word spells a pattern.
+/// Whether a word is a pattern (see [`pattern_of`]).
 fn is_pattern(word: &[u8]) -> bool
     ensures { result ≡ is_pattern word.now }
 {
@@ -60,7 +60,7 @@ fn is_pattern(word: &[u8]) -> bool
         && is_pattern_part(behind_point(word), 3)
 }
 
-/// Writes a part of a pattern, filled up with `?` where it ends with a star, else with spaces.
+/// Writes a part of a pattern and pads it: with `?` if it ends with a star, otherwise with spaces.
 fn fill(bytes: &mut [u8], part: &[u8])
     requires { length (before_star part.now) ≤ length bytes.old }
     ensures { bytes.new ≡ filled_pattern (length bytes.old) part.now }
@@ -70,11 +70,10 @@ fn fill(bytes: &mut [u8], part: &[u8])
     bytes[..kept.len()].copy_from_slice(kept);
 }
 
-/// The pattern that a word spells, for the eight bytes of a name and the three of its type: like the word of a name (see
-/// [`file_name`](crate::file_name)), but a byte may be `?`, which matches whatever stands there, and a part may end with one `*`, which
-/// fills it up with `?`.
+/// The eleven bytes of the pattern that a word gives. The word has the form of a name (see [`file_name`](crate::file_name)), with two
+/// additions: `?` matches any character, and a part may end with one `*`, which pads it with `?`.
 ///
-/// `None` where the word is no such pattern.
+/// `None` if the word is not such a pattern.
 pub fn pattern_of(word: &str) -> Option<[u8; 11]>
     ensures { result ≡ pattern_of word.now }
 {

@@ -1,4 +1,4 @@
-//! Files that are put on a disk.
+//! Puts files on a disk.
 
 ghost use Rattle.std.specs.Prelude.{◌≡◌, ◌<◌, ◌≤◌, All, IfErr, MatchOption, OnOk, drop, false, length, map, take, true};
 ghost use Rattle.cpm_directory.specs.declared.entry.TheConstants.{USERS};
@@ -8,8 +8,8 @@ ghost use Rattle.cpm_directory.specs.Searches.{is_file};
 ghost use Rattle.cpm_directory.specs.declared.fault.DiskFault.TheVariants as fault;
 ghost use Rattle.z80dev_disk.specs.Along.{Along, IsRefusedAlong};
 ghost use Rattle.z80dev_disk.specs.Private.{IsRefusedAt};
-ghost use Rattle.z80dev_disk.specs.Put.{IsPut, IsStopped, IsStored, LacksRoom, MakesRoom, PutsOne, StopsOne, file_of, filled, is_replaced, name_of_file};
-ghost use Rattle.z80dev_disk.specs.Refusals.{Refuses, RefusesPut, WithName};
+ghost use Rattle.z80dev_disk.specs.Put.{IsPutImage, IsStopped, IsStored, LacksRoom, MakesRoom, PutsOne, StopsOne, named_file, padded_record, is_replaced, name_of_file};
+ghost use Rattle.z80dev_disk.specs.Refusals.{IsRefusalOf, RefusesPut, WithName};
 ghost use Rattle.z80dev_disk.specs.Words.{is_wild};
 
 use crate::entries::{has_names, of_any_extent};
@@ -20,31 +20,31 @@ use cpm_disk::Disk;
 use cpm_image::MemoryImage;
 use std::alloc::Global;
 
-/// The bytes of a record.
+/// The number of bytes in a record.
 const RECORD: usize = 128;
 
-/// What a file's last record is filled up with: the end of a text.
+/// Pads the last record of a file. CP/M takes it as the end of a text.
 const FILL: u8 = 0x1A;
 
-/// A file that is put.
+/// A file to put on a disk.
 #[derive(Clone, Copy, Debug)]
 pub struct PutFile<'a> {
-    /// The name that it gets.
+    /// The name of the file on the disk.
     pub name: Name,
     pub bytes: &'a [u8],
 }
 
-/// The bytes of a record, filled up.
+/// A record that begins with these bytes and is padded with 1AH.
 fn filled(piece: &[u8]) -> [u8; 128]
     requires { length piece.now ≤ 128 }
-    ensures { result ≡ filled piece.now }
+    ensures { result ≡ padded_record piece.now }
 {
     let mut record = [FILL; RECORD];
     record[..piece.len()].copy_from_slice(piece);
     record
 }
 
-/// The bytes of the first record of what is left of a file, and what is left behind it; none at the end.
+/// Divides the rest of a file into its first record, which may be shorter than 128 bytes, and what follows; `None` if nothing is left.
 fn cut(rest: &[u8]) -> Option<(&[u8], &[u8])>
     ensures { MatchOption result (length rest.now ≡ 0) (λ parts. (0 < length rest.now) × (length parts.0.now ≤ 128) × (parts.0.now ≡ take 128 rest.now) × (parts.1.now ≡ drop 128 rest.now)) }
 {
@@ -54,7 +54,7 @@ fn cut(rest: &[u8]) -> Option<(&[u8], &[u8])>
     Some(rest.split_at(rest.len().min(RECORD)))
 }
 
-/// Makes a file and writes its records, one after the other.
+/// Creates a file and writes its records, one after the other.
 fn store(disk: &mut Disk<MemoryImage>, user: u8, name: &Name, file: &[u8]) -> Result<(), DiskFault>
     requires sound { disk.old.failed ≡ false }
     requires user { user < USERS }
@@ -75,7 +75,7 @@ fn store(disk: &mut Disk<MemoryImage>, user: u8, name: &Name, file: &[u8]) -> Re
     Ok(())
 }
 
-/// Whether a file is erased before one of its name is put.
+/// Whether the user has a file of this name that has to be erased first.
 fn is_replaced(disk: &Disk<MemoryImage>, user: u8, replace: bool, name: &Name) -> bool
     requires { disk.now.failed ≡ false }
     ensures { result ≡ is_replaced user replace name.now (directory disk.now.kind disk.now.device) }
@@ -83,7 +83,7 @@ fn is_replaced(disk: &Disk<MemoryImage>, user: u8, replace: bool, name: &Name) -
     replace && disk.size(user, name).is_some()
 }
 
-/// Makes room for a file: one of its name is erased, where it is to be replaced.
+/// Erases the user's file of this name, if there is one and it is to be replaced.
 fn make_room(
     disk: &mut Disk<MemoryImage>,
     user: u8,
@@ -103,13 +103,13 @@ fn make_room(
     if !is_replaced(disk, user, replace, name) {
         return Ok(());
     }
-    // A law: a name without `?` matches no other name, since all have eleven bytes.
+    // A law: all names have eleven bytes, so a name without `?` matches no other name, and the call below erases only this file.
     has_names(disk);
     disk.erase(user, &of_any_extent(&name.bytes()))?;
     Ok(())
 }
 
-/// Puts a file.
+/// Puts one file on the disk, after it erases the file that it replaces.
 fn put_file(
     disk: &mut Disk<MemoryImage>,
     user: u8,
@@ -121,15 +121,15 @@ fn put_file(
     requires plain { is_wild file.now.name ≡ false }
     ensures kind { disk.new.kind ≡ disk.old.kind }
     ensures sound { OnOk result (disk.new.failed ≡ false) }
-    ensures put { OnOk result (PutsOne disk.old.kind user replace (file_of file.now) disk.old.device disk.new.device) }
-    ensures stopped { IfErr result (StopsOne disk.old.kind user replace (file_of file.now) disk.old.device) }
+    ensures put { OnOk result (PutsOne disk.old.kind user replace (named_file file.now) disk.old.device disk.new.device) }
+    ensures stopped { IfErr result (StopsOne disk.old.kind user replace (named_file file.now) disk.old.device) }
     ensures refusals { IfErr result (RefusesPut replace) }
 {
     make_room(disk, user, replace, &file.name)?;
     store(disk, user, &file.name, file.bytes)
 }
 
-/// Puts a file, whose name goes with a refusal.
+/// Puts one file on the disk, and adds the file's name to a refusal.
 fn put_one(
     disk: &mut Disk<MemoryImage>,
     user: u8,
@@ -141,8 +141,8 @@ fn put_one(
     requires plain { is_wild file.now.name ≡ false }
     ensures kind { disk.new.kind ≡ disk.old.kind }
     ensures sound { OnOk result (disk.new.failed ≡ false) }
-    ensures put { OnOk result (PutsOne disk.old.kind user replace (file_of file.now) disk.old.device disk.new.device) }
-    ensures stopped { IfErr result (IsRefusedAt (StopsOne disk.old.kind user replace) name_of_file (file_of file.now) disk.old.device) }
+    ensures put { OnOk result (PutsOne disk.old.kind user replace (named_file file.now) disk.old.device disk.new.device) }
+    ensures stopped { IfErr result (IsRefusedAt (StopsOne disk.old.kind user replace) name_of_file (named_file file.now) disk.old.device) }
     ensures refusals { IfErr result (WithName (RefusesPut replace)) }
 {
     match put_file(disk, user, replace, file) {
@@ -151,7 +151,7 @@ fn put_one(
     }
 }
 
-/// Puts files, one after the other.
+/// Puts these files on the disk, one after the other, until one is refused.
 fn put_all(
     disk: &mut Disk<MemoryImage>,
     user: u8,
@@ -161,8 +161,8 @@ fn put_all(
     requires sound { disk.old.failed ≡ false }
     requires user { user < USERS }
     requires plain { All (λ f. is_wild f.name ≡ false) files.now }
-    ensures put { OnOk result (Along (PutsOne disk.old.kind user replace) (map file_of files.now) disk.old.device disk.new.device) }
-    ensures stopped { IfErr result (IsRefusedAlong (PutsOne disk.old.kind user replace) (StopsOne disk.old.kind user replace) name_of_file (map file_of files.now) disk.old.device) }
+    ensures put { OnOk result (Along (PutsOne disk.old.kind user replace) (map named_file files.now) disk.old.device disk.new.device) }
+    ensures stopped { IfErr result (IsRefusedAlong (PutsOne disk.old.kind user replace) (StopsOne disk.old.kind user replace) name_of_file (map named_file files.now) disk.old.device) }
     ensures refusals { IfErr result (WithName (RefusesPut replace)) }
 {
     for file in files {
@@ -171,15 +171,15 @@ fn put_all(
     Ok(())
 }
 
-/// The image of the disk whose image bytes are, with these files of a user more, put in their order: a file's records are those of its
-/// bytes, the last filled up with 1AH. A file that is there is erased before one of its name is put, where `replace` says so.
+/// Answers the image with these files of a user added, one after the other. The last record of each is padded with 1AH. With `replace`, a
+/// file of the same name is erased first.
 ///
 /// # Errors
 ///
-/// In this order: [`ImageFault`](crate::ImageFault) where the bytes are no image; the first fault of the directory; of each file in turn,
-/// with its name, [`DiskFault::ReadOnly`] where it is to be replaced and is read-only, [`DiskFault::Exists`] where it is not to be
-/// replaced, [`DiskFault::DirectoryFull`]; then of each of its records [`DiskFault::TooFar`], [`DiskFault::DirectoryFull`],
-/// [`DiskFault::DiskFull`]. [`Refusal::NoMemory`].
+/// In this order: [`ImageFault`](crate::ImageFault) if the bytes are not an image; the first fault of the directory; then for each file
+/// in turn, with its name: [`DiskFault::ReadOnly`] if it would replace a read-only file, [`DiskFault::Exists`] if the user has a file of
+/// this name and `replace` is false, [`DiskFault::DirectoryFull`]; and for each of its records [`DiskFault::TooFar`],
+/// [`DiskFault::DirectoryFull`], [`DiskFault::DiskFull`]. [`Refusal::NoMemory`].
 pub fn put(
     alloc: Global,
     image: &[u8],
@@ -189,8 +189,8 @@ pub fn put(
 ) -> Result<Vec<u8>, Refusal>
     requires user { user < USERS }
     requires names { All (λ f. is_wild f.name ≡ false) files.now }
-    ensures answer { IsPut image.now user replace (map file_of files.now) result }
-    ensures refusals { IfErr result (Refuses (WithName (RefusesPut replace))) }
+    ensures answer { IsPutImage image.now user replace (map named_file files.now) result }
+    ensures refusals { IfErr result (IsRefusalOf (WithName (RefusesPut replace))) }
 {
     let mut disk = disk_of(alloc, image)?;
     put_all(&mut disk, user, replace, files)?;

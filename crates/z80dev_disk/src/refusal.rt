@@ -13,15 +13,15 @@ use std::fmt;
 /// Why a command on an image is refused.
 #[derive(Clone, Copy, Debug, PartialEq, Eq)]
 pub enum Refusal {
-    /// A word is no name of a file.
+    /// A word is not a name of a file.
     BadName,
-    /// The host cannot take the name of this file of the disk.
+    /// The host cannot have a file of this name, which is the name of a file of the disk.
     BadFile([u8; 11]),
-    /// The bytes are no image.
+    /// The bytes are not an image.
     Image(ImageFault),
-    /// The disk refuses.
+    /// The disk refuses the call, or its directory breaks a rule.
     Disk(DiskFault),
-    /// The disk refuses this file, or this pattern of names.
+    /// The disk refuses the call for this file, or for this pattern of names.
     Named(DiskFault, [u8; 11]),
     /// Memory ran out.
     NoMemory,
@@ -90,7 +90,7 @@ fn image_name(fault: ImageFault) -> &'static str
     }
 }
 
-/// A fault by its name.
+/// The name of a fault, as it is printed.
 pub(crate) fn disk_name(fault: DiskFault) -> &'static str
     ensures { result.now ≡ disk_name fault }
 {
@@ -114,7 +114,7 @@ pub(crate) fn disk_name(fault: DiskFault) -> &'static str
     }
 }
 
-/// What is printed after `error: `: the name of the innermost variant, with the name of a file in parentheses.
+/// The text after `error: `: the name of the innermost variant, with the name of a file in parentheses if the refusal has one.
 impl fmt::Display for Refusal {
     ghost use Rattle.std.specs.Prelude.{Some};
     ghost use Rattle.z80dev_disk.specs.Refusals.{refusal_text};

@@ -1,4 +1,4 @@
-//! Names of files as they are shown, and as the host has them.
+//! Names of files as the program prints them, which are also the names of the files on the host.
 
 ghost use Rattle.std.specs.Prelude.{◌≡◌, ◌==◌, IfOk, IsAscii, codes, length, not};
 ghost use Rattle.std.specs.List.{flat_map, list_all};
@@ -22,14 +22,14 @@ pub(crate) fn trimmed(part: &[u8]) -> &[u8]
     &[]
 }
 
-/// A word where it is so.
+/// The word if the condition holds, otherwise nothing.
 pub(crate) fn when(so: bool, word: &[u8]) -> &[u8]
     ensures { result.now ≡ when so word.now }
 {
     if so { word } else { &[] }
 }
 
-/// Bytes one after the other.
+/// Joins byte strings in their order.
 pub(crate) fn joined(alloc: Global, pieces: &[&[u8]]) -> Result<Vec<u8>, AllocError>
     ensures { IfOk result (λ bytes. bytes.items ≡ flat_map (λ piece. piece.now) pieces.now) }
 {
@@ -40,35 +40,35 @@ pub(crate) fn joined(alloc: Global, pieces: &[&[u8]]) -> Result<Vec<u8>, AllocEr
     Ok(bytes)
 }
 
-/// Whether a name on the host may have a byte.
+/// Whether a file name on the host may contain this byte.
 fn is_host_byte(byte: u8) -> bool
     ensures { result ≡ is_host_byte byte }
 {
     0x20 <= byte && byte <= 0x7E && byte != b'/' && byte != b'.'
 }
 
-/// Whether the host can take all these bytes.
+/// Whether a file name on the host may contain each of these bytes.
 fn are_host_bytes(name: &[u8]) -> bool
     ensures { result ≡ list_all is_host_byte name.now }
 {
     name.iter().all(|byte| is_host_byte(*byte))
 }
 
-/// Whether a name is blank.
+/// Whether a name has no characters but blanks.
 fn is_blank(name: &[u8; 11]) -> bool
     ensures { result ≡ (length (host_name name.now) == 0) }
 {
     trimmed(&name[..8]).is_empty() && trimmed(&name[8..]).is_empty()
 }
 
-/// Whether the host can take a name.
+/// Whether the host can have a file of this name.
 pub(crate) fn is_host_name(name: &[u8; 11]) -> bool
     ensures { result ≡ is_host_name name.now }
 {
     !is_blank(name) && are_host_bytes(name)
 }
 
-/// Bytes that are a text.
+/// These ASCII bytes as a `str`.
 fn text_of(bytes: &[u8]) -> &str
     requires { IsAscii bytes.now }
     ensures { result.now ≡ bytes.now }
@@ -79,14 +79,14 @@ fn text_of(bytes: &[u8]) -> &str
     }
 }
 
-/// The point before a type.
+/// The point that comes before a type, or nothing if there is no type.
 fn point_before(kind: &str) -> &'static str
     ensures { result.now ≡ when (not (length kind.now == 0)) (codes ".") }
 {
     if kind.is_empty() { "" } else { "." }
 }
 
-/// A name as it is shown, and as the host has it, by the low seven bits of its bytes.
+/// A name of CP/M, printed as `NAME` or `NAME.TYP`: the low seven bits of each byte, without the blanks at the end of each part.
 #[derive(Clone, Copy)]
 pub(crate) struct HostName {
     pub name: [u8; 11],

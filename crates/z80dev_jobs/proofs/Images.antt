@@ -19,8 +19,8 @@ use Rattle.z80dev_finish.proofs.Stored.{grows_none, grows_trans, none_more}
 use Rattle.z80dev_finish.specs.Files.{Adds, File, Folder, IsLockWanted, IsUntouched, Stores}
 use Rattle.z80dev_finish.specs.declared.end.End.{End}
 use Rattle.z80dev_finish.specs.declared.end.End.TheVariants as end
-use Rattle.z80dev_disk.specs.Put.{IsPut as IsPutOn}
-use Rattle.z80dev_disk.specs.Words.{name_of, own_name, pattern_of}
+use Rattle.z80dev_disk.specs.Put.{IsPutImage as IsPutOn}
+use Rattle.z80dev_disk.specs.Words.{file_name_of, own_name, pattern_of}
 use Rattle.z80dev_commands.specs.declared.Manner.{Manner}
 use Rattle.z80dev_jobs.specs.Disks.{BlankEnds, BlankIsMade, Changes, ChangesImage, Claiming, IsChanged, Named, NamedAll, NothingDone, PutEnds, Refuses, Warns, GetsMatching, IsWrittenInto, NamedIfGiven, PutAllEnds, ReadsImage, WritesInto, as_put, bad_name, kind_of, locked_effect, path_in, warnings, without_name}
 use Rattle.z80dev_jobs.specs.Reading.{IsNotRead, IsOneNotRead, IsRead}
@@ -219,7 +219,7 @@ pub line_into : (path : List ℕ) (mid new : Folder) (image : Image) (made : Res
 line_into path mid new image made (Ok line) (line_is, changes) = line_is
 line_into path mid new image made (Err e) (not_done, changes) = no_line e (lines_of image) not_done
 
-module _ (t : Target) (m : Manner) (path word name : List ℕ) (named : name_of word ≡ Some name) where
+module _ (t : Target) (m : Manner) (path word name : List ℕ) (named : file_name_of word ≡ Some name) where
   abbrev Rest : List ℕ → Effect → End → Type 0
   Rest bytes y e = With path (λ file. Changes t.image.now bytes (λ r. (s : Result (Vec ℕ Global) Refusal) × IsPutOn bytes t.user m.replace ((name, as_put m.text file) ∷ []) s × (r ≡ without_name s)) y e) y e
 
@@ -231,14 +231,14 @@ module _ (t : Target) (m : Manner) (path word name : List ℕ) (named : name_of 
       → EndsWith (PutEnds t m path word (effect_of old new o o)) result
   put_unclaimed old new o e result claims same =
       let x = effect_of old new o o in
-      passed_on (PutEnds t m path word x) e result same (None, no_line_at e, named_word name_of word name (Does x None e) x e named (inr (claims, refl)))
+      passed_on (PutEnds t m path word x) e result same (None, no_line_at e, named_word file_name_of word name (Does x None e) x e named (inr (claims, refl)))
 
   pub put_unread : (old mid new : Folder) (o : Stream) (image : Image) (e : End) (result : Result (Option (String Global)) End) → ClaimsImage old mid t.image.now t.lock (Ok image) → IsNotRead mid new path e
       → IsErrAnd result (λ g. g ≡ e) → EndsWith (PutEnds t m path word (effect_of old new o o)) result
   put_unread old mid new o image e result claims unread same =
       let x = effect_of old new o o in
       passed_on (PutEnds t m path word x) e result same
-      (lines_of image, no_line e (lines_of image) (not_read mid new path e unread), named_word name_of word name (Does x (lines_of image) e) x e named (claimed_then t Rest old mid new o image e claims (inr (unread, refl))))
+      (lines_of image, no_line e (lines_of image) (not_read mid new path e unread), named_word file_name_of word name (Does x (lines_of image) e) x e named (claimed_then t Rest old mid new o image e claims (inr (unread, refl))))
 
   pub put_without_memory : (old mid new : Folder) (o : Stream) (image : Image) (file : List ℕ) (e : End) (result : Result (Option (String Global)) End) → ClaimsImage old mid t.image.now t.lock (Ok image) → new ≡ mid
       → IsRead mid path file → e ≡ end.NoMemory → IsErrAnd result (λ g. g ≡ e) → EndsWith (PutEnds t m path word (effect_of old new o o)) result
@@ -246,7 +246,7 @@ module _ (t : Target) (m : Manner) (path word name : List ℕ) (named : name_of 
       let x = effect_of old new o o in
       let nothing : NothingDone (effect_of mid new o o) = subst (λ f. NothingDone (effect_of mid f o o)) (sym kept) (nothing_done mid o) in
       passed_on (PutEnds t m path word x) e result same
-      (lines_of image, no_line e (lines_of image) (λ done. no_memory (sym out ∙ done)), named_word name_of word name (Does x (lines_of image) e) x e named (claimed_then t Rest old mid new o image e claims (inl (file, read, inr (out, nothing)))))
+      (lines_of image, no_line e (lines_of image) (λ done. no_memory (sym out ∙ done)), named_word file_name_of word name (Does x (lines_of image) e) x e named (claimed_then t Rest old mid new o image e claims (inl (file, read, inr (out, nothing)))))
 
   pub put_changed : (old mid after new : Folder) (o : Stream) (image : Image) (file : List ℕ) (put made : Result (Vec ℕ Global) Refusal) (result : Result (Option (String Global)) End)
       → ClaimsImage old mid t.image.now t.lock (Ok image) → after ≡ mid → IsRead mid path file → IsPutOn image.bytes.items t.user m.replace ((name, as_put m.text file) ∷ []) put → made ≡ without_name put
@@ -258,7 +258,7 @@ module _ (t : Target) (m : Manner) (path word name : List ℕ) (named : name_of 
       ends (PutEnds t m path word x) result (
         lines_of image,
         line_into t.image.now mid new image made result now,
-        named_word name_of word name (Does x (lines_of image) (end_in result)) x (end_in result) named
+        named_word file_name_of word name (Does x (lines_of image) (end_in result)) x (end_in result) named
             (claimed_then t Rest old mid new o image (end_in result) claims (inl (file, read, does))),
       )
 

@@ -5,7 +5,7 @@ use Rattle.std.proofs.lemmas.Bool.{false≢true}
 use Rattle.clap.specs.Words.{IsAmong, fault_of, takes}
 use Rattle.clap.specs.declared.error.kind.ErrorKind.{ErrorKind}
 use Rattle.clap.specs.declared.error.kind.ErrorKind.TheVariants as kind
-use Rattle.z80dev_commands.specs.Commands.{IsCounted, IsJob, IsMiscounted, z80dev}
+use Rattle.z80dev_commands.specs.Commands.{HasRightCount, IsJob, IsMiscounted, z80dev}
 use Rattle.z80dev_commands.specs.declared.Job.{Job}
 use Rattle.z80dev_commands.specs.declared.Job.TheVariants.{Pipe, Asm, Link, Build, Check, Dir, Put, PutAll, Get, GetAll, Erase, Rename, Protect, CheckDisk, Blank, Run}
 use Rattle.z80dev_jobs.specs.Command.{AsksToShow, CommandEnds, IsUsageFault, Untouched}
@@ -32,7 +32,7 @@ parsed_none k [] is none = is
 parsed_none k (x ∷ xs) is none = absurd cc
 
 usage : (texts : List (List ℕ)) (k : ErrorKind) → k ≢ kind.OutOfMemory → ((k ≡ kind.OutOfMemory) ⊎ IsAmong k (fault_of z80dev texts)) ⊎ IsMiscounted texts k
-    → (takes z80dev texts ≡ true → IsCounted texts → k ≡ kind.OutOfMemory) → IsUsageFault texts k
+    → (takes z80dev texts ≡ true → HasRightCount texts → k ≡ kind.OutOfMemory) → IsUsageFault texts k
 usage texts k in_memory (inl kinds) taken =
     let is = among k (fault_of z80dev texts) kinds in_memory in
     inl (is, λ t. in_memory (taken t (λ other counts. parsed_none k (fault_of z80dev texts) is counts.0)))
@@ -40,7 +40,7 @@ usage texts k in_memory (inr counts) taken = inr counts
 
 pub refused : (words texts : List (List ℕ)) (k : ErrorKind) (old new : World) (status : ℕ) → AreTexts words texts → Untouched old new
     → ((k ≡ kind.OutOfMemory) ⊎ IsAmong k (fault_of z80dev texts)) ⊎ IsMiscounted texts k
-    → (takes z80dev texts ≡ true → IsCounted texts → k ≡ kind.OutOfMemory) → RefusesError k old.output new.output old.errors new.errors status → CommandEnds words old new status
+    → (takes z80dev texts ≡ true → HasRightCount texts → k ≡ kind.OutOfMemory) → RefusesError k old.output new.output old.errors new.errors status → CommandEnds words old new status
 refused words texts k old new status are same kinds taken (inl (inl shows)) =
     inr (same, inl (texts, k, are, usage texts k (asks k shows.0) kinds taken, inl shows))
 refused words texts k old new status are same kinds taken (inl (inr used)) =

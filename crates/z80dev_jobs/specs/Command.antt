@@ -5,7 +5,7 @@ use Rattle.clap.specs.declared.error.kind.ErrorKind.{ErrorKind}
 use Rattle.clap.specs.declared.error.kind.ErrorKind.TheVariants as kind
 use Rattle.streams.specs.Stream.{Stream}
 use Rattle.streams.specs.Writing.{PutsAll, PutsFront, error_line}
-use Rattle.z80dev.specs.Pipe.{Ends, said_at, status_at}
+use Rattle.z80dev.specs.Pipe.{PrintingEnds, said_at, status_at}
 use Rattle.z80dev.specs.Reading.{IsCutShort, OfText}
 use Rattle.z80dev.specs.declared.fault.Fault.{Fault}
 use Rattle.z80dev_commands.specs.Commands.{IsJob, IsMiscounted, z80dev}
@@ -39,7 +39,7 @@ ReportsLine Ends old new status = (line : Option (List ℕ)) × (e : End) × End
 -- Without words: the file of the source text on standard input is printed in hexadecimal.
 abbrev pub PipeEnds : World → World → ℕ → Type 0
 PipeEnds old new status = (new.folder ≡ old.folder) × OfText old.input.left (λ text. (e : Result Unit Fault) × (status ≡ status_at e)
-    × Ends text (IsCutShort new.input.failed new.input.reads new.input.interruptions) old.output new.output e × TellsOf (said_at e) old.errors new.errors)
+    × PrintingEnds text (IsCutShort new.input.failed new.input.reads new.input.interruptions) old.output new.output e × TellsOf (said_at e) old.errors new.errors)
 
 -- how many instructions a run may take that names no number
 abbrev pub default_steps : ℕ

@@ -12,14 +12,14 @@ use Rattle.z80dev_commands.specs.declared.Attribute as word
 use Rattle.z80dev_commands.specs.declared.Attribute.TheVariants as words
 use Rattle.z80dev_commands.specs.declared.Manner.{Manner}
 use Rattle.z80dev_commands.specs.declared.Target.{Target}
-use Rattle.z80dev_disk.specs.Changes.{IsErased, IsMarked, IsRenamed}
+use Rattle.z80dev_disk.specs.Changes.{IsErasedImage, IsMarkedImage, IsRenamedImage}
 use Rattle.z80dev_disk.specs.Check.{IsCheck}
 use Rattle.z80dev_disk.specs.Dir.{IsDir}
 use Rattle.z80dev_disk.specs.Get.{IsGet, IsGetAll}
-use Rattle.z80dev_disk.specs.Put.{IsPut as IsPutOn}
+use Rattle.z80dev_disk.specs.Put.{IsPutImage as IsPutOn}
 use Rattle.z80dev_disk.specs.Refusals.{refusal_text, unnamed}
 use Rattle.z80dev_disk.specs.Text.{cpm_text}
-use Rattle.z80dev_disk.specs.Words.{name_of, own_name, pattern_of}
+use Rattle.z80dev_disk.specs.Words.{file_name_of, own_name, pattern_of}
 use Rattle.z80dev_disk.specs.declared.getting.Gotten.{Gotten}
 use Rattle.z80dev_disk.specs.declared.refusal.Refusal.{Refusal}
 use Rattle.z80dev_finish.specs.Answers.{MemoryAside}
@@ -144,7 +144,7 @@ without_name (Ok made) = Ok made
 without_name (Err why) = Err (unnamed why)
 
 abbrev pub PutEnds : Target → Manner → List ℕ → List ℕ → Effect → Option (List ℕ) → End → Type 0
-PutEnds t m path word x line e = Warns (λ wanted e. Named (name_of word) (λ name.
+PutEnds t m path word x line e = Warns (λ wanted e. Named (file_name_of word) (λ name.
     Claiming t.image.now t.lock (λ bytes is_held y. (wanted ≡ warnings t.image.now (length bytes) (t.lock && not is_held))
     × With path (λ file. Changes t.image.now bytes (λ r. (s : Result (Vec ℕ Global) Refusal) × IsPutOn bytes t.user m.replace ((name, as_put m.text file) ∷ []) s × (r ≡ without_name s)) y e) y e) x e) x e) line e
 
@@ -157,17 +157,17 @@ PutAllEnds t m paths x line e = Warns (λ wanted e. NamedAll own_name paths (λ 
 
 -- `erase`, `rename`, `protect` and `unprotect`
 abbrev pub EraseEnds : Target → List (List ℕ) → Effect → Option (List ℕ) → End → Type 0
-EraseEnds t words x line e = Warns (λ wanted e. NamedAll pattern_of words (λ patterns. ChangesImage t (λ bytes. IsErased bytes t.user patterns) x wanted e) x e) line e
+EraseEnds t words x line e = Warns (λ wanted e. NamedAll pattern_of words (λ patterns. ChangesImage t (λ bytes. IsErasedImage bytes t.user patterns) x wanted e) x e) line e
 
 abbrev pub RenameEnds : Target → List ℕ → List ℕ → Effect → Option (List ℕ) → End → Type 0
-RenameEnds t old new x line e = Warns (λ wanted e. Named (name_of old) (λ from. Named (name_of new) (λ to. ChangesImage t (λ bytes. IsRenamed bytes t.user from to) x wanted e) x e) x e) line e
+RenameEnds t old new x line e = Warns (λ wanted e. Named (file_name_of old) (λ from. Named (file_name_of new) (λ to. ChangesImage t (λ bytes. IsRenamedImage bytes t.user from to) x wanted e) x e) x e) line e
 
 abbrev pub attribute_of : word.Attribute → Attribute
 attribute_of words.ReadOnly = Attribute.ReadOnly
 attribute_of words.System = Attribute.System
 
 abbrev pub ProtectEnds : Target → word.Attribute → Bool → List (List ℕ) → Effect → Option (List ℕ) → End → Type 0
-ProtectEnds t attribute on words x line e = Warns (λ wanted e. NamedAll pattern_of words (λ patterns. ChangesImage t (λ bytes. IsMarked bytes t.user (attribute_of attribute) on patterns) x wanted e) x e) line e
+ProtectEnds t attribute on words x line e = Warns (λ wanted e. NamedAll pattern_of words (λ patterns. ChangesImage t (λ bytes. IsMarkedImage bytes t.user (attribute_of attribute) on patterns) x wanted e) x e) line e
 
 -- An image is read that the command does not change, with warnings.
 abbrev pub ReadsImage : List ℕ → (List ℕ → Type 0) → Effect → Option (List ℕ) → End → Type 0
@@ -226,7 +226,7 @@ GetsNamed (Some name) image user text word path x wanted e = ReadsImage image (�
 GetsNamed None image user text word path x wanted e = Named (pattern_of word) (λ pattern. GetsInto image user text pattern path x wanted e) x e
 
 abbrev pub GetEnds : List ℕ → ℕ → Bool → List ℕ → List ℕ → Effect → Option (List ℕ) → End → Type 0
-GetEnds image user text word path x line e = Warns (λ wanted e. GetsNamed (name_of word) image user text word path x wanted e) line e
+GetEnds image user text word path x line e = Warns (λ wanted e. GetsNamed (file_name_of word) image user text word path x wanted e) line e
 
 abbrev pub kind_of : Bool → DiskKind
 kind_of true = Megabyte

@@ -1,4 +1,4 @@
--- A turn of the machine and a turn by statements.
+-- A step of the machine, and a step by statements.
 use Rattle.std.proofs.Common.{◌≡◌, ℕ, zero, suc, ◌+◌, ◌-◌, ◌%◌, ◌<◌, ◌≤◌, ◌↔◌, Bool, true, false, if◌then◌else◌, List, Option, Some, None, length, refl, sym, ap, ◌∙◌, subst, arith, ℤ, pos, negsuc}
 use Rattle.std.specs.Prelude.{◌+ℤ◌, not, nat_eq}
 use Rattle.std.specs.List.{slice_range}
@@ -14,8 +14,8 @@ use Rattle.z80_machine.specs.Types.{Step}
 use Rattle.z80_cpu.specs.State.{Machine, on_cpu, machine, with_main, with_pc, one_less, up_by, displaced}
 use Rattle.z80_cpu.specs.Operands.{condition_holds, short_condition_holds}
 use Rattle.z80_cpu.specs.Jumps.{jumped_if}
-use Rattle.z80_cpu.specs.Effect.{effect}
-use Rattle.z80_machine.specs.Turn.{StandsAtPc, carried_out, IsTurnOf, IsTurn}
+use Rattle.z80_cpu.specs.Effect.{instruction_effect}
+use Rattle.z80_machine.specs.Turn.{StandsAtPc, carried_out, IsTurnOf, IsStep}
 use Rattle.ruler.specs.Choice.{Choice, IsValid, size_of, bytes_before, place}
 use Rattle.z80_instr.specs.declared.Branch.{Branch}
 use Rattle.z80_instr.specs.declared.Branch.TheVariants.{Relative, CountDown}
@@ -23,36 +23,36 @@ use Rattle.asm_statements.specs.Program.Statement.{Statement, Code, Data, Space,
 use Rattle.asm_parse.specs.Expression.{Expression}
 use Rattle.asm_value.specs.declared.atom.Atom.{Atom}
 use Rattle.asm_piece.specs.Made.{widened, long_jump}
-use Rattle.asm_statements.specs.Program.Pieces.{short_jump, LeadsTo, IsPiece, valued}
+use Rattle.asm_statements.specs.Program.Pieces.{short_jump, IsShortJump, IsPiece, valued}
 use Rattle.z80_form.specs.declared.field.Field.{Field}
 use Rattle.z80_form.specs.Numbers.{with_numbers}
 use Rattle.zlink.specs.Reads.{Reads, shape, sized_as}
-use Rattle.z80dev_laws.specs.Turns.{IsAt, jumped, branched, IsCarriedOut, IsTurnBy, Walks, Runs}
+use Rattle.z80dev_laws.specs.Turns.{IsAtStatement, jumped, branched, IsExecuted, IsTurnBy, Walks, MakesSteps}
 use Rattle.z80dev_laws.proofs.Standing.{IsThere, is_there, stands, next_place}
 
--- The machine's laws: the turn where an instruction stands is its turn, and a machine has one turn.
+-- The laws of the machine: if an instruction is at PC, the step is that of this instruction; and a machine has only one step.
 abbrev pub TurnOf : Type 0
-TurnOf = (instr : Instr) (size : ℕ) (step : Step) (old new : Machine) → StandsAtPc old instr size → IsTurn step old new ↔ IsTurnOf instr size step old new
+TurnOf = (instr : Instr) (size : ℕ) (step : Step) (old new : Machine) → StandsAtPc old instr size → IsStep step old new ↔ IsTurnOf instr size step old new
 
 abbrev pub OneTurn : Type 0
-OneTurn = (first second : Step) (old new other : Machine) → IsTurn first old new → IsTurn second old other → (first ≡ second) × (new ≡ other)
+OneTurn = (first second : Step) (old new other : Machine) → IsStep first old new → IsStep second old other → (first ≡ second) × (new ≡ other)
 
--- no spelling has more than four bytes
+-- no encoding has more than four bytes
 abbrev pub Most : Type 0
 Most = (instr : Instr) → length (canonical instr) ≤ 4
 
--- What a turn of an instruction at PC comes to.
+-- What the step of an instruction at PC leads to.
 abbrev Comes : Step → Machine → Machine → Type 0
 Comes step new to = (step ≡ Step.Done) × (new ≡ to)
 
 pub comes : TurnOf → (instr : Instr) (size : ℕ) (step : Step) (old new to : Machine) → StandsAtPc old instr size → (IsTurnOf instr size step old new ≡ Comes step new (carried_out instr size old)) → carried_out instr size old ≡ to
-    → IsTurn step old new ↔ Comes step new to
+    → IsStep step old new ↔ Comes step new to
 comes turn_of instr size step old new to s is e = (
   λ turn. let t : Comes step new (carried_out instr size old) = subst (λ T. T) is ((turn_of instr size step old new s).0 turn) in (t.0, t.1 ∙ e),
   λ t. (turn_of instr size step old new s).1 (subst (λ T. T) (sym is) (t.0, t.1 ∙ sym e)),
 )
 
--- PC behind an instruction
+-- PC after an instruction
 behind : (pc n next : ℕ) → next ≡ pc + n → next < 65536 → up_by n pc ≡ next
 behind pc n next e small = omega arith
 
@@ -69,7 +69,7 @@ leads at to (negsuc n) small e byte =
     let whole : (at + 2 + (65536 - suc n)) % 65536 ≡ to = omega arith in
     whole
 
--- a jump on a condition, PC being at the next place
+-- a jump on a condition, with PC at the next address
 chosen_by : (b : Bool) (to next : ℕ) (cpu : Cpu) → jumped_if b to (with_pc next cpu) ≡ with_pc (if b then to else next) cpu
 chosen_by true to next cpu = refl
 chosen_by false to next cpu = refl
@@ -81,7 +81,7 @@ if_not false x y = refl
 long_effect : (condition : Option ShortCond) (to n next : ℕ) (m : Machine) → up_by n m.cpu.pc ≡ next → carried_out (long_jump condition to) n m ≡ on_cpu (jumped condition to next) m
 long_effect None to n next m e = refl
 long_effect (Some condition) to n next m e =
-    ap (λ a. effect (Instr.JumpIf (widened condition) to) (on_cpu (with_pc a) m)) e
+    ap (λ a. instruction_effect (Instr.JumpIf (widened condition) to) (on_cpu (with_pc a) m)) e
     ∙ ap (λ b. machine (jumped_if b to (with_pc next m.cpu)) m.memory) (same condition m.cpu.main.flags)
     ∙ ap (λ cpu. machine cpu m.memory) (chosen_by (short_condition_holds condition m.cpu.main.flags) to next m.cpu)
   where
@@ -98,13 +98,13 @@ long_is (Some condition) to n step old new = refl
 short_effect : (branch : Branch) (e : ℤ) (to n next : ℕ) (m : Machine) → up_by n m.cpu.pc ≡ next → displaced next e ≡ to → carried_out (short_jump branch e) n m ≡ on_cpu (branched branch to next) m
 short_effect (Relative None) e to n next m here there = ap (λ a. on_cpu (with_pc a) m) (ap (λ a. displaced a e) here ∙ there)
 short_effect (Relative (Some condition)) e to n next m here there =
-    ap (λ a. effect (Instr.JumpRelativeIf condition e) (on_cpu (with_pc a) m)) here
+    ap (λ a. instruction_effect (Instr.JumpRelativeIf condition e) (on_cpu (with_pc a) m)) here
     ∙ ap (λ a. machine (jumped_if (short_condition_holds condition m.cpu.main.flags) a (with_pc next m.cpu)) m.memory) there
     ∙ ap (λ cpu. machine cpu m.memory) (chosen_by (short_condition_holds condition m.cpu.main.flags) to next m.cpu)
 short_effect CountDown e to n next m here there =
     let count : ℕ = one_less m.cpu.main.b in
     let cpu : Cpu = with_main (record m.cpu.main { b = count }) m.cpu in
-    ap (λ a. effect (Instr.Djnz e) (on_cpu (with_pc a) m)) here
+    ap (λ a. instruction_effect (Instr.Djnz e) (on_cpu (with_pc a) m)) here
     ∙ ap (λ a. machine (jumped_if (not (nat_eq count 0)) a (with_pc next cpu)) m.memory) there
     ∙ ap (λ x. machine x m.memory) (chosen_by (not (nat_eq count 0)) to next cpu)
     ∙ ap (λ a. machine (with_pc a cpu) m.memory) (if_not (nat_eq count 0) to next)
@@ -119,7 +119,7 @@ signed_of (Relative None) e h = h
 signed_of (Relative (Some condition)) e h = h
 signed_of CountDown e h = h
 
--- PC behind the statement is the next place
+-- PC after the statement is the next address
 pub moves : (file : List ℕ) (program : List Statement) (c : Choice) (k : ℕ) (s : Statement) (m : Machine) → IsThere file program c k s m →
     (up_by (size_of (c k) (sized_as s)) m.cpu.pc ≡ place c (shape program) (k + 1)) × (place c (shape program) (k + 1) ≡ place c (shape program) k + size_of (c k) (sized_as s)) × (place c (shape program) (k + 1) ≤ 64768)
 moves file program c k s m is =
@@ -130,14 +130,14 @@ moves file program c k s m is =
       omega (arith, next),
     )
 
--- the piece of statement k
+-- the bytes of statement k in the file
 abbrev piece_of : List ℕ → List Statement → Choice → ℕ → List ℕ
 piece_of file program c k = slice_range file (bytes_before c (shape program) k) (bytes_before c (shape program) (k + 1))
 
--- a turn of a short jump
+-- the step of a short jump
 short_turn : TurnOf → (file : List ℕ) (program : List Statement) (c : Choice) (k : ℕ) (s : Statement) (branch : Branch) (to : ℕ) (step : Step) (old new : Machine) → IsThere file program c k s old
-    → size_of (c k) (sized_as s) ≡ 2 → LeadsTo (place c (shape program) k) to branch (piece_of file program c k)
-    → IsTurn step old new ↔ Comes step new (on_cpu (branched branch to (place c (shape program) (k + 1))) old)
+    → size_of (c k) (sized_as s) ≡ 2 → IsShortJump (place c (shape program) k) to branch (piece_of file program c k)
+    → IsStep step old new ↔ Comes step new (on_cpu (branched branch to (place c (shape program) (k + 1))) old)
 short_turn turn_of file program c k s branch to step old new is two (e, lead, codes) =
     let move = moves file program c k s old is in
     let next : place c (shape program) (k + 1) ≡ place c (shape program) k + 2 = omega (arith, move.1, two) in
@@ -147,21 +147,21 @@ short_turn turn_of file program c k s branch to step old new is two (e, lead, co
     (short_is branch e (size_of (c k) (sized_as s)) step old new)
     (short_effect branch e to (size_of (c k) (sized_as s)) (place c (shape program) (k + 1)) old move.0 way)
 
-pub shorts : TurnOf → (file : List ℕ) (program : List Statement) (c : Choice) (k target : ℕ) (branch : Branch) (step : Step) (old new : Machine) → Reads file program c → IsValid c (shape program) → IsAt file program c k (Short branch target) old
-    → IsTurn step old new ↔ Comes step new (on_cpu (branched branch (place c (shape program) target) (place c (shape program) (k + 1))) old)
+pub shorts : TurnOf → (file : List ℕ) (program : List Statement) (c : Choice) (k target : ℕ) (branch : Branch) (step : Step) (old new : Machine) → Reads file program c → IsValid c (shape program) → IsAtStatement file program c k (Short branch target) old
+    → IsStep step old new ↔ Comes step new (on_cpu (branched branch (place c (shape program) target) (place c (shape program) (k + 1))) old)
 shorts turn_of file program c k target branch step old new reads valid at =
     let is = is_there file program c k (Short branch target) old reads valid at in
     short_turn turn_of file program c k (Short branch target) branch (place c (shape program) target) step old new is refl (is.reads.pieces k (Short branch target) is.statement)
 
-pub jumps : TurnOf → (file : List ℕ) (program : List Statement) (c : Choice) (k target : ℕ) (condition : Option ShortCond) (step : Step) (old new : Machine) → Reads file program c → IsValid c (shape program) → IsAt file program c k (Jump condition target) old
-    → IsTurn step old new ↔ Comes step new (on_cpu (jumped condition (place c (shape program) target) (place c (shape program) (k + 1))) old)
+pub jumps : TurnOf → (file : List ℕ) (program : List Statement) (c : Choice) (k target : ℕ) (condition : Option ShortCond) (step : Step) (old new : Machine) → Reads file program c → IsValid c (shape program) → IsAtStatement file program c k (Jump condition target) old
+    → IsStep step old new ↔ Comes step new (on_cpu (jumped condition (place c (shape program) target) (place c (shape program) (k + 1))) old)
 jumps turn_of file program c k target condition step old new reads valid at = by (c k) refl (reads.pieces k (Jump condition target) at.statement)
   where
     is : IsThere file program c k (Jump condition target) old
     is = is_there file program c k (Jump condition target) old reads valid at
 
     by : (b : Bool) → c k ≡ b → IsPiece (place c (shape program) k) b (place c (shape program)) (Jump condition target) (piece_of file program c k)
-        → IsTurn step old new ↔ Comes step new (on_cpu (jumped condition (place c (shape program) target) (place c (shape program) (k + 1))) old)
+        → IsStep step old new ↔ Comes step new (on_cpu (jumped condition (place c (shape program) target) (place c (shape program) (k + 1))) old)
     by true e codes =
         let three : size_of (c k) (sized_as (Jump condition target)) ≡ 3 = ap (λ b. size_of b (sized_as (Jump condition target))) e in
         let to : ℕ = place c (shape program) target in
@@ -173,13 +173,13 @@ jumps turn_of file program c k target condition step old new reads valid at = by
         let two : size_of (c k) (sized_as (Jump condition target)) ≡ 2 = ap (λ b. size_of b (sized_as (Jump condition target))) e in
         short_turn turn_of file program c k (Jump condition target) (Relative condition) (place c (shape program) target) step old new is two lead
 
--- a turn of an instruction, by where the next one is
-carried : (instr : Instr) (n next : ℕ) (step : Step) (old new : Machine) → up_by n old.cpu.pc ≡ next → IsTurnOf instr n step old new ↔ IsCarriedOut instr next step old new
+-- the step of an instruction, by the address of the next one
+carried : (instr : Instr) (n next : ℕ) (step : Step) (old new : Machine) → up_by n old.cpu.pc ≡ next → IsTurnOf instr n step old new ↔ IsExecuted instr next step old new
 carried Instr.Halt n next step old new e = (λ t. t, λ t. t)
-carried instr n next step old new e = (λ t. (t.0, t.1 ∙ ap (λ a. effect instr (on_cpu (with_pc a) old)) e), λ t. (t.0, t.1 ∙ sym (ap (λ a. effect instr (on_cpu (with_pc a) old)) e)))
+carried instr n next step old new e = (λ t. (t.0, t.1 ∙ ap (λ a. instruction_effect instr (on_cpu (with_pc a) old)) e), λ t. (t.0, t.1 ∙ sym (ap (λ a. instruction_effect instr (on_cpu (with_pc a) old)) e)))
 
-pub codes : TurnOf → Most → (file : List ℕ) (program : List Statement) (c : Choice) (k : ℕ) (instr : Instr) (numbers : List (Field × Expression Atom)) (step : Step) (old new : Machine) → Reads file program c → IsValid c (shape program) → IsAt file program c k (Code instr numbers) old
-    → IsTurn step old new ↔ IsCarriedOut (with_numbers (valued (place c (shape program)) numbers) instr) (place c (shape program) (k + 1)) step old new
+pub codes : TurnOf → Most → (file : List ℕ) (program : List Statement) (c : Choice) (k : ℕ) (instr : Instr) (numbers : List (Field × Expression Atom)) (step : Step) (old new : Machine) → Reads file program c → IsValid c (shape program) → IsAtStatement file program c k (Code instr numbers) old
+    → IsStep step old new ↔ IsExecuted (with_numbers (valued (place c (shape program)) numbers) instr) (place c (shape program) (k + 1)) step old new
 codes turn_of most file program c k instr numbers step old new reads valid at =
     let is = is_there file program c k (Code instr numbers) old reads valid at in
     let given : Instr = with_numbers (valued (place c (shape program)) numbers) instr in
@@ -188,23 +188,23 @@ codes turn_of most file program c k instr numbers step old new reads valid at =
     let same = carried given n (place c (shape program) (k + 1)) step old new (moves file program c k (Code instr numbers) old is).0 in
     (λ turn. same.0 ((turn_of given n step old new s).0 turn), λ by. (turn_of given n step old new s).1 (same.1 by))
 
--- a turn by a statement is the machine's
-pub turned : TurnOf → Most → (file : List ℕ) (program : List Statement) (c : Choice) (k : ℕ) (s : Statement) (step : Step) (old new : Machine) → Reads file program c → IsValid c (shape program) → IsAt file program c k s old
-    → IsTurnBy (place c (shape program)) k s step old new → IsTurn step old new
+-- a step by a statement is a step of the machine
+pub turned : TurnOf → Most → (file : List ℕ) (program : List Statement) (c : Choice) (k : ℕ) (s : Statement) (step : Step) (old new : Machine) → Reads file program c → IsValid c (shape program) → IsAtStatement file program c k s old
+    → IsTurnBy (place c (shape program)) k s step old new → IsStep step old new
 turned turn_of most file program c k (Code instr numbers) step old new reads valid at by = (codes turn_of most file program c k instr numbers step old new reads valid at).1 by
 turned turn_of most file program c k (Data items) step old new reads valid at by = absurd by
 turned turn_of most file program c k (Space size fill) step old new reads valid at by = absurd by
 turned turn_of most file program c k (Jump condition target) step old new reads valid at by = (jumps turn_of file program c k target condition step old new reads valid at).1 by
 turned turn_of most file program c k (Short branch target) step old new reads valid at by = (shorts turn_of file program c k target branch step old new reads valid at).1 by
 
-pub walks : TurnOf → Most → (file : List ℕ) (program : List Statement) (c : Choice) (n : ℕ) (old new : Machine) → Reads file program c → IsValid c (shape program) → Walks file program c n old new → Runs n old new
+pub walks : TurnOf → Most → (file : List ℕ) (program : List Statement) (c : Choice) (n : ℕ) (old new : Machine) → Reads file program c → IsValid c (shape program) → Walks file program c n old new → MakesSteps n old new
 walks turn_of most file program c zero old new reads valid w = w
 walks turn_of most file program c (suc n) old new reads valid (k, s, step, next, at, by, rest) =
     (step, next, turned turn_of most file program c k s step old next reads valid at by, walks turn_of most file program c n next new reads valid rest)
 
--- the machine has one state after so many turns
-pub one_run : OneTurn → (n : ℕ) (old new other : Machine) → Runs n old new → Runs n old other → new ≡ other
+-- after n steps the machine has only one state
+pub one_run : OneTurn → (n : ℕ) (old new other : Machine) → MakesSteps n old new → MakesSteps n old other → new ≡ other
 one_run one_turn zero old new other a b = a ∙ sym b
 one_run one_turn (suc n) old new other (step, next, turn, rest) (step', next', turn', rest') =
     let same = one_turn step step' old next next' turn turn' in
-    one_run one_turn n next new other rest (subst (λ m. Runs n m other) (sym same.1) rest')
+    one_run one_turn n next new other rest (subst (λ m. MakesSteps n m other) (sym same.1) rest')

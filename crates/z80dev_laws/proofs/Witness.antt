@@ -1,4 +1,4 @@
--- The premises of the laws are met: JP to itself, short, and one turn of it.
+-- The premises of the laws can be met: a short JP to itself, and one step of it.
 use Rattle.std.proofs.Common.{◌≡◌, ℕ, zero, suc, ◌+◌, false, List, [], ◌∷◌, ◌++◌, Some, None, refl, arith, inl, negsuc}
 use Rattle.std.specs.Prelude.{replicate}
 use Rattle.std.specs.List.{slice_get, slice_range}
@@ -9,7 +9,7 @@ use Rattle.zlink.specs.Reads.{Reads, shape}
 use Rattle.z80_cpu.specs.State.{Machine, machine, with_pc}
 use Rattle.z80_cpu.specs.declared.registers.Cpu.{Cpu}
 use Rattle.z80_machine.specs.Types.{Step}
-use Rattle.z80dev_laws.specs.Turns.{IsAt, Walks}
+use Rattle.z80dev_laws.specs.Turns.{IsAtStatement, Walks}
 
 abbrev c : Choice
 c k = false
@@ -45,7 +45,7 @@ valid = record { settled = settled; shorts = shorts; fits = omega arith }
     shorts zero t e = absurd cc
     shorts (suc k) t e = absurd cc
 
-is_at : (cpu : Cpu) → IsAt file program c 0 (Jump None 0) (at cpu)
+is_at : (cpu : Cpu) → IsAtStatement file program c 0 (Jump None 0) (at cpu)
 unfolding bytes_before
 is_at cpu = record { held = refl; statement = refl; pc = refl }
 

@@ -1,4 +1,4 @@
--- A source that is refused for another reason than memory has that fault.
+-- If a source is refused, and not because memory ran out, it has that error.
 use Rattle.std.proofs.Common.{◌≡◌, Bool, List, ℕ, Err, refl}
 use Rattle.std.specs.Prelude.{◌≢◌}
 use Rattle.asm_module.specs.declared.fault.AsmFault.{AsmFault}

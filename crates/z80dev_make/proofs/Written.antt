@@ -1,14 +1,14 @@
--- Objects that are written of modules are read as these modules.
+-- The object files of modules are read as these modules.
 use Rattle.std.proofs.Common.{◌≡◌, suc, List, [], ◌∷◌, Result, Ok, All, map, refl, sym, ap, ◌∙◌, arith}
 use Rattle.std.specs.List.{AllZip}
 use Rattle.zmo_module.specs.Modules.{Module}
 use Rattle.zmo_module.specs.Rules.{IsModule}
 use Rattle.zmo_object.specs.declared.fault.ObjectFault.{ObjectFault}
 use Rattle.zmo_object.specs.Reading.{read_of}
-use Rattle.zmo_object.specs.Texts.{text_of}
+use Rattle.zmo_object.specs.Texts.{module_text}
 use Rattle.z80dev_make.specs.Link.{IsObject}
 
-pub read_again : ((m : Module) → IsModule m → read_of (text_of m) ≡ Ok m) → (modules read : List Module) → All IsModule modules → AllZip IsObject (map text_of modules) read → read ≡ modules
+pub read_again : ((m : Module) → IsModule m → read_of (module_text m) ≡ Ok m) → (modules read : List Module) → All IsModule modules → AllZip IsObject (map module_text modules) read → read ≡ modules
 read_again law [] [] rules are = refl
 read_again law [] (x ∷ xs) rules are = absurd are
 read_again law (m ∷ ms) [] rules are = absurd are

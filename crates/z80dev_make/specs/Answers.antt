@@ -1,10 +1,10 @@
--- What commands that make programs answer.
+-- What the commands that make programs answer.
 use Rattle.std.specs.Prelude.{◌≡◌, ℕ, List, [], ◌∷◌, ◌++◌, Some}
 use Rattle.zlink.specs.declared.fault.LinkFault.{LinkFault}
 use Rattle.zlink.specs.declared.fault.LinkFault.TheVariants as link
 use Rattle.zlink.specs.declared.source.Source.{Source}
 use Rattle.z80dev_make.specs.declared.faults.refusal.Told.{Told}
-use Rattle.z80dev_make.specs.Faults.Refusals.{misfit_text, of_link, refusal_text}
+use Rattle.z80dev_make.specs.Faults.Refusals.{misfit_text, of_link, program_refusal_text}
 use Rattle.z80dev_finish.specs.Answers.{Answer, answer_by, nothing}
 use Rattle.z80dev_finish.specs.declared.answer.Answer as made
 use Rattle.z80dev_finish.specs.declared.answer.Kind.{Kind}
@@ -12,28 +12,28 @@ use Rattle.z80dev_finish.specs.declared.answer.Kind.TheVariants as kind
 use Rattle.z80dev_make.specs.declared.answer.SourceFile.{SourceFile}
 
 abbrev pub told_text : Told → List ℕ
-told_text told = refusal_text told.path.now told.refusal
+told_text told = program_refusal_text told.path.now told.refusal
 
--- what the code's types hold
+-- an answer of the code as definitions see it
 abbrev pub answer_of : made.Answer Told → Answer
 answer_of answer = answer_by told_text answer
 
-abbrev pub refused : Told → Answer
-refused told = nothing (told_text told)
+abbrev pub refusal_answer : Told → Answer
+refusal_answer told = nothing (told_text told)
 
--- the two texts of a program
+-- the sizes file and the certificate of a program
 abbrev pub text_files : List ℕ → List ℕ → List (Kind × List ℕ)
 text_files sizes cert = (kind.Sizes, sizes) ∷ (kind.Certificate, cert) ∷ []
 
--- .. and its file
+-- the sizes file, the certificate and the .COM file of a program
 abbrev pub program_files : List ℕ → List ℕ → List ℕ → List (Kind × List ℕ)
 program_files sizes cert file = text_files sizes cert ++ (kind.Com, file) ∷ []
 
--- what is answered where modules make no file: where no choice of jumps fits, the two texts are written all the same
+-- what is answered if modules make no program; if no choice of jumps fits, the sizes file and the certificate are written all the same
 abbrev pub no_program : LinkFault → Answer
 no_program (link.NoFit why sizes cert) = record { files = text_files sizes.items cert.items; printed = []; said = Some (misfit_text why) }
-no_program fault = nothing (refusal_text [] (of_link fault))
+no_program fault = nothing (program_refusal_text [] (of_link fault))
 
--- a source is named by its path
+-- the source is the file's text, and its name is the file's path
 abbrev pub IsSource : SourceFile → Source → Type 0
 IsSource file source = (source.name.now ≡ file.path.now) × (source.text.now ≡ file.text.now)

@@ -1,4 +1,4 @@
--- What `link` answers of objects.
+-- What `link` answers for object files.
 use Rattle.std.specs.Prelude.{◌≡◌, ◌⊎◌, ℕ, List, [], Some, None, Result, Ok, Err, slice_get, take}
 use Rattle.std.specs.List.{AllZip}
 use Rattle.zmo_module.specs.Modules.{Module}
@@ -6,7 +6,7 @@ use Rattle.zmo_object.specs.declared.fault.ObjectFault.{ObjectFault}
 use Rattle.zmo_object.specs.Reading.{read_of}
 use Rattle.zlink.specs.declared.fault.LinkFault.{LinkFault}
 use Rattle.zlink.specs.declared.linking.Linked.{Linked}
-use Rattle.zlink.specs.Linked.{IsExact, IsLinked}
+use Rattle.zlink.specs.Linked.{IsExactLink, IsLinked}
 use Rattle.z80dev_make.specs.Faults.Refusals.{object_text}
 use Rattle.z80dev_finish.specs.Answers.{Answer, nothing}
 use Rattle.z80dev_make.specs.Answers.{no_program, program_files}
@@ -15,8 +15,8 @@ use Rattle.z80dev_make.specs.Answers.{no_program, program_files}
 abbrev pub IsObject : List ℕ → Module → Type 0
 IsObject bytes m = read_of bytes ≡ Ok m
 
--- This is the fault of the first of the objects that cannot be read.
-pub record IsFirstFaulty (objects : List (List ℕ)) (fault : ObjectFault) : Type 0 where
+-- This is the error of the first of the object files that cannot be read.
+pub record IsFirstFaultyObject (objects : List (List ℕ)) (fault : ObjectFault) : Type 0 where
   pub number : ℕ
   pub before : List Module
   pub good : AllZip IsObject (take number objects) before
@@ -24,20 +24,20 @@ pub record IsFirstFaulty (objects : List (List ℕ)) (fault : ObjectFault) : Typ
   pub there : slice_get objects number ≡ Some bytes
   pub faulty : read_of bytes ≡ Err fault
 
--- the program that is linked, or why there is none
+-- the files of a program that is linked, or why there is none
 abbrev pub link_answer : Result Linked LinkFault → Answer
 link_answer (Ok l) = record { files = program_files l.sizes.items l.cert.items l.com.items; printed = []; said = None }
 link_answer (Err fault) = no_program fault
 
--- The objects are these modules, and this is what linking them answers.
+-- The object files are these modules, and this is what linking them answers.
 pub record IsLinkOf (objects : List (List ℕ)) (answer : Answer) : Type 0 where
   pub modules : List Module
   pub read : AllZip IsObject objects modules
   pub result : Result Linked LinkFault
   pub linked : IsLinked modules result
-  pub exact : IsExact modules result
+  pub exact : IsExactLink modules result
   pub answers : answer ≡ link_answer result
 
--- .. or one of them cannot be read.
+-- The answer is that of linking the object files, or the error of the first one that cannot be read.
 abbrev pub IsLink : List (List ℕ) → Answer → Type 0
-IsLink objects answer = IsLinkOf objects answer ⊎ ((fault : ObjectFault) × IsFirstFaulty objects fault × (answer ≡ nothing (object_text fault)))
+IsLink objects answer = IsLinkOf objects answer ⊎ ((fault : ObjectFault) × IsFirstFaultyObject objects fault × (answer ≡ nothing (object_text fault)))

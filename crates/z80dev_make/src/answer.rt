@@ -2,28 +2,28 @@
 
 ghost use Rattle.std.specs.Prelude.{◌≡◌, IfOk, codes, map};
 ghost use Rattle.z80dev_finish.specs.Answers.{file_of, nothing};
-ghost use Rattle.z80dev_make.specs.Answers.{answer_of, no_program, program_files, refused, text_files};
+ghost use Rattle.z80dev_make.specs.Answers.{answer_of, no_program, program_files, refusal_answer, text_files};
 
 use crate::faults::{Refusal, Told};
 use std::alloc::{AllocError, Global};
 use z80dev_finish::{Answer, Kind, NewFile};
 use zlink::LinkFault;
 
-/// A source as it was read: its path, by which it is named, and its text.
+/// A source file that was read: its path, which is its name, and its text.
 #[derive(Clone, Copy, Debug, PartialEq, Eq)]
 pub struct SourceFile<'a> {
     pub path: &'a str,
     pub text: &'a [u8],
 }
 
-/// Nothing is made.
+/// Answers a refusal.
 pub(crate) fn refused<'a>(alloc: Global, told: Told<'a>) -> Answer<Told<'a>>
-    ensures { answer_of result ≡ refused told.entry }
+    ensures { answer_of result ≡ refusal_answer told.entry }
 {
     Answer::refused(alloc, told)
 }
 
-/// Memory ran out.
+/// Answers that memory ran out.
 pub(crate) fn without_memory<'a>(alloc: Global) -> Answer<Told<'a>>
     ensures { answer_of result ≡ nothing (codes "NoMemory") }
 {
@@ -36,7 +36,7 @@ pub(crate) fn without_memory<'a>(alloc: Global) -> Answer<Told<'a>>
     )
 }
 
-/// The two texts of a program, as files.
+/// Answers the sizes file and the certificate of a program, as files.
 fn texts(alloc: Global, sizes: Vec<u8>, cert: Vec<u8>) -> Result<Vec<NewFile>, AllocError>
     ensures { IfOk result (λ files. map file_of files.items ≡ text_files sizes.items cert.items) }
 {
@@ -52,7 +52,7 @@ fn texts(alloc: Global, sizes: Vec<u8>, cert: Vec<u8>) -> Result<Vec<NewFile>, A
     Ok(files)
 }
 
-/// .. and its file.
+/// Answers the sizes file, the certificate and the .COM file of a program.
 pub(crate) fn program(
     alloc: Global,
     sizes: Vec<u8>,
@@ -69,7 +69,7 @@ pub(crate) fn program(
     Ok(files)
 }
 
-/// What is answered where modules make no file.
+/// Answers what is to be done if modules make no program.
 pub(crate) fn no_program<'a>(
     alloc: Global,
     fault: LinkFault,

@@ -1,4 +1,4 @@
-//! The command `asm`: a source becomes an object.
+//! The command `asm`: assembles a source to an object file.
 
 ghost use Rattle.std.specs.Prelude.{◌≡◌, IfOk};
 ghost use Rattle.zmo_module.specs.Modules.{module_of};
@@ -14,7 +14,7 @@ use std::alloc::{AllocError, Global};
 use z80dev_finish::{Answer, Kind, NewFile};
 use zmo_object::write;
 
-/// The object of a module, as an answer.
+/// Answers the object file of a module.
 fn object_of<'a>(alloc: Global, module: &Module) -> Result<Answer<Told<'a>>, AllocError>
     requires { IsModule (module_of «module».now) }
     ensures { IfOk result (λ answer. answer_of answer ≡ object_answer (module_of «module».now)) }
@@ -28,7 +28,7 @@ fn object_of<'a>(alloc: Global, module: &Module) -> Result<Answer<Told<'a>>, All
     Ok(Answer::done(files, Vec::new(alloc)))
 }
 
-/// The object of a source, or what is said of its fault.
+/// Answers the object file of a source, or its first error.
 fn assembled<'a>(
     alloc: Global,
     file: SourceFile<'a>,
@@ -52,9 +52,9 @@ fn assembled<'a>(
     }
 }
 
-/// Assembles a source, and answers its object. Where `grow` says so, a written `JR` may become a `JP` when it is linked.
+/// Assembles a source, and answers its object file. If `grow` is true, a written `JR` may become a `JP` when it is linked.
 ///
-/// A source that has a fault is refused with the first.
+/// A source that has an error is refused with its first one.
 pub fn asm<'a>(alloc: Global, file: SourceFile<'a>, grow: bool) -> Answer<Told<'a>>
     ensures { MemoryAside (IsAsm file.entry grow) (answer_of result) }
 {

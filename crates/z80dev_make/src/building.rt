@@ -1,4 +1,4 @@
-//! The command `build`: sources become a program.
+//! The command `build`: builds a program from sources.
 
 ghost use Rattle.std.specs.Prelude.{◌≡◌, IfOk, Ok, false, slice_get, string_bytes, true};
 ghost use Rattle.std.specs.List.{AllZip};
@@ -14,7 +14,7 @@ use z80dev_finish::{Answer, Kind, NewFile};
 use zlink::{BuildFault, Built, Origin, Source, build_with};
 use zlisting::{listing, symbols};
 
-/// The sources, each named by its path.
+/// Answers the sources, whose names are their paths.
 fn sources_of<'a>(alloc: Global, files: &[SourceFile<'a>]) -> Result<Vec<Source<'a>>, AllocError>
     ensures { IfOk result (λ sources. AllZip IsSource files.now sources.items) }
 {
@@ -28,7 +28,7 @@ fn sources_of<'a>(alloc: Global, files: &[SourceFile<'a>]) -> Result<Vec<Source<
     Ok(sources)
 }
 
-/// The path of a source, by its number.
+/// Answers the path of a source, given its number.
 fn path_at<'a>(files: &[SourceFile<'a>], number: usize) -> &'a str
     ensures { result.now ≡ path_at files.now number }
 {
@@ -38,7 +38,7 @@ fn path_at<'a>(files: &[SourceFile<'a>], number: usize) -> &'a str
     }
 }
 
-/// A jump that was written as a `JR` and had to grow, as it is printed.
+/// A jump that was written as `JR` and had to grow, as it is printed.
 #[derive(Clone, Copy)]
 struct Grown<'a> {
     path: &'a str,
@@ -58,7 +58,7 @@ impl fmt::Display for Grown<'_> {
     }
 }
 
-/// The line of a jump that had to grow, by its number.
+/// Answers the line of the jump with this number, which had to grow.
 fn line_of(
     alloc: Global,
     files: &[SourceFile<'_>],
@@ -79,7 +79,7 @@ fn line_of(
     }
 }
 
-/// .. of all.
+/// Answers these lines for all jumps that grew.
 fn grown_lines(
     alloc: Global,
     files: &[SourceFile<'_>],
@@ -95,7 +95,7 @@ fn grown_lines(
     Ok(lines)
 }
 
-/// The program as an answer.
+/// Answers the files of a program.
 fn plain<'a>(
     alloc: Global,
     files: &[SourceFile<'a>],
@@ -109,7 +109,7 @@ fn plain<'a>(
     Ok(Answer::done(made, printed))
 }
 
-/// .. with its listing and its labels.
+/// Answers the files of a program, with its listing and its labels.
 fn listed<'a>(
     alloc: Global,
     files: &[SourceFile<'a>],
@@ -133,7 +133,7 @@ fn listed<'a>(
     Ok(Answer::done(made, printed))
 }
 
-/// What is answered of what building answers.
+/// Answers what is to be done, given the result of building.
 fn answered<'a>(
     alloc: Global,
     files: &[SourceFile<'a>],
@@ -160,16 +160,16 @@ fn answered<'a>(
     }
 }
 
-/// What building answers.
+/// What `build` answers.
 #[derive(Debug, Drop)]
 pub struct Made<'a> {
     /// What is to be done.
     pub answer: Answer<Told<'a>>,
-    /// The jumps of the program, where there is one.
+    /// The jumps of the program, if there is one.
     pub jumps: Option<Jumps>,
 }
 
-/// The program of sources, or what is said of their fault.
+/// Answers the program of sources, or why there is none.
 fn built<'a>(
     alloc: Global,
     files: &[SourceFile<'a>],
@@ -185,11 +185,12 @@ fn built<'a>(
     Ok(Made { answer, jumps })
 }
 
-/// Builds the program of sources in their order, and answers it with its two texts, and, where `list` says so, with its listing and its
-/// labels. Where `grow` says so, a written `JR` may become a `JP`, and a line tells of each that did, in their order: `grown PATH(LINE)`.
-/// How many jumps are short and long stands beside the answer.
+/// Builds the program of sources in their order, and answers it with its sizes file and certificate; and if `list` is true, with its
+/// listing and its labels. If `grow` is true, a written `JR` may become a `JP`, and a line `grown PATH(LINE)` is printed for each that did,
+/// in their order. [`Made`] also has how many jumps are short and long.
 ///
-/// Where no choice of short and long jumps fits, the two texts are answered and the reason is said. Any other fault is said alone.
+/// If no choice of short and long jumps fits, the sizes file and the certificate are answered, and the reason is reported. Any other error
+/// is reported without files.
 pub fn build<'a>(alloc: Global, files: &[SourceFile<'a>], grow: bool, list: bool) -> Made<'a>
     ensures { IsMade files.now grow list (answer_of result.answer) result.jumps }
 {

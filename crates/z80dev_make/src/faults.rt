@@ -1,4 +1,4 @@
-//! The faults of sources, objects and modules as the command prints them.
+//! Names the errors of sources, object files and modules as the command prints them.
 
 mod names;
 mod refusal;

@@ -1,4 +1,4 @@
-//! How many jumps of a program are short, and how many long.
+//! Counts how many jumps of a program are short and how many are long.
 
 ghost use Rattle.std.specs.Prelude.{◌≡◌, ◌≤◌};
 ghost use Rattle.z80dev_make.specs.Jumps.{begins_line, jumps_in, jumps_of, lines_with};
@@ -8,14 +8,14 @@ use zlink::{BuildFault, Built};
 
 const LF: u8 = 0x0A;
 
-/// The jumps of a program of which there is a form with two bytes and one with three.
+/// The relaxable jumps of a program.
 #[derive(Clone, Copy, Debug, PartialEq, Eq)]
 pub struct Jumps {
     pub short: usize,
     pub long: usize,
 }
 
-/// As it is said: each short jump saves a byte against a program whose jumps are all long.
+/// How the jumps are printed. Each short jump saves a byte, compared with a program whose jumps are all long.
 impl fmt::Display for Jumps {
     ghost use Rattle.std.specs.Prelude.{Some};
     ghost use Rattle.z80dev_make.specs.Jumps.{jumps_text};
@@ -29,7 +29,7 @@ impl fmt::Display for Jumps {
     }
 }
 
-/// 1 where a line begins with the letter behind a byte, by what stands there.
+/// Answers 1 if `byte` is a line feed and the next byte is this letter, otherwise 0.
 fn begins_line(letter: u8, byte: u8, rest: &[u8]) -> usize
     ensures count { result ≡ begins_line letter byte rest.now }
     ensures bound { result ≤ 1 }
@@ -40,7 +40,7 @@ fn begins_line(letter: u8, byte: u8, rest: &[u8]) -> usize
     }
 }
 
-/// How many lines of a text, its first aside, begin with a letter.
+/// Answers how many lines of a file begin with a letter, without counting its first line.
 fn lines_with(letter: u8, text: &[u8]) -> usize
     ensures { result ≡ lines_with letter text.now }
 {
@@ -53,7 +53,7 @@ fn lines_with(letter: u8, text: &[u8]) -> usize
     count
 }
 
-/// The jumps of a program, by its sizes text and its certificate.
+/// Answers the jumps of a program, counted in its sizes file and its certificate.
 fn jumps_in(sizes: &[u8], cert: &[u8]) -> Jumps
     ensures { result ≡ jumps_in sizes.now cert.now }
 {
@@ -62,7 +62,7 @@ fn jumps_in(sizes: &[u8], cert: &[u8]) -> Jumps
     Jumps { short, long }
 }
 
-/// .. of a program that was built.
+/// Answers the jumps of a program that was built.
 pub(crate) fn jumps_of(building: &Result<Built, BuildFault>) -> Option<Jumps>
     ensures { result ≡ jumps_of building.now }
 {

@@ -1,7 +1,7 @@
-//! What the commands that make files of sources and objects do with what they read.
+//! What the commands `asm`, `link` and `build` make from the files that they read.
 //!
-//! [`asm`], [`link`] and [`build`] take what stands in the files and answer which files are to be written, what is printed then,
-//! and why there is no file. [`Told`] prints why there is none.
+//! [`asm`], [`link`] and [`build`] take the content of files. They answer which files are to be written and what is to be printed, and if
+//! there is no file, why. [`Told`] prints why.
 #![tactic(auto)]
 
 mod answer;

@@ -1,4 +1,4 @@
-//! The command `link`: objects become a program.
+//! The command `link`: links object files to a program.
 
 ghost use Rattle.std.specs.Prelude.{◌≡◌, IfOk, map};
 ghost use Rattle.z80dev_finish.specs.Answers.{MemoryAside};
@@ -13,7 +13,7 @@ use z80dev_finish::Answer;
 use zlink::{LinkFault, Linked, Module, link as link_modules};
 use zmo_object::{ObjectFault, read};
 
-/// The modules of objects, or the fault of the first that is none.
+/// Answers the modules of object files, or the error of the first that cannot be read.
 fn read_all(alloc: Global, objects: &[Vec<u8>]) -> Result<Vec<Module>, ObjectFault>
     ensures { AreRead (map (λ o. o.items) objects.now) result }
 {
@@ -27,7 +27,7 @@ fn read_all(alloc: Global, objects: &[Vec<u8>]) -> Result<Vec<Module>, ObjectFau
     Ok(modules)
 }
 
-/// What is answered of what linking answers.
+/// Answers what is to be done, given the result of linking.
 fn answered(
     alloc: Global,
     linking: Result<Linked, LinkFault>,
@@ -43,7 +43,7 @@ fn answered(
     }
 }
 
-/// The program of objects, or what is said of their fault.
+/// Answers the program of object files, or why there is none.
 fn linked(alloc: Global, objects: &[Vec<u8>]) -> Result<Answer<Told<'static>>, AllocError>
     ensures { IfOk result (λ answer. IsLink (map (λ o. o.items) objects.now) (answer_of answer)) }
 {
@@ -59,10 +59,10 @@ fn linked(alloc: Global, objects: &[Vec<u8>]) -> Result<Answer<Told<'static>>, A
     Ok(answer)
 }
 
-/// Links objects in their order, and answers the program with its two texts.
+/// Links object files in their order, and answers the program with its sizes file and certificate.
 ///
-/// Where no choice of short and long jumps fits, the two texts are answered and the reason is said. Any other fault is said alone:
-/// that of the first object that cannot be read, else the first of the modules together.
+/// If no choice of short and long jumps fits, the sizes file and the certificate are answered, and the reason is reported. Any other error
+/// is reported without files: that of the first object file that cannot be read, otherwise the first of the modules together.
 pub fn link(alloc: Global, objects: &[Vec<u8>]) -> Answer<Told<'static>>
     ensures { MemoryAside (IsLink (map (λ o. o.items) objects.now)) (answer_of result) }
 {

@@ -1,4 +1,5 @@
-//! Tries as many random programs as its second word says, from the seed on that its first word says, and prints which of them differ.
+//! Tries random programs, and prints which of them differ. The first word of the command line is the first seed, and the second how many
+//! to try.
 #![tactic(auto)]
 
 use anyhow::Context;
@@ -6,7 +7,7 @@ use std::env;
 use std::io::Write;
 use z80dev_case_checks::{Tally, try_program};
 
-/// The number that a word is.
+/// A word as a number.
 fn number_of(word: Option<String>) -> Result<u64, anyhow::Error> {
     let word = word.context("two words are wanted: the first seed, and how many")?;
     Ok(word.as_str().parse::<u64>()?)

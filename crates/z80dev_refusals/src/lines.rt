@@ -1,11 +1,11 @@
-//! Calls of a line.
+//! Makes calls that take a line.
 
 use asm_scan::tokens;
 use asm_spell::{Body, Line, statement};
 use std::alloc::Global;
 use std::io::Write;
 
-/// Writes how many tokens a line has, or its fault.
+/// Writes the number of tokens in a line, or its error.
 pub(crate) fn answer_tokens<W: Write>(
     alloc: Global,
     out: &mut W,
@@ -17,7 +17,7 @@ pub(crate) fn answer_tokens<W: Write>(
     }
 }
 
-/// Writes what a word with its operands is, and how many there are of what it has.
+/// Writes what a word with its operands is, and how many numbers, items or the like it has.
 fn show_body<W: Write>(out: &mut W, body: &Body) -> Result<(), anyhow::Error> {
     match body {
         Body::Code { instr, numbers } => write!(out, "{instr} of {}", numbers.as_slice().len())?,
@@ -44,7 +44,7 @@ fn show_line<W: Write>(out: &mut W, line: &Line) -> Result<(), anyhow::Error> {
     }
 }
 
-/// Writes what a line spells, or its fault.
+/// Writes what a line is, or its error.
 pub(crate) fn answer_statement<W: Write>(
     alloc: Global,
     out: &mut W,

@@ -1,6 +1,7 @@
-//! Makes calls that allocate, each twice in a row, and prints what each answers: for refusing each allocation in turn.
+//! Makes calls that allocate memory, each twice in a row, and prints what each answers. A test runs it and refuses each allocation in
+//! turn.
 //!
-//! A line of standard input has the name of a call and a text, in which `\` ends a line. Printed are the line and both answers.
+//! A line of standard input has the name of a call and a text, in which `\` ends a line. The program prints the line and both answers.
 #![tactic(auto)]
 
 mod lines;
@@ -40,7 +41,7 @@ fn answer<W: Write>(
     }
 }
 
-/// A text with an end of line for each `\`.
+/// The text, with a line feed for each `\`.
 fn text_of(alloc: Global, text: &str) -> Result<Vec<u8>, anyhow::Error> {
     let mut bytes = Vec::new(alloc);
     for byte in text.as_bytes() {

@@ -1,4 +1,4 @@
-//! Calls of a source text.
+//! Makes calls that take a source.
 
 ghost use Rattle.zmo_module.specs.Modules.{module_of};
 ghost use Rattle.zmo_module.specs.Rules.{IsModule};
@@ -49,7 +49,7 @@ fn stays_stopped(expander: &mut Expander<'_>, number: u32, why: MacroFault) -> b
     }
 }
 
-/// What a call of an expander came to.
+/// What a call of an expander did.
 enum Step {
     Line,
     Over,
@@ -68,7 +68,7 @@ fn show_next<W: Write>(out: &mut W, expander: &mut Expander<'_>) -> Result<Step,
     }
 }
 
-/// Writes the next line of an expansion, or why it stops, if it says so again. False where no line came.
+/// Writes the next line of an expansion, or why it stops, provided that a second call says the same. False if there was no line.
 fn advance<W: Write>(out: &mut W, expander: &mut Expander<'_>) -> Result<bool, anyhow::Error> {
     match show_next(out, expander)? {
         Step::Line => return Ok(true),
@@ -84,7 +84,7 @@ fn advance<W: Write>(out: &mut W, expander: &mut Expander<'_>) -> Result<bool, a
     Ok(false)
 }
 
-/// Writes the lines that an expander gives one after the other, not more than a hundred.
+/// Writes the lines that an expander gives, one after the other, at most a hundred.
 fn show_lines<W: Write>(out: &mut W, expander: &mut Expander<'_>) -> Result<(), anyhow::Error> {
     for _ in 0..100 {
         if !advance(out, expander)? {
@@ -94,7 +94,7 @@ fn show_lines<W: Write>(out: &mut W, expander: &mut Expander<'_>) -> Result<(), 
     Ok(())
 }
 
-/// Writes the lines of an expansion, each as it comes.
+/// Writes the lines of an expansion, each when it is given.
 pub(crate) fn answer_next<W: Write>(
     alloc: Global,
     out: &mut W,
@@ -104,7 +104,7 @@ pub(crate) fn answer_next<W: Write>(
     show_lines(out, &mut expander)
 }
 
-/// Writes of how many statements a module is, and of how many bytes its object. The object is read and written anew.
+/// Writes the number of statements in a module and of bytes in its object file. The object file is read and written again.
 fn show_module<W: Write>(alloc: Global, out: &mut W, module: &Module) -> Result<(), anyhow::Error>
     requires { IsModule (module_of «module».now) }
 {
@@ -123,7 +123,7 @@ fn show_module<W: Write>(alloc: Global, out: &mut W, module: &Module) -> Result<
     }
 }
 
-/// Writes what a source text comes to, where a written `JR` may grow.
+/// Writes what a source assembles to, if a written `JR` may become a `JP`.
 pub(crate) fn answer_assemble<W: Write>(
     alloc: Global,
     out: &mut W,

@@ -1,4 +1,4 @@
-//! Calls of an expression.
+//! Makes calls that take an expression.
 
 use crate::table::table;
 use asm_expr::{Names, Room, Settled, Tree, constant, is_defined, items, parse, settle};
@@ -6,7 +6,7 @@ use asm_scan::tokens;
 use std::alloc::Global;
 use std::io::Write;
 
-/// The tree of an expression, or None, where why there is none is written.
+/// The tree of an expression; None after it has written why there is none.
 fn tree_of<W: Write>(
     alloc: Global,
     out: &mut W,
@@ -22,7 +22,7 @@ fn tree_of<W: Write>(
     Ok(None)
 }
 
-/// Writes how many items an expression has, or its fault.
+/// Writes the number of items in an expression, or its error.
 pub(crate) fn answer_parse<W: Write>(
     alloc: Global,
     out: &mut W,
@@ -34,7 +34,7 @@ pub(crate) fn answer_parse<W: Write>(
     Ok(())
 }
 
-/// Writes the number of an expression, or of how many items it is made; or its fault.
+/// Writes the value of an expression, or the number of its items, or its error.
 fn show_settled<W: Write>(
     alloc: Global,
     out: &mut W,
@@ -55,7 +55,7 @@ fn show_settled<W: Write>(
     Ok(())
 }
 
-/// Writes what names make of an expression.
+/// Writes an expression after its names are replaced.
 pub(crate) fn answer_settle<W: Write>(
     alloc: Global,
     out: &mut W,

@@ -1,4 +1,4 @@
-//! Values that are lent, and go on after a refusal: a table of names, and a ruler.
+//! Calls that change a value and are made again after a refusal: of a table of names, and of a ruler.
 
 ghost use Rattle.asm_expr.specs.Names.{IsCounted};
 
@@ -40,7 +40,7 @@ fn give_names(alloc: Global, names: &mut Names) -> Result<(), AllocError> {
     give(alloc, names, b"K", Meaning::Constant(5))
 }
 
-/// The labels X, Y and W, of which the last is behind a jump, the external AWAY, and K, which is 5. `$` is the place of Y.
+/// A table with the labels X, Y and W, the last after a jump, the external AWAY, and K, which is 5. `$` is the address of Y.
 pub(crate) fn table(alloc: Global) -> Result<Names, AllocError> {
     let mut names = Names::new(alloc);
     pass_statements(&mut names)?;
@@ -49,7 +49,7 @@ pub(crate) fn table(alloc: Global) -> Result<Names, AllocError> {
     Ok(names)
 }
 
-/// Defines a name; again, where memory is refused. False where a refused call changed the table.
+/// Defines a name, and tries again if memory runs out. False if the refused call changed the table.
 fn define_surely(alloc: Global, names: &mut Names, name: &[u8]) -> Result<bool, AllocError> {
     let first = Vec::from_slice(alloc, name)?;
     let again = Vec::from_slice(alloc, name)?;
@@ -63,7 +63,7 @@ fn define_surely(alloc: Global, names: &mut Names, name: &[u8]) -> Result<bool, 
     Ok(true)
 }
 
-/// Passes a statement; again, where memory is refused.
+/// Passes a statement, and tries again if memory runs out.
 fn pass_surely(names: &mut Names, size: u16) -> Result<(), AllocError> {
     match names.pass_fixed(size) {
         Ok(()) => Ok(()),
@@ -71,8 +71,8 @@ fn pass_surely(names: &mut Names, size: u16) -> Result<(), AllocError> {
     }
 }
 
-/// Defines each name of a text and passes a statement for each, a byte longer than the one before it, so that one which a refused call
-/// left would move the others; None where a refused call changed the table.
+/// Defines each name of a text and passes a statement for each, one byte longer than the one before it: a statement that a refused call
+/// leaves in the table would move the others. None if a refused call changed the table.
 fn names_of(alloc: Global, text: &[u8]) -> Result<Option<Names>, AllocError> {
     let mut names = Names::new(alloc);
     let mut size: u16 = 0;
@@ -86,7 +86,7 @@ fn names_of(alloc: Global, text: &[u8]) -> Result<Option<Names>, AllocError> {
     Ok(Some(names))
 }
 
-/// Writes how many of the names of a text stand in their table, and how many bytes its statements have.
+/// Writes how many names of a text are in their table, and how many bytes its statements have.
 pub(crate) fn answer_names<W: Write>(
     alloc: Global,
     out: &mut W,
@@ -111,7 +111,7 @@ pub(crate) fn answer_names<W: Write>(
     Ok(())
 }
 
-/// Which jumps become long, in their order: one of the two is pushed out by the other. Where memory is refused, the same ruler grows again.
+/// The jumps that become long, in their order: one of the two makes the other long. If memory runs out, the same ruler grows again.
 fn grown(alloc: Global) -> Result<Vec<u32>, AllocError> {
     let statements = [Jump(3), Fixed(125), Jump(4), Fixed(128), Fixed(1)];
     if !Shape::is_shape(&statements) {
@@ -125,7 +125,7 @@ fn grown(alloc: Global) -> Result<Vec<u32>, AllocError> {
     }
 }
 
-/// Writes which jumps become long.
+/// Writes the jumps that become long.
 pub(crate) fn answer_grow<W: Write>(alloc: Global, out: &mut W) -> Result<(), anyhow::Error> {
     match grown(alloc) {
         Ok(order) => {

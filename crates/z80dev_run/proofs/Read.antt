@@ -1,4 +1,4 @@
--- A run of what was read.
+-- A run of what the command has read.
 use Rattle.std.proofs.Common.{◌≡◌, ℕ, List, subst}
 use Rattle.cpm_console.specs.Dialog.{Dialog}
 use Rattle.cpm_disk.specs.Calls.{Mounted}
@@ -10,6 +10,6 @@ module _ (faults : Image → ℕ) (disk : Mounted Image) (steps : ℕ) (end : Wh
   abbrev Run : List ℕ → List (List ℕ) → Dialog → Type 0
   Run file words console = IsRun (λ sectors. sectors) faults (λ dialog. dialog) file words disk console steps end turns pc left kept
 
-  -- by the program, the words and the console that were meant
+  -- the same run, for an equal program, equal words and an equal console
   pub as_read : (file program : List ℕ) (words meant : List (List ℕ)) (console given : Dialog) → file ≡ program → words ≡ meant → console ≡ given → Run file words console → Run program meant given
   as_read file program words meant console given d e f run = subst (λ c. Run program meant c) f (subst (λ w. Run program w console) e (subst (λ p. Run p words console) d run))

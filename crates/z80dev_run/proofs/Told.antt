@@ -1,9 +1,9 @@
--- How the line of a run that stopped is told.
+-- How the line of a run that stopped is written.
 use Rattle.std.proofs.Common.{◌≢◌, ℕ, refl}
 use Rattle.streams.specs.Stream.{Stream}
 use Rattle.cpm_run.specs.declared.ending.Why.{Why}
-use Rattle.z80dev_run.specs.Ending.{Concludes, Tells}
+use Rattle.z80dev_run.specs.Ending.{Concludes, TellsStop}
 
-pub concluded : (end : Why) (pc : ℕ) (old new : Stream) → end ≢ Why.Finished → Tells end pc old new → Concludes end pc old new 1
+pub concluded : (end : Why) (pc : ℕ) (old new : Stream) → end ≢ Why.Finished → TellsStop end pc old new → Concludes end pc old new 1
 concluded Why.Finished pc old new other tells = absurd (other refl)
 concluded end pc old new other tells = (refl, tells)

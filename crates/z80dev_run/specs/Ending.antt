@@ -1,4 +1,4 @@
--- How the command `run` ends once the image is written.
+-- How the command `run` ends after the image is written.
 use Rattle.std.specs.Prelude.{◌≡◌, ◌⊎◌, ℕ, List, Result, codes}
 use Rattle.streams.specs.Stream.{Stream}
 use Rattle.streams.specs.Writing.{Puts, error_line}
@@ -7,15 +7,15 @@ use Rattle.cpm_run.specs.declared.ending.Why.{Why}
 use Rattle.cpm_run.specs.declared.ending.Why.TheVariants as why
 use Rattle.z80dev_run.specs.Stopped.{stopped_line}
 
--- These bytes were put, whatever came of it: all of them are written, or a front of them and the stream failed.
+-- These bytes were put: all of them are written, or the stream failed and only the first of them are.
 abbrev pub WerePut : Stream → Stream → List ℕ → Type 0
 WerePut old new bytes = (result : Result Unit WriteFailed) × Puts old new bytes result
 
--- the line of why a run stopped, or that memory ran out for it
-abbrev pub Tells : Why → ℕ → Stream → Stream → Type 0
-Tells end pc old new = WerePut old new (stopped_line end pc) ⊎ WerePut old new (error_line (codes "NoMemory"))
+-- the line that says why a run stopped was put, or the one that memory ran out for it
+abbrev pub TellsStop : Why → ℕ → Stream → Stream → Type 0
+TellsStop end pc old new = WerePut old new (stopped_line end pc) ⊎ WerePut old new (error_line (codes "NoMemory"))
 
--- Status 0 and not a write if the program finished; else status 1 and one line.
+-- Status 0 and no line if the program finished, otherwise status 1 and one line.
 abbrev pub Concludes : Why → ℕ → Stream → Stream → ℕ → Type 0
 Concludes why.Finished pc old new status = (status ≡ 0) × (new ≡ old)
-Concludes end pc old new status = (status ≡ 1) × Tells end pc old new
+Concludes end pc old new status = (status ≡ 1) × TellsStop end pc old new

@@ -1,4 +1,4 @@
--- What the command `run` does with what it has read.
+-- What the command `run` does with the bytes of its files and of standard input.
 use Rattle.std.specs.Prelude.{◌≡◌, ℕ, List, Ok, map}
 use Rattle.std.specs.List.{concat}
 use Rattle.streams.specs.Stream.{Stream}
@@ -11,15 +11,15 @@ use Rattle.z80dev_disk.specs.Disks.{IsMounted}
 use Rattle.z80dev_run.specs.Input.{typed}
 use Rattle.z80dev_run.specs.declared.running.Ready.{Ready}
 
--- What is ready to run: the program and its words, the disk whose image the bytes are, and what is typed by the bytes of standard input.
-pub record IsReady (program : List ℕ) (words : List (List ℕ)) (image input : List ℕ) (ready : Ready) : Type 0 where
+-- A program that is ready to run: the program and its words, the disk with this image, and what is typed according to standard input.
+pub record IsReadyToRun (program : List ℕ) (words : List (List ℕ)) (image input : List ℕ) (ready : Ready) : Type 0 where
   pub program_is : ready.program.now ≡ program
   pub words_are : map (λ w. w.now) ready.words.items ≡ words
   pub disk_is : IsMounted image (Ok ready.disk)
   pub typed_is : ready.typed.items ≡ typed input
 
--- The program is run with its words on the disk whose image the bytes are, with what is typed and a console that begins with the bytes and
--- the failures of a stream. The image is that of the disk then, and the stream has the output and the faults of the console.
+-- The program was run with its words on the disk with this image, with what is typed, and with a console that begins with the bytes and
+-- the failures of a stream. `left` is the image of the disk at the end, and the stream then has the output and the faults of the console.
 abbrev pub IsRan : List ℕ → List (List ℕ) → List ℕ → List ℕ → Stream → ℕ → Why → ℕ → ℕ → List ℕ → Stream → Type 0
 IsRan file words image input before steps end turns pc left after =
     (disk : Mounted Image) × (then : Mounted Image) × (console : Dialog) × IsMounted image (Ok disk)

@@ -1,4 +1,4 @@
--- The line of a run that has not finished.
+-- The line that says why a run has not finished.
 use Rattle.std.specs.Prelude.{ℕ, ◌/◌, ◌%◌, List, [], ◌∷◌, ◌++◌, codes, decimal}
 use Rattle.hex.specs.Hex.{encode_upper}
 use Rattle.cpm_fcb.specs.declared.stop.Stop.{Stop}
@@ -16,17 +16,17 @@ stop_name stop.UnknownDrive = codes "UnknownDrive"
 stop_name stop.ConsoleFault = codes "ConsoleFault"
 stop_name (stop.UnsupportedBios n) = codes "UnsupportedBios(" ++ decimal n ++ codes ")"
 
--- a stop by its own name
-abbrev pub why_name : Why → List ℕ
-why_name why.Finished = codes "Finished"
-why_name why.Halted = codes "Halted"
-why_name why.Undocumented = codes "Undocumented"
-why_name why.TurnLimit = codes "TurnLimit"
-why_name (why.Stopped stop) = stop_name stop
-why_name why.ComTooLong = codes "ComTooLong"
-why_name why.TailTooLong = codes "TailTooLong"
-why_name why.NoMemory = codes "NoMemory"
+-- the reason for the end of a run, as it is printed; a stop of a system call has its own name
+abbrev pub end_name : Why → List ℕ
+end_name why.Finished = codes "Finished"
+end_name why.Halted = codes "Halted"
+end_name why.Undocumented = codes "Undocumented"
+end_name why.TurnLimit = codes "TurnLimit"
+end_name (why.Stopped stop) = stop_name stop
+end_name why.ComTooLong = codes "ComTooLong"
+end_name why.TailTooLong = codes "TailTooLong"
+end_name why.NoMemory = codes "NoMemory"
 
--- `stopped: WHY at PPPP`, the place in four hexadecimal digits
+-- `stopped: WHY at PPPP`, with the address in four hexadecimal digits
 abbrev pub stopped_line : Why → ℕ → List ℕ
-stopped_line why pc = codes "stopped: " ++ why_name why ++ codes " at " ++ encode_upper (pc / 256 ∷ pc % 256 ∷ []) ++ 10 ∷ []
+stopped_line why pc = codes "stopped: " ++ end_name why ++ codes " at " ++ encode_upper (pc / 256 ∷ pc % 256 ∷ []) ++ 10 ∷ []

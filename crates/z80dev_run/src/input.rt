@@ -1,4 +1,4 @@
-//! What is typed.
+//! The bytes that the program gets as typed.
 
 ghost use Rattle.std.specs.Prelude.{◌≡◌, IfOk, option_to_list};
 ghost use Rattle.z80dev_run.specs.Input.{begins_line_feed, typed, typed_byte};
@@ -9,7 +9,7 @@ const CR: u8 = 0x0D;
 
 const LF: u8 = 0x0A;
 
-/// What a byte is, by those behind it.
+/// What a byte becomes, given the bytes after it; `None` for a CR before an LF.
 fn typed_byte(byte: u8, rest: &[u8]) -> Option<u8>
     ensures { option_to_list result ≡ typed_byte byte rest.now }
 {
@@ -31,7 +31,7 @@ fn begins_line_feed(bytes: &[u8]) -> bool
     }
 }
 
-/// The bytes of standard input as they are typed: CR LF and LF are one CR.
+/// Converts standard input to what is typed: each CR LF and each LF becomes one CR.
 pub(crate) fn typed(alloc: Global, bytes: &[u8]) -> Result<Vec<u8>, AllocError>
     ensures { IfOk result (λ typed_bytes. typed_bytes.items ≡ typed bytes.now) }
 {

@@ -1,4 +1,4 @@
-//! What the command `run` does with the bytes that it has read.
+//! What the command `run` does with the bytes of its files and of standard input.
 #![tactic(auto)]
 
 mod ending;

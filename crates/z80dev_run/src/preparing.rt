@@ -1,9 +1,9 @@
-//! What a program needs before it runs.
+//! Prepares a program to run.
 
 ghost use Rattle.std.specs.Prelude.{◌≡◌, ◌≢◌, Err, IfErr, IfOk, map};
 ghost use Rattle.z80dev_disk.specs.Disks.{IsMounted};
 ghost use Rattle.z80dev_disk.specs.declared.refusal.Refusal.TheVariants as refusal;
-ghost use Rattle.z80dev_run.specs.Program.{IsReady};
+ghost use Rattle.z80dev_run.specs.Program.{IsReadyToRun};
 
 use crate::input::typed;
 use crate::running::Ready;
@@ -21,12 +21,12 @@ fn bytes_of<'a>(alloc: Global, words: &[&'a str]) -> Result<Vec<&'a [u8]>, Alloc
     Ok(bytes)
 }
 
-/// Makes a program ready to run with its words on the disk whose image is given. An image without bytes is a blank eight inch disk. What
-/// is typed is `input`, in which CR LF and LF are one CR.
+/// Prepares a program to run with its words on the disk of an image. An image without bytes is an empty eight inch disk. `input` is what
+/// is typed, with CR LF and LF as one CR.
 ///
 /// # Errors
 ///
-/// Those of the image: it is not one, or its directory breaks a rule; or memory ran out. Nothing has run then, and nothing is printed.
+/// Those of the image: it is not one, or its directory breaks a rule; or memory ran out. Then nothing runs and nothing is printed.
 pub fn ready<'p, 'w>(
     alloc: Global,
     program: &'p [u8],
@@ -34,7 +34,7 @@ pub fn ready<'p, 'w>(
     image: &[u8],
     input: &[u8],
 ) -> Result<Ready<'p, 'w>, Refusal>
-    ensures ready { IfOk result (IsReady program.now (map (λ w. w.now) words.now) image.now input.now) }
+    ensures ready { IfOk result (IsReadyToRun program.now (map (λ w. w.now) words.now) image.now input.now) }
     ensures refused { IfErr result (λ why. why ≢ refusal.NoMemory → IsMounted image.now (Err why)) }
 {
     Ok(Ready {

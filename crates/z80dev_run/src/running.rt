@@ -1,8 +1,8 @@
-//! A program that is run.
+//! Runs a program.
 
 ghost use Rattle.std.specs.Prelude.{◌≡◌, ℕ, List};
 ghost use Rattle.std.specs.List.{concat};
-ghost use Rattle.z80dev_run.specs.Program.{IsRan, IsReady};
+ghost use Rattle.z80dev_run.specs.Program.{IsRan, IsReadyToRun};
 
 use cpm_console::StreamConsole;
 use cpm_disk::Disk;
@@ -15,18 +15,19 @@ use streams::Sink;
 #[derive(Drop)]
 pub struct Ran<S> {
     pub why: Why,
-    /// How many turns were made.
+    /// The number of steps.
     pub turns: u64,
-    /// Where the next instruction would be.
+    /// PC at the end: the address of the next instruction.
     pub pc: u16,
     /// The image of the disk.
     pub image: MemoryImage,
-    /// Where the output went.
+    /// The stream with the output.
     pub output: S,
 }
 
 impl<S> Ran<S> {
-    /// The image as a file has it: its sectors, one after the other. Nothing is copied, so that no memory can be wanting for it.
+    /// The bytes of the image as its file has them: the sectors, one after the other. Nothing is copied, so this cannot run out of
+    /// memory.
     pub fn image_bytes(&self) -> &[u8]
         ensures { result.now ≡ concat self.now.image }
     {
@@ -34,7 +35,7 @@ impl<S> Ran<S> {
     }
 }
 
-/// A program that is ready to run: its disk is mounted, and what will be typed is known.
+/// A program that is ready to run: its disk is mounted, and all its input is known.
 #[derive(Drop)]
 pub struct Ready<'p, 'w> {
     pub(crate) program: &'p [u8],
@@ -44,9 +45,9 @@ pub struct Ready<'p, 'w> {
 }
 
 impl Ready<'_, '_> {
-    /// Runs the program for at most so many turns. What it prints goes to `output`.
+    /// Runs the program for at most `steps` steps. Its output goes to `output`.
     pub fn run<S: Sink + Drop>(self, alloc: Global, output: S, steps: u64) -> Ran<S>
-        ensures { (program : List ℕ) (words : List (List ℕ)) (image input : List ℕ) → IsReady program words image input self.entry
+        ensures { (program : List ℕ) (words : List (List ℕ)) (image input : List ℕ) → IsReadyToRun program words image input self.entry
             → IsRan program words image input (S.stream output) steps result.why result.turns result.pc (concat result.image) (S.stream result.output) }
     {
         let Ready {

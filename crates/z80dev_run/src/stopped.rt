@@ -1,4 +1,4 @@
-//! The line of a run that has not finished.
+//! The line that says why a run has not finished.
 
 ghost use Rattle.std.specs.Prelude.{◌≡◌, ◌++◌, ◌∷◌, [], IfOk, codes, string_bytes};
 ghost use Rattle.hex.specs.Hex.{encode_upper};
@@ -8,7 +8,7 @@ use cpm_run::{Stop, Why};
 use std::alloc::{AllocError, Global};
 use std::fmt;
 
-/// Why a run ended, as it is printed: a stop by its own name.
+/// The reason for the end of a run, as it is printed. A stop of a system call has its own name.
 #[derive(Clone, Copy)]
 struct Reason {
     why: Why,
@@ -16,9 +16,9 @@ struct Reason {
 
 impl fmt::Display for Reason {
     ghost use Rattle.std.specs.Prelude.{Some};
-    ghost use Rattle.z80dev_run.specs.Stopped.{why_name};
+    ghost use Rattle.z80dev_run.specs.Stopped.{end_name};
 
-    ghost output = { λ reason. Some (why_name reason.why) };
+    ghost output = { λ reason. Some (end_name reason.why) };
 
     fn fmt<W: fmt::Write>(&self, f: &mut fmt::Formatter<W>) -> fmt::Result {
         match self.why {
@@ -34,7 +34,7 @@ impl fmt::Display for Reason {
     }
 }
 
-/// A stop by its name.
+/// A stop of a system call, printed as its name.
 #[derive(Clone, Copy)]
 struct StopName {
     stop: Stop,
@@ -60,7 +60,7 @@ impl fmt::Display for StopName {
     }
 }
 
-/// The line of a run that has not finished: `stopped: WHY at PPPP`, the place in four hexadecimal digits.
+/// The line that says why a run has not finished: `stopped: WHY at PPPP`, with the address in four hexadecimal digits.
 pub fn stopped_line(alloc: Global, why: Why, pc: u16) -> Result<Vec<u8>, AllocError>
     ensures { IfOk result (λ line. line.items ≡ stopped_line why pc) }
 {

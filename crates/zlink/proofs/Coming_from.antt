@@ -1,4 +1,4 @@
--- Where statements come from, one source after the other.
+-- The source line of each statement, one source after the other.
 use Rattle.std.proofs.Common.{◌≡◌, ◌+◌, ◌<◌, ◌≤◌, ℕ, suc, List, [], ◌∷◌, ◌++◌, length, map, take, get_or, refl, sym, ap, ◌∙◌, arith, length-append}
 use Rattle.std.specs.List.{enumerate_from, flat_map}
 use Rattle.std.proofs.lemmas.Grind.{flat_map-append}
@@ -8,7 +8,7 @@ use Rattle.asm_module.specs.declared.assembling.Lines as listing
 use Rattle.zlink.specs.Program.Laws.{statement_count}
 use Rattle.zlink.proofs.Programs.Laid_end_to_end.{count-cons}
 use Rattle.zlink.specs.declared.origins.Origin as origin
-use Rattle.zlink.specs.Built.{Origin, lines_of, origin_of, origins_by}
+use Rattle.zlink.specs.Built.{Origin, lines_of_statements, origin_of, origins_by}
 use Rattle.zlink.specs.Sources.{Assembly, modules_of}
 use Rattle.zlink.specs.Private.Assembling.{lines_in}
 
@@ -16,7 +16,7 @@ enumerated-append : {A : Type 0} (n : ℕ) (xs ys : List A) → enumerate_from n
 enumerated-append n [] ys = ap (λ m. enumerate_from m ys) (omega arith)
 enumerated-append n (x ∷ xs) ys = ap (λ rest. (n, x) ∷ rest) (enumerated-append (n + 1) xs ys ∙ ap (λ m. enumerate_from (n + 1) xs ++ enumerate_from m ys) (omega arith))
 
--- a statement at its place
+-- the origin of a statement: its address, source and line
 abbrev put_at : (ℕ → ℕ) → ℕ × (ℕ × ℕ) → Origin
 put_at places l = record { place = places l.0; source = l.1.0; line = l.1.1 }
 
@@ -37,7 +37,7 @@ length-enumerated n (x ∷ xs) = ap suc (length-enumerated (n + 1) xs)
 pub length-origins : (places : ℕ → ℕ) (lines : List (ℕ × ℕ)) → length (origins_by places lines) ≡ length lines
 length-origins places lines = length-map (enumerate_from 0 lines) (put_at places) ∙ length-enumerated 0 lines
 
--- one statement more
+-- with one more line, the list has one more origin
 pub origins-more : (places : ℕ → ℕ) (lines : List (ℕ × ℕ)) (source line : ℕ)
     → origins_by places (lines ++ (source, line) ∷ []) ≡ origins_by places lines ++ record { place = places (length lines); source = source; line = line } ∷ []
 origins-more places lines source line =
@@ -53,7 +53,7 @@ pushed places old new o before source line so_far more place of_source of_line =
     ap3 : {A B C D : Type 0} (f : A → B → C → D) {a a' : A} {b b' : B} {x x' : C} → a ≡ a' → b ≡ b' → x ≡ x' → f a b x ≡ f a' b' x'
     ap3 f e g h = cc
 
--- the lines of one source more
+-- the lines of one more source
 pub lines_more : (lines : List listing.Lines) (k : ℕ) (own : listing.Lines) → k < length lines → own ≡ get_or lines k own → lines_in (take (k + 1) lines) ≡ lines_in (take k lines) ++ map (λ line. (k, line)) own.each.items
 lines_more lines k own lt is =
     let longer : take (k + 1) lines ≡ take k lines ++ own ∷ [] = take_more lines k own lt ∙ ap (λ x. take k lines ++ x ∷ []) (sym is) in
@@ -75,10 +75,10 @@ count_from n (a ∷ sources) each =
     ∙ omega (arith, length-append (of_assembly (n, a)) rest, first, count_from (n + 1) sources (λ k d lt. each (suc k) d (omega arith)), count-cons a.assembled.holds (modules_of sources))
 
 pub count_lines : (sources : List Assembly) → ((k : ℕ) (d : Assembly) → k < length sources → length (get_or sources k d).assembled.each ≡ length (get_or sources k d).assembled.holds.statements)
-    → length (lines_of sources) ≡ statement_count (modules_of sources)
+    → length (lines_of_statements sources) ≡ statement_count (modules_of sources)
 count_lines sources each = count_from 0 sources each
 
--- Places that agree for all statements give the same.
+-- If two lists of addresses agree for all statements, the origins are the same.
 same_from : (f g : ℕ → ℕ) (n : ℕ) (lines : List (ℕ × ℕ)) → ((k : ℕ) → n ≤ k → k < n + length lines → f k ≡ g k)
     → map (put_at f) (enumerate_from n lines) ≡ map (put_at g) (enumerate_from n lines)
 same_from f g n [] same = refl

@@ -1,4 +1,4 @@
--- What sources are, they are in one way; and what is answered is what they are.
+-- Sources have one program, and `IsBuilt` leaves only one answer for it.
 use Rattle.std.proofs.Common.{◌≡◌, inl, inr, ◌<◌, ℕ, Bool, List, [], ◌∷◌, Option, Some, None, Result, Ok, Err, take, refl, sym, ap, subst, ◌∙◌, arith}
 use Rattle.std.specs.Prelude.{◌⊎◌, IsOk}
 use Rattle.std.specs.List.{slice_get}
@@ -24,27 +24,27 @@ use Rattle.zlink.specs.Program.Whole as object
 use Rattle.zlink.specs.File.Objects as linked
 use Rattle.zmo_module.specs.Modules.{Module}
 use Rattle.zlink.specs.declared.linking.Linked.{Linked}
-use Rattle.zlink.specs.Linked.{IsExact, IsLinked, link_fault}
+use Rattle.zlink.specs.Linked.{IsExactLink, IsLinked, link_fault}
 use Rattle.zlink.specs.Reads.{shape}
 use Rattle.zlink.specs.Sources.{AreAssembled, Assembly, IsAssembly, IsFirstFaulty, modules_of, program_of}
 
--- What the law of one source says.
+-- The law of `asm_module` that a source has one module or one first error.
 abbrev pub OneAnswer : Type 0
 OneAnswer = (name text : List ℕ) (grow : Bool) (a b : Result Assembled AsmFault) → HasCause a → HasCause b → Assembles name text grow a → Assembles name text grow b → a ≡ b
 
--- .. and of the program that it states.
+-- The law of `asm_module` that a source describes one program.
 abbrev pub OneProgram : Type 0
 OneProgram = (text : List ℕ) (grow : Bool) (a b : List Statement) → IsStated text grow a → IsStated text grow b → a ≡ b
 
 module _ (law : OneAnswer) (programs : OneProgram) (grow : Bool) where
-  -- One source is one assembly.
+  -- A source has one assembly.
   same_assembly : (s : Source) (x y : Assembly) → IsAssembly grow s x → IsAssembly grow s y → x ≡ y
   same_assembly s x y a b =
       let answers : ◌≡◌ {A = Result Assembled AsmFault} (Ok x.assembled) (Ok y.assembled) = law s.name.now s.text.now grow (Ok x.assembled) (Ok y.assembled) tt tt a.assembled b.assembled in
       let same : x.assembled ≡ y.assembled = cc in
       ap (λ w. record { assembled = w; program = x.program }) same ∙ ap (λ p. record { assembled = y.assembled; program = p }) (programs s.text.now grow x.program y.program a.stated b.stated)
 
-  -- Sources are one program.
+  -- A list of sources has one list of assemblies.
   pub one_program : (sources : List Source) (xs ys : List Assembly) → AreAssembled grow sources xs → AreAssembled grow sources ys → xs ≡ ys
   one_program [] [] [] a b = refl
   one_program [] [] (y ∷ ys) a b = absurd b
@@ -53,7 +53,7 @@ module _ (law : OneAnswer) (programs : OneProgram) (grow : Bool) where
   one_program (s ∷ ss) (x ∷ xs) [] a b = absurd b
   one_program (s ∷ ss) (x ∷ xs) (y ∷ ys) a b = ap (λ z. z ∷ xs) (same_assembly s x y a.0 b.0) ∙ ap (λ zs. y ∷ zs) (one_program ss xs ys a.1 b.1)
 
-  -- A source among those that are assembled has no fault.
+  -- A source that assembles has no error.
   pub not_faulty : (sources : List Source) (these : List Assembly) (number : ℕ) (source : Source) (fault : AsmFault) → AreAssembled grow sources these → slice_get sources number ≡ Some source
       → HasCause (Err fault) → Assembles source.name.now source.text.now grow (Err fault) → ⊥
   not_faulty sources these number source fault are there caused faulty =
@@ -64,7 +64,7 @@ module _ (law : OneAnswer) (programs : OneProgram) (grow : Bool) where
       by None is = is
       by (Some a) is = (let same = law source.name.now source.text.now grow (Ok a.assembled) (Err fault) tt caused is.assembled faulty in cc)
 
-  -- One that is before the first is not faulty.
+  -- A source before the first one with an error has no error.
   not_before : (sources : List Source) (n m : ℕ) (f g : AsmFault) → n < m → IsFirstFaulty grow sources n f → IsFirstFaulty grow sources m g → ⊥
   not_before sources n m f g lt first later =
       let inside = slice_get_within sources m later.source later.there in
@@ -73,7 +73,7 @@ module _ (law : OneAnswer) (programs : OneProgram) (grow : Bool) where
       slice_get-get_or (take m sources) n first.source (omega (arith, count, lt)) ∙ ap Some (get_or-take m sources n first.source lt ∙ get_or_from_slice_get sources n first.source first.source first.there) in
       not_faulty (take m sources) later.before n first.source f later.good there first.caused first.faulty
 
-  -- There is one first fault.
+  -- The first source with an error, and its error, are unique.
   same_fault : (sources : List Source) (n m : ℕ) (f g : AsmFault) → IsFirstFaulty grow sources n f → IsFirstFaulty grow sources m g → (n ≡ m) × (f ≡ g)
   same_fault sources n m f g first other =
       elim (cases_lt n m) [
@@ -104,18 +104,18 @@ module _ (law : OneAnswer) (programs : OneProgram) (grow : Bool) where
   exactly sources (Err (build.Link (link.Unresolved m x))) is number fault f = absurd (not_faulty sources is.0 number f.source fault is.1 f.there f.caused f.faulty)
   exactly sources (Err (build.Link (link.EntryNotFirst m))) is number fault f = absurd (not_faulty sources is.0 number f.source fault is.1 f.there f.caused f.faulty)
 
-  -- Modules with no fault together have no first one.
+  -- If the modules have no error together, they have no first error.
   faultless : (sources : List Source) (these others : List Assembly) (first : JoinFault) → AreAssembled grow sources these → AreAssembled grow sources others
       → first_fault (modules_of others) ≡ None → first_fault (modules_of these) ≡ Some first → ⊥
   faultless sources these others first are other none there =
       let same : first_fault (modules_of these) ≡ first_fault (modules_of others) = ap (λ xs. first_fault (modules_of xs)) (one_program sources these others are other) in
       cc
 
-  -- why the modules of sources are refused
+  -- why the modules of the sources are refused
   abbrev IsFaultOf : List Source → LinkFault → Type 0
   IsFaultOf sources fault = (others : List Assembly) × AreAssembled grow sources others × (first : JoinFault) × (first_fault (modules_of others) ≡ Some first) × (link_fault first ≡ fault)
 
-  -- Their first fault is told.
+  -- If the modules have a first error together, the answer is that error.
   module _ (sources : List Source) (these : List Assembly) (are : AreAssembled grow sources these) where
     module _ (first : JoinFault) (there : first_fault (modules_of these) ≡ Some first) where
       same_first : (fault : LinkFault) → IsFaultOf sources fault → ◌≡◌ {A = Result Built BuildFault} (Err (build.Link fault)) (Err (build.Link (link_fault first)))
@@ -136,7 +136,7 @@ module _ (law : OneAnswer) (programs : OneProgram) (grow : Bool) where
       of_modules (Err (build.Link (link.Unresolved m x))) is = inl (same_first (link.Unresolved m x) is)
       of_modules (Err (build.Link (link.EntryNotFirst m))) is = inl (same_first (link.EntryNotFirst m) is)
 
-    -- Where some choice fits, there is a file.
+    -- If some choice fits, the answer is a file.
     module _ (none : first_fault (modules_of these) ≡ None) (c : Choice) (fits : IsValid c (shape (program_of these))) where
       not_first : (fault : LinkFault) → IsFaultOf sources fault → ⊥
       not_first fault is = faultless sources is.0 these is.2 is.1 are none is.3
@@ -152,9 +152,9 @@ module _ (law : OneAnswer) (programs : OneProgram) (grow : Bool) where
       of_fitting (Err (build.Link (link.Unresolved m x))) is = absurd (not_first (link.Unresolved m x) is)
       of_fitting (Err (build.Link (link.EntryNotFirst m))) is = absurd (not_first (link.EntryNotFirst m) is)
 
--- What modules are, linking answers.
+-- The answer of `link` is exact: it is what `IsExactLink` says of the modules.
 module _ (modules : List Module) where
-  -- why they are refused
+  -- why the modules are refused
   abbrev IsFaultOfModules : LinkFault → Type 0
   IsFaultOfModules fault = (first : JoinFault) × (first_fault modules ≡ Some first) × (link_fault first ≡ fault)
 
@@ -162,7 +162,7 @@ module _ (modules : List Module) where
   TellsFault r = (first : JoinFault) → first_fault modules ≡ Some first → (r ≡ Err (link_fault first)) ⊎ (r ≡ Err link.NoMemory)
 
   abbrev TellsFile : Result Linked LinkFault → Type 0
-  TellsFile r = (c : Choice) → first_fault modules ≡ None → IsValid c (linked.shape (object.program modules)) → IsOk r ⊎ (r ≡ Err link.NoMemory)
+  TellsFile r = (c : Choice) → first_fault modules ≡ None → IsValid c (linked.placed_shape (object.program modules)) → IsOk r ⊎ (r ≡ Err link.NoMemory)
 
   first_told : (fault : LinkFault) → IsFaultOfModules fault → TellsFault (Err fault)
   first_told fault is first there =
@@ -173,7 +173,7 @@ module _ (modules : List Module) where
   none_fits : (fault : LinkFault) → IsFaultOfModules fault → TellsFile (Err fault)
   none_fits fault is c none fits = (let some = is.1 in absurd cc)
 
-  pub exact_link : (r : Result Linked LinkFault) → IsLinked modules r → IsExact modules r
+  pub exact_link : (r : Result Linked LinkFault) → IsLinked modules r → IsExactLink modules r
   exact_link (Ok l) is = (let none = is.0 in record { faults = λ first there. absurd cc; fits = λ c _ fits. inl refl })
   exact_link (Err (link.NoFit why sizes cert)) is = (let none = is.0 in record { faults = λ first there. absurd cc; fits = λ c _ fits. absurd (is.1.none c fits) })
   exact_link (Err link.NoMemory) is = record { faults = λ first there. inr refl; fits = λ c none fits. inr refl }

@@ -1,4 +1,4 @@
--- What the growth of a shape says of linking.
+-- What the growth of a shape proves about linking.
 use Rattle.std.proofs.Common.{◌≡◌, ℕ, List, sym, subst, arith}
 use Rattle.std.proofs.Math.Path.{fun_ext}
 use Rattle.ruler.specs.declared.shape.Statement.{Statement as Sized}
@@ -9,11 +9,11 @@ use Rattle.relax.specs.declared.growth.Verdict.{Verdict}
 use Rattle.relax.specs.declared.growth.Verdict.TheVariants.{Best}
 use Rattle.zlink.specs.declared.fault.Misfit.{Misfit}
 use Rattle.zlink.specs.declared.fault.Misfit.TheVariants as misfit
-use Rattle.zlink.specs.Judged.{IsBestAfter, IsJudged, IsUnfit, verdict_of}
+use Rattle.zlink.specs.Judged.{IsBestAfter, IsShapeJudged, IsUnfit, verdict_of}
 use Rattle.zlink.specs.Certified.{IsCertified}
 
 pub judged : (shape : List Sized) (grown : Growth) (v : Verdict) (sizes cert : List ℕ) → IsShape shape → grown.verdict ≡ v → IsGrowth shape grown
-    → IsCertified shape grown.order.items grown.verdict sizes cert → IsJudged shape grown.order.items v sizes cert
+    → IsCertified shape grown.order.items grown.verdict sizes cert → IsShapeJudged shape grown.order.items v sizes cert
 judged shape grown v sizes cert is_shape e is certified = record {
   is_shape = is_shape;
   least_first = is.order;
@@ -22,14 +22,14 @@ judged shape grown v sizes cert is_shape e is certified = record {
   certified = subst (λ w. IsCertified shape grown.order.items w sizes cert) e certified;
 }
 
--- the best choice
+-- the choice after the order is best
 pub best : (shape : List Sized) (grown : Growth) (n : ℕ) (sizes cert : List ℕ) → IsShape shape → grown.verdict ≡ Best n → IsGrowth shape grown
     → IsCertified shape grown.order.items grown.verdict sizes cert → IsBestAfter shape grown.order.items sizes cert
 best shape grown n sizes cert is_shape e is certified =
     let at_n = judged shape grown (Best n) sizes cert is_shape e is certified in
-    subst (λ m. IsJudged shape grown.order.items (Best m) sizes cert) (sym at_n.verdict.1) at_n
+    subst (λ m. IsShapeJudged shape grown.order.items (Best m) sizes cert) (sym at_n.verdict.1) at_n
 
--- a choice that is best can be laid out
+-- a best choice is valid, so the file can be written
 pub best_valid : (shape : List Sized) (grown : Growth) (n : ℕ) → grown.verdict ≡ Best n → IsGrowth shape grown → IsValid (chosen grown.long.items) shape
 best_valid shape grown n e is = (subst (Holds (chosen grown.long.items) shape) e is.verdict).0.valid
 

@@ -1,4 +1,4 @@
--- Modules are linked to one answer, and what is built of sources is what is linked of their modules.
+-- Linking a list of modules has one answer, and building sources has the answer of linking their modules.
 use Rattle.std.proofs.Common.{◌≡◌, inl, inr, ℕ, Bool, List, Option, Some, None, Result, Ok, Err, map, refl, sym, ap, subst, ◌∙◌}
 use Rattle.std.specs.Prelude.{◌⊎◌}
 use Rattle.certificate.specs.Texts.{cert_text}
@@ -23,7 +23,7 @@ use Rattle.zlink.specs.declared.fault.Misfit.{Misfit}
 use Rattle.zlink.specs.declared.fault.Misfit.TheVariants as misfit
 use Rattle.zlink.specs.declared.linking.Linked.{Linked}
 use Rattle.zlink.specs.declared.source.Source.{Source}
-use Rattle.zlink.specs.Built.{IsBuilt, built_output, lines_of, origin_of, origins_by}
+use Rattle.zlink.specs.Built.{IsBuilt, built_output, lines_of_statements, origin_of, origins_by}
 use Rattle.zlink.specs.Certified.{told_verdict}
 use Rattle.zlink.specs.Judged.{IsUnfit, verdict_of}
 use Rattle.zlink.specs.Linked.{IsLinked, IsOutput, Output, link_fault, linked_output}
@@ -32,26 +32,26 @@ use Rattle.zlink.specs.Reads.{shape}
 use Rattle.zlink.specs.Sources.{AreAssembled, Assembly, modules_of, program_of}
 use Rattle.zlink.proofs.Exact.{OneAnswer, OneProgram, exactly, not_faulty, one_program}
 
--- What the laws below say: there is one least-first order of a shape, ..
+-- A shape has one least-first order.
 abbrev pub OneOrder : Type 0
 OneOrder = (s : List Sized) (a b : List ℕ) → IsLeastFirst s a → IsLeastFirst s b → a ≡ b
 
--- .. one verdict on a choice, ..
+-- A choice has one verdict.
 abbrev pub OneVerdict : Type 0
 OneVerdict = (c : Choice) (s : List Sized) (v w : Verdict) → Holds c s v → Holds c s w → v ≡ w
 
--- .. one file of statements under a choice, ..
+-- Statements have one file under a choice.
 abbrev pub OneFile : Type 0
 OneFile = (one other : List ℕ) (p : List Placed) (c : Choice) → ReadsObjects one p c → ReadsObjects other p c → one ≡ other
 
--- .. and one list of places.
+-- A shape has one list of addresses under a choice.
 abbrev pub OnePlaces : Type 0
 OnePlaces = (c : Choice) (s : List Sized) (places other : List ℕ) → ArePlaces c s places → ArePlaces c s other → places ≡ other
 
--- what each outcome says of modules
+-- what each outcome says about the modules
 abbrev IsOutcome : List Module → Outcome → Type 0
 IsOutcome modules (Makes o) = (first_fault modules ≡ None) × (order : List ℕ) × IsOutput modules order o
-IsOutcome modules (FitsNowhere why sizes cert) = (first_fault modules ≡ None) × IsUnfit (file.shape (program modules)) why sizes cert
+IsOutcome modules (FitsNowhere why sizes cert) = (first_fault modules ≡ None) × IsUnfit (file.placed_shape (program modules)) why sizes cert
 IsOutcome modules (IsNoProgram fault) = (fault ≡ link.NoMemory) ⊎ ((first : JoinFault) × (first_fault modules ≡ Some first) × (link_fault first ≡ fault))
 IsOutcome modules (IsFaulty source fault) = ⊥
 
@@ -74,7 +74,7 @@ misfit_is_one (misfit.TooLarge m) (misfit.TooLarge n) e = let same : m ≡ n = c
 module _ (orders : OneOrder) (verdicts : OneVerdict) (files : OneFile) (modules : List Module) where
   module _ (a b : Output) (p q : List ℕ) (one : IsOutput modules p a) (other : IsOutput modules q b) where
     same_order : p ≡ q
-    same_order = orders (file.shape (program modules)) p q one.judged.least_first other.judged.least_first
+    same_order = orders (file.placed_shape (program modules)) p q one.judged.least_first other.judged.least_first
 
     moved : IsOutput modules p b
     moved = subst (λ order. IsOutput modules order b) (sym same_order) other
@@ -103,8 +103,8 @@ module _ (orders : OneOrder) (verdicts : OneVerdict) (files : OneFile) (modules 
       one.judged.certified.spelled ∙ ap (λ o. cert_text o (told_verdict (verdict_of v))) order ∙ ap (λ x. cert_text other.order (told_verdict x)) verdict ∙ sym other.judged.certified.spelled in
       ap (λ x. FitsNowhere x sizes cert) why ∙ ap (λ x. FitsNowhere w x cert) sizes_are ∙ ap (λ x. FitsNowhere w others x) certs_are
 
-  -- a file is none where nothing fits
-  apart : (o : Output) (order : List ℕ) (why : Misfit) (sizes cert : List ℕ) → IsOutput modules order o → IsUnfit (file.shape (program modules)) why sizes cert → ⊥
+  -- if no choice fits, there is no file
+  apart : (o : Output) (order : List ℕ) (why : Misfit) (sizes cert : List ℕ) → IsOutput modules order o → IsUnfit (file.placed_shape (program modules)) why sizes cert → ⊥
   apart o order why sizes cert makes unfit = unfit.none (after order) makes.judged.verdict.0.valid
 
   pub one_outcome : (a b : Outcome) → IsOutcome modules a → IsOutcome modules b → AreSame a b
@@ -113,7 +113,7 @@ module _ (orders : OneOrder) (verdicts : OneVerdict) (files : OneFile) (modules 
   one_outcome (Makes o) (IsNoProgram fault) a (inl e) = inr (inr (ap IsNoProgram e))
   one_outcome (Makes o) (IsNoProgram fault) a (inr b) = absurd (let none = a.0 in let some = b.1 in cc)
   one_outcome (FitsNowhere why sizes cert) (Makes o) a b = absurd (apart o b.1 why sizes cert b.2 a.1)
-  one_outcome (FitsNowhere why sizes cert) (FitsNowhere other others texts) a b = inl (same_misfit (file.shape (program modules)) why other sizes cert others texts a.1 b.1)
+  one_outcome (FitsNowhere why sizes cert) (FitsNowhere other others texts) a b = inl (same_misfit (file.placed_shape (program modules)) why other sizes cert others texts a.1 b.1)
   one_outcome (FitsNowhere why sizes cert) (IsNoProgram fault) a (inl e) = inr (inr (ap IsNoProgram e))
   one_outcome (FitsNowhere why sizes cert) (IsNoProgram fault) a (inr b) = absurd (let none = a.0 in let some = b.1 in cc)
   one_outcome (IsNoProgram fault) b (inl e) of_b = inr (inl (ap IsNoProgram e))
@@ -134,9 +134,9 @@ module _ (orders : OneOrder) (verdicts : OneVerdict) (files : OneFile) (modules 
   pub one_places : OnePlaces → (a b : Linked) → IsLinked modules (Ok a) → IsLinked modules (Ok b) → a.places.items ≡ b.places.items
   one_places lists a b of_a of_b =
       let same = same_order (linked_output a) (linked_output b) of_a.1 of_b.1 of_a.2 of_b.2 in
-      lists (after of_b.1) (file.shape (program modules)) a.places.items b.places.items (subst (λ o. ArePlaces (after o) (file.shape (program modules)) a.places.items) same of_a.3) of_b.3
+      lists (after of_b.1) (file.placed_shape (program modules)) a.places.items b.places.items (subst (λ o. ArePlaces (after o) (file.placed_shape (program modules)) a.places.items) same of_a.3) of_b.3
 
--- What is built of sources says as much of their modules.
+-- What building the sources answers is what linking their modules answers.
 module _ (law : OneAnswer) (programs : OneProgram) (grow : Bool) (sources : List Source) (these : List Assembly) (are : AreAssembled grow sources these) where
   same : (others : List Assembly) → AreAssembled grow sources others → others ≡ these
   same others other = one_program law programs grow sources others these other are
@@ -162,7 +162,7 @@ module _ (law : OneAnswer) (programs : OneProgram) (grow : Bool) (sources : List
   built_is_linked orders verdicts files a b of_a of_b =
       one_outcome orders verdicts files (modules_of these) (built_outcome a) (linked_outcome b) (of_built a of_a) (of_linked (modules_of these) b of_b)
 
--- What is built of sources is one.
+-- Building the same sources has one answer.
 module _ (law : OneAnswer) (programs : OneProgram) (orders : OneOrder) (verdicts : OneVerdict) (files : OneFile) (grow : Bool) (sources : List Source) where
   by_modules : (these : List Assembly) → AreAssembled grow sources these → (a b : Result Built BuildFault) → IsBuilt grow sources a → IsBuilt grow sources b → AreSame (built_outcome a) (built_outcome b)
   by_modules these are a b of_a of_b =
@@ -188,7 +188,7 @@ module _ (law : OneAnswer) (programs : OneProgram) (orders : OneOrder) (verdicts
       let these : of_a.0 ≡ of_b.0 = one_program law programs grow sources of_a.0 of_b.0 of_a.1 of_b.1 in
       let order : of_a.4.0 ≡ of_b.4.0 =
       orders (shape (program_of of_b.0)) of_a.4.0 of_b.4.0 (subst (λ xs. IsLeastFirst (shape (program_of xs)) of_a.4.0) these of_a.4.1.judged.least_first) of_b.4.1.judged.least_first in (
-        of_a.4.1.statements ∙ ap (λ o. origins_by (place (after o) (shape (program_of of_a.0))) (lines_of of_a.0)) order
-            ∙ ap (λ xs. origins_by (place (after of_b.4.0) (shape (program_of xs))) (lines_of xs)) these ∙ sym of_b.4.1.statements,
+        of_a.4.1.statements ∙ ap (λ o. origins_by (place (after o) (shape (program_of of_a.0))) (lines_of_statements of_a.0)) order
+            ∙ ap (λ xs. origins_by (place (after of_b.4.0) (shape (program_of xs))) (lines_of_statements xs)) these ∙ sym of_b.4.1.statements,
         of_a.4.1.last ∙ ap (map (λ x. x.assembled.last)) these ∙ sym of_b.4.1.last,
       )

@@ -1,4 +1,4 @@
--- The two texts that go with a program: its sizes, and a certificate of what is said of its choices.
+-- The sizes file and the certificate of a program, which prove what the verdict says about its choices.
 use Rattle.std.specs.Prelude.{◌≡◌, ℕ, List, map}
 use Rattle.ruler.specs.declared.shape.Statement.{Statement as Sized}
 use Rattle.ruler.specs.declared.shape.Statement.TheVariants as sized
@@ -11,23 +11,23 @@ use Rattle.certificate.specs.declared.cert.Verdict.TheVariants as verdict
 use Rattle.certificate.specs.Texts.{cert_text, sizes_text}
 use Rattle.certificate.specs.Accepts.{Accepts}
 
--- The linker and the checker share no types, so what is said of sizes is told again in the checker's.
+-- The linker and the checker share no types, so sizes and verdicts are translated into the checker's types.
 
--- a statement's size, as a certificate tells it
-abbrev pub told : Sized → Told
-told (sized.Fixed n) = telling.Fixed n
-told (sized.Jump target) = telling.Jump target
-told (sized.Short target) = telling.Short target
+-- the size of a statement in the checker's type
+abbrev pub told_size : Sized → Told
+told_size (sized.Fixed n) = telling.Fixed n
+told_size (sized.Jump target) = telling.Jump target
+told_size (sized.Short target) = telling.Short target
 
--- a verdict, as a certificate tells it
+-- a verdict in the checker's type
 abbrev pub told_verdict : Growing → Verdict
 told_verdict (growing.Best n) = verdict.Best n
 told_verdict (growing.Range k) = verdict.Range k
 told_verdict (growing.TooLarge n) = verdict.TooLarge n
 
--- The first text is the one text of the shape, the second is that of the order with its verdict, and the checker's rule
+-- The first list is the sizes file of the shape, the second is the certificate with this order and this verdict, and the checker's rule
 -- accepts both with this verdict.
 pub record IsCertified (shape : List Sized) (order : List ℕ) (v : Growing) (sizes cert : List ℕ) : Type 0 where
-  pub own : sizes ≡ sizes_text (map told shape)
+  pub own : sizes ≡ sizes_text (map told_size shape)
   pub spelled : cert ≡ cert_text order (told_verdict v)
   pub accepted : Accepts sizes cert (told_verdict v)

@@ -1,4 +1,4 @@
--- What is answered of modules and of sources, as plain lists, so that two answers can be compared.
+-- The answers of `link` and `build_with` as plain lists, so that two answers can be compared.
 use Rattle.std.specs.Prelude.{◌≡◌, ◌⊎◌, ℕ, List, Result, Ok, Err}
 use Rattle.asm_module.specs.declared.fault.AsmFault.{AsmFault}
 use Rattle.zlink.specs.declared.building.Built.{Built}
@@ -11,15 +11,15 @@ use Rattle.zlink.specs.declared.linking.Linked.{Linked}
 use Rattle.zlink.specs.Built.{built_output}
 use Rattle.zlink.specs.Linked.{Output, linked_output}
 
--- A file with what stands beside it; or why no choice fits, and the two texts of that; or why modules are no program; or the first fault of the
--- first faulty source.
+-- The outcomes: a file with the other outputs; the reason why no choice fits, with sizes file and certificate; the reason why the modules
+-- are no program; or the first error of the first source that has one.
 pub data Outcome : Type 0 where
   Makes : Output → Outcome
   FitsNowhere : Misfit → List ℕ → List ℕ → Outcome
   IsNoProgram : LinkFault → Outcome
   IsFaulty : ℕ → AsmFault → Outcome
 
--- of modules
+-- the outcome of a refusal of `link`
 abbrev pub fault_outcome : LinkFault → Outcome
 fault_outcome (link.NoFit why sizes cert) = FitsNowhere why sizes.items cert.items
 fault_outcome fault = IsNoProgram fault
@@ -28,16 +28,16 @@ abbrev pub linked_outcome : Result Linked LinkFault → Outcome
 linked_outcome (Ok l) = Makes (linked_output l)
 linked_outcome (Err fault) = fault_outcome fault
 
--- of sources
+-- the outcome of `build_with`
 abbrev pub built_outcome : Result Built BuildFault → Outcome
 built_outcome (Ok b) = Makes (built_output b)
 built_outcome (Err (build.Link fault)) = fault_outcome fault
 built_outcome (Err (build.Asm source fault)) = IsFaulty source fault
 
--- memory ran out
+-- the outcome if memory ran out
 abbrev pub without_memory : Outcome
 without_memory = IsNoProgram link.NoMemory
 
--- Two answers are the same, but for memory.
+-- The two outcomes are the same, or memory ran out in one of them.
 abbrev pub AreSame : Outcome → Outcome → Type 0
 AreSame one other = (one ≡ other) ⊎ ((one ≡ without_memory) ⊎ (other ≡ without_memory))

@@ -1,4 +1,4 @@
--- When a file reads as a program, statement by statement: refs are numbers of its statements, the end being their count.
+-- When a file reads as a program, statement by statement. A ref is the number of a statement; their count is the end.
 use Rattle.std.specs.Prelude.{ℕ, List, length, map}
 use Rattle.std.specs.List.{sum_by}
 use Rattle.z80_instr.specs.Table.{canonical}
@@ -10,7 +10,7 @@ use Rattle.asm_statements.specs.Program.Statement as statement
 use Rattle.asm_statements.specs.Program.Statement.{Statement}
 use Rattle.zlink.specs.File.Reads.{ReadsBy}
 
--- a statement as far as its size matters
+-- the size and target of a statement
 abbrev pub sized_as : Statement → Sized
 sized_as (statement.Code instr numbers) = sized.Fixed (length (canonical instr))
 sized_as (statement.Data items) = sized.Fixed (sum_by width items)
@@ -21,6 +21,7 @@ sized_as (statement.Short branch target) = sized.Short target
 abbrev pub shape : List Statement → List Sized
 shape program = map sized_as program
 
--- The file is the program under a choice: cut at the places, each piece is its statement, and nothing is left over.
+-- The file is the program under a choice: cut at the addresses of the statements, each part is the bytes of its statement, and nothing is
+-- left over.
 abbrev pub Reads : List ℕ → List Statement → Choice → Type 0
 Reads file program c = ReadsBy IsPiece file (shape program) program c

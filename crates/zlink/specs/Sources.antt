@@ -1,4 +1,4 @@
--- The program of sources, or the first that is faulty.
+-- The program of sources, or the first source that has an error.
 use Rattle.std.specs.Prelude.{◌≡◌, ◌≢◌, ℕ, Bool, List, Some, Ok, Err, map, slice_get, take}
 use Rattle.std.specs.List.{AllZip, flat_map, zip}
 use Rattle.asm_module.specs.declared.fault.AsmFault.{AsmFault}
@@ -6,12 +6,12 @@ use Rattle.asm_module.specs.declared.fault.Why.{Why}
 use Rattle.asm_module.specs.Assembled.{Assembled, Assembles, IsStated}
 use Rattle.asm_statements.specs.Program.Statement.{Statement}
 use Rattle.zmo_module.specs.Modules.{Module}
-use Rattle.zlink.specs.Program.Parts.{Part, Publics, parts, publics}
+use Rattle.zlink.specs.Program.Parts.{ModulePart, Publics, parts, all_publics}
 use Rattle.zlink.specs.Program.Whole.{stands}
 use Rattle.zlink.specs.declared.source.Source.{Source}
 use Rattle.zlink.specs.Renumbered.{statement_in}
 
--- What one source is: its module with the lines of its statements, and the program that it states.
+-- What one source is assembled to: its module with the line of each statement, and the program that its lines describe.
 pub record Assembly : Type 0 where
   pub assembled : Assembled
   pub program : List Statement
@@ -23,19 +23,19 @@ pub record IsAssembly (grow : Bool) (source : Source) (a : Assembly) : Type 0 wh
 abbrev pub modules_of : List Assembly → List Module
 modules_of assemblies = map (λ a. a.assembled.holds) assemblies
 
--- the program of one source, by numbers of the whole
-abbrev pub in_whole : Publics → Part × Assembly → List Statement
+-- the program of one source, with the numbers of the whole program
+abbrev pub in_whole : Publics → ModulePart × Assembly → List Statement
 in_whole publics (part, a) = map (statement_in (stands publics part)) a.program
 
 -- the statements of all sources, in order
 abbrev pub program_of : List Assembly → List Statement
-program_of assemblies = flat_map (in_whole (publics (parts (modules_of assemblies)))) (zip (parts (modules_of assemblies)) assemblies)
+program_of assemblies = flat_map (in_whole (all_publics (parts (modules_of assemblies)))) (zip (parts (modules_of assemblies)) assemblies)
 
--- Each source is one assembly.
+-- Each source is assembled: there is one assembly for each, in order.
 abbrev pub AreAssembled : Bool → List Source → List Assembly → Type 0
 AreAssembled grow sources assemblies = AllZip (IsAssembly grow) sources assemblies
 
--- This source has this first fault, and those before it have none.
+-- This source has this first error, which is not that memory ran out, and the sources before it have no error.
 pub record IsFirstFaulty (grow : Bool) (sources : List Source) (number : ℕ) (fault : AsmFault) : Type 0 where
   pub before : List Assembly
   pub good : AreAssembled grow (take number sources) before

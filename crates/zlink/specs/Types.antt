@@ -1,3 +1,3 @@
--- The fault of a source, as the crate that assembles it has it, for crates above.
+-- The error type of the crate that assembles a source, for crates that use this one.
 pub use Rattle.asm_module.specs.declared.fault.AsmFault.{AsmFault}
 pub use Rattle.asm_module.specs.declared.fault.Why.{Why}

@@ -1,4 +1,4 @@
-//! From sources to modules.
+//! Assembles all sources to modules.
 
 ghost use Rattle.std.specs.Prelude.{All, map};
 ghost use Rattle.zlink.specs.Private.Assembling.{AreAssembledBy};
@@ -8,14 +8,14 @@ use crate::source::Source;
 use asm_module::{Lines, Module, assemble_with};
 use std::alloc::Global;
 
-/// The modules of sources, and the lines of their statements.
+/// The modules of all sources, and the lines of their statements.
 #[derive(Drop)]
 pub(crate) struct Assemblies {
     pub(crate) modules: Vec<Module>,
     pub(crate) lines: Vec<Lines>,
 }
 
-/// Each source as a module, or the first fault of the first that has one.
+/// Assembles each source to a module. Answers the first error of the first source that has one.
 pub(crate) fn assemble_all(
     alloc: Global,
     sources: &[Source<'_>],

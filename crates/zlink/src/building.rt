@@ -1,7 +1,7 @@
-//! From sources to a file.
+//! Builds a file from sources.
 
 ghost use Rattle.std.specs.Prelude.{◌≡◌, ◌<◌, All, IfOk, false, map};
-ghost use Rattle.zlink.specs.Built.{IsBuilt, IsExact};
+ghost use Rattle.zlink.specs.Built.{IsBuilt, IsExactBuild};
 
 use crate::assembling::{Assemblies, assemble_all};
 use crate::fault::BuildFault;
@@ -13,31 +13,31 @@ use crate::symbol::Symbol;
 use asm_module::Lines;
 use std::alloc::{AllocError, Global};
 
-/// What is built of sources.
+/// What building sources gives.
 #[derive(Debug, Drop, PartialEq, Eq)]
 pub struct Built {
     /// The .COM file, which is loaded at 0100H.
     pub com: Vec<u8>,
-    /// The sizes text: what the program's size depends on.
+    /// The sizes file: what the size of the program depends on.
     pub sizes: Vec<u8>,
     /// The certificate that no choice of short and long jumps that fits takes fewer bytes.
     pub cert: Vec<u8>,
-    /// The labels by source, and in a source in the order of their lines.
+    /// The labels of all sources, in the order of their lines.
     pub symbols: Vec<Symbol>,
-    /// Of each statement its place, its source and its line.
+    /// The address, the source and the line of each statement.
     pub statements: Vec<Origin>,
-    /// Of each source the number of the last line that a listing has; 0 for a text without lines.
+    /// For each source the number of the last line that its listing shows, or 0 if the source has no lines.
     pub last: Vec<u32>,
-    /// The numbers of the jumps that were written as a `JR` and are coded as a `JP`, ascending.
+    /// The numbers of the jumps that were written as `JR` and became `JP`, ascending.
     pub grown: Vec<u32>,
 }
 
-/// Does nothing: its contract says what every byte is, which the numbers of a file are asked for.
+/// Does nothing. Its contract says that each byte of a list is below 256, which the proof needs about the file.
 fn are_bytes(bytes: &[u8])
     ensures { All (λ b. b < 256) bytes.now }
 {}
 
-/// The last lines of sources.
+/// Answers the last line of each source.
 fn last_lines(alloc: Global, lines: &[Lines]) -> Result<Vec<u32>, AllocError>
     ensures { IfOk result (λ v. v.items ≡ map (λ l. l.last) lines.now) }
 {
@@ -48,7 +48,7 @@ fn last_lines(alloc: Global, lines: &[Lines]) -> Result<Vec<u32>, AllocError>
     Ok(last)
 }
 
-/// What is built of the sources, or why nothing is.
+/// Builds the sources, or answers why it cannot.
 fn build_sources(alloc: Global, sources: &[Source<'_>], grow: bool) -> Result<Built, BuildFault>
     ensures { IsBuilt grow sources.now result }
 {
@@ -74,36 +74,36 @@ fn build_sources(alloc: Global, sources: &[Source<'_>], grow: bool) -> Result<Bu
     })
 }
 
-/// Builds the .COM file of the sources, laid in their order, with each jump as short as it can be. Where `grow` says so, a written `JR` may be
-/// coded as a `JP`.
+/// Builds the .COM file of the sources, one after the other, with each jump as short as it can be. If `grow` is true, a written `JR` may
+/// become a `JP`.
 ///
 /// The file begins with the first statement and is loaded at 0100H.
 ///
 /// # Errors
 ///
-/// [`BuildFault::Asm`] with the first faulty source and its first fault; [`BuildFault::Link`] with the first fault of the modules together,
-/// or with [`LinkFault::NoFit`](crate::LinkFault::NoFit) only where no choice of short and long jumps fits, and with the reason, or with
-/// [`LinkFault::NoMemory`](crate::LinkFault::NoMemory) where memory ran out.
+/// [`BuildFault::Asm`] with the first error of the first source that has one; [`BuildFault::Link`] with the first error of the modules
+/// together; with [`LinkFault::NoFit`](crate::LinkFault::NoFit), and the reason, only if no choice of short and long jumps fits; with
+/// [`LinkFault::NoMemory`](crate::LinkFault::NoMemory) if memory ran out.
 pub fn build_with(alloc: Global, sources: &[Source<'_>], grow: bool) -> Result<Built, BuildFault>
     // What is answered holds of the sources.
     ensures answer { IsBuilt grow sources.now result }
 
-    // What they are, they are answered.
-    ensures exact { IsExact grow sources.now result }
+    // What holds of the sources is answered, unless memory ran out.
+    ensures exact { IsExactBuild grow sources.now result }
 {
-    // A law, which does nothing: its contract is what the clause `exact` follows from.
+    // A law: it does nothing, and the clause `exact` follows from its contract.
     exact();
     build_sources(alloc, sources, grow)
 }
 
-/// As [`build_with`], where each written `JR` is always short.
+/// Builds the sources as [`build_with`] does, with each written `JR` always short.
 ///
 /// # Errors
 ///
-/// As those of [`build_with`].
+/// Those of [`build_with`].
 pub fn build(alloc: Global, sources: &[Source<'_>]) -> Result<Built, BuildFault>
     ensures answer { IsBuilt false sources.now result }
-    ensures exact { IsExact false sources.now result }
+    ensures exact { IsExactBuild false sources.now result }
 {
     build_with(alloc, sources, false)
 }

@@ -1,25 +1,25 @@
-//! The two texts that certify what is said of a program's choices.
+//! Makes the sizes file and the certificate of a program.
 
 ghost use Rattle.std.specs.Prelude.{◌≡◌, IfOk, map};
 ghost use Rattle.ruler.specs.Choice.{IsShape};
 ghost use Rattle.relax.specs.Growth.{IsGrowth};
 ghost use Rattle.certificate.specs.Choice.{IsShape as IsToldShape};
-ghost use Rattle.zlink.specs.Certified.{IsCertified, told, told_verdict};
+ghost use Rattle.zlink.specs.Certified.{IsCertified, told_size, told_verdict};
 
 use certificate::{Cert, print_cert, print_sizes};
 use relax::Growth;
 use std::alloc::{AllocError, Global};
 
-/// A sizes text and its certificate.
+/// A sizes file and its certificate.
 #[derive(Drop)]
 pub(crate) struct Texts {
     pub(crate) sizes: Vec<u8>,
     pub(crate) cert: Vec<u8>,
 }
 
-/// A statement's size, as a certificate tells it.
+/// Converts a statement's size to the checker's type.
 fn tell(statement: relax::Statement) -> certificate::Statement
-    ensures { result ≡ told statement }
+    ensures { result ≡ told_size statement }
 {
     match statement {
         relax::Statement::Fixed(size) => certificate::Statement::Fixed(size),
@@ -28,7 +28,7 @@ fn tell(statement: relax::Statement) -> certificate::Statement
     }
 }
 
-/// A verdict, as a certificate tells it.
+/// Converts a verdict to the checker's type.
 fn tell_verdict(verdict: relax::Verdict) -> certificate::Verdict
     ensures { result ≡ told_verdict verdict }
 {
@@ -39,9 +39,9 @@ fn tell_verdict(verdict: relax::Verdict) -> certificate::Verdict
     }
 }
 
-/// A shape, as a sizes text tells it.
+/// Converts a shape to the checker's type.
 fn tell_shape(alloc: Global, shape: &relax::Shape) -> Result<certificate::Shape, AllocError>
-    ensures { IfOk result (λ s. s ≡ map told shape.now) }
+    ensures { IfOk result (λ s. s ≡ map told_size shape.now) }
 {
     let told = shape.statements();
     let mut statements = Vec::with_capacity(alloc, told.len())?;
@@ -51,7 +51,7 @@ fn tell_shape(alloc: Global, shape: &relax::Shape) -> Result<certificate::Shape,
     Ok(certificate::Shape::new(statements))
 }
 
-/// The sizes text of a shape, and the certificate of its growth.
+/// Makes the sizes file of a shape, and the certificate with the order and the verdict of its growth.
 pub(crate) fn certify(
     alloc: Global,
     shape: &relax::Shape,

@@ -1,4 +1,4 @@
-//! Why no file is built.
+//! Why there is no file.
 
 ghost use Rattle.std.specs.Prelude.{◌≡◌};
 ghost use Rattle.zlink.specs.Linked.{link_fault};
@@ -12,30 +12,30 @@ use thiserror::Error;
 /// Why no choice of short and long jumps fits.
 #[derive(Clone, Copy, Debug, PartialEq, Eq, Error)]
 pub enum Misfit {
-    /// This statement, counted from 0, is the lowest jump that is always short and does not reach its target. It reaches it in no
-    /// choice in which each jump that could be long, and is short, reaches its own.
+    /// This statement, counted from 0, is the lowest jump that is always short and does not reach its target. It does not reach it in any
+    /// settled choice: one in which every relaxable jump that is short reaches its own target.
     #[error("statement {0} reaches its target in no choice that fits")]
     Range(u32),
-    /// Each jump that is always short reaches its target, but every choice in which each jump that could be long, and is short,
-    /// reaches its own takes at least this many bytes, more than 64,512.
+    /// All jumps that are always short reach their targets, but every settled choice takes at least this many bytes, and this is more than
+    /// 64,512. (In a settled choice every relaxable jump that is short reaches its target.)
     #[error("no choice in which jumps reach takes less than {0} bytes")]
     TooLarge(u32),
 }
 
-/// Why modules make no file. Modules, their labels and their externals are numbered from 0. Where there are several reasons, the first here
-/// is told.
+/// Why modules make no file. Modules, their labels and their externals are numbered from 0. If there are several reasons, the first of
+/// these is reported.
 #[derive(Debug, Drop, PartialEq, Eq, Error)]
 pub enum LinkFault {
     /// There are more than 20,000 statements.
     #[error("too many statements")]
     TooManyStatements,
-    /// This module begins the program, and is not the first.
+    /// This module says ORG 0100H, but is not the first.
     #[error("module {0} begins the program, and is not the first")]
     BeginsNotFirst(usize),
-    /// This label of this module is public, and one of its name is public in a module before it.
+    /// This label of this module is public, and a module before it has a public label of the same name.
     #[error("label {1} of module {0} is public in a module before it too")]
     DefinedTwice(usize, u16),
-    /// This external of this module is public in no module.
+    /// No module has a public label with the name of this external of this module.
     #[error("external {1} of module {0} is public in no module")]
     Unresolved(usize, usize),
     /// The entry of this module is not the first statement of the program.
@@ -45,7 +45,7 @@ pub enum LinkFault {
     #[error("no choice of short and long jumps fits")]
     NoFit {
         why: Misfit,
-        /// The sizes text.
+        /// The sizes file.
         sizes: Vec<u8>,
         /// The certificate.
         cert: Vec<u8>,
@@ -55,18 +55,18 @@ pub enum LinkFault {
     NoMemory,
 }
 
-/// Why no file is built.
+/// Why there is no file.
 #[derive(Debug, Drop, PartialEq, Eq, Error)]
 pub enum BuildFault {
-    /// A source has a fault; sources are numbered from 0.
+    /// A source has an error; sources are numbered from 0.
     #[error("source {source}, {fault}")]
     Asm { source: usize, fault: AsmFault },
-    /// The sources are modules that make no file.
+    /// The modules of the sources cannot be linked.
     #[error(transparent)]
     Link(LinkFault),
 }
 
-/// The fault of a source. Want of memory is none of its own.
+/// Answers the error of a source as one of building. If memory ran out, that is not an error of the source.
 pub(crate) fn of_source(source: usize, fault: AsmFault) -> BuildFault
     ensures { result ≡ source_fault source fault }
 {

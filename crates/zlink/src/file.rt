@@ -1,4 +1,4 @@
-//! The bytes of a whole program under a choice of its short and long jumps.
+//! Writes the bytes of a whole program under a choice of its short and long jumps.
 
 mod emitting;
 mod layout;

@@ -1,7 +1,7 @@
-//! From source texts, or modules, to a .COM file whose jumps are as short as they can be.
+//! Builds a .COM file from sources or modules, with each jump as short as it can be.
 //!
-//! [`build`] and [`build_with`] take source texts, [`link`] takes modules. What is answered comes with two texts, from which anyone can check
-//! that no choice of short and long jumps that fits takes fewer bytes.
+//! [`build`] and [`build_with`] take sources, [`link`] takes modules. The answer comes with a sizes file and a certificate, from which
+//! anyone can check that no choice of short and long jumps that fits takes fewer bytes.
 //!
 //! The steps of [`link`] can be called too: [`join`] makes one program of modules, and [`shape_of`], [`places_of`], [`emit`] and [`grown`]
 //! make its file under a choice of short and long jumps.

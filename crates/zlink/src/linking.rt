@@ -1,9 +1,9 @@
-//! From modules to a file.
+//! Links modules to a file.
 
 ghost use Rattle.std.specs.Prelude.{All, map};
 ghost use Rattle.zmo_module.specs.Modules.{module_of};
 ghost use Rattle.zmo_module.specs.Rules.{IsModule};
-ghost use Rattle.zlink.specs.Linked.{IsExact, IsLinked};
+ghost use Rattle.zlink.specs.Linked.{IsExactLink, IsLinked};
 
 use crate::certify::{Texts, certify};
 use crate::fault::{LinkFault, Misfit};
@@ -15,24 +15,24 @@ use relax::{Verdict, least};
 use std::alloc::Global;
 use zmo_module::Module;
 
-/// What is linked of modules.
+/// What linking modules gives.
 #[derive(Debug, Drop, PartialEq, Eq)]
 pub struct Linked {
     /// The .COM file, which is loaded at 0100H.
     pub com: Vec<u8>,
-    /// The sizes text: what the program's size depends on.
+    /// The sizes file: what the size of the program depends on.
     pub sizes: Vec<u8>,
     /// The certificate that no choice of short and long jumps that fits takes fewer bytes.
     pub cert: Vec<u8>,
-    /// The labels by module, and in a module by their numbers.
+    /// The labels of all modules, in the order of the modules and of their labels.
     pub symbols: Vec<Symbol>,
-    /// The place of each statement, and at last that of the end.
+    /// The address of each statement, and then the address of the end.
     pub places: Vec<u32>,
-    /// The numbers of the jumps that were written as a `JR` and are coded as a `JP`, ascending.
+    /// The numbers of the jumps that were written as `JR` and became `JP`, ascending.
     pub grown: Vec<u32>,
 }
 
-/// What is linked of the modules, or why nothing is.
+/// Links the modules, or answers why it cannot.
 fn link_modules(alloc: Global, modules: &[Module]) -> Result<Linked, LinkFault>
     requires { All IsModule (map module_of modules.now) }
     ensures { IsLinked (map module_of modules.now) result }
@@ -73,16 +73,16 @@ fn link_modules(alloc: Global, modules: &[Module]) -> Result<Linked, LinkFault>
 ///
 /// # Errors
 ///
-/// The first fault of the modules together, by the order of [`LinkFault`]; [`LinkFault::NoFit`] only where no choice of short and long jumps
-/// fits, with the reason; [`LinkFault::NoMemory`] where memory ran out.
+/// The first error of the modules together, in the order of [`LinkFault`]; [`LinkFault::NoFit`], with the reason, only if no choice of
+/// short and long jumps fits; [`LinkFault::NoMemory`] if memory ran out.
 pub fn link(alloc: Global, modules: &[Module]) -> Result<Linked, LinkFault>
     requires { All IsModule (map module_of modules.now) }
 
     // What is answered holds of the modules.
     ensures answer { IsLinked (map module_of modules.now) result }
 
-    // What they are, they are answered.
-    ensures exact { IsExact (map module_of modules.now) result }
+    // What holds of the modules is answered, unless memory ran out.
+    ensures exact { IsExactLink (map module_of modules.now) result }
 {
     link_modules(alloc, modules)
 }

@@ -1,4 +1,4 @@
-//! Where statements come from.
+//! Says for each statement its address and the line that it comes from.
 
 ghost use Rattle.std.specs.Prelude.{◌≡◌, ◌++◌, ℕ, IfOk, List, OnOk, map, slice_index};
 ghost use Rattle.zlink.specs.Built.{origin_of, origins_by};
@@ -7,7 +7,7 @@ ghost use Rattle.zlink.specs.Private.Assembling.{lines_in};
 use asm_module::Lines;
 use std::alloc::{AllocError, Global};
 
-/// Where a statement stands, and where it comes from.
+/// The address of a statement, and the line that it comes from.
 #[derive(Clone, Copy, Debug, PartialEq, Eq)]
 pub struct Origin {
     /// Its address.
@@ -18,7 +18,7 @@ pub struct Origin {
     pub line: u32,
 }
 
-/// The place of a statement; 0 where it has none.
+/// Answers the address of a statement, or 0 if it has none.
 fn place_of(places: &[u32], statement: usize) -> u32
     ensures { result ≡ slice_index places.now statement }
 {
@@ -28,7 +28,7 @@ fn place_of(places: &[u32], statement: usize) -> u32
     }
 }
 
-/// Adds the origins of the statements of a source.
+/// Appends the origins of the statements of a source.
 fn put_origins(
     origins: &mut Vec<Origin>,
     source: usize,
@@ -48,7 +48,7 @@ fn put_origins(
     Ok(())
 }
 
-/// The origins of the statements of all sources, which stand at these places in their order.
+/// Answers the origins of the statements of all sources, given their addresses.
 pub(crate) fn origins_of(
     alloc: Global,
     sources: &[Lines],

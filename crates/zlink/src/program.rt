@@ -1,4 +1,4 @@
-//! The whole program of modules: which statement each name stands for, or the first fault of the modules together.
+//! Joins modules to one program: finds the statement that each name stands for, or the first error of the modules together.
 
 mod checks;
 mod fault;

@@ -1,6 +1,6 @@
-//! What goes in.
+//! The sources that are built.
 
-/// A source text, and its name, of which the first 255 bytes are that of its module.
+/// A source and its name. The first 255 bytes of the name are the name of its module.
 #[derive(Clone, Copy, Debug)]
 pub struct Source<'a> {
     pub name: &'a [u8],

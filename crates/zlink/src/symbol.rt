@@ -1,17 +1,17 @@
-//! The labels of a whole.
+//! Collects the labels of the whole program.
 
 ghost use Rattle.std.specs.Prelude.{◌≡◌, ◌<◌, ◌+◌, ◌++◌, All, IfOk, OnOk, length, map, slice_index};
 ghost use Rattle.zmo_module.specs.Modules.{module_of};
 ghost use Rattle.zmo_module.specs.Rules.{IsModule};
 ghost use Rattle.zlink.specs.Program.Whole.{AreLinks, program};
-ghost use Rattle.zlink.specs.Linked.{symbol_of, symbols, symbols_in};
+ghost use Rattle.zlink.specs.Linked.{symbol_of, all_symbols, symbols_in};
 
 use crate::laws::laid_out;
 use crate::program::Links;
 use std::alloc::{AllocError, Global};
 use zmo_module::Module;
 
-/// A label.
+/// A label and its address.
 #[derive(Debug, Drop, PartialEq, Eq)]
 pub struct Symbol {
     pub name: Vec<u8>,
@@ -21,7 +21,7 @@ pub struct Symbol {
     pub place: u32,
 }
 
-/// Adds the labels of a module, which stands among others.
+/// Appends the labels of a module, whose links say where it is in the whole program.
 fn put_symbols(
     alloc: Global,
     own: &Module,
@@ -43,7 +43,7 @@ fn put_symbols(
     Ok(())
 }
 
-/// The labels of modules, in their order.
+/// Answers the labels of the modules, in their order.
 pub(crate) fn symbols_of(
     alloc: Global,
     modules: &[Module],
@@ -53,7 +53,7 @@ pub(crate) fn symbols_of(
     requires modules { All IsModule (map module_of modules.now) }
     requires links { AreLinks (map module_of modules.now) links.now }
     requires places { length places.now ≡ length (program (map module_of modules.now)) + 1 }
-    ensures { IfOk result (λ v. map symbol_of v.items ≡ symbols (λ k. slice_index places.now k) (map module_of modules.now)) }
+    ensures { IfOk result (λ v. map symbol_of v.items ≡ all_symbols (λ k. slice_index places.now k) (map module_of modules.now)) }
 {
     laid_out();
     let mut symbols = Vec::new(alloc);

@@ -1,4 +1,4 @@
--- Cells in the order of lines.
+-- The bytes of the file in the order of source lines.
 use Rattle.std.proofs.Common.{◌≡◌, ◌∙◌, ◌<◌, ◌==◌, ◌&&◌, ◌||◌, ◌⊎◌, ℕ, true, false, List, filter, take, drop, sym, subst, arith, Less, is_lt, is_eq, inl, inr}
 use Rattle.std.specs.Prelude.{nat_lt}
 use Rattle.std.specs.List.{AllByRecursion, prefix_len}
@@ -15,7 +15,7 @@ use Rattle.zlisting.proofs.Order.{AtMost, all_from, ascending_from_sorted, like_
 pub line_total : IsTotalOrder line_cmp
 line_total = then_total (on_total (λ (c : Cell). c.source) nat_cmp_total) (on_total (λ (c : Cell). c.line) nat_cmp_total)
 
--- a cell of a line
+-- a cell on a line
 abbrev pub cell_at : ℕ → ℕ → Cell
 cell_at source line = record { source = source; line = line; number = 0; value = 0 }
 
@@ -35,7 +35,7 @@ on_is source line = fun_ext (λ c. sym (eq_then source c.source line c.line))
 pub before_is : (source line : ℕ) → is_before source line ≡ is_under line_cmp line_total (cell_at source line)
 before_is source line = fun_ext (λ c. sym (lt_then source c.source line c.line))
 
--- what stands in front of the cells from a line on, and of those behind it
+-- the cells of this line and the lines after it, and those of the lines after it
 abbrev rest_at : ℕ → ℕ → List Cell → List Cell
 rest_at source line cells = drop (prefix_len (is_before source line) cells) cells
 

@@ -1,4 +1,4 @@
--- Lists in the order of a comparison.
+-- Lists that are sorted by a comparison.
 use Rattle.std.proofs.Common.{◌≡◌, ◌∙◌, ◌+◌, ℕ, zero, suc, Bool, true, false, cond, List, [], ◌∷◌, filter, take, drop, refl, sym, ap, ap₂, arith, Ordering, Less, Equal, Greater, is_lt, is_gt, is_eq, true≢false, add-one}
 use Rattle.std.specs.List.{AllByRecursion, prefix_len}
 use Rattle.std.specs.Prelude.{◌&&◌, not}
@@ -20,7 +20,7 @@ filter_none p (x ∷ xs) h = rw (h.0, filter_none p xs h.1)
 one_more : (n : ℕ) → 1 + n ≡ suc n
 one_more n = omega arith
 
--- what is passed over in front does not pass the filter
+-- elements that are skipped at the front do not pass the filter
 pub filter_behind : {X : Type 0} (p r : X → Bool) → ((x : X) → r x ≡ true → p x ≡ false) → (xs : List X) → filter p (drop (prefix_len r xs) xs) ≡ filter p xs
 filter_behind p r never [] = refl
 filter_behind p r never (x ∷ xs) = go (r x) refl (filter_behind p r never xs)
@@ -55,7 +55,7 @@ module _ {X : Type 0} (cmp : X → X → Ordering) (total : IsTotalOrder cmp) wh
       go Equal e h = sym (alike_right total y z x e) ∙ less
       go Greater e h = absurd (true≢false h)
 
-  -- two that tie are alike
+  -- if neither of two elements is less, they are equal in the order
   tied : (o : Ordering) → (not (is_lt o) && not (is_lt (ordering_reverse o))) ≡ is_eq o
   tied Less = refl
   tied Equal = refl
@@ -86,7 +86,7 @@ module _ {X : Type 0} (cmp : X → X → Ordering) (total : IsTotalOrder cmp) wh
   ascending_drop (suc n) [] up = up
   ascending_drop (suc n) (x ∷ xs) up = ascending_drop n xs up.1
 
-  -- behind all that is under x
+  -- after all elements that are less than x
   pub all_from : (x : X) (ys : List X) → IsAscending cmp ys → AllByRecursion (AtMost x) (drop (prefix_len (is_under x) ys) ys)
   all_from x [] up = tt
   all_from x (y ∷ ys) up = go (is_under x y) refl (all_from x ys up.1)
@@ -100,7 +100,7 @@ module _ {X : Type 0} (cmp : X → X → Ordering) (total : IsTotalOrder cmp) wh
   none_like x y ys less up =
       filter_none (is_like x) (y ∷ ys) (ap is_eq less, all_weaker _ (λ z. is_like x z ≡ false) (λ z most. ap is_eq (still_under x y z less most)) ys up)
 
-  -- those like x stand in front, where none is under x
+  -- if none is less than x, those equal to x are at the front
   pub front_like : (x : X) (ys : List X) → AllByRecursion (AtMost x) ys → IsAscending cmp ys → take (prefix_len (is_like x) ys) ys ≡ filter (is_like x) ys
   front_like x [] most up = refl
   front_like x (y ∷ ys) most up = go (cmp x y) refl most.0 (front_like x ys most.1 up.1)
@@ -111,7 +111,7 @@ module _ {X : Type 0} (cmp : X → X → Ordering) (total : IsTotalOrder cmp) wh
       go Equal e h more = rw (one_more (prefix_len (is_like x) ys), e) (ap (λ zs. y ∷ zs) more)
       go Greater e h more = absurd (true≢false h)
 
-  -- Of the lists in which alike elements stand in one order, one ascends.
+  -- Among all lists in which equal elements have the same order, only one is sorted.
   self : (x : X) → is_like x x ≡ true
   self x = ap is_eq (tied_itself total x)
 
@@ -165,7 +165,7 @@ module _ {X : Type 0} (cmp : X → X → Ordering) (total : IsTotalOrder cmp) wh
           let first : AtMost x y = not_under x y e in
           ((first, all_weaker (AtMost y) (AtMost x) (λ z. upto total x y z first) ys up.0), up)
 
-  -- what is under another is not like what is like the other
+  -- an element that is less than x is not equal to what equals x
   apart : (x y z : X) → is_lt (cmp y x) ≡ true → is_like z x ≡ true → is_like z y ≡ false
   apart x y z under like = go (cmp z x) (cmp y x) refl refl like under
     where

@@ -7,7 +7,7 @@ use Rattle.asm_macro.specs.Texts.{source_lines}
 use Rattle.zlink.specs.declared.source.Source.{Source}
 use Rattle.zlisting.specs.declared.cells.Cell.{Cell}
 use Rattle.zlisting.specs.Printed.{listed_line}
-use Rattle.zlisting.specs.Listing.{Part, listed_source}
+use Rattle.zlisting.specs.Listing.{ListedStatement, listed_source}
 use Rattle.zlisting.specs.Private.Runs.{HasLines, IsBehind, byte_of, cells_in, is_on, lines_with, source_with}
 use Rattle.zlisting.proofs.Parted.{line_is}
 
@@ -37,8 +37,8 @@ source_more n behind rest cells some more = record {
   lines = λ s l h. some.lines s l h ∙ more.lines s l (omega arith);
 }
 
--- a source's lines with the cells that are left are those of its statements
-source_is : (number last : ℕ) (text : List ℕ) (rest : List Cell) (ps : List Part) → HasLines (λ s l. number ≤ s) rest (flat_map cells_in ps)
+-- a source's lines with the cells that are left are its lines with the bytes of its statements
+source_is : (number last : ℕ) (text : List ℕ) (rest : List Cell) (ps : List ListedStatement) → HasLines (λ s l. number ≤ s) rest (flat_map cells_in ps)
     → source_with number rest last text ≡ listed_source ps number last text
 source_is number last text rest ps has =
     ap (λ f. flat_map f (enumerate_from 1 (take last (source_lines text))))
@@ -49,7 +49,7 @@ zip_nil [] = refl
 zip_nil (x ∷ xs) = refl
 
 -- one more source
-pub sources_more : (ps : List Part) (n : ℕ) (last : List ℕ) (sources : List Source) (d : ℕ) (e : Source) (rest : List Cell) (out now : List ℕ)
+pub sources_more : (ps : List ListedStatement) (n : ℕ) (last : List ℕ) (sources : List Source) (d : ℕ) (e : Source) (rest : List Cell) (out now : List ℕ)
     → n < length last → n < length sources → HasLines (λ s l. n ≤ s) rest (flat_map cells_in ps)
     → now ≡ out ++ source_with n rest (get_or last n d) (get_or sources n e).text.now
     → now ++ flat_map (λ s. listed_source ps s.0 s.1.0 s.1.1.text.now) (enumerate_from (n + 1) (zip (drop (n + 1) last) (drop (n + 1) sources)))

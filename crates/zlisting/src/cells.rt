@@ -1,9 +1,9 @@
-//! The bytes of a file by the lines from which they come.
+//! Sorts the bytes of a file by the source lines that they come from.
 
 ghost use Rattle.std.specs.Prelude.{◌≡◌, ◌++◌, ◌-◌, ◌≤◌, ℕ, IfOk, List, OnOk, Option, filter, length, map};
 ghost use Rattle.std.specs.List.{flat_map, prefix_len};
 ghost use Rattle.zlink.specs.Built.{origin_of};
-ghost use Rattle.zlisting.specs.Listing.{between, bytes_of};
+ghost use Rattle.zlisting.specs.Listing.{file_between, file_bytes};
 ghost use Rattle.zlisting.specs.Listing as spec;
 ghost use Rattle.zlisting.specs.Private.Runs.{Ascends, HasLines, IsBehind, cell_of, cells_in, is_before, is_on};
 
@@ -11,7 +11,7 @@ use common::FIRST_PLACE;
 use std::alloc::{AllocError, Global};
 use zlink::Origin;
 
-/// A byte of a file, and the line from which it comes.
+/// A byte of a file, and the source line that it comes from.
 #[derive(Clone, Copy, Debug, PartialEq, Eq)]
 pub(crate) struct Cell {
     /// The number of its source, from 0.
@@ -23,7 +23,7 @@ pub(crate) struct Cell {
     pub(crate) value: u8,
 }
 
-/// The address of the first of some statements.
+/// Answers the address of the first of some statements.
 fn first_place(statements: &[Origin]) -> Option<u32>
     ensures { result ≡ spec.first_place (map origin_of statements.now) }
 {
@@ -33,16 +33,16 @@ fn first_place(statements: &[Origin]) -> Option<u32>
     }
 }
 
-/// How many bytes stand before an address.
+/// Answers how many bytes of the file come before an address.
 fn count_before(place: u32) -> usize
     ensures { result ≡ place - FIRST_PLACE }
 {
     place.saturating_sub(FIRST_PLACE) as usize
 }
 
-/// The bytes from an address on and, where there is a next one, before that.
+/// Answers the bytes from an address up to the next one, or to the end if there is no next one.
 fn between(file: &[u8], place: u32, next: Option<u32>) -> &[u8]
-    ensures { result.now ≡ spec.between place next file.now }
+    ensures { result.now ≡ spec.file_between place next file.now }
 {
     let bytes = file.get(count_before(place)..).unwrap_or(&[]);
     match next {
@@ -53,14 +53,14 @@ fn between(file: &[u8], place: u32, next: Option<u32>) -> &[u8]
     }
 }
 
-/// Adds the bytes of a statement, which another may follow at an address.
+/// Appends the bytes of a statement, given the address of the next one if there is one.
 fn put_cells(
     cells: &mut Vec<Cell>,
     file: &[u8],
     origin: &Origin,
     next: Option<u32>,
 ) -> Result<(), AllocError>
-    ensures { OnOk result (cells.new.items ≡ cells.old.items ++ map (cell_of origin.now.source origin.now.line) (spec.between origin.now.place next (bytes_of file.now))) }
+    ensures { OnOk result (cells.new.items ≡ cells.old.items ++ map (cell_of origin.now.source origin.now.line) (spec.file_between origin.now.place next (file_bytes file.now))) }
 {
     let Origin {
         place,
@@ -79,9 +79,9 @@ fn put_cells(
     Ok(())
 }
 
-/// The bytes of all statements, in their order.
+/// Answers the bytes of all statements, in their order.
 fn all_cells(alloc: Global, file: &[u8], statements: &[Origin]) -> Result<Vec<Cell>, AllocError>
-    ensures { IfOk result (λ cells. cells.items ≡ flat_map cells_in (spec.parts (bytes_of file.now) (map origin_of statements.now))) }
+    ensures { IfOk result (λ cells. cells.items ≡ flat_map cells_in (spec.listed_statements (file_bytes file.now) (map origin_of statements.now))) }
 {
     let mut cells = Vec::new(alloc);
     let mut rest = statements;
@@ -92,20 +92,20 @@ fn all_cells(alloc: Global, file: &[u8], statements: &[Origin]) -> Result<Vec<Ce
     Ok(cells)
 }
 
-/// The bytes of all statements, by line, and those of a line in the order of their statements.
+/// Answers the bytes of all statements by line. The bytes of one line are in the order of its statements.
 pub(crate) fn cells_by_line(
     alloc: Global,
     file: &[u8],
     statements: &[Origin],
 ) -> Result<Vec<Cell>, AllocError>
-    ensures { IfOk result (λ cells. HasLines (λ _ _. Unit {0}) cells.items (flat_map cells_in (spec.parts (bytes_of file.now) (map origin_of statements.now)))) }
+    ensures { IfOk result (λ cells. HasLines (λ _ _. Unit {0}) cells.items (flat_map cells_in (spec.listed_statements (file_bytes file.now) (map origin_of statements.now)))) }
 {
     let mut cells = all_cells(alloc, file, statements)?;
     cells.sort_by_key(|cell| (cell.source, cell.line))?;
     Ok(cells)
 }
 
-/// How many cells in front are of lines before this one.
+/// Answers how many cells at the front belong to lines before this one.
 fn count_passed(cells: &[Cell], source: usize, line: u32) -> usize
     ensures value { result ≡ prefix_len (is_before source line) cells.now }
     ensures within { result ≤ length cells.now }
@@ -116,7 +116,7 @@ fn count_passed(cells: &[Cell], source: usize, line: u32) -> usize
         .count()
 }
 
-/// How many cells in front are of this line.
+/// Answers how many cells at the front belong to this line.
 fn count_on(cells: &[Cell], source: usize, line: u32) -> usize
     ensures value { result ≡ prefix_len (is_on source line) cells.now }
     ensures within { result ≤ length cells.now }
@@ -127,7 +127,7 @@ fn count_on(cells: &[Cell], source: usize, line: u32) -> usize
         .count()
 }
 
-/// The cells of a line, and those of the lines behind it.
+/// Answers the cells of a line, and those of the lines after it.
 pub(crate) fn split_line(cells: &[Cell], source: usize, line: u32) -> (&[Cell], &[Cell])
     requires { Ascends cells.now }
     ensures own { result.0.now ≡ filter (is_on source line) cells.now }

@@ -1,4 +1,4 @@
-//! Labels by name.
+//! Prints labels by name.
 
 ghost use Rattle.std.specs.Prelude.{◌≡◌, ◌++◌, IfOk, OnOk, map};
 ghost use Rattle.zlink.specs.Linked.{symbol_of};
@@ -9,14 +9,14 @@ use crate::rows::put_blanks;
 use std::alloc::{AllocError, Global};
 use zlink::{Built, Symbol};
 
-/// The labels, lent.
+/// Answers the labels, borrowed.
 fn lent(alloc: Global, symbols: &[Symbol]) -> Result<Vec<&Symbol>, AllocError>
     ensures { IfOk result (λ found. map (λ s. s.now) found.items ≡ symbols.now) }
 {
     symbols.iter().collect(alloc)
 }
 
-/// The labels by name, and those of one name in their order.
+/// Answers the labels by name. Those with the same name stay in their order.
 fn by_name(alloc: Global, symbols: &[Symbol]) -> Result<Vec<&Symbol>, AllocError>
     ensures { IfOk result (λ sorted. map (λ s. symbol_of s.now) sorted.items ≡ spec.by_name (map symbol_of symbols.now)) }
 {
@@ -25,7 +25,7 @@ fn by_name(alloc: Global, symbols: &[Symbol]) -> Result<Vec<&Symbol>, AllocError
     Ok(sorted)
 }
 
-/// Adds the line of a label.
+/// Appends the line of a label.
 fn put_symbol(alloc: Global, out: &mut Vec<u8>, symbol: &Symbol) -> Result<(), AllocError>
     ensures { OnOk result (out.new.items ≡ out.old.items ++ symbol_line (symbol_of symbol.now)) }
 {
@@ -41,12 +41,12 @@ fn put_symbol(alloc: Global, out: &mut Vec<u8>, symbol: &Symbol) -> Result<(), A
     Ok(())
 }
 
-/// The labels of what is built, a line for each: its address in hexadecimal, its module and its name. They stand by name, byte by byte, and
-/// those of one name in the order of their modules.
+/// Answers the symbols file of a program: a line for each label, with its address in hexadecimal, its module and its name. The lines are
+/// sorted by name, byte by byte. Equal names are in the order of their modules.
 ///
 /// # Errors
 ///
-/// [`AllocError`] where memory ran out.
+/// [`AllocError`] if memory ran out.
 pub fn symbols(alloc: Global, built: &Built) -> Result<Vec<u8>, AllocError>
     ensures { IfOk result (λ text. text.items ≡ spec.symbols built.now) }
 {

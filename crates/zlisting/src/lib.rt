@@ -1,4 +1,4 @@
-//! What is printed of a built program: the lines of its sources with their bytes, and its labels.
+//! Prints the listing of a built program, which has the lines of its sources with their bytes, and the list of its labels.
 #![tactic(auto)]
 
 mod cells;

@@ -1,4 +1,4 @@
-//! The lines of sources, with their bytes.
+//! Prints the lines of sources, with their bytes.
 
 ghost use Rattle.std.specs.Prelude.{◌≡◌, ◌++◌, ◌+◌, ◌≤◌, IfOk};
 ghost use Rattle.zlisting.specs.Private.Runs.{Ascends, HasLines, source_with};
@@ -11,7 +11,7 @@ use bstr::ByteSlice;
 use std::alloc::{AllocError, Global};
 use zlink::{Built, Source};
 
-/// Adds the lines of a source up to the last that is listed, and answers the bytes of the sources behind it.
+/// Appends the lines of a source up to the last that is listed, and answers the bytes of the sources after it.
 fn put_source<'a>(
     alloc: Global,
     out: &mut Vec<u8>,
@@ -38,15 +38,15 @@ fn put_source<'a>(
     Ok(rest)
 }
 
-/// The listing of what is built of sources: each line of each source, with the bytes of its statements, four to a row.
+/// Answers the listing of a program: each line of each source, with the bytes of its statements, four to a row.
 ///
-/// A row has the address of its first byte, and its bytes, in hexadecimal, and the first row of a line its text. A line without bytes has
-/// blanks before its text. The line of a call or a `REPT` has all bytes of its expansion. Of each source the lines up to the last one that
-/// is listed stand there, as far as the text has them.
+/// A row has the address of its first byte and its bytes, in hexadecimal. The first row of a line also has its text. A line without bytes
+/// has blanks before its text. The line of a call or a `REPT` has all bytes of its expansion. Each source is listed up to its last listed
+/// line, or to its end if it has fewer lines.
 ///
 /// # Errors
 ///
-/// [`AllocError`] where memory ran out.
+/// [`AllocError`] if memory ran out.
 pub fn listing(alloc: Global, built: &Built, sources: &[Source<'_>]) -> Result<Vec<u8>, AllocError>
     ensures { IfOk result (λ text. text.items ≡ spec.listing built.now sources.now) }
 {

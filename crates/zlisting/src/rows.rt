@@ -1,4 +1,4 @@
-//! Lines with their bytes, a row for each four.
+//! Prints lines with their bytes, four to a row.
 
 ghost use Rattle.std.specs.Prelude.{◌≡◌, ◌++◌, ◌+◌, ◌/◌, ◌%◌, ◌≤◌, IfOk, OnOk, length, map, slice_index};
 ghost use Rattle.std.specs.String.{string_bytes};
@@ -14,13 +14,13 @@ use std::alloc::{AllocError, Global};
 /// The most bytes of a row.
 const ROW: usize = 4;
 
-/// The places that the bytes of a row have.
+/// How wide the column of bytes is.
 const BYTES_WIDTH: usize = 8;
 
-/// As many blanks as stand before the text of a line without bytes.
+/// The blanks before the text of a line without bytes.
 const BLANKS: &[u8; 16] = b"                ";
 
-/// Adds blanks.
+/// Appends blanks.
 pub(crate) fn put_blanks(out: &mut Vec<u8>, count: usize) -> Result<(), AllocError>
     requires { count ≤ 16 }
     ensures { OnOk result (out.new.items ≡ out.old.items ++ blanks count) }
@@ -28,7 +28,7 @@ pub(crate) fn put_blanks(out: &mut Vec<u8>, count: usize) -> Result<(), AllocErr
     out.extend_from_slice(&BLANKS[..count])
 }
 
-/// The address of a byte of the file, as two bytes.
+/// Answers the address of a byte of the file, as two bytes.
 fn address_of(cell: &Cell) -> (u8, u8)
     ensures high { result.0 ≡ (FIRST_PLACE + cell.now.number) / 256 % 256 }
     ensures low { result.1 ≡ (FIRST_PLACE + cell.now.number) % 256 }
@@ -38,7 +38,7 @@ fn address_of(cell: &Cell) -> (u8, u8)
     ((page % 256) as u8, (number % 256) as u8)
 }
 
-/// The value of a byte of a row; 0 where it has none.
+/// Answers the value of a byte of a row, or 0 if the row has no such byte.
 fn value_at(row: &[Cell], index: usize) -> u8
     ensures { result ≡ slice_index (map (λ c. c.value) row.now) index }
 {
@@ -48,7 +48,7 @@ fn value_at(row: &[Cell], index: usize) -> u8
     }
 }
 
-/// The digits of a row: four of the address of its first byte, and two of each byte.
+/// Answers the digits of a row: four for the address of its first byte, and two for each byte.
 fn row_digits(alloc: Global, first: &Cell, row: &[Cell]) -> Result<String, AllocError>
     requires { length row.now ≤ ROW }
     ensures { IfOk result (λ digits. string_bytes digits ≡ address_text (FIRST_PLACE + first.now.number) ++ encode_upper (map (λ c. c.value) row.now)) }
@@ -65,7 +65,7 @@ fn row_digits(alloc: Global, first: &Cell, row: &[Cell]) -> Result<String, Alloc
     hex::encode_upper(alloc, &shown[..2 + row.len()])
 }
 
-/// Adds what stands before the text of a row.
+/// Appends what comes before the text of a row.
 fn put_margin(alloc: Global, out: &mut Vec<u8>, row: &[Cell]) -> Result<(), AllocError>
     requires { length row.now ≤ ROW }
     ensures { OnOk result (out.new.items ≡ out.old.items ++ margin (map byte_of row.now)) }
@@ -82,10 +82,10 @@ fn put_margin(alloc: Global, out: &mut Vec<u8>, row: &[Cell]) -> Result<(), Allo
     put_blanks(out, 2)
 }
 
-/// Adds a row.
+/// Appends a row.
 fn put_row(alloc: Global, out: &mut Vec<u8>, text: &[u8], row: &[Cell]) -> Result<(), AllocError>
     requires { length row.now ≤ ROW }
-    ensures { OnOk result (out.new.items ≡ out.old.items ++ spec.row text.now (map byte_of row.now)) }
+    ensures { OnOk result (out.new.items ≡ out.old.items ++ spec.listing_row text.now (map byte_of row.now)) }
 {
     put_margin(alloc, out, row)?;
     out.extend_from_slice(text)?;
@@ -93,7 +93,7 @@ fn put_row(alloc: Global, out: &mut Vec<u8>, text: &[u8], row: &[Cell]) -> Resul
     Ok(())
 }
 
-/// Adds a line with its bytes.
+/// Appends a line with its bytes.
 pub(crate) fn put_line(
     alloc: Global,
     out: &mut Vec<u8>,

@@ -1,4 +1,4 @@
--- Modules as lists, without where they lie in memory.
+-- Modules as lists of numbers and bytes, as definitions see them.
 use Rattle.std.specs.Prelude.{ℕ, Bool, List, Option, map}
 use Rattle.z80_instr.specs.declared.Branch.{Branch}
 use Rattle.z80_instr.specs.declared.ShortCond.{ShortCond}
@@ -7,13 +7,13 @@ use Rattle.zmo_module.specs.declared.module.Label as label
 use Rattle.zmo_module.specs.declared.module.Module as whole
 use Rattle.zmo_module.specs.declared.statement.Statement as statement
 
--- A statement: bytes with holes; a jump that may be coded long or short, marked where it was written as a JR; one that is always short;
--- as many bytes of one value.
-pub data Statement : Type 0 where
-  Bytes : List ℕ → List Hole → Statement
-  Jump : Bool → Option ShortCond → ℕ → Statement
-  Short : Branch → ℕ → Statement
-  Space : ℕ → ℕ → Statement
+-- A statement: bytes with fix-ups; a relaxable jump, marked if it was written as JR; a jump that is always short; or space with one fill
+-- byte.
+pub data ModuleStatement : Type 0 where
+  Bytes : List ℕ → List Hole → ModuleStatement
+  Jump : Bool → Option ShortCond → ℕ → ModuleStatement
+  Short : Branch → ℕ → ModuleStatement
+  Space : ℕ → ℕ → ModuleStatement
 
 pub record Label : Type 0 where
   pub statement : ℕ
@@ -24,14 +24,14 @@ pub record Module : Type 0 where
   pub begins : Bool
   pub entry : Option ℕ
   pub grow : Bool
-  pub statements : List Statement
+  pub statements : List ModuleStatement
   pub labels : List Label
   pub publics : List ℕ
   pub externals : List (List ℕ)
 
--- What the code's types hold.
+-- The values of the code's types as definitions see them.
 
-abbrev pub statement_of : statement.Statement → Statement
+abbrev pub statement_of : statement.Statement → ModuleStatement
 statement_of (statement.TheVariants.Bytes bytes holes) = Bytes bytes.items holes.items
 statement_of (statement.TheVariants.Jump marked condition target) = Jump marked condition target
 statement_of (statement.TheVariants.Short branch target) = Short branch target

@@ -1,4 +1,4 @@
--- The rules that a module keeps.
+-- The rules that a module keeps if an object file may hold it.
 use Rattle.std.specs.Prelude.{◌≡◌, ◌≤◌, ◌<◌, ℕ, ◌+◌, Bool, true, false, List, ◌++◌, All, length, map}
 use Rattle.std.specs.List.{IsDistinct}
 use Rattle.std.specs.List.Sorted.{IsStrictlyIncreasing}
@@ -10,33 +10,33 @@ use Rattle.z80_instr.specs.declared.Branch.{Branch}
 use Rattle.zmo_module.specs.declared.module.TheConstants.{LONGEST_NAME}
 use Rattle.zmo_module.specs.Holes.{IsHole, LieWithin}
 use Rattle.zmo_module.specs.Modules as object
-use Rattle.zmo_module.specs.Modules.{Label, Module, Statement}
+use Rattle.zmo_module.specs.Modules.{Label, Module, ModuleStatement}
 
--- a name that fits into an object
-abbrev pub IsShort : List ℕ → Type 0
-IsShort name = length name ≤ LONGEST_NAME
+-- a name of 255 bytes at most
+abbrev pub FitsInObject : List ℕ → Type 0
+FitsInObject name = length name ≤ LONGEST_NAME
 
 -- The name of a label or an external: one that a source can define.
 abbrev pub IsObjectName : List ℕ → Type 0
-IsObjectName name = IsDefinable name × IsShort name
+IsObjectName name = IsDefinable name × FitsInObject name
 
 -- a number of bytes that one statement may take
 abbrev pub IsSize : ℕ → Type 0
 IsSize n = (1 ≤ n) × (n ≤ MOST_BYTES)
 
--- Where a JR may grow, DJNZ alone is always short.
-abbrev pub IsWritten : Bool → Branch → Type 0
-IsWritten grow (Branch.Relative condition) = grow ≡ false
-IsWritten grow Branch.CountDown = Unit {0}
+-- With --grow only DJNZ is always short.
+abbrev pub IsAlwaysShort : Bool → Branch → Type 0
+IsAlwaysShort grow (Branch.Relative condition) = grow ≡ false
+IsAlwaysShort grow Branch.CountDown = Unit {0}
 
--- A statement, where a JR may grow or not, and refs are below some count.
-abbrev pub IsStatement : Bool → ℕ → Statement → Type 0
-IsStatement grow refs (object.Bytes bytes holes) = IsSize (length bytes) × LieWithin 0 (length bytes) holes × All (IsHole refs bytes) holes
-IsStatement grow refs (object.Jump marked condition target) = (marked ≡ true → grow ≡ true) × (target < refs)
-IsStatement grow refs (object.Short branch target) = IsWritten grow branch × (target < refs)
-IsStatement grow refs (object.Space size fill) = IsSize size
+-- A statement that an object file may hold, with --grow or without; its refs are below `refs`.
+abbrev pub IsModuleStatement : Bool → ℕ → ModuleStatement → Type 0
+IsModuleStatement grow refs (object.Bytes bytes holes) = IsSize (length bytes) × LieWithin 0 (length bytes) holes × All (IsHole refs bytes) holes
+IsModuleStatement grow refs (object.Jump marked condition target) = (marked ≡ true → grow ≡ true) × (target < refs)
+IsModuleStatement grow refs (object.Short branch target) = IsAlwaysShort grow branch × (target < refs)
+IsModuleStatement grow refs (object.Space size fill) = IsSize size
 
--- How many refs there are: statements, their end, and externals behind it.
+-- How many refs there are: one for each statement, one for their end, and then one for each external.
 abbrev pub refs_of : Module → ℕ
 refs_of m = (length m.statements + 1) + length m.externals
 
@@ -47,13 +47,13 @@ IsLabel statements l = (l.statement ≤ statements) × IsObjectName l.name
 abbrev pub names_of : Module → List (List ℕ)
 names_of m = map (λ l. l.name) m.labels ++ m.externals
 
--- What an object may hold.
+-- What an object file may hold.
 pub record IsModule (m : Module) : Type 0 where
-  pub name : IsShort m.name
+  pub name : FitsInObject m.name
   pub few_statements : length m.statements ≤ MOST_STATEMENTS
   pub few_names : length m.labels + length m.externals ≤ MOST_NAMES
   pub entry : IfSome m.entry (λ e. e < length m.labels)
-  pub statements : All (IsStatement m.grow (refs_of m)) m.statements
+  pub statements : All (IsModuleStatement m.grow (refs_of m)) m.statements
   pub labels : All (IsLabel (length m.statements)) m.labels
   pub public_labels : All (λ p. p < length m.labels) m.publics
   pub publics_ascend : IsStrictlyIncreasing m.publics

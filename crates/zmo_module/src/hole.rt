@@ -1,4 +1,4 @@
-//! Where a value is to be put that hangs on places.
+//! The fix-ups of a statement.
 
 ghost use Rattle.std.specs.Prelude.{◌≡◌};
 ghost use Rattle.zmo_module.specs.Holes.{ends_in_byte};
@@ -13,23 +13,24 @@ pub enum Width {
     Word,
 }
 
-/// Where a value is to be put that hangs on places.
+/// A fix-up: a field of a statement whose value depends on addresses.
 #[derive(Debug, Drop)]
 pub struct Hole {
-    /// The bytes before it.
+    /// How many bytes of the statement come before it.
     pub offset: usize,
     pub width: Width,
     pub value: Expr,
 }
 
-/// Whether items end in HIGH or LOW.
+/// Whether the last item is HIGH or LOW.
 fn end_in_byte(items: &[Item<Atom>]) -> bool
     ensures { result ≡ ends_in_byte items.now }
 {
     matches!(items.last(), Some(Item::Unary(Unary::High | Unary::Low)))
 }
 
-/// The same of an expression whose items do not lie side by side. Few are such, and the room for its items takes time to make.
+/// Answers the same for an expression whose items are not one slice in memory. Such expressions are rare, and clearing the room for their
+/// items takes time, so this is a function of its own, which is not inlined.
 #[inline(never)]
 fn ends_in_byte_gathered(expr: &Expr) -> bool
     ensures { result ≡ ends_in_byte expr.now }
@@ -37,7 +38,7 @@ fn ends_in_byte_gathered(expr: &Expr) -> bool
     end_in_byte(items(expr, &mut Room::new()))
 }
 
-/// Whether HIGH or LOW is the outermost operator, as it has to be where a byte hangs on places.
+/// Whether the outermost operator is HIGH or LOW, as it has to be if the value of a byte depends on addresses.
 pub fn ends_in_byte(expr: &Expr) -> bool
     ensures { result ≡ ends_in_byte expr.now }
 {

@@ -1,6 +1,6 @@
-//! Modules: what the assembler makes of one source, an object file holds, and the linker joins.
+//! Modules: what the assembler makes from one source, an object file holds, and the linker joins.
 //!
-//! A [`Module`] is numbers, bytes and names. Which of them an object may hold is a definition, `IsModule`.
+//! A [`Module`] consists of numbers, bytes and names. The definition `IsModule` says which of them an object file may hold.
 #![tactic(auto)]
 
 mod hole;

@@ -1,29 +1,29 @@
-//! Statements of a module.
+//! The statements of a module.
 
 use crate::hole::Hole;
 use z80_instr::{Branch, ShortCond};
 
-/// A statement of a module. A ref is the number of a statement, where as many as there are is their end; the externals come
-/// behind that.
+/// A statement of a module. Its refs are numbers: first those of statements, then the count of statements for their end, and then those of
+/// externals.
 #[derive(Debug, Drop)]
 pub enum Statement {
-    /// Bytes, 0 in each hole.
+    /// Bytes, which are 0 where a fix-up is.
     Bytes {
         bytes: Vec<u8>,
         holes: Vec<Hole>,
     },
-    /// A jump that may be coded as a `JP` or as a `JR`, to the place of a ref. It is marked where it was written as a `JR`.
+    /// A relaxable jump to a ref, which becomes a `JP` or a `JR`. It is marked if it was written as `JR`.
     Jump {
         marked: bool,
         condition: Option<ShortCond>,
         target: u16,
     },
-    /// A jump that is always short.
+    /// A jump to a ref that is always short.
     Short {
         branch: Branch,
         target: u16,
     },
-    /// As many bytes of one value, one at least.
+    /// `size` bytes, all of them `fill`. `size` is at least 1.
     Space {
         size: u16,
         fill: u8,

@@ -1,4 +1,4 @@
--- Which names a source can define, as a test.
+-- Decides by a test which names a source can define.
 use Rattle.std.proofs.Common.{◌≡◌, ◌&&◌, ℕ, Bool, false, not, List, [], ◌∷◌}
 use Rattle.std.specs.Bool.{Decides}
 use Rattle.std.specs.List.{list_all}

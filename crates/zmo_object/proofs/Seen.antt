@@ -1,4 +1,4 @@
--- The names so far, as the code keeps them.
+-- Some element passes a test after a function exactly if some element of the mapped list passes the test.
 use Rattle.std.proofs.Common.{◌≡◌, ◌||◌, Bool, List, [], ◌∷◌, map, refl, ap}
 use Rattle.std.specs.List.{list_any}
 

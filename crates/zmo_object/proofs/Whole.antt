@@ -1,4 +1,4 @@
--- Whole objects: what is read was spelled so, and what is spelled is read again.
+-- Whole object files: reading gives a module whose file has exactly these bytes, and reading the file of a module gives this module.
 use Rattle.std.proofs.Common.{◌≡◌, ◌<◌, ◌+◌, ℕ, Bool, true, false, List, [], ◌∷◌, ◌++◌, Option, Some, None, Result, Ok, Err, All, length, take, drop, refl, sym, ap, subst, ◌∙◌, append_assoc, arith, inl, inr}
 use Rattle.std.specs.List.{flat_map}
 use Rattle.std.specs.Option.{IfSome}
@@ -10,14 +10,14 @@ use Rattle.std.proofs.lemmas.List.Elements.{All-cons, All-drop, All-head, All-ni
 use Rattle.std.proofs.lemmas.Slice.Eq.{bytes_eq-Decides}
 use Rattle.zmo_module.specs.declared.module.Module as whole
 use Rattle.zmo_module.specs.Modules.{Module, module_of}
-use Rattle.zmo_module.specs.Rules.{IsLabel, IsModule, IsStatement}
-use Rattle.zmo_object.specs.Fields.Texts.{counted, word}
+use Rattle.zmo_module.specs.Rules.{IsLabel, IsModule, IsModuleStatement}
+use Rattle.zmo_object.specs.Fields.Texts.{with_length, word_bytes}
 use Rattle.zmo_object.specs.Fields.Field.{Field, IsBytes}
 use Rattle.zmo_object.proofs.Fields.Taken.{Chain, Reads, joins, many_again, many_takes, then_is, then_takes}
 use Rattle.zmo_object.specs.declared.fault.ObjectFault.{ObjectFault}
 use Rattle.zmo_object.specs.Codes.{grow_of, magic}
-use Rattle.zmo_object.specs.Texts.{counts_text, entry_text, flags, label_text, statement_text, text_of}
-use Rattle.zmo_object.specs.Reading.{Answers, Counts, Header, Lists, all_of, answered, ended, header_at, lists_at, module_at, read_behind, read_of, statement_at, statements_at}
+use Rattle.zmo_object.specs.Texts.{counts_text, entry_text, flags, label_text, statement_text, module_text}
+use Rattle.zmo_object.specs.Reading.{AnswersAsRead, Counts, Header, Lists, all_of, answered_module, unless_bytes_left, header_at, lists_at, module_at, read_behind, read_of, statement_at, statements_at}
 use Rattle.zmo_object.proofs.Headed.{HeaderGood, header_again, header_spelled, header_takes}
 use Rattle.zmo_object.proofs.Listed.{ListsGood, lists_again, lists_take, lists_text}
 use Rattle.zmo_object.proofs.Stated.{statement_again, statement_takes}
@@ -30,7 +30,7 @@ each_chained : {A : Type 0} (P : A → Type 0) (s : ℕ) (xs : List A) → All P
 each_chained P s [] all = tt
 each_chained P s (x ∷ xs) all = (All-head P x xs all, each_chained P s xs (All-tail P x xs all))
 
--- The head and the lists of a module.
+-- The header and the lists that a module has.
 
 counts_in : Module → Counts
 counts_in m = record { statements = length m.statements; labels = length m.labels; publics = length m.publics; externals = length m.externals }
@@ -41,20 +41,20 @@ header_in m = record { name = m.name; begins = m.begins; counts = counts_in m; e
 lists_in : Module → Lists
 lists_in m = record { labels = m.labels; publics = m.publics; externals = m.externals }
 
--- a text behind its magic
+-- the object file of a module without its first four bytes
 behind_magic : Module → List ℕ
 behind_magic m = (header_spelled (header_in m) ++ flat_map statement_text m.statements) ++ lists_text (lists_in m)
 
 regrouped : (m n f e s l p x : List ℕ) → (((((((m ++ n) ++ f) ++ e) ++ s) ++ l) ++ p) ++ x) ≡ m ++ ((((n ++ f) ++ e) ++ s) ++ ((l ++ p) ++ x))
 regrouped m n f e s l p x = simp append_assoc
 
-text_is : (m : Module) → text_of m ≡ magic m.grow ++ behind_magic m
+text_is : (m : Module) → module_text m ≡ magic m.grow ++ behind_magic m
 unfolding behind_magic header_in counts_in lists_in
 text_is m =
-    regrouped (magic m.grow) (counted m.name) (flags m ∷ counts_text m) (entry_text m.entry) (flat_map statement_text m.statements) (flat_map label_text m.labels) (flat_map word m.publics)
-    (flat_map counted m.externals)
+    regrouped (magic m.grow) (with_length m.name) (flags m ∷ counts_text m) (entry_text m.entry) (flat_map statement_text m.statements) (flat_map label_text m.labels) (flat_map word_bytes m.publics)
+    (flat_map with_length m.externals)
 
--- A module behind its magic.
+-- Reading what follows the first four bytes.
 
 counts_are : (c : Counts) (s l p x : ℕ) → s ≡ c.statements → l ≡ c.labels → p ≡ c.publics → x ≡ c.externals → ◌≡◌ {A = Counts} (record { statements = s; labels = l; publics = p; externals = x }) c
 counts_are c s l p x e1 e2 e3 e4 = rw (e1, e2, e3, e4) refl
@@ -70,7 +70,7 @@ module_takes grow bytes fits =
     then_takes (header_at bytes) _ (header_takes bytes fits) (λ header first.
     let refs = (header.0.counts.statements + 1) + header.0.counts.externals in
     then_takes (statements_at grow header.0.counts header.1) _
-    (many_takes (λ (none : ℕ). statement_at grow refs) (λ none _. none) statement_text (λ (none : ℕ). IsStatement grow refs) (λ none. statement_takes grow refs) 0 header.0.counts.statements header.1 first.rest) (λ statements second.
+    (many_takes (λ (none : ℕ). statement_at grow refs) (λ none _. none) statement_text (λ (none : ℕ). IsModuleStatement grow refs) (λ none. statement_takes grow refs) 0 header.0.counts.statements header.1 first.rest) (λ statements second.
     then_takes (lists_at header.0.counts statements.1) _ (lists_take header.0.counts statements.1 second.rest) (λ lists third.
     let m : Module = record {
       name = header.0.name;
@@ -100,7 +100,7 @@ module_takes grow bytes fits =
           few_statements = omega (arith, second.good.0);
           few_names = omega (arith, third.good.label_count, third.good.external_count);
           entry = subst (λ n. IfSome header.0.entry (λ e. e < n)) (sym third.good.label_count) first.good.entry;
-          statements = subst (λ r. All (IsStatement grow r) statements.0) same_refs (each_told (IsStatement grow refs) 0 statements.0 second.good.1);
+          statements = subst (λ r. All (IsModuleStatement grow r) statements.0) same_refs (each_told (IsModuleStatement grow refs) 0 statements.0 second.good.1);
           labels = subst (λ n. All (IsLabel n) lists.0.labels) (sym second.good.0) third.good.labels;
           public_labels = subst (λ n. All (λ p. p < n) lists.0.publics) (sym third.good.label_count) third.good.public_labels;
           publics_ascend = third.good.publics_ascend;
@@ -130,8 +130,8 @@ module_laid m bytes b1 b2 rest rules e1 e2 e3 =
     then_is (header_in m, b1) (header_at bytes) _ (ap header_at e1 ∙ header_again (header_in m) b1 head)
     (then_is (m.statements, b2) (statements_at m.grow (counts_in m) b1) _
     (ap (statements_at m.grow (counts_in m)) e2
-    ∙ many_again (λ (none : ℕ). statement_at m.grow refs) (λ none _. none) statement_text (λ (none : ℕ). IsStatement m.grow refs) (λ none s more good. statement_again m.grow refs s more good) 0 m.statements b2
-    (each_chained (IsStatement m.grow refs) 0 m.statements rules.statements))
+    ∙ many_again (λ (none : ℕ). statement_at m.grow refs) (λ none _. none) statement_text (λ (none : ℕ). IsModuleStatement m.grow refs) (λ none s more good. statement_again m.grow refs s more good) 0 m.statements b2
+    (each_chained (IsModuleStatement m.grow refs) 0 m.statements rules.statements))
     (then_is (lists_in m, rest) (lists_at (counts_in m) b2) _ (ap (lists_at (counts_in m)) e3 ∙ lists_again (counts_in m) (lists_in m) rest lists) refl))
 
 module_again : (m : Module) → IsModule m → module_at m.grow (behind_magic m) ≡ Ok (m, [])
@@ -141,7 +141,7 @@ module_again m rules =
     let ls = lists_text (lists_in m) in
     module_laid m (behind_magic m) (ss ++ ls) ls [] rules (append_assoc (header_spelled (header_in m)) ss ls) refl (sym (append-nil ls))
 
--- The magic.
+-- The first four bytes.
 
 magic_told : (front : List ℕ) → IfSome (grow_of front) (λ grow. front ≡ magic grow)
 magic_told front =
@@ -163,18 +163,18 @@ laid : (grow : Bool) (behind : List ℕ) (m : Module) → module_at grow behind 
 laid true behind m e = behind_is true behind m (take_at (magic true) behind 4 refl) (drop_at (magic true) behind 4 refl) refl e
 laid false behind m e = behind_is false behind m (take_at (magic false) behind 4 refl) (drop_at (magic false) behind 4 refl) refl e
 
-pub read_again : (m : Module) → IsModule m → read_of (text_of m) ≡ Ok m
+pub read_again : (m : Module) → IsModule m → read_of (module_text m) ≡ Ok m
 read_again m rules = ap read_of (text_is m) ∙ laid m.grow (behind_magic m) m (module_again m rules)
 
 IsObject : List ℕ → Module → Type 0
-IsObject bytes m = IsModule m × (bytes ≡ text_of m)
+IsObject bytes m = IsModule m × (bytes ≡ module_text m)
 
 all_told : (grow : Bool) (bytes : List ℕ) → take 4 bytes ≡ magic grow → (r : Field Module) → Reads (IsRead grow (drop 4 bytes)) r → IfOk (all_of (length bytes) r) (IsObject bytes)
 unfolding IsObject
 all_told grow bytes front (Err f) read = tt
 all_told grow bytes front (Ok x) read = by x.0 x.1 read.value.spelled read.value.rules read.value.kind
   where
-    by : (m : Module) (rest : List ℕ) → drop 4 bytes ≡ behind_magic m ++ rest → IsModule m → m.grow ≡ grow → IfOk (ended m rest) (λ all. IsModule all × (bytes ≡ text_of all))
+    by : (m : Module) (rest : List ℕ) → drop 4 bytes ≡ behind_magic m ++ rest → IsModule m → m.grow ≡ grow → IfOk (unless_bytes_left m rest) (λ all. IsModule all × (bytes ≡ module_text all))
     by m (b ∷ rest) spelled rules kind = tt
     by m [] spelled rules kind =
         (rules, sym (take-append-drop 4 bytes) ∙ ap (λ f. f ++ drop 4 bytes) front ∙ ap (λ t. magic grow ++ t) (spelled ∙ append-nil (behind_magic m)) ∙ ap (λ g. magic g ++ behind_magic m) (sym kind) ∙ sym (text_is m))
@@ -183,11 +183,11 @@ read_behind_told : (bytes : List ℕ) → IsBytes bytes → (found : Option Bool
 read_behind_told bytes fits None front = tt
 read_behind_told bytes fits (Some grow) front = all_told grow bytes front (module_at grow (drop 4 bytes)) (module_takes grow (drop 4 bytes) (All-drop (λ b. b < 256) 4 bytes fits))
 
-pub read_told : (bytes : List ℕ) → IsBytes bytes → IfOk (read_of bytes) (λ m. IsModule m × (bytes ≡ text_of m))
+pub read_told : (bytes : List ℕ) → IsBytes bytes → IfOk (read_of bytes) (λ m. IsModule m × (bytes ≡ module_text m))
 unfolding IsObject
 read_told bytes fits = read_behind_told bytes fits (grow_of (take 4 bytes)) (magic_told (take 4 bytes))
 
--- what a call found
-pub found : (bytes : List ℕ) (r : Result whole.Module ObjectFault) → IsBytes bytes → Answers (answered r) (read_of bytes) → IfOk r (λ m. IsModule (module_of m) × (bytes ≡ text_of (module_of m)))
+-- a module that `read` answers keeps the rules, and the bytes are its object file
+pub found : (bytes : List ℕ) (r : Result whole.Module ObjectFault) → IsBytes bytes → AnswersAsRead (answered_module r) (read_of bytes) → IfOk r (λ m. IsModule (module_of m) × (bytes ≡ module_text (module_of m)))
 found bytes (Err f) fits is = tt
-found bytes (Ok m) fits is = subst (λ read. IfOk read (λ all. IsModule all × (bytes ≡ text_of all))) is (read_told bytes fits)
+found bytes (Ok m) fits is = subst (λ read. IfOk read (λ all. IsModule all × (bytes ≡ module_text all))) is (read_told bytes fits)

@@ -1,4 +1,4 @@
--- What stands as one byte in an object.
+-- Things that take one byte in an object file, and the file's first four bytes, which say whether a JR may grow.
 use Rattle.std.specs.Prelude.{ℕ, ◌==◌, ◌&&◌, not, if◌then◌else◌, Bool, true, false, List, Option, Some, None, slice_get, codes}
 use Rattle.std.specs.Str.{bytes_eq}
 use Rattle.z80_instr.specs.declared.Branch.{Branch}
@@ -6,7 +6,7 @@ use Rattle.z80_instr.specs.declared.ShortCond.{ShortCond}
 use Rattle.zmo_module.specs.declared.hole.Width.{Width}
 use Rattle.zmo_object.specs.declared.code.TheConstants.{BRANCHES, CONDITIONS}
 
--- the first four bytes, where a JR may grow or not
+-- the first four bytes of an object file: ZMO2 if it was assembled with --grow, ZMO1 otherwise
 abbrev pub magic : Bool → List ℕ
 magic true = codes "ZMO2"
 magic false = codes "ZMO1"
@@ -14,21 +14,21 @@ magic false = codes "ZMO1"
 abbrev pub grow_of : List ℕ → Option Bool
 grow_of text = if bytes_eq text (magic false) then Some false else if bytes_eq text (magic true) then Some true else None
 
-abbrev pub condition_code : Option ShortCond → ℕ
-condition_code None = 0
-condition_code (Some ShortCond.NotZero) = 1
-condition_code (Some ShortCond.Zero) = 2
-condition_code (Some ShortCond.NotCarry) = 3
-condition_code (Some ShortCond.Carry) = 4
+abbrev pub jump_condition_code : Option ShortCond → ℕ
+jump_condition_code None = 0
+jump_condition_code (Some ShortCond.NotZero) = 1
+jump_condition_code (Some ShortCond.Zero) = 2
+jump_condition_code (Some ShortCond.NotCarry) = 3
+jump_condition_code (Some ShortCond.Carry) = 4
 
 abbrev pub condition_of : ℕ → Option (Option ShortCond)
 condition_of code = slice_get CONDITIONS code
 
 abbrev pub branch_code : Branch → ℕ
-branch_code (Branch.Relative condition) = condition_code condition
+branch_code (Branch.Relative condition) = jump_condition_code condition
 branch_code Branch.CountDown = 5
 
--- Where a JR may grow, DJNZ alone is always short.
+-- The branch of a code. With --grow only DJNZ is always short, so JR has no code there.
 abbrev pub branch_of : Bool → ℕ → Option Branch
 branch_of grow code = if grow && not (code == 5) then None else slice_get BRANCHES code
 

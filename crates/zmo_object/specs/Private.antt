@@ -1,33 +1,33 @@
--- What private contracts alone cite: no reviewer need believe it.
+-- Only private contracts cite these definitions, so a reviewer may skip them.
 use Rattle.std.specs.Prelude.{◌≡◌, ◌≤◌, ℕ, List, [], ◌∷◌, ◌++◌, Result, Ok, Err, All, length, map}
 use Rattle.zmo_module.specs.declared.module.TheConstants.{LONGEST_NAME}
 use Rattle.zmo_module.specs.Modules as object
-use Rattle.zmo_module.specs.Modules.{Label, Module, Statement, label_of}
+use Rattle.zmo_module.specs.Modules.{Label, Module, ModuleStatement, label_of}
 use Rattle.zmo_object.specs.declared.field_fault.FieldFault.{FieldFault}
-use Rattle.zmo_object.specs.Fields.Field.{Fails, Field}
+use Rattle.zmo_object.specs.Fields.Field.{FieldFails, Field}
 use Rattle.zmo_object.specs.declared.header.Counts as count
 use Rattle.zmo_object.specs.declared.header.Header as head
 use Rattle.zmo_object.specs.declared.label.Lists as list
 use Rattle.zmo_object.specs.Reading.{Counts, Header, Lists, with_label}
 
 -- the numbers of a statement fit two bytes
-abbrev pub FitsWords : Statement → Type 0
+abbrev pub FitsWords : ModuleStatement → Type 0
 FitsWords (object.Bytes bytes holes) = (length bytes ≤ 65535) × (length holes ≤ 65535) × All (λ h. h.offset ≤ 65535) holes
 FitsWords (object.Jump marked condition target) = Unit {0}
 FitsWords (object.Short branch target) = Unit {0}
 FitsWords (object.Space size fill) = Unit {0}
 
--- A label was read behind names, and its name is the last now.
+-- If a label was read, its name was added to the names so far. Otherwise the call failed as reading fails.
 abbrev pub Labelled : {X : Type 0} → (X → Label × List ℕ) → List (List ℕ) → Result X FieldFault → List (List ℕ) → Field Label → Type 0
 Labelled view old (Ok x) new read = (read ≡ Ok (view x)) × (new ≡ with_label old (view x).0)
-Labelled view old (Err f) new read = Fails f read
+Labelled view old (Err f) new read = FieldFails f read
 
--- A name was read behind those before, and is the last now.
+-- If a name was read, it was added to the names so far. Otherwise the call failed as reading fails.
 abbrev pub Named : {X : Type 0} → (X → List ℕ × List ℕ) → List (List ℕ) → Result X FieldFault → List (List ℕ) → Field (List ℕ) → Type 0
 Named view old (Ok x) new read = (read ≡ Ok (view x)) × (new ≡ old ++ (view x).0 ∷ [])
-Named view old (Err f) new read = Fails f read
+Named view old (Err f) new read = FieldFails f read
 
--- the numbers of a head fit its fields
+-- the numbers of a module's header fit their fields
 pub record FitsHeader (m : Module) : Type 0 where
   pub name : length m.name ≤ LONGEST_NAME
   pub statements : length m.statements ≤ 65535
@@ -35,7 +35,7 @@ pub record FitsHeader (m : Module) : Type 0 where
   pub publics : length m.publics ≤ 65535
   pub externals : length m.externals ≤ 65535
 
--- What the code's types hold.
+-- The values of the code's types as definitions see them.
 
 abbrev pub counts_of : count.Counts → Counts
 counts_of c = record { statements = c.statements; labels = c.labels; publics = c.publics; externals = c.externals }

@@ -1,14 +1,14 @@
-//! What stands as one byte in an object.
+//! Codes of one byte in an object file: conditions, branches and widths.
 
 ghost use Rattle.std.specs.Prelude.{◌≡◌};
-ghost use Rattle.zmo_object.specs.Fields.Field.{Finds, coded};
-ghost use Rattle.zmo_object.specs.Codes.{branch_code, branch_of, condition_code, condition_of, width_code, width_of};
+ghost use Rattle.zmo_object.specs.Fields.Field.{FieldReturns, code_field};
+ghost use Rattle.zmo_object.specs.Codes.{branch_code, branch_of, jump_condition_code, condition_of, width_code, width_of};
 
 use crate::field::byte;
 use crate::field_fault::FieldFault;
 use zmo_module::{Branch, ShortCond, Width};
 
-/// The conditions of a jump that may be coded both ways, in the order of their codes.
+/// The conditions of a relaxable jump, in the order of their codes.
 pub const CONDITIONS: [Option<ShortCond>; 5] = [
     None,
     Some(ShortCond::NotZero),
@@ -17,7 +17,7 @@ pub const CONDITIONS: [Option<ShortCond>; 5] = [
     Some(ShortCond::Carry),
 ];
 
-/// How jumps that are always short branch, in the order of their codes.
+/// The branches of jumps that are always short, in the order of their codes.
 pub const BRANCHES: [Branch; 6] = [
     Branch::Relative(None),
     Branch::Relative(Some(ShortCond::NotZero)),
@@ -28,7 +28,7 @@ pub const BRANCHES: [Branch; 6] = [
 ];
 
 pub(crate) fn condition_code(condition: Option<ShortCond>) -> u8
-    ensures { result ≡ condition_code condition }
+    ensures { result ≡ jump_condition_code condition }
 {
     match condition {
         None => 0,
@@ -58,7 +58,7 @@ pub(crate) fn width_code(width: Width) -> u8
 }
 
 pub(crate) fn condition(bytes: &[u8]) -> Result<(Option<ShortCond>, &[u8]), FieldFault>
-    ensures { Finds (λ x. (x.0, x.1.now)) result (coded condition_of bytes.now) }
+    ensures { FieldReturns (λ x. (x.0, x.1.now)) result (code_field condition_of bytes.now) }
 {
     let (code, rest) = byte(bytes)?;
     match CONDITIONS.get(usize::from(code)) {
@@ -67,7 +67,7 @@ pub(crate) fn condition(bytes: &[u8]) -> Result<(Option<ShortCond>, &[u8]), Fiel
     }
 }
 
-/// The branch of a code. Where a `JR` may grow, `DJNZ` alone is always short.
+/// Answers the branch that has this code. With `--grow` only `DJNZ` is always short.
 fn branch_of(grow: bool, code: u8) -> Option<Branch>
     ensures { result ≡ branch_of grow code }
 {
@@ -78,7 +78,7 @@ fn branch_of(grow: bool, code: u8) -> Option<Branch>
 }
 
 pub(crate) fn branch(grow: bool, bytes: &[u8]) -> Result<(Branch, &[u8]), FieldFault>
-    ensures { Finds (λ x. (x.0, x.1.now)) result (coded (branch_of grow) bytes.now) }
+    ensures { FieldReturns (λ x. (x.0, x.1.now)) result (code_field (branch_of grow) bytes.now) }
 {
     let (code, rest) = byte(bytes)?;
     match branch_of(grow, code) {
@@ -100,7 +100,7 @@ fn width_of(code: u8) -> Option<Width>
 }
 
 pub(crate) fn width(bytes: &[u8]) -> Result<(Width, &[u8]), FieldFault>
-    ensures { Finds (λ x. (x.0, x.1.now)) result (coded width_of bytes.now) }
+    ensures { FieldReturns (λ x. (x.0, x.1.now)) result (code_field width_of bytes.now) }
 {
     let (code, rest) = byte(bytes)?;
     match width_of(code) {

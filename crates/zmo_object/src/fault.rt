@@ -1,4 +1,4 @@
-//! Why bytes are no object.
+//! Why bytes are not an object file.
 
 ghost use Rattle.std.specs.Prelude.{◌≡◌};
 ghost use Rattle.zmo_object.specs.declared.fault.ObjectFault.TheVariants.{NoMemory};
@@ -8,18 +8,18 @@ use crate::field_fault::FieldFault;
 use std::alloc::{AllocError, AllocFailed};
 use thiserror::Error;
 
-/// Why bytes are no object.
+/// Why bytes are not an object file.
 #[derive(Clone, Copy, Debug, PartialEq, Eq, Error)]
 pub enum ObjectFault {
     #[error("no object")]
     Magic,
-    /// The bytes end in a field.
+    /// The bytes end within a field.
     #[error("the object ends in a field")]
     Truncated,
-    /// A field breaks a rule. So many bytes stand before it.
+    /// A field breaks a rule. The number says how many bytes are before it.
     #[error("a bad field after {0} bytes")]
     BadField(usize),
-    /// Bytes are left over.
+    /// Bytes are left over after the last field.
     #[error("bytes behind the object")]
     Trailing,
     #[error("out of memory")]
@@ -42,7 +42,7 @@ impl<T: Drop> From<AllocFailed<T>> for ObjectFault {
     }
 }
 
-/// A field's fault in an object of some length.
+/// Converts the error of a field to one of an object file with `len` bytes.
 pub(crate) fn fault_in(len: usize, fault: FieldFault) -> ObjectFault
     ensures { result ≡ fault_in len fault }
 {

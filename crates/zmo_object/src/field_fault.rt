@@ -9,10 +9,10 @@ use thiserror::Error;
 /// Why a field could not be read.
 #[derive(Clone, Copy, Debug, PartialEq, Eq, Error)]
 pub enum FieldFault {
-    /// The bytes end in it.
+    /// The bytes end within it.
     #[error("the bytes end in a field")]
     Truncated,
-    /// It breaks a rule. So many bytes are left from its first byte on.
+    /// It breaks a rule. The number says how many bytes are left, counted from its first byte.
     #[error("a field breaks a rule, {0} bytes before the end")]
     BadField(usize),
     #[error("out of memory")]

@@ -1,10 +1,10 @@
-//! The head of an object, both ways: its name, flags, entry, and how many there are of each.
+//! Reads and writes the header of an object file: name, flags, counts and entry.
 
 ghost use Rattle.std.specs.Prelude.{◌≡◌, ◌++◌, OnOk};
 ghost use Rattle.zmo_module.specs.Modules.{module_of};
-ghost use Rattle.zmo_object.specs.Fields.Field.{Finds};
+ghost use Rattle.zmo_object.specs.Fields.Field.{FieldReturns};
 ghost use Rattle.zmo_object.specs.Texts.{counts_text, entry_text, flags, header_text};
-ghost use Rattle.zmo_object.specs.Reading.{counts_at, entry_at, flags_at, header_at};
+ghost use Rattle.zmo_object.specs.Reading.{counts_at, entry_field, flags_at, header_at};
 ghost use Rattle.zmo_object.specs.Private.{FitsHeader, counts_of, header_of};
 
 use crate::field::{byte, counted, number, word};
@@ -14,7 +14,7 @@ use common::{MOST_NAMES, MOST_STATEMENTS};
 use std::alloc::AllocError;
 use zmo_module::Module;
 
-/// How many there are of each.
+/// The numbers of statements, labels, publics and externals.
 #[derive(Clone, Copy)]
 pub(crate) struct Counts {
     pub(crate) statements: u16,
@@ -23,7 +23,7 @@ pub(crate) struct Counts {
     pub(crate) externals: u16,
 }
 
-/// The head of an object.
+/// The header of an object file, without its first four bytes.
 #[derive(Clone, Copy)]
 pub(crate) struct Header<'a> {
     pub(crate) name: &'a [u8],
@@ -59,7 +59,7 @@ fn put_entry(text: &mut Vec<u8>, entry: Option<u16>) -> Result<(), AllocError>
     }
 }
 
-/// Puts the head of an object behind a text.
+/// Appends the header of a module's object file, with its first four bytes.
 pub(crate) fn put_header(text: &mut Vec<u8>, module: &Module) -> Result<(), AllocError>
     requires { FitsHeader (module_of «module».now) }
     ensures { OnOk result (text.new.items ≡ text.old.items ++ header_text (module_of «module».now)) }
@@ -72,7 +72,7 @@ pub(crate) fn put_header(text: &mut Vec<u8>, module: &Module) -> Result<(), Allo
 }
 
 fn read_counts(bytes: &[u8]) -> Result<(Counts, &[u8]), FieldFault>
-    ensures { Finds (λ x. (counts_of x.0, x.1.now)) result (counts_at bytes.now) }
+    ensures { FieldReturns (λ x. (counts_of x.0, x.1.now)) result (counts_at bytes.now) }
 {
     let (statements, rest) = number(0, MOST_STATEMENTS + 1, bytes)?;
     let (labels, rest) = number(0, MOST_NAMES + 1, rest)?;
@@ -88,9 +88,9 @@ fn read_counts(bytes: &[u8]) -> Result<(Counts, &[u8]), FieldFault>
     Ok((counts, rest))
 }
 
-/// The entry, if there is one: a label's number, of which there are so many.
+/// Reads the entry if there is one: the number of a label, below `labels`.
 fn entry(has_entry: bool, labels: u16, bytes: &[u8]) -> Result<(Option<u16>, &[u8]), FieldFault>
-    ensures { Finds (λ x. (x.0, x.1.now)) result (entry_at has_entry labels bytes.now) }
+    ensures { FieldReturns (λ x. (x.0, x.1.now)) result (entry_field has_entry labels bytes.now) }
 {
     if !has_entry {
         return Ok((None, bytes));
@@ -100,7 +100,7 @@ fn entry(has_entry: bool, labels: u16, bytes: &[u8]) -> Result<(Option<u16>, &[u
 }
 
 fn flag_bits(bytes: &[u8]) -> Result<(u8, &[u8]), FieldFault>
-    ensures { Finds (λ x. (x.0, x.1.now)) result (flags_at bytes.now) }
+    ensures { FieldReturns (λ x. (x.0, x.1.now)) result (flags_at bytes.now) }
 {
     let (flags, rest) = byte(bytes)?;
     if flags >= 4 {
@@ -109,9 +109,9 @@ fn flag_bits(bytes: &[u8]) -> Result<(u8, &[u8]), FieldFault>
     Ok((flags, rest))
 }
 
-/// The head of an object, behind its first four bytes.
+/// Reads the header of an object file after its first four bytes.
 pub(crate) fn read_header(bytes: &[u8]) -> Result<(Header<'_>, &[u8]), FieldFault>
-    ensures { Finds (λ x. (header_of x.0, x.1.now)) result (header_at bytes.now) }
+    ensures { FieldReturns (λ x. (header_of x.0, x.1.now)) result (header_at bytes.now) }
 {
     let (name, rest) = counted(bytes)?;
     let (flags, rest) = flag_bits(rest)?;

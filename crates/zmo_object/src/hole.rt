@@ -1,12 +1,12 @@
-//! Holes, both ways.
+//! Reads and writes fix-ups.
 
 ghost use Rattle.std.specs.Prelude.{◌≡◌, ◌≤◌, ◌+◌, ◌++◌, OnOk, IfOk, All};
 ghost use Rattle.std.specs.List.{flat_map, list_all};
 ghost use Rattle.asm_value.specs.Items.{is_within};
-ghost use Rattle.zmo_module.specs.Holes.{size_of};
-ghost use Rattle.zmo_object.specs.Fields.Field.{Gives, many};
+ghost use Rattle.zmo_module.specs.Holes.{width_size};
+ghost use Rattle.zmo_object.specs.Fields.Field.{FieldGives, many};
 ghost use Rattle.zmo_object.specs.Texts.{hole_text};
-ghost use Rattle.zmo_object.specs.Reading.{fits_width, fitting, hole_at, is_blank, is_place, value_at, value_of};
+ghost use Rattle.zmo_object.specs.Reading.{fits_width, fitting, hole_at, are_zeros, is_place, value_at, hole_expression};
 
 use crate::code::{width, width_code};
 use crate::field::{counted, word};
@@ -19,7 +19,7 @@ use std::alloc::{AllocError, Global};
 use zmo_module::{Expr, Hole, Width, ends_in_byte};
 
 fn size_of(width: Width) -> usize
-    ensures { result ≡ size_of width }
+    ensures { result ≡ width_size width }
 {
     match width {
         Width::Byte => 1,
@@ -27,7 +27,7 @@ fn size_of(width: Width) -> usize
     }
 }
 
-/// Puts a hole behind a text.
+/// Appends a fix-up.
 fn put_hole(text: &mut Vec<u8>, hole: &Hole) -> Result<(), AllocError>
     requires { hole.now.offset ≤ 65_535 }
     ensures { OnOk result (text.new.items ≡ text.old.items ++ hole_text hole.now) }
@@ -38,7 +38,7 @@ fn put_hole(text: &mut Vec<u8>, hole: &Hole) -> Result<(), AllocError>
     Ok(())
 }
 
-/// Puts holes behind a text.
+/// Appends fix-ups.
 pub(crate) fn put_holes(text: &mut Vec<u8>, holes: &[Hole]) -> Result<(), AllocError>
     requires { All (λ h. h.offset ≤ 65_535) holes.now }
     ensures { OnOk result (text.new.items ≡ text.old.items ++ flat_map hole_text holes.now) }
@@ -50,12 +50,12 @@ pub(crate) fn put_holes(text: &mut Vec<u8>, holes: &[Hole]) -> Result<(), AllocE
 }
 
 fn is_blank(bytes: &[u8]) -> bool
-    ensures { result ≡ is_blank bytes.now }
+    ensures { result ≡ are_zeros bytes.now }
 {
     bytes.iter().all(|b| *b == 0)
 }
 
-/// Whether a hole lies behind so many bytes of the content and within it, and has 0 in it.
+/// Whether a fix-up of this offset and size begins at `from` or later, lies in the content, and its bytes are 0.
 fn is_place(content: &[u8], from: usize, offset: usize, size: usize) -> bool
     ensures { result ≡ is_place content.now from offset size }
 {
@@ -80,7 +80,7 @@ fn is_within(refs: usize, value: &Expr) -> bool
     has_places(value, refs)
 }
 
-/// The expression, if it fits a width and its refs are below some count.
+/// Answers the expression if it fits the width and all its refs are below `refs`.
 fn fitting(refs: usize, width: Width, value: Expr) -> Option<Expr>
     ensures { result ≡ fitting refs width value }
 {
@@ -91,14 +91,14 @@ fn fitting(refs: usize, width: Width, value: Expr) -> Option<Expr>
     }
 }
 
-/// The expression that bytes spell, of a width, with refs below some count.
+/// Answers the expression that the bytes are, if it fits the width and all its refs are below `refs`.
 fn value_of(
     alloc: Global,
     refs: usize,
     width: Width,
     text: &[u8],
 ) -> Result<Option<Expr>, AllocError>
-    ensures { IfOk result (λ found. found ≡ value_of refs width text.now) }
+    ensures { IfOk result (λ found. found ≡ hole_expression refs width text.now) }
 {
     match expr_of(alloc, text)? {
         Some(value) => Ok(fitting(refs, width, value)),
@@ -106,14 +106,14 @@ fn value_of(
     }
 }
 
-/// A hole's expression.
+/// Reads the expression of a fix-up.
 fn value(
     alloc: Global,
     refs: usize,
     width: Width,
     bytes: &[u8],
 ) -> Result<(Expr, &[u8]), FieldFault>
-    ensures { Gives (λ x. (x.0, x.1.now)) result (value_at refs width bytes.now) }
+    ensures { FieldGives (λ x. (x.0, x.1.now)) result (value_at refs width bytes.now) }
 {
     let (text, rest) = counted(bytes)?;
     match value_of(alloc, refs, width, text)? {
@@ -122,7 +122,7 @@ fn value(
     }
 }
 
-/// A hole behind so many bytes of the content.
+/// Reads a fix-up, which may not begin before offset `from` of the content.
 fn hole<'a>(
     alloc: Global,
     refs: usize,
@@ -130,7 +130,7 @@ fn hole<'a>(
     from: usize,
     bytes: &'a [u8],
 ) -> Result<(Hole, &'a [u8]), FieldFault>
-    ensures { Gives (λ x. (x.0, x.1.now)) result (hole_at refs content.now from bytes.now) }
+    ensures { FieldGives (λ x. (x.0, x.1.now)) result (hole_at refs content.now from bytes.now) }
 {
     let (offset, rest) = word(bytes)?;
     let (width, rest) = width(rest)?;
@@ -148,10 +148,10 @@ fn hole<'a>(
     ))
 }
 
-/// The fewest bytes of a hole: an offset, a width, and a number behind its length.
+/// The fewest bytes that a fix-up takes: an offset, a width, and an expression of one leaf with its length.
 const LEAST_HOLE: usize = 7;
 
-/// So many holes of the content.
+/// Reads `count` fix-ups of a statement whose bytes are `content`.
 pub(crate) fn holes<'a>(
     alloc: Global,
     refs: usize,
@@ -159,7 +159,7 @@ pub(crate) fn holes<'a>(
     count: u16,
     bytes: &'a [u8],
 ) -> Result<(Vec<Hole>, &'a [u8]), FieldFault>
-    ensures { Gives (λ x. (x.0.items, x.1.now)) result (many (hole_at refs content.now) (λ _ h. h.offset + size_of h.width) 0 count bytes.now) }
+    ensures { FieldGives (λ x. (x.0.items, x.1.now)) result (many (hole_at refs content.now) (λ _ h. h.offset + width_size h.width) 0 count bytes.now) }
 {
     let mut holes = Vec::with_capacity(alloc, room(count, LEAST_HOLE, bytes))?;
     let mut rest = bytes;

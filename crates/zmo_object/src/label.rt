@@ -1,13 +1,13 @@
-//! Names, labels and publics, both ways.
+//! Reads and writes names, labels and publics.
 
 ghost use Rattle.std.specs.Prelude.{◌≡◌, ◌≤◌, ◌+◌, ◌++◌, ◌∷◌, [], OnOk, IfOk, All, length, map, true};
 ghost use Rattle.std.specs.List.{flat_map};
 ghost use Rattle.zmo_module.specs.declared.module.TheConstants.{LONGEST_NAME};
 ghost use Rattle.zmo_module.specs.Modules.{label_of};
-ghost use Rattle.zmo_object.specs.Fields.Field.{Gives, many};
-ghost use Rattle.zmo_object.specs.Fields.Texts.{counted, word};
+ghost use Rattle.zmo_object.specs.Fields.Field.{FieldGives, many};
+ghost use Rattle.zmo_object.specs.Fields.Texts.{with_length, word_bytes};
 ghost use Rattle.zmo_object.specs.Texts.{label_text};
-ghost use Rattle.zmo_object.specs.Reading.{is_definable, is_new, label_at, lists_at, name_at, public_at, with_label, with_name};
+ghost use Rattle.zmo_object.specs.Reading.{is_definable, is_new, label_field, lists_at, name_at, public_at, with_label, with_further_name};
 ghost use Rattle.zmo_object.specs.Private.{Labelled, Named, counts_of, lists_of};
 
 use crate::field::{counted, number};
@@ -21,11 +21,11 @@ use common::NameKey;
 use std::alloc::{AllocError, Global};
 use zmo_module::Label;
 
-/// The fewest bytes of a label: a statement's number, and a name of one byte behind its length.
+/// The fewest bytes that a label takes: the number of a statement, and a name of one byte with its length.
 const LEAST_LABEL: usize = 4;
-/// The bytes of a public.
+/// The bytes that a public takes.
 const LEAST_PUBLIC: usize = 2;
-/// The fewest bytes of an external: a name of one byte behind its length.
+/// The fewest bytes that an external takes: a name of one byte with its length.
 const LEAST_EXTERNAL: usize = 2;
 
 /// The labels, publics and externals of a module.
@@ -36,7 +36,7 @@ pub(crate) struct Lists {
     pub(crate) externals: Vec<Vec<u8>>,
 }
 
-/// Puts labels behind a text.
+/// Appends labels.
 pub(crate) fn put_labels(text: &mut Vec<u8>, labels: &[Label]) -> Result<(), AllocError>
     requires { All (λ l. length l.name.items ≤ LONGEST_NAME) labels.now }
     ensures { OnOk result (text.new.items ≡ text.old.items ++ flat_map label_text (map label_of labels.now)) }
@@ -48,9 +48,9 @@ pub(crate) fn put_labels(text: &mut Vec<u8>, labels: &[Label]) -> Result<(), All
     Ok(())
 }
 
-/// Puts publics behind a text.
+/// Appends publics.
 pub(crate) fn put_publics(text: &mut Vec<u8>, publics: &[u16]) -> Result<(), AllocError>
-    ensures { OnOk result (text.new.items ≡ text.old.items ++ flat_map word publics.now) }
+    ensures { OnOk result (text.new.items ≡ text.old.items ++ flat_map word_bytes publics.now) }
 {
     for label in publics {
         put_word(text, *label)?;
@@ -58,10 +58,10 @@ pub(crate) fn put_publics(text: &mut Vec<u8>, publics: &[u16]) -> Result<(), All
     Ok(())
 }
 
-/// Puts externals behind a text.
+/// Appends externals.
 pub(crate) fn put_externals(text: &mut Vec<u8>, externals: &[Vec<u8>]) -> Result<(), AllocError>
     requires { All (λ name. length name.items ≤ LONGEST_NAME) externals.now }
-    ensures { OnOk result (text.new.items ≡ text.old.items ++ flat_map counted (map (λ name. name.items) externals.now)) }
+    ensures { OnOk result (text.new.items ≡ text.old.items ++ flat_map with_length (map (λ name. name.items) externals.now)) }
 {
     for name in externals {
         put_counted(text, name)?;
@@ -75,7 +75,7 @@ fn is_definable(name: &[u8]) -> bool
     is_name(name)
 }
 
-/// Adds a name that a source can define, and answers whether it is one and was not there.
+/// Adds a name if a source can define it and it is not there yet, and answers whether it did.
 fn add<'a>(names: &mut Names<'a>, name: &'a [u8]) -> Result<bool, AllocError>
     ensures new { IfOk result (λ found. found ≡ is_new names.old name.now) }
     ensures added { IfOk result (λ found. found ≡ true → names.new ≡ names.old ++ name.now ∷ []) }
@@ -86,7 +86,7 @@ fn add<'a>(names: &mut Names<'a>, name: &'a [u8]) -> Result<bool, AllocError>
     names.add(name)
 }
 
-/// A name that is none of those before.
+/// Reads a name that differs from all names before.
 fn name<'a>(names: &mut Names<'a>, bytes: &'a [u8]) -> Result<(&'a [u8], &'a [u8]), FieldFault>
     ensures { Named (λ x. (x.0.now, x.1.now)) names.old result names.new (name_at names.old bytes.now) }
 {
@@ -97,14 +97,14 @@ fn name<'a>(names: &mut Names<'a>, bytes: &'a [u8]) -> Result<(&'a [u8], &'a [u8
     Ok((name, rest))
 }
 
-/// A label whose name is none of those before, at one of so many statements or at their end.
+/// Reads a label. Its name differs from all names before, and its statement is one of the module's or the end.
 fn label<'a>(
     alloc: Global,
     statements: u16,
     names: &mut Names<'a>,
     bytes: &'a [u8],
 ) -> Result<(Label, &'a [u8]), FieldFault>
-    ensures { Labelled (λ x. (label_of x.0, x.1.now)) names.old result names.new (label_at statements names.old bytes.now) }
+    ensures { Labelled (λ x. (label_of x.0, x.1.now)) names.old result names.new (label_field statements names.old bytes.now) }
 {
     let (statement, rest) = number(0, usize::from(statements) + 1, bytes)?;
     let (name, rest) = name(names, rest)?;
@@ -112,7 +112,7 @@ fn label<'a>(
     Ok((Label { statement, name }, rest))
 }
 
-/// So many labels.
+/// Reads `count` labels.
 fn labels<'a>(
     alloc: Global,
     statements: u16,
@@ -120,7 +120,7 @@ fn labels<'a>(
     names: &mut Names<'a>,
     bytes: &'a [u8],
 ) -> Result<(Vec<Label>, &'a [u8]), FieldFault>
-    ensures read { Gives (λ x. (map label_of x.0.items, x.1.now)) result (many (label_at statements) with_label names.old count bytes.now) }
+    ensures read { FieldGives (λ x. (map label_of x.0.items, x.1.now)) result (many (label_field statements) with_label names.old count bytes.now) }
     ensures names { IfOk result (λ x. names.new ≡ names.old ++ map (λ l. l.name) (map label_of x.0.items)) }
 {
     let mut labels = Vec::with_capacity(alloc, room(count, LEAST_LABEL, bytes))?;
@@ -133,14 +133,14 @@ fn labels<'a>(
     Ok((labels, rest))
 }
 
-/// So many publics, each below so many labels and above those before.
+/// Reads `count` publics: numbers of labels, below `labels` and ascending.
 fn publics<'a>(
     alloc: Global,
     labels: usize,
     count: u16,
     bytes: &'a [u8],
 ) -> Result<(Vec<u16>, &'a [u8]), FieldFault>
-    ensures { Gives (λ x. (x.0.items, x.1.now)) result (many (public_at labels) (λ _ p. p + 1) 0 count bytes.now) }
+    ensures { FieldGives (λ x. (x.0.items, x.1.now)) result (many (public_at labels) (λ _ p. p + 1) 0 count bytes.now) }
 {
     let mut publics = Vec::with_capacity(alloc, room(count, LEAST_PUBLIC, bytes))?;
     let mut rest = bytes;
@@ -154,14 +154,14 @@ fn publics<'a>(
     Ok((publics, rest))
 }
 
-/// So many externals.
+/// Reads `count` externals.
 fn externals<'a>(
     alloc: Global,
     count: u16,
     names: &mut Names<'a>,
     bytes: &'a [u8],
 ) -> Result<(Vec<Vec<u8>>, &'a [u8]), FieldFault>
-    ensures { Gives (λ x. (map (λ name. name.items) x.0.items, x.1.now)) result (many name_at with_name names.old count bytes.now) }
+    ensures { FieldGives (λ x. (map (λ name. name.items) x.0.items, x.1.now)) result (many name_at with_further_name names.old count bytes.now) }
 {
     let mut externals = Vec::with_capacity(alloc, room(count, LEAST_EXTERNAL, bytes))?;
     let mut rest = bytes;
@@ -174,13 +174,13 @@ fn externals<'a>(
     Ok((externals, rest))
 }
 
-/// The labels, publics and externals, of which there are so many.
+/// Reads the labels, publics and externals, as many as the header says.
 pub(crate) fn read_lists(
     alloc: Global,
     counts: Counts,
     bytes: &[u8],
 ) -> Result<(Lists, &[u8]), FieldFault>
-    ensures { Gives (λ x. (lists_of x.0, x.1.now)) result (lists_at (counts_of counts) bytes.now) }
+    ensures { FieldGives (λ x. (lists_of x.0, x.1.now)) result (lists_at (counts_of counts) bytes.now) }
 {
     let most = room(counts.labels, LEAST_LABEL, bytes)
         + room(counts.externals, LEAST_EXTERNAL, bytes);

@@ -1,4 +1,4 @@
-//! Laws of the definitions, as functions that do nothing: a caller has the clause of the one that it calls.
+//! Laws of the definitions. A law is a function that does nothing and whose clause is a theorem: whoever calls it may use the clause.
 
 mod fields;
 mod objects;

@@ -1,7 +1,7 @@
-//! Object files: one for each module, written and read, field by field.
+//! Object files: writes the one object file of a module, and reads the module of an object file, field by field.
 //!
-//! [`write`] answers the file of a module, and [`read`] the module of a file, or its first error. Fields are read from the front
-//! of bytes and added to the end of a file: bytes, words, names, and expressions in postfix order.
+//! [`write`] answers the file of a module, and [`read`] the module of a file, or its first error. Fields are read from the front of bytes
+//! and appended to the end of a file: bytes, words, names, and expressions in postfix order.
 #![tactic(auto)]
 
 mod code;

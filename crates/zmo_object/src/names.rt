@@ -1,4 +1,4 @@
-//! The names so far.
+//! The names of labels and externals read so far.
 
 ghost use Rattle.std.specs.Prelude.{◌≡◌, ◌++◌, ◌∷◌, [], IfOk, not, true};
 ghost use Rattle.std.specs.List.{list_any};
@@ -9,7 +9,7 @@ use indexmap::IndexSet;
 use std::alloc::{AllocError, Global};
 use std::marker::Model;
 
-/// The names so far, in order.
+/// The names read so far, in order.
 #[derive(Drop)]
 pub(crate) struct Names<'a> {
     set: IndexSet<&'a [u8], NameKey>,
@@ -24,7 +24,7 @@ impl<'a> Model for Names<'a> {
 }
 
 impl<'a> Names<'a> {
-    /// No names, which are to be looked up by a key, with room for so many.
+    /// Makes an empty set with room for `count` names, which it hashes with `key`.
     pub(crate) fn with_capacity(
         alloc: Global,
         count: usize,
@@ -37,7 +37,7 @@ impl<'a> Names<'a> {
         })
     }
 
-    /// Adds a name, and answers whether it was not there.
+    /// Adds a name, and answers whether it was not there before.
     pub(crate) fn add(&mut self, name: &'a [u8]) -> Result<bool, AllocError>
         ensures new { IfOk result (λ is_new. is_new ≡ not (list_any (bytes_eq name.now) self.old)) }
         ensures added { IfOk result (λ is_new. is_new ≡ true → self.new ≡ self.old ++ name.now ∷ []) }

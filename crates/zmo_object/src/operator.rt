@@ -1,4 +1,4 @@
-//! The operators and their codes.
+//! The operators and their codes in an object file.
 
 ghost use Rattle.std.specs.Prelude.{◌≡◌};
 ghost use Rattle.zmo_object.specs.Fields.Texts.{binary_code, unary_code};
@@ -6,10 +6,10 @@ ghost use Rattle.zmo_object.specs.Fields.Postfix.{operator_of};
 
 use asm_value::{Atom, Binary, Item, Unary};
 
-/// The operators before an operand, in the order of their codes, from 10H on.
+/// The operators with one operand, in the order of their codes, from 10H on.
 pub const UNARIES: [Unary; 4] = [Unary::Negate, Unary::Not, Unary::High, Unary::Low];
 
-/// The operators between two operands, in the order of their codes, from 20H on.
+/// The operators with two operands, in the order of their codes, from 20H on.
 pub const BINARIES: [Binary; 16] = [
     Binary::Add,
     Binary::Subtract,
@@ -63,7 +63,7 @@ pub(crate) fn binary_code(op: Binary) -> u8
     }
 }
 
-/// The operator of a code, if it has one.
+/// Answers the operator that has this code, if there is one.
 pub(crate) fn operator_of(code: u8) -> Option<Item<Atom>>
     ensures { result ≡ operator_of code }
 {

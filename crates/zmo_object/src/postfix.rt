@@ -1,4 +1,4 @@
-//! Expressions from the bytes of their items in postfix order.
+//! Parses an expression from the bytes of its items in postfix order.
 
 ghost use Rattle.std.specs.Prelude.{◌≡◌, ◌∷◌, [], IfOk, IfSome, Some};
 ghost use Rattle.std.specs.Option.{option_map};
@@ -10,7 +10,7 @@ use asm_value::{Atom, Expr, Item, MOST_ITEMS};
 use byteorder::{ByteOrder, LittleEndian};
 use std::alloc::{AllocError, Global};
 
-/// The number of a leaf, and the bytes behind it.
+/// Answers the number of a leaf, and the bytes after it.
 fn leaf(bytes: &[u8]) -> Option<(u16, &[u8])>
     ensures { option_map (λ x. (x.0, x.1.now)) result ≡ leaf_at bytes.now }
 {
@@ -21,7 +21,7 @@ fn leaf(bytes: &[u8]) -> Option<(u16, &[u8])>
     Some((LittleEndian::read_u16(front), rest))
 }
 
-/// The item at the front, and the bytes behind it.
+/// Answers the item at the front, and the bytes after it.
 fn item(bytes: &[u8]) -> Option<(Item<Atom>, &[u8])>
     ensures { option_map (λ x. (x.0, x.1.now)) result ≡ item_at bytes.now }
 {
@@ -40,18 +40,19 @@ fn item(bytes: &[u8]) -> Option<(Item<Atom>, &[u8])>
     Some((op, rest))
 }
 
-/// The items, where no bytes are left.
+/// Answers the items if no bytes are left, otherwise None.
 fn whole(items: Vec<Item<Atom>>, rest: &[u8]) -> Option<Vec<Item<Atom>>>
     ensures { option_map (λ found. found.items) result ≡ whole items.items rest.now }
 {
     if rest.is_empty() { Some(items) } else { None }
 }
 
-/// The items that bytes spell, or None where they spell none, or more than an expression may have.
+/// Answers the items that the bytes are. Answers None if the bytes are not items, or are more items than an expression may have.
 fn items_of(alloc: Global, bytes: &[u8]) -> Result<Option<Vec<Item<Atom>>>, AllocError>
     ensures { IfOk result (λ found. option_map (λ items. items.items) found ≡ items_of bytes.now) }
 {
-    // Where operators stand between leaves, an item takes two bytes: three and one in turn.
+    // With binary operators only, there is one operator fewer than leaves, so an item takes about two bytes: a leaf three and an operator
+    // one. If there are more items, the list grows.
     let mut items = Vec::with_capacity(alloc, bytes.len().div_ceil(2))?;
     let mut rest = bytes;
     for _ in 0..MOST_ITEMS {
@@ -64,7 +65,7 @@ fn items_of(alloc: Global, bytes: &[u8]) -> Result<Option<Vec<Item<Atom>>>, Allo
     Ok(whole(items, rest))
 }
 
-/// The leaf that bytes spell, where they spell one alone: most expressions of an object are that.
+/// Answers the leaf if the bytes are exactly one leaf, as in most expressions of an object file. This needs no list of items.
 fn leaf_alone(bytes: &[u8]) -> Option<Atom>
     ensures { IfSome result (λ atom. expr_of bytes.now ≡ Some (Item.Leaf atom ∷ [])) }
 {
@@ -74,7 +75,7 @@ fn leaf_alone(bytes: &[u8]) -> Option<Atom>
     }
 }
 
-/// The expression whose items in postfix order bytes spell, or None where they spell none.
+/// Answers the expression whose items in postfix order these bytes are, or None if they are not an expression.
 pub fn expr_of(alloc: Global, bytes: &[u8]) -> Result<Option<Expr>, AllocError>
     ensures { IfOk result (λ found. found ≡ expr_of bytes.now) }
 {

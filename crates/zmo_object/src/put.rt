@@ -1,15 +1,15 @@
-//! Fields at the end of a text.
+//! Appends fields to the bytes of an object file.
 
 ghost use Rattle.std.specs.Prelude.{◌≡◌, ◌≤◌, ◌++◌, ◌∷◌, [], OnOk, length};
 ghost use Rattle.asm_value.specs.declared.expr.TheConstants.{MOST_ITEMS};
-ghost use Rattle.zmo_object.specs.Fields.Texts.{word, counted, item_text, expr_text};
+ghost use Rattle.zmo_object.specs.Fields.Texts.{word_bytes, with_length, item_text, expr_text};
 
 use crate::operator::{binary_code, unary_code};
 use asm_value::{Atom, Expr, Item, MOST_ITEMS, Room, items};
 use byteorder::{ByteOrder, LittleEndian};
 use std::alloc::AllocError;
 
-/// Puts a byte behind a text.
+/// Appends a byte.
 pub fn put_byte(text: &mut Vec<u8>, byte: u8) -> Result<(), AllocError>
     ensures { OnOk result (text.new.items ≡ text.old.items ++ byte ∷ []) }
 {
@@ -17,9 +17,9 @@ pub fn put_byte(text: &mut Vec<u8>, byte: u8) -> Result<(), AllocError>
     Ok(())
 }
 
-/// Puts a number of two bytes behind a text, the low one first.
+/// Appends a number as two bytes, the low one first.
 pub fn put_word(text: &mut Vec<u8>, number: u16) -> Result<(), AllocError>
-    ensures { OnOk result (text.new.items ≡ text.old.items ++ word number) }
+    ensures { OnOk result (text.new.items ≡ text.old.items ++ word_bytes number) }
 {
     let mut bytes = [0; 2];
     LittleEndian::write_u16(&mut bytes, number);
@@ -27,10 +27,10 @@ pub fn put_word(text: &mut Vec<u8>, number: u16) -> Result<(), AllocError>
     Ok(())
 }
 
-/// Puts bytes behind a text, and before them their number in one byte.
+/// Appends the length in one byte, and then the bytes.
 pub fn put_counted(text: &mut Vec<u8>, bytes: &[u8]) -> Result<(), AllocError>
     requires { length bytes.now ≤ 255 }
-    ensures { OnOk result (text.new.items ≡ text.old.items ++ counted bytes.now) }
+    ensures { OnOk result (text.new.items ≡ text.old.items ++ with_length bytes.now) }
 {
     text.push(bytes.len() as u8)?;
     text.extend_from_slice(bytes)?;
@@ -54,7 +54,7 @@ fn put_item(text: &mut Vec<u8>, item: &Item<Atom>) -> Result<(), AllocError>
     }
 }
 
-/// How many bytes an item takes.
+/// Answers how many bytes an item takes.
 fn item_len(item: &Item<Atom>) -> usize
     ensures len { result ≡ length (item_text item.now) }
     ensures few { result ≤ 3 }
@@ -65,7 +65,7 @@ fn item_len(item: &Item<Atom>) -> usize
     }
 }
 
-/// How many bytes items take.
+/// Answers how many bytes the items take.
 fn items_len(items: &[Item<Atom>]) -> usize
     requires { length items.now ≤ MOST_ITEMS }
     ensures len { result ≡ length (expr_text items.now) }
@@ -78,10 +78,10 @@ fn items_len(items: &[Item<Atom>]) -> usize
     len
 }
 
-/// Puts items behind a text, and before them the number of their bytes in one byte.
+/// Appends the length of the items in one byte, and then the items.
 fn put_items(text: &mut Vec<u8>, items: &[Item<Atom>]) -> Result<(), AllocError>
     requires { length items.now ≤ MOST_ITEMS }
-    ensures { OnOk result (text.new.items ≡ text.old.items ++ counted (expr_text items.now)) }
+    ensures { OnOk result (text.new.items ≡ text.old.items ++ with_length (expr_text items.now)) }
 {
     put_byte(text, items_len(items) as u8)?;
     for item in items {
@@ -90,17 +90,18 @@ fn put_items(text: &mut Vec<u8>, items: &[Item<Atom>]) -> Result<(), AllocError>
     Ok(())
 }
 
-/// Those of an expression whose items do not lie side by side. Few are such, and the room for its items takes time to make.
+/// Appends an expression whose items are not one slice in memory. Such expressions are rare, and clearing the room for their items takes
+/// time, so this is a function of its own, which is not inlined.
 #[inline(never)]
 fn put_gathered(text: &mut Vec<u8>, expr: &Expr) -> Result<(), AllocError>
-    ensures { OnOk result (text.new.items ≡ text.old.items ++ counted (expr_text expr.now)) }
+    ensures { OnOk result (text.new.items ≡ text.old.items ++ with_length (expr_text expr.now)) }
 {
     put_items(text, items(expr, &mut Room::new()))
 }
 
-/// Puts an expression behind a text: its items, and before them the number of their bytes in one byte.
+/// Appends an expression: the length of its items in one byte, and then its items.
 pub fn put_expr(text: &mut Vec<u8>, expr: &Expr) -> Result<(), AllocError>
-    ensures { OnOk result (text.new.items ≡ text.old.items ++ counted (expr_text expr.now)) }
+    ensures { OnOk result (text.new.items ≡ text.old.items ++ with_length (expr_text expr.now)) }
 {
     match expr.side_by_side() {
         Some(list) => put_items(text, list),

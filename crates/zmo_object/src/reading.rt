@@ -1,13 +1,13 @@
-//! The module that a text spells.
+//! Reads the module of an object file.
 
 ghost use Rattle.std.specs.Prelude.{◌≡◌, IfOk, map};
 ghost use Rattle.zmo_module.specs.Modules as object;
 ghost use Rattle.zmo_module.specs.Modules.{module_of, statement_of};
 ghost use Rattle.zmo_module.specs.Rules.{IsModule};
-ghost use Rattle.zmo_object.specs.Fields.Field.{Gives, each};
+ghost use Rattle.zmo_object.specs.Fields.Field.{FieldGives, each_field};
 ghost use Rattle.zmo_object.specs.Codes.{grow_of};
-ghost use Rattle.zmo_object.specs.Reading.{Answers, answered, module_at, read_of, statement_at};
-ghost use Rattle.zmo_object.specs.Texts.{text_of};
+ghost use Rattle.zmo_object.specs.Reading.{AnswersAsRead, answered_module, module_at, read_of, statement_at};
+ghost use Rattle.zmo_object.specs.Texts.{module_text};
 
 use crate::fault::{ObjectFault, fault_in};
 use crate::field_fault::FieldFault;
@@ -18,10 +18,10 @@ use crate::statement::statement;
 use std::alloc::Global;
 use zmo_module::{Module, Statement};
 
-/// The fewest bytes of a statement: a jump, or a space.
+/// The fewest bytes that a statement takes: a jump or a DS line.
 const LEAST_STATEMENT: usize = 4;
 
-/// So many statements.
+/// Reads `count` statements.
 fn statements<'a>(
     alloc: Global,
     grow: bool,
@@ -29,7 +29,7 @@ fn statements<'a>(
     count: u16,
     bytes: &'a [u8],
 ) -> Result<(Vec<Statement>, &'a [u8]), FieldFault>
-    ensures { Gives (λ x. (map statement_of x.0.items, x.1.now)) result (each (statement_at grow refs) count bytes.now) }
+    ensures { FieldGives (λ x. (map statement_of x.0.items, x.1.now)) result (each_field (statement_at grow refs) count bytes.now) }
 {
     let mut statements = Vec::with_capacity(alloc, room(count, LEAST_STATEMENT, bytes))?;
     let mut rest = bytes;
@@ -41,9 +41,9 @@ fn statements<'a>(
     Ok((statements, rest))
 }
 
-/// A module, behind its first four bytes.
+/// Reads a module after the first four bytes of its object file.
 fn module(alloc: Global, grow: bool, bytes: &[u8]) -> Result<(Module, &[u8]), FieldFault>
-    ensures { Gives (λ x. (module_of x.0, x.1.now)) result (module_at grow bytes.now) }
+    ensures { FieldGives (λ x. (module_of x.0, x.1.now)) result (module_at grow bytes.now) }
 {
     let (header, rest) = read_header(bytes)?;
     let counts = header.counts;
@@ -64,7 +64,7 @@ fn module(alloc: Global, grow: bool, bytes: &[u8]) -> Result<(Module, &[u8]), Fi
     Ok((module, rest))
 }
 
-/// Whether a `JR` may grow, by the first four bytes of an object.
+/// Answers whether a `JR` may grow, from the first four bytes of an object file, or None if they are others.
 fn grow_of(bytes: &[u8]) -> Option<bool>
     ensures { result ≡ grow_of bytes.now }
 {
@@ -77,9 +77,9 @@ fn grow_of(bytes: &[u8]) -> Option<bool>
     }
 }
 
-/// The module of an object.
+/// Reads the module of an object file.
 fn object(alloc: Global, bytes: &[u8]) -> Result<Module, ObjectFault>
-    ensures { Answers (answered result) (read_of bytes.now) }
+    ensures { AnswersAsRead (answered_module result) (read_of bytes.now) }
 {
     if bytes.len() < 4 {
         return Err(ObjectFault::Magic);
@@ -95,18 +95,18 @@ fn object(alloc: Global, bytes: &[u8]) -> Result<Module, ObjectFault>
     }
 }
 
-/// The module that a text spells.
+/// Answers the module that an object file holds.
 ///
 /// # Errors
 ///
-/// The first fault of the text, and whether memory ran out.
+/// The first error of the file, or `NoMemory` if memory ran out.
 pub fn read(alloc: Global, bytes: &[u8]) -> Result<Module, ObjectFault>
-    // Which module or fault it is.
-    ensures exact { Answers (answered result) (read_of bytes.now) }
-    // What is read keeps the rules, and is spelled so.
-    ensures found { IfOk result (λ m. IsModule (module_of m) × (bytes.now ≡ text_of (module_of m))) }
-    // What keeps the rules and is spelled so is read.
-    ensures only { (m : object.Module) → IsModule m → bytes.now ≡ text_of m → Answers (answered result) (Ok m) }
+    // Which module or which error it answers.
+    ensures exact { AnswersAsRead (answered_module result) (read_of bytes.now) }
+    // The module keeps the rules, and the bytes are its object file.
+    ensures found { IfOk result (λ m. IsModule (module_of m) × (bytes.now ≡ module_text (module_of m))) }
+    // The object file of a module that keeps the rules reads as this module, unless memory ran out.
+    ensures only { (m : object.Module) → IsModule m → bytes.now ≡ module_text m → AnswersAsRead (answered_module result) (Ok m) }
 {
     object(alloc, bytes)
 }

@@ -1,9 +1,9 @@
-//! How much is reserved at once.
+//! How many elements to reserve room for at once.
 
 ghost use Rattle.std.specs.Prelude.{◌<◌, ◌≤◌};
 
-/// How many of so many things the bytes may have, where each takes some bytes at least. A count that is not kept reserves no more than
-/// what is there.
+/// Answers how many elements to reserve: `count`, but no more than the bytes can hold if each element takes at least `least` bytes. So a
+/// file with a false count cannot make the reader reserve more than the file's own size allows.
 pub(crate) fn room(count: u16, least: usize, bytes: &[u8]) -> usize
     requires { 0 < least }
     ensures { result ≤ count }

@@ -1,8 +1,8 @@
-//! Statements, both ways.
+//! Reads and writes statements.
 
 ghost use Rattle.std.specs.Prelude.{◌≡◌, ◌++◌, OnOk};
 ghost use Rattle.zmo_module.specs.Modules.{Bytes, Jump, Short, Space, statement_of};
-ghost use Rattle.zmo_object.specs.Fields.Field.{Gives};
+ghost use Rattle.zmo_object.specs.Fields.Field.{FieldGives};
 ghost use Rattle.zmo_object.specs.Texts.{statement_text};
 ghost use Rattle.zmo_object.specs.Reading.{content_at, jump_at, short_at, space_at, statement_at};
 ghost use Rattle.zmo_object.specs.Private.{FitsWords};
@@ -57,7 +57,7 @@ fn put_space(text: &mut Vec<u8>, size: u16, fill: u8) -> Result<(), AllocError>
     put_byte(text, fill)
 }
 
-/// Puts a statement behind a text.
+/// Appends a statement.
 pub(crate) fn put_statement(text: &mut Vec<u8>, statement: &Statement) -> Result<(), AllocError>
     requires { FitsWords (statement_of statement.now) }
     ensures { OnOk result (text.new.items ≡ text.old.items ++ statement_text (statement_of statement.now)) }
@@ -74,9 +74,9 @@ pub(crate) fn put_statement(text: &mut Vec<u8>, statement: &Statement) -> Result
     }
 }
 
-/// Bytes with holes, whose refs are below some count.
+/// Reads a statement of bytes with fix-ups, whose refs are below `refs`.
 fn content(alloc: Global, refs: usize, bytes: &[u8]) -> Result<(Statement, &[u8]), FieldFault>
-    ensures { Gives (λ x. (statement_of x.0, x.1.now)) result (content_at refs bytes.now) }
+    ensures { FieldGives (λ x. (statement_of x.0, x.1.now)) result (content_at refs bytes.now) }
 {
     let (size, rest) = number(1, MOST_BYTES + 1, bytes)?;
     let (content, rest) = run(usize::from(size), rest)?;
@@ -87,7 +87,7 @@ fn content(alloc: Global, refs: usize, bytes: &[u8]) -> Result<(Statement, &[u8]
 }
 
 fn jump(marked: bool, refs: usize, bytes: &[u8]) -> Result<(Statement, &[u8]), FieldFault>
-    ensures { Gives (λ x. (statement_of x.0, x.1.now)) result (jump_at marked refs bytes.now) }
+    ensures { FieldGives (λ x. (statement_of x.0, x.1.now)) result (jump_at marked refs bytes.now) }
 {
     let (condition, rest) = condition(bytes)?;
     let (target, rest) = number(0, refs, rest)?;
@@ -102,7 +102,7 @@ fn jump(marked: bool, refs: usize, bytes: &[u8]) -> Result<(Statement, &[u8]), F
 }
 
 fn short(grow: bool, refs: usize, bytes: &[u8]) -> Result<(Statement, &[u8]), FieldFault>
-    ensures { Gives (λ x. (statement_of x.0, x.1.now)) result (short_at grow refs bytes.now) }
+    ensures { FieldGives (λ x. (statement_of x.0, x.1.now)) result (short_at grow refs bytes.now) }
 {
     let (branch, rest) = branch(grow, bytes)?;
     let (target, rest) = number(0, refs, rest)?;
@@ -110,21 +110,21 @@ fn short(grow: bool, refs: usize, bytes: &[u8]) -> Result<(Statement, &[u8]), Fi
 }
 
 fn space(bytes: &[u8]) -> Result<(Statement, &[u8]), FieldFault>
-    ensures { Gives (λ x. (statement_of x.0, x.1.now)) result (space_at bytes.now) }
+    ensures { FieldGives (λ x. (statement_of x.0, x.1.now)) result (space_at bytes.now) }
 {
     let (size, rest) = number(1, MOST_BYTES + 1, bytes)?;
     let (fill, rest) = byte(rest)?;
     Ok((Statement::Space { size, fill }, rest))
 }
 
-/// A statement, where a `JR` may grow or not, with refs below some count.
+/// Reads a statement whose refs are below `refs`; `grow` says whether a `JR` may grow.
 pub(crate) fn statement(
     alloc: Global,
     grow: bool,
     refs: usize,
     bytes: &[u8],
 ) -> Result<(Statement, &[u8]), FieldFault>
-    ensures { Gives (λ x. (statement_of x.0, x.1.now)) result (statement_at grow refs bytes.now) }
+    ensures { FieldGives (λ x. (statement_of x.0, x.1.now)) result (statement_at grow refs bytes.now) }
 {
     let (tag, rest) = byte(bytes)?;
     if tag == 1 {

@@ -1,10 +1,10 @@
-//! The one text of a module.
+//! Writes the one object file of a module.
 
 ghost use Rattle.std.specs.Prelude.{◌≡◌, ◌++◌, OnOk, IfOk, All, map};
 ghost use Rattle.std.specs.List.{flat_map};
 ghost use Rattle.zmo_module.specs.Modules.{module_of, statement_of};
 ghost use Rattle.zmo_module.specs.Rules.{IsModule};
-ghost use Rattle.zmo_object.specs.Texts.{statement_text, text_of};
+ghost use Rattle.zmo_object.specs.Texts.{statement_text, module_text};
 ghost use Rattle.zmo_object.specs.Private.{FitsWords};
 
 use crate::header::put_header;
@@ -13,7 +13,7 @@ use crate::statement::put_statement;
 use std::alloc::{AllocError, Global};
 use zmo_module::{Module, Statement};
 
-/// Puts statements behind a text.
+/// Appends statements.
 fn put_statements(text: &mut Vec<u8>, statements: &[Statement]) -> Result<(), AllocError>
     requires { All (λ s. FitsWords (statement_of s)) statements.now }
     ensures { OnOk result (text.new.items ≡ text.old.items ++ flat_map statement_text (map statement_of statements.now)) }
@@ -24,14 +24,14 @@ fn put_statements(text: &mut Vec<u8>, statements: &[Statement]) -> Result<(), Al
     Ok(())
 }
 
-/// The one text of a module that keeps the rules.
+/// Answers the one object file of a module that keeps the rules.
 ///
 /// # Errors
 ///
-/// `AllocError` where memory ran out.
+/// `AllocError` if memory ran out.
 pub fn write(alloc: Global, module: &Module) -> Result<Vec<u8>, AllocError>
     requires { IsModule (module_of «module».now) }
-    ensures { IfOk result (λ text. text.items ≡ text_of (module_of «module».now)) }
+    ensures { IfOk result (λ text. text.items ≡ module_text (module_of «module».now)) }
 {
     let mut text = Vec::new(alloc);
     put_header(&mut text, module)?;

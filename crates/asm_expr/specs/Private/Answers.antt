@@ -1,4 +1,4 @@
--- What is answered of an expression, by what its reduced items are.
+-- What the code answers for an expression, given its reduced items.
 use Rattle.std.specs.Prelude.{◌≡◌, true, Bool, false, None, Some, Result, Ok, Err, map}
 use Rattle.std.specs.List.{list_any}
 use Rattle.asm_parse.specs.declared.fault.ExprFault.{ExprFault}

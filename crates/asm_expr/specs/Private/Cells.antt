@@ -1,4 +1,4 @@
--- How items that are being settled are kept.
+-- How the code keeps items that are being settled.
 use Rattle.std.specs.Prelude.{◌≡◌, ◌≤◌, ◌-◌, Bool, true, false, List, [], ◌∷◌, length, map}
 use Rattle.std.proofs.Common.{get_or}
 use Rattle.asm_parse.specs.declared.item.Item.{Item}
@@ -8,16 +8,16 @@ use Rattle.asm_expr.specs.declared.part.Part.{Part}
 use Rattle.asm_expr.specs.declared.parts.Cell.{Cell}
 use Rattle.asm_expr.specs.Settling.{known_item}
 
--- the items of a part
+-- the items of a cell
 abbrev pub opened : Cell → List (Item Part)
 opened (Cell.Item item) = item ∷ []
 opened (Cell.List list) = map known_item list.now.value.items
 
--- The items of an expression that is more than a leaf: an operator stands at the end.
+-- The items make an expression that is more than a leaf, and so end with an operator.
 abbrev pub IsOperation : List (Item Atom) → Type 0
 IsOperation items = IsExpr items × (2 ≤ length items)
 
--- A list stands for such an expression.
+-- If a cell is a list, its items make such an expression.
 abbrev pub IsSound : Cell → Type 0
 IsSound (Cell.Item item) = Unit {0}
 IsSound (Cell.List list) = IsOperation list.now.value.items

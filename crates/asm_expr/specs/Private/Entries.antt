@@ -1,4 +1,4 @@
--- The table that the code keeps in a map.
+-- The table of names that the code keeps in a map.
 use Rattle.std.specs.Prelude.{◌≤◌, ℕ, List, Option, Some, None, All, length, map, take}
 use Rattle.std.specs.declared.vec.Vec.{Vec}
 use Rattle.asm_expr.specs.declared.answer.Settled.{Settled}
@@ -8,7 +8,7 @@ use Rattle.asm_value.specs.declared.statement.Statement.{Statement}
 use Rattle.asm_expr.specs.Names.{Table, empty}
 use Rattle.asm_expr.specs.Private.Left.{IsLeft}
 
--- the entries of a map whose keys are bytes, and of each value what f has of it
+-- the entries of a map with names as keys, and f of each value
 abbrev pub named_as : {A V W : Type 0} → (V → W) → List (Vec ℕ A × V) → List (List ℕ × W)
 named_as f entries = map (λ e. (e.0.items, f e.1)) entries
 
@@ -22,12 +22,12 @@ meant entries = named_as (λ e. e.meaning) entries
 abbrev pub table_of : {A : Type 0} → List (Vec ℕ A × Entry) → ℕ → List Statement → Table
 table_of entries here statements = record { entries = meant entries; here = here; statements = statements }
 
--- settling by some statements leaves an expression as it is
+-- settling with these statements leaves the expression as it is
 abbrev pub IsLeftBy : List Statement → Settled → Type 0
 IsLeftBy statements (Settled.Known items) = IsLeft (record empty { statements = statements }) items
 IsLeftBy statements (Settled.Unknown what) = Unit {0}
 
--- It was found that settling leaves a meaning's expression as it is, when so many of the statements had passed.
+-- If the number is there, settling with that many of the statements leaves the expression of this meaning as it is.
 abbrev pub Knows : List Statement → Meaning → Option ℕ → Type 0
 Knows statements (Meaning.Equ equated) (Some n) = (n ≤ length statements) × IsLeftBy (take n statements) equated.settled
 Knows statements what (Some n) = Unit {0}

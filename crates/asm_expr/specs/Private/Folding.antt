@@ -15,7 +15,7 @@ use Rattle.asm_parse.specs.Expression.{Expression, Leaf, Prefix, Infix, postfix}
 use Rattle.asm_value.specs.Postfix.{spread}
 use Rattle.asm_parse.specs.Source.{Operand}
 use Rattle.asm_expr.specs.Names.{Table}
-use Rattle.asm_expr.specs.Settling.{stands_for, size_of, distance_of, or_else, through, both, leaf_or, divisor_fault, too_large, fault, replaced, reduced, worth_unknown}
+use Rattle.asm_expr.specs.Settling.{stands_for, operand_size, distance_of, or_else, through, both, leaf_or, divisor_fault, too_large, fault, replaced, reduced, worth_unknown}
 
 -- the last item of an expression
 abbrev pub root : Expression Part → Item Part
@@ -43,7 +43,7 @@ leaf_of (Worth.Number n) = Some (Part.Number n)
 leaf_of Worth.Unknown = Some (Part.Unknown Unknown.Number)
 leaf_of Worth.Varies = None
 
--- what a prefix or infix operator makes, by the last items of its operands, which are reduced
+-- what is known of the result of a prefix operator, given the last item of its reduced operand
 abbrev pub folded_unary : Unary → Item Part → Worth
 folded_unary op x = through (unary op) (worth_of x)
 
@@ -63,7 +63,7 @@ abbrev pub unless : {A : Type 0} → Option ExprFault → Result A ExprFault →
 unless None answer = answer
 unless (Some fault) answer = Err fault
 
--- one item more behind reduced expressions, of which the last comes first
+-- reduced expressions, the last one first, with one item more
 abbrev pub fold_one : Table → Item Part → List (Expression Part) → Result (List (Expression Part)) ExprFault
 fold_one t (Item.Leaf part) before = Ok (Leaf part ∷ before)
 fold_one t (Item.Unary op) (a ∷ before) = Ok (prefixed op a ∷ before)
@@ -74,33 +74,33 @@ abbrev pub fold_all : Table → List (Item Part) → List (Expression Part) → 
 fold_all t [] before = Ok before
 fold_all t (item ∷ items) before = fold_one t item before >>= λ now. fold_all t items now
 
--- what an item of a source stands for, and how many terms and operators
+-- the items that an item of a source stands for
 abbrev pub items_for : Table → Item Operand → List (Item Part)
 items_for t (Item.Leaf operand) = postfix (stands_for t operand)
 items_for t (Item.Unary op) = Item.Unary op ∷ []
 items_for t (Item.Binary op) = Item.Binary op ∷ []
 
 abbrev pub item_size : Table → Item Operand → ℕ
-item_size t (Item.Leaf operand) = size_of t operand
+item_size t (Item.Leaf operand) = operand_size t operand
 item_size t _ = 1
 
--- the items of a source, behind some number of terms and operators
+-- reduced expressions with the items of a source, given how many terms and operators come before them
 abbrev pub settling : Table → List (Item Operand) → ℕ → List (Expression Part) → Result (List (Expression Part)) ExprFault
 settling t [] n before = Ok before
 settling t (item ∷ items) n before =
     unless (too_large (n + item_size t item)) (fold_all t (items_for t item) before >>= λ now. settling t items (n + item_size t item) now)
 
--- What the whole reduces to, or its first fault.
+-- The answer is the whole reduced, or its first error.
 abbrev pub IsReduced : Table → Expression Operand → Result (List (Item Part)) ExprFault → Type 0
 IsReduced t e (Ok out) = (fault t e ≡ None) × (out ≡ postfix (reduced t (replaced t e)))
 IsReduced t e (Err why) = fault t e ≡ Some why
 
--- What a step answers is this, written out.
+-- A step answers these expressions, and the items are theirs; or it answers this error.
 abbrev pub Folds : Result (List (Expression Part)) ExprFault → {A : Type 0} → Result A ExprFault → List (Item Part) → Type 0
 Folds folded (Ok _) items = (now : List (Expression Part)) × (folded ≡ Ok now) × (items ≡ spread now)
 Folds folded (Err fault) items = folded ≡ Err fault
 
--- what is known of an expression without a value, by its last item
+-- what is known of an expression that has a part without a value, given its last item
 abbrev pub unknown_by : Option (Item Part) → Unknown
 unknown_by (Some (Item.Leaf (Part.Unknown what))) = what
 unknown_by (Some (Item.Unary Unary.High)) = Unknown.VariesInByte

@@ -1,4 +1,4 @@
--- The items of operands that begin at `$`.
+-- The items of operands that begin with `$`.
 use Rattle.std.specs.Prelude.{◌≡◌, ◌≢◌, List, [], ◌∷◌, Bool, true, false, Option, Some, None}
 use Rattle.asm_parse.specs.declared.item.Item.{Item}
 use Rattle.asm_parse.specs.declared.operator.Binary.{Binary}
@@ -13,7 +13,7 @@ is_sum Binary.Add = true
 is_sum Binary.Subtract = true
 is_sum _ = false
 
--- The items of `$+n` or `$-n`, and those of n.
+-- These are the items of `$+n` or `$-n`, and those of n.
 pub record IsFromHere (op : Binary) (n : List (Item Operand)) (items : List (Item Operand)) : Type 0 where
   pub sum : is_sum op ≡ true
   pub tree : Expression Operand
@@ -28,7 +28,7 @@ sign_of (Item.Leaf Here) (Item.Binary Binary.Add) = Some Binary.Add
 sign_of (Item.Leaf Here) (Item.Binary Binary.Subtract) = Some Binary.Subtract
 sign_of _ _ = None
 
--- by the items of the whole, settled
+-- what an operand says, given the settled items of the whole
 abbrev pub numbered : Binary → List (Item Atom) → Offset
 numbered op (_ ∷ Item.Leaf (Atom.Number n) ∷ _ ∷ []) = Offset.Number (binary op 0 n)
 numbered op _ = Offset.Unknown

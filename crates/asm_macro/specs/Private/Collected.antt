@@ -1,11 +1,12 @@
--- What is collected of what is still to come.
+-- Collecting all lines that are still to come, as `expand` does.
 use Rattle.std.specs.Prelude.{◌≡◌, ◌++◌, ℕ, List, Result, Ok, Err}
 use Rattle.asm_macro.specs.declared.fault.MacroFault.{MacroFault}
 use Rattle.asm_macro.specs.Ahead.{Ahead, Remains}
 use Rattle.asm_macro.specs.Expands.{End, IsDone, Stopped}
 use Rattle.asm_text.specs.Lines.{Numbered}
 
--- Behind some lines all that was still to come, or the line at which that stops and the fault. Want of memory alone has no cause.
+-- The lines before and all that were still to come, or the line at which expansion stops and the error. If memory ran out, nothing is
+-- claimed.
 abbrev pub Collected : Ahead → List Numbered → Result (Unit {0}) (ℕ × MacroFault) → List Numbered → Type 0
 Collected ahead before (Ok done) after = (more : List Numbered) × (end : End) × IsDone end × Remains ahead more end × (after ≡ before ++ more)
 Collected ahead before (Err (number, MacroFault.NoMemory)) after = Unit {0}

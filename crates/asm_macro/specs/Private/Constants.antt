@@ -1,4 +1,4 @@
--- The names of expressions that are constants.
+-- The constants that EQU lines define, as the table of names that expressions use.
 use Rattle.std.specs.Prelude.{ℕ, Bool, List, map, ◌&&◌}
 use Rattle.asm_expr.specs.declared.meaning.Meaning.{Meaning}
 use Rattle.asm_expr.specs.Names as names
@@ -17,6 +17,6 @@ constants_in entries = map (λ e. (e.0, number_in e.1)) entries
 abbrev pub table_of : List (List ℕ × ℕ) → names.Table
 table_of constants = record names.empty { entries = map (λ c. (c.0, Meaning.Constant c.1)) constants }
 
--- An item is a number, an operator or a name that stands for something, and no place.
+-- The item is a number, an operator or a name that stands for a constant: it does not depend on addresses.
 abbrev pub is_plain_item : Table → Item Operand → Bool
 is_plain_item t x = is_constant_item t x && is_known t x

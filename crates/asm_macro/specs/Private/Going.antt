@@ -1,4 +1,4 @@
--- What blocks are gone on with, as parts of an expansion.
+-- Where expansion continues at a block, as a part of the definitions.
 use Rattle.std.specs.Prelude.{◌≡◌, ◌<◌, ◌+◌, ℕ, List, [], Result, Ok, Err, if◌then◌else◌, nat_le}
 use Rattle.asm_macro.specs.declared.take.TheConstants.{MOST_NESTED}
 use Rattle.asm_macro.specs.declared.expansion.TheConstants.{MOST_LINES}
@@ -7,23 +7,23 @@ use Rattle.asm_text.specs.Sections.Onward as onward
 use Rattle.asm_text.specs.Lines.{Numbered}
 use Rattle.asm_macro.specs.declared.fault.MacroFault.{MacroFault}
 use Rattle.asm_macro.specs.declared.moves.Stop as moves
-use Rattle.asm_macro.specs.State.{State, counted}
-use Rattle.asm_macro.specs.Parts.{Part, Stop, Go, Within}
+use Rattle.asm_macro.specs.State.{State, with_line_counted}
+use Rattle.asm_macro.specs.Parts.{ExpansionPart, Stop, Go, Within}
 
--- a text within, at a depth and from a state; a turn of a REPT counts as a line
-abbrev pub into : ℕ → State → List Numbered → onward.Next → Part
+-- the lines of a body or branch begin, at a depth and from a state; a repetition of a REPT counts as a line that is read
+abbrev pub into : ℕ → State → List Numbered → onward.Next → ExpansionPart
 into depth e text (onward.Turns left number body) =
-    if nat_le MOST_LINES e.count then Stop [] number MacroFault.TooManyLines else Within [] (counted e) (depth + 1) text (onward.Turns left number body)
+    if nat_le MOST_LINES e.count then Stop [] number MacroFault.TooManyLines else Within [] (with_line_counted e) (depth + 1) text (onward.Turns left number body)
 into depth e text (onward.Rest more) = Within [] e depth text (onward.Rest more)
 into depth e text (onward.BehindFirst b) = Within [] e depth text (onward.BehindFirst b)
 into depth e text (onward.BehindSecond t more after) = Within [] e depth text (onward.BehindSecond t more after)
 
-abbrev pub part_of : ℕ → State → onward.Onward → Part
+abbrev pub part_of : ℕ → State → onward.Onward → ExpansionPart
 part_of depth e (onward.Stray number) = Stop [] number MacroFault.Stray
 part_of depth e (onward.On text) = Go [] e text
 part_of depth e (onward.Into text next) = into depth e text next
 
--- How many turns of a REPT open, and how many texts.
+-- How many repetitions of a REPT begin, and how many spans of lines.
 abbrev pub turn_in : Following → ℕ
 turn_in (Following.Turns left number body) = 1
 turn_in (Following.Rest s) = 0
@@ -46,7 +46,7 @@ texts_opened (onward.Stray number) = 0
 texts_opened (onward.On text) = 0
 texts_opened (onward.Into text next) = 1
 
--- What may be gone on with where so many calls and repetitions are open: no call, and a turn of a REPT where one more may open.
+-- What may begin if this many calls and repetitions are open: a branch; a repetition of a REPT if one more may be open; but no call.
 abbrev pub FitsNext : ℕ → onward.Next → Type 0
 FitsNext many (onward.Turns left number body) = many < MOST_NESTED
 FitsNext many (onward.Rest more) = ⊥
@@ -58,8 +58,8 @@ Fits many (onward.Stray number) = Unit {0}
 Fits many (onward.On text) = Unit {0}
 Fits many (onward.Into text next) = FitsNext many next
 
--- What a text within comes to, once its turn is counted: it begins, from a state and at a depth, or there is a fault in its place.
-abbrev pub Enters : Result (Unit {0}) moves.Stop → State → ℕ → List Numbered → onward.Next → Part → Type 0
+-- Once its repetition is counted, the lines of a body or branch begin with this state and depth; or there is an error instead.
+abbrev pub Enters : Result (Unit {0}) moves.Stop → State → ℕ → List Numbered → onward.Next → ExpansionPart → Type 0
 Enters (Ok done) e depth text next part = part ≡ Within [] e depth text next
 Enters (Err moves.Stop.NoMemory) e depth text next part = Unit {0}
 Enters (Err (moves.Stop.At number why)) e depth text next part = part ≡ Stop [] number why

@@ -1,10 +1,10 @@
--- One move of an expansion: a line that is taken up, or what follows a text that is over.
+-- One move of an expander: it reads a line, or continues after lines that are all expanded.
 use Rattle.std.specs.Prelude.{◌≡◌, Option, Some, None, ◌+◌, ◌*◌, ◌-◌, ◌≤◌, ◌<◌, ℕ, List, [], ◌∷◌, Result, Ok, Err, Vec, All, length, map, reverse}
 use Rattle.std.specs.Global.{Global}
 use Rattle.common.specs.declared.limits.TheConstants.{LONGEST_TEXT}
 use Rattle.asm_macro.specs.declared.take.TheConstants.{MOST_NESTED}
 use Rattle.asm_macro.specs.declared.expansion.TheConstants.{MOST_LINES}
-use Rattle.asm_replace.specs.Replaced.{Table}
+use Rattle.asm_replace.specs.Replaced.{ReplacementTable}
 use Rattle.asm_text.specs.declared.book.Book.{Book}
 use Rattle.asm_macro.specs.declared.expansion.Expansion.{Expansion}
 use Rattle.asm_text.specs.declared.following.Following.{Following}
@@ -22,12 +22,12 @@ use Rattle.asm_text.specs.Spans.{text_of}
 use Rattle.asm_text.specs.declared.call.Macro.{Macro}
 use Rattle.asm_text.specs.declared.call.Call.{Call}
 use Rattle.asm_text.specs.Prepared.{macros_seen, said}
-use Rattle.asm_text.specs.Kept.{IsKept, IsCall}
+use Rattle.asm_text.specs.Kept.{IsKeptMacro, IsCall}
 use Rattle.asm_text.specs.Sections.Books.{IsBook}
 use Rattle.asm_macro.specs.Private.Frames.{AreBooks, around_seen, innermost, turns_in}
 
--- the names of the open calls, the innermost first
-abbrev pub tables_in : Expansion → List Table
+-- the names that the open calls replace, the innermost first
+abbrev pub tables_in : Expansion → List ReplacementTable
 tables_in x = map (λ call. said call) (reverse x.calls.items)
 
 abbrev pub state_of : Expansion → state.State
@@ -47,10 +47,10 @@ rest_of x = record {
   around = around_seen x.lines (tables_in x) (reverse x.around.items);
 }
 
--- The source has no more lines than bytes; the open repetitions are counted; calls and repetitions nest to 16; no more lines
--- are taken up than may be; the books of the innermost text, of those around and of the source are so; and so is what is kept of
--- macros and of the open calls.
-pub record Sound (texts : List (List ℕ)) (tables : List Table) (around : List Following) (calls repeated taken : ℕ) (own : Book) (others : List Book) (bottom : Book) (kept : List (Vec ℕ Global × Macro)) (called : List Call) : Type 0 where
+-- What the code keeps while it expands: the source has no more lines than bytes; `repeated` is how many repetitions are open; calls and
+-- repetitions nest to 16 at most; no more lines were read than allowed; the tables of where blocks end are right for the current lines, the
+-- lines around and the source; and so is what is kept of macros and open calls.
+pub record Sound (texts : List (List ℕ)) (tables : List ReplacementTable) (around : List Following) (calls repeated taken : ℕ) (own : Book) (others : List Book) (bottom : Book) (kept : List (Vec ℕ Global × Macro)) (called : List Call) : Type 0 where
   pub short : length texts ≤ LONGEST_TEXT
   pub turns : repeated ≡ turns_in around
   pub shallow : calls + repeated ≤ MOST_NESTED
@@ -58,22 +58,22 @@ pub record Sound (texts : List (List ℕ)) (tables : List Table) (around : List 
   pub book : IsBook texts (innermost tables) own
   pub books : AreBooks texts tables others
   pub source : IsBook texts None bottom
-  pub macros : All (λ e. IsKept texts e.1) kept
+  pub macros : All (λ e. IsKeptMacro texts e.1) kept
   pub open_calls : All (IsCall texts) called
 
 abbrev pub IsSound : Expansion → Type 0
 IsSound x = Sound x.lines (tables_in x) (reverse x.around.items) (length x.calls.items) x.turns x.count x.book (reverse x.books.items) x.source x.macros.entries x.calls.items
 
--- Lines are given, and then the rest is to come; a line is given as the last; lines are given, and then comes a fault; or all is
--- expanded.
+-- What a move does: it gives lines, and a rest is to come; it gives the last line; it gives lines and then stops with an error; or all
+-- lines are expanded.
 pub data Moved : Type 0 where
   On : List Numbered → Rest → Moved
   End : Numbered → Moved
   Fails : List Numbered → ℕ → MacroFault → Moved
   Done : Moved
 
--- what a part comes to, at a depth and with what follows it
-abbrev pub moved : ℕ → List Around → parts.Part → Moved
+-- what a part leads to, given its depth and where expansion continues after it
+abbrev pub moved : ℕ → List Around → parts.ExpansionPart → Moved
 moved depth around (parts.Stop given number why) = Fails given number why
 moved depth around (parts.Last l) = End l
 moved depth around (parts.Go given e text) = On given (record { depth = depth; state = e; text = text; around = around })
@@ -81,14 +81,14 @@ moved depth around (parts.Within given e inner text next) =
     On given (record { depth = inner; state = e; text = text; around = record { depth = depth; next = next } ∷ around })
 
 abbrev pub in_text : ℕ → state.State → List Numbered → List Around → Moved
-in_text depth e (l ∷ text) around = moved depth around (parts.part depth e l text)
+in_text depth e (l ∷ text) around = moved depth around (parts.line_part depth e l text)
 in_text depth e [] (a ∷ around) = moved a.depth around (parts.resumed a.depth a.next e)
 in_text depth e [] [] = Done
 
 abbrev pub next_move : Rest → Moved
 next_move r = in_text r.depth r.state r.text r.around
 
--- what is answered of a line that is taken up, and what is left behind it
+-- what is answered for a line that is read, and what is left after it
 abbrev pub Takes : Numbered → Result Taken Stop → Rest → Moved → Type 0
 Takes l (Err Stop.NoMemory) new move = Unit {0}
 Takes l (Err (Stop.At number why)) new move = move ≡ Fails [] number why
@@ -98,13 +98,13 @@ Takes l (Ok Taken.Last) new move = move ≡ End l
 Takes l (Ok (Taken.Label text)) new move = move ≡ On (record { number = l.number; text = text.items } ∷ []) new
 Takes l (Ok (Taken.Refused text)) new move = move ≡ Fails (record { number = l.number; text = text.items } ∷ []) l.number MacroFault.Stray
 
--- the same where nothing is given
+-- the same for a move that gives no line
 abbrev pub Resumes : Result (Unit {0}) Stop → Rest → Moved → Type 0
 Resumes (Err Stop.NoMemory) new move = Unit {0}
 Resumes (Err (Stop.At number why)) new move = move ≡ Fails [] number why
 Resumes (Ok done) new move = move ≡ On [] new
 
--- what is answered of a move, with the line that is given
+-- what is answered for a move, with the line that it gives
 abbrev pub Gives : List ℕ → Result (Option Given) Stop → Rest → Moved → Type 0
 Gives text (Err Stop.NoMemory) new move = Unit {0}
 Gives text (Err (Stop.At number why)) new move = move ≡ Fails [] number why
@@ -114,17 +114,17 @@ Gives text (Ok (Some (Given.Last number))) new move = move ≡ End (record { num
 Gives text (Ok (Some (Given.Refused number))) new move = move ≡ Fails (record { number = number; text = text } ∷ []) number MacroFault.Stray
 Gives text (Ok (Some Given.Over)) new move = move ≡ Done
 
--- how many moves may still come, at most
+-- how many more moves there may be, at most
 abbrev pub most_moves : Expansion → ℕ
 most_moves x = 2 * (MOST_LINES - x.count) + length x.around.items
 
--- Fewer moves may still come, and a line that is given is counted.
+-- Fewer moves are left than before, and a line that is given was counted.
 abbrev pub Lessens : Expansion → Option Given → Expansion → Type 0
 Lessens old None new = (most_moves new < most_moves old) × (old.count ≤ new.count)
 Lessens old (Some Given.Over) new = Unit {0}
 Lessens old (Some _) new = old.count < new.count
 
--- What is answered of several moves: what is to come is the line given, and then what is to come behind it.
+-- What several moves answer: what was to come is the line that is given, and then what is to come after it.
 abbrev pub Goes : Rest → List ℕ → Result Given Stop → Rest → Type 0
 Goes old text (Err Stop.NoMemory) new = Unit {0}
 Goes old text (Err (Stop.At number why)) new = Remains (Within old) [] (Stopped number why)

@@ -1,4 +1,4 @@
--- What is given and what is to come, by what an expander keeps.
+-- What an expander has given and what is still to come, by the stage that it keeps.
 use Rattle.std.specs.Prelude.{◌≡◌, ℕ, List, [], Result, Ok, Err}
 use Rattle.asm_macro.specs.declared.expander.Stage.{Stage}
 use Rattle.asm_macro.specs.declared.expansion.Expansion.{Expansion}
@@ -21,7 +21,7 @@ abbrev pub IsSoundStage : Stage → Type 0
 IsSoundStage (Stage.Within x) = IsSound x
 IsSoundStage stage = Unit {0}
 
--- The text is read.
+-- The source is read.
 abbrev pub IsBegun : Ahead → Type 0
 IsBegun (Before text) = ⊥
 IsBegun ahead = Unit {0}
@@ -29,7 +29,7 @@ IsBegun ahead = Unit {0}
 abbrev pub IsStarted : Standing → Type 0
 IsStarted s = IsBegun s.ahead
 
--- What is to come of a text that is read, and before: the same, but for want of memory.
+-- Reading the source changes nothing about what is to come, unless memory ran out.
 abbrev pub Reads : List ℕ → Ahead → Type 0
 Reads text (Halted number MacroFault.NoMemory) = Unit {0}
 Reads text (Halted number why) = IsExpansion text [] (Stopped number why)
@@ -43,7 +43,7 @@ Starts_from ahead old new = new ≡ old
 abbrev pub Starts : Standing → Standing → Type 0
 Starts old new = Starts_from old.ahead old new
 
--- What is answered of a text that is read.
+-- What reading a source answers.
 abbrev pub Begins : List ℕ → Result Expansion MacroFault → Type 0
 Begins text (Ok x) = IsSound x × (x.count ≡ 0) × ((lines : List Numbered) (end : End) → Remains (Within (rest_of x)) lines end → IsExpansion text lines end)
 Begins text (Err MacroFault.NoMemory) = Unit {0}

@@ -1,4 +1,4 @@
--- What loops collect of lists, element by element, and names that are looked up.
+-- What loops collect from lists, element by element; and names that are looked up.
 use Rattle.std.proofs.Common.{◌≡◌, ◌<◌, ◌+◌, ◌∙◌, ◌||◌, sym, ap, refl, ℕ, zero, suc, Bool, true, false, cond, if◌then◌else◌, List, [], ◌∷◌, ◌++◌, Option, Some, None, get_or, length, map, take, arith}
 use Rattle.std.specs.List.{cons_option, enumerate_from, filter_map, list_any, position_from, slice_get}
 use Rattle.std.specs.Option.{option_map}
@@ -17,7 +17,7 @@ pub position_map : {X Y : Type 0} (p : Y → Bool) (f : X → Y) (n : ℕ) (xs :
 position_map p f n [] = refl
 position_map p f n (x ∷ xs) = ap (λ o. cond (p (f x)) (Some n) o) (position_map p f (n + 1) xs)
 
--- What is given of the elements before one.
+-- What is collected from the elements before one.
 
 take_one : {X : Type 0} (xs : List X) (i : ℕ) (d : X) → slice_get xs i ≡ Some d → take (suc i) xs ≡ take i xs ++ d ∷ []
 take_one [] i d is = absurd cc
@@ -38,7 +38,7 @@ module _ {X Y T : Type 0} (seen : T → Y) (h : X → Option Y) (xs : List X) wh
       ap (map seen) put ∙ map-append seen items (cons_option one []) ∙ ap (λ ys. map seen items ++ ys) (map_option seen one ∙ ap (λ o. cons_option o []) gives)
       ∙ ap (λ ys. ys ++ cons_option (h d) []) was ∙ sym (filter_map-append h (take at xs) (d ∷ [])) ∙ ap (filter_map h) (sym (take_next xs at d (sym is)))
 
-  -- there is one
+  -- there is an element at this index
   pub is_given : {A : Type 0} (at : ℕ) → at < length xs → None ≡ slice_get xs at → A
   is_given at lt is = absurd (not_none xs at lt (sym is))
     where
@@ -47,7 +47,7 @@ module _ {X Y T : Type 0} (seen : T → Y) (h : X → Option Y) (xs : List X) wh
       not_none (y ∷ ys) zero lt none = cc
       not_none (y ∷ ys) (suc i) lt none = not_none ys i (omega (arith, lt)) none
 
--- What is given of the elements with their numbers.
+-- What is collected from the elements with their numbers.
 
 enumerate_more : {X : Type 0} (n : ℕ) (before : List X) (x : X) → enumerate_from n (before ++ x ∷ []) ≡ enumerate_from n before ++ (n + length before, x) ∷ []
 enumerate_more n [] x = ap (λ k. (k, x) ∷ []) (omega arith)
@@ -80,7 +80,7 @@ found_same q x ks there =
       | false ↦ λ other. sym (or-false (list_any (bytes_eq q) ks))
     ] refl
 
--- whether one is found, where one more was inserted if it was not there
+-- whether a name is found once another name was inserted, if that was not there
 pub found_more : {X : Type 0} (v : X → List ℕ) (q : List ℕ) (x : X) (ks : List X)
     → list_any (bytes_eq q) (map v (if list_any (λ k. bytes_eq (v x) (v k)) ks then ks else ks ++ x ∷ [])) ≡ (list_any (bytes_eq q) (map v ks) || bytes_eq q (v x))
 found_more v q x ks =

@@ -1,4 +1,4 @@
--- What labels and externals of names keep.
+-- The rules that the labels and externals of a list of names keep.
 use Rattle.std.proofs.Common.{◌≡◌, ◌≤◌, ◌+◌, sym, ℕ, true, false, cond, All, List, [], ◌∷◌, ◌++◌, Option, Some, None, length, map, arith}
 use Rattle.std.specs.Prelude.{is_some}
 use Rattle.std.specs.List.{AllByRecursion, IsDistinct, enumerate_from, flat_map}
@@ -12,7 +12,7 @@ use Rattle.asm_spell.specs.Names.{line_names}
 use Rattle.asm_spell.specs.Spelling.{option_names}
 use Rattle.asm_names.specs.declared.kind.Kind.{Kind}
 use Rattle.asm_names.specs.Lines.{Taken}
-use Rattle.asm_names.specs.Names.{Names, declared, defines, kind_of, names, with_name, with_names}
+use Rattle.asm_names.specs.Names.{Names, declared, defines, kind_of_name, names, with_name, with_names}
 use Rattle.asm_names.specs.Layout.{Layout, next_at}
 use Rattle.asm_names.specs.Meanings.{externals}
 use Rattle.zmo_module.specs.Rules.{IsLabel, IsObjectName}
@@ -21,11 +21,11 @@ use Rattle.asm_module.specs.Holding.{labels}
 abbrev Key : Type 0
 Key = List ℕ
 
--- what is so of a name
+-- P holds of the name
 abbrev Of : (Key → Type 0) → Key × Kind → Type 0
 Of P d = P d.0
 
--- What is so of each name that a line has, is so of each that it defines.
+-- What holds of each name in a line holds of each name that the line defines.
 
 module _ (P : Key → Type 0) where
   externals_named : (list : List Key) → All P list → All (Of P) (map (λ name. (name, Kind.External)) list)
@@ -63,7 +63,7 @@ module _ (P : Key → Type 0) where
 
   one_named : (old : Names) (d : Key × Kind) → All (Of P) old → P d.0 → All (Of P) (with_name old d)
   one_named old d all one =
-      elim (is_some (kind_of old d.0)) as (λ b. All (Of P) (cond b old (old ++ d ∷ []))) [
+      elim (is_some (kind_of_name old d.0)) as (λ b. All (Of P) (cond b old (old ++ d ∷ []))) [
         | true ↦ all
         | false ↦ All-append (Of P) old (d ∷ []) all (All-cons (Of P) d [] one (All-nil (Of P)))
       ]
@@ -75,7 +75,7 @@ module _ (P : Key → Type 0) where
 pub names_named : (P : Key → Type 0) (lines : List Taken) → All (λ l. All P (line_names l.line)) lines → All (λ d. P d.0) (names lines)
 names_named P lines all = all_named P [] (flat_map (λ l. defines l.0 l.1.line) (enumerate_from 0 lines)) (All-nil (Of P)) (definitions_named P 0 lines all)
 
--- Labels and externals are names.
+-- Labels and externals have names that an object file may hold.
 
 pub labels_kept : (layout : Layout) (names : Names) (count : ℕ) → ((at : ℕ) → next_at layout at ≤ count) → All (λ d. IsObjectName d.0) names → All (IsLabel count) (labels layout names)
 labels_kept layout [] count few all = All-nil (IsLabel count)
@@ -98,7 +98,7 @@ few_kept layout ((name, Kind.Label at) ∷ ds) = (let le = few_kept layout ds in
 few_kept layout ((name, Kind.External) ∷ ds) = (let le = few_kept layout ds in omega (arith, le))
 few_kept layout ((name, Kind.Equ at) ∷ ds) = (let le = few_kept layout ds in omega (arith, le))
 
--- No two are equal: a name is one of them at most once.
+-- No two names are equal: each name is one label or one external at most.
 
 abbrev keys : Names → List Key
 keys names = map (λ d. d.0) names
@@ -109,7 +109,7 @@ label_names layout names = map (λ l. l.name) (labels layout names)
 abbrev taken : Layout → Names → List Key
 taken layout names = label_names layout names ++ externals names
 
--- that two names differ can be said of either first
+-- if two names differ, they also differ in the other order
 differ_back : (x y : Key) → bytes_eq x y ≡ false → bytes_eq y x ≡ false
 differ_back x y e = false_from_ne_true (bytes_eq y x) (λ same. both_ways (bytes_eq x y) e ((bytes_eq-Decides x y).1 (sym ((bytes_eq-Decides y x).0 same))))
 

@@ -1,4 +1,4 @@
--- Numbers of labels: below their count, and ascending.
+-- The numbers of public labels and of the entry: below the number of labels, and ascending.
 use Rattle.std.proofs.Common.{◌≡◌, ◌≤◌, ◌<◌, ◌+◌, ℕ, zero, suc, Bool, true, false, cond, All, List, [], ◌∷◌, Some, None, length, arith}
 use Rattle.std.specs.List.{enumerate_from, filter_map, list_any, position_from, cons_option}
 use Rattle.std.specs.List.Sorted.{IsStrictlyIncreasing}
@@ -9,7 +9,7 @@ use Rattle.asm_names.specs.Lines.{Taken}
 use Rattle.zmo_module.specs.Modules.{Label}
 use Rattle.asm_module.specs.Holding.{entry, entry_name, label_number, public_by, publics}
 
--- it lies in a range
+-- the number is in this range
 abbrev Lies : ℕ → ℕ → ℕ → Type 0
 Lies least most p = (least ≤ p) × (p < most)
 

@@ -1,4 +1,4 @@
--- The first line with END, of those that are left.
+-- The first line with END among those that are left.
 use Rattle.std.proofs.Common.{◌≡◌, ◌∙◌, ◌<◌, ◌≤◌, ◌+◌, ℕ, List, length, drop, get_or}
 use Rattle.std.proofs.lemmas.List.{at_drop_more, at_drop_all}
 use Rattle.asm_spell.specs.Line.{line_of}

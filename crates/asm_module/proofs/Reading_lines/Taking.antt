@@ -1,4 +1,4 @@
--- Lines read so far, and one more.
+-- The lines that were read so far, and one more.
 use Rattle.std.proofs.Common.{◌≡◌, ◌∙◌, sym, ap, refl, ℕ, List, [], ◌∷◌, ◌++◌, Option, Some, None, Result, Ok, Err, append-nil, true, false, is_some}
 use Rattle.std.proofs.lemmas.List.{map-append}
 use Rattle.asm_spell.specs.Line.{Line, line_of}
@@ -12,7 +12,7 @@ use Rattle.asm_module.specs.declared.reading.Reading.{Reading}
 use Rattle.asm_module.specs.Private.Reading.{Reads}
 use Rattle.asm_module.specs.Reads.Read.{read_line, taken, unread, unread_or, with_line}
 
--- Where each line so far spells something, the next one is taken if it does, and is else the first that does not.
+-- If each line so far can be parsed, the next one is appended if it can be parsed too; otherwise it is the first that cannot.
 taken_by : (l : Numbered) (before : List Numbered) (n : Numbered) (r : Result Line LineFault)
     → (unread before ≡ None → taken (before ++ n ∷ []) ≡ taken before ++ with_line n.number (read_line n.text) []) → unread_or l.number r (unread before) ≡ None
     → with_line l.number r (taken (before ++ n ∷ [])) ≡ with_line l.number r (taken before) ++ with_line n.number (read_line n.text) []
@@ -33,7 +33,7 @@ unread_more : (before : List Numbered) (n : Numbered) → unread before ≡ None
 unread_more [] n e = refl
 unread_more (l ∷ before) n e = unread_by l before n (read_line l.text) (unread_more before n) e
 
--- Behind one that spells nothing, nothing changes.
+-- After a line that cannot be parsed, nothing changes.
 taken_still : (l : Numbered) (before : List Numbered) (n : Numbered) (x : ℕ × LineFault) (r : Result Line LineFault)
     → (unread before ≡ Some x → taken (before ++ n ∷ []) ≡ taken before) → unread_or l.number r (unread before) ≡ Some x
     → with_line l.number r (taken (before ++ n ∷ [])) ≡ with_line l.number r (taken before)
@@ -86,7 +86,7 @@ stopped before n r new why none same now reads was =
       unread_is = now ∙ ap (λ x. unread_or n.number x None) reads ∙ sym (unread_more before n is);
     }
 
--- The lines so far are read, and with what is still to come they are the expansion.
+-- The lines so far are read, and together with those still to come they are the expansion.
 pub record Standing (text : List ℕ) (r : Reading) (ahead : Ahead) : Type 0 where
   pub before : List Numbered
   pub reads : Reads before r

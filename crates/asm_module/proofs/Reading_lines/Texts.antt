@@ -1,4 +1,4 @@
--- What an expansion says of its text.
+-- What an expansion says about its source.
 use Rattle.std.proofs.Common.{◌≤◌, ℕ, List, Ok, Err, length}
 use Rattle.common.specs.declared.limits.TheConstants.{LONGEST_TEXT}
 use Rattle.asm_macro.specs.declared.fault.MacroFault.{MacroFault}
@@ -11,11 +11,11 @@ short_by : (text : List ℕ) (lines : List Numbered) (end : End) → IsDone end 
 short_by text lines end done (long above) = absurd done
 short_by text lines end done (short below expands) = below
 
--- A text that has an expansion is no longer than one may be.
+-- A source that has an expansion is not longer than a source may be.
 pub short_text : (text : List ℕ) (lines : List Numbered) → IsExpanded text (Ok lines) → length text ≤ LONGEST_TEXT
 short_text text lines (end, done, is) = short_by text lines end done is
 
--- What stops the reading.
+-- What stops the reading of a source.
 pub refused : (text : List ℕ) (fault : ℕ × MacroFault) → IsReading text (Err fault) → IsSourceText text (Err fault)
 refused text (number, MacroFault.Unclosed) is = is
 refused text (number, MacroFault.Stray) is = is

@@ -18,17 +18,17 @@ is_memory (LineFault.Stmt StmtFault.NoMemory) = true
 is_memory (LineFault.Scan ScanFault.NoMemory) = true
 is_memory why = false
 
--- What a line spells, without where it lies in memory, is this, unless memory ran out.
+-- What a line parses as, or why it cannot be parsed, is this. If memory ran out, nothing is claimed.
 abbrev pub ReadsLine : Result code.Line LineFault → Result line.Line LineFault → Type 0
 ReadsLine (Ok l) read = read ≡ Ok (line_of l)
 ReadsLine (Err why) read = is_memory why ≡ false → read ≡ Err why
 
--- Lines are read as far as they spell something.
+-- The lines are parsed up to the first that cannot be parsed.
 pub record Reads (lines : List Numbered) (r : Reading) : Type 0 where
   pub lines_are : lines_of r.lines.items ≡ taken lines
   pub unread_is : r.unread ≡ unread lines
 
--- The text's expansion is read so, or it stops. Want of memory alone has no cause in the text.
+-- The expansion of the source is parsed so, or it stops with this error. If memory ran out, nothing is claimed.
 abbrev pub IsReading : List ℕ → Result Reading (ℕ × MacroFault) → Type 0
 IsReading text (Ok r) = (lines : List Numbered) × IsExpanded text (Ok lines) × Reads lines r
 IsReading text (Err (number, MacroFault.NoMemory)) = Unit {0}

@@ -1,4 +1,4 @@
--- The steps of the answer, as the code takes them.
+-- The steps of assembling, as the code takes them.
 use Rattle.std.specs.Prelude.{◌≡◌, ℕ, Bool, List, [], ◌∷◌, Option, Some, None, Result, Ok, Err, Vec, map, take}
 use Rattle.std.specs.Global.{Global}
 use Rattle.zmo_module.specs.declared.module.TheConstants.{LONGEST_NAME}
@@ -9,25 +9,25 @@ use Rattle.asm_names.specs.declared.layout.Layout as layout
 use Rattle.asm_names.specs.declared.settling.SettledNames.{SettledNames}
 use Rattle.asm_names.specs.Layout.{Layout, layout_of}
 use Rattle.asm_names.specs.Meanings.{externals}
-use Rattle.asm_names.specs.Settles.{Settles, told}
+use Rattle.asm_names.specs.Settles.{Settles, is_marked_circular}
 use Rattle.asm_names.specs.Faults as defined
 use Rattle.asm_names.specs.Faults.{first}
 use Rattle.asm_names.specs.Lines.{Taken}
 use Rattle.asm_names.specs.Names.{Names, names}
 use Rattle.asm_module.specs.declared.line_fault.LineFault.{LineFault}
 use Rattle.asm_statements.specs.Module.Stated as stated
-use Rattle.asm_statements.specs.Module.Stated.{numbered}
+use Rattle.asm_statements.specs.Module.Stated.{numbered_statements}
 use Rattle.asm_statements.specs.declared.stating.Stated.{Stated}
 use Rattle.zmo_module.specs.declared.module.Module as whole
-use Rattle.zmo_module.specs.Modules.{Module, Statement, module_of, statement_of}
+use Rattle.zmo_module.specs.Modules.{Module, ModuleStatement, module_of, statement_of}
 use Rattle.asm_module.specs.declared.fault.AsmFault.{AsmFault}
 use Rattle.asm_module.specs.declared.fault.Why.{Why}
 use Rattle.asm_module.specs.Holding.{begins, entry, labels, listed, publics}
 use Rattle.asm_module.specs.Source as source
-use Rattle.asm_module.specs.Source.{at, equ_fault, module_by, no_layout, state_fault, statement_lines}
+use Rattle.asm_module.specs.Source.{fault_on_line, first_equ_line_fault, module_by, no_layout, state_fault, statement_lines}
 use Rattle.asm_module.specs.Whys.{line_why, name_why, state_why}
 
--- memory is out, or this is the fault that was found
+-- this is the error that was found, or memory ran out
 abbrev pub FaultBy : Why → Option AsmFault → AsmFault → Type 0
 FaultBy Why.NoMemory found fault = Unit {0}
 FaultBy why found fault = found ≡ Some fault
@@ -35,25 +35,25 @@ FaultBy why found fault = found ≡ Some fault
 abbrev pub IsFault : Option AsmFault → AsmFault → Type 0
 IsFault found fault = FaultBy fault.why found fault
 
--- The first pass over lines, of which one may spell nothing.
+-- What the first pass over lines answers, if `unread` is the line that cannot be parsed.
 abbrev pub Passes : List Taken → Option (ℕ × LineFault) → Result Names AsmFault → Type 0
-Passes lines unread (Ok table) = (defined.first_fault lines ≡ None) × (unread ≡ None) × (table ≡ names lines)
-Passes lines unread (Err fault) = IsFault (first (at name_why (defined.first_fault lines) ∷ at line_why unread ∷ [])) fault
+Passes lines unread (Ok table) = (defined.first_name_fault lines ≡ None) × (unread ≡ None) × (table ≡ names lines)
+Passes lines unread (Err fault) = IsFault (first (fault_on_line name_why (defined.first_name_fault lines) ∷ fault_on_line line_why unread ∷ [])) fault
 
--- Names are settled, and statements have their places.
+-- The names are settled, and the statements are laid out.
 abbrev pub IsPlaced : Bool → List Taken → List Turn → SettledNames × layout.Layout → Type 0
-IsPlaced grow lines turns (settled, placed) = (layout_of placed ≡ source.layout grow lines (told turns)) × Settles (names lines) lines (told turns) (layout_of placed) settled
+IsPlaced grow lines turns (settled, placed) = (layout_of placed ≡ source.layout grow lines (is_marked_circular turns)) × Settles (names lines) lines (is_marked_circular turns) (layout_of placed) settled
 
--- What lines state, by a table, with the faults of a source.
+-- The statements of lines by this table of names, or their first error as one of the source.
 abbrev pub States : Bool → Names → Table → Layout → List Taken → Result Stated AsmFault → Type 0
 States grow names t layout lines (Ok s) =
-    (stated.first_fault names t layout lines ≡ None)
-    × (map statement_of s.statements.items ≡ map (λ n. n.1) (numbered grow t layout lines))
-    × (s.lines.items ≡ map (λ n. n.0) (numbered grow t layout lines))
-States grow names t layout lines (Err fault) = IsFault (at state_why (stated.first_fault names t layout lines)) fault
+    (stated.first_statement_fault names t layout lines ≡ None)
+    × (map statement_of s.statements.items ≡ map (λ n. n.1) (numbered_statements grow t layout lines))
+    × (s.lines.items ≡ map (λ n. n.0) (numbered_statements grow t layout lines))
+States grow names t layout lines (Err fault) = IsFault (fault_on_line state_why (stated.first_statement_fault names t layout lines)) fault
 
--- A module of statements, by the names and lines of its source.
-abbrev pub held : List ℕ → Bool → List Taken → Layout → List Statement → Module
+-- The module of statements, given the names and lines of its source.
+abbrev pub held : List ℕ → Bool → List Taken → Layout → List ModuleStatement → Module
 held name grow lines layout statements = record {
   name = take LONGEST_NAME name;
   begins = begins lines;
@@ -65,18 +65,18 @@ held name grow lines layout statements = record {
   externals = externals (names lines);
 }
 
--- It is told which lines lead back to themselves, and this is the first fault of lines that passed.
+-- The first error of lines that passed the first pass, once it is known which lines lead back to themselves.
 abbrev pub HasFault : Why → Bool → List Taken → AsmFault → Type 0
 HasFault Why.NoMemory grow lines fault = Unit {0}
 HasFault why grow lines fault =
     (circle : ℕ → Bool) × TellsCircles (names lines) lines circle
-    × (first (equ_fault lines circle (source.layout grow lines circle) ∷ state_fault lines circle (source.layout grow lines circle) ∷ []) ≡ Some fault)
+    × (first (first_equ_line_fault lines circle (source.layout grow lines circle) ∷ state_fault lines circle (source.layout grow lines circle) ∷ []) ≡ Some fault)
 
--- .. or there is none, and this is their module.
+-- No line has an error, and this is their module.
 pub record IsWhole (name : List ℕ) (grow : Bool) (lines : List Taken) (m : Module) (each : List ℕ) : Type 0 where
   pub circle : ℕ → Bool
   pub tells : TellsCircles (names lines) lines circle
-  pub sound_equs : equ_fault lines circle (source.layout grow lines circle) ≡ None
+  pub sound_equs : first_equ_line_fault lines circle (source.layout grow lines circle) ≡ None
   pub sound_others : state_fault lines circle (source.layout grow lines circle) ≡ None
   pub module_is : m ≡ module_by name grow lines circle (source.layout grow lines circle)
   pub each_is : each ≡ statement_lines grow lines circle (source.layout grow lines circle)

@@ -1,4 +1,4 @@
--- What the lines of an expansion spell.
+-- What the lines of an expansion parse as.
 use Rattle.std.specs.Prelude.{◌≡◌, ℕ, List, [], ◌∷◌, Option, Some, None, Result, Ok, Err}
 use Rattle.asm_scan.specs.declared.fault.ScanFault.{ScanFault}
 use Rattle.asm_scan.specs.Scanned.{scanned}
@@ -18,16 +18,16 @@ abbrev pub scanned_by : Result (List Lexeme) ScanFault → Result Line LineFault
 scanned_by (Ok tokens) = spelled_by (spelled tokens)
 scanned_by (Err why) = Err (LineFault.Scan why)
 
--- what a line spells, or why it spells nothing
+-- what a line parses as, or why it cannot be parsed
 abbrev pub read_line : List ℕ → Result Line LineFault
 read_line text = scanned_by (scanned text)
 
--- the line, if it spells something, before others
+-- if the line can be parsed, it is put before the others; otherwise the list is empty
 abbrev pub with_line : ℕ → Result Line LineFault → List Taken → List Taken
 with_line number (Ok line) rest = record { number = number; line = line } ∷ rest
 with_line number (Err why) rest = []
 
--- The lines before the first that spells nothing.
+-- The lines before the first that cannot be parsed.
 abbrev pub taken : List Numbered → List Taken
 taken [] = []
 taken (l ∷ ls) = with_line l.number (read_line l.text) (taken ls)
@@ -36,13 +36,13 @@ abbrev pub unread_or : ℕ → Result Line LineFault → Option (ℕ × LineFaul
 unread_or number (Ok line) rest = rest
 unread_or number (Err why) rest = Some (number, why)
 
--- The first line that spells nothing, and why.
+-- The first line that cannot be parsed, and why.
 abbrev pub unread : List Numbered → Option (ℕ × LineFault)
 unread [] = None
 unread (l ∷ ls) = unread_or l.number (read_line l.text) (unread ls)
 
--- A line spells this, and it bears the line's number.
-pub record IsRead (from : Numbered) (l : Taken) : Type 0 where
+-- The line parses as this, and the number is that of the line.
+pub record IsTakenLine (from : Numbered) (l : Taken) : Type 0 where
   pub tokens : List Lexeme
   pub scans : scanned from.text ≡ Ok tokens
   pub spells : spelled tokens ≡ Ok l.line

@@ -1,11 +1,11 @@
-//! Laws of sources, as functions that do nothing.
+//! Laws about the answer for a source. A law is a function that does nothing and whose clause is a theorem.
 
 ghost use Rattle.std.specs.Prelude.{◌≡◌, ℕ, Bool, List, Result};
 ghost use Rattle.asm_statements.specs.Program.Statement.{Statement};
 ghost use Rattle.asm_module.specs.declared.fault.AsmFault.{AsmFault};
 ghost use Rattle.asm_module.specs.Assembled.{Assembled, Assembles, HasCause, IsStated};
 
-/// A text is one module, or has one first fault, out of memory aside; and it states one program at most.
+/// A source has one module or one first error, unless memory ran out; and it describes one program at most.
 pub fn one_answer()
     ensures answer { (name text : List ℕ) (grow : Bool) (a b : Result Assembled AsmFault) → HasCause a → HasCause b →
         Assembles name text grow a → Assembles name text grow b → a ≡ b }

@@ -1,4 +1,4 @@
-//! Laws of what a module holds besides its statements, as functions that do nothing: their calls bring the clauses.
+//! Laws about what a module has besides its statements. A law is a function that does nothing and whose clause is a theorem.
 
 ghost use Rattle.std.specs.Prelude.{◌≡◌, ◌≤◌, ◌<◌, ◌+◌, ◌++◌, ℕ, All, List, length, map};
 ghost use Rattle.std.specs.List.{IsDistinct};
@@ -14,12 +14,12 @@ ghost use Rattle.zmo_module.specs.Modules.{Label};
 ghost use Rattle.zmo_module.specs.Rules.{IsLabel, IsObjectName};
 ghost use Rattle.asm_module.specs.Holding.{entry, labels, publics};
 
-/// Each name that is defined is one that a line has.
+/// If each name in the lines is one that an object file may hold, so is each name that the lines define.
 pub fn named()
     ensures { (lines : List Taken) → All (λ l. All IsObjectName (line_names l.line)) lines → All (λ d. IsObjectName d.0) (names lines) }
 {}
 
-/// Labels and externals are names of an object, no two are equal, and there are no more than names.
+/// The names of labels and externals are ones that an object file may hold, no two are equal, and there are no more of them than names.
 pub fn kept()
     ensures labels { (layout : Layout) (names : Names) (count : ℕ) → ((at : ℕ) → next_at layout at ≤ count) → All (λ d. IsObjectName d.0) names →
         All (IsLabel count) (labels layout names) }
@@ -29,7 +29,7 @@ pub fn kept()
         IsDistinct bytes_eq (map (λ l. l.name) (labels layout names) ++ externals names) }
 {}
 
-/// What is passed on are labels, ascending, and so is the entry.
+/// Public labels and the entry are labels of the module, and the numbers of public labels ascend.
 pub fn within()
     ensures publics { (labels : List Label) (listed : List (List ℕ)) → All (λ p. p < length labels) (publics labels listed) }
     ensures ascending { (labels : List Label) (listed : List (List ℕ)) → IsStrictlyIncreasing (publics labels listed) }

@@ -1,4 +1,4 @@
--- The ends of circles, and of definitions on none.
+-- Closing a circle, or one definition that is on none.
 use Rattle.std.proofs.Common.{rules, ◌≡◌, ◌≢◌, ◌⊎◌, ◌↔◌, ◌<◌, ◌≤◌, ◌+◌, ◌-◌, ◌∙◌, sym, ap, refl, inl, inr, subst, ℕ, zero, suc, Bool, true, false, List, [], ◌∷◌, ◌++◌, Vec, length, reverse, slice_index, slice_set, arith}
 use Rattle.std.specs.List.{Contains, push}
 use Rattle.std.specs.Global.{Global}
@@ -15,7 +15,7 @@ use Rattle.asm_names.proofs.Orders.Opened.{push_before, push_last}
 use Rattle.asm_names.proofs.Orders.Followed.{left_stands}
 use Rattle.asm_names.proofs.Orders.Drained.{done_not_open, drained_more, drained_all, draining_of, circles_of, follows_one}
 
--- a turn is given to the last definition, which stands there
+-- what holds after the last definition on the path has moved to the order
 given : (uses : List (Vec ℕ Global)) (start : ℕ) (b : Bool) (old new : Walk) (t : Turned b old new) → IsDraining uses start old → start < length old.path.items
     → Follows (named_by uses) old.turns.items (record { definition = t.definition; on_circle = b }) → IsDraining uses start new
 given uses start b old new t was lt one =
@@ -52,7 +52,7 @@ one_closed uses start b old new t was one tells =
     let draining = draining_of uses start old.seen.items old.followed.items old.path.items (reverse old.frames.items) old.turns.items was.stands was.finished in
     circle_closed uses start new (given uses start b old new t draining (omega (arith, one)) follows) (omega (arith, len, one))
 
--- the last frame is taken away
+-- the frames, read from the last, when the last is removed
 popped : (old rest : List Frame) (f : Frame) → old ≡ rest ++ f ∷ [] → reverse old ≡ f ∷ reverse rest
 popped old rest f is = ap reverse is ∙ reverse-append rest (f ∷ [])
 

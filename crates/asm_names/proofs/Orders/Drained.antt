@@ -1,4 +1,4 @@
--- Turns are given to the last definitions on the path.
+-- Moving the last definitions of the path to the order.
 use Rattle.std.proofs.Common.{rules, ◌≡◌, ◌≢◌, ◌⊎◌, ◌↔◌, ◌<◌, ◌≤◌, ◌+◌, ◌-◌, ◌∙◌, sym, ap, refl, inl, inr, subst, ℕ, zero, suc, Bool, true, false, List, [], ◌∷◌, ◌++◌, Vec, length, reverse, take, map, slice_index, slice_index_or, slice_set, arith, get_or}
 use Rattle.std.specs.List.{All, Contains, push, sum_by}
 use Rattle.std.proofs.lemmas.List.Sums.{sum_by-set}
@@ -12,14 +12,14 @@ use Rattle.asm_names.specs.declared.walk.Turn.{Turn}
 use Rattle.asm_names.specs.declared.walk.Walk.{Walk}
 use Rattle.asm_names.specs.Orders.Circles.{LeadsTo, IsOnCircle}
 use Rattle.asm_names.specs.Orders.Circles.LeadsTo.{next, further}
-use Rattle.asm_names.specs.Orders.Order.{named_by, definitions, AreInOrder, Follows}
+use Rattle.asm_names.specs.Orders.Order.{named_by, turn_definitions, AreInOrder, Follows}
 use Rattle.asm_names.specs.Private.Standing.{Reaches, Stands, Standing, Closing, Draining, IsDraining, AreOnCircle, AreTold, AreFrames, IsFinished, IsTop, Turned, not_seen, seen_at, low_of, starts, IsFollowed}
 use Rattle.asm_names.proofs.Orders.Leading.{leads_on, reaches_leads, reaches_named}
 use Rattle.asm_names.proofs.Orders.Frames.{low_le, low_inside, low_below}
 use Rattle.asm_names.proofs.Orders.Opened.{push_before, push_last, seen_same, seen_other}
 use Rattle.asm_names.proofs.Orders.Followed.{open_is, not_open_is, other_start, all_reach_top}
 
--- a turn more
+-- an order with one turn more
 in_order_push : (named : ℕ → List ℕ) (turns : List Turn) (t : Turn) → AreInOrder named turns → Follows named turns t → AreInOrder named (push turns t)
 in_order_push named turns t was one k d lt =
     elim (cases_lt k (length turns)) [
@@ -28,14 +28,14 @@ in_order_push named turns t was one k d lt =
           rw (get_or_at turns t [] d k e) (rw (take_at turns (t ∷ []) k e) one))
     ]
 
-contains_push : (turns : List Turn) (t : Turn) (k : ℕ) → Contains (definitions turns) k → Contains (definitions (push turns t)) k
+contains_push : (turns : List Turn) (t : Turn) (k : ℕ) → Contains (turn_definitions turns) k → Contains (turn_definitions (push turns t)) k
 contains_push turns t k (p, lt, is) =
-    rw (map-append (λ u. u.definition) turns (t ∷ [])) (p, omega (arith, lt, length_push (definitions turns) t.definition), get_or_append_left (definitions turns) (t.definition ∷ []) k p lt ∙ is)
+    rw (map-append (λ u. u.definition) turns (t ∷ [])) (p, omega (arith, lt, length_push (turn_definitions turns) t.definition), get_or_append_left (turn_definitions turns) (t.definition ∷ []) k p lt ∙ is)
 
-contains_last : (turns : List Turn) (t : Turn) → Contains (definitions (push turns t)) t.definition
+contains_last : (turns : List Turn) (t : Turn) → Contains (turn_definitions (push turns t)) t.definition
 contains_last turns t =
     rw (map-append (λ u. u.definition) turns (t ∷ []))
-    (length (definitions turns), omega (arith, length_push (definitions turns) t.definition), get_or_at (definitions turns) t.definition [] t.definition (length (definitions turns)) refl)
+    (length (turn_definitions turns), omega (arith, length_push (turn_definitions turns) t.definition), get_or_at (turn_definitions turns) t.definition [] t.definition (length (turn_definitions turns)) refl)
 
 last_of : (xs : List ℕ) (x k : ℕ) → Contains (push xs x) k → Contains xs k ⊎ (k ≡ x)
 last_of xs x k (p, lt, is) =
@@ -44,10 +44,10 @@ last_of xs x k (p, lt, is) =
       | inr end ↦ (let e : length xs ≡ p = omega (arith, lt, length_push xs x) in inr (sym is ∙ get_or_at xs x [] k p e))
     ]
 
-pushed_contains : (turns : List Turn) (t : Turn) (k : ℕ) → Contains (definitions (push turns t)) k → Contains (definitions turns) k ⊎ (k ≡ t.definition)
-pushed_contains turns t k more = last_of (definitions turns) t.definition k (rw (map-append (λ u. u.definition) turns (t ∷ [])) at more)
+pushed_contains : (turns : List Turn) (t : Turn) (k : ℕ) → Contains (turn_definitions (push turns t)) k → Contains (turn_definitions turns) k ⊎ (k ≡ t.definition)
+pushed_contains turns t k more = last_of (turn_definitions turns) t.definition k (rw (map-append (λ u. u.definition) turns (t ∷ [])) at more)
 
--- what is followed stays so where a turn is given
+-- a definition that was followed stays followed when one moves to the order
 followed_on : (seen : List Seen) (d low to : ℕ) → d < length seen → IsFollowed seen low to → IsFollowed (slice_set seen d Seen.Done) low to
 followed_on seen d low to room (inl done) = inl (grind (arith, common_steps, cases_eq to d, seen_same seen d Seen.Done room, seen_other seen d to Seen.Done))
 followed_on seen d low to room (inr (q, stands, above)) =
@@ -103,7 +103,7 @@ told count seen followed path turns d b was =
       ];
     }
 
--- no frame begins above the last one
+-- no frame begins after the end of the path
 starts_below : (fs : List Frame) (end p : ℕ) → AreFrames fs end → Contains (starts fs) p → p < end
 starts_below [] end p are (k, lt, is) = absurd (omega (arith, lt))
 starts_below (f ∷ fs) end p are (zero, lt, is) = rw is at are.0
@@ -113,7 +113,7 @@ no_start_above : (g : Frame) (fs : List Frame) (end p : ℕ) → AreFrames (g �
 no_start_above g fs end p are lt (zero, room, is) = omega (arith, is, lt)
 no_start_above g fs end p are lt (suc k, room, is) = (let h = starts_below fs g.start p are.2 (k, omega (arith, room), is) in omega arith)
 
--- one turn more
+-- what holds after one turn more
 pub drained_more : (uses : List (Vec ℕ Global)) (start : ℕ) (seen : List Seen) (followed path : List ℕ) (frames : List Frame) (turns : List Turn) (d : ℕ) (b : Bool)
     → Draining uses start seen followed (push path d) frames turns → start ≤ length path → Follows (named_by uses) turns (record { definition = d; on_circle = b })
     → Draining uses start (slice_set seen d Seen.Done) followed path frames (push turns (record { definition = d; on_circle = b }))
@@ -139,7 +139,7 @@ drained_more uses start seen followed path frames turns d b was le one =
       finished = λ p lt. rw (sym (same p (omega arith))) (was.finished p lt);
     }
 
--- all turns are given
+-- what holds once all have moved
 pub drained_all : (uses : List (Vec ℕ Global)) (start : ℕ) (seen : List Seen) (followed path : List ℕ) (frames : List Frame) (turns : List Turn)
     → Draining uses start seen followed path frames turns → length path ≡ start → Stands uses seen followed path frames turns
 drained_all uses start seen followed path frames turns was is =
@@ -157,7 +157,7 @@ drained_all uses start seen followed path frames turns was is =
       finished = λ p lt. was.finished p (omega (arith, is));
     }
 
--- where the last frame, which leads to nothing before it, was taken away, turns can be given
+-- after the last frame, which leads to nothing before it, is removed, its definitions can be moved
 pub draining_of : (uses : List (Vec ℕ Global)) (start : ℕ) (seen : List Seen) (followed path : List ℕ) (fs : List Frame) (turns : List Turn)
     → Stands uses seen followed path (record { start = start; low = start } ∷ fs) turns → IsFinished uses followed path start
     → Draining uses start seen followed path fs turns
@@ -193,7 +193,7 @@ leads_of : {named : ℕ → List ℕ} {a b : ℕ} → Reaches named a b → a �
 leads_of (inl same) ne = absurd (ne same)
 leads_of (inr leads) ne = leads
 
--- all from the last frame's place on are on a circle, if they are more than one
+-- all definitions from the start of the last frame on are on a circle, if there is more than one
 pub circles_of : (uses : List (Vec ℕ Global)) (start : ℕ) (seen : List Seen) (followed path : List ℕ) (fs : List Frame) (turns : List Turn)
     → Stands uses seen followed path (record { start = start; low = start } ∷ fs) turns → start + 1 < length path → AreOnCircle uses start path
 circles_of uses start seen followed path fs turns was more p le lt =
@@ -228,7 +228,7 @@ own uses seen d on names not_done (further {b = b} has rest) =
       | inr same ↦ subst (λ x. Contains (named_by uses d) x) same has
     ]
 
--- the turn of one that stands alone behind the last frame's place
+-- the turn of the definition at the start of the last frame, if it is the last on the path
 pub follows_one : (uses : List (Vec ℕ Global)) (start : ℕ) (seen : List Seen) (followed path : List ℕ) (fs : List Frame) (turns : List Turn) (d : ℕ) (b : Bool)
     → Stands uses seen followed path (record { start = start; low = start } ∷ fs) turns → IsFinished uses followed path start → length path ≡ start + 1 → d ≡ slice_index path start
     → ((b ≡ true) ↔ Contains (named_by uses d) d) → Follows (named_by uses) turns (record { definition = d; on_circle = b })

@@ -1,4 +1,4 @@
--- A name is followed.
+-- Following one name.
 use Rattle.std.proofs.Common.{rules, ◌≡◌, ◌≢◌, ◌⊎◌, ◌<◌, ◌≤◌, ◌+◌, ◌-◌, ◌*◌, ◌∙◌, sym, ap, refl, inl, inr, subst, ℕ, zero, suc, min, List, [], ◌∷◌, ◌++◌, Vec, length, reverse, take, slice_index, slice_index_or, slice_set, arith, get_or, get_or-set_same, get_or-set_other}
 use Rattle.std.specs.List.{Contains, push}
 use Rattle.std.specs.Global.{Global}
@@ -8,12 +8,12 @@ use Rattle.std.proofs.lemmas.Grind.{common_steps}
 use Rattle.asm_names.specs.declared.walk.Seen.{Seen}
 use Rattle.asm_names.specs.declared.walk.Frame.{Frame}
 use Rattle.asm_names.specs.declared.walk.Turn.{Turn}
-use Rattle.asm_names.specs.Orders.Order.{named_by, definitions}
+use Rattle.asm_names.specs.Orders.Order.{named_by, turn_definitions}
 use Rattle.asm_names.specs.Private.Standing.{Reaches, Stands, AreTold, AreFrames, IsFinished, IsTop, seen_at, low_of, lowered, starts, IsFollowed, left}
 use Rattle.asm_names.proofs.Orders.Leading.{reaches_on, reaches_named, reaches_leads}
 use Rattle.asm_names.proofs.Orders.Frames.{low_le, low_inside, low_below}
 
--- all on the path reach the definition of the last frame
+-- all definitions on the path reach that of the last frame
 pub all_reach_top : (uses : List (Vec ℕ Global)) (seen : List Seen) (followed path : List ℕ) (f : Frame) (fs : List Frame) (turns : List Turn)
     → Stands uses seen followed path (f ∷ fs) turns → (p : ℕ) → p < length path → Reaches (named_by uses) (slice_index path p) (slice_index path f.start)
 all_reach_top uses seen followed path f fs turns was p lt =
@@ -22,7 +22,7 @@ all_reach_top uses seen followed path f fs turns was p lt =
       | inr inside ↦ reaches_on (rw (low_inside f fs p inside) at (was.back p lt)) (was.onwards f.low f.start was.framed.1 was.framed.0)
     ]
 
--- the last frame leads to a place on the path
+-- what holds after the last frame is found to lead to a definition on the path
 pub lowered_stands : (uses : List (Vec ℕ Global)) (seen : List Seen) (followed path : List ℕ) (f : Frame) (fs : List Frame) (turns : List Turn) (to q : ℕ)
     → Stands uses seen followed path (f ∷ fs) turns → Contains (named_by uses (slice_index path f.start)) to → seen_at seen to ≡ Seen.Open q
     → Stands uses seen followed path (lowered q (f ∷ fs)) turns
@@ -53,7 +53,7 @@ lowered_stands uses seen followed path f fs turns to q was names at =
       finished = was.finished;
     }
 
--- one name more
+-- a definition among the first n + 1 names is among the first n, or the last of them
 contains_more : (xs : List ℕ) (n to x : ℕ) → n < length xs → get_or xs n 0 ≡ to → Contains (take (n + 1) xs) x → Contains (take n xs) x ⊎ (x ≡ to)
 contains_more xs n to x lt is (k, within, at) =
     let short : k < n + 1 = omega (arith, within, length-take-le (n + 1) xs (omega arith)) in
@@ -129,7 +129,7 @@ left_less (u ∷ us) [] k n len is lt = absurd (omega (arith, len))
 left_less (u ∷ us) (f ∷ fs) zero n len is lt = omega (arith, is, lt)
 left_less (u ∷ us) (f ∷ fs) (suc k) n len is lt = (let h = left_less us fs k n (omega (arith, len)) is lt in omega (arith, h))
 
--- a frame is taken away that leads to a lower place
+-- what holds after a frame that leads to something before it is removed
 pub left_stands : (uses : List (Vec ℕ Global)) (seen : List Seen) (followed path : List ℕ) (g : Frame) (fs : List Frame) (turns : List Turn)
     → Stands uses seen followed path (g ∷ fs) turns → IsFinished uses followed path g.start → g.low < g.start
     → Stands uses seen followed path (lowered g.low fs) turns

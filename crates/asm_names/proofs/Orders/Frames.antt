@@ -1,4 +1,4 @@
--- Frames and their places.
+-- Frames and where they begin.
 use Rattle.std.proofs.Common.{rules, ◌≡◌, ◌<◌, ◌≤◌, ◌-◌, ◌+◌, ◌∙◌, sym, ap, refl, inl, inr, ℕ, zero, suc, min, List, [], ◌∷◌, ◌++◌, length, reverse, drop, arith, get_or}
 use Rattle.std.specs.Prelude.{slice_set as set}
 use Rattle.std.proofs.lemmas.Bool.{cases_lt, le-leb, lt-leb}
@@ -17,7 +17,7 @@ set_end (x ∷ z ∷ more) (suc n) y is =
     ∙ ap (λ zs. y ∷ zs) (sym (drop-append-le 1 (reverse (z ∷ more)) (x ∷ []) (omega (arith, length-reverse (z ∷ more)))))
     ∙ ap (λ zs. y ∷ drop 1 zs) (sym (reverse-append (x ∷ []) (z ∷ more)))
 
--- a list whose last element is written, read from its end
+-- a list, read from its end, after its last element was set
 pub set_last : {A : Type 0} (xs : List A) (y : A) → 0 < length xs → reverse (set xs (length xs - 1) y) ≡ y ∷ drop 1 (reverse xs)
 set_last xs y lt = set_end xs (length xs - 1) y (omega arith)
 

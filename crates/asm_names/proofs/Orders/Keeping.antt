@@ -1,4 +1,4 @@
--- What is seen stays so.
+-- A definition that has been seen stays seen.
 use Rattle.std.proofs.Common.{◌≡◌, ◌≢◌, ◌∙◌, sym, ap, inl, inr, length, ◌≤◌, ℕ, Bool, List, slice_set, arith}
 use Rattle.std.proofs.lemmas.List.{get_or_past}
 use Rattle.std.proofs.lemmas.Bool.{cases_eq, cases_lt}

@@ -1,4 +1,4 @@
--- What leads to what, step by step.
+-- Which definitions lead to which, step by step.
 use Rattle.std.proofs.Common.{◌≡◌, ℕ, List, inl, inr, subst}
 use Rattle.std.specs.List.{Contains}
 use Rattle.asm_names.specs.Orders.Circles.{LeadsTo}

@@ -1,4 +1,4 @@
--- A definition is put on the path.
+-- Putting a definition on the path.
 use Rattle.std.proofs.Common.{rules, ◌≡◌, ◌≢◌, ◌⊎◌, ◌<◌, ◌≤◌, ◌+◌, ◌∙◌, sym, ap, refl, inl, inr, subst, ℕ, zero, suc, List, [], ◌∷◌, ◌++◌, Vec, length, reverse, take, slice_index, slice_index_or, slice_set, arith, get_or, get_or-set_same, get_or-set_other}
 use Rattle.std.specs.List.{Contains, push, sum_by}
 use Rattle.std.proofs.lemmas.List.Sums.{sum_by-set}
@@ -10,7 +10,7 @@ use Rattle.asm_names.proofs.Orders.Frames.{low_le}
 use Rattle.asm_names.specs.declared.walk.Seen.{Seen}
 use Rattle.asm_names.specs.declared.walk.Frame.{Frame}
 use Rattle.asm_names.specs.declared.walk.Turn.{Turn}
-use Rattle.asm_names.specs.Orders.Order.{named_by, definitions}
+use Rattle.asm_names.specs.Orders.Order.{named_by, turn_definitions}
 use Rattle.asm_names.specs.Private.Standing.{Reaches, Stands, AreFrames, AreTold, not_seen, seen_at, low_of, starts, IsFollowed}
 
 pub push_before : (path : List ℕ) (d p : ℕ) → p < length path → slice_index (push path d) p ≡ slice_index path p
@@ -25,7 +25,7 @@ seen_same seen k s lt = get_or-set_same seen k s Seen.Not lt
 pub seen_other : (seen : List Seen) (d k : ℕ) (s : Seen) → k ≢ d → seen_at (slice_set seen d s) k ≡ seen_at seen k
 seen_other seen d k s ne = get_or-set_other seen d k s Seen.Not ne
 
--- what is told, with one definition more on the path
+-- what the walk keeps agrees with the path and the order after one definition more
 told : (count : ℕ) (seen : List Seen) (followed path : List ℕ) (turns : List Turn) (d : ℕ) → AreTold count seen followed path turns → d < count → seen_at seen d ≡ Seen.Not
     → AreTold count (slice_set seen d (Seen.Open (length path))) followed (push path d) turns
 told count seen followed path turns d was few new = record {
@@ -43,7 +43,7 @@ told count seen followed path turns d was few new = record {
   turned = λ k h. grind (arith, common_steps, cases_eq k d, seen_same seen d (Seen.Open (length path)), seen_other seen d k (Seen.Open (length path)), was.turned k h, was.seen_all);
 }
 
--- what is followed stays so where more is seen
+-- a definition that was followed stays followed when another is seen
 followed_on : (seen : List Seen) (d low to : ℕ) (s : Seen) → seen_at seen d ≡ Seen.Not → IsFollowed seen low to → IsFollowed (slice_set seen d s) low to
 followed_on seen d low to s new (inl done) = inl (grind (arith, common_steps, cases_eq to d, seen_other seen d to s))
 followed_on seen d low to s new (inr (q, stands, above)) = inr (q, grind (arith, common_steps, cases_eq to d, seen_other seen d to s), above)
@@ -54,7 +54,7 @@ contains_behind x xs y (k, lt, is) = (suc k, omega arith, is)
 not_in_none : (to : ℕ) → Contains [] to → ⊥
 not_in_none to (k, lt, is) = omega (arith, lt)
 
--- the same at a definition more
+-- each definition on the path reaches those after it, and so also the new one
 onwards : (named : ℕ → List ℕ) (path : List ℕ) (d : ℕ)
     → ((p q : ℕ) → p ≤ q → q < length path → Reaches named (slice_index path p) (slice_index path q))
     → ((p : ℕ) → p < length path → Reaches named (slice_index path p) d)

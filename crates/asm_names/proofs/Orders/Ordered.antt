@@ -1,14 +1,14 @@
--- All definitions have their turns.
+-- When all definitions are in the order.
 use Rattle.std.proofs.Common.{◌≡◌, ◌≢◌, ◌<◌, ◌≤◌, ◌∙◌, sym, ap, refl, ℕ, zero, suc, ◌+◌, ◌∷◌, List, [], Vec, length, arith}
 use Rattle.std.specs.Global.{Global}
 use Rattle.std.specs.List.{Contains, sum_by}
 use Rattle.std.proofs.lemmas.List.Sums.{sum_by-cons}
 use Rattle.asm_names.specs.declared.walk.Seen.{Seen}
 use Rattle.asm_names.specs.declared.walk.Walk.{Walk}
-use Rattle.asm_names.specs.Orders.Order.{named_by, definitions, IsOrder}
+use Rattle.asm_names.specs.Orders.Order.{named_by, turn_definitions, IsOrder}
 use Rattle.asm_names.specs.Private.Standing.{Standing, not_seen, seen_at}
 
-turn_of : (uses : List (Vec ℕ Global)) (w : Walk) → Standing uses w → w.path.items ≡ [] → (k : ℕ) (s : Seen) → seen_at w.seen.items k ≡ s → s ≢ Seen.Not → Contains (definitions w.turns.items) k
+turn_of : (uses : List (Vec ℕ Global)) (w : Walk) → Standing uses w → w.path.items ≡ [] → (k : ℕ) (s : Seen) → seen_at w.seen.items k ≡ s → s ≢ Seen.Not → Contains (turn_definitions w.turns.items) k
 turn_of uses w was empty k Seen.Not is ne = absurd (ne refl)
 turn_of uses w was empty k (Seen.Open p) is ne = absurd (let h = (was.told.placed k p is).0 in omega (arith, h, ap length empty))
 turn_of uses w was empty k Seen.Done is ne = was.told.turn k is

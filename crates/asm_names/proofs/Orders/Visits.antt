@@ -1,4 +1,4 @@
--- What a visit to a definition leaves.
+-- What holds after a visit to a definition.
 use Rattle.std.proofs.Common.{rules, ◌≡◌, ◌<◌, ◌≤◌, ◌+◌, ◌∙◌, sym, ap, refl, inl, inr, ℕ, ◌*◌, min, slice_set, get_or, List, [], ◌∷◌, ◌++◌, Vec, length, reverse, slice_index, arith}
 use Rattle.std.specs.List.{Contains, push}
 use Rattle.std.specs.Global.{Global}
@@ -92,7 +92,7 @@ pub some_top : (frames : List Frame) (start : ℕ) → IsTop start frames → 0 
 some_top [] start top = absurd top
 some_top (f ∷ fs) start top = omega arith
 
--- the definition at the last frame's place, and how many of its names are followed
+-- the definition of the last frame, and how many of its names have been followed
 pub record Reads (uses : List (Vec ℕ Global)) (w : Walk) (start definition followed : ℕ) : Type 0 where
   pub room : start < length w.path.items
   pub definition_is : definition ≡ slice_index w.path.items start

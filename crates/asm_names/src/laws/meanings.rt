@@ -1,4 +1,4 @@
-//! Laws of the names that EQU defines, as functions that do nothing: their calls bring the clauses.
+//! Laws about the names that EQU defines, as functions that do nothing. A caller calls one to use its clauses.
 
 ghost use Rattle.std.specs.Prelude.{◌≡◌, ◌<◌, ◌≤◌, ◌+◌, ℕ, Bool, true, false, List, None, Some, length};
 ghost use Rattle.std.specs.List.{list_any};
@@ -15,25 +15,25 @@ ghost use Rattle.asm_names.specs.Lines.{Taken};
 ghost use Rattle.asm_names.specs.Names.{Names, names};
 ghost use Rattle.asm_names.specs.Circles.{TellsCircles, lines_named};
 ghost use Rattle.asm_names.specs.Layout.{Layout, next_at};
-ghost use Rattle.asm_names.specs.Meanings.{entries, externals, first_fault};
-ghost use Rattle.asm_names.specs.Settles.{told};
+ghost use Rattle.asm_names.specs.Meanings.{name_meanings, externals, first_equ_fault};
+ghost use Rattle.asm_names.specs.Settles.{is_marked_circular};
 
-/// Turns in order tell which lines lead back to themselves.
+/// Turns that are an order of the lines mark exactly the lines that lead back to themselves.
 pub fn told()
-    ensures { (names : Names) (lines : List Taken) (turns : List Turn) → IsOrder (length lines) (lines_named names lines) turns → TellsCircles names lines (told turns) }
+    ensures { (names : Names) (lines : List Taken) (turns : List Turn) → IsOrder (length lines) (lines_named names lines) turns → TellsCircles names lines (is_marked_circular turns) }
 {}
 
-/// Where no line is faulty, each name that is constant stands for a number; and each name stands for a value, if the size of each
-/// statement is known.
+/// If no line has an error, each name that is constant stands for a number. If also the size of each statement is known, each name
+/// stands for a value.
 pub fn valued()
-    ensures constants { (lines : List Taken) (turns : List Turn) (layout : Layout) → naming.first_fault lines ≡ None →
-        IsOrder (length lines) (lines_named (names lines) lines) turns → first_fault (names lines) lines (told turns) layout ≡ None →
-        (name : List ℕ) (what : Meaning) → lookup (bytes_eq name) (entries (names lines) lines (told turns) layout) ≡ Some what →
+    ensures constants { (lines : List Taken) (turns : List Turn) (layout : Layout) → naming.first_name_fault lines ≡ None →
+        IsOrder (length lines) (lines_named (names lines) lines) turns → first_equ_fault (names lines) lines (is_marked_circular turns) layout ≡ None →
+        (name : List ℕ) (what : Meaning) → lookup (bytes_eq name) (name_meanings (names lines) lines (is_marked_circular turns) layout) ≡ Some what →
         is_constant_name (Some what) ≡ true → is_number_name (Some what) ≡ true }
-    ensures all { (lines : List Taken) (turns : List Turn) (layout : Layout) → naming.first_fault lines ≡ None →
-        IsOrder (length lines) (lines_named (names lines) lines) turns → first_fault (names lines) lines (told turns) layout ≡ None →
+    ensures all { (lines : List Taken) (turns : List Turn) (layout : Layout) → naming.first_name_fault lines ≡ None →
+        IsOrder (length lines) (lines_named (names lines) lines) turns → first_equ_fault (names lines) lines (is_marked_circular turns) layout ≡ None →
         list_any is_unsized layout.statements ≡ false →
-        (name : List ℕ) (what : Meaning) → lookup (bytes_eq name) (entries (names lines) lines (told turns) layout) ≡ Some what →
+        (name : List ℕ) (what : Meaning) → lookup (bytes_eq name) (name_meanings (names lines) lines (is_marked_circular turns) layout) ≡ Some what →
         is_valued_name (Some what) ≡ true }
 {
     crate::laws::given();
@@ -41,11 +41,12 @@ pub fn valued()
     asm_expr::laws::valued();
 }
 
-/// Names stand for refs below a count, where the numbers of statements are below it and there are as many behind them as externals.
+/// Names stand for refs less than `count`, if the numbers of all statements are less, and if `count` leaves room for all externals
+/// after the statements and their end.
 pub fn refs()
     ensures { (names : Names) (lines : List Taken) (circle : ℕ → Bool) (layout : Layout) (count : ℕ) → ((at : ℕ) → next_at layout at < count) →
         (length layout.statements + 1) + length (externals names) ≤ count →
-        (name : List ℕ) (what : Meaning) → lookup (bytes_eq name) (entries names lines circle layout) ≡ Some what → Brings (λ r. r < count) what }
+        (name : List ℕ) (what : Meaning) → lookup (bytes_eq name) (name_meanings names lines circle layout) ≡ Some what → Brings (λ r. r < count) what }
 {
     asm_expr::laws::no_other_refs();
 }

@@ -5,20 +5,20 @@ use Rattle.asm_parse.specs.declared.sign.Sign.{Sign}
 use Rattle.asm_parse.specs.declared.sign.Prefix.{Prefix}
 use Rattle.asm_parse.specs.Expression.{and_then}
 use Rattle.asm_parse.specs.Words.{prefix_of, infix_of}
-use Rattle.asm_parse.specs.Grammar.{Symbol, Term, Marked, Phrase, Single, Enclosed, Prefixed, Joined, prefix_level, infix_level}
+use Rattle.asm_parse.specs.Grammar.{GrammarSymbol, Term, Marked, Phrase, Single, Enclosed, Prefixed, Joined, prefix_level, infix_level}
 
--- What stands around what is read next: an open parenthesis, a prefix operator, or an infix one with its left operand.
+-- What is around the operand that is read next: an open parenthesis, a prefix operator, or an infix operator with its left operand.
 pub data Frame : Type 0 where
   Inside : Frame
   Under : Prefix → Frame
   RightOf : Binary → Phrase → Frame
 
--- What is read: the frames, of which the innermost comes first, and the operand, where one is complete.
+-- The state after some symbols: the frames, the innermost first, and the operand, if one is complete.
 pub record State : Type 0 where
   pub frames : List Frame
   pub operand : Option Phrase
 
--- how loosely what comes next may bind
+-- how loosely the next operator may bind
 abbrev pub room : List Frame → ℕ
 room [] = 7
 room (Inside ∷ frames) = 7
@@ -44,7 +44,7 @@ abbrev pub enclosed : List Frame × Phrase → Option State
 enclosed (Inside ∷ frames, a) = Some (record { frames = frames; operand = Some (Enclosed a) })
 enclosed _ = None
 
--- a sign where an operand is wanted, and where one is complete
+-- a sign where an operand is expected; `sign_behind` is a sign after a complete operand
 abbrev pub sign_before : Sign → List Frame → Option State
 sign_before Sign.Open frames = Some (record { frames = Inside ∷ frames; operand = None })
 sign_before sign frames = under_prefix (prefix_of sign) frames
@@ -53,13 +53,13 @@ abbrev pub sign_behind : Sign → List Frame → Phrase → Option State
 sign_behind Sign.Close frames a = enclosed (reduce 7 frames a)
 sign_behind sign frames a = right_of (infix_of sign) frames a
 
-abbrev pub step_by : Symbol → List Frame → Option Phrase → Option State
+abbrev pub step_by : GrammarSymbol → List Frame → Option Phrase → Option State
 step_by (Term t) frames None = Some (record { frames = frames; operand = Some (Single t) })
 step_by (Marked sign) frames None = sign_before sign frames
 step_by (Marked sign) frames (Some a) = sign_behind sign frames a
 step_by _ frames operand = None
 
-abbrev pub step : Symbol → State → Option State
+abbrev pub step : GrammarSymbol → State → Option State
 step symbol state = step_by symbol state.frames state.operand
 
 abbrev pub ended : List Frame × Phrase → Option Phrase
@@ -73,7 +73,7 @@ finish_by frames (Some a) = ended (reduce 7 frames a)
 abbrev pub finish : State → Option Phrase
 finish state = finish_by state.frames state.operand
 
-abbrev pub reading : List Symbol → State → Option Phrase
+abbrev pub reading : List GrammarSymbol → State → Option Phrase
 reading [] state = finish state
 reading (symbol ∷ symbols) state = and_then (step symbol state) (λ next. reading symbols next)
 

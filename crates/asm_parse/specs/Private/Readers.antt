@@ -5,7 +5,7 @@ use Rattle.asm_parse.specs.declared.reader.Operator.{Operator}
 use Rattle.asm_parse.specs.declared.reader.Pending.{Pending}
 use Rattle.asm_parse.specs.declared.reader.Reader.{Reader}
 use Rattle.asm_parse.specs.Source.{source_item}
-use Rattle.asm_parse.specs.Grammar.{Symbol, Phrase, prefix_level, infix_level}
+use Rattle.asm_parse.specs.Grammar.{GrammarSymbol, Phrase, prefix_level, infix_level}
 use Rattle.asm_parse.specs.Private.Parsing.{Frame, Inside, Under, State, reading, start}
 use Rattle.asm_parse.specs.Private.Stacks.{Holds, Answers}
 
@@ -15,7 +15,7 @@ HoldsIn frames operand r = Holds (record { frames = frames; operand = operand })
 abbrev pub Reads : Option State → {A : Type 0} → Result A ExprFault → Reader → Type 0
 Reads next result r = Answers next result r.pending.items (map source_item r.items.items) r.deepest r.complete
 
--- the frame of an operator before its operand
+-- the frame of a prefix operator, or of a parenthesis
 abbrev pub frame_of : Operator → Frame
 frame_of (Operator.Under p) = Under p
 frame_of _ = Inside
@@ -24,7 +24,7 @@ abbrev pub opens : Operator → Bool
 opens (Operator.RightOf o) = false
 opens _ = true
 
--- how loosely what comes next may bind
+-- how loosely the next operator may bind
 abbrev pub room_by : Operator → ℕ
 room_by Operator.Inside = 7
 room_by (Operator.Under p) = prefix_level p
@@ -37,12 +37,12 @@ room_of (Some p) = room_by p.operator
 abbrev pub room_in : List Pending → ℕ
 room_in pending = room_of (slice_get pending (length pending - 1))
 
--- Some of the symbols are read.
-pub record ReadIn (symbols : List Symbol) (read : ℕ) (r : Reader) : Type 0 where
+-- The first `read` symbols have been read.
+pub record ReadIn (symbols : List GrammarSymbol) (read : ℕ) (r : Reader) : Type 0 where
   pub state : State
   pub holds : HoldsIn state.frames state.operand r
   pub left : reading (drop read symbols) state ≡ reading symbols start
 
--- A reader holds what is read, whatever that is.
+-- The reader holds the state after some symbols.
 abbrev pub IsReading : Reader → Type 0
 IsReading r = (state : State) × HoldsIn state.frames state.operand r

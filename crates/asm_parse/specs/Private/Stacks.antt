@@ -9,16 +9,16 @@ use Rattle.asm_parse.specs.declared.reader.Pending.{Pending}
 use Rattle.asm_parse.specs.Expression.{postfix}
 use Rattle.asm_parse.specs.Source.{Operand, Name, operand}
 use Rattle.asm_parse.specs.Words.{sign_of}
-use Rattle.asm_parse.specs.Grammar.{Symbol, Term, Marked, Foreign, Phrase, prefix_level, infix_level, depth, expression, symbol_of_name}
+use Rattle.asm_parse.specs.Grammar.{GrammarSymbol, Term, Marked, Foreign, Phrase, prefix_level, infix_level, depth, expression, symbol_of_name}
 use Rattle.asm_parse.specs.Private.Parsing.{Frame, Inside, Under, RightOf, State}
 
-abbrev pub part_symbol : Part → Symbol
+abbrev pub part_symbol : Part → GrammarSymbol
 part_symbol (Part.Term t) = Term (operand t)
 part_symbol (Part.Sign s) = Marked s
 part_symbol Part.Foreign = Foreign
 
--- a term whose name may be a sign, or reserved
-abbrev pub named_symbol : Operand → Symbol
+-- a term as a symbol: its name may be an operator, or reserved
+abbrev pub named_symbol : Operand → GrammarSymbol
 named_symbol (Name name) = symbol_of_name (sign_of name) name
 named_symbol other = Term other
 
@@ -50,14 +50,14 @@ abbrev pub pendings : List Frame → List Pending
 pendings [] = []
 pendings (f ∷ frames) = pendings frames ++ (record { operator = operator_of f; count = opened (f ∷ frames) }) ∷ []
 
--- the operands of frames
+-- the items of the operands of frames
 abbrev pub written : List Frame → List (Item Operand)
 written [] = []
 written (Inside ∷ frames) = written frames
 written (Under p ∷ frames) = written frames
 written (RightOf o a ∷ frames) = written frames ++ postfix (expression a)
 
--- what an operator writes behind its operands
+-- what an operator writes after its operands
 abbrev pub closed_by : Prefix → List (Item Operand)
 closed_by Prefix.Plus = []
 closed_by (Prefix.Operator op) = Item.Unary op ∷ []
@@ -67,7 +67,7 @@ closed_item Operator.Inside = []
 closed_item (Operator.Under p) = closed_by p
 closed_item (Operator.RightOf o) = Item.Binary o ∷ []
 
--- how deep a phrase is around what is read next, which is this deep
+-- how deep the whole phrase is, if the operand that is read next has depth d
 abbrev pub depth_around : List Frame → ℕ → ℕ
 depth_around [] d = d
 depth_around (Inside ∷ frames) d = depth_around frames (d + 1)
@@ -82,8 +82,8 @@ abbrev pub items_of : Option Phrase → List (Item Operand)
 items_of None = []
 items_of (Some a) = postfix (expression a)
 
--- What the code holds of what is read: the operators that wait, the items that are written, how deep it is, and whether an operand
--- is complete.
+-- The state of the code: the operators that wait, the items that are written, how deep the expression is so far, and whether an
+-- operand is complete.
 pub record Holds (state : State) (pending : List Pending) (items : List (Item Operand)) (deepest : ℕ) (complete : Bool) : Type 0 where
   pub waiting : pending ≡ pendings state.frames
   pub writing : items ≡ written state.frames ++ items_of state.operand
@@ -98,6 +98,6 @@ Answers None (Err ExprFault.Syntax) pending items deepest complete = Unit {0}
 Answers _ (Err ExprFault.NoMemory) pending items deepest complete = Unit {0}
 Answers _ (Err _) pending items deepest complete = ⊥
 
--- The stacks hold these frames, and this operand behind them.
+-- The stacks hold these frames and then this operand.
 abbrev pub IsReduced : List Frame × Phrase → List Pending → List (Item Operand) → Type 0
 IsReduced at pending items = (pending ≡ pendings at.0) × (items ≡ written at.0 ++ postfix (expression at.1))

@@ -1,19 +1,19 @@
--- Whether the names of operands stand for something, as a test.
+-- The test whether each name in the operands stands for something.
 use Rattle.std.specs.Prelude.{Bool, true, ◌&&◌, Option, Some, None, is_some}
 use Rattle.std.specs.List.{list_all}
 use Rattle.asm_expr.specs.Names.{Table, found}
 use Rattle.asm_expr.specs.Settling.{is_known}
 use Rattle.asm_spell.specs.Line as line
-use Rattle.asm_spell.specs.Line.{Body, Expression, Value}
+use Rattle.asm_spell.specs.Line.{Body, ExpressionItems, Value}
 
-abbrev pub is_defined : Table → Expression → Bool
+abbrev pub is_defined : Table → ExpressionItems → Bool
 is_defined t e = list_all (is_known t) e
 
 abbrev pub value_defined : Table → Value → Bool
 value_defined t (line.Text text) = true
 value_defined t (line.Byte e) = is_defined t e
 
-abbrev pub fill_defined : Table → Option Expression → Bool
+abbrev pub fill_defined : Table → Option ExpressionItems → Bool
 fill_defined t None = true
 fill_defined t (Some e) = is_defined t e
 

@@ -1,4 +1,4 @@
--- Fields and numbers as the code puts them in, one behind the other.
+-- Fields and numbers as the code puts them in, one after the other.
 use Rattle.std.specs.Prelude.{◌≡◌, List, ◌++◌, Result, Ok, Err, map, length}
 use Rattle.std.specs.List.{flat_map, list_all}
 use Rattle.z80_instr.specs.declared.Instr.{Instr}
@@ -12,7 +12,7 @@ use Rattle.asm_piece.specs.declared.data.Laid.{Laid}
 use Rattle.asm_piece.specs.Cells.{all_told, bytes, holes, is_told, number_or_0}
 use Rattle.asm_piece.specs.Made.{Fillings, code_hole}
 
--- What is laid are these fields.
+-- The bytes and fix-ups are those of these fields.
 pub record Lays (cells : List Cell) (l : Laid) : Type 0 where
   pub bytes : l.bytes.items ≡ bytes cells
   pub holes : l.holes.items ≡ holes 0 cells
@@ -25,7 +25,7 @@ pub record Codes (instr : Instr) (numbers : Fillings) (c : Coded) : Type 0 where
   pub holes : c.holes.items ≡ flat_map (code_hole (length (canonical instr))) numbers
   pub told : c.told ≡ list_all (λ n. is_told n.1) numbers
 
--- These fields were put behind the others, or there is this fault.
+-- These fields were put after those before, or the call failed with the error of reading them.
 abbrev pub Puts : List Cell → Result (List Cell) StmtFault → Result (Unit {0}) StmtFault → Laid → Type 0
 Puts before read (Ok _) l = (some : List Cell) × (read ≡ Ok some) × Lays (before ++ some) l
 Puts before read (Err why) l = Fails why read

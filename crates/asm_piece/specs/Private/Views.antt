@@ -1,4 +1,4 @@
--- What code's types are, seen as they are in definitions.
+-- Values of the code's types as definitions see them.
 
 abbrev pub same : {A : Type 0} → A → A
 same x = x

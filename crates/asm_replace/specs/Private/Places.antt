@@ -1,10 +1,10 @@
--- Names by their places.
+-- The places of the names of a macro.
 use Rattle.std.specs.Prelude.{ℕ, ◌+◌, List, [], ◌∷◌}
 use Rattle.asm_replace.specs.declared.names.NameKind.{NameKind}
 use Rattle.asm_replace.specs.declared.names.Place.{Place}
-use Rattle.asm_replace.specs.Replaced.{Table}
+use Rattle.asm_replace.specs.Replaced.{ReplacementTable}
 
--- names of one kind, the first of which has this place, each with what its place says
-abbrev pub placed : (Place → List ℕ) → NameKind → ℕ → List (List ℕ) → Table
+-- names of one kind, which get ascending places from `at` on, each with what f gives for its place
+abbrev pub placed : (Place → List ℕ) → NameKind → ℕ → List (List ℕ) → ReplacementTable
 placed f kind at [] = []
 placed f kind at (name ∷ names) = (name, f (record { kind = kind; at = at })) ∷ placed f kind (at + 1) names

@@ -7,7 +7,7 @@ use Rattle.asm_scan.specs.Classes.{begins_name, continues_name, is_quote, is_con
 use Rattle.asm_scan.specs.Numbers.{number_of}
 use Rattle.asm_scan.specs.Tokens.{mark_byte}
 
--- a token's kind and length, or a fault
+-- a token's kind and length, or an error
 abbrev pub Reading : Type 0
 Reading = Result (Kind × ℕ) ScanFault
 
@@ -41,7 +41,7 @@ abbrev pub longer_by : ℕ → Result ℕ ScanFault → Result ℕ ScanFault
 longer_by n (Ok len) = Ok (n + len)
 longer_by n (Err fault) = Err fault
 
--- how long a string is behind its first quote
+-- how long a string is after its first quote, or its error
 abbrev pub string_len : ℕ → List ℕ → Result ℕ ScanFault
 string_len quote [] = Err ScanFault.OpenString
 string_len quote (b ∷ []) = if b == quote then Ok 1 else if is_control b then Err ScanFault.BadByte else Err ScanFault.OpenString
@@ -58,7 +58,7 @@ abbrev pub mark_or_fault : Option Mark → Reading
 mark_or_fault (Some m) = Ok (Kind.Mark m, 1)
 mark_or_fault None = Err ScanFault.BadByte
 
--- the token with which the bytes begin, or its fault
+-- the token with which the bytes begin, or its error
 abbrev pub first_token : List ℕ → Reading
 first_token [] = Err ScanFault.BadByte
 first_token (b ∷ more) =

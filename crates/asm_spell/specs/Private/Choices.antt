@@ -1,4 +1,4 @@
--- How the code says what a word or an instruction is.
+-- How the code finds what a word or an instruction is.
 use Rattle.std.specs.Prelude.{ℕ, List, [], ◌∷◌, Result, codes}
 use Rattle.asm_scan.specs.Tokens.{Lexeme}
 use Rattle.asm_spell.specs.declared.fault.StmtFault.{StmtFault}
@@ -22,7 +22,7 @@ abbrev pub jumps : jump.Jump → List ℕ → Body
 jumps (jump.TheVariants.Relaxable condition) name = Jump condition name
 jumps (jump.TheVariants.Always branch) name = Short branch name
 
--- The directives by the length of their words, as they are looked up.
+-- The directives by the length of their words, as the code looks them up.
 
 abbrev pub Named : Type 0
 Named = List (List ℕ × (List Lexeme → Result Body StmtFault))

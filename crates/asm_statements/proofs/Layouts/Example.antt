@@ -1,4 +1,4 @@
--- What the laws ask can be met: `HERE: JR HERE`, where a JR may grow, and `DS 2`.
+-- An example for which the conditions of the laws hold: `HERE: JR HERE`, assembled with --grow, and `DS 2`.
 use Rattle.std.proofs.Common.{◌≡◌, ℕ, true, false, cond, refl, subst, List, [], ◌∷◌, Some, None}
 use Rattle.std.specs.Prelude.{codes}
 use Rattle.std.specs.List.{list_any}
@@ -14,9 +14,9 @@ use Rattle.asm_expr.specs.Origins.{is_valued_name}
 use Rattle.asm_spell.specs.Line as line
 use Rattle.asm_names.specs.declared.kind.Kind.{Kind}
 use Rattle.asm_names.specs.Lines.{Taken}
-use Rattle.asm_names.specs.Names.{Names, kind_of}
+use Rattle.asm_names.specs.Names.{Names, kind_of_name}
 use Rattle.asm_statements.specs.Layouts.Laid.{laid, statements}
-use Rattle.asm_statements.specs.Module.Stated.{first_fault}
+use Rattle.asm_statements.specs.Module.Stated.{first_statement_fault}
 
 abbrev label : List ℕ
 label = codes "HERE"
@@ -37,13 +37,13 @@ table = record { entries = (label, Meaning.Label 0) ∷ []; here = 0; statements
 pub they_stand : statements true table lines ≡ stand
 they_stand = refl
 
-pub no_fault : first_fault names table (laid true table lines) lines ≡ None
+pub no_fault : first_statement_fault names table (laid true table lines) lines ≡ None
 no_fault = refl
 
 pub all_sized : list_any is_unsized table.statements ≡ false
 all_sized = refl
 
-pub named : (name : List ℕ) → found table name ≡ None → kind_of names name ≡ None
+pub named : (name : List ℕ) → found table name ≡ None → kind_of_name names name ≡ None
 named name =
     elim (bytes_eq name label) as (λ b. cond b (Some (Meaning.Label 0)) None ≡ None → cond b (Some (Kind.Label 0)) None ≡ None) [
       | true ↦ λ bad. absurd cc

@@ -1,4 +1,4 @@
--- How many statements lines have, and tables that lay them alike.
+-- How many statements lines have, and tables by which lines have the same statements.
 use Rattle.std.proofs.Common.{◌≡◌, ◌≤◌, ◌+◌, ◌∙◌, sym, ap, refl, subst, ℕ, Bool, true, false, cond, List, [], ◌∷◌, Option, Some, None, length, count_by, map, take, inl, inr, ◌⊎◌, arith}
 use Rattle.std.specs.List.{cons_option, filter_map}
 use Rattle.std.specs.Option.{option_map}
@@ -48,7 +48,7 @@ few_statements grow t [] = omega arith
 few_statements grow t (l ∷ ls) =
     subst (λ n. length (statements grow t (l ∷ ls)) ≤ n) (sym (count_more l ls)) (count_one (has_statement l.line) (line_sized grow t l.line) (statements grow t ls) (count_by (λ l. has_statement l.line) ls) (line_counts grow t l.line) (few_statements grow t ls))
 
--- A name stands for a place in both tables, or in neither.
+-- A name stands for a label or an external in both tables, or in neither.
 abbrev is_place : Kind → Bool
 is_place Kind.Place = true
 is_place _ = false

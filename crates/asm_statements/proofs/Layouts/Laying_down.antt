@@ -1,4 +1,4 @@
--- Lines laid one after the other.
+-- Laying out lines one after the other.
 use Rattle.std.proofs.Common.{◌≡◌, ◌<◌, ◌≤◌, ◌+◌, ◌∙◌, sym, ap, refl, subst, ℕ, zero, suc, Bool, cond, List, [], ◌∷◌, ◌++◌, Option, length, count_by, map, take, drop, get_or, arith}
 use Rattle.std.specs.List.{All, cons_option, enumerate_from}
 use Rattle.std.proofs.Math.ListN.{get_or-map}
@@ -13,16 +13,16 @@ use Rattle.asm_names.proofs.TakenUp.{enumerate_more}
 use Rattle.asm_statements.specs.Layouts.Laid.{HasFew, laid, line_sized, statements}
 use Rattle.asm_statements.proofs.Layouts.Few.{few_statements}
 
--- how many statements stand before a line
+-- how many statements come before a line
 abbrev pub before : Bool → Table → List Taken → ℕ × Taken → ℕ
 before grow t lines l = length (statements grow t (take l.0 lines))
 
--- Some lines are laid.
+-- The lines up to `at` are laid out.
 pub record IsLaid (grow : Bool) (t : Table) (lines : List Taken) (at : ℕ) (next : List ℕ) (laid_so_far : List Statement) : Type 0 where
   pub next_is : next ≡ map (before grow t lines) (enumerate_from 0 (take at lines))
   pub statements_is : laid_so_far ≡ statements grow t (take at lines)
 
--- one line more
+-- one more line
 lines_more : (lines : List SourceLine) (at : ℕ) (l : SourceLine) → at < length lines → l ≡ get_or lines at l → take (at + 1) (lines_of lines) ≡ take at (lines_of lines) ++ taken_of l ∷ []
 lines_more lines at l lt is =
     take_more (lines_of lines) at (taken_of l) (subst (λ n. at < n) (sym (length-map lines taken_of)) lt)
@@ -57,7 +57,7 @@ all_laid grow t lines at next some le was =
     let statements_is : some ≡ statements grow t (lines_of lines) = was.statements_is ∙ ap (statements grow t) all in
     ap (λ n. record { next = n; statements = some }) next_is ∙ ap (λ ss. record { next = map (before grow t (lines_of lines)) (placed (lines_of lines)); statements = ss }) statements_is
 
--- there are few so far
+-- the lines so far have 20,000 statements at most
 pub few_so_far : (grow : Bool) (t : Table) (lines : List Taken) (at : ℕ) (next : List ℕ) (some : List Statement) → count_by (λ l. has_statement l.line) lines ≤ 20000 → IsLaid grow t lines at next some → length some ≤ 20000
 few_so_far grow t lines at next some few was =
     let le : length (statements grow t (take at lines)) ≤ count_by (λ l. has_statement l.line) (take at lines) = few_statements grow t (take at lines) in
@@ -66,6 +66,6 @@ few_so_far grow t lines at next some few was =
     let same : length some ≡ length (statements grow t (take at lines)) = ap length was.statements_is in
     omega (arith, few, le, part, same)
 
--- a line's data takes few bytes
+-- DB or DW in the line makes 1 to 65,535 bytes
 pub few_there : (lines : List SourceLine) (at : ℕ) (l : SourceLine) → at < length lines → l ≡ get_or lines at l → All HasFew (lines_of lines) → HasFew (taken_of l)
 few_there lines at l lt is all = subst HasFew (get_or-map taken_of lines at l ∙ ap taken_of (sym is)) (all at (taken_of l) (subst (λ n. at < n) (sym (length-map lines taken_of)) lt))

@@ -1,4 +1,4 @@
--- Names are of the same kinds after each round, wherever the statements stand.
+-- After each round of settling, names have the same kinds, wherever the statements are.
 use Rattle.std.proofs.Common.{◌≡◌, ◌∙◌, sym, ap, refl, ℕ, zero, suc, Bool, true, false, cond, List, [], ◌∷◌, Option, Some, None, Result, Ok, Err, map}
 use Rattle.std.specs.Prelude.{if◌then◌else◌}
 use Rattle.std.specs.List.{list_all}
@@ -17,9 +17,9 @@ use Rattle.asm_expr.specs.Equating.{constant_of, equated}
 use Rattle.asm_expr.specs.Names.{Table}
 use Rattle.asm_expr.specs.Origins.{AgreeOn, is_number_item}
 use Rattle.asm_expr.specs.Below.{source}
-use Rattle.asm_expr.specs.Settling.{is_constant_item, settled, size}
+use Rattle.asm_expr.specs.Settling.{is_constant_item, settled, expression_size}
 use Rattle.asm_expr.proofs.Equates.{equated_as}
-use Rattle.asm_spell.specs.Line.{Expression}
+use Rattle.asm_spell.specs.Line.{ExpressionItems}
 use Rattle.asm_names.specs.declared.kind.Kind.{Kind}
 use Rattle.asm_names.specs.Faults.{first, if_so}
 use Rattle.asm_names.specs.Lines.{Taken}
@@ -32,7 +32,7 @@ use Rattle.asm_piece.specs.Sized as sized
 use Rattle.asm_piece.specs.Sized.{IsLike, kind}
 use Rattle.asm_piece.proofs.Likes.{agree_like, items_like, numbers_constant, of_numbers, whole_known}
 
--- What the laws of expressions say.
+-- The laws of `asm_expr` that are used here.
 pub record Laws : Type 0 where
   pub names : (t u : Table) (e : expression.Expression Operand) → AgreeOn (postfix e) t u → equated t e ≡ equated u e
   pub anywhere : (t : Table) (e : expression.Expression Operand) → list_all (is_constant_item t) (postfix e) ≡ true → (here : ℕ) (statements : List Statement)
@@ -44,14 +44,14 @@ same_equated laws t u like e all =
     let among = numbers_constant u (postfix e) (sym (items_like t u like (postfix e)) ∙ all) in
     laws.names t (record u { here = t.here; statements = t.statements }) e (agree_like t u like e all) ∙ laws.anywhere u e among t.here t.statements
 
--- Any other is neither a place nor a number.
+-- Any other expression is neither a label nor a number.
 neither : (t : Table) (e : expression.Expression Operand) → list_all (is_number_item t) (postfix e) ≡ false → (m : Meaning) → equated t e ≡ Ok m → kind (Some m) ≡ sized.Neither
 neither t e other m is =
     let s = equated_as t e m is in
     ap (λ x. kind (Some x)) s.2 ∙ by_test (list_all (is_constant_item t) (postfix e)) refl s.0 s.1
   where
     by_test : (b : Bool) → list_all (is_constant_item t) (postfix e) ≡ b → (s : Settled) → settled t e ≡ Ok s
-        → kind (Some (if b then constant_of s else Meaning.Equ (record { settled = s; size = size t e }))) ≡ sized.Neither
+        → kind (Some (if b then constant_of s else Meaning.Equ (record { settled = s; size = expression_size t e }))) ≡ sized.Neither
     by_test false varies s was = refl
     by_test true constant (Settled.Known items) was =
         let whole = whole_known t e items was in
@@ -68,7 +68,7 @@ by_fault None true r told = refl
 by_fault None false (Ok m) told = told m refl
 by_fault None false (Err why) told = refl
 
-equ_like : Laws → (names : Names) (circle : ℕ → Bool) (t u : Table) → IsLike t u → (at : ℕ) (e : Expression)
+equ_like : Laws → (names : Names) (circle : ℕ → Bool) (t u : Table) → IsLike t u → (at : ℕ) (e : ExpressionItems)
     → kind (Some (equ_meaning names circle t at e)) ≡ kind (Some (equ_meaning names circle u at e))
 equ_like laws names circle t u like at e = by_test (list_all (is_number_item t) (postfix (source e))) refl
   where
@@ -79,7 +79,7 @@ equ_like laws names circle t u like at e = by_test (list_all (is_number_item t) 
     by_test true all = ap (λ r. kind (Some (meaning_by (first (undefined names e ∷ circular circle at ∷ value_by r ∷ [])) r))) (same_equated laws t u like (source e) all)
     by_test false other = none t other ∙ sym (none u (sym (items_like t u like (postfix (source e))) ∙ other))
 
--- What is found among names, by two ways to give them meanings of the same kinds.
+-- Two ways to give names meanings of the same kinds give each name the same kind.
 found_like : (f g : List ℕ → Kind → Meaning) (p : List ℕ → Bool) → ((x : List ℕ) (k : Kind) → kind (Some (f x k)) ≡ kind (Some (g x k))) → (names : Names)
     → kind (lookup p (map (λ d. (d.0, f d.0 d.1)) names)) ≡ kind (lookup p (map (λ d. (d.0, g d.0 d.1)) names))
 found_like f g p like [] = refl

@@ -1,4 +1,4 @@
--- Where no line is faulty and constants are numbers, each DS has a number.
+-- If no line has an error and each constant is a number, each DS has a known size.
 use Rattle.std.proofs.Common.{◌≡◌, ◌∙◌, ◌&&◌, ◌||◌, sym, ap, refl, ℕ, ◌+◌, zero, suc, Bool, true, false, cond, List, [], ◌∷◌, Option, Some, None, Ok}
 use Rattle.std.specs.Prelude.{is_some}
 use Rattle.std.specs.List.{AllPass, cons_option, list_all, list_any}
@@ -19,21 +19,21 @@ use Rattle.asm_expr.specs.Origins.{is_number_item, is_number_name}
 use Rattle.asm_expr.specs.Settling.{is_constant_item, is_constant_name, is_known, replaced, settled, worth}
 use Rattle.asm_expr.proofs.Below.{and_parts, run-one}
 use Rattle.asm_spell.specs.Line as line
-use Rattle.asm_spell.specs.Line.{Body, Expression, Line}
+use Rattle.asm_spell.specs.Line.{Body, ExpressionItems, Line}
 use Rattle.asm_names.specs.Lines.{Taken}
-use Rattle.asm_names.specs.Names.{Names, kind_of}
+use Rattle.asm_names.specs.Names.{Names, kind_of_name}
 use Rattle.asm_names.specs.Layout.{Layout}
 use Rattle.asm_piece.specs.Made.{AreDefined, Made, made, number_in, ref_of, space_size}
 use Rattle.asm_piece.specs.Sized.{IsLike, jump_sized, size_in, sized, space_sized}
 use Rattle.asm_piece.proofs.Making.{space_made, space_settled}
 use Rattle.asm_statements.specs.Layouts.Laid.{line_sized, may_grow, statements}
-use Rattle.asm_statements.specs.Module.Stated.{behind, first_fault, line_fault}
+use Rattle.asm_statements.specs.Module.Stated.{table_at_line, first_statement_fault, statement_fault}
 use Rattle.asm_statements.proofs.Module.In_order.{fault_from}
 use Rattle.asm_statements.proofs.Module.Missing_names.{all_known}
 use Rattle.asm_statements.proofs.Layouts.Sound.{sound_body, sound_both}
 
--- What items pass, those of their expression do, if `$` does: where they are no expression it is `$`.
-pub source_passes : (p : Item Operand → Bool) → p (Item.Leaf Here) ≡ true → (e : Expression) → AllPass p e → list_all p (postfix (source e)) ≡ true
+-- If a test passes for all items and for `$`, it passes for the expression of these items. (Items that are no expression count as `$`.)
+pub source_passes : (p : Item Operand → Bool) → p (Item.Leaf Here) ≡ true → (e : ExpressionItems) → AllPass p e → list_all p (postfix (source e)) ≡ true
 source_passes p here e all = by (run e []) refl
   where
     by : (o : Option (List (expression.Expression Operand))) → run e [] ≡ o → list_all p (postfix (only Here o)) ≡ true
@@ -42,7 +42,7 @@ source_passes p here e all = by (run e []) refl
     by (Some (d ∷ [])) is = ap (list_all p) (run-one e d is) ∙ list_all-from_AllPass p e all
     by (Some (d ∷ c ∷ rest)) is = ap (λ b. b && true) here
 
--- what two tests say of each item together, a third one says
+-- if two tests that pass for an item mean that a third one passes, and both pass for all items, the third one does too
 pub both_pass : (p q r : Item Operand → Bool) → ((i : Item Operand) → p i ≡ true → q i ≡ true → r i ≡ true) → (xs : List (Item Operand))
     → list_all p xs ≡ true → list_all q xs ≡ true → list_all r xs ≡ true
 both_pass p q r each [] left right = refl
@@ -51,12 +51,12 @@ both_pass p q r each (x ∷ xs) left right =
     let qs = and_parts (q x) (list_all q xs) right in
     ap (λ b. b && list_all r xs) (each x ps.0 qs.0) ∙ both_pass p q r each xs ps.1 qs.1
 
--- An expression of numbers is a number.
+-- An expression of numbers has a number as its value.
 abbrev pub NumbersSettle : Type 0
 NumbersSettle = (t : Table) (e : expression.Expression Operand) → list_all (is_number_item t) (postfix e) ≡ true → (s : Settled) → settled t e ≡ Ok s
     → (n : ℕ) × (worth t (replaced t e) ≡ Worth.Number n) × (s ≡ Settled.Known (Item.Leaf (Atom.Number n) ∷ []))
 
--- Each name that stands for something constant stands for a number.
+-- Each name that is constant is a number.
 abbrev pub ConstantsAreNumbers : Table → Type 0
 ConstantsAreNumbers t = (name : List ℕ) (what : Meaning) → found t name ≡ Some what → is_constant_name (Some what) ≡ true → is_number_name (Some what) ≡ true
 
@@ -71,8 +71,8 @@ number_item t numbers (Item.Leaf (Name name)) known constant = by (found t name)
 number_item t numbers (Item.Unary op) known constant = refl
 number_item t numbers (Item.Binary op) known constant = refl
 
--- The number of a DS that has no fault.
-pub space_number : NumbersSettle → (t : Table) → ConstantsAreNumbers t → (e : Expression) → AllPass (is_known t) e → (s : Settled) → space_size t e ≡ Ok s
+-- The size of a DS without an error is a number.
+pub space_number : NumbersSettle → (t : Table) → ConstantsAreNumbers t → (e : ExpressionItems) → AllPass (is_known t) e → (s : Settled) → space_size t e ≡ Ok s
     → (n : ℕ) × (number_in s ≡ Some n)
 space_number settle t numbers e known s is =
     let so = space_settled t e s is in
@@ -120,7 +120,7 @@ consed None rest one more = more
 consed (Some s) rest one more = ap (λ b. b || list_any is_unsized rest) (one s refl) ∙ more
 
 module _ (settle : NumbersSettle) (alike : (t u : Table) (b : Body) → IsLike t u → sized t b ≡ sized u b) (grow : Bool) (names : Names) (t u : Table) (layout : Layout) (like : IsLike t u)
-    (there : (name : List ℕ) → found t name ≡ None → kind_of names name ≡ None) (numbers : ConstantsAreNumbers t) where
+    (there : (name : List ℕ) → found t name ≡ None → kind_of_name names name ≡ None) (numbers : ConstantsAreNumbers t) where
   body_known : (v : Table) → ConstantsAreNumbers v → (body : Body) → AreDefined v body → (m : Made) → made v body ≡ Ok m → (s : Statement) → sized v body ≡ Some s → is_unsized s ≡ false
   body_known v constants (line.Code instr numbers) defined m makes s is = told _ s is refl
   body_known v constants (line.Jump condition target) defined m makes s is = told _ s is (jump_known (ref_of (found v target)))
@@ -137,20 +137,20 @@ module _ (settle : NumbersSettle) (alike : (t u : Table) (b : Body) → IsLike t
   body_known v constants (line.End entry) defined m makes s is = absurd cc
   body_known v constants line.Z80 defined m makes s is = absurd cc
 
-  line_known : (at : ℕ) (l : Line) → line_fault names (behind layout t at) l ≡ None → (s : Statement) → line_sized grow u l ≡ Some s → is_unsized s ≡ false
+  line_known : (at : ℕ) (l : Line) → statement_fault names (table_at_line layout t at) l ≡ None → (s : Statement) → line_sized grow u l ≡ Some s → is_unsized s ≡ false
   line_known at (line.Equ name e) none s is = absurd cc
   line_known at (line.Statement label None) none s is = absurd cc
   line_known at (line.Statement label (Some body)) none s is =
-      let sound = sound_body names (behind layout t at) body none in
+      let sound = sound_body names (table_at_line layout t at) body none in
       let x = mapped (may_grow grow u body) (sized u body) s is in
-      let known = body_known (behind layout t at) numbers body (all_known names (behind layout t at) there body sound.named) sound.what sound.makes x.0 (alike (behind layout t at) u body like ∙ x.1) in
+      let known = body_known (table_at_line layout t at) numbers body (all_known names (table_at_line layout t at) there body sound.named) sound.what sound.makes x.0 (alike (table_at_line layout t at) u body like ∙ x.1) in
       ap is_unsized (sym x.2) ∙ grown grow u body x.0 known
 
   all_sized : (at : ℕ) (lines : List Taken) → fault_from names t layout at lines ≡ None → list_any is_unsized (statements grow u lines) ≡ false
   all_sized at [] none = refl
   all_sized at (l ∷ ls) none =
-      let parts = sound_both (λ why. (l.number, why)) (line_fault names (behind layout t at) l.line) _ none in
+      let parts = sound_both (λ why. (l.number, why)) (statement_fault names (table_at_line layout t at) l.line) _ none in
       consed (line_sized grow u l.line) (statements grow u ls) (line_known at l.line parts.0) (all_sized (at + 1) ls parts.1)
 
-  pub sizes_known : (lines : List Taken) → first_fault names t layout lines ≡ None → list_any is_unsized (statements grow u lines) ≡ false
+  pub sizes_known : (lines : List Taken) → first_statement_fault names t layout lines ≡ None → list_any is_unsized (statements grow u lines) ≡ false
   sizes_known lines none = all_sized 0 lines none

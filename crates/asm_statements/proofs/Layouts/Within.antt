@@ -1,4 +1,4 @@
--- The number of the next statement is at most that of the end.
+-- The number of the next statement is at most the count of all statements.
 use Rattle.std.proofs.Common.{◌≤◌, ℕ, zero, suc, Bool, List, [], ◌∷◌, Option, ap, map, length, take, slice_index, length-append, arith}
 use Rattle.std.specs.List.{filter_map}
 use Rattle.std.proofs.lemmas.List.{take-append-drop}
@@ -9,7 +9,7 @@ use Rattle.asm_names.specs.Lines.{Taken, placed}
 use Rattle.asm_names.specs.Layout.{next_at}
 use Rattle.asm_statements.specs.Layouts.Laid.{laid, line_sized, statements}
 
--- past the end stands 0
+-- an index past the end of a list gives 0
 few_mapped : {A : Type 0} (f : A → ℕ) (n : ℕ) → ((x : A) → f x ≤ n) → (xs : List A) (at : ℕ) → slice_index (map f xs) at ≤ n
 few_mapped f n each [] at = omega arith
 few_mapped f n each (x ∷ xs) zero = each x

@@ -1,4 +1,4 @@
--- Settled names have each name that is defined.
+-- Settling the names finds a meaning for each name that is defined.
 use Rattle.std.proofs.Common.{◌≡◌, ℕ, Bool, true, false, cond, List, [], ◌∷◌, Some, None, map, refl, sym, ◌∙◌}
 use Rattle.std.specs.Map.{lookup}
 use Rattle.std.specs.Str.{bytes_eq}
@@ -6,7 +6,7 @@ use Rattle.asm_expr.specs.declared.meaning.Meaning.{Meaning}
 use Rattle.asm_expr.specs.Names.{found}
 use Rattle.asm_names.specs.declared.kind.Kind.{Kind}
 use Rattle.asm_names.specs.Lines.{Taken}
-use Rattle.asm_names.specs.Names.{Names, kind_of}
+use Rattle.asm_names.specs.Names.{Names, kind_of_name}
 use Rattle.asm_names.specs.declared.settling.SettledNames.{SettledNames}
 use Rattle.asm_names.specs.Layout.{Layout}
 use Rattle.asm_names.specs.Settles.{Settles}
@@ -20,5 +20,5 @@ none_there p f ((name, k) ∷ names) is =
     ] is
 
 pub settled_found : (names : Names) (lines : List Taken) (circle : ℕ → Bool) (layout : Layout) (s : SettledNames) → Settles names lines circle layout s
-    → (name : List ℕ) → found s.names name ≡ None → kind_of names name ≡ None
+    → (name : List ℕ) → found s.names name ≡ None → kind_of_name names name ≡ None
 settled_found names lines circle layout s settles name none = none_there (bytes_eq name) _ names (sym (settles.found name) ∙ none)

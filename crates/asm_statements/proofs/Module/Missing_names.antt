@@ -1,4 +1,4 @@
--- Names that are nowhere defined, looked for where a word uses names, and what follows where there is none.
+-- Names that are defined nowhere, in the places where a statement uses names; and what follows if there is none.
 use Rattle.std.proofs.Common.{◌≡◌, ℕ, Bool, true, false, ◌||◌, ◌&&◌, List, [], ◌∷◌, Option, Some, None, is_some, map, refl, sym, ap, ◌∙◌, append-nil}
 use Rattle.std.specs.Prelude.{is_none}
 use Rattle.std.specs.List.{flat_map, list_all, list_any}
@@ -9,8 +9,8 @@ use Rattle.asm_parse.specs.Source.{Operand, Number, Name, Here}
 use Rattle.asm_expr.specs.Names.{Table, found}
 use Rattle.asm_expr.specs.Settling.{is_known}
 use Rattle.asm_spell.specs.Line as line
-use Rattle.asm_spell.specs.Line.{Body, Expression, Value}
-use Rattle.asm_names.specs.Names.{Names, kind_of}
+use Rattle.asm_spell.specs.Line.{Body, ExpressionItems, Value}
+use Rattle.asm_names.specs.Names.{Names, kind_of_name}
 use Rattle.asm_piece.specs.Made.{AreDefined}
 use Rattle.asm_piece.specs.Private.Defined.{fill_defined, is_defined, operands_defined, value_defined}
 use Rattle.asm_piece.proofs.Passing.{passes}
@@ -27,7 +27,7 @@ any_flat_map p f [] = refl
 any_flat_map p f (x ∷ xs) = list_any-append p (f x) (flat_map f xs) ∙ ap (λ b. list_any p (f x) || b) (any_flat_map p f xs)
 
 module _ (names : Names) where
-  pub of_items : (e : Expression) → list_any (item_misses names) e ≡ tree_misses names e
+  pub of_items : (e : ExpressionItems) → list_any (item_misses names) e ≡ tree_misses names e
   of_items [] = refl
   of_items (Item.Leaf (Name name) ∷ e) = ap (λ b. is_missing names name || b) (of_items e)
   of_items (Item.Leaf (Number n) ∷ e) = of_items e
@@ -35,16 +35,16 @@ module _ (names : Names) where
   of_items (Item.Unary op ∷ e) = of_items e
   of_items (Item.Binary op ∷ e) = of_items e
 
-  pub of_fill : (fill : Option Expression) → fill_misses names fill ≡ list_any (is_missing names) (flat_map names_in (option_to_list fill))
+  pub of_fill : (fill : Option ExpressionItems) → fill_misses names fill ≡ list_any (is_missing names) (flat_map names_in (option_to_list fill))
   of_fill None = refl
   of_fill (Some e) = ap (list_any (is_missing names)) (sym (append-nil (names_in e)))
 
-  pub of_space : (size : Expression) (fill : Option Expression) → (tree_misses names size || fill_misses names fill) ≡ list_any (is_missing names) (used (line.Space size fill))
+  pub of_space : (size : ExpressionItems) (fill : Option ExpressionItems) → (tree_misses names size || fill_misses names fill) ≡ list_any (is_missing names) (used (line.Space size fill))
   of_space size fill =
       ap (λ b. tree_misses names size || b) (of_fill fill)
       ∙ sym (list_any-append (is_missing names) (names_in size) (flat_map names_in (option_to_list fill)))
 
--- Where no name is missing, each stands for something.
+-- If no name is missing, each name stands for something.
 
 or_false : (a b : Bool) → (a || b) ≡ false → (a ≡ false) × (b ≡ false)
 or_false false b none = (refl, none)
@@ -56,7 +56,7 @@ any_all p q one (x ∷ xs) none =
     let parts = or_false (p x) (list_any p xs) none in
     ap (λ b. b && list_all q xs) (one x parts.0) ∙ any_all p q one xs parts.1
 
-module _ (names : Names) (t : Table) (there : (name : List ℕ) → found t name ≡ None → kind_of names name ≡ None) where
+module _ (names : Names) (t : Table) (there : (name : List ℕ) → found t name ≡ None → kind_of_name names name ≡ None) where
   name_known : (name : List ℕ) → is_missing names name ≡ false → is_some (found t name) ≡ true
   name_known name none = elim (found t name) as (λ m. found t name ≡ m → is_some m ≡ true) [
     | Some what ↦ λ is. refl
@@ -70,14 +70,14 @@ module _ (names : Names) (t : Table) (there : (name : List ℕ) → found t name
   item_known (Item.Unary op) none = refl
   item_known (Item.Binary op) none = refl
 
-  tree_known : (e : Expression) → tree_misses names e ≡ false → is_defined t e ≡ true
+  tree_known : (e : ExpressionItems) → tree_misses names e ≡ false → is_defined t e ≡ true
   tree_known e none = any_all (item_misses names) (is_known t) item_known e (of_items names e ∙ none)
 
   value_known : (v : Value) → value_misses names v ≡ false → value_defined t v ≡ true
   value_known (line.Text text) none = refl
   value_known (line.Byte e) none = tree_known e none
 
-  fill_known : (fill : Option Expression) → fill_misses names fill ≡ false → fill_defined t fill ≡ true
+  fill_known : (fill : Option ExpressionItems) → fill_misses names fill ≡ false → fill_defined t fill ≡ true
   fill_known None none = refl
   fill_known (Some e) none = tree_known e none
 

@@ -1,4 +1,4 @@
--- Instructions with the values of their numbers put in.
+-- Instructions whose numbers have values.
 use Rattle.std.proofs.Common.{◌≡◌, inl, inr, ◌<◌, ℕ, Bool, true, ◌&&◌, List, [], ◌∷◌, ◌++◌, Some, Ok, All, length, map, refl, sym, ap, subst, ◌∙◌, append-nil}
 use Rattle.std.specs.List.{flat_map, list_all}
 use Rattle.asm_expr.specs.Distances.{Step}
@@ -28,24 +28,24 @@ use Rattle.asm_statements.proofs.Program.Numbers.{IsField, number_range, swapped
 use Rattle.asm_statements.proofs.Program.Rows.{Rows}
 
 abbrev pub Spelled : Type 0
-Spelled = List (Field × line.Expression)
+Spelled = List (Field × line.ExpressionItems)
 
--- the instruction with the values at places
+-- the instruction with the values that its expressions have at these addresses
 abbrev pub at_of : (ℕ → ℕ) → Table → Spelled → Instr → Instr
 at_of places t numbers instr = with_numbers (valued places (map (λ n. (n.0, filling t n.0 n.1)) numbers)) instr
 
--- Filled, the instruction has the values of its expressions, and they are of their types.
+-- Once its fix-ups are filled, the instruction has the values of its expressions, and they are in range.
 pub record Reads (t : Table) (instr : Instr) (numbers : Spelled) (ns : Fillings) : Type 0 where
   pub filled : (places : ℕ → ℕ) → Step t.statements places
       → filled places (canonical (blank_of ns instr)) (flat_map (code_hole (length (canonical instr))) ns) ≡ canonical (at_of places t numbers instr)
   pub range : (places : ℕ → ℕ) → Step t.statements places → All (λ b. b < 256) (canonical (at_of places t numbers instr)) → in_range (at_of places t numbers instr) ≡ true
 
--- no number
+-- an instruction without numbers
 read_none : (t : Table) (instr : Instr) → in_range instr ≡ true → Reads t instr [] []
 read_none t instr ok = record { filled = λ places step. refl; range = λ places step all. ok }
 
--- one number
-read_one : Rows → (t : Table) (instr : Instr) (f : Field) (e : line.Expression) (x : Filling) → in_range instr ≡ true → IsField instr f → field.filled t f e ≡ Ok x → is_told x ≡ true
+-- an instruction with one number
+read_one : Rows → (t : Table) (instr : Instr) (f : Field) (e : line.ExpressionItems) (x : Filling) → in_range instr ≡ true → IsField instr f → field.field_filling t f e ≡ Ok x → is_told x ≡ true
     → Reads t instr ((f, e) ∷ []) ((f, x) ∷ [])
 read_one rows t instr f e x ok is was told = record {
   filled = λ places step. (
@@ -61,7 +61,7 @@ read_one rows t instr f e x ok is was told = record {
       );
 }
 
--- a displacement is a number
+-- a displacement is a known number
 displaced : (x : Filling) → IsFit Field.Displacement x → (n : ℕ) × (x ≡ Filling.Number n) × (allows Field.Displacement n ≡ true)
 displaced (Filling.Number n) fit = (n, refl, fit)
 displaced (Filling.Varying items) fit = absurd fit
@@ -70,9 +70,9 @@ displaced Filling.Unknown fit = absurd fit
 pub kept_field : Rows → (instr : Instr) (n : ℕ) (f : Field) → number_field instr ≡ Some f → IsField (with_number Field.Displacement n instr) f
 kept_field rows instr n f is = inr (rows.field Field.Displacement n instr Form.Number ∙ is)
 
--- a displacement and a number behind it
-displacement_first : Rows → (t : Table) (instr : Instr) (g : Field) (d e : line.Expression) (x y : Filling) → in_range instr ≡ true → number_field instr ≡ Some g
-    → field.filled t Field.Displacement d ≡ Ok x → is_told x ≡ true → field.filled t g e ≡ Ok y → is_told y ≡ true
+-- a displacement, and then a number
+displacement_first : Rows → (t : Table) (instr : Instr) (g : Field) (d e : line.ExpressionItems) (x y : Filling) → in_range instr ≡ true → number_field instr ≡ Some g
+    → field.field_filling t Field.Displacement d ≡ Ok x → is_told x ≡ true → field.field_filling t g e ≡ Ok y → is_told y ≡ true
     → Reads t instr ((Field.Displacement, d) ∷ (g, e) ∷ []) ((Field.Displacement, x) ∷ (g, y) ∷ [])
 displacement_first rows t instr g d e x y ok is was told next told_too = record {
   filled = λ places step. (
@@ -111,9 +111,9 @@ displacement_first rows t instr g d e x y ok is was told next told_too = record 
         ap in_range (sym to)
         ∙ number_range rows places now g y (kept_field rows instr n.0 g is) more.fit (rows.range Field.Displacement n.0 instr n.2 ok) (subst (λ i. All (λ b. b < 256) (canonical i)) (sym to) all)
 
--- a number and a displacement behind it
-displacement_last : Rows → (t : Table) (instr : Instr) (g : Field) (d e : line.Expression) (x y : Filling) → in_range instr ≡ true → number_field instr ≡ Some g
-    → field.filled t Field.Displacement d ≡ Ok x → is_told x ≡ true → field.filled t g e ≡ Ok y → is_told y ≡ true
+-- a number, and then a displacement
+displacement_last : Rows → (t : Table) (instr : Instr) (g : Field) (d e : line.ExpressionItems) (x y : Filling) → in_range instr ≡ true → number_field instr ≡ Some g
+    → field.field_filling t Field.Displacement d ≡ Ok x → is_told x ≡ true → field.field_filling t g e ≡ Ok y → is_told y ≡ true
     → Reads t instr ((g, e) ∷ (Field.Displacement, d) ∷ []) ((g, y) ∷ (Field.Displacement, x) ∷ [])
 displacement_last rows t instr g d e x y ok is was told next told_too =
     let before = displacement_first rows t instr g d e x y ok is was told next told_too in
@@ -132,20 +132,20 @@ displacement_last rows t instr g d e x y ok is was told next told_too =
     }
 
 -- Each number is filled, from left to right.
-one_filling : (t : Table) (n : Field × line.Expression) (y : Field × Filling) → number_filled t n ≡ Ok y → (x : Filling) × (field.filled t n.0 n.1 ≡ Ok x) × ((n.0, x) ≡ y)
-one_filling t n y is = let b = bind_ok (field.filled t n.0 n.1) _ y is in (b.0, b.1, cc)
+one_filling : (t : Table) (n : Field × line.ExpressionItems) (y : Field × Filling) → number_filled t n ≡ Ok y → (x : Filling) × (field.field_filling t n.0 n.1 ≡ Ok x) × ((n.0, x) ≡ y)
+one_filling t n y is = let b = bind_ok (field.field_filling t n.0 n.1) _ y is in (b.0, b.1, cc)
 
 abbrev pub are_told : Fillings → Bool
 are_told ns = list_all (λ n. is_told n.1) ns
 
--- How numbers stand that are filled and told: none, one, or a displacement and a number, in either order.
+-- The numbers that an instruction may have, all filled and known: none; one; or a displacement and a number, in either order.
 pub data Shape (t : Table) (instr : Instr) : Spelled → Fillings → Type 0 where
   none : Shape t instr [] []
-  one : (f : Field) (e : line.Expression) (x : Filling) → IsField instr f → field.filled t f e ≡ Ok x → is_told x ≡ true → Shape t instr ((f, e) ∷ []) ((f, x) ∷ [])
-  first : (g : Field) (d e : line.Expression) (x y : Filling) → number_field instr ≡ Some g → field.filled t Field.Displacement d ≡ Ok x → is_told x ≡ true
-      → field.filled t g e ≡ Ok y → is_told y ≡ true → Shape t instr ((Field.Displacement, d) ∷ (g, e) ∷ []) ((Field.Displacement, x) ∷ (g, y) ∷ [])
-  last : (g : Field) (d e : line.Expression) (x y : Filling) → number_field instr ≡ Some g → field.filled t Field.Displacement d ≡ Ok x → is_told x ≡ true
-      → field.filled t g e ≡ Ok y → is_told y ≡ true → Shape t instr ((g, e) ∷ (Field.Displacement, d) ∷ []) ((g, y) ∷ (Field.Displacement, x) ∷ [])
+  one : (f : Field) (e : line.ExpressionItems) (x : Filling) → IsField instr f → field.field_filling t f e ≡ Ok x → is_told x ≡ true → Shape t instr ((f, e) ∷ []) ((f, x) ∷ [])
+  first : (g : Field) (d e : line.ExpressionItems) (x y : Filling) → number_field instr ≡ Some g → field.field_filling t Field.Displacement d ≡ Ok x → is_told x ≡ true
+      → field.field_filling t g e ≡ Ok y → is_told y ≡ true → Shape t instr ((Field.Displacement, d) ∷ (g, e) ∷ []) ((Field.Displacement, x) ∷ (g, y) ∷ [])
+  last : (g : Field) (d e : line.ExpressionItems) (x y : Filling) → number_field instr ≡ Some g → field.field_filling t Field.Displacement d ≡ Ok x → is_told x ≡ true
+      → field.field_filling t g e ≡ Ok y → is_told y ≡ true → Shape t instr ((g, e) ∷ (Field.Displacement, d) ∷ []) ((g, y) ∷ (Field.Displacement, x) ∷ [])
 
 pub shape : (t : Table) (instr : Instr) (numbers : Spelled) (ns : Fillings) → AreFields instr (map (λ n. n.0) numbers) → fillings t numbers ≡ Ok ns → are_told ns ≡ true → Shape t instr numbers ns
 shape t instr [] ns fields is told = let same : [] ≡ ns = cc in subst (Shape t instr []) same none
@@ -168,12 +168,12 @@ shape t instr (n ∷ m ∷ []) ns fields is told =
     let other_told = and_parts (is_told y.0) true one_told.1 in
     subst (Shape t instr (n ∷ m ∷ [])) all (two n.0 m.0 n.1 m.1 x.0 y.0 fields x.1 one_told.0 y.1 other_told.0)
   where
-    two : (f g : Field) (d e : line.Expression) (x y : Filling) → AreFields instr (f ∷ g ∷ []) → field.filled t f d ≡ Ok x → is_told x ≡ true → field.filled t g e ≡ Ok y → is_told y ≡ true
+    two : (f g : Field) (d e : line.ExpressionItems) (x y : Filling) → AreFields instr (f ∷ g ∷ []) → field.field_filling t f d ≡ Ok x → is_told x ≡ true → field.field_filling t g e ≡ Ok y → is_told y ≡ true
         → Shape t instr ((f, d) ∷ (g, e) ∷ []) ((f, x) ∷ (g, y) ∷ [])
     two f g d e x y (inl (at, is)) was told next told_too =
-        subst (λ h. Shape t instr ((h, d) ∷ (g, e) ∷ []) ((h, x) ∷ (g, y) ∷ [])) (sym at) (first g d e x y is (ap (λ h. field.filled t h d) (sym at) ∙ was) told next told_too)
+        subst (λ h. Shape t instr ((h, d) ∷ (g, e) ∷ []) ((h, x) ∷ (g, y) ∷ [])) (sym at) (first g d e x y is (ap (λ h. field.field_filling t h d) (sym at) ∙ was) told next told_too)
     two f g d e x y (inr (at, is)) was told next told_too =
-        subst (λ h. Shape t instr ((f, d) ∷ (h, e) ∷ []) ((f, x) ∷ (h, y) ∷ [])) (sym at) (last f e d y x is (ap (λ h. field.filled t h e) (sym at) ∙ next) told_too was told)
+        subst (λ h. Shape t instr ((f, d) ∷ (h, e) ∷ []) ((f, x) ∷ (h, y) ∷ [])) (sym at) (last f e d y x is (ap (λ h. field.field_filling t h e) (sym at) ∙ next) told_too was told)
 shape t instr (n ∷ m ∷ o ∷ more) ns fields is told = absurd fields
 
 pub reads : Rows → (t : Table) (instr : Instr) (numbers : Spelled) (ns : Fillings) → in_range instr ≡ true → Shape t instr numbers ns → Reads t instr numbers ns

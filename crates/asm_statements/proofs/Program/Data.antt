@@ -1,4 +1,4 @@
--- Data: fields that are read of items, from left to right.
+-- DB and DW: the fields of their items, from left to right.
 use Rattle.std.proofs.Common.{◌≡◌, ℕ, ◌+◌, ◌%◌, true, List, [], ◌∷◌, ◌++◌, Result, Ok, length, map, refl, sym, ap, subst, ◌∙◌, arith, length-append}
 use Rattle.std.specs.List.{flat_map, sum_by}
 use Rattle.std.proofs.lemmas.List.Concat.{flat_map-append}
@@ -20,22 +20,22 @@ use Rattle.zmo_module.specs.declared.hole.Width.{Width}
 use Rattle.asm_piece.specs.Cells.{all_told, bytes, cell_bytes, holes, is_told}
 use Rattle.asm_piece.specs.Fields as field
 use Rattle.asm_piece.specs.Made as made
-use Rattle.asm_piece.specs.Made.{Made, Piece, Some_piece, all_laid, cells, laid, text_cell, value_cells, word_cells}
+use Rattle.asm_piece.specs.Made.{Made, Piece, Some_piece, all_laid, cells, laid_cells, text_cell, value_cells, word_cells}
 use Rattle.asm_statements.specs.Program.Pieces.{datum_bytes, width}
 use Rattle.asm_statements.specs.Program.Statement as statement
-use Rattle.asm_statements.specs.Program.Statement.{Datum, byte_items, word_item, whole}
+use Rattle.asm_statements.specs.Program.Statement.{Datum, byte_items, word_item, replaced_expression}
 use Rattle.asm_piece.proofs.Making.{bind_ok, data_made, each_holds, flat}
 use Rattle.asm_statements.proofs.Program.Fillings.{fills}
 use Rattle.asm_statements.proofs.Program.Holes.{cell_at}
 
--- What holds of each item's fields holds of all.
+-- If P holds of no items, and of two lists together if it holds of each, and of the fields of each item, then it holds of all.
 each_items : {A : Type 0} (P : List Cell → List Datum → Type 0) (read : A → Result (List Cell) StmtFault) (items : A → List Datum) → P [] []
     → ((a b : List Cell) (c d : List Datum) → P a c → P b d → P (a ++ b) (c ++ d)) → ((x : A) (cs : List Cell) → read x ≡ Ok cs → P cs (items x))
     → (xs : List A) (all : List (List Cell)) → each read xs ≡ Ok all → P (flat all) (flat_map items xs)
 each_items P read items none more one =
     each_holds (λ cs xs. P cs (flat_map items xs)) read none (λ x cs rest xs is so. more cs rest (items x) (flat_map items xs) (one x cs is) so)
 
--- They are worth the items,
+-- If all values are known, the fields have the bytes of the items at these addresses.
 abbrev AtPlaces : (ℕ → ℕ) → List Cell → List Datum → Type 0
 AtPlaces places cs ds = all_told cs ≡ true → flat_map (cell_at places) cs ≡ flat_map (datum_bytes places) ds
 
@@ -45,7 +45,7 @@ more_places places a b c d p q told =
     flat_map-append (cell_at places) a b ∙ ap (λ xs. xs ++ flat_map (cell_at places) b) (p both.0) ∙ ap (λ xs. flat_map (datum_bytes places) c ++ xs) (q both.1)
     ∙ sym (flat_map-append (datum_bytes places) c d)
 
--- and take as many bytes.
+-- The fields have as many bytes as the items.
 abbrev SameSize : List Cell → List Datum → Type 0
 SameSize cs ds = length (bytes cs) ≡ sum_by width ds
 
@@ -68,11 +68,11 @@ text_size (b ∷ text) =
 abbrev cell : Width → Filling → Cell
 cell w f = record { width = w; filling = f }
 
-byte_item : (t : Table) (e : line.Expression) (cs : List Cell) → cells t Width.Byte Field.Byte e ≡ Ok cs → (f : Filling) × (field.filled t Field.Byte e ≡ Ok f) × (cell Width.Byte f ∷ [] ≡ cs)
-byte_item t e cs is = let b = bind_ok (field.filled t Field.Byte e) _ cs is in (b.0, b.1, cc)
+byte_item : (t : Table) (e : line.ExpressionItems) (cs : List Cell) → cells t Width.Byte Field.Byte e ≡ Ok cs → (f : Filling) × (field.field_filling t Field.Byte e ≡ Ok f) × (cell Width.Byte f ∷ [] ≡ cs)
+byte_item t e cs is = let b = bind_ok (field.field_filling t Field.Byte e) _ cs is in (b.0, b.1, cc)
 
-word_item_of : (t : Table) (e : line.Expression) (cs : List Cell) → cells t Width.Word Field.Word e ≡ Ok cs → (f : Filling) × (field.filled t Field.Word e ≡ Ok f) × (cell Width.Word f ∷ [] ≡ cs)
-word_item_of t e cs is = let b = bind_ok (field.filled t Field.Word e) _ cs is in (b.0, b.1, cc)
+word_item_of : (t : Table) (e : line.ExpressionItems) (cs : List Cell) → cells t Width.Word Field.Word e ≡ Ok cs → (f : Filling) × (field.field_filling t Field.Word e ≡ Ok f) × (cell Width.Word f ∷ [] ≡ cs)
+word_item_of t e cs is = let b = bind_ok (field.field_filling t Field.Word e) _ cs is in (b.0, b.1, cc)
 
 byte_places : (t : Table) (places : ℕ → ℕ) → Step t.statements places → (v : line.Value) (cs : List Cell) → value_cells t v ≡ Ok cs → AtPlaces places cs (byte_items t v)
 byte_places t places step (line.Text text) cs is = let same : map text_cell text ≡ cs = cc in subst (λ xs. AtPlaces places xs (byte_items t (line.Text text))) same (λ _. text_places places text)
@@ -85,13 +85,13 @@ byte_size : (t : Table) (v : line.Value) (cs : List Cell) → value_cells t v �
 byte_size t (line.Text text) cs is = let same : map text_cell text ≡ cs = cc in subst (λ xs. SameSize xs (byte_items t (line.Text text))) same (text_size text)
 byte_size t (line.Byte e) cs is = let c = byte_item t e cs is in subst (λ xs. SameSize xs (byte_items t (line.Byte e))) c.2 refl
 
-word_places : (t : Table) (places : ℕ → ℕ) → Step t.statements places → (e : line.Expression) (cs : List Cell) → word_cells t e ≡ Ok cs → AtPlaces places cs (word_item t e ∷ [])
+word_places : (t : Table) (places : ℕ → ℕ) → Step t.statements places → (e : line.ExpressionItems) (cs : List Cell) → word_cells t e ≡ Ok cs → AtPlaces places cs (word_item t e ∷ [])
 word_places t places step e cs is =
     let c = word_item_of t e cs is in
     subst (λ xs. AtPlaces places xs (word_item t e ∷ [])) c.2
     (λ told. ap (λ n. datum_bytes places (statement.Word (Leaf (Atom.Number n))) ++ []) (fills t places step Field.Word e c.0 c.1 (and_parts (is_told c.0) true told).0).worth)
 
-word_size : (t : Table) (e : line.Expression) (cs : List Cell) → word_cells t e ≡ Ok cs → SameSize cs (word_item t e ∷ [])
+word_size : (t : Table) (e : line.ExpressionItems) (cs : List Cell) → word_cells t e ≡ Ok cs → SameSize cs (word_item t e ∷ [])
 word_size t e cs is = let c = word_item_of t e cs is in subst (λ xs. SameSize xs (word_item t e ∷ [])) c.2 refl
 
 pub record Lays (p : Piece) (items : List Datum) (t : Table) : Type 0 where
@@ -115,5 +115,5 @@ lays t read items sizes worth xs p is =
 pub bytes_lay : (t : Table) (values : List line.Value) (p : Piece) → made.bytes_made t values ≡ Ok (Some_piece p) → Lays p (flat_map (byte_items t) values) t
 bytes_lay t values p is = lays t (value_cells t) (byte_items t) (byte_size t) (λ places step. byte_places t places step) values p is
 
-pub words_lay : (t : Table) (fields : List line.Expression) (p : Piece) → made.words_made t fields ≡ Ok (Some_piece p) → Lays p (flat_map (λ e. word_item t e ∷ []) fields) t
+pub words_lay : (t : Table) (fields : List line.ExpressionItems) (p : Piece) → made.words_made t fields ≡ Ok (Some_piece p) → Lays p (flat_map (λ e. word_item t e ∷ []) fields) t
 words_lay t fields p is = lays t (word_cells t) (λ e. word_item t e ∷ []) (word_size t) (λ places step. word_places t places step) fields p is

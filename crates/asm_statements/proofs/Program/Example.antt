@@ -1,4 +1,4 @@
--- What the laws ask can be met: `LD A,LOW $` of an empty module, whose one place is 1234H.
+-- An example for which the conditions of the laws hold: `LD A,LOW $` in an empty module whose end is at 1234H.
 use Rattle.std.proofs.Common.{◌≡◌, ◌<◌, [], ◌∷◌, List, None, Ok, refl, arith}
 use Rattle.std.specs.Prelude.{codes}
 use Rattle.asm_parse.specs.declared.item.Item.{Item}
@@ -26,7 +26,7 @@ use Rattle.asm_statements.specs.Program.Spelled.{IsSpelled}
 abbrev spelled : line.Body
 spelled = line.Code (Instr.LoadByte (Operand.Register Register.A) 0) ((Field.Byte, Item.Leaf Here ∷ Item.Unary Unary.Low ∷ []) ∷ [])
 
--- the line
+-- the tokens of the line
 abbrev tokens : List Lexeme
 tokens = record { kind = Kind.Name; text = codes "LD" } ∷ record { kind = Kind.Name; text = codes "A" } ∷ record { kind = Kind.Mark Mark.Comma; text = [] }
     ∷ record { kind = Kind.Name; text = codes "LOW" } ∷ record { kind = Kind.Mark Mark.Dollar; text = [] } ∷ []

@@ -1,4 +1,4 @@
--- What fills a field is worth what its operand is.
+-- What fills a field has the value of its operand.
 use Rattle.std.proofs.Common.{◌≡◌, ℕ, ◌+◌, ◌-◌, ◌%◌, Bool, true, false, List, Option, Some, None, Result, Ok, Err, if◌then◌else◌, refl, sym, ap, subst, ◌∙◌, arith}
 use Rattle.std.specs.List.{list_all}
 use Rattle.std.proofs.lemmas.Bool.{false≢true}
@@ -15,7 +15,7 @@ use Rattle.asm_expr.specs.declared.unknown.Unknown.{Unknown}
 use Rattle.asm_expr.specs.Types.{Worth}
 use Rattle.asm_expr.specs.Distances.{Step}
 use Rattle.asm_expr.specs.Names.{Table}
-use Rattle.asm_expr.specs.Offsets.{behind, offset}
+use Rattle.asm_expr.specs.Offsets.{offset_after_here, offset}
 use Rattle.asm_expr.specs.Settling.{fault, is_constant_item, replaced, settled, worth}
 use Rattle.z80_form.specs.declared.field.Field.{Field}
 use Rattle.z80_form.specs.Numbers.{allows}
@@ -23,26 +23,27 @@ use Rattle.asm_spell.specs.declared.fault.StmtFault.{StmtFault}
 use Rattle.asm_spell.specs.Line as line
 use Rattle.asm_piece.specs.declared.cell.Filling.{Filling}
 use Rattle.asm_piece.specs.Cells.{is_told}
-use Rattle.asm_piece.specs.Fields.{byte, byte_by, distance_or, filled, fixed, fixed_by, from_end, is_number_unknown, number, settled_in, word, word_by}
+use Rattle.asm_piece.specs.Fields.{byte, byte_by, distance_or, field_filling, fixed, fixed_by, from_end, is_number_unknown, number, settled_in, word_filling, word_filling_by}
 use Rattle.zmo_module.specs.Holes.{ends_in_byte}
 use Rattle.asm_piece.proofs.Making.{as_stmt_ok, bind_ok, chosen_ok}
-use Rattle.asm_statements.specs.Program.Statement.{end_of, filling, whole, with_meant}
+use Rattle.asm_statements.specs.Program.Statement.{end_of, filling, replaced_expression, with_meant}
 use Rattle.asm_statements.proofs.Program.Values.{fixed_value, number_value, settled_value}
 
--- what a filling is worth
+-- the value of a filling at these addresses
 abbrev pub worth_at : (ℕ → ℕ) → Filling → ℕ
 worth_at places (Filling.Number n) = n
 worth_at places (Filling.Varying items) = value places (tree items)
 worth_at places Filling.Unknown = 0
 
--- Where a value may not be reduced to fit: a byte is, and a word's bytes show it.
+-- What fills the field is in the field's range. Nothing is required of a byte, which is cut to its low 8 bits, or of a word, which has all
+-- 16.
 abbrev pub IsFit : Field → Filling → Type 0
 IsFit Field.Byte f = Unit {0}
 IsFit Field.Word f = Unit {0}
 IsFit field (Filling.Number n) = allows field n ≡ true
 IsFit field _ = ⊥
 
--- What fills a field, where it is told, is worth an expression and fits.
+-- If it is known, what fills a field has the value of the expression, and fits.
 pub record Fills (places : ℕ → ℕ) (field : Field) (f : Filling) (x : Expression Atom) : Type 0 where
   pub worth : worth_at places f ≡ value places x
   pub fit : IsFit field f
@@ -53,7 +54,7 @@ answer f = Ok f
 not_told : (f : Filling) → answer Filling.Unknown ≡ Ok f → is_told f ≡ true → ⊥
 not_told f is told = let same : Filling.Unknown ≡ f = cc in false≢true (ap is_told same ∙ told)
 
--- The items that a filling comes from, by the kind of the field.
+-- The items that a filling comes from, for each kind of field.
 abbrev From : (ℕ → ℕ) → Settled → Filling → Type 0
 From places s f = (items : List (Item Atom)) × (s ≡ Settled.Known items) × (worth_at places f ≡ value places (tree items))
 
@@ -68,10 +69,10 @@ byte_from places (Settled.Unknown Unknown.Anything) f is told = absurd (not_told
 byte_from places (Settled.Unknown Unknown.Number) f is told = absurd (not_told f is told)
 byte_from places (Settled.Unknown Unknown.VariesInByte) f is told = absurd (not_told f is told)
 
-word_from : (places : ℕ → ℕ) (s : Settled) (f : Filling) → answer (word s) ≡ Ok f → is_told f ≡ true → From places s f
+word_from : (places : ℕ → ℕ) (s : Settled) (f : Filling) → answer (word_filling s) ≡ Ok f → is_told f ≡ true → From places s f
 word_from places (Settled.Known items) f is told = (items, refl, by_number (number items) refl is)
   where
-    by_number : (o : Option ℕ) → number items ≡ o → answer (word_by o items) ≡ Ok f → worth_at places f ≡ value places (tree items)
+    by_number : (o : Option ℕ) → number items ≡ o → answer (word_filling_by o items) ≡ Ok f → worth_at places f ≡ value places (tree items)
     by_number (Some n) was is = let same : Filling.Number n ≡ f = cc in ap (worth_at places) (sym same) ∙ sym (number_value places items n was)
     by_number None was is = let same : Filling.Varying items ≡ f = cc in ap (worth_at places) (sym same)
 word_from places (Settled.Unknown what) f is told = absurd (not_told f is told)
@@ -90,8 +91,8 @@ fixed_from field (Settled.Unknown what) f is told = by_test (is_number_unknown w
         → (xs : List (Item Atom)) × (n : ℕ) × (Settled.Unknown what ≡ Settled.Known xs) × (number xs ≡ Some n) × (f ≡ Filling.Number n) × (allows field n ≡ true)
     by_test b is = absurd (not_told f (ap (λ x. Ok x) (chosen_ok b Filling.Unknown f StmtFault.NeedsNumber is).1) told)
 
--- Distances.
-constant_ok : (b : Bool) (op : Binary) (w : Worth) (n : ℕ) → (if b then behind op w else Offset.NotConstant) ≡ Offset.Number n → (k : ℕ) × (w ≡ Worth.Number k) × (binary op 0 k ≡ n)
+-- The distances of JR and DJNZ.
+constant_ok : (b : Bool) (op : Binary) (w : Worth) (n : ℕ) → (if b then offset_after_here op w else Offset.NotConstant) ≡ Offset.Number n → (k : ℕ) × (w ≡ Worth.Number k) × (binary op 0 k ≡ n)
 constant_ok true op (Worth.Number k) n is = (k, refl, cc)
 constant_ok true op Worth.Unknown n is = cc
 constant_ok true op Worth.Varies n is = cc
@@ -132,24 +133,24 @@ distance_from None Offset.Unknown f is told = absurd (not_told f is told)
 distance_from None Offset.NotConstant f is told = cc
 
 -- Each kind of field.
-from_settled : (t : Table) (places : ℕ → ℕ) → Step t.statements places → (e : line.Expression) (s : Settled) (items : List (Item Atom)) → settled_in t e ≡ Ok s → s ≡ Settled.Known items
-    → value places (tree items) ≡ value places (whole t e)
+from_settled : (t : Table) (places : ℕ → ℕ) → Step t.statements places → (e : line.ExpressionItems) (s : Settled) (items : List (Item Atom)) → settled_in t e ≡ Ok s → s ≡ Settled.Known items
+    → value places (tree items) ≡ value places (replaced_expression t e)
 from_settled t places step e s items is known = settled_value t (source e) items (as_stmt_ok (settled t (source e)) s is ∙ ap (λ x. Ok x) known) places step
 
-fixed_fills : (t : Table) (places : ℕ → ℕ) → Step t.statements places → (field : Field) (e : line.Expression) (f : Filling) → (settled_in t e >>= fixed field) ≡ Ok f → is_told f ≡ true
-    → (n : ℕ) × (f ≡ Filling.Number n) × (allows field n ≡ true) × (worth_at places f ≡ value places (whole t e))
+fixed_fills : (t : Table) (places : ℕ → ℕ) → Step t.statements places → (field : Field) (e : line.ExpressionItems) (f : Filling) → (settled_in t e >>= fixed field) ≡ Ok f → is_told f ≡ true
+    → (n : ℕ) × (f ≡ Filling.Number n) × (allows field n ≡ true) × (worth_at places f ≡ value places (replaced_expression t e))
 fixed_fills t places step field e f is told =
     let b = bind_ok (settled_in t e) (fixed field) f is in
     let w = fixed_from field b.0 f b.2 told in
     (w.1, w.4, w.5, ap (worth_at places) w.4 ∙ sym (number_value places w.0 w.1 w.3) ∙ from_settled t places step e b.0 w.0 b.1 w.2)
 
-pub fills : (t : Table) (places : ℕ → ℕ) → Step t.statements places → (field : Field) (e : line.Expression) (f : Filling) → filled t field e ≡ Ok f → is_told f ≡ true → Fills places field f (filling t field e)
+pub fills : (t : Table) (places : ℕ → ℕ) → Step t.statements places → (field : Field) (e : line.ExpressionItems) (f : Filling) → field_filling t field e ≡ Ok f → is_told f ≡ true → Fills places field f (filling t field e)
 fills t places step Field.Byte e f is told =
     let b = bind_ok (settled_in t e) byte f is in
     let w = byte_from places b.0 f b.2 told in
     record { worth = w.2 ∙ from_settled t places step e b.0 w.0 b.1 w.1; fit = tt }
 fills t places step Field.Word e f is told =
-    let b = bind_ok (settled_in t e) (λ s. Ok (word s)) f is in
+    let b = bind_ok (settled_in t e) (λ s. Ok (word_filling s)) f is in
     let w = word_from places b.0 f b.2 told in
     record { worth = w.2 ∙ from_settled t places step e b.0 w.0 b.1 w.1; fit = tt }
 fills t places step Field.Displacement e f is told =

@@ -1,4 +1,4 @@
--- What is made of the statements of a module is what lines state, also where a written JR may grow.
+-- The bytes of a module's statement are those of the statement that its line describes, also with --grow.
 use Rattle.std.proofs.Common.{◌≡◌, ◌<◌, ℕ, Bool, true, false, List, [], ◌∷◌, Option, Some, None, Ok, All, length, refl, ap, subst}
 use Rattle.asm_parse.specs.declared.item.Item.{Item}
 use Rattle.asm_parse.specs.Source.{Name}
@@ -13,28 +13,28 @@ use Rattle.asm_piece.specs.Made.{Nothing, Piece, Some_piece, long_jump, ref_of}
 use Rattle.asm_piece.proofs.Making.{code_made, data_made, is_space, origin_nothing, space_made}
 use Rattle.asm_statements.specs.Module.Statements.{statement_by}
 use Rattle.zmo_module.specs.Modules as object
-use Rattle.asm_statements.specs.Program.Linked.{IsLike, IsLinked}
-use Rattle.asm_statements.specs.Program.Pieces.{IsPiece, sized_as, takes}
+use Rattle.asm_statements.specs.Program.Linked.{IsSizedLike, IsLinkedPiece}
+use Rattle.asm_statements.specs.Program.Pieces.{IsPiece, statement_size, takes}
 use Rattle.asm_statements.specs.Program.Statement as statement
 use Rattle.asm_statements.specs.Program.Statement.{Statement, stated}
 use Rattle.asm_statements.proofs.Program.Fields.{IsReady}
 use Rattle.asm_statements.proofs.Program.Holding.{Holds, holds, jump_size, nothing, short_size}
 use Rattle.asm_statements.proofs.Program.Rows.{Rows}
 
--- Bytes that are made of a statement of a module are those of a statement, and as many as that takes.
-pub record HoldsBy (t : Table) (o : object.Statement) (s : Statement) : Type 0 where
-  pub like : IsLike o s
-  pub pieces : (places : ℕ → ℕ) → Step t.statements places → (at : ℕ) (long : Bool) (bs : List ℕ) → All (λ b. b < 256) bs → IsLinked at long places o bs
-      → IsPiece at long places s bs × (length bs ≡ takes long (sized_as s))
+-- Bytes of the module's statement are bytes of the program's statement, and as many as it takes.
+pub record HoldsBy (t : Table) (o : object.ModuleStatement) (s : Statement) : Type 0 where
+  pub like : IsSizedLike o s
+  pub pieces : (places : ℕ → ℕ) → Step t.statements places → (at : ℕ) (long : Bool) (bs : List ℕ) → All (λ b. b < 256) bs → IsLinkedPiece at long places o bs
+      → IsPiece at long places s bs × (length bs ≡ takes long (statement_size s))
 
--- A piece is a statement as it is, where no JR may grow.
+-- Without --grow, a piece is the same statement in the module and in the program.
 as_it_is : (t : Table) (p : Piece) (s : Statement) → Holds t p s → HoldsBy t (statement_by false p) s
 as_it_is t (made.Bytes blank holes) s h = record { like = record { size = h.size; target = h.target }; pieces = h.pieces }
 as_it_is t (made.Jump condition target) s h = record { like = record { size = h.size; target = h.target }; pieces = h.pieces }
 as_it_is t (made.Short branch target) s h = record { like = record { size = h.size; target = h.target }; pieces = h.pieces }
 as_it_is t (made.Space n fill) s h = record { like = record { size = h.size; target = h.target }; pieces = h.pieces }
 
--- .. and else, if it is no short jump.
+-- With --grow too, if the piece is not a short jump.
 abbrev IsPlain : Piece → Type 0
 IsPlain (made.Bytes blank holes) = Unit {0}
 IsPlain (made.Jump condition target) = Unit {0}
@@ -61,7 +61,7 @@ grown rows t (line.Short (Branch.Relative condition) target) p ready is = by_ref
     by_ref (Some r) was is =
         let same : made.Short (Branch.Relative condition) r ≡ p = cc in (
           statement.Jump condition r,
-          ap (λ o. statement.short_by true o (Branch.Relative condition)) was,
+          ap (λ o. statement.short_statement true o (Branch.Relative condition)) was,
           subst (λ q. HoldsBy t (statement_by true q) (statement.Jump condition r)) same
               (record { like = record { size = refl; target = refl }; pieces = λ places step at long bs small linked. (linked, jump_size at (places r) long condition bs linked) }),
         )
@@ -72,7 +72,7 @@ grown rows t (line.Short Branch.CountDown target) p ready is = by_ref (ref_of (f
     by_ref (Some r) was is =
         let same : made.Short Branch.CountDown r ≡ p = cc in (
           statement.Short Branch.CountDown r,
-          ap (λ o. statement.short_by true o Branch.CountDown) was,
+          ap (λ o. statement.short_statement true o Branch.CountDown) was,
           subst (λ q. HoldsBy t (statement_by true q) (statement.Short Branch.CountDown r)) same
               (record { like = record { size = refl; target = refl }; pieces = λ places step at long bs small linked. (linked, short_size Branch.CountDown linked.0 bs linked.2) }),
         )
@@ -103,7 +103,7 @@ pub holds_by : Rows → (grow : Bool) (t : Table) (b : line.Body) (p : Piece) �
 holds_by rows false t b p ready is = let a = holds rows t b p ready is in (a.0, a.1, as_it_is t p a.0 a.2)
 holds_by rows true t b p ready is = grown rows t b p ready is
 
--- What makes nothing states nothing.
+-- A line that makes nothing describes no statement.
 pub nothing_by : (grow : Bool) (t : Table) (b : line.Body) → made.made t b ≡ Ok Nothing → stated grow t b ≡ None
 nothing_by false t b is = nothing t b is
 nothing_by true t (line.Short branch target) is = absurd (none_short (ref_of (found t target)) is)

@@ -1,4 +1,4 @@
--- What is made of a line is a piece of what it states.
+-- What a line makes is a piece of what it describes.
 use Rattle.std.proofs.Common.{◌≡◌, inl, inr, ◌<◌, ℕ, suc, ◌%◌, Bool, true, false, List, [], ◌∷◌, Option, Some, None, Ok, ℤ, All, if◌then◌else◌, length, map, refl, sym, ap, subst, ◌∙◌, arith}
 use Rattle.std.specs.Bool.{MatchBool}
 use Rattle.std.specs.List.{flat_map, sum_by}
@@ -26,14 +26,14 @@ use Rattle.asm_piece.specs.Cells.{is_told, number_or_0}
 use Rattle.asm_piece.specs.Fields as field
 use Rattle.asm_piece.specs.Fields.{number, settled_in}
 use Rattle.asm_piece.specs.Made as made
-use Rattle.asm_piece.specs.Made.{Fillings, Made, Nothing, Piece, Some_piece, code_hole, coded, fillings, is_origin, laid, long_jump, number_in, ref_of, sized_by, space_fill, space_size}
+use Rattle.asm_piece.specs.Made.{Fillings, Made, Nothing, Piece, Some_piece, code_hole, coded, fillings, is_origin, laid_cells, long_jump, number_in, ref_of, space_of_size, space_fill, space_size}
 use Rattle.asm_piece.specs.Sized.{piece_sized}
 use Rattle.asm_piece.proofs.Making.{as_stmt_ok, bind_ok, code_made, code_something, is_space, jump_something, laid_something, no_space, number_in_ok, origin_nothing, short_something, size_kept, space_made, space_settled}
 use Rattle.asm_statements.specs.Program.Linked.{filled}
-use Rattle.asm_statements.specs.Program.Pieces.{IsPiece, LeadsTo, datum_bytes, short_jump, sized_as, takes, valued, width}
+use Rattle.asm_statements.specs.Program.Pieces.{IsPiece, IsShortJump, datum_bytes, short_jump, statement_size, takes, valued, width}
 use Rattle.asm_statements.proofs.Program.Fields.{AreFields, IsReady}
 use Rattle.asm_statements.specs.Program.Statement as statement
-use Rattle.asm_statements.specs.Program.Statement.{Datum, Statement, byte_items, fill_byte, filling, fixed, spaced, stated, target_of, word_item}
+use Rattle.asm_statements.specs.Program.Statement.{Datum, Statement, byte_items, fill_byte, filling, fixed_number, spaced, stated, target_of, word_item}
 use Rattle.asm_statements.proofs.Program.Coding.{at_of, reads, shape}
 use Rattle.asm_statements.proofs.Program.Data.{Lays, bytes_lay, words_lay}
 use Rattle.asm_statements.proofs.Program.Fillings.{fixed_from}
@@ -41,7 +41,7 @@ use Rattle.asm_statements.proofs.Program.Holes.{cells_filled}
 use Rattle.asm_statements.proofs.Program.Rows.{Rows}
 use Rattle.asm_statements.proofs.Program.Values.{settled_worth}
 
--- The bytes are what is made of a piece.
+-- The bytes are those of the piece once it is linked.
 abbrev pub IsLinkedPiece : ℕ → Bool → (ℕ → ℕ) → Piece → List ℕ → Type 0
 IsLinkedPiece at long places (made.Bytes blank holes) bs = bs ≡ filled places blank holes
 IsLinkedPiece at long places (made.Space n fill) bs = IsPiece at long places (statement.Space n fill) bs
@@ -55,13 +55,13 @@ target_by (made.Short branch target) = Some target
 target_by p = None
 
 pub record Holds (t : Table) (p : Piece) (s : Statement) : Type 0 where
-  pub size : piece_sized p ≡ sized_as s
+  pub size : piece_sized p ≡ statement_size s
   pub target : target_by p ≡ target_of s
   pub pieces : (places : ℕ → ℕ) → Step t.statements places → (at : ℕ) (long : Bool) (bs : List ℕ) → All (λ b. b < 256) bs → IsLinkedPiece at long places p bs
-      → IsPiece at long places s bs × (length bs ≡ takes long (sized_as s))
+      → IsPiece at long places s bs × (length bs ≡ takes long (statement_size s))
 
 -- Instructions.
-code_holds : Rows → (t : Table) (instr : Instr) (numbers : List (Field × line.Expression)) (p : Piece) → AreFields instr (map (λ n. n.0) numbers) → in_range instr ≡ true
+code_holds : Rows → (t : Table) (instr : Instr) (numbers : List (Field × line.ExpressionItems)) (p : Piece) → AreFields instr (map (λ n. n.0) numbers) → in_range instr ≡ true
     → made.code t instr numbers ≡ Ok (Some_piece p) → Holds t p (statement.Code instr (map (λ n. (n.0, filling t n.0 n.1)) numbers))
 code_holds rows t instr numbers p fields ok is =
     let c = code_made t instr numbers p is in
@@ -75,7 +75,7 @@ code_holds rows t instr numbers p fields ok is =
           );
     }
 
--- Data.
+-- DB and DW.
 data_size : (places : ℕ → ℕ) (items : List Datum) → length (flat_map (datum_bytes places) items) ≡ sum_by width items
 data_size places [] = refl
 data_size places (statement.Byte e ∷ items) = omega (arith, data_size places items, sum_by-cons width (statement.Byte e) items)
@@ -101,7 +101,7 @@ short_size (Branch.Relative None) e bs codes = elim codes.spelled as (λ _. leng
 short_size (Branch.Relative (Some condition)) e bs codes = elim codes.spelled as (λ _. length bs ≡ 2) [ inl is ↦ ap length is | inr bad ↦ cc ]
 short_size Branch.CountDown e bs codes = elim codes.spelled as (λ _. length bs ≡ 2) [ inl is ↦ ap length is | inr bad ↦ cc ]
 
-pub jump_size : (at to : ℕ) (long : Bool) (condition : Option ShortCond) (bs : List ℕ) → MatchBool long (Codes (long_jump condition to) bs) (LeadsTo at to (Branch.Relative condition) bs) → length bs ≡ (if long then 3 else 2)
+pub jump_size : (at to : ℕ) (long : Bool) (condition : Option ShortCond) (bs : List ℕ) → MatchBool long (Codes (long_jump condition to) bs) (IsShortJump at to (Branch.Relative condition) bs) → length bs ≡ (if long then 3 else 2)
 jump_size at to true condition bs codes = long_size condition to bs codes
 jump_size at to false condition bs leads = short_size (Branch.Relative condition) leads.0 bs leads.2
 
@@ -113,7 +113,7 @@ jump_range : (condition : Option ShortCond) → in_range (long_jump condition 0)
 jump_range None = refl
 jump_range (Some condition) = refl
 
-jump_holds : Rows → (t : Table) (condition : Option ShortCond) (target : List ℕ) (p : Piece) (o : Option ℕ) → made.jump_by o t condition target ≡ Ok (Some_piece p) → Holds t p (statement.jump_by o t condition target)
+jump_holds : Rows → (t : Table) (condition : Option ShortCond) (target : List ℕ) (p : Piece) (o : Option ℕ) → made.jump_by o t condition target ≡ Ok (Some_piece p) → Holds t p (statement.jump_statement o t condition target)
 jump_holds rows t condition target p (Some r) is =
     let same : made.Jump condition r ≡ p = cc in
     subst (λ q. Holds t q (statement.Jump condition r)) same
@@ -121,27 +121,27 @@ jump_holds rows t condition target p (Some r) is =
 jump_holds rows t condition target p None is =
     code_holds rows t (long_jump condition 0) ((Field.Word, Item.Leaf (Name target) ∷ []) ∷ []) p (inr (jump_fields condition)) (jump_range condition) is
 
--- Space.
--- the number of a DS
-size_fixed : (t : Table) (e : line.Expression) (s : Settled) (n : ℕ) → space_size t e ≡ Ok s → number_in s ≡ Some n → fixed t e ≡ n
+-- DS.
+-- the size of a DS
+size_fixed : (t : Table) (e : line.ExpressionItems) (s : Settled) (n : ℕ) → space_size t e ≡ Ok s → number_in s ≡ Some n → fixed_number t e ≡ n
 size_fixed t e s n is one =
     let known = number_in_ok s n one in
-    ap statement.number_of (settled_worth t (source e) known.0 n ((space_settled t e s is).0 ∙ ap (λ x. Ok x) known.1) known.2)
+    ap statement.known_number (settled_worth t (source e) known.0 n ((space_settled t e s is).0 ∙ ap (λ x. Ok x) known.1) known.2)
 
--- and its fill
-fill_fixed : (t : Table) (fill : Option line.Expression) (f : Filling) (k : ℕ) → space_fill t fill ≡ Ok f → f ≡ Filling.Number k → fill_byte t fill ≡ k % 256
+-- the fill byte of a DS
+fill_fixed : (t : Table) (fill : Option line.ExpressionItems) (f : Filling) (k : ℕ) → space_fill t fill ≡ Ok f → f ≡ Filling.Number k → fill_byte t fill ≡ k % 256
 fill_fixed t None f k is one = let same : 0 ≡ k = cc in ap (λ n. n % 256) same
 fill_fixed t (Some e) f k is one =
     let first = bind_ok (settled_in t e) (field.fixed Field.Byte) f is in
     let from = fixed_from Field.Byte first.0 f first.2 (ap is_told one) in
     let same : from.1 ≡ k = cc in
-    ap (λ n. n % 256) (ap statement.number_of (settled_worth t (source e) from.0 from.1 (as_stmt_ok (settled t (source e)) first.0 first.1 ∙ ap (λ x. Ok x) from.2) from.3) ∙ same)
+    ap (λ n. n % 256) (ap statement.known_number (settled_worth t (source e) from.0 from.1 (as_stmt_ok (settled t (source e)) first.0 first.1 ∙ ap (λ x. Ok x) from.2) from.3) ∙ same)
 
 space_piece : (t : Table) (n b : ℕ) (p : Piece) → made.Space n b ≡ p → Holds t p (statement.Space n b)
 space_piece t n b p same =
     subst (λ q. Holds t q (statement.Space n b)) same (record { size = refl; target = refl; pieces = λ places step at long bs small linked. (linked, ap length linked ∙ length-replicate n b) })
 
-space_holds : (t : Table) (size : line.Expression) (fill : Option line.Expression) (p : Piece) → made.space t size fill ≡ Ok (Some_piece p)
+space_holds : (t : Table) (size : line.ExpressionItems) (fill : Option line.ExpressionItems) (p : Piece) → made.space_made t size fill ≡ Ok (Some_piece p)
     → (s : Statement) × (stated false t (line.Space size fill) ≡ Some s) × Holds t p s
 space_holds t size fill p is =
     let m = space_made t size fill (Some_piece p) is in
@@ -153,20 +153,20 @@ space_holds t size fill p is =
       space_piece t n b p space.piece,
     )
 
--- The whole.
+-- Statements of any kind.
 abbrev Answer : Table → line.Body → Piece → Type 0
 Answer t b p = (s : Statement) × (stated false t b ≡ Some s) × Holds t p s
 
 pub holds : Rows → (t : Table) (b : line.Body) (p : Piece) → IsReady b → made.made t b ≡ Ok (Some_piece p) → Answer t b p
 holds rows t (line.Code instr numbers) p ready is = (statement.Code instr (map (λ n. (n.0, filling t n.0 n.1)) numbers), refl, code_holds rows t instr numbers p ready.0 ready.1 is)
-holds rows t (line.Jump condition target) p ready is = (statement.jump_by (ref_of (found t target)) t condition target, refl, jump_holds rows t condition target p (ref_of (found t target)) is)
+holds rows t (line.Jump condition target) p ready is = (statement.jump_statement (ref_of (found t target)) t condition target, refl, jump_holds rows t condition target p (ref_of (found t target)) is)
 holds rows t (line.Short branch target) p ready is = by_ref (ref_of (found t target)) refl is
   where
     by_ref : (o : Option ℕ) → ref_of (found t target) ≡ o → made.short_by o branch ≡ Ok (Some_piece p) → Answer t (line.Short branch target) p
     by_ref (Some r) was is =
         let same : made.Short branch r ≡ p = cc in (
           statement.Short branch r,
-          ap (λ o. statement.short_by false o branch) was,
+          ap (λ o. statement.short_statement false o branch) was,
           subst (λ q. Holds t q (statement.Short branch r)) same (record { size = refl; target = refl; pieces = λ places step at long bs small linked. (linked, short_size branch linked.0 bs linked.2) }),
         )
     by_ref None was is = cc
@@ -177,8 +177,8 @@ holds rows t (line.Space size fill) p ready is = space_holds t size fill p is
 holds rows t (line.Origin e) p ready is = let bad = origin_nothing t e (Some_piece p) is in cc
 holds rows t b p ready is = cc
 
--- What makes nothing states nothing.
-space_nothing : (t : Table) (size : line.Expression) (fill : Option line.Expression) → made.space t size fill ≡ Ok Nothing → stated false t (line.Space size fill) ≡ None
+-- A line that makes nothing describes no statement.
+space_nothing : (t : Table) (size : line.ExpressionItems) (fill : Option line.ExpressionItems) → made.space_made t size fill ≡ Ok Nothing → stated false t (line.Space size fill) ≡ None
 space_nothing t size fill is =
     let m = space_made t size fill Nothing is in
     ap (λ k. spaced k (fill_byte t fill)) (size_fixed t size m.settled 0 m.size (no_space (number_in m.settled) m.filling m.is))

@@ -1,4 +1,4 @@
--- Holes of fields that are laid end to end.
+-- The fix-ups of fields that are put one after the other.
 use Rattle.std.proofs.Common.{◌≡◌, ℕ, ◌+◌, List, [], ◌∷◌, ◌++◌, length, take, drop, refl, sym, ap, ◌∙◌, arith, append_assoc, length-append}
 use Rattle.std.specs.List.{flat_map}
 use Rattle.std.proofs.Math.Seq.{take-append_seam, drop-append-add, drop-append_seam}
@@ -8,11 +8,11 @@ use Rattle.asm_piece.specs.declared.cell.Filling.{Filling}
 use Rattle.zmo_module.specs.declared.hole.Hole.{Hole}
 use Rattle.zmo_module.specs.declared.hole.Width.{Width}
 use Rattle.asm_piece.specs.Cells.{bytes, hole, holes, number_or_0, written}
-use Rattle.zmo_module.specs.Holes.{size_of}
+use Rattle.zmo_module.specs.Holes.{width_size}
 use Rattle.asm_statements.specs.Program.Linked.{filled}
 use Rattle.asm_statements.proofs.Program.Fillings.{worth_at}
 
-pub length-written : (w : Width) (n : ℕ) → length (written w n) ≡ size_of w
+pub length-written : (w : Width) (n : ℕ) → length (written w n) ≡ width_size w
 length-written Width.Byte n = refl
 length-written Width.Word n = refl
 
@@ -22,7 +22,7 @@ spliced before old new behind same =
     ap (λ xs. xs ++ (new ++ drop (length before + length new) (before ++ (old ++ behind)))) (take-append_seam before (old ++ behind))
     ∙ ap (λ xs. before ++ (new ++ xs)) (drop-append-add before (old ++ behind) (length new) ∙ ap (λ n. drop n (old ++ behind)) same ∙ drop-append_seam old behind)
 
--- The hole of one field, if it has one, is filled.
+-- The fix-up of one field is filled, if the field has one.
 pub one_filled : (places : ℕ → ℕ) (before : List ℕ) (w : Width) (f : Filling) (behind : List ℕ) (hs : List Hole)
     → filled places (before ++ (written w (number_or_0 f) ++ behind)) (hole (length before) w f ++ hs) ≡ filled places (before ++ (written w (worth_at places f) ++ behind)) hs
 one_filled places before w (Filling.Number n) behind hs = refl
@@ -31,7 +31,7 @@ one_filled places before w (Filling.Varying items) behind hs =
     ap (λ bs. filled places bs hs) (spliced before (written w 0) (written w v) behind (length-written w v ∙ sym (length-written w 0)))
 one_filled places before w Filling.Unknown behind hs = refl
 
--- a field's bytes at places
+-- the bytes of a field at these addresses
 abbrev pub cell_at : (ℕ → ℕ) → Cell → List ℕ
 cell_at places c = written c.width (worth_at places c.filling)
 
@@ -39,9 +39,9 @@ pub cells_filled : (places : ℕ → ℕ) (before : List ℕ) (cells : List Cell
 cells_filled places before [] = refl
 cells_filled places before (c ∷ cells) =
     let now = cell_at places c in
-    let far : length before + size_of c.width ≡ length (before ++ now) = omega (arith, length-append before now, length-written c.width (worth_at places c.filling)) in
-    one_filled places before c.width c.filling (bytes cells) (holes (length before + size_of c.width) cells)
-    ∙ ap (λ bs. filled places bs (holes (length before + size_of c.width) cells)) (sym (append_assoc before now (bytes cells)))
+    let far : length before + width_size c.width ≡ length (before ++ now) = omega (arith, length-append before now, length-written c.width (worth_at places c.filling)) in
+    one_filled places before c.width c.filling (bytes cells) (holes (length before + width_size c.width) cells)
+    ∙ ap (λ bs. filled places bs (holes (length before + width_size c.width) cells)) (sym (append_assoc before now (bytes cells)))
     ∙ ap (λ n. filled places ((before ++ now) ++ bytes cells) (holes n cells)) far
     ∙ cells_filled places (before ++ now) cells
     ∙ append_assoc before now (flat_map (cell_at places) cells)

@@ -1,4 +1,4 @@
--- Numbers of an instruction, put in where they vary.
+-- The numbers of an instruction that depend on addresses.
 use Rattle.std.proofs.Common.{◌≡◌, ◌⊎◌, inl, inr, ◌<◌, ℕ, suc, ◌-◌, ◌/◌, ◌%◌, true, ◌||◌, List, [], ◌∷◌, ◌++◌, Some, ℤ, All, length, refl, sym, ap, subst, ◌∙◌, arith, length-append}
 use Rattle.std.proofs.lemmas.Bool.{lt-ltb}
 use Rattle.asm_parse.specs.declared.item.Item.{Item}
@@ -9,11 +9,11 @@ use Rattle.z80_instr.specs.declared.InterruptMode.{InterruptMode}
 use Rattle.z80_instr.specs.declared.Octal.{Octal}
 use Rattle.z80_instr.specs.declared.Instr.{Instr}
 use Rattle.z80_form.specs.declared.field.Field.{Field}
-use Rattle.z80_form.specs.Numbers.{allows, but_last, is_negative, mode_of, number_field, signed, with_bit, with_byte, with_displacement, with_distance, with_mode, with_number, with_restart, with_word}
+use Rattle.z80_form.specs.Numbers.{allows, but_last, is_negative, mode_of, number_field, signed, with_bit, with_byte, with_displacement, with_distance, with_mode, with_number, with_restart, with_word_operand}
 use Rattle.asm_piece.specs.declared.cell.Filling.{Filling}
 use Rattle.zmo_module.specs.declared.hole.Width.{Width}
 use Rattle.asm_piece.specs.Cells.{hole, number_or_0, written}
-use Rattle.zmo_module.specs.Holes.{size_of}
+use Rattle.zmo_module.specs.Holes.{width_size}
 use Rattle.asm_piece.specs.Made.{code_hole}
 use Rattle.asm_statements.specs.Program.Linked.{filled}
 use Rattle.asm_statements.proofs.Program.Fillings.{IsFit, worth_at}
@@ -25,7 +25,7 @@ byte_first : (d : ℤ) (n : ℕ) (instr : Instr) → with_displacement d (with_b
 byte_first d n (Instr.LoadByte m k) = refl
 byte_first d n instr = refl
 
-word_first : (d : ℤ) (n : ℕ) (instr : Instr) → with_displacement d (with_word n instr) ≡ with_word n (with_displacement d instr)
+word_first : (d : ℤ) (n : ℕ) (instr : Instr) → with_displacement d (with_word_operand n instr) ≡ with_word_operand n (with_displacement d instr)
 word_first d n (Instr.Jump k) = refl
 word_first d n instr = refl
 
@@ -55,7 +55,7 @@ swapped n Field.Bit a instr other = bit_first (signed n) (octal_of a) instr
 swapped n Field.Mode a instr other = mode_first (signed n) (mode_of a) instr
 swapped n Field.Restart a instr other = restart_first (signed n) (octal_of (a / 8)) instr
 
--- what a field of an instruction is: its displacement or its number
+-- a field of an instruction is its displacement or its number
 abbrev pub IsField : Instr → Field → Type 0
 IsField instr f = (f ≡ Field.Displacement) ⊎ (number_field instr ≡ Some f)
 
@@ -67,14 +67,14 @@ pub word_field : (instr : Instr) → IsField instr Field.Word → number_field i
 word_field instr (inl bad) = cc
 word_field instr (inr is) = is
 
-last_filled : (places : ℕ → ℕ) (front : List ℕ) (w : Width) (items : List (Item Atom)) (size : ℕ) → size - size_of w ≡ length front
-    → filled places (front ++ written w 0) (hole (size - size_of w) w (Filling.Varying items)) ≡ front ++ written w (value places (tree items))
+last_filled : (places : ℕ → ℕ) (front : List ℕ) (w : Width) (items : List (Item Atom)) (size : ℕ) → size - width_size w ≡ length front
+    → filled places (front ++ written w 0) (hole (size - width_size w) w (Filling.Varying items)) ≡ front ++ written w (value places (tree items))
 last_filled places front Width.Byte items size same =
     ap (λ n. filled places (front ++ written Width.Byte 0) (hole n Width.Byte (Filling.Varying items))) same ∙ one_filled places front Width.Byte (Filling.Varying items) [] []
 last_filled places front Width.Word items size same =
     ap (λ n. filled places (front ++ written Width.Word 0) (hole n Width.Word (Filling.Varying items))) same ∙ one_filled places front Width.Word (Filling.Varying items) [] []
 
--- The hole of a number is filled.
+-- The fix-up of a number is filled.
 pub number_filled : Rows → (places : ℕ → ℕ) (instr : Instr) (f : Field) (x : Filling) (size : ℕ) → size ≡ length (canonical instr) → IsField instr f → IsFit f x
     → filled places (canonical (with_number f (number_or_0 x) instr)) (code_hole size (f, x)) ≡ canonical (with_number f (worth_at places x) instr)
 number_filled rows places instr f (Filling.Number n) size same is fit = refl
@@ -95,7 +95,7 @@ number_filled rows places instr Field.Bit (Filling.Varying items) size same is f
 number_filled rows places instr Field.Mode (Filling.Varying items) size same is fit = absurd fit
 number_filled rows places instr Field.Restart (Filling.Varying items) size same is fit = absurd fit
 
--- A number that is put in is one of its type; a word's bytes show it.
+-- A number that is put in is in the range of its type. For a word its bytes show this.
 pub is_small : (front : List ℕ) (a b : ℕ) → All (λ n. n < 256) (front ++ a ∷ b ∷ []) → b < 256
 is_small [] a b all = all 1 0 (omega arith)
 is_small (x ∷ front) a b all = is_small front a b (λ k d h. all (suc k) d (omega (arith, h)))

@@ -1,4 +1,4 @@
--- What is said of the numbers of instructions.
+-- The laws about the numbers of instructions that are used here.
 use Rattle.std.proofs.Common.{◌≡◌, ◌≢◌, ℕ, ◌%◌, [], ◌∷◌, ◌++◌, Some, true, length}
 use Rattle.z80_instr.specs.Codes.{in_range}
 use Rattle.z80_instr.specs.Table.{canonical, word}

@@ -1,4 +1,4 @@
--- What is settled is worth what the whole is.
+-- An expression whose names are replaced has the same value as the one that the line describes.
 use Rattle.std.proofs.Common.{◌≡◌, ℕ, List, [], ◌∷◌, Option, Some, None, Ok, sym, ap, ◌∙◌}
 use Rattle.asm_parse.specs.declared.item.Item.{Item}
 use Rattle.asm_parse.specs.Expression.{Expression, Leaf, Prefix, Infix, postfix}
@@ -23,7 +23,7 @@ use Rattle.asm_piece.proofs.Making.{answered_items}
 use Rattle.asm_statements.specs.Program.Statement as statement
 use Rattle.asm_statements.specs.Program.Statement.{of_settled, with_meant}
 
--- An expression of an object is one alone.
+-- Different expressions of an object file stay different when they are seen as expressions that may lack a value.
 known_one : (x y : Expression Atom) → known x ≡ known y → x ≡ y
 known_one (Leaf (Atom.Number m)) (Leaf (Atom.Number n)) is = let same : m ≡ n = cc in ap (λ k. Leaf (Atom.Number k)) same
 known_one (Leaf (Atom.Number m)) (Leaf (Atom.Ref n)) is = cc
@@ -49,7 +49,7 @@ known_one (Infix op a c) (Infix o b d) is =
     let right : known c ≡ known d = cc in
     ap (λ p. Infix p a c) operator ∙ ap (λ x. Infix o x c) (known_one a b left) ∙ ap (Infix o b) (known_one c d right)
 
--- What names stand for is seen both ways.
+-- What a name stands for is the same expression by both definitions.
 standing_same : (s : Settled) (x : Expression Atom) → standing s ≡ known x → of_settled s ≡ x
 standing_same (Settled.Known items) x is = known_one (tree items) x is
 standing_same (Settled.Unknown what) (Leaf (Atom.Number n)) is = cc
@@ -63,7 +63,7 @@ no_value u (Leaf (Atom.Ref n)) y is = cc
 no_value u (Prefix op a) y is = cc
 no_value u (Infix op a b) y is = cc
 
-meant_same : (m : Option Meaning) (x : Expression Atom) → meant m ≡ known x → statement.meant m ≡ x
+meant_same : (m : Option Meaning) (x : Expression Atom) → meant m ≡ known x → statement.meant_expression m ≡ x
 meant_same (Some (Meaning.Label r)) x is = known_one (Leaf (Atom.Ref r)) x is
 meant_same (Some (Meaning.External r)) x is = known_one (Leaf (Atom.Ref r)) x is
 meant_same (Some (Meaning.Constant n)) x is = known_one (Leaf (Atom.Number n)) x is
@@ -92,7 +92,7 @@ whole_same t (Infix op a b) (Infix o y z) is =
     let right : replaced t b ≡ known z = cc in
     ap (λ p. Infix p (with_meant t a) (with_meant t b)) operator ∙ ap (λ x. Infix o x (with_meant t b)) (whole_same t a y left) ∙ ap (Infix o y) (whole_same t b z right)
 
--- What is settled,
+-- The value of the items that replacing gives is that of the expression.
 pub settled_value : (t : Table) (e : Expression Operand) (items : List (Item Atom)) → settled t e ≡ Ok (Settled.Known items) → (places : ℕ → ℕ) → Step t.statements places
     → value places (tree items) ≡ value places (with_meant t e)
 settled_value t e items is places step =
@@ -101,7 +101,7 @@ settled_value t e items is places step =
     let whole = same t (replaced t e) object.0 object.1 in
     ap (value places) (tree-postfix items object.0 object.2) ∙ whole.value places step ∙ ap (value places) (sym (whole_same t e whole.whole whole.known))
 
--- a number,
+-- The items are one number.
 pub number_is : (items : List (Item Atom)) (n : ℕ) → number items ≡ Some n → items ≡ Item.Leaf (Atom.Number n) ∷ []
 number_is [] n is = cc
 number_is (Item.Leaf (Atom.Number m) ∷ []) n is = let same : m ≡ n = cc in ap (λ k. Item.Leaf (Atom.Number k) ∷ []) same
@@ -113,7 +113,7 @@ number_is (Item.Binary op ∷ ys) n is = cc
 pub number_value : (places : ℕ → ℕ) (items : List (Item Atom)) (n : ℕ) → number items ≡ Some n → value places (tree items) ≡ n
 number_value places items n is = ap (λ xs. value places (tree xs)) (number_is items n is)
 
--- or fixed.
+-- The value of a fixed expression is its number, at any addresses.
 pub fixed_value : (t : Table) (e : Expression Operand) (n : ℕ) → worth t (replaced t e) ≡ Worth.Number n → (places : ℕ → ℕ) → Step t.statements places → value places (with_meant t e) ≡ n
 fixed_value t e n is places step =
     let whole = same t (replaced t e) (Leaf (Atom.Number n)) (reduced_number t (replaced t e) n is) in

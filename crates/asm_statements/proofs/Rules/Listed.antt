@@ -1,4 +1,4 @@
--- Lists of which some elements make something, each by its place.
+-- A list in which each element, given its index, makes something or nothing.
 use Rattle.std.proofs.Common.{◌≡◌, ◌≤◌, ℕ, ◌+◌, Bool, true, false, cond, List, [], ◌∷◌, Option, Some, None, All, length, count_by, inl, inr, ◌⊎◌, sym, subst, arith}
 use Rattle.std.specs.List.{cons_option, enumerate_from, filter_map}
 use Rattle.std.specs.Option.{IfSome}
@@ -6,7 +6,7 @@ use Rattle.std.proofs.lemmas.List.Elements.{All-cons, All-head, All-nil, All-tai
 use Rattle.std.proofs.lemmas.List.Sums.{sum_by-cons}
 
 module _ {X Y : Type 0} (f : ℕ × X → Option Y) where
-  -- What holds of what each makes holds of all that is made,
+  -- If Q holds of what each element makes, it holds of all that is made.
   one_made : (Q : Y → Type 0) (o : Option Y) (rest : List Y) → IfSome o Q → All Q rest → All Q (cons_option o rest)
   one_made Q None rest one all = all
   one_made Q (Some y) rest one all = All-cons Q y rest one all
@@ -15,7 +15,7 @@ module _ {X Y : Type 0} (f : ℕ × X → Option Y) where
   all_made P Q makes n [] all = All-nil Q
   all_made P Q makes n (x ∷ xs) all = one_made Q (f (n, x)) (filter_map f (enumerate_from (n + 1) xs)) (makes n x (All-head P x xs all)) (all_made P Q makes (n + 1) xs (All-tail P x xs all))
 
-  -- and no more is made than there are elements of the one kind that makes something.
+  -- If only one kind of element makes something, no more is made than there are elements of that kind.
   one_counts : (has : Bool) (o : Option Y) (rest : List Y) (n : ℕ) → (o ≡ None) ⊎ (has ≡ true) → length rest ≤ n → length (cons_option o rest) ≤ cond has 1 0 + n
   one_counts has None rest n told le = omega (arith, le)
   one_counts true (Some y) rest n told le = omega (arith, le)

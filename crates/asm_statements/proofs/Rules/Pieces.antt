@@ -1,4 +1,4 @@
--- A piece keeps the rules of an object.
+-- A piece keeps the rules of an object file.
 use Rattle.std.proofs.Common.{◌≡◌, inr, ◌≤◌, ◌<◌, ℕ, zero, suc, ◌+◌, ◌-◌, Bool, true, List, [], ◌∷◌, ◌++◌, Option, Some, None, Result, Ok, All, nat_lt, slice_index, length, map, refl, sym, ap, subst, ◌∙◌, arith, append_assoc, append-nil, length-append}
 use Rattle.std.specs.List.{flat_map}
 use Rattle.std.proofs.lemmas.Bool.{lt-ltb, ltb-true}
@@ -26,16 +26,16 @@ use Rattle.asm_spell.specs.Faults.{each}
 use Rattle.asm_spell.specs.Line as line
 use Rattle.zmo_module.specs.declared.hole.Hole.{Hole}
 use Rattle.zmo_module.specs.declared.hole.Width.{Width}
-use Rattle.zmo_module.specs.Holes.{FitsWidth, IsHole, LieWithin, ends_in_byte, size_of}
+use Rattle.zmo_module.specs.Holes.{FitsWidth, IsHole, LieWithin, ends_in_byte, width_size}
 use Rattle.asm_piece.specs.declared.cell.Cell.{Cell}
 use Rattle.asm_piece.specs.declared.cell.Filling.{Filling}
 use Rattle.asm_piece.specs.Cells.{bytes, cell_bytes, hole, holes, is_told, number_or_0, written}
 use Rattle.asm_piece.specs.Fields as piece_field
-use Rattle.asm_piece.specs.Fields.{byte, byte_by, fixed, number, settled_in, word, word_by}
+use Rattle.asm_piece.specs.Fields.{byte, byte_by, fixed, number, settled_in, word_filling, word_filling_by}
 use Rattle.asm_piece.specs.Made as made
-use Rattle.asm_piece.specs.Made.{Fillings, Piece, Some_piece, code_hole, long_jump, number_in, ref_of, text_cell, value_cells, width_of, word_cells}
+use Rattle.asm_piece.specs.Made.{Fillings, Piece, Some_piece, code_hole, long_jump, number_in, ref_of, text_cell, value_cells, field_width, word_cells}
 use Rattle.asm_piece.proofs.Making.{as_stmt_ok, bind_ok, blank_of, chosen_ok, code_made, data_made, each_holds, flat, is_space, origin_nothing, space_made}
-use Rattle.asm_statements.specs.Rules.Piece.{KeepsRules}
+use Rattle.asm_statements.specs.Rules.Piece.{KeepsPieceRules}
 use Rattle.asm_statements.proofs.Program.Coding.{Shape, Spelled, first, kept_field, last, none, one, shape}
 use Rattle.asm_statements.proofs.Program.Fields.{AreFields, IsReady}
 use Rattle.asm_statements.proofs.Program.Fillings.{distance_from, fixed_from}
@@ -44,12 +44,12 @@ use Rattle.asm_statements.proofs.Program.Holes.{length-written}
 use Rattle.asm_statements.proofs.Program.Numbers.{IsField, byte_field, swapped, word_field}
 use Rattle.asm_statements.proofs.Program.Rows.{Rows}
 
--- What the laws of expressions say.
+-- The laws of expressions that are used here.
 pub record Laws : Type 0 where
   pub worth : (t : Table) → AreCounted t → (e : Expression Operand) (s : Settled) → settled t e ≡ Ok s → IsWorthOf t e s
   pub refs : (p : ℕ → Bool) (t : Table) → AllBring (λ r. p r ≡ true) t → (e : Expression Operand) (s : Settled) → settled t e ≡ Ok s → AreRefs (λ r. p r ≡ true) s
 
--- Refs below some count, as a test.
+-- A ref is below some count, as a test.
 abbrev IsBelow : ℕ → ℕ → Type 0
 IsBelow n r = nat_lt r n ≡ true
 
@@ -68,12 +68,13 @@ tested_meaning n Meaning.Faulty all = tt
 tested : (n : ℕ) (t : Table) → AllBring (λ r. r < n) t → AllBring (IsBelow n) t
 tested n t all = record { here = lt-ltb t.here n all.here; names = λ name what is. tested_meaning n what (all.names name what is) }
 
--- What varies in a field is an expression of an object, of the field's width, with refs below some count.
+-- An expression in a field that depends on addresses is one that an object file may hold: it fits the width of the field, and its refs are
+-- below n.
 abbrev IsGood : ℕ → Width → Filling → Type 0
 IsGood n w (Filling.Varying items) = IsExpr items × FitsWidth w items × All (λ r. r < n) (refs items)
 IsGood n w _ = Unit {0}
 
--- In an instruction only a byte and a word may vary.
+-- In an instruction only a byte and a word may depend on addresses.
 abbrev IsFixed : Filling → Type 0
 IsFixed (Filling.Varying items) = ⊥
 IsFixed _ = Unit {0}
@@ -87,17 +88,17 @@ Fits n Field.Bit f = IsFixed f
 Fits n Field.Mode f = IsFixed f
 Fits n Field.Restart f = IsFixed f
 
--- What is settled is such an expression.
+-- The items are an expression, and all refs in it are below n.
 abbrev AreGood : ℕ → List (Item Atom) → Type 0
 AreGood n items = IsExpr items × All (λ r. r < n) (refs items)
 
--- A table whose names bring no other refs.
+-- A table whose names bring only refs below n.
 record Below (n : ℕ) (t : Table) : Type 0 where
   laws : Laws
   counted : AreCounted t
   brings : AllBring (λ r. r < n) t
 
-items_good : (n : ℕ) (t : Table) → Below n t → (e : line.Expression) (items : List (Item Atom)) → settled_in t e ≡ Ok (Settled.Known items) → AreGood n items
+items_good : (n : ℕ) (t : Table) → Below n t → (e : line.ExpressionItems) (items : List (Item Atom)) → settled_in t e ≡ Ok (Settled.Known items) → AreGood n items
 items_good n t b e items is =
     let so = as_stmt_ok (settled t (source e)) (Settled.Known items) is in
     let worth = b.laws.worth t b.counted (source e) (Settled.Known items) so in
@@ -120,10 +121,10 @@ byte_good n (Settled.Unknown Unknown.Anything) f know is = let same : Filling.Un
 byte_good n (Settled.Unknown Unknown.Number) f know is = let same : Filling.Unknown ≡ f = cc in subst (IsGood n Width.Byte) same tt
 byte_good n (Settled.Unknown Unknown.VariesInByte) f know is = let same : Filling.Unknown ≡ f = cc in subst (IsGood n Width.Byte) same tt
 
-word_good : (n : ℕ) (s : Settled) (f : Filling) → Know n s → word s ≡ f → IsGood n Width.Word f
+word_good : (n : ℕ) (s : Settled) (f : Filling) → Know n s → word_filling s ≡ f → IsGood n Width.Word f
 word_good n (Settled.Known items) f know is = by_number (number items) is
   where
-    by_number : (o : Option ℕ) → word_by o items ≡ f → IsGood n Width.Word f
+    by_number : (o : Option ℕ) → word_filling_by o items ≡ f → IsGood n Width.Word f
     by_number (Some k) is = subst (IsGood n Width.Word) is tt
     by_number None is = let fine = know items refl in subst (IsGood n Width.Word) is (fine.0, tt, fine.1)
 word_good n (Settled.Unknown what) f know is = subst (IsGood n Width.Word) is tt
@@ -136,13 +137,13 @@ number_fixed (Filling.Varying items) number = let bad = (number refl).1 in cc
 settled_fixed : (field : Field) (s : Settled) (f : Filling) → fixed field s ≡ Ok f → IsFixed f
 settled_fixed field s f is = number_fixed f (λ told. let w = fixed_from field s f is told in (w.1, w.4))
 
-good : (n : ℕ) (t : Table) → Below n t → (field : Field) (e : line.Expression) (f : Filling) → piece_field.filled t field e ≡ Ok f → Fits n field f
+good : (n : ℕ) (t : Table) → Below n t → (field : Field) (e : line.ExpressionItems) (f : Filling) → piece_field.field_filling t field e ≡ Ok f → Fits n field f
 good n t b Field.Byte e f is =
     let s = bind_ok (settled_in t e) byte f is in
     byte_good n s.0 f (λ items same. items_good n t b e items (s.1 ∙ ap (λ x. Ok x) same)) s.2
 good n t b Field.Word e f is =
-    let s = bind_ok (settled_in t e) (λ s. Ok (word s)) f is in
-    let same : word s.0 ≡ f = cc in
+    let s = bind_ok (settled_in t e) (λ s. Ok (word_filling s)) f is in
+    let same : word_filling s.0 ≡ f = cc in
     word_good n s.0 f (λ items same. items_good n t b e items (s.1 ∙ ap (λ x. Ok x) same)) same
 good n t b Field.Distance e f is = number_fixed f (λ told. let w = distance_from (fault t (source e)) (offset t (source e)) f is told in (piece_field.from_end w.0, w.2))
 good n t b Field.Displacement e f is = let s = bind_ok (settled_in t e) (fixed Field.Displacement) f is in settled_fixed Field.Displacement s.0 f s.2
@@ -150,7 +151,7 @@ good n t b Field.Bit e f is = let s = bind_ok (settled_in t e) (fixed Field.Bit)
 good n t b Field.Mode e f is = let s = bind_ok (settled_in t e) (fixed Field.Mode) f is in settled_fixed Field.Mode s.0 f s.2
 good n t b Field.Restart e f is = let s = bind_ok (settled_in t e) (fixed Field.Restart) f is in settled_fixed Field.Restart s.0 f s.2
 
--- Fields laid end to end.
+-- Fields that are put one after the other.
 abbrev AllGood : ℕ → List Cell → Type 0
 AllGood n [] = Unit {0}
 AllGood n (c ∷ cs) = IsGood n c.width c.filling × AllGood n cs
@@ -159,12 +160,12 @@ good-append : (n : ℕ) (xs ys : List Cell) → AllGood n xs → AllGood n ys �
 good-append n [] ys p q = q
 good-append n (x ∷ xs) ys p q = (p.0, good-append n xs ys p.1 q)
 
-length-bytes : (c : Cell) (cs : List Cell) → length (bytes (c ∷ cs)) ≡ size_of c.width + length (bytes cs)
+length-bytes : (c : Cell) (cs : List Cell) → length (bytes (c ∷ cs)) ≡ width_size c.width + length (bytes cs)
 length-bytes c cs = length-append (cell_bytes c) (bytes cs) ∙ ap (λ n. n + length (bytes cs)) (length-written c.width (number_or_0 c.filling))
 
-lie_one : (w : Width) (f : Filling) (rest : List Hole) (from at count : ℕ) → from ≤ at → at + size_of w ≤ count
-    → ((start : ℕ) → start ≤ at + size_of w → LieWithin start count rest) → LieWithin from count (hole at w f ++ rest)
-lie_one w (Filling.Varying items) rest from at count low high next = (low, high, next (at + size_of w) (omega arith))
+lie_one : (w : Width) (f : Filling) (rest : List Hole) (from at count : ℕ) → from ≤ at → at + width_size w ≤ count
+    → ((start : ℕ) → start ≤ at + width_size w → LieWithin start count rest) → LieWithin from count (hole at w f ++ rest)
+lie_one w (Filling.Varying items) rest from at count low high next = (low, high, next (at + width_size w) (omega arith))
 lie_one w (Filling.Number k) rest from at count low high next = next from (omega arith)
 lie_one w Filling.Unknown rest from at count low high next = next from (omega arith)
 
@@ -172,10 +173,10 @@ lie : (cs : List Cell) (from at count : ℕ) → from ≤ at → at + length (by
 lie [] from at count low high = tt
 lie (c ∷ cs) from at count low high =
     let all = length-bytes c cs in
-    lie_one c.width c.filling (holes (at + size_of c.width) cs) from at count low (omega (arith, all))
-    (λ start early. lie cs start (at + size_of c.width) count early (omega (arith, all)))
+    lie_one c.width c.filling (holes (at + width_size c.width) cs) from at count low (omega (arith, all))
+    (λ start early. lie cs start (at + width_size c.width) count early (omega (arith, all)))
 
-zeros : (w : Width) (behind : List ℕ) (k : ℕ) → k < size_of w → slice_index (written w 0 ++ behind) k ≡ 0
+zeros : (w : Width) (behind : List ℕ) (k : ℕ) → k < width_size w → slice_index (written w 0 ++ behind) k ≡ 0
 zeros Width.Byte behind zero low = refl
 zeros Width.Byte behind (suc k) low = omega (arith, low)
 zeros Width.Word behind zero low = refl
@@ -199,8 +200,8 @@ holes_good : (n : ℕ) (front : List ℕ) (cs : List Cell) → AllGood n cs → 
 holes_good n front [] fine = All-nil (IsHole n (front ++ []))
 holes_good n front (c ∷ cs) fine =
     let now = cell_bytes c in
-    let far : length (front ++ now) ≡ length front + size_of c.width = omega (arith, length-append front now, length-written c.width (number_or_0 c.filling)) in
-    All-append (IsHole n (front ++ bytes (c ∷ cs))) (hole (length front) c.width c.filling) (holes (length front + size_of c.width) cs)
+    let far : length (front ++ now) ≡ length front + width_size c.width = omega (arith, length-append front now, length-written c.width (number_or_0 c.filling)) in
+    All-append (IsHole n (front ++ bytes (c ∷ cs))) (hole (length front) c.width c.filling) (holes (length front + width_size c.width) cs)
     (hole_good n front (bytes cs) c.width c.filling fine.0)
     (subst (λ at. All (IsHole n (front ++ bytes (c ∷ cs))) (holes at cs)) far
     (subst (λ bs. All (IsHole n bs) (holes (length (front ++ now)) cs)) (append_assoc front now (bytes cs)) (holes_good n (front ++ now) cs fine.1)))
@@ -211,7 +212,7 @@ Keep n bs hs = LieWithin 0 (length bs) hs × All (IsHole n bs) hs
 cells_keep : (n : ℕ) (front : List ℕ) (cs : List Cell) → AllGood n cs → Keep n (front ++ bytes cs) (holes (length front) cs)
 cells_keep n front cs fine = (lie cs 0 (length front) (length (front ++ bytes cs)) (omega arith) (omega (arith, length-append front (bytes cs))), holes_good n front cs fine)
 
--- Data.
+-- DB and DW.
 text_good : (n : ℕ) (text : List ℕ) → AllGood n (map text_cell text)
 text_good n [] = tt
 text_good n (b ∷ text) = (tt, text_good n text)
@@ -219,22 +220,22 @@ text_good n (b ∷ text) = (tt, text_good n text)
 value_good : (n : ℕ) (t : Table) → Below n t → (v : line.Value) (cs : List Cell) → value_cells t v ≡ Ok cs → AllGood n cs
 value_good n t b (line.Text text) cs is = let same : map text_cell text ≡ cs = cc in subst (AllGood n) same (text_good n text)
 value_good n t b (line.Byte e) cs is =
-    let f = bind_ok (piece_field.filled t Field.Byte e) _ cs is in
+    let f = bind_ok (piece_field.field_filling t Field.Byte e) _ cs is in
     let same : (record { width = Width.Byte; filling = f.0 }) ∷ [] ≡ cs = cc in
     subst (AllGood n) same (good n t b Field.Byte e f.0 f.1, tt)
 
-word_cells_good : (n : ℕ) (t : Table) → Below n t → (e : line.Expression) (cs : List Cell) → word_cells t e ≡ Ok cs → AllGood n cs
+word_cells_good : (n : ℕ) (t : Table) → Below n t → (e : line.ExpressionItems) (cs : List Cell) → word_cells t e ≡ Ok cs → AllGood n cs
 word_cells_good n t b e cs is =
-    let f = bind_ok (piece_field.filled t Field.Word e) _ cs is in
+    let f = bind_ok (piece_field.field_filling t Field.Word e) _ cs is in
     let same : (record { width = Width.Word; filling = f.0 }) ∷ [] ≡ cs = cc in
     subst (AllGood n) same (good n t b Field.Word e f.0 f.1, tt)
 
 data_keeps : {A : Type 0} (n : ℕ) (read : A → Result (List Cell) StmtFault) → ((x : A) (cs : List Cell) → read x ≡ Ok cs → AllGood n cs) → (xs : List A) (p : Piece)
-    → made.all_laid (each read xs) ≡ Ok (Some_piece p) → KeepsRules n p
+    → made.all_laid (each read xs) ≡ Ok (Some_piece p) → KeepsPieceRules n p
 data_keeps n read each_one xs p is =
     let d = data_made read xs p is in
     let all = each_holds (λ cs ys. AllGood n cs) read tt (λ x cs rest ys was so. good-append n cs rest (each_one x cs was) so) xs d.cells d.is in
-    subst (KeepsRules n) d.piece (cells_keep n [] (flat d.cells) all)
+    subst (KeepsPieceRules n) d.piece (cells_keep n [] (flat d.cells) all)
 
 -- Instructions.
 abbrev code_keeps : ℕ → Instr → Fillings → Type 0
@@ -243,10 +244,10 @@ code_keeps n instr ns = Keep n (canonical (blank_of ns instr)) (flat_map (code_h
 nothing_varies : (n : ℕ) (bs : List ℕ) → Keep n bs []
 nothing_varies n bs = (tt, All-nil (IsHole n bs))
 
-last_keeps : (n : ℕ) (front : List ℕ) (w : Width) (items : List (Item Atom)) (size : ℕ) → size - size_of w ≡ length front → IsGood n w (Filling.Varying items)
-    → Keep n (front ++ written w 0) (hole (size - size_of w) w (Filling.Varying items))
+last_keeps : (n : ℕ) (front : List ℕ) (w : Width) (items : List (Item Atom)) (size : ℕ) → size - width_size w ≡ length front → IsGood n w (Filling.Varying items)
+    → Keep n (front ++ written w 0) (hole (size - width_size w) w (Filling.Varying items))
 last_keeps n front w items size same fine =
-    subst (λ bs. Keep n (front ++ bs) (hole (size - size_of w) w (Filling.Varying items))) (append-nil (written w 0))
+    subst (λ bs. Keep n (front ++ bs) (hole (size - width_size w) w (Filling.Varying items))) (append-nil (written w 0))
     (subst (λ at. Keep n (front ++ (written w 0 ++ [])) (hole at w (Filling.Varying items))) (sym same)
     (subst (λ hs. Keep n (front ++ (written w 0 ++ [])) hs) (append-nil (hole (length front) w (Filling.Varying items)))
     (cells_keep n front ((record { width = w; filling = Filling.Varying items }) ∷ []) (fine, tt))))
@@ -271,7 +272,7 @@ number_keeps rows n instr Field.Bit (Filling.Varying items) size same is fit = a
 number_keeps rows n instr Field.Mode (Filling.Varying items) size same is fit = absurd fit
 number_keeps rows n instr Field.Restart (Filling.Varying items) size same is fit = absurd fit
 
--- A displacement is a number.
+-- A displacement is a known number.
 displaced : (x : Filling) → IsFixed x → is_told x ≡ true → (k : ℕ) × (x ≡ Filling.Number k)
 displaced (Filling.Number k) is told = (k, refl)
 displaced (Filling.Varying items) is told = absurd is
@@ -305,10 +306,10 @@ shape_keeps rows n t b instr _ _ (first g d e x y is was told next told_too) =
 shape_keeps rows n t b instr _ _ (last g d e x y is was told next told_too) =
     last_displaced rows n instr g x y is (displaced x (good n t b Field.Displacement d x was) told) (good n t b g e y next)
 
-code_rules : Rows → (n : ℕ) (t : Table) → Below n t → (instr : Instr) (numbers : Spelled) (p : Piece) → AreFields instr (map (λ m. m.0) numbers) → made.code t instr numbers ≡ Ok (Some_piece p) → KeepsRules n p
+code_rules : Rows → (n : ℕ) (t : Table) → Below n t → (instr : Instr) (numbers : Spelled) (p : Piece) → AreFields instr (map (λ m. m.0) numbers) → made.code t instr numbers ≡ Ok (Some_piece p) → KeepsPieceRules n p
 code_rules rows n t b instr numbers p fields is =
     let c = code_made t instr numbers p is in
-    subst (KeepsRules n) c.piece (shape_keeps rows n t b instr numbers c.read (shape t instr numbers c.read fields c.is c.told))
+    subst (KeepsPieceRules n) c.piece (shape_keeps rows n t b instr numbers c.read (shape t instr numbers c.read fields c.is c.told))
 
 -- Jumps.
 ref_below : (n : ℕ) (t : Table) → Below n t → (name : List ℕ) (o : Option Meaning) → found t name ≡ o → (r : ℕ) → ref_of o ≡ Some r → r < n
@@ -321,27 +322,27 @@ ref_below n t b name (Some (Meaning.Equ equated)) is r so = cc
 ref_below n t b name (Some Meaning.Faulty) is r so = cc
 
 jump_rules : Rows → (n : ℕ) (t : Table) → Below n t → (condition : Option ShortCond) (target : List ℕ) (p : Piece) (o : Option ℕ) → ref_of (found t target) ≡ o
-    → made.jump_by o t condition target ≡ Ok (Some_piece p) → KeepsRules n p
+    → made.jump_by o t condition target ≡ Ok (Some_piece p) → KeepsPieceRules n p
 jump_rules rows n t b condition target p (Some r) was is =
     let same : made.Jump condition r ≡ p = cc in
-    subst (KeepsRules n) same (ref_below n t b target (found t target) refl r was)
+    subst (KeepsPieceRules n) same (ref_below n t b target (found t target) refl r was)
 jump_rules rows n t b condition target p None was is =
     code_rules rows n t b (long_jump condition 0) ((Field.Word, Item.Leaf (Name target) ∷ []) ∷ []) p (inr (jump_fields condition)) is
 
-short_rules : (n : ℕ) (t : Table) → Below n t → (branch : Branch) (target : List ℕ) (p : Piece) (o : Option ℕ) → ref_of (found t target) ≡ o → made.short_by o branch ≡ Ok (Some_piece p) → KeepsRules n p
+short_rules : (n : ℕ) (t : Table) → Below n t → (branch : Branch) (target : List ℕ) (p : Piece) (o : Option ℕ) → ref_of (found t target) ≡ o → made.short_by o branch ≡ Ok (Some_piece p) → KeepsPieceRules n p
 short_rules n t b branch target p (Some r) was is =
     let same : made.Short branch r ≡ p = cc in
-    subst (KeepsRules n) same (ref_below n t b target (found t target) refl r was)
+    subst (KeepsPieceRules n) same (ref_below n t b target (found t target) refl r was)
 short_rules n t b branch target p None was is = cc
 
-space_rules : (n : ℕ) (t : Table) (size : line.Expression) (fill : Option line.Expression) (p : Piece) → made.space t size fill ≡ Ok (Some_piece p) → KeepsRules n p
+space_rules : (n : ℕ) (t : Table) (size : line.ExpressionItems) (fill : Option line.ExpressionItems) (p : Piece) → made.space_made t size fill ≡ Ok (Some_piece p) → KeepsPieceRules n p
 space_rules n t size fill p is =
     let m = space_made t size fill (Some_piece p) is in
     let s = is_space (number_in m.settled) m.filling p m.is in
-    subst (KeepsRules n) s.piece (omega arith)
+    subst (KeepsPieceRules n) s.piece (omega arith)
 
--- The whole.
-rules : Rows → (n : ℕ) (t : Table) → Below n t → (b : line.Body) (p : Piece) → IsReady b → made.made t b ≡ Ok (Some_piece p) → KeepsRules n p
+-- Statements of any kind.
+rules : Rows → (n : ℕ) (t : Table) → Below n t → (b : line.Body) (p : Piece) → IsReady b → made.made t b ≡ Ok (Some_piece p) → KeepsPieceRules n p
 rules rows n t below (line.Code instr numbers) p ready is = code_rules rows n t below instr numbers p ready.0 is
 rules rows n t below (line.Jump condition target) p ready is = jump_rules rows n t below condition target p (ref_of (found t target)) refl is
 rules rows n t below (line.Short branch target) p ready is = short_rules n t below branch target p (ref_of (found t target)) refl is
@@ -351,5 +352,5 @@ rules rows n t below (line.Space size fill) p ready is = space_rules n t size fi
 rules rows n t below (line.Origin e) p ready is = let bad = origin_nothing t e (Some_piece p) is in cc
 rules rows n t below b p ready is = cc
 
-pub keeps : Rows → Laws → (n : ℕ) (t : Table) → AreCounted t → AllBring (λ r. r < n) t → (b : line.Body) (p : Piece) → IsReady b → made.made t b ≡ Ok (Some_piece p) → KeepsRules n p
+pub keeps : Rows → Laws → (n : ℕ) (t : Table) → AreCounted t → AllBring (λ r. r < n) t → (b : line.Body) (p : Piece) → IsReady b → made.made t b ≡ Ok (Some_piece p) → KeepsPieceRules n p
 keeps rows laws n t counted brings b p ready is = rules rows n t (record { laws = laws; counted = counted; brings = brings }) b p ready is

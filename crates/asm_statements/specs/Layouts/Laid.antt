@@ -1,4 +1,4 @@
--- Where the statements of lines stand.
+-- Which statements lines have, by size, and where each line is among them.
 use Rattle.std.specs.Prelude.{Bool, true, List, Option, Some, None, if◌then◌else◌, is_some, length, map, take}
 use Rattle.std.specs.List.{filter_map}
 use Rattle.std.specs.Option.{option_map}
@@ -13,12 +13,12 @@ use Rattle.asm_piece.specs.Made.{ref_of}
 use Rattle.asm_piece.specs.Sized.{sized}
 use Rattle.asm_names.specs.Layout.{Layout}
 
--- Where a JR may grow, one to a label or an external is a relaxable jump.
+-- With --grow, a JR to a label or an external is a relaxable jump.
 abbrev pub may_grow : Bool → Table → Body → Statement → Statement
 may_grow true t (line.Short (Branch.Relative condition) target) s = if is_some (ref_of (found t target)) then Statement.Relaxable else s
 may_grow grow t body s = s
 
--- the statement of a line, if it has one
+-- the size of a line's statement, if the line has one
 abbrev pub line_sized : Bool → Table → Line → Option Statement
 line_sized grow t (line.Statement label (Some body)) = option_map (may_grow grow t body) (sized t body)
 line_sized grow t _ = None
@@ -26,11 +26,11 @@ line_sized grow t _ = None
 abbrev pub statements : Bool → Table → List Taken → List Statement
 statements grow t lines = filter_map (λ l. line_sized grow t l.line) lines
 
--- The statements of lines, and how many of them stand before each line.
+-- The sizes of the statements of all lines, and for each line how many statements come before it.
 abbrev pub laid : Bool → Table → List Taken → Layout
 laid grow t lines = record { next = map (λ l. length (statements grow t (take l.0 lines))) (placed lines); statements = statements grow t lines }
 
--- the data of a line takes from 1 to 65,535 bytes
+-- if the line is DB or DW, it makes 1 to 65,535 bytes
 abbrev pub IsFewIn : Line → Type 0
 IsFewIn (line.Statement label (Some body)) = IsFew body
 IsFewIn _ = Unit {0}

@@ -1,4 +1,4 @@
--- Lines judged one after the other, as the code judges them.
+-- Lines that are judged one after the other, as the code does.
 use Rattle.std.specs.Prelude.{◌≡◌, ◌++◌, ℕ, Bool, List, Option, Some, None, Result, Ok, Err, map}
 use Rattle.std.specs.Option.{option_map, option_to_list}
 use Rattle.asm_expr.specs.Names.{Table}
@@ -8,20 +8,20 @@ use Rattle.asm_names.specs.Lines.{Taken}
 use Rattle.asm_names.specs.Names.{Names}
 use Rattle.asm_piece.specs.Made.{made}
 use Rattle.zmo_module.specs.declared.statement.Statement as code
-use Rattle.zmo_module.specs.Modules.{Statement, statement_of}
+use Rattle.zmo_module.specs.Modules.{ModuleStatement, statement_of}
 use Rattle.asm_statements.specs.declared.fault.StateFault.{StateFault}
 use Rattle.asm_statements.specs.declared.stating.Stated.{Stated}
 use Rattle.asm_statements.specs.Module.Faults.{body_fault}
-use Rattle.asm_statements.specs.Module.Stated.{line_fault}
+use Rattle.asm_statements.specs.Module.Stated.{statement_fault}
 use Rattle.asm_statements.specs.Module.Statements.{line_statement, of_made}
 
--- a fault of values as one of a line
+-- an error of values, as an error of a line
 abbrev pub of_values : StmtFault → StateFault
 of_values StmtFault.NoMemory = StateFault.NoMemory
 of_values why = StateFault.Stmt why
 
--- There is this fault, or this statement, unless memory ran out.
-abbrev pub Judges : Option StateFault → Option Statement → Result (Option code.Statement) StateFault → Type 0
+-- The answer is this error or this statement. If memory ran out, nothing is claimed.
+abbrev pub Judges : Option StateFault → Option ModuleStatement → Result (Option code.Statement) StateFault → Type 0
 Judges fault stated (Ok s) = (fault ≡ None) × (option_map statement_of s ≡ stated)
 Judges fault stated (Err StateFault.NoMemory) = Unit {0}
 Judges fault stated (Err why) = fault ≡ Some why
@@ -30,17 +30,17 @@ abbrev pub JudgesBody : Bool → Names → Table → Body → Result (Option cod
 JudgesBody grow names t body r = Judges (body_fault names t body) (of_made grow (made t body)) r
 
 abbrev pub JudgesLine : Bool → Names → Table → Line → Result (Option code.Statement) StateFault → Type 0
-JudgesLine grow names t line r = Judges (line_fault names t line) (line_statement grow t line) r
+JudgesLine grow names t line r = Judges (statement_fault names t line) (line_statement grow t line) r
 
--- the statement of a line with the line's number, if it has one
-abbrev pub stated : Bool → Table → Taken → List (ℕ × Statement)
+-- the statement of a line with the line's number, if the line has a statement
+abbrev pub stated : Bool → Table → Taken → List (ℕ × ModuleStatement)
 stated grow t l = option_to_list (option_map (λ s. (l.number, s)) (line_statement grow t l.line))
 
--- What is left where a line is taken.
+-- What reading a line adds to the statements so far.
 abbrev pub Takes : Bool → Names → Table → Taken → Stated → Result (Unit {0}) StateFault → Stated → Type 0
 Takes grow names t l old (Ok done) new =
-    (line_fault names t l.line ≡ None)
+    (statement_fault names t l.line ≡ None)
     × (map statement_of new.statements.items ≡ map statement_of old.statements.items ++ map (λ n. n.1) (stated grow t l))
     × (new.lines.items ≡ old.lines.items ++ map (λ n. n.0) (stated grow t l))
 Takes grow names t l old (Err StateFault.NoMemory) new = Unit {0}
-Takes grow names t l old (Err why) new = line_fault names t l.line ≡ Some why
+Takes grow names t l old (Err why) new = statement_fault names t l.line ≡ Some why

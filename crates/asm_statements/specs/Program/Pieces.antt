@@ -1,4 +1,4 @@
--- When bytes are a statement's, at places.
+-- When bytes are those of a statement of a program, at given addresses.
 use Rattle.std.specs.Prelude.{◌≡◌, ℕ, ◌+◌, ◌/◌, ◌%◌, Bool, List, [], ◌∷◌, Some, None, if◌then◌else◌, length, map, replicate, ℤ, pos, ◌+ℤ◌}
 use Rattle.std.specs.Bool.{MatchBool}
 use Rattle.std.specs.List.{flat_map, sum_by}
@@ -15,46 +15,46 @@ use Rattle.asm_piece.specs.Made.{long_jump}
 use Rattle.asm_statements.specs.Program.Statement as statement
 use Rattle.asm_statements.specs.Program.Statement.{Datum, Statement}
 
--- JR or DJNZ by a displacement
+-- JR or DJNZ with this displacement
 abbrev pub short_jump : Branch → ℤ → Instr
 short_jump (Branch.Relative None) e = Instr.JumpRelative e
 short_jump (Branch.Relative (Some condition)) e = Instr.JumpRelativeIf condition e
 short_jump Branch.CountDown e = Instr.Djnz e
 
--- a short jump at one place whose displacement, counted from its end, leads to another
-abbrev pub LeadsTo : ℕ → ℕ → Branch → List ℕ → Type 0
-LeadsTo from to branch bytes = (e : ℤ) × (pos (from + 2) +ℤ e ≡ pos to) × Codes (short_jump branch e) bytes
+-- the bytes are a short jump at one address whose displacement, counted from its end, leads to the other
+abbrev pub IsShortJump : ℕ → ℕ → Branch → List ℕ → Type 0
+IsShortJump from to branch bytes = (e : ℤ) × (pos (from + 2) +ℤ e ≡ pos to) × Codes (short_jump branch e) bytes
 
--- an item's bytes: a word has its low byte first
+-- the bytes of an item of data; of a word, the low byte first
 abbrev pub datum_bytes : (ℕ → ℕ) → Datum → List ℕ
 datum_bytes places (statement.Byte e) = value places e % 256 ∷ []
 datum_bytes places (statement.Word e) = value places e % 256 ∷ value places e / 256 ∷ []
 
--- what the expressions of numbers are worth
+-- the values of the expressions in an instruction
 abbrev pub valued : (ℕ → ℕ) → List (Field × Expression Atom) → List (Field × ℕ)
 valued places numbers = map (λ n. (n.0, value places n.1)) numbers
 
--- The bytes are a statement's: at a place, long or short, where each ref has its place.
+-- The bytes are those of a statement, given its address, whether it is long, and the address of each ref.
 abbrev pub IsPiece : ℕ → Bool → (ℕ → ℕ) → Statement → List ℕ → Type 0
 IsPiece at long places (statement.Code instr numbers) bytes = Codes (with_numbers (valued places numbers) instr) bytes
 IsPiece at long places (statement.Data items) bytes = bytes ≡ flat_map (datum_bytes places) items
 IsPiece at long places (statement.Space n fill) bytes = bytes ≡ replicate n fill
-IsPiece at long places (statement.Jump condition target) bytes = MatchBool long (Codes (long_jump condition (places target)) bytes) (LeadsTo at (places target) (Branch.Relative condition) bytes)
-IsPiece at long places (statement.Short branch target) bytes = LeadsTo at (places target) branch bytes
+IsPiece at long places (statement.Jump condition target) bytes = MatchBool long (Codes (long_jump condition (places target)) bytes) (IsShortJump at (places target) (Branch.Relative condition) bytes)
+IsPiece at long places (statement.Short branch target) bytes = IsShortJump at (places target) branch bytes
 
--- A statement as far as its size matters.
+-- The size of a statement.
 abbrev pub width : Datum → ℕ
 width (statement.Byte e) = 1
 width (statement.Word e) = 2
 
-abbrev pub sized_as : Statement → Size
-sized_as (statement.Code instr numbers) = Size.Sized (length (canonical instr))
-sized_as (statement.Data items) = Size.Sized (sum_by width items)
-sized_as (statement.Space n fill) = Size.Sized n
-sized_as (statement.Jump condition target) = Size.Relaxable
-sized_as (statement.Short branch target) = Size.Sized 2
+abbrev pub statement_size : Statement → Size
+statement_size (statement.Code instr numbers) = Size.Sized (length (canonical instr))
+statement_size (statement.Data items) = Size.Sized (sum_by width items)
+statement_size (statement.Space n fill) = Size.Sized n
+statement_size (statement.Jump condition target) = Size.Relaxable
+statement_size (statement.Short branch target) = Size.Sized 2
 
--- how many bytes a statement takes, long or short
+-- how many bytes a statement takes, by whether it is long
 abbrev pub takes : Bool → Size → ℕ
 takes long (Size.Sized n) = n
 takes long Size.Relaxable = if long then 3 else 2

@@ -1,10 +1,10 @@
--- Lines that tokens spell.
+-- Lines that can be parsed.
 use Rattle.std.specs.Prelude.{◌≡◌, ℕ, List, Option, Some, Ok}
 use Rattle.asm_scan.specs.Tokens.{Lexeme}
 use Rattle.asm_spell.specs.Line.{Body, Statement}
 use Rattle.asm_spell.specs.Spelling.{spelled}
 
--- Some tokens spell a line with this word and these operands.
+-- Some tokens parse as a line with this statement and these operands.
 pub record IsSpelled (b : Body) : Type 0 where
   pub tokens : List Lexeme
   pub label : Option (List ℕ)

@@ -1,4 +1,5 @@
-//! The statements have the sizes that their source was laid out with, before its names had their addresses.
+//! Laws about the layout: the statements have the sizes that were laid out before names had addresses. A law is a function that does
+//! nothing and whose clause is a theorem.
 
 ghost use Rattle.std.specs.Prelude.{◌≡◌, ◌≤◌, ℕ, Bool, true, false, List, None, Some, length, map, count_by};
 ghost use Rattle.std.specs.List.{list_any};
@@ -8,15 +9,16 @@ ghost use Rattle.asm_expr.specs.Origins.{is_number_name, is_valued_name};
 ghost use Rattle.asm_expr.specs.Settling.{is_constant_name};
 ghost use Rattle.asm_expr.specs.declared.meaning.Meaning.{Meaning};
 ghost use Rattle.asm_names.specs.Lines.{Taken, has_statement};
-ghost use Rattle.asm_names.specs.Names.{Names, kind_of};
+ghost use Rattle.asm_names.specs.Names.{Names, kind_of_name};
 ghost use Rattle.asm_names.specs.Layout.{Layout, next_at};
 ghost use Rattle.asm_piece.specs.Sized.{IsLike};
 ghost use Rattle.asm_statements.specs.Layouts.Laid.{laid, statements};
-ghost use Rattle.asm_statements.specs.Module.Stated.{first_fault, numbered};
+ghost use Rattle.asm_statements.specs.Module.Stated.{first_statement_fault, numbered_statements};
 ghost use Rattle.asm_statements.specs.Layouts.Sizes.{sizes};
-ghost use Rattle.asm_names.specs.Meanings.{entries, table_at};
+ghost use Rattle.asm_names.specs.Meanings.{name_meanings, table_at};
 
-/// There are no more statements than words that take a place, and tables in which each name is of the same kind lay lines alike.
+/// The number of statements is at most the number of lines with a word that may make one. Two tables that give each name the same kind give
+/// the same layout.
 pub fn laid_by_kinds()
     ensures few { (grow : Bool) (t : Table) (lines : List Taken) → length (statements grow t lines) ≤ count_by (λ l. has_statement l.line) lines }
     ensures like { (grow : Bool) (t u : Table) (lines : List Taken) → IsLike t u → laid grow t lines ≡ laid grow u lines }
@@ -24,41 +26,42 @@ pub fn laid_by_kinds()
     asm_piece::laws::sizes();
 }
 
-/// Names are of the same kinds wherever the statements stand.
+/// Names have the same kinds, whatever the layout is and wherever the statements are.
 pub fn kinds_anywhere()
     ensures { (names : Names) (lines : List Taken) (circle : ℕ → Bool) (layout other : Layout) (at there : ℕ) →
-        IsLike (table_at layout (entries names lines circle layout) at) (table_at other (entries names lines circle other) there) }
+        IsLike (table_at layout (name_meanings names lines circle layout) at) (table_at other (name_meanings names lines circle other) there) }
 {
     asm_expr::laws::by_names();
     asm_expr::laws::constant_anywhere();
 }
 
-/// Where no line is faulty and constants are numbers, the size of each statement is known, also by a table in which each name is of the
-/// same kind.
+/// If no line has an error and each constant is a number, the size of each statement is known, by any table that gives each name the same
+/// kind.
 pub fn all_sized()
     ensures { (grow : Bool) (names : Names) (t u : Table) (layout : Layout) (lines : List Taken) → IsLike t u →
-        ((name : List ℕ) → found t name ≡ None → kind_of names name ≡ None) →
+        ((name : List ℕ) → found t name ≡ None → kind_of_name names name ≡ None) →
         ((name : List ℕ) (what : Meaning) → found t name ≡ Some what → is_constant_name (Some what) ≡ true → is_number_name (Some what) ≡ true) →
-        first_fault names t layout lines ≡ None → list_any is_unsized (statements grow u lines) ≡ false }
+        first_statement_fault names t layout lines ≡ None → list_any is_unsized (statements grow u lines) ≡ false }
 {
     asm_expr::laws::number_of_numbers();
     asm_piece::laws::sizes();
 }
 
-/// Where no line is faulty and names stand for values, the statements that lines come to are those that are laid.
+/// If no line has an error and each name has a value, the statements that lines make have the sizes that were laid out, by any table that
+/// gives each name the same kind.
 pub fn stated_as_laid()
     ensures { (grow : Bool) (names : Names) (t u : Table) (layout : Layout) (lines : List Taken) → IsLike t u →
-        ((name : List ℕ) → found t name ≡ None → kind_of names name ≡ None) →
+        ((name : List ℕ) → found t name ≡ None → kind_of_name names name ≡ None) →
         ((name : List ℕ) (what : Meaning) → found t name ≡ Some what → is_valued_name (Some what) ≡ true) →
         list_any is_unsized t.statements ≡ false →
-        first_fault names t layout lines ≡ None → statements grow u lines ≡ sizes (map (λ n. n.1) (numbered grow t layout lines)) }
+        first_statement_fault names t layout lines ≡ None → statements grow u lines ≡ sizes (map (λ n. n.1) (numbered_statements grow t layout lines)) }
 {
     asm_expr::laws::valued();
     asm_expr::laws::number_of_numbers();
     asm_piece::laws::sizes();
 }
 
-/// The number of the next statement is at most that of the end.
+/// For each line, the number of the next statement is at most the count of all statements.
 pub fn next_within()
     ensures { (grow : Bool) (t : Table) (lines : List Taken) (at : ℕ) → next_at (laid grow t lines) at ≤ length (statements grow t lines) }
 {}

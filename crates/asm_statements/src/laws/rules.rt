@@ -1,4 +1,4 @@
-//! The statements are those that an object file may hold.
+//! Laws about the rules of object files, which the statements keep. A law is a function that does nothing and whose clause is a theorem.
 
 ghost use Rattle.std.specs.Prelude.{◌≡◌, ◌≤◌, ◌<◌, ℕ, All, Bool, List, Some, Ok, count_by, length, map};
 ghost use Rattle.asm_expr.specs.Names.{AreCounted, Table, found};
@@ -8,16 +8,16 @@ ghost use Rattle.asm_spell.specs.Line.{Body};
 ghost use Rattle.asm_names.specs.Lines.{Taken, has_statement};
 ghost use Rattle.asm_names.specs.Layout.{Layout, next_at};
 ghost use Rattle.asm_piece.specs.Made.{Piece, Some_piece, made};
-ghost use Rattle.zmo_module.specs.Rules.{IsStatement};
-ghost use Rattle.asm_statements.specs.Module.Stated.{numbered};
+ghost use Rattle.zmo_module.specs.Rules.{IsModuleStatement};
+ghost use Rattle.asm_statements.specs.Module.Stated.{numbered_statements};
 ghost use Rattle.asm_statements.specs.Program.Spelled.{IsSpelled};
 ghost use Rattle.asm_statements.specs.Rules.Fitting.{FitsWord, IsReadLine};
-ghost use Rattle.asm_statements.specs.Rules.Piece.{KeepsRules};
+ghost use Rattle.asm_statements.specs.Rules.Piece.{KeepsPieceRules};
 
-/// The piece of a spelled line keeps the rules of an object with so many refs, where the place of `$` and the names bring no others.
+/// The piece of a parsed line keeps the rules of an object file, given its number of refs, if `$` and the names bring only refs below that.
 pub fn pieces_keep_rules()
     ensures { (t : Table) (b : Body) (p : Piece) (refs : ℕ) → AreCounted t → AllBring (λ r. r < refs) t → IsSpelled b → made t b ≡ Ok (Some_piece p) →
-        KeepsRules refs p }
+        KeepsPieceRules refs p }
 {
     asm_expr::laws::worth_of_settled();
     asm_expr::laws::no_other_refs();
@@ -27,17 +27,18 @@ pub fn pieces_keep_rules()
     z80_form::laws::places();
 }
 
-/// The statements of spelled lines keep the rules of an object with so many refs, where names and places bring no others.
+/// The statements of parsed lines keep the rules of an object file, given its number of refs, if `$` and the names bring only refs below
+/// that and the size of space fits a word.
 pub fn statements_keep_rules()
     ensures { (grow : Bool) (t : Table) (layout : Layout) (lines : List Taken) (refs : ℕ) → AreCounted t → ((at : ℕ) → next_at layout at < refs) →
         ((name : List ℕ) (what : Meaning) → found t name ≡ Some what → Brings (λ r. r < refs) what) → All (λ l. IsReadLine l.line) lines →
-        All FitsWord (map (λ n. n.1) (numbered grow t layout lines)) → All (IsStatement grow refs) (map (λ n. n.1) (numbered grow t layout lines)) }
+        All FitsWord (map (λ n. n.1) (numbered_statements grow t layout lines)) → All (IsModuleStatement grow refs) (map (λ n. n.1) (numbered_statements grow t layout lines)) }
 {
     pieces_keep_rules();
     asm_piece::laws::few();
 }
 
-/// There are no more statements than words that take a place.
+/// The number of statements is at most the number of lines with a word that may make one.
 pub fn few_statements()
-    ensures { (grow : Bool) (t : Table) (layout : Layout) (lines : List Taken) → length (numbered grow t layout lines) ≤ count_by (λ l. has_statement l.line) lines }
+    ensures { (grow : Bool) (t : Table) (layout : Layout) (lines : List Taken) → length (numbered_statements grow t layout lines) ≤ count_by (λ l. has_statement l.line) lines }
 {}

@@ -1,4 +1,4 @@
--- Blocks that end within the first lines of a text, and those that do not.
+-- Blocks that end within the first lines, and those that do not.
 use Rattle.std.proofs.Common.{◌≡◌, ◌<◌, ◌+◌, ◌∙◌, sym, ap, refl, ℕ, zero, suc, List, [], ◌∷◌, Option, Some, None, take, length, arith, true, false, if◌then◌else◌, nat_lt, subst, inl, inr, Bool}
 use Rattle.std.specs.Option.{option_map}
 use Rattle.std.proofs.lemmas.Bool.{cases_lt, le-ltb, lt-ltb}
@@ -82,7 +82,7 @@ branches_cut (suc c) zero (suc i) (Role.EndIf ∷ rs) = ap (option_map longer) (
 branches_cut (suc c) (suc b) i (Role.EndIf ∷ rs) = ap (option_map longer) (branches_cut c (suc b) i rs) ∙ longer_cut c (branch_lengths (suc b) i rs)
 branches_cut (suc c) b i (Role.Other ∷ rs) = ap (option_map longer) (branches_cut c b i rs) ∙ longer_cut c (branch_lengths b i rs)
 
--- a line of a text stands before its end
+-- The ENDIF of an IF that is closed is one of the lines.
 pub within : (rs : List Role) (l : Lengths) → branch_lengths 0 0 rs ≡ Some l → if_length l < length rs
 within rs l e =
     let all : ◌≡◌ {A = Option Lengths} (Some l) (cut_branches (length rs) (Some l)) = subst (λ x. x ≡ cut_branches (length rs) x) e (ap (branch_lengths 0 0) (sym (take-length rs)) ∙ branches_cut (length rs) 0 0 rs) in

@@ -1,4 +1,4 @@
--- The ends of the blocks that begin before a line, by those behind it.
+-- The ends for a line, found from those for the lines after it.
 use Rattle.std.proofs.Common.{◌≡◌, ◌<◌, ◌≤◌, ◌+◌, ◌-◌, ◌∙◌, sym, ap, refl, ℕ, zero, suc, List, [], ◌∷◌, Option, Some, None, drop, length, get_or, arith, if◌then◌else◌, nat_lt, drop_of_length-le, length-drop, set, subst}
 use Rattle.std.specs.Option.{option_map}
 use Rattle.std.proofs.lemmas.Bool.{le-ltb, lt-ltb}
@@ -53,13 +53,13 @@ role_drop zero n rs = let e : n ≡ 0 + n = omega arith in ap (λ j. drop j rs) 
 role_drop (suc a) n [] = no_role n ∙ sym (no_role (suc a + n))
 role_drop (suc a) n (r ∷ rs) = let e : suc (a + n) ≡ suc a + n = omega arith in role_drop a n rs ∙ ap (λ j. drop j (r ∷ rs)) e
 
--- those behind a line that is not before some other
+-- the ends for the line after one that is not before line `at`
 known : (rs : List Role) (es : List Ends) (at line : ℕ) → length es ≡ length rs → AreEnds rs es (at + 1) → at ≤ line → behind es line ≡ ends_of (length rs) (line + 1) (drop (line + 1) rs)
 known rs es at line same are h =
     let e : (at + 1) + (line - at) ≡ line + 1 = omega (arith, h) in
     ap (λ n. get_or es (line + 1) (no_ends n)) same ∙ ap (λ k. get_or es k (no_ends (length rs))) (sym e) ∙ are (line - at) ∙ ap (λ k. ends_of (length rs) k (drop k rs)) e
 
--- those behind the end of a block that begins behind a line, if it has one
+-- the ends for the line after the end of a block that begins after line `at`, if it has an end
 beyond : (rs : List Role) (es : List Ends) (at : ℕ) (o : Option ℕ) → length es ≡ length rs → AreEnds rs es (at + 1) → at < length rs
     → behind es (reached (length rs) (at + 1) o)
     ≡ ends_at (length rs) (at + 1) (body_behind o (drop (at + 1) rs)) (branches_behind 0 o (drop (at + 1) rs))
@@ -73,7 +73,7 @@ beyond rs es at (Some n) same are h =
     ∙ ap (ends_of (length rs) ((at + 1) + suc n)) (sym (role_drop (at + 1) (suc n) rs))
     ∙ sym (ends_further (length rs) (at + 1) (suc n) (body_length 0 (drop (suc n) (drop (at + 1) rs))) (branch_lengths 0 0 (drop (suc n) (drop (at + 1) rs))))
 
--- an ELSE ends a branch where its block is closed
+-- An ELSE ends a branch only if an ENDIF closes the IF.
 else_is : (len at : ℕ) (here : Ends) (rs : List Role) (l : Option Lengths) → branch_lengths 0 0 rs ≡ l → here ≡ ends_at len (at + 1) (body_length 0 rs) l → length rs + (at + 1) ≡ len
     → (if nat_lt here.last len then record here { next = at } else here) ≡ ends_at len at (option_map suc (body_length 0 rs)) (option_map divided l)
 else_is len at here rs None is e n =
@@ -124,13 +124,13 @@ turned rs es at Role.Other same are h =
     let rest = drop (at + 1) rs in
     known rs es at at same are (omega arith) ∙ sym (ends_suc (length rs) at (body_length 0 rest) (branch_lengths 0 0 rest))
 
--- nothing ends behind the last line
+-- No block ends after the last line.
 pub none_linked : (rs : List Role) (es : List Ends) (at : ℕ) → length es ≡ length rs → at ≡ length rs → AreEnds rs es at
 none_linked rs es at same end = λ k.
     let past : length rs ≤ at + k = omega (arith, end) in
     get_or_past es (at + k) (no_ends (length rs)) (omega (arith, same, past)) ∙ ap (ends_of (length rs) (at + k)) (sym (drop_of_length-le rs past))
 
--- one line more is known
+-- the ends for one line more are known
 pub more_linked : (rs : List Role) (es : List Ends) (at : ℕ) (role : Role) (here : Ends) → length es ≡ length rs → AreEnds rs es (at + 1) → at < length rs → role ≡ get_or rs at role → here ≡ turn role at es
     → AreEnds rs (set es at here) at
 more_linked rs es at role here same are h is turn zero =
@@ -144,7 +144,7 @@ more_linked rs es at role here same are h is turn (suc k) =
     get_or-set_other es at (at + suc k) here (no_ends (length rs)) (λ same. omega (arith, same))
     ∙ subst (λ j. get_or es j (no_ends (length rs)) ≡ ends_of (length rs) j (drop j rs)) e (are k)
 
--- the ends of a text that is whole
+-- the ends for each line, once all are known
 pub found_at : (rs now : List Role) (es : List Ends) (k : ℕ) → rs ≡ now → AreEnds rs es 0 → get_or es k (no_ends (length rs)) ≡ ends_of (length now) k (drop k now)
 found_at rs now es k is are =
     let none : 0 + k ≡ k = omega arith in

@@ -1,26 +1,26 @@
--- What stands within a block is passed over.
+-- A body or IF within a block is passed over as a whole.
 use Rattle.std.proofs.Common.{◌≡◌, ◌+◌, ◌∙◌, sym, ap, refl, ℕ, zero, suc, List, [], ◌∷◌, Option, Some, None, drop, arith}
 use Rattle.std.specs.Option.{option_map}
 use Rattle.asm_text.specs.declared.matching.Role.{Role}
 use Rattle.asm_text.specs.Nesting.Blocks.{Lengths, body_length, branch_lengths, divided, longer}
 use Rattle.asm_text.specs.Private.Nesting.{if_length}
 
--- so many lines more stand before it
+-- a count of lines, with n lines more
 abbrev pub further : ℕ → Option ℕ → Option ℕ
 further n None = None
 further n (Some m) = Some (n + m)
 
--- so many lines more stand in the first branch
+-- the first branch has n lines more
 abbrev pub lengthened : ℕ → Option Lengths → Option Lengths
 lengthened n None = None
 lengthened n (Some l) = Some (n + l.0, l.1)
 
--- the end of a body, behind so many lines and the one that ends them
+-- how many lines a body has after n lines, and the line that ends them, are passed over
 abbrev pub body_behind : Option ℕ → List Role → Option ℕ
 body_behind None roles = None
 body_behind (Some n) roles = further (suc n) (body_length 0 (drop (suc n) roles))
 
--- the branches, behind so many lines and the one that ends them
+-- the branches of an IF after n lines of the first, and the line that ends them, are passed over
 abbrev pub branches_behind : ℕ → Option ℕ → List Role → Option Lengths
 branches_behind ifs None roles = None
 branches_behind ifs (Some n) roles = lengthened (suc n) (branch_lengths 0 ifs (drop (suc n) roles))
@@ -45,7 +45,7 @@ body_step : (role : Role) (o : Option ℕ) (rs : List Role) → option_map suc (
 body_step role None rs = refl
 body_step role (Some n) rs = further_suc (suc n) (body_length 0 (drop (suc n) rs))
 
--- a body within another ends before that
+-- A body within another ends first.
 pub body_over : (j : ℕ) (rs : List Role) → body_length (suc j) rs ≡ body_behind (body_length j rs) rs
 body_over j [] = refl
 body_over j (Role.OpensBody ∷ rs) = ap (option_map suc) (body_over (suc j) rs) ∙ body_step Role.OpensBody (body_length (suc j) rs) rs
@@ -60,7 +60,7 @@ branches_step : (role : Role) (ifs : ℕ) (o : Option ℕ) (rs : List Role) → 
 branches_step role ifs None rs = refl
 branches_step role ifs (Some n) rs = lengthened_suc (suc n) (branch_lengths 0 ifs (drop (suc n) rs))
 
--- a body within a branch is passed over
+-- A body within a branch is passed over.
 pub over_body : (j i : ℕ) (rs : List Role) → branch_lengths (suc j) i rs ≡ branches_behind i (body_length j rs) rs
 over_body j i [] = refl
 over_body j i (Role.OpensBody ∷ rs) = ap (option_map longer) (over_body (suc j) i rs) ∙ branches_step Role.OpensBody i (body_length (suc j) rs) rs
@@ -84,7 +84,7 @@ if_step : (role : Role) (l x : Option Lengths) (rs : List Role) → x ≡ branch
 if_step role l x rs e =
     ap (option_map longer) e ∙ branches_step role 0 (option_map if_length l) rs ∙ ap (λ o. branches_behind 0 o (role ∷ rs)) (sym (if_longer l))
 
--- a condition within a branch is passed over
+-- An IF within a branch is passed over.
 pub over_if : (b i : ℕ) (rs : List Role) → branch_lengths b (suc i) rs ≡ branches_behind 0 (option_map if_length (branch_lengths b i rs)) rs
 over_if b i [] = refl
 over_if b i (Role.OpensBody ∷ rs) = if_step Role.OpensBody (branch_lengths (suc b) i rs) (branch_lengths (suc b) (suc i) rs) rs (over_if (suc b) i rs)

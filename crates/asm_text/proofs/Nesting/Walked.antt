@@ -1,4 +1,4 @@
--- Blocks that are looked up.
+-- Looking up the end of a body and the branches of an IF.
 use Rattle.std.proofs.Common.{◌≡◌, ◌<◌, ◌≤◌, ◌+◌, ◌-◌, ◌∙◌, sym, ap, refl, subst, ℕ, zero, suc, List, [], ◌∷◌, ◌++◌, Option, Some, None, drop, length, arith, if◌then◌else◌, length-drop, append_assoc, append-nil, map, sum, fold}
 use Rattle.std.specs.Option.{option_map}
 use Rattle.std.proofs.lemmas.Bool.{le-ltb, lt-ltb}
@@ -41,7 +41,7 @@ body_lost rs from to e is h =
     body_out (length rs) from to (body_length 0 (drop from rs)) (body_past rs from to (body_length 0 (drop from rs)) refl (subst (λ (e : Ends). e.body < length rs → to ≤ e.body) is h))
     ∙ sym (body_cut (to - from) 0 (drop from rs))
 
--- What follows the first branch are the others.
+-- The lines after the ELSE that ends the first branch begin the other branches.
 abbrev pub Goes_on : Option Lengths → List Role → Type 0
 Goes_on (Some (n, m ∷ more)) roles = branch_lengths 0 0 (drop (suc n) roles) ≡ Some (m, more)
 Goes_on _ roles = Unit {0}
@@ -70,7 +70,7 @@ goes_on zero (suc i) (Role.EndIf ∷ rs) = on_longer Role.EndIf (branch_lengths 
 goes_on (suc b) i (Role.EndIf ∷ rs) = on_longer Role.EndIf (branch_lengths (suc b) i rs) rs (goes_on (suc b) i rs)
 goes_on b i (Role.Other ∷ rs) = on_longer Role.Other (branch_lengths b i rs) rs (goes_on b i rs)
 
--- The branches behind a line are these, the last of which ends at some line.
+-- The branches after the ELSE in line `at` have these lengths.
 abbrev pub Follow : List Role → ℕ → List ℕ → Type 0
 Follow rs at [] = Unit {0}
 Follow rs at (m ∷ more) = branch_lengths 0 0 (drop (at + 1) rs) ≡ Some (m, more)
@@ -88,7 +88,7 @@ follows rs from n (m ∷ more) is =
     let e : from + suc n ≡ from + n + 1 = omega arith in
     ap (branch_lengths 0 0) (sym (role_drop from (suc n) rs ∙ ap (λ k. drop k rs) e)) ∙ subst (λ l. Goes_on l (drop from rs)) is (goes_on 0 0 (drop from rs))
 
--- the ends of an IF that is closed
+-- the ends of the branches of an IF that an ENDIF closes
 pub walk : (rs : List Role) (from last next : ℕ) (o : Option Lengths) → branch_lengths 0 0 (drop from rs) ≡ o → next ≡ reached (length rs) from (option_map (λ l. l.0) o) → last ≡ reached (length rs) from (option_map if_length o)
     → last < length rs → (l : Lengths) × (o ≡ Some l) × (next ≡ from + l.0) × (last ≡ from + if_length l) × Walking rs next last [] l.1
 walk rs from last next None is n e h = absurd (omega (arith, e, h))

@@ -1,7 +1,7 @@
 -- The branches of an IF, one after the other.
 use Rattle.std.proofs.Common.{◌≡◌, ◌<◌, ◌≤◌, ◌+◌, ◌∙◌, sym, ap, refl, ℕ, zero, suc, List, [], ◌∷◌, ◌++◌, Option, map, drop, arith, append_assoc, append-nil, sum, fold, length, length-drop}
 use Rattle.asm_text.specs.Nesting.Blocks.{Lengths}
-use Rattle.asm_replace.specs.Replaced.{Table}
+use Rattle.asm_replace.specs.Replaced.{ReplacementTable}
 use Rattle.asm_text.specs.declared.span.Span.{Span}
 use Rattle.asm_text.specs.Lines.{Numbered}
 use Rattle.asm_text.specs.Sections.Blocks.{Section, Branches, section, sections_of, branches_of_lengths}
@@ -9,7 +9,7 @@ use Rattle.asm_text.specs.Sections.Sections.{behind_of, front_of, section_of}
 use Rattle.asm_text.specs.Spans.{text_of}
 use Rattle.asm_text.proofs.Sections.Texts.{behind_is, section_is}
 
--- some are found, and those that are left have these lengths in what follows
+-- the branches found so far, and after them those that are left, which have these lengths in `rest`
 abbrev pub with_left : Section → List Section → List Numbered → List ℕ → Branches
 with_left first others rest lengths = record { first = first; others = others ++ sections_of lengths rest; after = drop (sum (map (λ n. n + 1) lengths)) rest }
 
@@ -42,12 +42,12 @@ one_more first others rest n ns =
     ∙ ap (λ x. record { first = first; others = x; after = drop ((n + 1) + sum (map (λ n. n + 1) ns)) rest }) (sym all)
     ∙ ap (λ x. record { first = first; others = (others ++ section n rest ∷ []) ++ sections_of ns (drop (n + 1) rest); after = x }) (sym after)
 
--- The branches before some place are found, and those that are left stand in the text behind it.
-pub record Reached (texts : List (List ℕ)) (names : Option Table) (span : Span) (lengths : Lengths) (rest : Span) (left : List ℕ) (first : Section) (others : List Section) : Type 0 where
+-- The branches before some line are found, and those that are left are in the span `rest` after that line.
+pub record Reached (texts : List (List ℕ)) (names : Option ReplacementTable) (span : Span) (lengths : Lengths) (rest : Span) (left : List ℕ) (first : Section) (others : List Section) : Type 0 where
   pub all : branches_of_lengths (text_of texts names span) lengths ≡ with_left first others (text_of texts names rest) left
   pub fits : sum (map (λ n. n + 1) left) ≤ length (text_of texts names rest)
 
-pub start : (texts : List (List ℕ)) (names : Option Table) (span : Span) (lengths : Lengths) → lengths.0 + sum (map (λ n. n + 1) lengths.1) < length (text_of texts names span)
+pub start : (texts : List (List ℕ)) (names : Option ReplacementTable) (span : Span) (lengths : Lengths) → lengths.0 + sum (map (λ n. n + 1) lengths.1) < length (text_of texts names span)
     → Reached texts names span lengths (behind_of span lengths.0) lengths.1 (section_of texts names (front_of span lengths.0)) []
 start texts names span lengths h =
     let lines = text_of texts names span in
@@ -59,11 +59,11 @@ start texts names span lengths h =
       fits = omega (arith, h, ap length behind, length-drop (lengths.0 + 1) lines);
     }
 
--- the next branch stands in the text
+-- The next branch fits in the lines that are left.
 pub left_fits : (left : List ℕ) (n : ℕ) (more : List ℕ) (len : ℕ) → left ≡ n ∷ more → sum (map (λ n. n + 1) left) ≤ len → n + 1 + sum (map (λ n. n + 1) more) ≤ len
 left_fits left n more len is h = omega (arith, h, ap (λ ns. sum (map (λ n. n + 1) ns)) is, sum-cons (n + 1) (map (λ n. n + 1) more))
 
-pub step : (texts : List (List ℕ)) (names : Option Table) (span rest : Span) (lengths : Lengths) (left : List ℕ) (n : ℕ) (more : List ℕ) (first : Section) (others now : List Section)
+pub step : (texts : List (List ℕ)) (names : Option ReplacementTable) (span rest : Span) (lengths : Lengths) (left : List ℕ) (n : ℕ) (more : List ℕ) (first : Section) (others now : List Section)
     → Reached texts names span lengths rest left first others → left ≡ n ∷ more → now ≡ others ++ section_of texts names (front_of rest n) ∷ []
     → Reached texts names span lengths (behind_of rest n) more first now
 step texts names span rest lengths left n more first others now reached is e =
@@ -79,7 +79,7 @@ step texts names span rest lengths left n more first others now reached is e =
       fits = omega (arith, fits, ap length behind, length-drop (n + 1) lines);
     }
 
-pub reached_all : (texts : List (List ℕ)) (names : Option Table) (span rest : Span) (lengths : Lengths) (left : List ℕ) (first : Section) (others : List Section)
+pub reached_all : (texts : List (List ℕ)) (names : Option ReplacementTable) (span rest : Span) (lengths : Lengths) (left : List ℕ) (first : Section) (others : List Section)
     → Reached texts names span lengths rest left first others → left ≡ [] → branches_of_lengths (text_of texts names span) lengths ≡ record { first = first; others = others; after = text_of texts names rest }
 reached_all texts names span rest lengths left first others reached is =
     reached.all ∙ ap (with_left first others (text_of texts names rest)) is ∙ ap (λ xs. record { first = first; others = xs; after = text_of texts names rest }) (append-nil others)

@@ -1,4 +1,4 @@
--- The branches that the code answers as those of the definitions.
+-- The lengths of branches that the code answers, in the terms of the definitions.
 use Rattle.asm_text.specs.declared.links.Branches.{Branches}
 use Rattle.asm_text.specs.Nesting.Blocks.{Lengths}
 

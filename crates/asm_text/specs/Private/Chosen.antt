@@ -1,4 +1,4 @@
--- Which of two books has a text.
+-- The book that has the lines of a span: that of the source, or that of the call.
 use Rattle.std.specs.Prelude.{◌≡◌, ◌-◌, Bool, true, false, List}
 use Rattle.asm_text.specs.declared.matching.Role.{Role}
 use Rattle.asm_text.specs.Nesting.Blocks.{between}
@@ -9,6 +9,6 @@ abbrev pub opened : Bool → Book → Book → Book
 opened true source book = source
 opened false source book = book
 
--- What the lines of a span are to blocks stands in the book.
+-- The book has these roles for the lines of the span.
 abbrev pub Has : List Role → Span → Book → Type 0
 Has roles s b = between (s.at - b.at) (s.end - b.at) b.links ≡ roles

@@ -18,7 +18,7 @@ arity (Item.Leaf l) = 0
 arity (Item.Unary op) = 1
 arity (Item.Binary op) = 2
 
--- The first numbers of a stack are the values of expressions, of which the last comes first.
+-- The first `len` numbers of the stack are the values of these expressions; the last expression is first in the list.
 abbrev pub Stacked : (ℕ → ℕ) → List (Expression Atom) → List ℕ → ℕ → Type 0
 Stacked places [] stack len = len ≡ 0
 Stacked places (e ∷ before) stack len = (below : ℕ) × (len ≡ below + 1) × (slice_index stack below ≡ value places e) × Stacked places before stack below

@@ -1,4 +1,4 @@
--- What the code keeps of the statements that stand before a place.
+-- What the code keeps about the statements before an address.
 use Rattle.std.specs.Prelude.{◌≡◌, ℕ, ◌+◌, ◌-◌, ◌%◌, ◌==◌, List, Some, if◌then◌else◌, map, take, slice_get}
 use Rattle.std.specs.List.{count_by, sum_by}
 use Rattle.asm_value.specs.declared.statement.Statement.{Statement}
@@ -6,10 +6,10 @@ use Rattle.asm_value.specs.declared.worth.Worth.{Worth}
 use Rattle.asm_value.specs.declared.layout.Before.{Before}
 use Rattle.asm_value.specs.declared.layout.Passed.{Passed}
 use Rattle.asm_value.specs.Arithmetic.{modulus}
-use Rattle.asm_value.specs.Distances.{is_relaxable, is_unsized, bytes_of}
+use Rattle.asm_value.specs.Distances.{is_relaxable, is_unsized, statement_bytes}
 
 pub record IsBefore (statements : List Statement) (before : Before) : Type 0 where
-  pub bytes : before.bytes ≡ sum_by bytes_of statements % modulus
+  pub bytes : before.bytes ≡ sum_by statement_bytes statements % modulus
   pub relaxable : before.relaxable ≡ count_by is_relaxable statements
   pub unknown : before.unknown ≡ count_by is_unsized statements
 

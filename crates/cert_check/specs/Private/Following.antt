@@ -7,18 +7,18 @@ use Rattle.certificate.specs.declared.cert.Verdict.{Verdict}
 use Rattle.certificate.specs.declared.cert.Verdict.TheVariants.{Best, Range, TooLarge}
 use Rattle.certificate.specs.Choice.{Choice, chosen, IsShape, IsAnyJump, Fits, size_at, total}
 use Rattle.certificate.specs.Forcing.{after, IsForcing}
-use Rattle.certificate.specs.Accepts.{IsOutOfRange, Shows}
+use Rattle.certificate.specs.Accepts.{IsOutOfRange, IsVerdictOf}
 use Rattle.cert_check.specs.Types.{CheckFault}
 use Rattle.cert_check.specs.declared.fault.CheckFault.TheVariants.{NotForced, NotAJump, Repeated, StillShort, WrongTotal, NotOutOfRange, NoMemory}
 use Rattle.cert_check.specs.Faults.{IsStillShort, HasTotal}
 
--- What is found on the way along an order.
+-- What is found while an order is followed.
 
--- what a statement may take
+-- a size that a statement may have
 abbrev pub IsSize : ℕ → Type 0
 IsSize bytes = (1 ≤ bytes) × (bytes ≤ MOST_BYTES)
 
--- a flag for each statement of a shape, and how many bytes each takes by them
+-- a flag for each statement of a shape, and how many bytes each statement takes with these flags
 pub record IsLayout (shape : List Statement) (long : List Bool) (sizes : List ℕ) : Type 0 where
   pub is_shape : IsShape shape
   pub len : length long ≡ length shape
@@ -26,13 +26,13 @@ pub record IsLayout (shape : List Statement) (long : List Bool) (sizes : List �
   pub each : (k : ℕ) → slice_index_or sizes k 0 ≡ size_at (chosen long) shape k
   pub bytes : All IsSize sizes
 
--- flags that say what an order does
+-- the order is forcing, and the flags are the choice after it
 pub record Follows (shape : List Statement) (order : List ℕ) (long : List Bool) : Type 0 where
   pub forcing : IsForcing shape order
   pub len : length long ≡ length shape
   pub flags : (k : ℕ) → chosen long k ≡ after order k
 
--- the members before number i force one another, and this is so of number i
+-- the members before number i are a forcing order, and IsSo holds of number i
 pub record FailsAt (IsSo : List ℕ → ℕ → Type 0) (shape : List Statement) (order : List ℕ) (line : ℕ) : Type 0 where
   pub index : ℕ
   pub within : index < length order
@@ -40,7 +40,7 @@ pub record FailsAt (IsSo : List ℕ → ℕ → Type 0) (shape : List Statement)
   pub forcing : IsForcing shape (take index order)
   pub wrong : IsSo (take index order) (slice_index order index)
 
--- an order gone along: its flags, or the first line that is wrong
+-- the result of following an order: its flags, or the first line that is wrong
 abbrev pub IsFollowed : List Statement → List ℕ → Result (Vec Bool Global) CheckFault → Type 0
 IsFollowed shape order (Ok long) = Follows shape order long.items
 IsFollowed shape order (Err (NotAJump line)) = FailsAt (λ before k. ¬ IsAnyJump shape k) shape order line
@@ -54,15 +54,15 @@ abbrev pub IsFirstMiss : Choice → List Statement → Option ℕ → Type 0
 IsFirstMiss c shape (Some k) = IsStillShort c shape k × (k < length shape) × ((j : ℕ) → j < k → ¬ IsStillShort c shape j)
 IsFirstMiss c shape None = (j : ℕ) → ¬ IsStillShort c shape j
 
--- a total compared with a verdict's
+-- a total is compared with that of a verdict
 abbrev pub IsTotalChecked : ℕ → Verdict → Result (Unit {0}) CheckFault → Type 0
 IsTotalChecked bytes verdict (Ok _) = HasTotal bytes verdict
 IsTotalChecked bytes verdict (Err WrongTotal) = ¬ HasTotal bytes verdict
 IsTotalChecked bytes verdict (Err fault) = ⊥
 
--- a verdict judged in one choice
+-- a verdict is judged in one choice
 abbrev pub IsJudged : Choice → List Statement → Verdict → Result (Unit {0}) CheckFault → Type 0
-IsJudged c shape verdict (Ok _) = Shows c shape verdict
+IsJudged c shape verdict (Ok _) = IsVerdictOf c shape verdict
 IsJudged c shape (Best n) (Err (StillShort k)) = IsFirstMiss c shape (Some k)
 IsJudged c shape (Best n) (Err WrongTotal) = IsFirstMiss c shape None × ¬ HasTotal (total c shape) (Best n)
 IsJudged c shape (Range k) (Err (NotOutOfRange j)) = (j ≡ k) × ¬ IsOutOfRange c shape k

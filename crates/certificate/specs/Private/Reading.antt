@@ -9,12 +9,12 @@ use Rattle.certificate.specs.declared.cert.CertLine.{CertLine}
 use Rattle.certificate.specs.declared.cert.CertLine.TheVariants.{Forced, Last}
 use Rattle.certificate.specs.declared.fault.TextFault.TheVariants.{BadLine, NoMemory}
 use Rattle.certificate.specs.Choice.{IsStatement}
-use Rattle.certificate.specs.Lines.{line_feed, text_of, BreaksAt}
+use Rattle.certificate.specs.Lines.{line_feed, lines_text, BreaksAt}
 use Rattle.certificate.specs.Texts.{statement_line, forced_line, verdict_line, verdict_number, sizes_header, sizes_lines, IsForcedLine, IsVerdictLine, IsJumpLine, IsStatementLine, AreSizesLines}
 
 -- What is read line by line.
 
--- no line feed is in it
+-- it contains no line feed
 abbrev pub IsPlain : List ℕ → Type 0
 IsPlain line = AllByRecursion (λ b. (b == line_feed) ≡ false) line
 
@@ -25,27 +25,27 @@ is_number digits =
     else if slice_index digits 0 == 0x30 then length digits == 1
     else list_all is_ascii_digit digits
 
--- a line read as a word and a number below 4,294,967,296
+-- what a line is read as if it is this word and a number below 4,294,967,296
 abbrev pub IsNumbered : List ℕ → List ℕ → Option ℕ → Type 0
 IsNumbered word line (Some n) = (n < 2 ^ 32) × (line ≡ word ++ decimal n)
 IsNumbered word line None = (n : ℕ) → n < 2 ^ 32 → line ≢ word ++ decimal n
 
--- a line of a certificate but for its first
+-- what a line of a certificate after the header is read as
 abbrev pub IsCertLine : List ℕ → Option CertLine → Type 0
 IsCertLine line (Some (Forced k)) = (k < 2 ^ 32) × (line ≡ forced_line k)
 IsCertLine line (Some (Last verdict)) = (verdict_number verdict < 2 ^ 32) × (line ≡ verdict_line verdict)
 IsCertLine line None = ¬ IsForcedLine line × ¬ IsVerdictLine line
 
--- a target read as a number, or as the greatest that there is room for
+-- a target is read as its number, or as 4,294,967,295 if it is greater
 abbrev pub IsCapped : ℕ → ℕ → Type 0
 IsCapped target t = (t ≡ target) ⊎ ((t ≡ 2 ^ 32 - 1) × (2 ^ 32 - 1 ≤ target))
 
--- a line read as a jump's by its word
+-- what a line is read as if it is a jump with this word
 abbrev pub IsTarget : List ℕ → List ℕ → Option ℕ → Type 0
 IsTarget word line (Some t) = (target : ℕ) × IsJumpLine word line target × IsCapped target t
 IsTarget word line None = (target : ℕ) → ¬ IsJumpLine word line target
 
--- a line read as a statement's
+-- what a line is read as if it is a statement
 abbrev pub IsRead : List ℕ → Statement → Type 0
 IsRead line (Fixed n) = (1 ≤ n) × (n ≤ MOST_BYTES) × (line ≡ statement_line (Fixed n))
 IsRead line (Jump t) = IsTarget (codes "J ") line (Some t)
@@ -55,27 +55,27 @@ abbrev pub IsStatementRead : List ℕ → Option Statement → Type 0
 IsStatementRead line (Some s) = IsRead line s
 IsStatementRead line None = ¬ IsStatementLine line
 
--- lines read as statements
+-- what lines are read as if they are statements
 abbrev pub AreRead : List (List ℕ) → List Statement → Type 0
 AreRead [] [] = Unit {0}
 AreRead [] (_ ∷ _) = ⊥
 AreRead (_ ∷ _) [] = ⊥
 AreRead (line ∷ lines) (s ∷ statements) = IsRead line s × AreRead lines statements
 
--- a sizes text read but for how great its targets may be
+-- a sizes file is read, without looking yet at whether its targets exist
 abbrev pub AreLinesRead : List ℕ → Result (Vec Statement Global) TextFault → Type 0
-AreLinesRead text (Ok found) = (lines : List (List ℕ)) × AreRead lines found.items × (length found.items ≤ MOST_STATEMENTS) × (text ≡ text_of (sizes_lines lines))
+AreLinesRead text (Ok found) = (lines : List (List ℕ)) × AreRead lines found.items × (length found.items ≤ MOST_STATEMENTS) × (text ≡ lines_text (sizes_lines lines))
 AreLinesRead text (Err (BadLine n)) = BreaksAt AreSizesLines text n
 AreLinesRead text (Err NoMemory) = Unit {0}
 
--- what has been read of a sizes text, line by line, and what is left
+-- what has been read of a sizes file, line by line, and what is left
 pub record ReadsSoFar (text rest : List ℕ) (statements : List Statement) : Type 0 where
   pub lines : List (List ℕ)
-  pub text_is : text ≡ text_of (sizes_header ∷ lines) ++ rest
+  pub text_is : text ≡ lines_text (sizes_header ∷ lines) ++ rest
   pub read : AreRead lines statements
   pub few : length statements ≤ MOST_STATEMENTS
 
--- the lowest of some statements that may not stand among so many
+-- the lowest statement whose target does not exist, or whose size is out of range
 abbrev pub IsFirstFar : List Statement → Option ℕ → Type 0
 IsFirstFar statements (Some k) =
     (s : Statement) × (slice_get statements k ≡ Some s) × ¬ IsStatement (length statements) s

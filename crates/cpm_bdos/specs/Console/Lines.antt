@@ -1,4 +1,4 @@
--- Reading a line to memory: 10. (CP/M 2.2 Interface Guide, read console buffer.)
+-- Function 10 reads a line to memory. (CP/M 2.2 Interface Guide, read console buffer.)
 use Rattle.std.specs.Prelude.{◌≡◌, ◌+◌, ℕ, List, [], ◌∷◌, length, Result, Ok, Err}
 use Rattle.cpm_console.specs.Line.{NoInput, Stored, Transcript, WarmBoot}
 use Rattle.cpm_console.specs.Screen.{Does, Screen, Stops}
@@ -8,14 +8,14 @@ use Rattle.cpm_fcb.specs.declared.stop.Stop.TheVariants as stop
 use Rattle.cpm_bdos.specs.declared.console.reply.Reply.{Reply}
 use Rattle.cpm_bdos.specs.declared.console.reply.Reply.TheVariants as reply
 
--- memory with a line behind the byte of its room: the count of its bytes, and the bytes
-abbrev pub with_line : ℕ → List ℕ → List ℕ → List ℕ
-with_line address bytes memory = with_bytes (address + 2) bytes (with_bytes (address + 1) (length bytes ∷ []) memory)
+-- memory after a line is stored in a buffer: after the byte with its room come the number of bytes in the line, and the line
+abbrev pub with_line_stored : ℕ → List ℕ → List ℕ → List ℕ
+with_line_stored address bytes memory = with_bytes (address + 2) bytes (with_bytes (address + 1) (length bytes ∷ []) memory)
 
--- How a call ends during whose line this passes. Memory changes where the line is stored, and else not.
+-- How function 10 ends if these bytes pass during the line. Memory changes only if the line is stored.
 abbrev pub ReadsLine : Transcript → ℕ → Screen → Screen → List ℕ → List ℕ → Result Reply Stop → Type 0
 ReadsLine t address old new before now (Ok (reply.Value value)) =
-    Does old new t.events × (value ≡ 0) × ((bytes : List ℕ) × (t.ending ≡ Stored bytes) × (now ≡ with_line address bytes before))
+    Does old new t.events × (value ≡ 0) × ((bytes : List ℕ) × (t.ending ≡ Stored bytes) × (now ≡ with_line_stored address bytes before))
 ReadsLine t address old new before now (Ok reply.WarmBoot) = Does old new t.events × (t.ending ≡ WarmBoot) × (now ≡ before)
 ReadsLine t address old new before now (Err stop.EndOfInput) = Does old new t.events × (t.ending ≡ NoInput) × (now ≡ before)
 ReadsLine t address old new before now (Err stop.ConsoleFault) = Stops old new t.events × (now ≡ before)

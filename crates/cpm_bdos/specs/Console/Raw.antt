@@ -1,18 +1,18 @@
--- Bytes taken and put as they are, which leaves the column: function 6 of the BDOS and three entries of the BIOS.
+-- Bytes that are taken and put unchanged, with the column as it was: functions 6 and 11, and three entries of the BIOS.
 -- (CP/M 2.2 Interface Guide, direct console I/O; Alteration Guide, CONST, CONIN, CONOUT.)
 use Rattle.std.specs.Prelude.{◌≡◌, ◌==◌, ℕ, Bool, true, false, List, [], ◌∷◌, Result, Ok, Err, ⊤}
-use Rattle.cpm_console.specs.Calls.{Gets, Puts}
+use Rattle.cpm_console.specs.Calls.{Gets, PutsByte}
 use Rattle.cpm_console.specs.Screen.{Screen}
 use Rattle.cpm_console.specs.declared.error.ConsoleError.{ConsoleError}
 use Rattle.cpm_console.specs.declared.error.ConsoleError.TheVariants as console
 use Rattle.cpm_fcb.specs.declared.stop.Stop.{Stop}
 use Rattle.cpm_fcb.specs.declared.stop.Stop.TheVariants as stop
 
-abbrev pub stop_of : ConsoleError → Stop
-stop_of console.EndOfInput = stop.EndOfInput
-stop_of console.ConsoleFault = stop.ConsoleFault
+abbrev pub console_stop : ConsoleError → Stop
+console_stop console.EndOfInput = stop.EndOfInput
+console_stop console.ConsoleFault = stop.ConsoleFault
 
--- FFH where input is left
+-- FFH if input is left, otherwise 0
 abbrev pub readiness : List ℕ → ℕ
 readiness [] = 0
 readiness (byte ∷ input) = 0xFF
@@ -26,21 +26,21 @@ TakesRaw old new (Err _) = ⊥
 
 -- a byte is put, or the console failed
 abbrev pub PutsRaw : Screen → Screen → ℕ → Result ⊤ Stop → Type 0
-PutsRaw old new byte (Ok done) = Puts old.dialog new.dialog byte (Ok tt) × (new.column ≡ old.column)
-PutsRaw old new byte (Err stop.ConsoleFault) = Puts old.dialog new.dialog byte (Err console.ConsoleFault) × (new.column ≡ old.column)
+PutsRaw old new byte (Ok done) = PutsByte old.dialog new.dialog byte (Ok tt) × (new.column ≡ old.column)
+PutsRaw old new byte (Err stop.ConsoleFault) = PutsByte old.dialog new.dialog byte (Err console.ConsoleFault) × (new.column ≡ old.column)
 PutsRaw old new byte (Err _) = ⊥
 
--- the next byte, where there is one, else 0
+-- the next byte if there is one, otherwise 0
 abbrev pub TakesAny : List ℕ → Screen → Screen → Result ℕ Stop → Type 0
 TakesAny [] old new result = (result ≡ Ok 0) × (new ≡ old)
 TakesAny (byte ∷ input) old new result = TakesRaw old new result
 
--- a byte that is put answers 0
+-- a byte is put, and the answer is 0
 abbrev pub PutsDirect : Screen → Screen → ℕ → Result ℕ Stop → Type 0
 PutsDirect old new byte (Ok value) = (value ≡ 0) × PutsRaw old new byte (Ok tt)
 PutsDirect old new byte (Err why) = PutsRaw old new byte (Err why)
 
--- FFH asks for the next byte, any other byte is put
+-- function 6: FFH takes the next byte, and any other byte is put
 abbrev pub Asked : Bool → Screen → Screen → ℕ → Result ℕ Stop → Type 0
 Asked true old new byte result = TakesAny old.dialog.input old new result
 Asked false old new byte result = PutsDirect old new byte result

@@ -1,4 +1,4 @@
--- Opening and closing files: 15, 16. (CP/M 2.2 Interface Guide.)
+-- Functions 15 and 16: open and close files. (CP/M 2.2 Interface Guide.)
 use Rattle.std.specs.Prelude.{◌+◌, ◌*◌, ◌%◌, ℕ, nat_le, List, Option, Some, None, Result, Ok, if◌then◌else◌}
 use Rattle.cpm_directory.specs.declared.rules.TheConstants.{LAST_EXTENT}
 use Rattle.cpm_image.specs.declared.kind.DiskKind.{DiskKind}
@@ -8,38 +8,38 @@ use Rattle.cpm_directory.specs.Letters.{letters}
 use Rattle.cpm_disk.specs.Calls.{Mounted}
 use Rattle.cpm_disk.specs.Image.{Image}
 use Rattle.cpm_fcb.specs.declared.stop.Stop.{Stop}
-use Rattle.cpm_fcb.specs.Stops.{Done, and_then, done}
+use Rattle.cpm_fcb.specs.Stops.{Done, unless_stopped, done}
 use Rattle.cpm_fcb.specs.Fcbs.{drive_judged, extent_of, fcb_at, file_judged, name_of, s2_of}
-use Rattle.cpm_fcb.specs.Files.{extent_found, found, with_entry}
+use Rattle.cpm_fcb.specs.Files.{extent_found, entry_found, with_entry}
 
 -- the number of an entry modulo 4, or FFH
 abbrev pub code_of : Option ℕ → ℕ
 code_of (Some k) = k % 4
 code_of None = 0xFF
 
--- 15 looks for bytes 1 to 12, in which `?` matches anything, and takes S2 as 0
+-- Function 15 searches for bytes 1 to 12 of the file control block, with S2 taken as 0; a `?` in them matches any byte.
 abbrev pub open_pattern : List ℕ → Pattern
 open_pattern fcb = record { name = name_of fcb; extent = extent_of fcb; high = 0 }
 
--- 15: bytes 1 to 31 of the entry go to the FCB
-abbrev pub opened : {S : Type 0} → (S → Image) → Mounted S → ℕ → ℕ → List ℕ → Result Done Stop
-opened sectors disk user address memory =
+-- function 15: bytes 1 to 31 of the entry are copied to the file control block
+abbrev pub open_answer : {S : Type 0} → (S → Image) → Mounted S → ℕ → ℕ → List ℕ → Result Done Stop
+open_answer sectors disk user address memory =
     let fcb = fcb_at address memory in
-    let entry = found sectors disk user (open_pattern fcb) 0 in
-    and_then (drive_judged fcb) (done (code_of entry) (with_entry sectors disk 1 address entry memory))
+    let entry = entry_found sectors disk user (open_pattern fcb) 0 in
+    unless_stopped (drive_judged fcb) (done (code_of entry) (with_entry sectors disk 1 address entry memory))
 
--- the number of an FCB's extent: 32 times the low six bits of S2, which count on a Megabyte disk alone, and EX
-abbrev pub extent_number : DiskKind → List ℕ → ℕ
-extent_number EightInch fcb = extent_of fcb
-extent_number Megabyte fcb = 32 * (s2_of fcb % 64) + extent_of fcb
+-- the number of the extent that a file control block is at: EX and, only on a Megabyte disk, 32 times the low six bits of S2
+abbrev pub fcb_extent_number : DiskKind → List ℕ → ℕ
+fcb_extent_number EightInch fcb = extent_of fcb
+fcb_extent_number Megabyte fcb = 32 * (s2_of fcb % 64) + extent_of fcb
 
--- the entry of an FCB's extent; none has an EX above 31
+-- the directory entry of that extent; there is none for an EX above 31
 abbrev pub extent_entry : {S : Type 0} → (S → Image) → Mounted S → ℕ → List ℕ → Option ℕ
 extent_entry sectors disk user fcb =
-    if nat_le (extent_of fcb) LAST_EXTENT then extent_found sectors disk user (letters (name_of fcb)) (extent_number disk.kind fcb) else None
+    if nat_le (extent_of fcb) LAST_EXTENT then extent_found sectors disk user (letters (name_of fcb)) (fcb_extent_number disk.kind fcb) else None
 
--- 16
+-- function 16
 abbrev pub closed : {S : Type 0} → (S → Image) → Mounted S → ℕ → ℕ → List ℕ → Result ℕ Stop
 closed sectors disk user address memory =
     let fcb = fcb_at address memory in
-    and_then (file_judged fcb) (Ok (code_of (extent_entry sectors disk user fcb)))
+    unless_stopped (file_judged fcb) (Ok (code_of (extent_entry sectors disk user fcb)))

@@ -1,4 +1,4 @@
--- Searching a directory: 17, 18. (CP/M 2.2 Interface Guide.)
+-- Functions 17 and 18: search the directory. (CP/M 2.2 Interface Guide.)
 use Rattle.std.specs.Prelude.{◌≡◌, ◌+◌, ◌*◌, ◌/◌, ◌==◌, ℕ, nat_lt, List, Option, Some, None, option_map, Result, Ok, Err, if◌then◌else◌, ⊤}
 use Rattle.cpm_image.specs.Kind.{entry_count}
 use Rattle.cpm_disk.specs.Calls.{Mounted}
@@ -6,13 +6,13 @@ use Rattle.cpm_disk.specs.Image.{Image}
 use Rattle.cpm_fcb.specs.declared.stop.Stop.{Stop}
 use Rattle.cpm_fcb.specs.Bytes.{with_bytes}
 use Rattle.cpm_fcb.specs.Fcbs.{drive_judged, drive_of, extent_of, fcb_at, name_of, question}
-use Rattle.cpm_fcb.specs.Files.{entry_bytes, found}
+use Rattle.cpm_fcb.specs.Files.{entry_bytes, entry_found}
 use Rattle.cpm_bdos.specs.declared.files.search.Search.{Search}
 use Rattle.cpm_bdos.specs.declared.files.search.Sought.{Sought}
 use Rattle.cpm_bdos.specs.declared.files.search.Sought.TheVariants.{Every, Matching}
 use Rattle.cpm_bdos.specs.Files.Opening.{code_of}
 
--- Where `?` is the drive every entry is sought, free ones too. Else S2 is taken as 0, but an EX of `?` matches every S2 too.
+-- If the drive is `?`, every entry is searched for, even free ones. Otherwise S2 is taken as 0, but an EX of `?` matches every EX and S2.
 abbrev pub sought_judged : List ℕ → Result ⊤ Stop
 sought_judged fcb = if drive_of fcb == question then Ok tt else drive_judged fcb
 
@@ -20,41 +20,41 @@ abbrev pub sought_by : List ℕ → Sought
 sought_by fcb = if drive_of fcb == question then Every
     else Matching (record { name = name_of fcb; extent = extent_of fcb; high = if extent_of fcb == question then question else 0 })
 
--- the first such entry of a user from a number on
+-- the first entry from number `from` on that the search looks for
 abbrev pub next_found : {S : Type 0} → (S → Image) → Mounted S → Sought → ℕ → ℕ → Option ℕ
-next_found sectors disk (Matching pattern) user from = found sectors disk user pattern from
+next_found sectors disk (Matching pattern) user from = entry_found sectors disk user pattern from
 next_found sectors disk Every user from = if nat_lt from (entry_count disk.kind) then Some from else None
 
--- the search that has found it
+-- the search after it has found that entry
 abbrev pub searched : {S : Type 0} → (S → Image) → Mounted S → Sought → ℕ → ℕ → Option Search
 searched sectors disk sought user from = option_map (λ k. record { sought = sought; user = user; found = k }) (next_found sectors disk sought user from)
 
--- 18 goes on behind the last entry found; a search that found none has ended
+-- Function 18 continues after the last entry found. A search that finds none has ended.
 abbrev pub next_search : {S : Type 0} → (S → Image) → Mounted S → Option Search → Option Search
 next_search sectors disk (Some last) = searched sectors disk last.sought last.user (last.found + 1)
 next_search sectors disk None = None
 
--- The four entries of the directory record that holds the entry go to the DMA buffer, one behind the other.
-abbrev pub with_record : {S : Type 0} → (S → Image) → Mounted S → ℕ → ℕ → List ℕ → List ℕ
-with_record sectors disk dma first memory =
+-- The directory record from entry `first` on, which has four entries, is copied to the DMA buffer.
+abbrev pub with_directory_record : {S : Type 0} → (S → Image) → Mounted S → ℕ → ℕ → List ℕ → List ℕ
+with_directory_record sectors disk dma first memory =
     with_bytes (dma + 96) (entry_bytes sectors disk (first + 3))
     (with_bytes (dma + 64) (entry_bytes sectors disk (first + 2))
     (with_bytes (dma + 32) (entry_bytes sectors disk (first + 1))
     (with_bytes dma (entry_bytes sectors disk first) memory)))
 
 abbrev pub with_searched : {S : Type 0} → (S → Image) → Mounted S → ℕ → Option Search → List ℕ → List ℕ
-with_searched sectors disk dma (Some search) memory = with_record sectors disk dma (search.found / 4 * 4) memory
+with_searched sectors disk dma (Some search) memory = with_directory_record sectors disk dma (search.found / 4 * 4) memory
 with_searched sectors disk dma None memory = memory
 
--- the code of the entry that was found, or FFH
-abbrev pub answer_of : Option Search → ℕ
-answer_of (Some search) = code_of (Some search.found)
-answer_of None = code_of None
+-- the number modulo 4 of the entry that was found, or FFH
+abbrev pub search_answer : Option Search → ℕ
+search_answer (Some search) = code_of (Some search.found)
+search_answer None = code_of None
 
--- 17: the search that there is then, what it answers, and the memory; a stop leaves search and memory
+-- function 17: the search after it, its answer, and the memory; a stop leaves search and memory as they were
 abbrev pub SearchesFirst : {S : Type 0} → (S → Image) → Mounted S → ℕ → ℕ → ℕ → Option Search → Option Search → List ℕ → List ℕ → Result ℕ Stop → Type 0
 SearchesFirst sectors disk user dma address old new before now (Ok value) =
     let fcb = fcb_at address before in
-    (sought_judged fcb ≡ Ok tt) × (new ≡ searched sectors disk (sought_by fcb) user 0) × (value ≡ answer_of new) × (now ≡ with_searched sectors disk dma new before)
+    (sought_judged fcb ≡ Ok tt) × (new ≡ searched sectors disk (sought_by fcb) user 0) × (value ≡ search_answer new) × (now ≡ with_searched sectors disk dma new before)
 SearchesFirst sectors disk user dma address old new before now (Err why) =
     (sought_judged (fcb_at address before) ≡ Err why) × (new ≡ old) × (now ≡ before)

@@ -2,7 +2,7 @@
 
 ghost use Rattle.cpm_console.specs.Line.{typed_line};
 ghost use Rattle.cpm_console.specs.Screen.{screen};
-ghost use Rattle.cpm_fcb.specs.Bytes.{byte_at};
+ghost use Rattle.cpm_fcb.specs.Bytes.{memory_byte};
 ghost use Rattle.cpm_bdos.specs.Console.Lines.{ReadsLine};
 
 use crate::console::raw::stop_of;
@@ -11,18 +11,18 @@ use cpm_console::{Console, Terminal};
 use cpm_fcb::{Stop, put_field};
 use z80_cpu::Memory;
 
-/// Reads a line to a buffer in memory, whose first byte is its room: the second becomes the count of the line's bytes, which
-/// follow: function 10. Memory changes at the end alone.
+/// Function 10: reads an edited line to a buffer in memory. The first byte of the buffer says how many bytes it can take. The second
+/// becomes the number of bytes in the line, and the line follows. Memory changes only at the end.
 ///
 /// # Errors
 ///
-/// [`Stop::EndOfInput`] where the input ends before the line, [`Stop::ConsoleFault`].
+/// [`Stop::EndOfInput`] if the input ends before the line, [`Stop::ConsoleFault`].
 pub fn read_line<C: Console>(
     terminal: &mut Terminal<C>,
     memory: &mut Memory,
     address: u16,
 ) -> Result<Reply, Stop>
-    ensures { ReadsLine (typed_line (byte_at address memory.old) (screen C.dialog terminal.old)) address (screen C.dialog terminal.old) (screen C.dialog terminal.new) memory.old memory.new result }
+    ensures { ReadsLine (typed_line (memory_byte address memory.old) (screen C.dialog terminal.old)) address (screen C.dialog terminal.old) (screen C.dialog terminal.new) memory.old memory.new result }
 {
     let mut buffer = [0; 255];
     match terminal

@@ -1,18 +1,18 @@
-//! Bytes as they are: no echo, no tabs, and the column stays.
+//! Takes and puts bytes unchanged: no echo, no tabs, and the column stays.
 
 ghost use Rattle.std.specs.Prelude.{◌≡◌};
 ghost use Rattle.cpm_console.specs.Screen.{screen};
-ghost use Rattle.cpm_bdos.specs.Console.Raw.{Directs, PutsRaw, TakesRaw, readiness, stop_of};
+ghost use Rattle.cpm_bdos.specs.Console.Raw.{Directs, PutsRaw, TakesRaw, readiness, console_stop};
 
 use cpm_console::{Console, ConsoleError, Terminal};
 use cpm_fcb::Stop;
 
-/// What asks the direct call for the next byte.
+/// With this argument, function 6 takes a byte instead of putting one.
 const ANY_INPUT: u8 = 0xFF;
 
-/// The stop of a console's error.
+/// The stop for an error of the console.
 pub(crate) fn stop_of(error: ConsoleError) -> Stop
-    ensures { result ≡ stop_of error }
+    ensures { result ≡ console_stop error }
 {
     match error {
         ConsoleError::EndOfInput => Stop::EndOfInput,
@@ -20,25 +20,25 @@ pub(crate) fn stop_of(error: ConsoleError) -> Stop
     }
 }
 
-/// FFH where input is left, else 0: function 11 and the BIOS's CONST.
+/// Function 11 and the BIOS's CONST: answers FFH if input is left, otherwise 0.
 pub fn is_ready<C: Console>(terminal: &Terminal<C>) -> u8
     ensures { result ≡ readiness (C.dialog terminal.now.console).input }
 {
     if terminal.console.ready() { 0xFF } else { 0 }
 }
 
-/// Takes the next byte of the input: the BIOS's CONIN.
+/// The BIOS's CONIN: takes the next byte of the input.
 ///
 /// # Errors
 ///
-/// [`Stop::EndOfInput`] where no input is left, [`Stop::ConsoleFault`].
+/// [`Stop::EndOfInput`] if no input is left, [`Stop::ConsoleFault`].
 pub fn take_raw<C: Console>(terminal: &mut Terminal<C>) -> Result<u8, Stop>
     ensures { TakesRaw (screen C.dialog terminal.old) (screen C.dialog terminal.new) result }
 {
     terminal.console.get().map_err(stop_of)
 }
 
-/// Puts a byte: the BIOS's CONOUT.
+/// The BIOS's CONOUT: puts a byte.
 ///
 /// # Errors
 ///
@@ -49,7 +49,7 @@ pub fn put_raw<C: Console>(terminal: &mut Terminal<C>, byte: u8) -> Result<(), S
     terminal.console.put(byte).map_err(stop_of)
 }
 
-/// Takes the next byte, or answers 0 where none is left, at FFH; puts any other byte: function 6.
+/// Function 6: for FFH, takes the next byte, or answers 0 if none is left; puts any other byte.
 ///
 /// # Errors
 ///

@@ -1,4 +1,4 @@
-//! Bytes with tabs expanded.
+//! Takes bytes with their echo, and puts bytes with tabs expanded.
 
 ghost use Rattle.std.specs.Prelude.{◌≡◌, slice_index};
 ghost use Rattle.cpm_console.specs.Screen.{screen};
@@ -9,18 +9,18 @@ use cpm_console::{Console, Terminal};
 use cpm_fcb::Stop;
 use z80_cpu::Memory;
 
-/// Whether a byte is echoed when it is taken.
+/// Whether function 1 echoes this byte.
 fn is_echoed(byte: u8) -> bool
     ensures { result ≡ is_echoed byte }
 {
     (0x20 <= byte && byte <= 0x7E) || [b'\r', b'\n', 0x08, b'\t'].contains(&byte)
 }
 
-/// Takes the next byte of the input, and echoes it where it can be seen, or is CR, LF, 08H or a tab: function 1.
+/// Function 1: takes the next byte of the input, and echoes it if it is printable, CR, LF, 08H or a tab.
 ///
 /// # Errors
 ///
-/// [`Stop::EndOfInput`] where no input is left, [`Stop::ConsoleFault`].
+/// [`Stop::EndOfInput`] if no input is left, [`Stop::ConsoleFault`].
 pub fn take<C: Console>(terminal: &mut Terminal<C>) -> Result<u8, Stop>
     ensures { Speaks (screen C.dialog terminal.old) (screen C.dialog terminal.new) (taken_talk (screen C.dialog terminal.old)) result }
 {
@@ -37,7 +37,7 @@ pub fn take<C: Console>(terminal: &mut Terminal<C>) -> Result<u8, Stop>
     }
 }
 
-/// Puts a byte, a tab as blanks: function 2.
+/// Function 2: puts a byte, and for a tab blanks.
 ///
 /// # Errors
 ///
@@ -48,7 +48,7 @@ pub fn put<C: Console>(terminal: &mut Terminal<C>, byte: u8) -> Result<(), Stop>
     terminal.put_char(byte).map_err(stop_of)
 }
 
-/// Puts the bytes from an address on up to a dollar sign, at most 65,536, tabs as blanks: function 9.
+/// Function 9: puts the bytes from an address up to a dollar sign, at most 65,536, with blanks for tabs.
 ///
 /// # Errors
 ///

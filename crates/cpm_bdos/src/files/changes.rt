@@ -3,7 +3,7 @@
 ghost use Rattle.std.specs.Prelude.{◌≡◌, ◌<◌, ℕ, List, Err};
 ghost use Rattle.cpm_directory.specs.declared.entry.TheConstants.{USERS};
 ghost use Rattle.cpm_fcb.specs.Stops.{Ends};
-ghost use Rattle.cpm_bdos.specs.Files.Changes.{Erases, Makes, Renames, erased, made, renamed};
+ghost use Rattle.cpm_bdos.specs.Files.Changes.{ErasesFiles, Makes, RenamesFile, erase_answer, make_answer, rename_answer};
 
 use crate::files::opening::NOT_FOUND;
 use cpm_disk::{Disk, DiskFault, Name, Pattern};
@@ -11,7 +11,7 @@ use cpm_fcb::{Fcb, Stop, put_field, stop_of};
 use cpm_image::Sectors;
 use z80_cpu::Memory;
 
-/// Makes extent 0 of a new file; FCB bytes 12 to 31 become 0: function 22.
+/// Function 22: creates a file with extent 0, and sets bytes 12 to 31 of the file control block to 0.
 ///
 /// # Errors
 ///
@@ -36,7 +36,7 @@ pub fn make<S: Sectors>(
     }
 }
 
-/// Erases the files that match bytes 1 to 11, whatever their extents: function 19.
+/// Function 19: erases the files that match bytes 1 to 11 of the file control block, with all their extents.
 ///
 /// # Errors
 ///
@@ -48,7 +48,7 @@ pub fn erase<S: Sectors>(
     address: u16,
 ) -> Result<u16, Stop>
     requires { user < USERS }
-    ensures { Erases S.sectors S.faults disk.old disk.new user address memory.now result }
+    ensures { ErasesFiles S.sectors S.faults disk.old disk.new user address memory.now result }
 {
     let fcb = Fcb::at(memory, address);
     fcb.judge_drive()?;
@@ -60,7 +60,7 @@ pub fn erase<S: Sectors>(
     erased(disk.erase(user, &pattern))
 }
 
-/// Renames the file of bytes 1 to 11 to bytes 17 to 27: function 23.
+/// Function 23: renames the file with the name in bytes 1 to 11 of the file control block to that in bytes 17 to 27.
 ///
 /// # Errors
 ///
@@ -73,7 +73,7 @@ pub fn rename<S: Sectors>(
     address: u16,
 ) -> Result<u16, Stop>
     requires { user < USERS }
-    ensures { Renames S.sectors S.faults disk.old disk.new user address memory.now result }
+    ensures { RenamesFile S.sectors S.faults disk.old disk.new user address memory.now result }
 {
     let fcb = Fcb::at(memory, address);
     fcb.judge_names()?;
@@ -82,9 +82,9 @@ pub fn rename<S: Sectors>(
     renamed(disk.rename(user, &old, &new))
 }
 
-/// What making a file answers that the disk refuses: FFH where the file is there or the directory is full.
+/// What function 22 answers if the disk refuses: FFH if the file exists or the directory is full; any other fault is a stop.
 fn not_made(fault: DiskFault) -> Result<u16, Stop>
-    ensures { (address : ℕ) (memory : List ℕ) → Ends (made address memory (Err fault)) memory memory result }
+    ensures { (address : ℕ) (memory : List ℕ) → Ends (make_answer address memory (Err fault)) memory memory result }
 {
     match fault {
         DiskFault::Exists | DiskFault::DirectoryFull => Ok(NOT_FOUND),
@@ -92,9 +92,9 @@ fn not_made(fault: DiskFault) -> Result<u16, Stop>
     }
 }
 
-/// What erasing answers: FFH where nothing matches.
+/// What function 19 answers: FFH if no file matches.
 fn erased(reply: Result<u16, DiskFault>) -> Result<u16, Stop>
-    ensures { result ≡ erased reply }
+    ensures { result ≡ erase_answer reply }
 {
     match reply {
         Ok(_) => Ok(0),
@@ -103,9 +103,9 @@ fn erased(reply: Result<u16, DiskFault>) -> Result<u16, Stop>
     }
 }
 
-/// What renaming answers: FFH where the old name is not there or the new one is.
+/// What function 23 answers: FFH if there is no file of the old name, or there is one of the new name.
 fn renamed(reply: Result<(), DiskFault>) -> Result<u16, Stop>
-    ensures { result ≡ renamed reply }
+    ensures { result ≡ rename_answer reply }
 {
     match reply {
         Ok(()) => Ok(0),

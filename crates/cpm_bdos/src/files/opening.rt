@@ -2,7 +2,7 @@
 
 ghost use Rattle.std.specs.Prelude.{◌≡◌};
 ghost use Rattle.cpm_fcb.specs.Stops.{Ends};
-ghost use Rattle.cpm_bdos.specs.Files.Opening.{closed, code_of, extent_entry, extent_number, opened};
+ghost use Rattle.cpm_bdos.specs.Files.Opening.{closed, code_of, extent_entry, fcb_extent_number, open_answer};
 
 use cpm_directory::LAST_EXTENT;
 use cpm_disk::{Disk, DiskKind, Name, Pattern};
@@ -10,10 +10,10 @@ use cpm_fcb::{Fcb, Stop, put_entry};
 use cpm_image::Sectors;
 use z80_cpu::Memory;
 
-/// What a call answers that finds nothing.
+/// The answer of a call that finds nothing.
 pub(crate) const NOT_FOUND: u16 = 0xFF;
 
-/// The answer for an entry: its number modulo 4, or FFH where there is none.
+/// The answer for a directory entry: its number modulo 4, or FFH if there is none.
 pub(crate) fn code_of(entry: Option<u16>) -> u16
     ensures { result ≡ code_of entry }
 {
@@ -23,7 +23,8 @@ pub(crate) fn code_of(entry: Option<u16>) -> u16
     }
 }
 
-/// Opens a file: bytes 1 to 31 of the first entry that matches the FCB's name and EX, with S2 0, go to the FCB: function 15.
+/// Function 15: opens a file. Bytes 1 to 31 of the first directory entry that matches the name and EX of the file control block, with S2
+/// 0, are copied to the file control block.
 ///
 /// # Errors
 ///
@@ -34,7 +35,7 @@ pub fn open<S: Sectors>(
     memory: &mut Memory,
     address: u16,
 ) -> Result<u16, Stop>
-    ensures { Ends (opened S.sectors disk.now user address memory.old) memory.old memory.new result }
+    ensures { Ends (open_answer S.sectors disk.now user address memory.old) memory.old memory.new result }
 {
     let fcb = Fcb::at(memory, address);
     fcb.judge_drive()?;
@@ -48,7 +49,8 @@ pub fn open<S: Sectors>(
     Ok(code_of(found))
 }
 
-/// Closes a file: answers the entry of the FCB's name, EX and, on a Megabyte disk, the low six bits of S2: function 16.
+/// Function 16: closes a file. Answers the directory entry that has the name and EX of the file control block and, on a Megabyte disk,
+/// the low six bits of its S2.
 ///
 /// # Errors
 ///
@@ -66,7 +68,7 @@ pub fn close<S: Sectors>(
     Ok(code_of(extent_entry(disk, user, &fcb)))
 }
 
-/// The entry of the extent that an FCB stands in.
+/// The directory entry of the extent that a file control block is at.
 fn extent_entry<S: Sectors>(disk: &Disk<S>, user: u8, fcb: &Fcb) -> Option<u16>
     ensures { result ≡ extent_entry S.sectors disk.now user fcb.now }
 {
@@ -80,9 +82,9 @@ fn extent_entry<S: Sectors>(disk: &Disk<S>, user: u8, fcb: &Fcb) -> Option<u16>
     )
 }
 
-/// The number of the extent that an FCB stands in. S2 counts on a Megabyte disk alone.
+/// The number of the extent that a file control block is at. S2 counts only on a Megabyte disk.
 fn extent_number(kind: DiskKind, fcb: &Fcb) -> u16
-    ensures { result ≡ extent_number kind fcb.now }
+    ensures { result ≡ fcb_extent_number kind fcb.now }
 {
     let extent = u16::from(fcb.extent());
     match kind {

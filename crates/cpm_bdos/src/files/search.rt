@@ -1,15 +1,15 @@
-//! Searches of a directory.
+//! The state of a search of the directory.
 
 use cpm_disk::Pattern;
 
-/// What a search goes over: the entries of a user that match a pattern, or every entry, free ones too.
+/// What a search looks for: the entries of a user that match a pattern, or every entry, even free ones.
 #[derive(Clone, Copy, Debug, PartialEq, Eq)]
 pub enum Sought {
     Matching(Pattern),
     Every,
 }
 
-/// A search that has found an entry: what is sought, for which user, and the number of the entry: there are 256 at most.
+/// A search that has found an entry: what it looks for, for which user, and the number of the entry. A directory has at most 256 entries.
 #[derive(Clone, Copy, Debug, PartialEq, Eq)]
 pub struct Search {
     pub sought: Sought,
@@ -20,7 +20,7 @@ pub struct Search {
 impl Search {
     ghost use Rattle.std.specs.Prelude.{◌≡◌, ◌+◌};
 
-    /// The number of the entry behind the one that was found.
+    /// The number of the entry after the one that was found.
     pub(crate) fn next(self) -> u16
         ensures { result ≡ self.found + 1 }
     {

@@ -1,8 +1,8 @@
-//! Searching a directory.
+//! Searches the directory.
 
 ghost use Rattle.std.specs.Prelude.{◌≡◌, ◌<◌, ◌+◌, IfSome};
 ghost use Rattle.cpm_image.specs.Kind.{entry_count};
-ghost use Rattle.cpm_bdos.specs.Files.Searching.{SearchesFirst, answer_of, next_found, next_search, searched, sought_by, sought_judged, with_record, with_searched};
+ghost use Rattle.cpm_bdos.specs.Files.Searching.{SearchesFirst, search_answer, next_found, next_search, searched, sought_by, sought_judged, with_directory_record, with_searched};
 
 use crate::files::opening::code_of;
 use crate::files::search::{Search, Sought};
@@ -11,12 +11,12 @@ use cpm_fcb::{Fcb, QUESTION, Stop, put_bytes, put_field};
 use cpm_image::Sectors;
 use z80_cpu::Memory;
 
-/// Searches for the first entry that matches an FCB. The four entries of its directory record go to the DMA buffer: function
-/// 17.
+/// Function 17: searches for the first directory entry that matches a file control block, and copies the four entries of its record to
+/// the DMA buffer.
 ///
 /// # Errors
 ///
-/// [`Stop::UnknownDrive`], [`Stop::BadFcb`] of the drive, of which `?` is one here.
+/// [`Stop::UnknownDrive`], [`Stop::BadFcb`] for the drive; `?` is a good drive here.
 pub fn search_first<S: Sectors>(
     disk: &Disk<S>,
     user: u8,
@@ -34,8 +34,8 @@ pub fn search_first<S: Sectors>(
     Ok(answer_of(*search))
 }
 
-/// Searches for the next entry after the last one found: function 18. It ends where none is left, and then, and where there is
-/// no search, the answer is FFH.
+/// Function 18: searches for the next entry after the last one found. If there is none, the search ends. The answer is FFH then, and also
+/// if there is no search.
 pub fn search_next<S: Sectors>(
     disk: &Disk<S>,
     dma: u16,
@@ -44,7 +44,7 @@ pub fn search_next<S: Sectors>(
 ) -> u16
     ensures next { search.new ≡ next_search S.sectors disk.now search.old }
     ensures buffer { memory.new ≡ with_searched S.sectors disk.now dma search.new memory.old }
-    ensures value { result ≡ answer_of search.new }
+    ensures value { result ≡ search_answer search.new }
 {
     if let Some(last) = *search {
         *search = searched(disk, last.sought, last.user, last.next());
@@ -53,7 +53,7 @@ pub fn search_next<S: Sectors>(
     answer_of(*search)
 }
 
-/// Judges the drive of a search: `?` is one.
+/// Tests the drive of a search; `?` is a good one.
 fn judge_sought(fcb: &Fcb) -> Result<(), Stop>
     ensures { result ≡ sought_judged fcb.now }
 {
@@ -64,7 +64,8 @@ fn judge_sought(fcb: &Fcb) -> Result<(), Stop>
     }
 }
 
-/// What an FCB searches for. S2 is taken as 0, but a `?` as EX matches any.
+/// What a file control block searches for: every entry if its drive is `?`; otherwise the entries with its name and EX. S2 is taken as 0,
+/// but an EX of `?` matches every EX and S2.
 fn sought_by(fcb: &Fcb) -> Sought
     ensures { result ≡ sought_by fcb.now }
 {
@@ -80,7 +81,7 @@ fn sought_by(fcb: &Fcb) -> Sought
     })
 }
 
-/// The search that has found the first entry from a number on, where there is one.
+/// The search after it finds the first entry from number `from` on; `None` if there is none.
 fn searched<S: Sectors>(disk: &Disk<S>, sought: Sought, user: u8, from: u16) -> Option<Search>
     ensures search { result ≡ searched S.sectors disk.now sought user from }
     ensures within { IfSome result (λ s. s.found < entry_count disk.now.kind) }
@@ -95,7 +96,7 @@ fn searched<S: Sectors>(disk: &Disk<S>, sought: Sought, user: u8, from: u16) -> 
     }
 }
 
-/// The first entry from a number on that is sought.
+/// The first entry from number `from` on that the search looks for.
 fn next_found<S: Sectors>(disk: &Disk<S>, sought: &Sought, user: u8, from: u16) -> Option<u16>
     ensures found { result ≡ next_found S.sectors disk.now sought.now user from }
     ensures within { IfSome result (λ k. k < entry_count disk.now.kind) }
@@ -113,7 +114,7 @@ fn next_found<S: Sectors>(disk: &Disk<S>, sought: &Sought, user: u8, from: u16) 
     }
 }
 
-/// Puts the four entries of the directory record that holds the entry that was found to the DMA buffer.
+/// Copies the directory record with the entry that was found, which has four entries, to the DMA buffer.
 fn put_searched<S: Sectors>(disk: &Disk<S>, dma: u16, memory: &mut Memory, search: Option<Search>)
     requires { IfSome search (λ s. s.found < entry_count disk.now.kind) }
     ensures { memory.new ≡ with_searched S.sectors disk.now dma search memory.old }
@@ -123,10 +124,10 @@ fn put_searched<S: Sectors>(disk: &Disk<S>, dma: u16, memory: &mut Memory, searc
     }
 }
 
-/// Puts four entries to the DMA buffer.
+/// Copies four directory entries to the DMA buffer.
 fn put_record<S: Sectors>(disk: &Disk<S>, dma: u16, memory: &mut Memory, first: u16)
     requires { first + 3 < entry_count disk.now.kind }
-    ensures { memory.new ≡ with_record S.sectors disk.now dma first memory.old }
+    ensures { memory.new ≡ with_directory_record S.sectors disk.now dma first memory.old }
 {
     put_bytes(memory, dma, &disk.entry(first));
     put_field(memory, dma, 32, &disk.entry(first + 1));
@@ -134,9 +135,9 @@ fn put_record<S: Sectors>(disk: &Disk<S>, dma: u16, memory: &mut Memory, first: 
     put_field(memory, dma, 96, &disk.entry(first + 3));
 }
 
-/// What a search answers: the code of the entry that it found, or FFH.
+/// What a search answers: the number modulo 4 of the entry that it found, or FFH.
 fn answer_of(search: Option<Search>) -> u16
-    ensures { result ≡ answer_of search }
+    ensures { result ≡ search_answer search }
 {
     match search {
         Some(search) => code_of(Some(u16::from(search.found))),

@@ -1,4 +1,4 @@
-//! What an FCB is told of the entry of its extent.
+//! Copies part of a directory entry to a file control block, as CP/M does after each record.
 
 ghost use Rattle.std.specs.Prelude.{◌≡◌, ◌<◌, ◌/◌};
 ghost use Rattle.cpm_bdos.specs.Records.Entries.{with_extent_entry};
@@ -8,7 +8,7 @@ use cpm_fcb::put_entry;
 use cpm_image::Sectors;
 use z80_cpu::Memory;
 
-/// Puts bytes 15 to 31 of the entry of a record's extent to an FCB.
+/// Copies bytes 15 to 31 of the directory entry of a record's extent to a file control block.
 pub(crate) fn put_extent_entry<S: Sectors>(
     disk: &Disk<S>,
     user: u8,

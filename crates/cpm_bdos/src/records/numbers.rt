@@ -1,9 +1,9 @@
-//! R0 to R2 of an FCB.
+//! Sets R0 to R2 of a file control block.
 
 ghost use Rattle.std.specs.Prelude.{◌≡◌, ◌<◌, ◌^◌};
 ghost use Rattle.cpm_directory.specs.declared.entry.TheConstants.{USERS};
 ghost use Rattle.cpm_fcb.specs.Stops.{Ends};
-ghost use Rattle.cpm_bdos.specs.Records.Numbers.{numbered, sized, with_random};
+ghost use Rattle.cpm_bdos.specs.Records.Numbers.{record_number_stored, size_stored, with_random};
 
 use crate::records::place::Place;
 use cpm_disk::{Disk, DiskKind, Name};
@@ -11,10 +11,10 @@ use cpm_fcb::{Fcb, Stop, put_field};
 use cpm_image::Sectors;
 use z80_cpu::Memory;
 
-/// What is answered where there is no such file.
+/// The answer if there is no such file.
 const NO_FILE: u16 = 0xFF;
 
-/// Sets R0 to R2 to the size of a file: function 35. Where there is none they become 0, and the answer is FFH.
+/// Function 35: sets R0 to R2 to the size of a file. If there is no such file, it sets them to 0 and answers FFH.
 ///
 /// # Errors
 ///
@@ -26,7 +26,7 @@ pub fn size<S: Sectors>(
     address: u16,
 ) -> Result<u16, Stop>
     requires { user < USERS }
-    ensures { Ends (sized S.sectors disk.now user address memory.old) memory.old memory.new result }
+    ensures { Ends (size_stored S.sectors disk.now user address memory.old) memory.old memory.new result }
 {
     let fcb = Fcb::at(memory, address);
     fcb.judge_file()?;
@@ -42,13 +42,13 @@ pub fn size<S: Sectors>(
     }
 }
 
-/// Sets R0 to R2 to the record of EX and CR, and of S2 on a Megabyte disk, whatever they are: function 36.
+/// Function 36: sets R0 to R2 to the number of the record that EX and CR, and on a Megabyte disk S2, give. Any values are accepted.
 ///
 /// # Errors
 ///
 /// [`Stop::UnknownDrive`], [`Stop::BadFcb`] of the drive or for a `?` in the name.
 pub fn set_random(kind: DiskKind, memory: &mut Memory, address: u16) -> Result<u16, Stop>
-    ensures { Ends (numbered kind address memory.old) memory.old memory.new result }
+    ensures { Ends (record_number_stored kind address memory.old) memory.old memory.new result }
 {
     let fcb = Fcb::at(memory, address);
     fcb.judge_file()?;
@@ -56,7 +56,7 @@ pub fn set_random(kind: DiskKind, memory: &mut Memory, address: u16) -> Result<u
     Ok(0)
 }
 
-/// Puts a number of 24 bits to R0 to R2, the low byte first.
+/// Writes a number of 24 bits to R0 to R2, low byte first.
 fn put_random(memory: &mut Memory, address: u16, number: u32)
     requires { number < 2 ^ 24 }
     ensures { memory.new ≡ with_random address number memory.old }

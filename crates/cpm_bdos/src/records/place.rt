@@ -1,10 +1,10 @@
-//! Where an FCB stands in its file.
+//! The position of a file control block in its file.
 
 use cpm_directory::{LAST_EXTENT, MOST_RECORDS};
 use cpm_disk::DiskKind;
 use cpm_fcb::{Fcb, Stop};
 
-/// Where an FCB stands in its file: EX, S2 and CR.
+/// The position of a file control block in its file: EX, S2 and CR.
 #[derive(Clone, Copy, Debug, PartialEq, Eq)]
 pub struct Place {
     pub extent: u8,
@@ -17,7 +17,7 @@ impl Place {
     ghost use Rattle.cpm_directory.specs.declared.rules.TheConstants.{MOST_RECORDS};
     ghost use Rattle.cpm_bdos.specs.Records.Places.{is_bad, next_extent, next_high, place_judged, place_of, record_at, turned};
 
-    /// The place in an FCB.
+    /// The position in a file control block.
     pub fn of(fcb: &Fcb) -> Place
         ensures { result ≡ place_of fcb.now }
     {
@@ -28,7 +28,7 @@ impl Place {
         }
     }
 
-    /// The record there. S2 counts on a Megabyte disk alone.
+    /// The number of the record at this position. S2 counts only on a Megabyte disk.
     pub fn record(self, kind: DiskKind) -> u32
         ensures { result ≡ record_at kind self }
     {
@@ -39,7 +39,8 @@ impl Place {
         4096 * high + 128 * u32::from(self.extent) + u32::from(self.current)
     }
 
-    /// Judges a place to read or write in turn: EX, CR and, on a Megabyte disk, the low six bits of S2 have a greatest value.
+    /// Tests a position for reading or writing the next record: EX, CR and, on a Megabyte disk, the low six bits of S2 must not be too
+    /// great.
     pub(crate) fn judge(self, kind: DiskKind) -> Result<(), Stop>
         ensures judged { result ≡ place_judged kind self }
         ensures within { OnOk result (self.current ≤ MOST_RECORDS) }
@@ -62,7 +63,7 @@ impl Place {
         }
     }
 
-    /// The place of the record that is next: behind the last record of an extent the next extent begins, where there is one.
+    /// The position of the next record: if CR is 128, it is record 0 of the next extent; `None` if there is none.
     pub(crate) fn turned(self, kind: DiskKind) -> Option<Place>
         ensures place { result ≡ turned kind self }
         ensures within { self.current ≤ MOST_RECORDS → IfSome result (λ p. p.current < MOST_RECORDS) }
@@ -74,7 +75,7 @@ impl Place {
         }
     }
 
-    /// The next extent: after EX 31 that of the next S2, on a Megabyte disk alone.
+    /// The position at the beginning of the next extent. After EX 31 that is EX 0 of the next S2, which exists only on a Megabyte disk.
     fn next_extent(self, kind: DiskKind) -> Option<Place>
         ensures place { result ≡ next_extent kind self }
         ensures within { IfSome result (λ p. p.current < MOST_RECORDS) }
@@ -92,7 +93,7 @@ impl Place {
         }
     }
 
-    /// The first extent of the next S2, where there is one.
+    /// The position at the beginning of the first extent of the next S2, if there is one.
     fn next_high(self) -> Option<Place>
         ensures place { result ≡ next_high DiskKind.Megabyte self }
         ensures within { IfSome result (λ p. p.current < MOST_RECORDS) }

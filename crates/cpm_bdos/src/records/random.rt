@@ -1,9 +1,9 @@
-//! Records by number.
+//! Reads and writes records by number.
 
 ghost use Rattle.std.specs.Prelude.{◌≡◌, ◌<◌};
 ghost use Rattle.cpm_directory.specs.declared.entry.TheConstants.{USERS};
 ghost use Rattle.cpm_fcb.specs.Stops.{Ends};
-ghost use Rattle.cpm_bdos.specs.Records.Random.{ReadsAt, WritesAt, is_within, refused_read, refused_write, with_place_of};
+ghost use Rattle.cpm_bdos.specs.Records.Random.{ReadsAt, WritesAt, can_have_record, refused_random_read, refused_random_write, with_place_of};
 
 use crate::records::entries::put_extent_entry;
 use cpm_disk::{Disk, DiskFault, DiskKind, Name};
@@ -11,23 +11,24 @@ use cpm_fcb::{Fcb, Stop, bytes_at, put_bytes, put_field, stop_of};
 use cpm_image::Sectors;
 use z80_cpu::Memory;
 
-/// What a read answers where the record was not written.
+/// The answer of a read if the record was never written.
 const UNWRITTEN: u16 = 1;
 
-/// What a write answers where the disk is full.
+/// The answer of a write if the disk is full.
 const DISK_FULL: u16 = 2;
 
-/// What a read answers where the extent was not written, or there is no such file.
+/// The answer of a read if the extent was never written, or there is no such file.
 const NO_EXTENT: u16 = 4;
 
-/// What a write answers where the directory is full.
+/// The answer of a write if the directory is full.
 const DIRECTORY_FULL: u16 = 5;
 
-/// What is answered for a record that no file may have.
+/// The answer for a record number that no file can have.
 const TOO_FAR: u16 = 6;
 
-/// Reads the record of R0 and R1 to the DMA buffer: function 33. The answer is 1 where it is not written, 4 where its extent or
-/// the file is not there, 6 where no file may have it. With every answer but 6, EX, S2 and CR are set to its place.
+/// Function 33: reads the record with the number in R0 and R1 to the DMA buffer. The answer is 1 if it was never written, 4 if there is
+/// no such extent or file, and 6 if no file can have the record. With every answer but 6, EX, S2 and CR are set to the position of the
+/// record.
 ///
 /// # Errors
 ///
@@ -60,12 +61,12 @@ pub fn read_at<S: Sectors>(
     }
 }
 
-/// Writes the DMA buffer to the record of R0 and R1: function 34. The answer is 2 where the disk is full, 5 where the directory
-/// is, 6 where no file may have the record. With every answer but 6, EX, S2 and CR are set to its place.
+/// Function 34: writes the DMA buffer to the record with the number in R0 and R1. The answer is 2 if the disk is full, 5 if the directory
+/// is, and 6 if no file can have the record. With every answer but 6, EX, S2 and CR are set to the position of the record.
 ///
 /// # Errors
 ///
-/// Those of `read_at`; [`Stop::BadFcb`] where there is no such file, [`Stop::FileReadOnly`].
+/// Those of `read_at`; [`Stop::BadFcb`] if there is no such file, [`Stop::FileReadOnly`].
 pub fn write_at<S: Sectors>(
     disk: &mut Disk<S>,
     user: u8,
@@ -93,14 +94,14 @@ pub fn write_at<S: Sectors>(
     }
 }
 
-/// Whether a file may have the record.
+/// Whether a file can have the record with the number in R0 to R2.
 fn is_within(fcb: &Fcb, kind: DiskKind) -> bool
-    ensures { result ≡ is_within kind fcb.now }
+    ensures { result ≡ can_have_record kind fcb.now }
 {
     fcb.overflow() == 0 && u32::from(fcb.random()) < kind.file_records()
 }
 
-/// Sets EX, S2 and CR to the place of a record.
+/// Sets EX, S2 and CR to the position of a record.
 fn put_place_of(memory: &mut Memory, address: u16, number: u16)
     ensures { memory.new ≡ with_place_of address number memory.old }
 {
@@ -109,9 +110,9 @@ fn put_place_of(memory: &mut Memory, address: u16, number: u16)
     put_field(memory, address, 32, &[(number % 128) as u8]);
 }
 
-/// What a read by number answers that the disk refuses.
+/// What function 33 answers if the disk refuses.
 fn not_read(fault: DiskFault, memory: &mut Memory, address: u16, number: u16) -> Result<u16, Stop>
-    ensures { Ends (refused_read address number memory.old fault) memory.old memory.new result }
+    ensures { Ends (refused_random_read address number memory.old fault) memory.old memory.new result }
 {
     let value = match fault {
         DiskFault::NotFound | DiskFault::NoExtent => NO_EXTENT,
@@ -122,14 +123,14 @@ fn not_read(fault: DiskFault, memory: &mut Memory, address: u16, number: u16) ->
     Ok(value)
 }
 
-/// What a write by number answers that the disk refuses.
+/// What function 34 answers if the disk refuses.
 fn not_written(
     fault: DiskFault,
     memory: &mut Memory,
     address: u16,
     number: u16,
 ) -> Result<u16, Stop>
-    ensures { Ends (refused_write address number memory.old fault) memory.old memory.new result }
+    ensures { Ends (refused_random_write address number memory.old fault) memory.old memory.new result }
 {
     let value = match fault {
         DiskFault::DiskFull => DISK_FULL,

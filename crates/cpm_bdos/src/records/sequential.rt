@@ -1,4 +1,4 @@
-//! Records in turn.
+//! Reads and writes records one after the other.
 
 ghost use Rattle.std.specs.Prelude.{◌≡◌, ◌<◌, ◌≤◌, OnOk, ℕ, List};
 ghost use Rattle.cpm_directory.specs.declared.entry.TheConstants.{USERS};
@@ -13,21 +13,21 @@ use cpm_fcb::{Fcb, Stop, bytes_at, put_bytes, put_field, stop_of};
 use cpm_image::Sectors;
 use z80_cpu::Memory;
 
-/// What a read answers where there is no record.
+/// The answer of a read if there is no such record.
 const NO_RECORD: u16 = 1;
 
-/// What a write answers where the directory is full.
+/// The answer of a write if the directory is full.
 const DIRECTORY_FULL: u16 = 1;
 
-/// What a write answers where the disk is full, or the record is past the last.
+/// The answer of a write if the disk is full, or no file can have the record.
 const DISK_FULL: u16 = 2;
 
-/// Reads the record that is next to the DMA buffer: function 20. Where there is none the answer is 1, and the FCB stays.
+/// Function 20: reads the next record to the DMA buffer. If there is none, the answer is 1, and the file control block stays as it is.
 ///
 /// # Errors
 ///
-/// [`Stop::UnknownDrive`], [`Stop::BadFcb`] of the drive, for a `?` in the name, EX above 31, CR above 128 or on a Megabyte
-/// disk S2 above 15, [`Stop::DiskFault`].
+/// [`Stop::UnknownDrive`]; [`Stop::BadFcb`] for the drive, a `?` in the name, EX above 31, CR above 128 or, on a Megabyte disk, the low
+/// six bits of S2 above 15; [`Stop::DiskFault`].
 pub fn read_next<S: Sectors>(
     disk: &mut Disk<S>,
     user: u8,
@@ -58,12 +58,12 @@ pub fn read_next<S: Sectors>(
     }
 }
 
-/// Writes the DMA buffer to the record that is next: function 21. The answer is 1 where the directory is full, 2 where the disk
-/// is or the record is past the last; then the FCB stays.
+/// Function 21: writes the DMA buffer to the next record. The answer is 1 if the directory is full, and 2 if the disk is full or no file
+/// can have the record; then the file control block stays as it is.
 ///
 /// # Errors
 ///
-/// Those of `read_next`; [`Stop::BadFcb`] where there is no such file, [`Stop::FileReadOnly`].
+/// Those of `read_next`; [`Stop::BadFcb`] if there is no such file, [`Stop::FileReadOnly`].
 pub fn write_next<S: Sectors>(
     disk: &mut Disk<S>,
     user: u8,
@@ -93,7 +93,7 @@ pub fn write_next<S: Sectors>(
     }
 }
 
-/// Judges drive and name, and then the place.
+/// Tests drive and name, and then the position.
 fn judge(fcb: &Fcb, kind: DiskKind) -> Result<(), Stop>
     ensures judged { result ≡ sequential_judged kind fcb.now }
     ensures within { OnOk result (current_of fcb.now ≤ 128) }
@@ -102,7 +102,7 @@ fn judge(fcb: &Fcb, kind: DiskKind) -> Result<(), Stop>
     Place::of(fcb).judge(kind)
 }
 
-/// Puts CR behind a record, EX where CR was 128, and S2 where it went up.
+/// Sets CR to the record after this one, EX too if CR was 128, and S2 too if it went up.
 fn put_place(memory: &mut Memory, address: u16, old: Place, new: Place)
     requires { new.current < 128 }
     ensures { memory.new ≡ with_place address old new memory.old }
@@ -128,7 +128,7 @@ fn put_s2(memory: &mut Memory, address: u16, old: Place, new: Place)
     }
 }
 
-/// What a read in turn answers that the disk refuses.
+/// What function 20 answers if the disk refuses.
 fn not_read(fault: DiskFault) -> Result<u16, Stop>
     ensures { (memory : List ℕ) → Ends (refused_read memory fault) memory memory result }
 {
@@ -140,7 +140,7 @@ fn not_read(fault: DiskFault) -> Result<u16, Stop>
     }
 }
 
-/// What a write in turn answers that the disk refuses.
+/// What function 21 answers if the disk refuses.
 fn not_written(fault: DiskFault) -> Result<u16, Stop>
     ensures { (memory : List ℕ) → Ends (refused_write memory fault) memory memory result }
 {

@@ -1,4 +1,4 @@
-//! Reading an edited line.
+//! Reads an edited line.
 
 ghost use Rattle.std.specs.Prelude.{◌≡◌, ◌<◌, ℕ, take};
 ghost use Rattle.cpm_console.specs.Line.{edited};
@@ -9,10 +9,10 @@ use crate::console::Console;
 use crate::error::ConsoleError;
 use crate::key::Key;
 
-/// What takes a byte off the screen.
+/// Erases the last byte on the screen.
 const RUB_OUT: [u8; 3] = [0x08, b' ', 0x08];
 
-/// How far a line has come: how many of its bytes are stored, and the column where it began.
+/// The line so far: the number of its stored bytes, and the column where it began.
 #[derive(Clone, Copy)]
 struct Draft {
     len: u8,
@@ -23,25 +23,25 @@ impl<C: Console> Terminal<C> {
     ghost use Rattle.std.specs.Prelude.{◌≡◌, ◌<◌, ◌-◌, ℕ, List, take, replicate};
     ghost use Rattle.std.specs.List.{concat, flat_map};
     ghost use Rattle.cpm_console.specs.Screen.{screen};
-    ghost use Rattle.cpm_console.specs.Text.{Shows};
-    ghost use Rattle.cpm_console.specs.Line.{Ends, Line, echo_of, edited, ended, rub_out, typed_line};
+    ghost use Rattle.cpm_console.specs.Text.{PutsText};
+    ghost use Rattle.cpm_console.specs.Line.{LineEnds, EditedLine, echo_of, edited, line_ended, rub_out, typed_line};
     ghost use Rattle.cpm_console.specs.Private.Draft.{line_at};
 
-    /// Reads a line of at most `room` bytes into a buffer, edited as it is typed, and answers how many bytes it has.
-    /// `None`: a warm boot was asked for.
+    /// Reads a line of at most `room` bytes into a buffer while it is typed and edited, and answers the number of its bytes. `None` if a
+    /// warm boot was asked for.
     ///
-    /// What stands in the buffer behind the line is not said.
+    /// The rest of the buffer may then have any bytes.
     ///
     /// # Errors
     ///
-    /// [`ConsoleError::EndOfInput`] where no input is left before the line ends, [`ConsoleError::ConsoleFault`] where the
-    /// console failed. Then a front of what passes while the line is read has passed.
+    /// [`ConsoleError::EndOfInput`] if the input ends before the line does, [`ConsoleError::ConsoleFault`] if the console failed. Then
+    /// only the first of the bytes that pass while the line is read have passed.
     pub fn read_line(
         &mut self,
         room: u8,
         buffer: &mut [u8; 255],
     ) -> Result<Option<u8>, ConsoleError>
-        ensures { Ends (typed_line room (screen C.dialog self.old)) (screen C.dialog self.old) (screen C.dialog self.new) buffer.new result }
+        ensures { LineEnds (typed_line room (screen C.dialog self.old)) (screen C.dialog self.old) (screen C.dialog self.new) buffer.new result }
     {
         let mut line = Draft {
             len: 0,
@@ -62,16 +62,16 @@ impl<C: Console> Terminal<C> {
         self.end_line(line.len)
     }
 
-    /// Echoes CR, and answers how long the line is.
+    /// Echoes CR, and answers the length of the line.
     fn end_line(&mut self, len: u8) -> Result<Option<u8>, ConsoleError>
-        ensures { (line : Line) (buffer : List ℕ) → take len buffer ≡ line.bytes
-            → Ends (ended line) (screen C.dialog self.old) (screen C.dialog self.new) buffer result }
+        ensures { (line : EditedLine) (buffer : List ℕ) → take len buffer ≡ line.bytes
+            → LineEnds (line_ended line) (screen C.dialog self.old) (screen C.dialog self.new) buffer result }
     {
         self.put_char(b'\r')?;
         Ok(Some(len))
     }
 
-    /// Shows what a key makes of a line.
+    /// Shows on the terminal what a key does to a line.
     fn show(
         &mut self,
         key: Key,
@@ -81,7 +81,7 @@ impl<C: Console> Terminal<C> {
     ) -> Result<(), ConsoleError>
         requires { line.len < 256 }
         ensures { let e = edited key byte (line_at line buffer.now self.old.column) in
-            Shows (screen C.dialog self.old) (screen C.dialog self.new) e.text result }
+            PutsText (screen C.dialog self.old) (screen C.dialog self.new) e.text result }
     {
         let bytes = &buffer[..usize::from(line.len)];
         match key {
@@ -104,9 +104,9 @@ impl<C: Console> Terminal<C> {
         }
     }
 
-    /// Wipes out what stands from a column on.
+    /// Erases everything from a column on.
     fn wipe_out(&mut self, start: u16) -> Result<(), ConsoleError>
-        ensures { Shows (screen C.dialog self.old) (screen C.dialog self.new) (concat (replicate (self.old.column - start) rub_out)) result }
+        ensures { PutsText (screen C.dialog self.old) (screen C.dialog self.new) (concat (replicate (self.old.column - start) rub_out)) result }
     {
         for _ in start..self.column {
             self.put_text(&RUB_OUT)?;
@@ -116,7 +116,7 @@ impl<C: Console> Terminal<C> {
 
     /// Echoes stored bytes.
     fn echo_all(&mut self, bytes: &[u8]) -> Result<(), ConsoleError>
-        ensures { Shows (screen C.dialog self.old) (screen C.dialog self.new) (flat_map echo_of bytes.now) result }
+        ensures { PutsText (screen C.dialog self.old) (screen C.dialog self.new) (flat_map echo_of bytes.now) result }
     {
         for byte in bytes {
             self.echo(*byte)?;
@@ -126,7 +126,7 @@ impl<C: Console> Terminal<C> {
 
     /// Echoes a stored byte.
     fn echo(&mut self, byte: u8) -> Result<(), ConsoleError>
-        ensures { Shows (screen C.dialog self.old) (screen C.dialog self.new) (echo_of byte) result }
+        ensures { PutsText (screen C.dialog self.old) (screen C.dialog self.new) (echo_of byte) result }
     {
         if byte < b' ' && byte != TAB {
             self.put_text(&[b'^', byte + 0x40])
@@ -136,7 +136,7 @@ impl<C: Console> Terminal<C> {
     }
 }
 
-/// Stores what a key makes of a line.
+/// Does to the stored bytes of a line what a key asks for.
 fn stored(key: Key, byte: u8, line: Draft, buffer: &mut [u8; 255]) -> Draft
     requires { line.len < 255 }
     ensures bytes { (column : ℕ) → take result.len buffer.new ≡ (edited key byte (line_at line buffer.old column)).bytes }

@@ -1,16 +1,16 @@
--- A block on the way to a written record.
+-- A block while one of its records is being written.
 use Rattle.std.specs.Prelude.{◌≡◌, ◌≢◌, ◌<◌, ◌*◌, ◌+◌, ℕ, false, replicate, if◌then◌else◌}
 use Rattle.cpm_image.specs.Kind.{block_records}
 use Rattle.cpm_image.specs.declared.kind.DiskKind.{DiskKind}
 use Rattle.cpm_operations.specs.declared.placement.Placement.{Placement}
 use Rattle.cpm_disk.specs.Image.{Image, IsOfBlock, SameBut, disk_record}
 
--- the records of a block below a number are zeros, but for one that is left out
+-- the records of a block below a number are zeros, except the one that is kept
 pub record Cleared (kind : DiskKind) (old new : Image) (block kept below : ℕ) : Type 0 where
   pub zeros : (j : ℕ) → j < below → j ≢ kept → disk_record kind new (block_records kind * block + j) ≡ replicate 128 0
   pub rest : SameBut kind (IsOfBlock kind block) old new
 
--- a block in which one record is to be written: the others are zeros where it is new, else all are as before
+-- a block before one record of it is written: the others are zeros if it is new, otherwise all are as they were
 pub record Prepared (kind : DiskKind) (old new : Image) (p : Placement) (i : ℕ) : Type 0 where
   pub others : (j : ℕ) → j < block_records kind → j ≢ i → disk_record kind new (block_records kind * p.block + j) ≡ (if p.is_new then replicate 128 0 else disk_record kind old (block_records kind * p.block + j))
   pub rest : SameBut kind (IsOfBlock kind p.block) old new

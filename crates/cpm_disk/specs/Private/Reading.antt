@@ -1,4 +1,4 @@
--- Entries that are read from a device.
+-- Directory entries that are read from a device.
 use Rattle.std.specs.Prelude.{◌≡◌, ◌<◌, ◌+◌, ◌*◌, ℕ, List, length, take, drop}
 use Rattle.cpm_image.specs.Device.{HasRisen}
 use Rattle.cpm_directory.specs.declared.entry.Entry.{Entry}
@@ -6,7 +6,7 @@ use Rattle.cpm_directory.specs.declared.fault.DiskFault.{DiskFault}
 use Rattle.cpm_directory.specs.declared.fault.DiskFault.TheVariants as fault
 use Rattle.cpm_directory.specs.Entries.{at, entry_of}
 
--- entries with those of some pieces of 32 bytes behind them
+-- the old entries, followed by the entries in `count` parts of 32 bytes
 pub record Extended (old new : List Entry) (bytes : List ℕ) (count : ℕ) : Type 0 where
   pub size : length new ≡ length old + count
   pub kept : (k : ℕ) → k < length old → at new k ≡ at old k

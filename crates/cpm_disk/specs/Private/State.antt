@@ -1,4 +1,4 @@
--- What holds of a disk while it is mounted.
+-- What is true of a disk while it is mounted.
 use Rattle.std.specs.Prelude.{◌≡◌, ◌==◌, ◌&&◌, ℕ, Bool, false, IfSome, List, None, Option, Some, length}
 use Rattle.std.specs.Str.{bytes_eq}
 use Rattle.cpm_image.specs.Kind.{entry_count, sector_count}
@@ -14,8 +14,8 @@ abbrev pub is_known : ℕ → List ℕ → Option Writable → Bool
 is_known user name (Some f) = (f.user == user) && bytes_eq f.name name
 is_known user name None = false
 
--- The directory keeps the rules, also after a failure; until one, the disk has its entries, and the file that it remembers is not
--- read-only by them.
+-- The directory keeps its rules, even after a failure. Before a failure, the disk has the entries of the directory, and the file that it
+-- remembers is not read-only by them.
 pub record IsMounted (kind : DiskKind) (image : Image) (entries : List Entry) (failed : Bool) (writable : Option Writable) : Type 0 where
   pub count : length image ≡ sector_count kind
   pub sound : IsSound kind (directory kind image)

@@ -5,9 +5,9 @@ use Rattle.relax.specs.declared.relaxable.RelaxableJump.{RelaxableJump}
 use Rattle.ruler.specs.Choice.{IsJump, chosen}
 use Rattle.relax.specs.Probes.{jump_count}
 
--- Words of the worklist's own functions.
+-- Words for the functions of the worklist.
 
--- the number of the statement that jump number p is
+-- the number of the statement that is jump number p
 abbrev pub statement_of : List RelaxableJump → ℕ → ℕ
 statement_of jumps p = (slice_index_or jumps p (record { statement = 0; target = 0 })).statement
 
@@ -15,15 +15,15 @@ statement_of jumps p = (slice_index_or jumps p (record { statement = 0; target =
 abbrev pub target_of : List RelaxableJump → ℕ → ℕ
 target_of jumps p = (slice_index_or jumps p (record { statement = 0; target = 0 })).target
 
--- all jumps of a shape whose size may be chosen, in order
+-- all relaxable jumps of a shape, in order
 pub record AreRelaxable (shape : List Statement) (jumps : List RelaxableJump) : Type 0 where
   pub each : (p : ℕ) → p < length jumps → IsJump shape (statement_of jumps p) (target_of jumps p)
   pub ascending : (p : ℕ) → p + 1 < length jumps → statement_of jumps p < statement_of jumps (p + 1)
   pub complete : (k t : ℕ) → IsJump shape k t → (p : ℕ) × (p < length jumps) × (statement_of jumps p ≡ k)
   pub count : length jumps ≡ jump_count shape
 
--- a displacement from one statement to another spans statement k: a target that is ahead is not spanned, one that is
--- behind is
+-- a jump from one statement to another goes over the bytes of statement k. If it goes forward, it does not go over its
+-- target; if it goes back, it does
 abbrev pub PassesOver : ℕ → ℕ → ℕ → Type 0
 PassesOver from to k = ((from < k) × (k < to)) ⊎ ((to ≤ k) × (k < from))
 
@@ -44,7 +44,8 @@ pub record IsLowestPending (pending : List Bool) (p : ℕ) : Type 0 where
 abbrev pub pending_count : List Bool → ℕ
 pending_count pending = count_by (λ b. b) pending
 
--- the short jumps within 63 of jump p that pass over it wait again, and at most 126 that did not
+-- after jump p became long: short jumps within 63 of it that go over it wait again, and at most 126 jumps wait that did
+-- not
 pub record Requeued (jumps : List RelaxableJump) (long was is : List Bool) (p : ℕ) : Type 0 where
   pub len : length is ≡ length was
   pub kept : (q : ℕ) → chosen was q ≡ true → chosen is q ≡ true

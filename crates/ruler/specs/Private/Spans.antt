@@ -7,20 +7,20 @@ use Rattle.ruler.specs.Choice.{Choice, chosen, bytes_before, total, IsShape}
 
 -- How a ruler keeps how far its jumps go.
 
--- What is kept of the span from one place to another. The span is the bytes between the places, and three more where
--- the other is behind: -128 and 127 bytes from the end of a short jump are both a span of 129. It is exact as far as a
--- short jump reaches, and beyond that no more than the span.
+-- What is kept of the span from one address to another. The span is the number of bytes between them, and three more if
+-- the target comes first: -128 and 127 bytes from the end of a short jump are both a span of 129. What is kept is exact
+-- as far as a short jump reaches, and beyond that it is at most the span.
 pub record IsSpan (from to span : ℕ) : Type 0 where
   pub ahead : from ≤ to → (from + span ≤ to) × (span ≤ LONGEST → from + span ≡ to)
   pub behind : to < from → (to + span ≤ from + 3) × (span ≤ LONGEST → to + span ≡ from + 3)
 
--- the statement that statement k goes to, itself where it is no jump
+-- the statement that statement k goes to, or k itself if it is not a jump
 abbrev pub target_of : ℕ → Statement → ℕ
 target_of k (Fixed n) = k
 target_of k (Jump t) = t
 target_of k (Short t) = t
 
--- where each statement goes
+-- the target of each statement
 abbrev pub AreTargets : List Statement → List ℕ → Type 0
 AreTargets shape targets = (k : ℕ) (s : Statement) → slice_get shape k ≡ Some s → slice_index targets k ≡ target_of k s
 
@@ -28,17 +28,18 @@ AreTargets shape targets = (k : ℕ) (s : Statement) → slice_get shape k ≡ S
 abbrev pub none_long : Choice
 none_long k = false
 
--- the bytes before each statement and before the end, where every jump is short
+-- the bytes before each statement and before the end, if every jump is short
 abbrev pub ArePlaces : List Statement → List ℕ → Type 0
 ArePlaces shape places = (k : ℕ) → k ≤ length shape → slice_index places k ≡ bytes_before none_long shape k
 
--- the spans between places
+-- the spans from each statement to its target
 abbrev pub AreSpans : List ℕ → List ℕ → List ℕ → Type 0
 AreSpans targets places spans =
     (k : ℕ) → k < length targets
     → IsSpan (slice_index places k) (slice_index places (slice_index targets k)) (slice_index spans k)
 
--- one byte more in the spans of what stands near statement k and goes over it, its own among them
+-- The spans after statement k grew by a byte: the spans of jumps near k that go over k's bytes grow by one, up to 255.
+-- So does k's own if it goes forward. All others stay.
 pub record Widened (targets was is : List ℕ) (k : ℕ) : Type 0 where
   pub len : length is ≡ length was
   pub ahead :
@@ -52,7 +53,7 @@ pub record Widened (targets was is : List ℕ) (k : ℕ) : Type 0 where
   pub far_before : (j : ℕ) → j + NEAR < k → slice_index is j ≡ slice_index was j
   pub far_behind : (j : ℕ) → k + NEAR < j → slice_index is j ≡ slice_index was j
 
--- What a `Sums` keeps, which no caller sees.
+-- What a `Sums` keeps, which its callers do not see.
 pub record HoldsSpans (shape : List Statement) (long : List Bool) (targets spans : List ℕ) (bytes : ℕ) : Type 0 where
   pub is_shape : IsShape shape
   pub same_long : length long ≡ length shape

@@ -1,4 +1,4 @@
--- What the steps of a write do.
+-- The steps of a write.
 use Rattle.std.specs.Prelude.{◌≡◌, ◌<◌, ◌≤◌, ◌+◌, ◌^◌, ℕ, List, Result, Ok, Err, length, take}
 use Rattle.std.specs.Io.KnownBytes.{Appends, Keeps}
 use Rattle.streams.specs.declared.sink.WriteFault.{WriteFault}
@@ -11,7 +11,7 @@ abbrev pub PutsSome : Stream → Stream → List ℕ → Result ℕ WriteFailed 
 PutsSome old new bytes (Ok n) = (0 < n) × (n ≤ length bytes) × Appends old.bytes new.bytes (take n bytes) × (new.failures ≡ old.failures)
 PutsSome old new bytes (Err _) = Keeps old.bytes new.bytes × (new.failures ≡ counted old.failures)
 
--- one of the counts rises by one
+-- one of the two counts rises by one
 abbrev pub Counts : ℕ → ℕ → ℕ → ℕ → WriteFault → Type 0
 Counts failures interruptions failed interrupted Interrupted = (failed ≡ failures) × (interrupted ≡ interruptions + 1) × (interrupted < 2 ^ 64)
 Counts failures interruptions failed interrupted Failed = (failed ≡ counted failures) × (interrupted ≡ interruptions)

@@ -1,4 +1,4 @@
--- Tests over the words.
+-- Tests over all words.
 use Rattle.std.proofs.Common.{◌≡◌, List, [], ◌∷◌, ap, get_or}
 use Rattle.z80_instr.proofs.Finite.{Finite, ◌⊗◌, operations, rotations, block_operations, block_steps}
 use Rattle.z80_form.specs.Types.{Name, Mnemonic}
@@ -35,11 +35,11 @@ names_agree X f g e Name.M = ap (λ xs. get_or xs 23 (f Name.A)) e
 abbrev pub names : Finite Name
 names = record { Values = List; values = names_of; agree = names_agree }
 
--- The words without a family, one after the other.
+-- The mnemonics without parameters, one after the other.
 abbrev pub plain : (X : Type 0) → (Mnemonic → X) → List X
 plain X f = f Mnemonic.Ld ∷ f Mnemonic.Push ∷ f Mnemonic.Pop ∷ f Mnemonic.Ex ∷ f Mnemonic.Exx ∷ f Mnemonic.Inc ∷ f Mnemonic.Dec ∷ f Mnemonic.Daa ∷ f Mnemonic.Cpl ∷ f Mnemonic.Neg ∷ f Mnemonic.Ccf ∷ f Mnemonic.Scf ∷ f Mnemonic.Nop ∷ f Mnemonic.Halt ∷ f Mnemonic.Di ∷ f Mnemonic.Ei ∷ f Mnemonic.Im ∷ f Mnemonic.Rlca ∷ f Mnemonic.Rla ∷ f Mnemonic.Rrca ∷ f Mnemonic.Rra ∷ f Mnemonic.Rld ∷ f Mnemonic.Rrd ∷ f Mnemonic.Bit ∷ f Mnemonic.Set ∷ f Mnemonic.Res ∷ f Mnemonic.Jp ∷ f Mnemonic.Jr ∷ f Mnemonic.Djnz ∷ f Mnemonic.Call ∷ f Mnemonic.Ret ∷ f Mnemonic.Reti ∷ f Mnemonic.Retn ∷ f Mnemonic.Rst ∷ f Mnemonic.In ∷ f Mnemonic.Out ∷ []
 
--- .. and the families
+-- the mnemonics without parameters, and the families of those with parameters
 abbrev pub Mnemonics : Type 0 → Type 0
 Mnemonics X = List X × (block_operations ⊗ block_steps).Values X × operations.Values X × rotations.Values X
 

@@ -1,4 +1,4 @@
--- The rows as the code reads them. proofs/ ties them to those of specs/Rows.antt.
+-- The rows as the code reads them. The proofs tie them to those of specs/Rows.antt.
 use Rattle.std.specs.Prelude.{List, [], ◌∷◌, Option, Some, None, pos}
 use Rattle.std.specs.Option.{option_map}
 use Rattle.z80_form.specs.Types.{Register, IndexRegister, Memory, Operand, Pointer, RegisterPair, WordRegister, HlOrIndex, Addend, StackOperand, Cond, ShortCond, AluOperation, Octal, InterruptMode, Instr, Name, Pointed, Form, Mnemonic}
@@ -56,7 +56,7 @@ at_hl_or_index_in (Form.At Pointed.Hl) = Some HlOrIndex.Hl
 at_hl_or_index_in (Form.AtIndex x) = Some (HlOrIndex.Index x)
 at_hl_or_index_in _ = None
 
--- what is added to an index register, which itself has this form
+-- a register that is added to an index register, possibly this register itself
 abbrev pub addend_in : IndexRegister → Form → Option Addend
 addend_in x (Form.Name Name.Bc) = Some Addend.Bc
 addend_in x (Form.Name Name.De) = Some Addend.De
@@ -92,7 +92,7 @@ short_condition_in _ = None
 
 -- Instructions.
 
--- the instruction, where the operand is A, and where it is a number
+-- the instruction, if the operand is A; `if_number`: if it is a number
 abbrev pub if_a : Form → Instr → Option Instr
 if_a (Form.Name Name.A) instr = Some instr
 if_a _ instr = None
@@ -121,7 +121,7 @@ load_a (Form.Name Name.I) = Some Instr.LoadAFromI
 load_a (Form.Name Name.R) = Some Instr.LoadAFromR
 load_a from = option_map (λ s. Instr.Load Register.A (Operand.Register s)) (register_in from)
 
--- from a register
+-- LD from a name: a register, a pair of registers, or I or R
 abbrev pub load_name : Form → Form → Option Instr
 load_name (Form.Name Name.A) from = load_a from
 load_name (Form.Name Name.I) from = if_a from Instr.LoadIFromA

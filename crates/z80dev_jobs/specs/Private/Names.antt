@@ -4,7 +4,7 @@ use Rattle.std.specs.Borrow.{Bor}
 use Rattle.std.specs.Global.{Global}
 use Rattle.std.specs.List.{AllZip}
 use Rattle.z80dev_disk.specs.Refusals.{refusal_text}
-use Rattle.z80dev_disk.specs.Words.{name_of, pattern_of}
+use Rattle.z80dev_disk.specs.Words.{file_name_of, pattern_of}
 use Rattle.z80dev_disk.specs.declared.refusal.Refusal.{Refusal}
 use Rattle.z80dev_finish.specs.declared.end.End.{End}
 use Rattle.z80dev_finish.specs.declared.end.End.TheVariants as end
@@ -28,7 +28,7 @@ IsWord name_in word (Ok name) = name_in word ≡ Some name
 IsWord name_in word (Err e) = (name_in word ≡ None) × Says (codes "BadName") e
 
 abbrev pub IsName : List ℕ → Result (List ℕ) End → Type 0
-IsName word result = IsWord name_of word result
+IsName word result = IsWord file_name_of word result
 
 abbrev pub IsPattern : List ℕ → Result (List ℕ) End → Type 0
 IsPattern word result = IsWord pattern_of word result

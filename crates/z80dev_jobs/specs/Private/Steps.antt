@@ -15,7 +15,7 @@ use Rattle.z80dev_jobs.specs.Running.{IsNoDisk}
 use Rattle.z80dev_jobs.specs.declared.running.Inputs.{Inputs}
 use Rattle.z80dev_jobs.specs.declared.words.WordsFault.{WordsFault}
 use Rattle.z80dev_jobs.specs.declared.words.WordsFault.TheVariants as fault
-use Rattle.z80dev_run.specs.Program.{IsReady}
+use Rattle.z80dev_run.specs.Program.{IsReadyToRun}
 use Rattle.z80dev_run.specs.declared.running.Ready.{Ready}
 
 -- all is done, with a line or none; or it ends otherwise
@@ -43,7 +43,7 @@ DoneWith e line result = result ≡ Err e
 
 -- a program is ready to run, or the image is no disk
 abbrev pub MakesReady : Inputs → List (List ℕ) → Result Ready End → Type 0
-MakesReady inputs words (Ok made) = IsReady inputs.program.items words inputs.image.items inputs.typed.items made
+MakesReady inputs words (Ok made) = IsReadyToRun inputs.program.items words inputs.image.items inputs.typed.items made
 MakesReady inputs words (Err e) = IsNoDisk inputs.image.items e
 
 -- the program of sources that were read is written, or memory runs out before

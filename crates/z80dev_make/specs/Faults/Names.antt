@@ -1,4 +1,4 @@
--- The names of the faults of a source: that of the innermost variant.
+-- How the errors of a source are named: by the innermost variant.
 use Rattle.std.specs.Prelude.{ℕ, List, codes}
 use Rattle.asm_scan.specs.declared.fault.ScanFault.{ScanFault}
 use Rattle.asm_scan.specs.declared.fault.ScanFault.TheVariants as scan

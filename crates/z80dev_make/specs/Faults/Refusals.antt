@@ -1,4 +1,5 @@
--- Why there is no file, and how it is printed: by name, with the numbers in parentheses; a fault of a line behind its source and line.
+-- Why there is no file, and how it is printed: by name, with the numbers in parentheses; an error of a line comes after its source and
+-- line.
 use Rattle.std.specs.Prelude.{ℕ, List, ◌++◌, codes, decimal}
 use Rattle.zlink.specs.Types.{AsmFault, Why}
 use Rattle.zmo_object.specs.declared.fault.ObjectFault.{ObjectFault}
@@ -14,9 +15,9 @@ use Rattle.zlink.specs.declared.fault.Misfit.TheVariants as misfit
 use Rattle.z80dev_make.specs.declared.faults.refusal.Refusal.{Refusal}
 use Rattle.z80dev_make.specs.declared.faults.refusal.Refusal.TheVariants as refusal
 use Rattle.z80dev_make.specs.Faults.Names.{why_name}
-use Rattle.z80dev_make.specs.Faults.Numbered.{numbered, numbered_twice}
+use Rattle.z80dev_make.specs.Faults.Numbered.{name_with_number, name_with_two_numbers}
 
--- of a source
+-- the refusal of a source
 abbrev pub by_why : Why → AsmFault → Refusal
 by_why Why.NoMemory fault = refusal.NoMemory
 by_why why fault = refusal.Source fault
@@ -24,7 +25,7 @@ by_why why fault = refusal.Source fault
 abbrev pub of_source : AsmFault → Refusal
 of_source fault = by_why fault.why fault
 
--- of modules
+-- the refusal of modules
 abbrev pub of_link : LinkFault → Refusal
 of_link link.TooManyStatements = refusal.Modules join.TooManyStatements
 of_link (link.BeginsNotFirst m) = refusal.Modules (join.BeginsNotFirst m)
@@ -34,7 +35,7 @@ of_link (link.EntryNotFirst m) = refusal.Modules (join.EntryNotFirst m)
 of_link (link.NoFit why sizes cert) = refusal.NoFit why
 of_link link.NoMemory = refusal.NoMemory
 
--- of sources
+-- the refusal of sources
 abbrev pub of_build : BuildFault → Refusal
 of_build (build.Asm source fault) = of_source fault
 of_build (build.Link fault) = of_link fault
@@ -42,26 +43,26 @@ of_build (build.Link fault) = of_link fault
 abbrev pub object_text : ObjectFault → List ℕ
 object_text object.Magic = codes "Magic"
 object_text object.Truncated = codes "Truncated"
-object_text (object.BadField offset) = numbered (codes "BadField") offset
+object_text (object.BadField offset) = name_with_number (codes "BadField") offset
 object_text object.Trailing = codes "Trailing"
 object_text object.NoMemory = codes "NoMemory"
 
 abbrev pub modules_text : JoinFault → List ℕ
 modules_text join.TooManyStatements = codes "TooManyStatements"
-modules_text (join.BeginsNotFirst m) = numbered (codes "BeginsNotFirst") m
-modules_text (join.DefinedTwice m l) = numbered_twice (codes "DefinedTwice") m l
-modules_text (join.Unresolved m x) = numbered_twice (codes "Unresolved") m x
-modules_text (join.EntryNotFirst m) = numbered (codes "EntryNotFirst") m
+modules_text (join.BeginsNotFirst m) = name_with_number (codes "BeginsNotFirst") m
+modules_text (join.DefinedTwice m l) = name_with_two_numbers (codes "DefinedTwice") m l
+modules_text (join.Unresolved m x) = name_with_two_numbers (codes "Unresolved") m x
+modules_text (join.EntryNotFirst m) = name_with_number (codes "EntryNotFirst") m
 modules_text join.NoMemory = codes "NoMemory"
 
 abbrev pub misfit_text : Misfit → List ℕ
-misfit_text (misfit.Range k) = numbered (codes "Range") k
-misfit_text (misfit.TooLarge n) = numbered (codes "Size") n
+misfit_text (misfit.Range k) = name_with_number (codes "Range") k
+misfit_text (misfit.TooLarge n) = name_with_number (codes "Size") n
 
--- the text of a refusal, where a faulty source has this path
-abbrev pub refusal_text : List ℕ → Refusal → List ℕ
-refusal_text path (refusal.Source fault) = path ++ codes "(" ++ decimal fault.line ++ codes "): " ++ why_name fault.why
-refusal_text path (refusal.Object fault) = object_text fault
-refusal_text path (refusal.Modules fault) = modules_text fault
-refusal_text path (refusal.NoFit why) = misfit_text why
-refusal_text path refusal.NoMemory = codes "NoMemory"
+-- the text of a refusal, given the path of the source that has the error
+abbrev pub program_refusal_text : List ℕ → Refusal → List ℕ
+program_refusal_text path (refusal.Source fault) = path ++ codes "(" ++ decimal fault.line ++ codes "): " ++ why_name fault.why
+program_refusal_text path (refusal.Object fault) = object_text fault
+program_refusal_text path (refusal.Modules fault) = modules_text fault
+program_refusal_text path (refusal.NoFit why) = misfit_text why
+program_refusal_text path refusal.NoMemory = codes "NoMemory"

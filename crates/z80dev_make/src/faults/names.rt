@@ -1,4 +1,4 @@
-//! The names of the faults of a source.
+//! The names of the errors of a source.
 
 ghost use Rattle.std.specs.Prelude.{◌≡◌};
 ghost use Rattle.z80dev_make.specs.Faults.Names.{expression_name, macro_name, scan_name, statement_name, why_name};
@@ -69,7 +69,7 @@ fn statement_name(fault: StmtFault) -> &'static str
     }
 }
 
-/// The name of the innermost variant.
+/// Answers the name of the innermost variant.
 pub(crate) fn why_name(why: Why) -> &'static str
     ensures { result.now ≡ why_name why }
 {

@@ -8,14 +8,14 @@ use std::fmt;
 use zlink::{AsmFault, BuildFault, JoinFault, LinkFault, Misfit, Why};
 use zmo_object::ObjectFault;
 
-/// Why sources or objects make no file.
+/// Why sources or object files make no file.
 #[derive(Clone, Copy, Debug, PartialEq, Eq)]
 pub enum Refusal {
-    /// A source has this first fault.
+    /// A source has this first error.
     Source(AsmFault),
-    /// An object cannot be read.
+    /// An object file cannot be read.
     Object(ObjectFault),
-    /// The modules are no program.
+    /// The modules cannot be joined to a program.
     Modules(JoinFault),
     /// No choice of short and long jumps fits.
     NoFit(Misfit),
@@ -24,7 +24,7 @@ pub enum Refusal {
 }
 
 impl Refusal {
-    /// Of a source.
+    /// Answers the refusal of a source.
     pub fn of_source(fault: AsmFault) -> Refusal
         ensures { result ≡ of_source fault }
     {
@@ -34,7 +34,7 @@ impl Refusal {
         }
     }
 
-    /// Of modules.
+    /// Answers the refusal of modules.
     pub fn of_link(fault: &LinkFault) -> Refusal
         ensures { result ≡ of_link fault.now }
     {
@@ -55,7 +55,7 @@ impl Refusal {
         }
     }
 
-    /// Of sources.
+    /// Answers the refusal of sources.
     pub fn of_build(fault: &BuildFault) -> Refusal
         ensures { result ≡ of_build fault.now }
     {
@@ -66,20 +66,20 @@ impl Refusal {
     }
 }
 
-/// A refusal as it is printed after `error: `: a fault of a source as `PATH(LINE): NAME`, any other by its name. A name is that
-/// of the innermost variant, with its numbers in parentheses.
+/// A refusal as it is printed after `error: `: an error of a source as `PATH(LINE): NAME`, any other by its name. A name is that of the
+/// innermost variant, with its numbers in parentheses.
 #[derive(Clone, Copy, Debug, PartialEq, Eq)]
 pub struct Told<'a> {
-    /// The path of the source that has the fault; of no meaning for another fault.
+    /// The path of the source that has the error; it has no meaning for another error.
     pub path: &'a str,
     pub refusal: Refusal,
 }
 
 impl fmt::Display for Told<'_> {
     ghost use Rattle.std.specs.Prelude.{Some};
-    ghost use Rattle.z80dev_make.specs.Faults.Refusals.{refusal_text};
+    ghost use Rattle.z80dev_make.specs.Faults.Refusals.{program_refusal_text};
 
-    ghost output = { λ told. Some (refusal_text told.path.now told.refusal) };
+    ghost output = { λ told. Some (program_refusal_text told.path.now told.refusal) };
 
     fn fmt<W: fmt::Write>(&self, f: &mut fmt::Formatter<W>) -> fmt::Result {
         match self.refusal {

@@ -10,133 +10,133 @@ use Rattle.ruler.specs.Choice.{Choice, IsNear, IsValid, bytes_before, place, siz
 use Rattle.ruler.proofs.Places.{bytes-zero, bytes-next, bytes-le, size-there}
 use Rattle.zmo_module.specs.Holes.{IsHole}
 use Rattle.zmo_module.specs.Modules as object
-use Rattle.zmo_module.specs.Modules.{Statement}
-use Rattle.zmo_module.specs.Rules.{IsStatement}
+use Rattle.zmo_module.specs.Modules.{ModuleStatement}
+use Rattle.zmo_module.specs.Rules.{IsModuleStatement}
 use Rattle.zlink.specs.Program.Whole.{Placed}
-use Rattle.zlink.specs.File.Objects.{IsPlaced, ReadsObjects, shape, sized_by}
+use Rattle.zlink.specs.File.Objects.{IsPlaced, ReadsObjects, placed_shape, sized_by}
 use Rattle.zlink.specs.File.Places.{ArePlaces}
 use Rattle.zlink.specs.Private.Pieces.{AreLaid, IsReady, IsSizedPiece}
 use Rattle.zlink.proofs.Files.Moved.{moved}
 
--- A statement keeps the rules for some refs, and a table has the places of what these stand for.
+-- The statement keeps the rules for some number of refs, and the table has the address of what each ref stands for.
 pub record IsTabled (count : ℕ) (places table : List ℕ) (q : Placed) : Type 0 where
   pub grow : Bool
   pub refs : ℕ
-  pub rules : IsStatement grow refs q.statement
+  pub rules : IsModuleStatement grow refs q.statement
   pub fits : refs ≤ length table
   pub stands : (ref : ℕ) → ref < refs → q.stands ref ≤ count
   pub each : (ref : ℕ) → ref < refs → slice_index table ref ≡ slice_index places (q.stands ref)
 
--- a statement of a program is one of its shape
-pub shape-at : (p : List Placed) (k : ℕ) (q : Placed) → slice_get p k ≡ Some q → slice_get (shape p) k ≡ Some (sized_by q.stands q.statement)
+-- statement k of a program is statement k of its shape
+pub shape-at : (p : List Placed) (k : ℕ) (q : Placed) → slice_get p k ≡ Some q → slice_get (placed_shape p) k ≡ Some (sized_by q.stands q.statement)
 shape-at p k q e = slice_get-map (λ x. sized_by x.stands x.statement) p k ∙ ap (option_map (λ x. sized_by x.stands x.statement)) e
 
-pub same-length : (p : List Placed) → length (shape p) ≡ length p
+pub same-length : (p : List Placed) → length (placed_shape p) ≡ length p
 same-length p = length-map p (λ x. sized_by x.stands x.statement)
 
--- each place of a program under a valid choice is an address
-pub place-small : (c : Choice) (p : List Placed) (t : ℕ) → IsValid c (shape p) → t ≤ length p → place c (shape p) t < 65536
-place-small c p t valid le = omega (arith, valid.fits, bytes-le c (shape p) t (length (shape p)) (omega (arith, same-length p)))
+-- each address of a program is below 65,536 if the choice is valid
+pub place-small : (c : Choice) (p : List Placed) (t : ℕ) → IsValid c (placed_shape p) → t ≤ length p → place c (placed_shape p) t < 65536
+place-small c p t valid le = omega (arith, valid.fits, bytes-le c (placed_shape p) t (length (placed_shape p)) (omega (arith, same-length p)))
 
-pub places-small : (c : Choice) (p : List Placed) (places : List ℕ) → IsValid c (shape p) → ArePlaces c (shape p) places → All (λ x. x < 65536) places
+pub places-small : (c : Choice) (p : List Placed) (places : List ℕ) → IsValid c (placed_shape p) → ArePlaces c (placed_shape p) places → All (λ x. x < 65536) places
 places-small c p places valid places_are = All-from_get_or (λ x. x < 65536) places 0
     (λ k lt. omega (arith, places_are.each k (omega (arith, places_are.len)), place-small c p k valid (omega (arith, places_are.len, same-length p))))
 
--- the table has the places of the refs
-tabled-place : (c : Choice) (p : List Placed) (places table : List ℕ) (q : Placed) (ref : ℕ) → ArePlaces c (shape p) places → (t : IsTabled (length p) places table q) → ref < t.refs
-    → slice_index table ref ≡ place c (shape p) (q.stands ref)
+-- the table has the address of each ref
+tabled-place : (c : Choice) (p : List Placed) (places table : List ℕ) (q : Placed) (ref : ℕ) → ArePlaces c (placed_shape p) places → (t : IsTabled (length p) places table q) → ref < t.refs
+    → slice_index table ref ≡ place c (placed_shape p) (q.stands ref)
 tabled-place c p places table q ref places_are t lt = t.each ref lt ∙ places_are.each (q.stands ref) (omega (arith, same-length p, t.stands ref lt))
 
--- each statement of a program can be written at its place
-pub ready : (c : Choice) (p : List Placed) (places table : List ℕ) (k : ℕ) (q : Placed) → IsValid c (shape p) → ArePlaces c (shape p) places → slice_get p k ≡ Some q → IsTabled (length p) places table q
+-- each statement of the program can be written at its address
+pub ready : (c : Choice) (p : List Placed) (places table : List ℕ) (k : ℕ) (q : Placed) → IsValid c (placed_shape p) → ArePlaces c (placed_shape p) places → slice_get p k ≡ Some q → IsTabled (length p) places table q
     → IsReady (slice_index places k) (c k) table q.statement
 ready c p places table k q valid places_are e t = by q.statement refl t.rules
   where
-    at : slice_index places k ≡ place c (shape p) k
+    at : slice_index places k ≡ place c (placed_shape p) k
     at = places_are.each k (omega (arith, same-length p, slice_get_within p k q e))
 
     small : slice_index places k < 65536
     small = omega (arith, at, place-small c p k valid (omega (arith, slice_get_within p k q e)))
 
-    sized : (s : Statement) → q.statement ≡ s → slice_get (shape p) k ≡ Some (sized_by q.stands s)
+    sized : (s : ModuleStatement) → q.statement ≡ s → slice_get (placed_shape p) k ≡ Some (sized_by q.stands s)
     sized s is = shape-at p k q e ∙ ap (λ x. Some (sized_by q.stands x)) is
 
-    by : (s : Statement) → q.statement ≡ s → IsStatement t.grow t.refs s → IsReady (slice_index places k) (c k) table s
+    by : (s : ModuleStatement) → q.statement ≡ s → IsModuleStatement t.grow t.refs s → IsReady (slice_index places k) (c k) table s
     by (object.Bytes bytes holes) is rules =
         (rules.1, All-weaker (IsHole t.refs bytes) (IsHole (length table) bytes) (λ h r. record { expr = r.expr; width = r.width; refs = All-weaker (λ x. x < t.refs) (λ x. x < length table) (λ x lt. omega (arith, t.fits, lt)) _ r.refs; blank = r.blank }) holes rules.2)
     by (object.Jump marked condition target) is rules =
         let to = tabled-place c p places table q target places_are t rules.1 in
-        let reach : c k ≡ false → IsNear (place c (shape p) k) (place c (shape p) (q.stands target)) = λ short. valid.settled k (q.stands target) (sized (object.Jump marked condition target) is) short in
+        let reach : c k ≡ false → IsNear (place c (placed_shape p) k) (place c (placed_shape p) (q.stands target)) = λ short. valid.settled k (q.stands target) (sized (object.Jump marked condition target) is) short in
         (omega (arith, small), omega (arith, t.fits, rules.1), λ short. rw (at, to) (reach short))
     by (object.Short branch target) is rules =
         let to = tabled-place c p places table q target places_are t rules.1 in
         (omega (arith, small), omega (arith, t.fits, rules.1), rw (at, to) (valid.shorts k (q.stands target) (sized (object.Short branch target) is)))
     by (object.Space size fill) is rules = tt
 
--- the first statements are written
+-- the bytes of the first k statements are written
 pub record Written (c : Choice) (p : List Placed) (k : ℕ) (file : List ℕ) : Type 0 where
-  pub len : length file ≡ bytes_before c (shape p) k
+  pub len : length file ≡ bytes_before c (placed_shape p) k
   pub pieces : (j : ℕ) (q : Placed) → j < k → slice_get p j ≡ Some q →
-      IsPlaced (place c (shape p) j) (c j) (place c (shape p)) q (slice_range file (bytes_before c (shape p) j) (bytes_before c (shape p) (j + 1)))
+      IsPlaced (place c (placed_shape p) j) (c j) (place c (placed_shape p)) q (slice_range file (bytes_before c (placed_shape p) j) (bytes_before c (placed_shape p) (j + 1)))
 
 pub start : (c : Choice) (p : List Placed) (file : List ℕ) → file ≡ [] → Written c p 0 file
-start c p file e = record { len = ap length e ∙ sym (bytes-zero c (shape p)); pieces = λ j q lt at. absurd (omega arith) }
+start c p file e = record { len = ap length e ∙ sym (bytes-zero c (placed_shape p)); pieces = λ j q lt at. absurd (omega arith) }
 
--- a part of the front is a part of the whole
+-- a range of the front of a list is the same range of the whole list
 range-front : (xs ys : List ℕ) (a b : ℕ) → a ≤ b → b ≤ length xs → slice_range (xs ++ ys) a b ≡ slice_range xs a b
 range-front xs ys a b ab within =
     ap (take (b - a)) (drop-append-le a xs ys (omega arith)) ∙ take-append-le (b - a) (drop a xs) ys (omega (arith, length-drop a xs))
 
--- what was put at the end
+-- the range from the old end on is what was appended
 range-end : (xs ys : List ℕ) (a b : ℕ) → a ≡ length xs → b ≡ length xs + length ys → slice_range (xs ++ ys) a b ≡ ys
 range-end xs ys a b e f =
     let n : b - a ≡ length ys = omega arith in
     ap (λ m. take m (drop a (xs ++ ys))) n ∙ ap (take (length ys)) (drop_at xs ys a (sym e)) ∙ take_all (length ys) ys (omega arith)
 
--- a size does not hang on what refs stand for
-size-same : (long : Bool) (f g : ℕ → ℕ) (s : Statement) → size_of long (sized_by f s) ≡ size_of long (sized_by g s)
+-- the size of a statement does not depend on what its refs stand for
+size-same : (long : Bool) (f g : ℕ → ℕ) (s : ModuleStatement) → size_of long (sized_by f s) ≡ size_of long (sized_by g s)
 size-same long f g (object.Bytes bytes holes) = refl
 size-same long f g (object.Jump marked condition target) = refl
 size-same long f g (object.Short branch target) = refl
 size-same long f g (object.Space size fill) = refl
 
 -- one more statement is written
-pub step : (c : Choice) (p : List Placed) (places table : List ℕ) (k : ℕ) (q : Placed) (file next bytes : List ℕ) → ArePlaces c (shape p) places → IsTabled (length p) places table q → Written c p k file → slice_get p k ≡ Some q
+pub step : (c : Choice) (p : List Placed) (places table : List ℕ) (k : ℕ) (q : Placed) (file next bytes : List ℕ) → ArePlaces c (placed_shape p) places → IsTabled (length p) places table q → Written c p k file → slice_get p k ≡ Some q
     → next ≡ file ++ bytes → IsSizedPiece (slice_index places k) (c k) table q.statement bytes → Written c p (k + 1) next
 step c p places table k q file next bytes places_are t written at e piece =
     let same = same-length p in
-    let size = bytes-next c (shape p) k in
-    let there = size-there c (shape p) k (sized_by q.stands q.statement) (shape-at p k q at) in
+    let size = bytes-next c (placed_shape p) k in
+    let there = size-there c (placed_shape p) k (sized_by q.stands q.statement) (shape-at p k q at) in
     let long : length bytes ≡ size_of (c k) (sized_by q.stands q.statement) = piece.1 ∙ size-same (c k) (λ ref. ref) q.stands q.statement in
     record {
       len = omega (arith, ap length e, length-append file bytes, written.len, size, there, long);
       pieces = λ j x lt from.
           elim (cases_lt j k) [
             | inl before ↦
-                let range = ap (λ f. slice_range f (bytes_before c (shape p) j) (bytes_before c (shape p) (j + 1))) e
-                ∙ range-front file bytes (bytes_before c (shape p) j) (bytes_before c (shape p) (j + 1)) (bytes-le c (shape p) j (j + 1) (omega arith)) (omega (arith, written.len, bytes-le c (shape p) (j + 1) k (omega arith))) in
+                let range = ap (λ f. slice_range f (bytes_before c (placed_shape p) j) (bytes_before c (placed_shape p) (j + 1))) e
+                ∙ range-front file bytes (bytes_before c (placed_shape p) j) (bytes_before c (placed_shape p) (j + 1)) (bytes-le c (placed_shape p) j (j + 1) (omega arith)) (omega (arith, written.len, bytes-le c (placed_shape p) (j + 1) k (omega arith))) in
                 rw range (written.pieces j x before from)
             | inr after ↦
                 let here : j ≡ k = omega arith in
                 let one : ◌≡◌ {A = Option Placed} (Some q) (Some x) = sym at ∙ ap (slice_get p) (sym here) ∙ from in
                 let same_statement : q ≡ x = cc in
-                let range : slice_range next (bytes_before c (shape p) k) (bytes_before c (shape p) (k + 1)) ≡ bytes = ap (λ f. slice_range f (bytes_before c (shape p) k) (bytes_before c (shape p) (k + 1))) e
-                ∙ range-end file bytes (bytes_before c (shape p) k) (bytes_before c (shape p) (k + 1)) (sym written.len) (omega (arith, written.len, size, there, long)) in
-                let base : IsPlaced (place c (shape p) k) (c k) (place c (shape p)) q bytes =
-                moved (λ ref. slice_index table ref) (λ ref. place c (shape p) (q.stands ref)) t.refs (λ ref lt. tabled-place c p places table q ref places_are t lt)
-                (slice_index places k) (place c (shape p) k) (c k) t.grow q.statement bytes (places_are.each k (omega (arith, same, slice_get_within p k q at))) t.rules piece.0 in
-                subst (λ i. IsPlaced (place c (shape p) i) (c i) (place c (shape p)) x (slice_range next (bytes_before c (shape p) i) (bytes_before c (shape p) (i + 1)))) (sym here)
-                (rw range (subst (λ y. IsPlaced (place c (shape p) k) (c k) (place c (shape p)) y bytes) same_statement base))
+                let range : slice_range next (bytes_before c (placed_shape p) k) (bytes_before c (placed_shape p) (k + 1)) ≡ bytes = ap (λ f. slice_range f (bytes_before c (placed_shape p) k) (bytes_before c (placed_shape p) (k + 1))) e
+                ∙ range-end file bytes (bytes_before c (placed_shape p) k) (bytes_before c (placed_shape p) (k + 1)) (sym written.len) (omega (arith, written.len, size, there, long)) in
+                let base : IsPlaced (place c (placed_shape p) k) (c k) (place c (placed_shape p)) q bytes =
+                moved (λ ref. slice_index table ref) (λ ref. place c (placed_shape p) (q.stands ref)) t.refs (λ ref lt. tabled-place c p places table q ref places_are t lt)
+                (slice_index places k) (place c (placed_shape p) k) (c k) t.grow q.statement bytes (places_are.each k (omega (arith, same, slice_get_within p k q at))) t.rules piece.0 in
+                subst (λ i. IsPlaced (place c (placed_shape p) i) (c i) (place c (placed_shape p)) x (slice_range next (bytes_before c (placed_shape p) i) (bytes_before c (placed_shape p) (i + 1)))) (sym here)
+                (rw range (subst (λ y. IsPlaced (place c (placed_shape p) k) (c k) (place c (placed_shape p)) y bytes) same_statement base))
           ];
     }
 
--- statements that stand from a number of the program on, all of them by one table
-pub record Follow (p : List Placed) (places table : List ℕ) (stands : ℕ → ℕ) (k : ℕ) (ss : List Statement) : Type 0 where
-  pub there : (i : ℕ) (s : Statement) → slice_get ss i ≡ Some s → slice_get p (k + i) ≡ Some (record { statement = s; stands = stands })
-  pub tabled : (i : ℕ) (s : Statement) → slice_get ss i ≡ Some s → IsTabled (length p) places table (record { statement = s; stands = stands })
+-- the statements ss are in the program from number k on, and one table has the addresses of all their refs
+pub record Follow (p : List Placed) (places table : List ℕ) (stands : ℕ → ℕ) (k : ℕ) (ss : List ModuleStatement) : Type 0 where
+  pub there : (i : ℕ) (s : ModuleStatement) → slice_get ss i ≡ Some s → slice_get p (k + i) ≡ Some (record { statement = s; stands = stands })
+  pub tabled : (i : ℕ) (s : ModuleStatement) → slice_get ss i ≡ Some s → IsTabled (length p) places table (record { statement = s; stands = stands })
 
--- all of them are written
-pub many : (c : Choice) (p : List Placed) (places table : List ℕ) (stands : ℕ → ℕ) (ss : List Statement) (k : ℕ) (file next bytes : List ℕ) → ArePlaces c (shape p) places → Follow p places table stands k ss → Written c p k file
+-- all of these statements are written
+pub many : (c : Choice) (p : List Placed) (places table : List ℕ) (stands : ℕ → ℕ) (ss : List ModuleStatement) (k : ℕ) (file next bytes : List ℕ) → ArePlaces c (placed_shape p) places → Follow p places table stands k ss → Written c p k file
     → AreLaid (λ j. IsSizedPiece (slice_index places j) (c j) table) k ss bytes → next ≡ file ++ bytes → Written c p (k + length ss) next
 many c p places table stands [] k file next bytes places_are follow written laid e =
     let same : k ≡ k + 0 = omega arith in
@@ -157,6 +157,6 @@ many c p places table stands (s ∷ ss) k file next bytes places_are follow writ
 
 pub finished : (c : Choice) (p : List Placed) (k : ℕ) (file : List ℕ) → length p ≡ k → Written c p k file → ReadsObjects file p c
 finished c p k file all written = record {
-  length_is = written.len ∙ ap (bytes_before c (shape p)) (sym all ∙ sym (same-length p));
+  length_is = written.len ∙ ap (bytes_before c (placed_shape p)) (sym all ∙ sym (same-length p));
   pieces = λ j q at. written.pieces j q (omega (arith, all, slice_get_within p j q at)) at;
 }

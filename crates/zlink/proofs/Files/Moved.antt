@@ -1,4 +1,4 @@
--- What is made of a statement where a table has the places of its refs.
+-- The bytes of a statement depend only on the addresses of the refs that it has.
 use Rattle.std.proofs.Common.{◌≡◌, ℕ, ◌+◌, ◌%◌, ◌<◌, ◌++◌, Bool, true, false, List, [], ◌∷◌, length, take, drop, refl, sym, ap, subst, ◌∙◌}
 use Rattle.std.specs.List.{AllByRecursion}
 use Rattle.std.proofs.lemmas.List.Elements.{recursion_from_All}
@@ -13,14 +13,14 @@ use Rattle.asm_value.proofs.Judgements.{spelled_tree}
 use Rattle.z80_instr.specs.Codes.{Codes}
 use Rattle.asm_piece.specs.Cells.{written}
 use Rattle.asm_piece.specs.Made.{long_jump}
-use Rattle.asm_statements.specs.Program.Linked.{IsLinked, fill_one, filled}
+use Rattle.asm_statements.specs.Program.Linked.{IsLinkedPiece, fill_one, filled}
 use Rattle.zmo_module.specs.declared.hole.Hole.{Hole}
 use Rattle.zmo_module.specs.Holes.{IsHole}
 use Rattle.zmo_module.specs.Modules as object
-use Rattle.zmo_module.specs.Modules.{Statement}
-use Rattle.zmo_module.specs.Rules.{IsStatement}
+use Rattle.zmo_module.specs.Modules.{ModuleStatement}
+use Rattle.zmo_module.specs.Rules.{IsModuleStatement}
 
--- what holds of all of two lists holds of each
+-- what holds of the elements of two lists together holds of those of each
 parts : (P : ℕ → Type 0) (xs ys : List ℕ) → AllByRecursion P (xs ++ ys) → AllByRecursion P xs × AllByRecursion P ys
 parts P [] ys all = (tt, all)
 parts P (x ∷ xs) ys all = let rest = parts P xs ys all.1 in ((all.0, rest.0), rest.1)
@@ -49,8 +49,8 @@ module _ (f g : ℕ → ℕ) (n : ℕ) (same : (ref : ℕ) → ref < n → f ref
   same-filled blank bytes [] rules = refl
   same-filled blank bytes (h ∷ hs) rules = ap (λ bs. filled f bs hs) (same-hole blank bytes h rules.0) ∙ same-filled blank (fill_one g bytes h) hs rules.1
 
-  -- the bytes are the same statement's at the same places
-  pub moved : (at at' : ℕ) (long grow : Bool) (s : Statement) (bytes : List ℕ) → at ≡ at' → IsStatement grow n s → IsLinked at long f s bytes → IsLinked at' long g s bytes
+  -- bytes of a statement at one list of addresses are its bytes at another that agrees on its refs
+  pub moved : (at at' : ℕ) (long grow : Bool) (s : ModuleStatement) (bytes : List ℕ) → at ≡ at' → IsModuleStatement grow n s → IsLinkedPiece at long f s bytes → IsLinkedPiece at' long g s bytes
   moved at at' long grow (object.Bytes blank holes) bytes e rules piece = piece ∙ same-filled blank blank holes (recursion_from_All (IsHole n blank) holes rules.2)
   moved at at' true grow (object.Jump marked condition target) bytes e rules piece = subst (λ to. Codes (long_jump condition to) bytes) (same target rules.1) piece
   moved at at' false grow (object.Jump marked condition target) bytes e rules piece = rw (← e, ← same target rules.1) piece

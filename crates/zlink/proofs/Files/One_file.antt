@@ -1,4 +1,4 @@
--- A program has one file under a choice, and one list of places.
+-- A program has one file under a choice, and one list of addresses.
 use Rattle.std.proofs.Common.{◌≡◌, ◌⊎◌, ℕ, zero, suc, ◌+◌, ◌-◌, ◌≤◌, Bool, true, false, List, ◌++◌, Option, Some, None, length, take, refl, sym, ap, subst, ◌∙◌, arith, inl, inr, ℤ, pos, ◌+ℤ◌}
 use Rattle.std.specs.List.{slice_range}
 use Rattle.std.proofs.Math.IntN.{◌-ℤ◌, +ℤ_comm, +ℤ-neg_ℤ_cancel}
@@ -15,16 +15,16 @@ use Rattle.ruler.specs.declared.shape.Statement.{Statement as Sized}
 use Rattle.ruler.specs.Choice.{Choice, bytes_before, place}
 use Rattle.ruler.proofs.Places.{bytes-le, bytes-zero}
 use Rattle.zmo_module.specs.Modules as object
-use Rattle.zmo_module.specs.Modules.{Statement}
+use Rattle.zmo_module.specs.Modules.{ModuleStatement}
 use Rattle.asm_piece.specs.Made.{long_jump}
-use Rattle.asm_statements.specs.Program.Linked.{IsLinked}
-use Rattle.asm_statements.specs.Program.Pieces.{LeadsTo, short_jump}
+use Rattle.asm_statements.specs.Program.Linked.{IsLinkedPiece}
+use Rattle.asm_statements.specs.Program.Pieces.{IsShortJump, short_jump}
 use Rattle.zlink.specs.Program.Whole.{Placed}
-use Rattle.zlink.specs.File.Objects.{IsPlaced, ReadsObjects, shape}
+use Rattle.zlink.specs.File.Objects.{IsPlaced, ReadsObjects, placed_shape}
 use Rattle.zlink.specs.File.Places.{ArePlaces}
 use Rattle.zlink.specs.File.Reads.{Pieces, ReadsBy}
 
--- an instruction without another spelling has one
+-- an instruction that has only one encoding has one
 one_spelling : (i : Instr) (a b : List ℕ) → other i ≡ None → Codes i a → Codes i b → a ≡ b
 one_spelling i a b none x y = canon a x.spelled ∙ sym (canon b y.spelled) where
   canon : (bytes : List ℕ) → (bytes ≡ canonical i) ⊎ (other i ≡ Some bytes) → bytes ≡ canonical i
@@ -44,24 +44,24 @@ long_has_one : (condition : Option ShortCond) (to : ℕ) → other (long_jump co
 long_has_one None to = refl
 long_has_one (Some condition) to = refl
 
-leads_to_one : (from to : ℕ) (branch : Branch) (a b : List ℕ) → LeadsTo from to branch a → LeadsTo from to branch b → a ≡ b
+leads_to_one : (from to : ℕ) (branch : Branch) (a b : List ℕ) → IsShortJump from to branch a → IsShortJump from to branch b → a ≡ b
 leads_to_one from to branch a b x y =
     let same : x.0 ≡ y.0 = displacement_is_one (from + 2) to x.0 y.0 x.1 y.1 in
     one_spelling (short_jump branch y.0) a b (short_has_one branch y.0) (subst (λ e. Codes (short_jump branch e) a) same x.2) y.2
 
--- what is made of a statement of a module at a place is one
-linked_is_one : (at : ℕ) (long : Bool) (places : ℕ → ℕ) (s : Statement) (a b : List ℕ) → IsLinked at long places s a → IsLinked at long places s b → a ≡ b
+-- the bytes of a statement of a module at an address are unique
+linked_is_one : (at : ℕ) (long : Bool) (places : ℕ → ℕ) (s : ModuleStatement) (a b : List ℕ) → IsLinkedPiece at long places s a → IsLinkedPiece at long places s b → a ≡ b
 linked_is_one at long places (object.Bytes blank holes) a b x y = x ∙ sym y
 linked_is_one at long places (object.Space size fill) a b x y = x ∙ sym y
 linked_is_one at true places (object.Jump marked condition target) a b x y = one_spelling (long_jump condition (places target)) a b (long_has_one condition (places target)) x y
 linked_is_one at false places (object.Jump marked condition target) a b x y = leads_to_one at (places target) (Branch.Relative condition) a b x y
 linked_is_one at long places (object.Short branch target) a b x y = leads_to_one at (places target) branch a b x y
 
--- what stands before an end is what stands before a beginning, and what stands between
+-- the front up to b is the front up to a and the range from a to b
 front_and_part : (xs : List ℕ) (a b : ℕ) → a ≤ b → take b xs ≡ take a xs ++ slice_range xs a b
 front_and_part xs a b le = let e : b ≡ a + (b - a) = omega arith in ap (λ n. take n xs) e ∙ take-add a (b - a) xs
 
--- bytes that are pieces of one statement are the same
+-- a statement has one list of bytes
 abbrev pub IsOne : {S : Type 0} → Pieces S → Type 0
 IsOne IsPiece = (at : ℕ) (long : Bool) (places : ℕ → ℕ) (s : _) (a b : List ℕ) → IsPiece at long places s a → IsPiece at long places s b → a ≡ b
 
@@ -90,7 +90,7 @@ one_by IsPiece one file others shape program c same of_file of_others =
 
 pub one_file : (file others : List ℕ) (program : List Placed) (c : Choice) → ReadsObjects file program c → ReadsObjects others program c → file ≡ others
 one_file file others program c of_file of_others =
-    one_by IsPlaced (λ at long places p. linked_is_one at long (λ ref. places (p.stands ref)) p.statement) file others (shape program) program c (sym (length-map program _)) of_file of_others
+    one_by IsPlaced (λ at long places p. linked_is_one at long (λ ref. places (p.stands ref)) p.statement) file others (placed_shape program) program c (sym (length-map program _)) of_file of_others
 
 pub one_list : (c : Choice) (shape : List Sized) (places others : List ℕ) → ArePlaces c shape places → ArePlaces c shape others → places ≡ others
 one_list c shape places others of_places of_others =

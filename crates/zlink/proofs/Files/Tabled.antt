@@ -1,24 +1,24 @@
--- The table of a module has the places of what its refs stand for.
+-- The table of a module has the address of what each of its refs stands for.
 use Rattle.std.proofs.Common.{◌≡◌, inl, inr, ℕ, ◌+◌, ◌-◌, ◌<◌, Bool, true, false, List, ◌++◌, Some, All, cond, length, map, take, drop, slice_index, refl, sym, ap, ◌∙◌, arith, length-append, length-drop}
 use Rattle.std.specs.Prelude.{nat_le}
 use Rattle.std.specs.List.{slice_get, slice_range}
 use Rattle.std.proofs.lemmas.Bool.{cases_lt, leb-false, leb-true}
 use Rattle.std.proofs.lemmas.List.{get_or-append_right, get_or-drop, get_or-map, get_or-take, get_or_append_left, length-map, length-take-le}
-use Rattle.zmo_module.specs.Modules.{Module, Statement}
-use Rattle.zmo_module.specs.Rules.{IsStatement, refs_of}
+use Rattle.zmo_module.specs.Modules.{Module, ModuleStatement}
+use Rattle.zmo_module.specs.Rules.{IsModuleStatement, refs_of}
 use Rattle.zlink.specs.declared.program.joining.Links.{Links}
 use Rattle.zlink.specs.Program.Laws.{IsWithin, part_at}
-use Rattle.zlink.specs.Program.Parts.{Part, parts, publics}
+use Rattle.zlink.specs.Program.Parts.{ModulePart, parts, all_publics}
 use Rattle.zlink.specs.Program.Whole.{program, stands}
 use Rattle.zlink.specs.Private.Refs.{stands_by, table_of}
 use Rattle.zlink.proofs.Files.Elements.{at-element}
 use Rattle.zlink.proofs.Files.FileSoFar.{Follow, IsTabled}
 use Rattle.zlink.proofs.Files.Linking.{IsHere, refs-same, stands-same}
 
--- each statement of a module stands in the whole behind those before it
+-- each statement of a module is in the program, after the statements of the modules before it
 abbrev pub StatementsLaw : Type 0
-StatementsLaw = (modules : List Module) (m i : ℕ) (p : Part) (s : Statement) → slice_get (parts modules) m ≡ Some p → slice_get p.holds.statements i ≡ Some s
-    → slice_get (program modules) (p.base + i) ≡ Some (record { statement = s; stands = stands (publics (parts modules)) p })
+StatementsLaw = (modules : List Module) (m i : ℕ) (p : ModulePart) (s : ModuleStatement) → slice_get (parts modules) m ≡ Some p → slice_get p.holds.statements i ≡ Some s
+    → slice_get (program modules) (p.base + i) ≡ Some (record { statement = s; stands = stands (all_publics (parts modules)) p })
 
 own-length : (count base : ℕ) (places : List ℕ) → base + count < length places → length (slice_range places base (base + count + 1)) ≡ count + 1
 own-length count base places lt =
@@ -52,7 +52,7 @@ table-at count base externals places ref lt within = by (nat_le ref count) refl
 module _ (modules : List Module) (k : ℕ) (m : Module) (l : Links) (count : ℕ) (places table : List ℕ) (h : IsHere modules k m l) (counted : count ≡ length m.statements) (room : l.base + count < length places)
     (filled : table ≡ table_of count l.base l.externals.items places) where
   abbrev meaning : ℕ → ℕ
-  meaning = stands (publics (parts modules)) (part_at modules k m)
+  meaning = stands (all_publics (parts modules)) (part_at modules k m)
 
   refs-are : refs_of m ≡ count + 1 + length l.externals.items
   refs-are = omega (arith, refs-same modules k m l h, l.externals.ok)
@@ -64,22 +64,22 @@ module _ (modules : List Module) (k : ℕ) (m : Module) (l : Links) (count : ℕ
   at ref lt = ap (λ t. slice_index t ref) filled ∙ table-at count l.base l.externals.items places ref room (omega (arith, refs-are))
       ∙ ap (slice_index places) (ap (λ n. stands_by n l.base l.externals.items ref) counted ∙ stands-same modules k m l ref h lt)
 
-  tabled : (s : Statement) → IsStatement m.grow (refs_of m) s → IsWithin (length (program modules)) (record { statement = s; stands = meaning }) → IsTabled (length (program modules)) places table (record { statement = s; stands = meaning })
+  tabled : (s : ModuleStatement) → IsModuleStatement m.grow (refs_of m) s → IsWithin (length (program modules)) (record { statement = s; stands = meaning }) → IsTabled (length (program modules)) places table (record { statement = s; stands = meaning })
   tabled s rules within = elim (cases_lt within.refs (refs_of m)) [
     | inl less ↦ record { grow = within.grow; refs = within.refs; rules = within.rules; fits = omega (arith, long); stands = within.stands; each = λ ref lt. at ref (omega arith) }
     | inr more ↦ record { grow = m.grow; refs = refs_of m; rules = rules; fits = omega (arith, long); stands = λ ref lt. within.stands ref (omega arith); each = at }
   ]
 
-  -- the statements of a module follow those before it
-  pub follow : StatementsLaw → (ss : List Statement) → ss ≡ m.statements → All (IsWithin (length (program modules))) (program modules)
-      → Follow (program modules) places table (stands (publics (parts modules)) (part_at modules k m)) l.base ss
+  -- the statements of a module are in the program from its base on
+  pub follow : StatementsLaw → (ss : List ModuleStatement) → ss ≡ m.statements → All (IsWithin (length (program modules))) (program modules)
+      → Follow (program modules) places table (stands (all_publics (parts modules)) (part_at modules k m)) l.base ss
   follow law ss same all = record {
     there = there;
-    tabled = λ i s is. tabled s (at-element (IsStatement m.grow (refs_of m)) m.statements i s h.rules.statements (own i s is)) (at-element (IsWithin (length (program modules))) (program modules) (l.base + i) (record { statement = s; stands = meaning }) all (there i s is));
+    tabled = λ i s is. tabled s (at-element (IsModuleStatement m.grow (refs_of m)) m.statements i s h.rules.statements (own i s is)) (at-element (IsWithin (length (program modules))) (program modules) (l.base + i) (record { statement = s; stands = meaning }) all (there i s is));
   }
     where
-      own : (i : ℕ) (s : Statement) → slice_get ss i ≡ Some s → slice_get m.statements i ≡ Some s
+      own : (i : ℕ) (s : ModuleStatement) → slice_get ss i ≡ Some s → slice_get m.statements i ≡ Some s
       own i s is = ap (λ xs. slice_get xs i) (sym same) ∙ is
 
-      there : (i : ℕ) (s : Statement) → slice_get ss i ≡ Some s → slice_get (program modules) (l.base + i) ≡ Some (record { statement = s; stands = meaning })
+      there : (i : ℕ) (s : ModuleStatement) → slice_get ss i ≡ Some s → slice_get (program modules) (l.base + i) ≡ Some (record { statement = s; stands = meaning })
       there i s is = ap (λ n. slice_get (program modules) (n + i)) h.linked.base ∙ law modules k i (part_at modules k m) s h.part (own i s is)

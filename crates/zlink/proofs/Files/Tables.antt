@@ -1,9 +1,9 @@
--- A table of values that grows by the next.
+-- A table of the values of a function, made value by value.
 use Rattle.std.proofs.Common.{◌≡◌, inl, inr, ℕ, ◌+◌, ◌≤◌, List, [], ◌∷◌, ◌++◌, length, slice_index, sym, ap, ◌∙◌, arith}
 use Rattle.std.proofs.lemmas.Bool.{cases_lt}
 use Rattle.std.proofs.lemmas.List.{get_or_push, get_or_append_left}
 
--- a table of values of f that grows by the next
+-- the table of the values of f with one more value
 pub table-push : (f : ℕ → ℕ) (xs ys : List ℕ) (k n : ℕ) → length xs ≡ k + 1 → n ≡ f (k + 1) → ys ≡ xs ++ n ∷ [] → ((j : ℕ) → j ≤ k → slice_index xs j ≡ f j) → (j : ℕ) → j ≤ k + 1 → slice_index ys j ≡ f j
 table-push f xs ys k n len last e each j le =
     elim (cases_lt j (k + 1)) [

@@ -1,4 +1,4 @@
--- Modules gone through one after the other.
+-- Modules that a loop goes through one after the other.
 use Rattle.std.proofs.Common.{◌≡◌, ◌≤◌, ◌<◌, ◌+◌, ◌∙◌, sym, ap, refl, subst, ℕ, zero, suc, Bool, true, false, List, [], ◌∷◌, ◌++◌, Option, Some, None, Ok, length, map, take, drop, get_or, arith, length-append, append_assoc}
 use Rattle.std.specs.Prelude.{◌&&◌, nat_lt}
 use Rattle.std.proofs.lemmas.Bool.{le-ltb}
@@ -11,16 +11,16 @@ use Rattle.zmo_module.specs.Modules.{Module, module_of, statement_of}
 use Rattle.zmo_module.specs.Rules.{IsModule}
 use Rattle.zlink.specs.declared.program.fault.JoinFault.{JoinFault}
 use Rattle.zlink.specs.declared.program.joining.Links.{Links}
-use Rattle.zlink.specs.Program.Faults.{begins_late, first_of, if_so, or_else}
+use Rattle.zlink.specs.Program.Faults.{begins_late, first_of, fault_if, some_or_else}
 use Rattle.zlink.specs.Program.Laws.{statement_count}
-use Rattle.zlink.specs.Program.Parts.{Part, Publics, given, parts, parts_from, publics}
+use Rattle.zlink.specs.Program.Parts.{ModulePart, Publics, public_labels, parts, parts_from, all_publics}
 use Rattle.zlink.specs.Program.Whole.{IsLinks}
 use Rattle.zlink.specs.Private.Joining.{Fails, clashes, once, part, refused}
 use Rattle.zlink.proofs.Programs.Laid_end_to_end.{count-cons}
 
--- So many modules were gone through, with so many statements, and these are left.
+-- The loop has gone through `number` modules with `base` statements in all, and `rest` are left.
 pub record Reached (modules : List Module) (number base : ℕ) (rest : List Module) : Type 0 where
-  pub before : List Part
+  pub before : List ModulePart
   pub whole : parts modules ≡ before ++ parts_from number base rest
   pub many : length before ≡ number
   pub total : base + statement_count rest ≡ statement_count modules
@@ -39,7 +39,7 @@ next modules number base m rest was =
       total = omega arith;
     }
 
--- the modules from one on
+-- the modules from this number on
 abbrev pub left : List whole.Module → ℕ → List Module
 left modules number = map module_of (drop number modules)
 
@@ -65,7 +65,7 @@ reached_next modules number base m lt is was =
     subst (λ n. Reached (map module_of modules) (number + 1) (base + n) (left modules (number + 1))) (statements_of m)
     (next (map module_of modules) number base (module_of m) (left modules (number + 1)) (subst (Reached (map module_of modules) number base) (left_more modules number m lt is) was))
 
--- so many statements and those of the next module are among them all
+-- the statements so far and those of the next module are not more than those of all modules
 pub room : (modules : List whole.Module) (number base : ℕ) (m : whole.Module) → number < length modules → m ≡ get_or modules number m
     → Reached (map module_of modules) number base (left modules number) → base + length m.statements.items ≤ statement_count (map module_of modules)
 room modules number base m lt is was = (let there = (reached_next modules number base m lt is was).total in omega (arith, there))
@@ -78,52 +78,52 @@ pub all_counted : (modules : List whole.Module) (number base : ℕ) → length m
 all_counted modules number base le was =
     sym was.total ∙ ap (λ rest. base + statement_count rest) (left_none modules number le) ∙ omega arith
 
--- None of those gone through has a fault of a kind.
-pub record Judging (f : Part → Option JoinFault) (modules : List whole.Module) (number base : ℕ) : Type 0 where
+-- The modules so far have no error that f finds: the first error in all modules is the first in the rest.
+pub record Judging (f : ModulePart → Option JoinFault) (modules : List whole.Module) (number base : ℕ) : Type 0 where
   pub reached : Reached (map module_of modules) number base (left modules number)
   pub judged : first_of f (parts (map module_of modules)) ≡ first_of f (parts_from number base (left modules number))
 
-pub begin : (f : Part → Option JoinFault) (modules : List whole.Module) → Judging f modules 0 0
+pub begin : (f : ModulePart → Option JoinFault) (modules : List whole.Module) → Judging f modules 0 0
 begin f modules = record { reached = reached_start modules; judged = refl }
 
-judged_next : (f : Part → Option JoinFault) (modules : List whole.Module) (number base : ℕ) (m : whole.Module) → number < length modules → m ≡ get_or modules number m → Judging f modules number base
-    → first_of f (parts (map module_of modules)) ≡ or_else (f (part number base (module_of m))) (first_of f (parts_from (number + 1) (base + length m.statements.items) (left modules (number + 1))))
+judged_next : (f : ModulePart → Option JoinFault) (modules : List whole.Module) (number base : ℕ) (m : whole.Module) → number < length modules → m ≡ get_or modules number m → Judging f modules number base
+    → first_of f (parts (map module_of modules)) ≡ some_or_else (f (part number base (module_of m))) (first_of f (parts_from (number + 1) (base + length m.statements.items) (left modules (number + 1))))
 judged_next f modules number base m lt is was =
     was.judged ∙ ap (λ rest. first_of f (parts_from number base rest)) (left_more modules number m lt is)
-    ∙ ap (λ n. or_else (f (part number base (module_of m))) (first_of f (parts_from (number + 1) (base + n) (left modules (number + 1))))) (statements_of m)
+    ∙ ap (λ n. some_or_else (f (part number base (module_of m))) (first_of f (parts_from (number + 1) (base + n) (left modules (number + 1))))) (statements_of m)
 
-pub passes : (f : Part → Option JoinFault) (modules : List whole.Module) (number base : ℕ) (m : whole.Module) → number < length modules → m ≡ get_or modules number m → f (part number base (module_of m)) ≡ None
+pub passes : (f : ModulePart → Option JoinFault) (modules : List whole.Module) (number base : ℕ) (m : whole.Module) → number < length modules → m ≡ get_or modules number m → f (part number base (module_of m)) ≡ None
     → Judging f modules number base → Judging f modules (number + 1) (base + length m.statements.items)
 passes f modules number base m lt is none was = record {
   reached = reached_next modules number base m lt is was.reached;
-  judged = judged_next f modules number base m lt is was ∙ ap (λ o. or_else o (first_of f (parts_from (number + 1) (base + length m.statements.items) (left modules (number + 1))))) none;
+  judged = judged_next f modules number base m lt is was ∙ ap (λ o. some_or_else o (first_of f (parts_from (number + 1) (base + length m.statements.items) (left modules (number + 1))))) none;
 }
 
-pub stops : (f : Part → Option JoinFault) (modules : List whole.Module) (number base : ℕ) (m : whole.Module) (fault : JoinFault) → number < length modules → m ≡ get_or modules number m
+pub stops : (f : ModulePart → Option JoinFault) (modules : List whole.Module) (number base : ℕ) (m : whole.Module) (fault : JoinFault) → number < length modules → m ≡ get_or modules number m
     → f (part number base (module_of m)) ≡ Some fault → Judging f modules number base → first_of f (parts (map module_of modules)) ≡ Some fault
 stops f modules number base m fault lt is some was =
-    judged_next f modules number base m lt is was ∙ ap (λ o. or_else o (first_of f (parts_from (number + 1) (base + length m.statements.items) (left modules (number + 1))))) some
+    judged_next f modules number base m lt is was ∙ ap (λ o. some_or_else o (first_of f (parts_from (number + 1) (base + length m.statements.items) (left modules (number + 1))))) some
 
-pub ends : (f : Part → Option JoinFault) (modules : List whole.Module) (number base : ℕ) → length modules ≤ number → Judging f modules number base → first_of f (parts (map module_of modules)) ≡ None
+pub ends : (f : ModulePart → Option JoinFault) (modules : List whole.Module) (number base : ℕ) → length modules ≤ number → Judging f modules number base → first_of f (parts (map module_of modules)) ≡ None
 ends f modules number base le was = was.judged ∙ ap (λ rest. first_of f (parts_from number base rest)) (left_none modules number le)
 
--- What the modules gone through give was given once.
+-- `names` are the public names of the modules so far, and none of them is defined twice.
 
 pub record Gives (modules : List whole.Module) (number base : ℕ) (names : Publics) : Type 0 where
   pub judging : Judging (once (map module_of modules)) modules number base
-  pub names_are : names ≡ publics (take number (parts (map module_of modules)))
+  pub names_are : names ≡ all_publics (take number (parts (map module_of modules)))
 
 pub none_given : (modules : List whole.Module) → Gives modules 0 0 []
 none_given modules = record { judging = begin (once (map module_of modules)) modules; names_are = refl }
 
--- what a part is judged by
+-- the error that f finds in the next module, judged by the names so far
 judged_by : (modules : List whole.Module) (number base : ℕ) (names : Publics) (m : Module) → Gives modules number base names → once (map module_of modules) (part number base m) ≡ clashes names (part number base m)
 judged_by modules number base names m was = ap (λ ns. clashes ns (part number base m)) (sym was.names_are)
 
 take_front : {X : Type 0} (n : ℕ) (all front rest : List X) → all ≡ front ++ rest → length front ≡ n → take n all ≡ front
 take_front n all front rest is many = ap (take n) is ∙ take_at front rest n many
 
--- the parts gone through, and one more
+-- the parts so far, and one more
 parts_more : (modules : List whole.Module) (number base : ℕ) (m : whole.Module) → number < length modules → m ≡ get_or modules number m → Reached (map module_of modules) number base (left modules number)
     → take (number + 1) (parts (map module_of modules)) ≡ take number (parts (map module_of modules)) ++ part number base (module_of m) ∷ []
 parts_more modules number base m lt is was =
@@ -134,14 +134,14 @@ parts_more modules number base m lt is was =
     ∙ ap (λ ps. ps ++ one ∷ []) (sym (take_front number (parts (map module_of modules)) was.before (one ∷ rest) whole was.many))
 
 pub gives_more : (modules : List whole.Module) (number base : ℕ) (m : whole.Module) (names new : Publics) → number < length modules → m ≡ get_or modules number m → clashes names (part number base (module_of m)) ≡ None
-    → new ≡ names ++ given (part number base (module_of m)) → Gives modules number base names → Gives modules (number + 1) (base + length m.statements.items) new
+    → new ≡ names ++ public_labels (part number base (module_of m)) → Gives modules number base names → Gives modules (number + 1) (base + length m.statements.items) new
 gives_more modules number base m names new lt is none more was = record {
   judging = passes (once (map module_of modules)) modules number base m lt is (judged_by modules number base names (module_of m) was ∙ none) was.judging;
   names_are =
-      more ∙ ap (λ ns. ns ++ given (part number base (module_of m))) was.names_are
-      ∙ ap (λ ns. publics (take number (parts (map module_of modules))) ++ ns) (sym (append-nil (given (part number base (module_of m)))))
-      ∙ sym (flat_map-append given (take number (parts (map module_of modules))) (part number base (module_of m) ∷ []))
-      ∙ ap publics (sym (parts_more modules number base m lt is was.judging.reached));
+      more ∙ ap (λ ns. ns ++ public_labels (part number base (module_of m))) was.names_are
+      ∙ ap (λ ns. all_publics (take number (parts (map module_of modules))) ++ ns) (sym (append-nil (public_labels (part number base (module_of m)))))
+      ∙ sym (flat_map-append public_labels (take number (parts (map module_of modules))) (part number base (module_of m) ∷ []))
+      ∙ ap all_publics (sym (parts_more modules number base m lt is was.judging.reached));
 }
 
 pub given_twice : (modules : List whole.Module) (number base : ℕ) (m : whole.Module) (names : Publics) (fault : JoinFault) → number < length modules → m ≡ get_or modules number m
@@ -149,22 +149,22 @@ pub given_twice : (modules : List whole.Module) (number base : ℕ) (m : whole.M
 given_twice modules number base m names fault lt is some was =
     stops (once (map module_of modules)) modules number base m fault lt is (judged_by modules number base names (module_of m) was ∙ some) was.judging
 
-pub all_given : (modules : List whole.Module) (number base : ℕ) (names : Publics) → length modules ≤ number → Gives modules number base names → names ≡ publics (parts (map module_of modules))
+pub all_given : (modules : List whole.Module) (number base : ℕ) (names : Publics) → length modules ≤ number → Gives modules number base names → names ≡ all_publics (parts (map module_of modules))
 all_given modules number base names le was =
     let r = was.judging.reached in
     let whole : parts (map module_of modules) ≡ r.before ++ [] = r.whole ∙ ap (λ rest. r.before ++ parts_from number base rest) (left_none modules number le) in
-    was.names_are ∙ ap publics (take_front number (parts (map module_of modules)) r.before [] whole r.many ∙ sym (append-nil r.before) ∙ sym whole)
+    was.names_are ∙ ap all_publics (take_front number (parts (map module_of modules)) r.before [] whole r.many ∙ sym (append-nil r.before) ∙ sym whole)
 
--- Links of the modules gone through: with those of the rest, they are all.
+-- The links of the modules so far; with those of the rest they are all links.
 
-pub record Links_so_far (modules : List whole.Module) (names : Publics) (f : Part → Option JoinFault) (number base : ℕ) (links : List Links) : Type 0 where
+pub record Links_so_far (modules : List whole.Module) (names : Publics) (f : ModulePart → Option JoinFault) (number base : ℕ) (links : List Links) : Type 0 where
   pub judging : Judging f modules number base
   pub with_rest : (more : List Links) → AllZip (IsLinks names) (parts_from number base (left modules number)) more → AllZip (IsLinks names) (parts (map module_of modules)) (links ++ more)
 
-pub no_links : (modules : List whole.Module) (names : Publics) (f : Part → Option JoinFault) → Links_so_far modules names f 0 0 []
+pub no_links : (modules : List whole.Module) (names : Publics) (f : ModulePart → Option JoinFault) → Links_so_far modules names f 0 0 []
 no_links modules names f = record { judging = begin f modules; with_rest = λ more all. all }
 
-pub more_links : (modules : List whole.Module) (names : Publics) (f : Part → Option JoinFault) (number base : ℕ) (m : whole.Module) (links : List Links) (l : Links) → number < length modules → m ≡ get_or modules number m
+pub more_links : (modules : List whole.Module) (names : Publics) (f : ModulePart → Option JoinFault) (number base : ℕ) (m : whole.Module) (links : List Links) (l : Links) → number < length modules → m ≡ get_or modules number m
     → f (part number base (module_of m)) ≡ None → IsLinks names (part number base (module_of m)) l → Links_so_far modules names f number base links
     → Links_so_far modules names f (number + 1) (base + length m.statements.items) (links ++ l ∷ [])
 more_links modules names f number base m links l lt is none own was = record {
@@ -175,21 +175,21 @@ more_links modules names f number base m links l lt is none own was = record {
       (own, subst (λ n. AllZip (IsLinks names) (parts_from (number + 1) (base + n) (left modules (number + 1))) more) (sym (statements_of m)) all)));
 }
 
-pub all_links : (modules : List whole.Module) (names : Publics) (f : Part → Option JoinFault) (number base : ℕ) (links : List Links) → length modules ≤ number → Links_so_far modules names f number base links
+pub all_links : (modules : List whole.Module) (names : Publics) (f : ModulePart → Option JoinFault) (number base : ℕ) (links : List Links) → length modules ≤ number → Links_so_far modules names f number base links
     → AllZip (IsLinks names) (parts (map module_of modules)) links
 all_links modules names f number base links le was =
     subst (AllZip (IsLinks names) (parts (map module_of modules))) (append-nil links)
     (was.with_rest [] (subst (λ rest. AllZip (IsLinks names) (parts_from number base rest) []) (sym (left_none modules number le)) tt))
 
--- No module begins late that is the first or does not begin the program.
+-- The first module may say ORG 0100H, and any module may leave it out.
 
 pub first_is_not_late : (base : ℕ) (number : ℕ) (m : Module) → number ≤ 0 → begins_late (part number base m) ≡ None
-first_is_not_late base number m le = ap (λ b. if_so (JoinFault.BeginsNotFirst number) (b && m.begins)) (le-ltb 0 number le)
+first_is_not_late base number m le = ap (λ b. fault_if (JoinFault.BeginsNotFirst number) (b && m.begins)) (le-ltb 0 number le)
 
 pub other_is_not_late : (base : ℕ) (number : ℕ) (m : Module) → m.begins ≡ false → begins_late (part number base m) ≡ None
-other_is_not_late base number m is = ap (λ b. if_so (JoinFault.BeginsNotFirst number) (nat_lt 0 number && b)) is ∙ by_test (nat_lt 0 number)
+other_is_not_late base number m is = ap (λ b. fault_if (JoinFault.BeginsNotFirst number) (nat_lt 0 number && b)) is ∙ by_test (nat_lt 0 number)
   where
-    by_test : (b : Bool) → if_so (JoinFault.BeginsNotFirst number) (b && false) ≡ None
+    by_test : (b : Bool) → fault_if (JoinFault.BeginsNotFirst number) (b && false) ≡ None
     by_test true = refl
     by_test false = refl
 
@@ -197,7 +197,7 @@ pub none_refused : (fault : Option JoinFault) (x : Unit {0}) → Ok x ≡ refuse
 none_refused None x is = refl
 none_refused (Some why) x is = absurd cc
 
--- a fault that a step of going through answers
+-- if the error of this step is also the first error of all, the failure of the step is the failure of all
 pub fails_on : (fault other : Option JoinFault) (why : JoinFault) → Fails fault why → (fault ≡ Some why → other ≡ Some why) → Fails other why
 fails_on fault other JoinFault.NoMemory told on = tt
 fails_on fault other JoinFault.TooManyStatements told on = on told

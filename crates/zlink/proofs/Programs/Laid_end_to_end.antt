@@ -1,19 +1,19 @@
--- Modules laid end to end.
+-- Modules that are put one after the other.
 use Rattle.std.proofs.Common.{◌≡◌, ◌+◌, ◌∙◌, sym, ap, refl, ℕ, zero, suc, List, [], ◌∷◌, ◌++◌, Option, Some, None, length, take, arith, length-append}
 use Rattle.std.specs.List.{flat_map, slice_get}
 use Rattle.std.specs.Option.{option_map}
 use Rattle.std.proofs.lemmas.List.{length-map}
 use Rattle.std.proofs.lemmas.List.Sums.{sum_by-cons}
 use Rattle.std.proofs.lemmas.Option.{same_Some, slice_get-map}
-use Rattle.zmo_module.specs.Modules.{Module, Statement}
+use Rattle.zmo_module.specs.Modules.{Module, ModuleStatement}
 use Rattle.zlink.specs.Program.Laws.{part_at, statement_count}
-use Rattle.zlink.specs.Program.Parts.{Part, Publics, parts, parts_from, publics}
-use Rattle.zlink.specs.Program.Whole.{placed, program, stands}
+use Rattle.zlink.specs.Program.Parts.{ModulePart, Publics, parts, parts_from, all_publics}
+use Rattle.zlink.specs.Program.Whole.{placed_statements, program, stands}
 
 pub count-cons : (m : Module) (ms : List Module) → statement_count (m ∷ ms) ≡ length m.statements + statement_count ms
 count-cons m ms = sum_by-cons (λ x. length x.statements) m ms
 
--- the part of a module, behind so many
+-- part number m, if the first part has a number and a base
 pub part_get : (number base : ℕ) (modules : List Module) (m : ℕ)
     → slice_get (parts_from number base modules) m ≡ option_map (λ x. record { number = number + m; base = base + statement_count (take m modules); holds = x }) (slice_get modules m)
 part_get number base [] m = refl
@@ -42,13 +42,13 @@ parts-take number base [] (suc m) = refl
 parts-take number base (x ∷ xs) zero = refl
 parts-take number base (x ∷ xs) (suc m) = ap (λ ps. record { number = number; base = base; holds = x } ∷ ps) (parts-take (number + 1) (base + length x.statements) xs m)
 
-pub length-program : (names : Publics) (number base : ℕ) (modules : List Module) → length (flat_map (placed names) (parts_from number base modules)) ≡ statement_count modules
+pub length-program : (names : Publics) (number base : ℕ) (modules : List Module) → length (flat_map (placed_statements names) (parts_from number base modules)) ≡ statement_count modules
 length-program names number base [] = refl
 length-program names number base (x ∷ xs) =
-    let here : Part = record { number = number; base = base; holds = x } in
-    let own : length (placed names here) ≡ length x.statements = length-map x.statements (λ s. record { statement = s; stands = stands names here }) in
+    let here : ModulePart = record { number = number; base = base; holds = x } in
+    let own : length (placed_statements names here) ≡ length x.statements = length-map x.statements (λ s. record { statement = s; stands = stands names here }) in
     let rest = length-program names (number + 1) (base + length x.statements) xs in
-    length-append (placed names here) (flat_map (placed names) (parts_from (number + 1) (base + length x.statements) xs)) ∙ omega arith ∙ sym (count-cons x xs)
+    length-append (placed_statements names here) (flat_map (placed_statements names) (parts_from (number + 1) (base + length x.statements) xs)) ∙ omega arith ∙ sym (count-cons x xs)
 
 get_left : {X : Type 0} (xs ys : List X) (i : ℕ) (x : X) → slice_get xs i ≡ Some x → slice_get (xs ++ ys) i ≡ Some x
 get_left [] ys i x is = absurd cc
@@ -60,7 +60,7 @@ get_right [] ys i k is = ap (slice_get ys) (omega (arith, is))
 get_right (x ∷ xs) ys i zero is = absurd (omega (arith, is))
 get_right (x ∷ xs) ys i (suc k) is = get_right xs ys i k (omega (arith, is))
 
--- an element of the list that a member of another is made into
+-- an element of the list that one member is mapped to is an element of the joined lists
 get_flat : {X A : Type 0} (f : X → List A) (xs : List X) (m i : ℕ) (x : X) (a : A) → slice_get xs m ≡ Some x → slice_get (f x) i ≡ Some a → slice_get (flat_map f xs) (length (flat_map f (take m xs)) + i) ≡ Some a
 get_flat f [] m i x a is at = absurd cc
 get_flat f (y ∷ ys) zero i x a is at =
@@ -70,18 +70,18 @@ get_flat f (y ∷ ys) (suc m) i x a is at =
     let behind = length-append (f y) (flat_map f (take m ys)) in
     get_right (f y) (flat_map f ys) (length (flat_map f (take m ys)) + i) (length (flat_map f (take (suc m) (y ∷ ys))) + i) (omega (arith, behind)) ∙ get_flat f ys m i x a is at
 
--- a part's base, by the parts before it
-base_is : (names : Publics) (modules : List Module) (m : ℕ) (p : Part) → slice_get (parts modules) m ≡ Some p → p.base ≡ length (flat_map (placed names) (take m (parts modules)))
-base_is names modules m p is = by_module (slice_get modules m) (sym (part_there modules m) ∙ is) ∙ sym (ap (λ ps. length (flat_map (placed names) ps)) (parts-take 0 0 modules m) ∙ length-program names 0 0 (take m modules))
+-- the base of a part is the number of statements in the parts before it
+base_is : (names : Publics) (modules : List Module) (m : ℕ) (p : ModulePart) → slice_get (parts modules) m ≡ Some p → p.base ≡ length (flat_map (placed_statements names) (take m (parts modules)))
+base_is names modules m p is = by_module (slice_get modules m) (sym (part_there modules m) ∙ is) ∙ sym (ap (λ ps. length (flat_map (placed_statements names) ps)) (parts-take 0 0 modules m) ∙ length-program names 0 0 (take m modules))
   where
     by_module : (o : Option Module) → option_map (part_at modules m) o ≡ Some p → p.base ≡ statement_count (take m modules)
     by_module None told = absurd cc
     by_module (Some x) told = sym (ap (λ q. q.base) (same_Some (part_at modules m x) p told))
 
-pub statement_there : (modules : List Module) (m i : ℕ) (p : Part) (s : Statement) → slice_get (parts modules) m ≡ Some p → slice_get p.holds.statements i ≡ Some s
-    → slice_get (program modules) (p.base + i) ≡ Some (record { statement = s; stands = stands (publics (parts modules)) p })
+pub statement_there : (modules : List Module) (m i : ℕ) (p : ModulePart) (s : ModuleStatement) → slice_get (parts modules) m ≡ Some p → slice_get p.holds.statements i ≡ Some s
+    → slice_get (program modules) (p.base + i) ≡ Some (record { statement = s; stands = stands (all_publics (parts modules)) p })
 statement_there modules m i p s is at =
-    let names = publics (parts modules) in
+    let names = all_publics (parts modules) in
     ap (λ b. slice_get (program modules) (b + i)) (base_is names modules m p is)
-    ∙ get_flat (placed names) (parts modules) m i p (record { statement = s; stands = stands names p }) is
+    ∙ get_flat (placed_statements names) (parts modules) m i p (record { statement = s; stands = stands names p }) is
     (slice_get-map (λ t. record { statement = t; stands = stands names p }) p.holds.statements i ∙ ap (option_map (λ t. record { statement = t; stands = stands names p })) at)

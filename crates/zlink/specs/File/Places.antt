@@ -1,9 +1,9 @@
--- Where statements stand, as a list.
+-- The list of the addresses of statements.
 use Rattle.std.specs.Prelude.{◌≡◌, ℕ, ◌+◌, ◌≤◌, List, length, slice_index}
 use Rattle.ruler.specs.declared.shape.Statement.{Statement}
 use Rattle.ruler.specs.Choice.{Choice, place}
 
--- the places of the statements and of their end
+-- the address of each statement, and the address of the end
 pub record ArePlaces (c : Choice) (shape : List Statement) (places : List ℕ) : Type 0 where
   pub len : length places ≡ length shape + 1
   pub each : (k : ℕ) → k ≤ length shape → slice_index places k ≡ place c shape k

@@ -1,36 +1,36 @@
--- What the steps of joining answer.
+-- What the steps of `join` answer.
 use Rattle.std.specs.Prelude.{◌≡◌, ℕ, List, Option, Some, None, Result, Ok, Err, is_some, take}
 use Rattle.zmo_module.specs.Modules.{Module}
 use Rattle.zlink.specs.declared.program.fault.JoinFault.{JoinFault}
-use Rattle.zlink.specs.Program.Faults.{first_of, if_so, twice}
-use Rattle.zlink.specs.Program.Parts.{Part, Publics, found, label_at, parts}
+use Rattle.zlink.specs.Program.Faults.{first_of, fault_if, twice}
+use Rattle.zlink.specs.Program.Parts.{ModulePart, Publics, public_found, label_at, parts}
 
--- a fault is refused
+-- refuses if there is an error
 abbrev pub refused : Option JoinFault → Result (Unit {0}) JoinFault
 refused None = Ok tt
 refused (Some fault) = Err fault
 
--- this is the fault, or memory is out
+-- `why` is this error, or memory ran out
 abbrev pub Fails : Option JoinFault → JoinFault → Type 0
 Fails fault JoinFault.NoMemory = Unit {0}
 Fails fault why = fault ≡ Some why
 
--- The fault, or what is answered where there is none, but for memory.
+-- The answer is the error if there is one, and otherwise a value that P holds of. If memory ran out, nothing is claimed.
 abbrev pub Judges : {A : Type 0} → Option JoinFault → (A → Type 0) → Result A JoinFault → Type 0
 Judges fault P (Ok x) = (fault ≡ None) × P x
 Judges fault P (Err why) = Fails fault why
 
-abbrev pub part : ℕ → ℕ → Module → Part
+abbrev pub part : ℕ → ℕ → Module → ModulePart
 part number base m = record { number = number; base = base; holds = m }
 
--- a public label of a name that is given
-abbrev pub clash : Publics → Part → ℕ → Option JoinFault
-clash names p l = if_so (JoinFault.DefinedTwice p.number l) (is_some (found names (label_at p.holds l).name))
+-- the error of a public label whose name is in the list
+abbrev pub clash : Publics → ModulePart → ℕ → Option JoinFault
+clash names p l = fault_if (JoinFault.DefinedTwice p.number l) (is_some (public_found names (label_at p.holds l).name))
 
--- the first of a part's public labels of a name that is given
-abbrev pub clashes : Publics → Part → Option JoinFault
+-- the first public label of a part whose name is in the list
+abbrev pub clashes : Publics → ModulePart → Option JoinFault
 clashes names p = first_of (clash names p) p.holds.publics
 
--- a public name of a part that one before it gives
-abbrev pub once : List Module → Part → Option JoinFault
+-- the first public label of a part whose name an earlier part defines
+abbrev pub once : List Module → ModulePart → Option JoinFault
 once modules p = twice (take p.number (parts modules)) p

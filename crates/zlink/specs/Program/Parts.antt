@@ -1,44 +1,44 @@
--- Modules laid end to end, and the names that they give to one another.
+-- Modules put one after the other, and the names that they give to each other.
 use Rattle.std.specs.Prelude.{ℕ, ◌+◌, List, [], ◌∷◌, Option, length, map}
 use Rattle.std.specs.List.{flat_map, slice_index_or}
 use Rattle.std.specs.Map.{lookup}
 use Rattle.std.specs.Str.{bytes_eq}
 use Rattle.zmo_module.specs.Modules.{Label, Module}
 
--- A module among others: its number, and how many statements stand before its own.
-pub record Part : Type 0 where
+-- A module among others: its number, and how many statements come before its own.
+pub record ModulePart : Type 0 where
   pub number : ℕ
   pub base : ℕ
   pub holds : Module
 
-abbrev pub parts_from : ℕ → ℕ → List Module → List Part
+abbrev pub parts_from : ℕ → ℕ → List Module → List ModulePart
 parts_from number base [] = []
 parts_from number base (m ∷ ms) = record { number = number; base = base; holds = m } ∷ parts_from (number + 1) (base + length m.statements) ms
 
--- modules in their order
-abbrev pub parts : List Module → List Part
+-- all modules in their order, each with its base
+abbrev pub parts : List Module → List ModulePart
 parts modules = parts_from 0 0 modules
 
--- the label of a number; one without a name where there is none
+-- the label with this number; a label without a name if there is none
 abbrev pub label_at : Module → ℕ → Label
 label_at m l = slice_index_or m.labels l (record { statement = 0; name = [] })
 
--- names, each with the number of a statement of the whole
+-- names, each with the number of a statement of the program
 abbrev pub Publics : Type 0
 Publics = List (List ℕ × ℕ)
 
--- a label, by its name in the whole
-abbrev pub given_label : Part → ℕ → List ℕ × ℕ
+-- a label's name, with the number of its statement in the program
+abbrev pub given_label : ModulePart → ℕ → List ℕ × ℕ
 given_label p l = ((label_at p.holds l).name, p.base + (label_at p.holds l).statement)
 
--- what a module gives to the others: its public labels
-abbrev pub given : Part → Publics
-given p = map (given_label p) p.holds.publics
+-- the public labels of a part
+abbrev pub public_labels : ModulePart → Publics
+public_labels p = map (given_label p) p.holds.publics
 
--- what all of them give
-abbrev pub publics : List Part → Publics
-publics ps = flat_map given ps
+-- the public labels of all parts
+abbrev pub all_publics : List ModulePart → Publics
+all_publics ps = flat_map public_labels ps
 
--- the statement at which a name stands, where it is given
-abbrev pub found : Publics → List ℕ → Option ℕ
-found publics name = lookup (bytes_eq name) publics
+-- the number of the statement for which a public name stands, if there is such a name
+abbrev pub public_found : Publics → List ℕ → Option ℕ
+public_found publics name = lookup (bytes_eq name) publics

@@ -1,4 +1,4 @@
-//! The bytes of a whole.
+//! Writes the file of a whole program.
 
 ghost use Rattle.std.specs.Prelude.{◌≡◌, ◌≤◌, ◌+◌, All, IfOk, None, OnOk, length, map, slice_index};
 ghost use Rattle.ruler.specs.Choice.{IsValid, chosen};
@@ -6,7 +6,7 @@ ghost use Rattle.zmo_module.specs.Modules.{module_of, statement_of};
 ghost use Rattle.zmo_module.specs.Rules.{IsModule};
 ghost use Rattle.zlink.specs.Program.Faults.{first_fault};
 ghost use Rattle.zlink.specs.Program.Whole.{AreLinks, program};
-ghost use Rattle.zlink.specs.File.Objects.{ReadsObjects, shape};
+ghost use Rattle.zlink.specs.File.Objects.{ReadsObjects, placed_shape};
 ghost use Rattle.zlink.specs.File.Places.{ArePlaces};
 ghost use Rattle.zlink.specs.Private.Pieces.{Appends, AreLaid, AreReady, IsSizedPiece};
 
@@ -18,7 +18,7 @@ use common::FIRST_PLACE;
 use std::alloc::{AllocError, Global};
 use zmo_module::{Module, Statement};
 
-/// Writes the statements of a module, of which the first has the number `first` in the whole.
+/// Writes the statements of a module. The first of them has the number `first` in the whole program.
 fn put_statements(
     file: &mut Vec<u8>,
     statements: &[Statement],
@@ -39,7 +39,7 @@ fn put_statements(
     Ok(())
 }
 
-/// The file of a whole under a choice that can be laid out.
+/// Writes the file of the whole program under a choice that fits.
 pub fn emit(
     alloc: Global,
     modules: &[Module],
@@ -51,8 +51,8 @@ pub fn emit(
     requires joined { first_fault (map module_of modules.now) ≡ None }
     requires links { AreLinks (map module_of modules.now) links.now }
     requires len { length long.now ≡ length (program (map module_of modules.now)) }
-    requires places { ArePlaces (chosen long.now) (shape (program (map module_of modules.now))) places.now }
-    requires valid { IsValid (chosen long.now) (shape (program (map module_of modules.now))) }
+    requires places { ArePlaces (chosen long.now) (placed_shape (program (map module_of modules.now))) places.now }
+    requires valid { IsValid (chosen long.now) (placed_shape (program (map module_of modules.now))) }
     ensures { IfOk result (λ file. ReadsObjects file.items (program (map module_of modules.now)) (chosen long.now)) }
 {
     laid_out();

@@ -1,4 +1,4 @@
-//! Where the statements of a whole stand.
+//! Computes the shape and the addresses of a whole program.
 
 ghost use Rattle.std.specs.Prelude.{◌≡◌, ◌&&◌, ◌≤◌, ◌<◌, ◌+◌, ◌++◌, ◌^◌, All, IfOk, None, OnOk, length, map, vec_len};
 ghost use Rattle.common.specs.declared.limits.TheConstants.{MOST_STATEMENTS};
@@ -7,7 +7,7 @@ ghost use Rattle.zmo_module.specs.Modules.{module_of, statement_of};
 ghost use Rattle.zmo_module.specs.Rules.{IsModule};
 ghost use Rattle.zlink.specs.Program.Faults.{first_fault};
 ghost use Rattle.zlink.specs.Program.Whole.{AreLinks, program};
-ghost use Rattle.zlink.specs.File.Objects.{grown, is_marked, shape, sized_by};
+ghost use Rattle.zlink.specs.File.Objects.{grown, is_marked, placed_shape, sized_by};
 ghost use Rattle.zlink.specs.File.Places.{ArePlaces};
 ghost use Rattle.zlink.specs.Private.Marked.{marked_from};
 ghost use Rattle.zlink.specs.Private.Refs.{IsSizable, stands_by};
@@ -20,7 +20,7 @@ use ruler::{Shape, Statement};
 use std::alloc::{AllocError, Global};
 use zmo_module::Module;
 
-/// A statement as far as its size matters, in a module of `count` statements.
+/// Answers the size and target of a statement, in a module of `count` statements.
 fn sized(statement: &zmo_module::Statement, count: usize, links: &Links) -> Statement
     requires sizable { IsSizable (count + 1 + vec_len links.now.externals) (statement_of statement.now) }
     requires room { links.now.base + count < 2 ^ 32 }
@@ -38,7 +38,7 @@ fn sized(statement: &zmo_module::Statement, count: usize, links: &Links) -> Stat
     }
 }
 
-/// Adds the statements of a module, as far as their sizes matter.
+/// Appends the sizes and targets of the statements of a module.
 fn put_sizes(
     sizes: &mut Vec<Statement>,
     statements: &[zmo_module::Statement],
@@ -56,12 +56,12 @@ fn put_sizes(
     Ok(())
 }
 
-/// The whole as far as its sizes and the targets of its jumps matter.
+/// Answers the shape of the whole program: the sizes of its statements and the targets of its jumps.
 pub fn shape_of(alloc: Global, modules: &[Module], links: &[Links]) -> Result<Shape, AllocError>
     requires modules { All IsModule (map module_of modules.now) }
     requires joined { first_fault (map module_of modules.now) ≡ None }
     requires links { AreLinks (map module_of modules.now) links.now }
-    ensures { IfOk result (λ s. s ≡ shape (program (map module_of modules.now))) }
+    ensures { IfOk result (λ s. s ≡ placed_shape (program (map module_of modules.now))) }
 {
     laid_out();
     within();
@@ -72,7 +72,7 @@ pub fn shape_of(alloc: Global, modules: &[Module], links: &[Links]) -> Result<Sh
     Ok(Shape::new(sizes))
 }
 
-/// The place of each statement, and of the end.
+/// Answers the address of each statement, and the address of the end.
 pub fn places_of(
     alloc: Global,
     statements: &[Statement],
@@ -92,21 +92,21 @@ pub fn places_of(
     Ok(places)
 }
 
-/// Whether it is a jump that was written as a `JR`, and long.
+/// Whether the statement is a jump that was written as `JR` and is long.
 fn is_grown(statement: &zmo_module::Statement, long: bool) -> bool
     ensures { result ≡ (is_marked (statement_of statement.now) && long) }
 {
     long && matches!(statement, zmo_module::Statement::Jump { marked: true, .. })
 }
 
-/// A number of 32 bits; there is no room for so many statements that one needs more.
+/// Converts a number to 32 bits. Memory cannot hold as many statements as would need more.
 fn number(k: usize) -> Result<u32, AllocError>
     ensures { IfOk result (λ n. n ≡ k) }
 {
     u32::try_from(k).map_err(|_| AllocError)
 }
 
-/// Adds the numbers of those jumps of a module that were written as a `JR` and are long.
+/// Appends the numbers of a module's jumps that were written as `JR` and are long.
 fn put_grown(
     numbers: &mut Vec<u32>,
     statements: &[zmo_module::Statement],
@@ -124,7 +124,7 @@ fn put_grown(
     Ok(())
 }
 
-/// The numbers of the jumps that were written as a `JR` and are long, ascending.
+/// Answers the numbers of the jumps that were written as `JR` and are long, ascending.
 pub fn grown(alloc: Global, modules: &[Module], long: &[bool]) -> Result<Vec<u32>, AllocError>
     requires { length long.now ≡ length (program (map module_of modules.now)) }
     ensures { IfOk result (λ v. v.items ≡ grown (program (map module_of modules.now)) (chosen long.now)) }

@@ -1,4 +1,4 @@
-//! The bytes of one statement.
+//! Writes the bytes of one statement.
 
 ghost use Rattle.std.specs.Prelude.{◌≡◌, ◌≤◌, ◌<◌, ◌+◌, ◌++◌, All, FitsSigned, OnOk, ℕ, ◌^◌, ◌+ℤ◌, drop, length, pos, replicate, slice_index, take};
 ghost use Rattle.std.specs.Int.{w8};
@@ -8,8 +8,8 @@ ghost use Rattle.z80_instr.specs.Table.{canonical};
 ghost use Rattle.asm_piece.specs.Cells.{written};
 ghost use Rattle.asm_piece.specs.Made.{long_jump};
 ghost use Rattle.asm_statements.specs.Program.Linked.{filled};
-ghost use Rattle.asm_statements.specs.Program.Pieces.{LeadsTo, short_jump};
-ghost use Rattle.zmo_module.specs.Holes.{IsHole, LieWithin, size_of};
+ghost use Rattle.asm_statements.specs.Program.Pieces.{IsShortJump, short_jump};
+ghost use Rattle.zmo_module.specs.Holes.{IsHole, LieWithin, width_size};
 ghost use Rattle.zmo_module.specs.Modules.{statement_of};
 ghost use Rattle.zlink.specs.Private.Pieces.{Appends, IsReady, IsSizedPiece};
 
@@ -20,7 +20,7 @@ use z80_encode::encode;
 use z80_instr::{Branch, Instr, ShortCond};
 use zmo_module::{Hole, Statement, Width};
 
-/// JR or DJNZ by a displacement.
+/// Answers the JR or DJNZ with this displacement.
 fn short_jump(branch: Branch, displacement: i8) -> Instr
     ensures { result ≡ short_jump branch displacement }
 {
@@ -31,7 +31,7 @@ fn short_jump(branch: Branch, displacement: i8) -> Instr
     }
 }
 
-/// What a short jump adds to the place behind it.
+/// Answers the displacement of a short jump at `from` to `to`: how far its end is from the target.
 fn displacement(from: u32, to: u32) -> i8
     requires near { IsNear from to }
     requires small { from < 2 ^ 31 }
@@ -51,11 +51,11 @@ fn put_instr(file: &mut Vec<u8>, instr: &Instr) -> Result<(), AllocError>
     file.extend_from_slice(&bytes[..usize::from(len)])
 }
 
-/// Writes a short jump.
+/// Writes a short jump at address `from` to address `to`.
 fn put_short(file: &mut Vec<u8>, branch: Branch, from: u32, to: u32) -> Result<(), AllocError>
     requires near { IsNear from to }
     requires small { from < 2 ^ 31 }
-    ensures { OnOk result (Appends file.old.items file.new.items (λ bytes. LeadsTo from to branch bytes × (length bytes ≡ 2))) }
+    ensures { OnOk result (Appends file.old.items file.new.items (λ bytes. IsShortJump from to branch bytes × (length bytes ≡ 2))) }
 {
     let jump = short_jump(branch, displacement(from, to));
     put_instr(file, &jump)?;
@@ -70,7 +70,7 @@ fn put_long(file: &mut Vec<u8>, condition: Option<ShortCond>, to: u16) -> Result
     put_instr(file, &jump)
 }
 
-/// Writes one value as often as it says.
+/// Writes the bytes of a DS: `size` times the same byte.
 fn put_space(file: &mut Vec<u8>, size: u16, fill: u8) -> Result<(), AllocError>
     ensures { OnOk result (file.new.items ≡ file.old.items ++ replicate size fill) }
 {
@@ -78,9 +78,9 @@ fn put_space(file: &mut Vec<u8>, size: u16, fill: u8) -> Result<(), AllocError>
     file.resize(len, fill)
 }
 
-/// Writes a number over bytes.
+/// Overwrites one or two bytes with a number.
 fn write(bytes: &mut [u8], at: usize, width: Width, number: u16)
-    requires { at + size_of width ≤ length bytes.old }
+    requires { at + width_size width ≤ length bytes.old }
     ensures { bytes.new ≡ take at bytes.old ++ (written width number ++ drop (at + length (written width number)) bytes.old) }
 {
     bytes[at] = (number % 256) as u8;
@@ -89,7 +89,7 @@ fn write(bytes: &mut [u8], at: usize, width: Width, number: u16)
     }
 }
 
-/// Writes the values of holes over their bytes.
+/// Writes the values of fix-ups over their bytes.
 fn fill(bytes: &mut [u8], holes: &[Hole], table: &[u16])
     requires within { LieWithin 0 (length bytes.old) holes.now }
     requires holes { All (IsHole (length table.now) bytes.old) holes.now }
@@ -101,7 +101,7 @@ fn fill(bytes: &mut [u8], holes: &[Hole], table: &[u16])
     }
 }
 
-/// Writes bytes whose holes have values.
+/// Writes bytes and fills their fix-ups.
 fn put_bytes(
     file: &mut Vec<u8>,
     bytes: &[u8],
@@ -119,7 +119,7 @@ fn put_bytes(
     Ok(())
 }
 
-/// Writes a statement, where `table` has the place of each ref.
+/// Writes a statement. `table` has the address of each ref.
 pub(crate) fn put_statement(
     file: &mut Vec<u8>,
     statement: &Statement,

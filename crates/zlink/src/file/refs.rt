@@ -1,4 +1,4 @@
-//! What the refs of one module stand for.
+//! Answers what the refs of one module stand for.
 
 ghost use Rattle.std.specs.Prelude.{◌≡◌, ◌≤◌, ◌<◌, ◌+◌, ◌++◌, ◌^◌, All, OnOk, length, map, slice_index, vec_len};
 ghost use Rattle.zlink.specs.Private.Refs.{stands_by, table_of};
@@ -6,7 +6,7 @@ ghost use Rattle.zlink.specs.Private.Refs.{stands_by, table_of};
 use crate::program::Links;
 use std::alloc::AllocError;
 
-/// The number in the whole for which a ref stands, in a module of `count` statements.
+/// Answers the statement of the whole program for which a ref stands, in a module of `count` statements.
 pub(crate) fn stands(count: usize, links: &Links, target: u16) -> u32
     requires refs { target < count + 1 + vec_len links.now.externals }
     requires room { links.now.base + count < 2 ^ 32 }
@@ -20,7 +20,7 @@ pub(crate) fn stands(count: usize, links: &Links, target: u16) -> u32
     }
 }
 
-/// The place of a number, and 0 where there is none.
+/// Answers the address of a statement, or 0 if there is no such statement.
 fn place_at(places: &[u32], number: u32) -> u16
     requires { All (λ place. place < 65536) places.now }
     ensures { result ≡ slice_index places.now number }
@@ -31,7 +31,7 @@ fn place_at(places: &[u32], number: u32) -> u16
     }
 }
 
-/// Adds places to a table.
+/// Appends addresses to a table.
 fn put_places(table: &mut Vec<u16>, places: &[u32]) -> Result<(), AllocError>
     requires { All (λ place. place < 65536) places.now }
     ensures { OnOk result (table.new.items ≡ table.old.items ++ places.now) }
@@ -42,7 +42,7 @@ fn put_places(table: &mut Vec<u16>, places: &[u32]) -> Result<(), AllocError>
     Ok(())
 }
 
-/// Adds the places of numbers to a table.
+/// Appends the addresses of these statements to a table.
 fn put_externals(table: &mut Vec<u16>, externals: &[u32], places: &[u32]) -> Result<(), AllocError>
     requires { All (λ place. place < 65536) places.now }
     ensures { OnOk result (table.new.items ≡ table.old.items ++ map (slice_index places.now) externals.now) }
@@ -53,7 +53,7 @@ fn put_externals(table: &mut Vec<u16>, externals: &[u32], places: &[u32]) -> Res
     Ok(())
 }
 
-/// Makes the table of the places of a module's refs, in the room of the one before.
+/// Replaces the content of the table by the addresses of a module's refs. One table serves all modules, so its memory is used again.
 pub(crate) fn fill_table(
     table: &mut Vec<u16>,
     count: usize,

@@ -1,4 +1,4 @@
-//! Laws of files, as functions that do nothing.
+//! Laws about files. A law is a function that does nothing and whose clause is a theorem.
 
 ghost use Rattle.std.specs.Prelude.{◌≡◌, ℕ, List};
 ghost use Rattle.ruler.specs.declared.shape.Statement.{Statement};
@@ -7,7 +7,7 @@ ghost use Rattle.zlink.specs.Program.Whole.{Placed};
 ghost use Rattle.zlink.specs.File.Objects.{ReadsObjects};
 ghost use Rattle.zlink.specs.File.Places.{ArePlaces};
 
-/// Under a choice, statements of modules are one file, and the statements of a shape have one list of places.
+/// Statements of modules have one file under a choice, and a shape has one list of addresses under a choice.
 pub fn one_file()
     ensures file { (file other : List ℕ) (program : List Placed) (c : Choice) → ReadsObjects file program c → ReadsObjects other program c → file ≡ other }
     ensures places { (c : Choice) (shape : List Statement) (places other : List ℕ) → ArePlaces c shape places → ArePlaces c shape other → places ≡ other }

@@ -1,4 +1,4 @@
-//! Faults that are seen without names.
+//! Checks that need no names.
 
 ghost use Rattle.std.specs.Prelude.{◌≡◌, ◌≤◌, All, map};
 ghost use Rattle.common.specs.declared.limits.TheConstants.{MOST_STATEMENTS};
@@ -27,7 +27,7 @@ pub(crate) fn check_count(modules: &[Module]) -> Result<(), JoinFault>
     Ok(())
 }
 
-/// Refuses a module that begins the program and is not the first.
+/// Refuses a module that says ORG 0100H and is not the first.
 pub(crate) fn check_begins(modules: &[Module]) -> Result<(), JoinFault>
     ensures { result ≡ refused (first_of begins_late (parts (map module_of modules.now))) }
 {
@@ -39,7 +39,7 @@ pub(crate) fn check_begins(modules: &[Module]) -> Result<(), JoinFault>
     Ok(())
 }
 
-/// Refuses a module whose entry is not the first statement of the whole. So many statements stand before its own.
+/// Refuses a module whose entry is not the first statement of the program. `base` statements come before its own.
 fn check_entry(number: usize, base: u32, object: &Module) -> Result<(), JoinFault>
     requires rules { IsModule (module_of object.now) }
     requires few { base ≤ MOST_STATEMENTS }
@@ -55,7 +55,7 @@ fn check_entry(number: usize, base: u32, object: &Module) -> Result<(), JoinFaul
     Ok(())
 }
 
-/// Refuses an entry that is not the first statement of the whole.
+/// Refuses an entry that is not the first statement of the program.
 pub(crate) fn check_entries(modules: &[Module]) -> Result<(), JoinFault>
     requires rules { All IsModule (map module_of modules.now) }
     requires few { statement_count (map module_of modules.now) ≤ MOST_STATEMENTS }

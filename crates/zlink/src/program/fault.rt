@@ -5,20 +5,20 @@ ghost use Rattle.std.specs.Prelude.{◌≡◌};
 use std::alloc::{AllocError, AllocFailed};
 use thiserror::Error;
 
-/// Why modules make no program. Modules, their labels and their externals are numbered from 0. Where there are several reasons, the first
-/// here is told.
+/// Why modules make no program. Modules, their labels and their externals are numbered from 0. If there are several reasons, the first of
+/// these is reported.
 #[derive(Clone, Copy, Debug, PartialEq, Eq, Error)]
 pub enum JoinFault {
     /// There are more than 20,000 statements.
     #[error("too many statements")]
     TooManyStatements,
-    /// This module begins the program, and is not the first.
+    /// This module says ORG 0100H, but is not the first.
     #[error("module {0} begins the program, and is not the first")]
     BeginsNotFirst(usize),
-    /// This label of this module is public, and one of its name is public in a module before it.
+    /// This label of this module is public, and a module before it has a public label of the same name.
     #[error("label {1} of module {0} is public in a module before it too")]
     DefinedTwice(usize, u16),
-    /// This external of this module is public in no module.
+    /// No module has a public label with the name of this external of this module.
     #[error("external {1} of module {0} is public in no module")]
     Unresolved(usize, usize),
     /// The entry of this module is not the first statement of the program.

@@ -1,4 +1,4 @@
-//! From modules to the places of their names.
+//! Finds for each module where its statements begin and what its externals stand for.
 
 ghost use Rattle.std.specs.Prelude.{◌≤◌, All, map};
 ghost use Rattle.std.specs.List.{AllZip};
@@ -18,16 +18,16 @@ use crate::program::publics::PublicNames;
 use std::alloc::Global;
 use zmo_module::Module;
 
-/// Where the statements of a module stand among those of the whole.
+/// The links of a module to the whole program.
 #[derive(Debug, Drop)]
 pub struct Links {
-    /// How many statements stand before its own.
+    /// How many statements come before its own in the whole program.
     pub base: u32,
-    /// Of each external the number of the statement in the whole at which it stands.
+    /// For each of its externals the number of the statement for which it stands, in the whole program.
     pub externals: Vec<u32>,
 }
 
-/// Where a module stands behind so many statements, and each of its externals, or the first that is given by none.
+/// Answers the links of a module before which `base` statements come, or the first external that no module defines.
 fn links_of(
     alloc: Global,
     names: &PublicNames<'_>,
@@ -47,7 +47,7 @@ fn links_of(
     Ok(Links { base, externals })
 }
 
-/// Where each module stands, and its externals, or the first that is given by none.
+/// Answers the links of all modules, or the first external that no module defines.
 fn all_links(
     alloc: Global,
     names: &PublicNames<'_>,
@@ -66,12 +66,12 @@ fn all_links(
     Ok(links)
 }
 
-/// What each name of modules stands for, where they are laid in their order.
+/// Answers for each module, in their order, where its statements begin and which statement each external stands for.
 ///
 /// # Errors
 ///
-/// The first fault of the modules together: of each kind the first, in the order of the kinds; [`JoinFault::NoMemory`] where memory ran
-/// out.
+/// The first error of the modules together: the kinds are looked for in the order of [`JoinFault`], and the first error of the first kind
+/// is answered; [`JoinFault::NoMemory`] if memory ran out.
 pub fn join(alloc: Global, modules: &[Module]) -> Result<Vec<Links>, JoinFault>
     requires { All IsModule (map module_of modules.now) }
     ensures { IsJoined (map module_of modules.now) (result_map_both (λ links. links.items) (λ fault. fault) result) }

@@ -1,4 +1,4 @@
-//! The names that modules give to one another.
+//! The public names of all modules.
 
 ghost use Rattle.std.specs.Prelude.{◌≡◌, ◌≤◌, ◌++◌, ◌∷◌, [], All, IfOk, None, OnOk, is_some, map, not};
 ghost use Rattle.common.specs.declared.limits.TheConstants.{MOST_STATEMENTS};
@@ -6,7 +6,7 @@ ghost use Rattle.zmo_module.specs.Modules.{module_of};
 ghost use Rattle.zmo_module.specs.Rules.{IsModule};
 ghost use Rattle.zlink.specs.Program.Faults.{first_of};
 ghost use Rattle.zlink.specs.Program.Laws.{statement_count};
-ghost use Rattle.zlink.specs.Program.Parts.{found, given, parts, publics};
+ghost use Rattle.zlink.specs.Program.Parts.{public_found, public_labels, parts, all_publics};
 ghost use Rattle.zlink.specs.Private.Joining.{Judges, clashes, once, part};
 
 use crate::program::fault::JoinFault;
@@ -16,7 +16,7 @@ use std::alloc::{AllocError, Global};
 use std::marker::Model;
 use zmo_module::Module;
 
-/// Public names, each with the number of a statement of the whole.
+/// Public names, each with the number of a statement of the whole program.
 #[derive(Drop)]
 pub(crate) struct PublicNames<'a> {
     statements: IndexMap<&'a [u8], u32, NameKey>,
@@ -31,14 +31,14 @@ impl<'a> Model for PublicNames<'a> {
     ghost view = { λ n. map (λ e. (e.0.now, e.1)) n.statements.entries };
 }
 
-/// Mixes in the names of a module's labels.
+/// Mixes the names of a module's labels into the key.
 fn mix(mixer: &mut KeyMixer, module: &Module) {
     for label in &module.labels {
         mixer.mix(&label.name);
     }
 }
 
-/// The key of the names of modules.
+/// Answers the key with which the names of these modules are hashed.
 fn key_of(modules: &[Module]) -> NameKey {
     let mut mixer = KeyMixer::new();
     for module in modules {
@@ -48,11 +48,11 @@ fn key_of(modules: &[Module]) -> NameKey {
 }
 
 impl<'a> PublicNames<'a> {
-    /// The public names of modules, or the first that is given twice.
+    /// Collects the public names of all modules, or answers the first that is defined twice.
     pub(crate) fn of(alloc: Global, modules: &'a [Module]) -> Result<PublicNames<'a>, JoinFault>
         requires rules { All IsModule (map module_of modules.now) }
         requires few { statement_count (map module_of modules.now) ≤ MOST_STATEMENTS }
-        ensures { Judges (first_of (once (map module_of modules.now)) (parts (map module_of modules.now))) (λ names. names ≡ publics (parts (map module_of modules.now))) result }
+        ensures { Judges (first_of (once (map module_of modules.now)) (parts (map module_of modules.now))) (λ names. names ≡ all_publics (parts (map module_of modules.now))) result }
     {
         let mut names = PublicNames {
             statements: IndexMap::with_hasher(alloc, key_of(modules)),
@@ -65,11 +65,11 @@ impl<'a> PublicNames<'a> {
         Ok(names)
     }
 
-    /// Adds the public names of a module with this number and behind so many statements.
+    /// Adds the public names of a module. It has this number, and `base` statements come before its own.
     fn give(&mut self, number: usize, base: u32, object: &'a Module) -> Result<(), JoinFault>
         requires rules { IsModule (module_of object.now) }
         requires few { base ≤ MOST_STATEMENTS }
-        ensures { Judges (clashes self.old (part number base (module_of object.now))) (λ _. self.new ≡ self.old ++ given (part number base (module_of object.now))) result }
+        ensures { Judges (clashes self.old (part number base (module_of object.now))) (λ _. self.new ≡ self.old ++ public_labels (part number base (module_of object.now))) result }
     {
         for number_of_label in &object.publics {
             let label = &object.labels[usize::from(*number_of_label)];
@@ -82,15 +82,15 @@ impl<'a> PublicNames<'a> {
 
     /// Adds a name, and answers whether it is a new one.
     fn add(&mut self, name: &'a [u8], statement: u32) -> Result<bool, AllocError>
-        ensures new { IfOk result (λ is_new. is_new ≡ not (is_some (found self.old name.now))) }
-        ensures added { OnOk result (found self.old name.now ≡ None → self.new ≡ self.old ++ (name.now, statement) ∷ []) }
+        ensures new { IfOk result (λ is_new. is_new ≡ not (is_some (public_found self.old name.now))) }
+        ensures added { OnOk result (public_found self.old name.now ≡ None → self.new ≡ self.old ++ (name.now, statement) ∷ []) }
     {
         Ok(self.statements.insert(name, statement)?.is_none())
     }
 
-    /// The statement at which a name stands, where it is given.
+    /// Answers the number of the statement for which a public name stands, if there is such a name.
     pub(crate) fn found(&self, name: &[u8]) -> Option<u32>
-        ensures { result ≡ found self.now name.now }
+        ensures { result ≡ public_found self.now name.now }
     {
         self.statements.get(name).copied()
     }

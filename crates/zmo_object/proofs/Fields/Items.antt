@@ -36,7 +36,7 @@ pub ends : (front : List (Item Atom)) (bytes : List ℕ) → with_front front (i
 unfolding items_within
 ends front bytes = at_end front bytes
 
--- an expression, where items make one
+-- If the items are an expression, the answer is those items; otherwise None
 pub judged_expr : (items : List (Item Atom)) (found : Option (List (Item Atom)))
     → MatchOption found (IsExpr items → ⊥) (λ e. (e ≡ items) × IsExpr items) → found ≡ cond (is_expr items) (Some items) None
 judged_expr items (Some e) h =
@@ -50,7 +50,7 @@ judged_expr items None h =
       | inr bad ↦ rw bad refl
     ]
 
--- One leaf, and no bytes behind it.
+-- If the bytes are exactly one leaf, the expression is that leaf.
 pub leaf_alone : (bytes : List ℕ) (atom : Atom) (rest : List ℕ) → item_at bytes ≡ Some (Item.Leaf atom, rest) → length rest < 1 → expr_of bytes ≡ Some (Item.Leaf atom ∷ [])
 unfolding items_within
 leaf_alone [] atom rest e none = absurd cc

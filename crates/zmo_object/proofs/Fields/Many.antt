@@ -1,22 +1,22 @@
--- Fields read one behind the other, as a loop reads them.
+-- Fields read one after the other, as a loop reads them.
 use Rattle.std.proofs.Common.{◌≡◌, ℕ, suc, ◌-◌, ◌+◌, ◌≤◌, ◌<◌, List, [], ◌∷◌, ◌++◌, Result, Ok, Err, refl, sym, ap, ◌∙◌, append_assoc, arith}
 use Rattle.std.proofs.lemmas.List.{append-nil}
 use Rattle.common.specs.Results.{◌>>=◌}
 use Rattle.zmo_object.specs.declared.field_fault.FieldFault.{FieldFault}
 use Rattle.zmo_object.specs.declared.field_fault.FieldFault.TheVariants as fault
-use Rattle.zmo_object.specs.Fields.Field.{Fails, Field, many}
+use Rattle.zmo_object.specs.Fields.Field.{FieldFails, Field, many}
 
-pub as_fault : {Y : Type 0} (f : FieldFault) (read : Result Y FieldFault) → read ≡ Err f → Fails f read
+pub as_fault : {Y : Type 0} (f : FieldFault) (read : Result Y FieldFault) → read ≡ Err f → FieldFails f read
 as_fault fault.NoMemory read e = tt
 as_fault fault.Truncated read e = e
 as_fault (fault.BadField left) read e = e
 
--- what was read before, and what is still read
+-- puts the values read before in front of those still to be read
 abbrev pub with_front : {A : Type 0} → List A → Field (List A) → Field (List A)
 with_front front read = read >>= λ x. Ok (front ++ x.0, x.1)
 
 module _ {A S : Type 0} (reads : S → List ℕ → Field A) (next : S → A → S) where
-  -- What the rest is read as behind what was read, the whole is read as.
+  -- Reading the rest from here, with the values read before in front, gives the same as reading all fields from the start.
   abbrev pub GoesOn : List A → S → ℕ → List ℕ → Field (List A) → Type 0
   GoesOn front s left bytes total = with_front front (many reads next s left bytes) ≡ total
 
@@ -47,8 +47,8 @@ module _ {A S : Type 0} (reads : S → List ℕ → Field A) (next : S → A →
       let one : with_front front (many reads next s (count - i) bytes) ≡ Err f = rw (k, e) refl in
       sym so_far ∙ one
 
-  pub ends : (front : List A) (s : S) (count i : ℕ) (bytes : List ℕ) (total : Field (List A)) (f : FieldFault) → i < count → Fails f (reads s bytes)
-      → GoesOn front s (count - i) bytes total → Fails f total
+  pub ends : (front : List A) (s : S) (count i : ℕ) (bytes : List ℕ) (total : Field (List A)) (f : FieldFault) → i < count → FieldFails f (reads s bytes)
+      → GoesOn front s (count - i) bytes total → FieldFails f total
   ends front s count i bytes total fault.NoMemory lt e so_far = tt
   ends front s count i bytes total fault.Truncated lt e so_far = fails front s count i bytes total fault.Truncated lt e so_far
   ends front s count i bytes total (fault.BadField left) lt e so_far = fails front s count i bytes total (fault.BadField left) lt e so_far

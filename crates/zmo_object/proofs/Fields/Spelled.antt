@@ -1,4 +1,4 @@
--- Expressions and their bytes.
+-- An expression and its bytes in an object file.
 use Rattle.std.proofs.Common.{◌≡◌, ◌≤◌, ◌<◌, ◌+◌, ◌*◌, ◌-◌, ◌/◌, ◌%◌, ℕ, zero, suc, true, cond, List, [], ◌∷◌, ◌++◌, Option, Some, None, length, slice_get, refl, sym, ap, ◌∙◌, arith, inl, inr}
 use Rattle.std.specs.Option.{IfSome, option_and_then, option_map}
 use Rattle.std.proofs.lemmas.Bool.{cases_Bool, cases_eq, cases_lt, cond-true, eq-eqb, le-ltb, lt-ltb, ne_eqb}
@@ -12,7 +12,7 @@ use Rattle.asm_value.specs.Items.{IsExpr}
 use Rattle.asm_value.specs.Private.Steps.{is_expr}
 use Rattle.asm_value.proofs.Judgements.{taken, refused}
 use Rattle.zmo_object.specs.declared.operator.TheConstants.{BINARIES, UNARIES}
-use Rattle.zmo_object.specs.Fields.Texts.{binary_code, expr_text, item_text, unary_code, word}
+use Rattle.zmo_object.specs.Fields.Texts.{binary_code, expr_text, item_text, unary_code, word_bytes}
 use Rattle.zmo_object.specs.Fields.Field.{IsBytes}
 use Rattle.zmo_object.specs.Fields.Postfix.{expr_of, item_at, items_of, items_within, leaf_at, operator_of}
 
@@ -42,7 +42,7 @@ binary_at (suc (suc (suc (suc (suc (suc (suc (suc (suc (suc (suc (suc (suc (suc 
 binary_at (suc (suc (suc (suc (suc (suc (suc (suc (suc (suc (suc (suc (suc (suc (suc zero))))))))))))))) = refl
 binary_at (suc (suc (suc (suc (suc (suc (suc (suc (suc (suc (suc (suc (suc (suc (suc (suc k)))))))))))))))) = tt
 
--- What is read as an operator is its code.
+-- The operator read from a code has this code.
 pub operator_spelled : (code : ℕ) → IfSome (operator_of code) (λ op. item_text op ≡ code ∷ [])
 operator_spelled code =
     elim (cases_lt code 16) [
@@ -61,7 +61,7 @@ operator_spelled code =
     of_binary None is e = tt
     of_binary (Some op) is e = ap (λ c. c ∷ []) (is ∙ e)
 
-leaf_again : (n : ℕ) (rest : List ℕ) → leaf_at (word n ++ rest) ≡ Some (n, rest)
+leaf_again : (n : ℕ) (rest : List ℕ) → leaf_at (word_bytes n ++ rest) ≡ Some (n, rest)
 leaf_again n rest = let same : n % 256 + 256 * (n / 256) ≡ n = omega arith in ap (λ k. Some (k, rest)) same
 
 item_again : (i : Item Atom) (rest : List ℕ) → item_at (item_text i ++ rest) ≡ Some (i, rest)
@@ -114,9 +114,9 @@ expr_again items rule =
     ap (option_and_then (λ found. cond (is_expr found) (Some found) None)) (items_again MOST_ITEMS items rule.few)
     ∙ cond-true (is_expr items) (Some items) None (is_one items rule)
 
--- What is read as an item was spelled so.
+-- An item that is read from bytes has exactly these bytes.
 
-leaf_spelled : (bytes : List ℕ) → IsBytes bytes → IfSome (leaf_at bytes) (λ x. (bytes ≡ word x.0 ++ x.1) × IsBytes x.1)
+leaf_spelled : (bytes : List ℕ) → IsBytes bytes → IfSome (leaf_at bytes) (λ x. (bytes ≡ word_bytes x.0 ++ x.1) × IsBytes x.1)
 leaf_spelled [] fits = tt
 leaf_spelled (low ∷ []) fits = tt
 leaf_spelled (low ∷ high ∷ rest) fits =
@@ -130,8 +130,8 @@ leaf_spelled (low ∷ high ∷ rest) fits =
 IsItem : List ℕ → Item Atom × List ℕ → Type 0
 IsItem bytes x = (bytes ≡ item_text x.0 ++ x.1) × IsBytes x.1
 
-of_leaf : (make : ℕ → Item Atom) (tag code : ℕ) (rest : List ℕ) → ((n : ℕ) → item_text (make n) ≡ tag ∷ word n) → code ≡ tag → (found : Option (ℕ × List ℕ))
-    → IfSome found (λ x. (rest ≡ word x.0 ++ x.1) × IsBytes x.1) → IfSome (option_map (λ x. (make x.0, x.1)) found) (IsItem (code ∷ rest))
+of_leaf : (make : ℕ → Item Atom) (tag code : ℕ) (rest : List ℕ) → ((n : ℕ) → item_text (make n) ≡ tag ∷ word_bytes n) → code ≡ tag → (found : Option (ℕ × List ℕ))
+    → IfSome found (λ x. (rest ≡ word_bytes x.0 ++ x.1) × IsBytes x.1) → IfSome (option_map (λ x. (make x.0, x.1)) found) (IsItem (code ∷ rest))
 unfolding IsItem
 of_leaf make tag code rest text same None is = tt
 of_leaf make tag code rest text same (Some x) is =

@@ -1,4 +1,4 @@
--- How fields are spelled.
+-- The bytes of the fields of an object file.
 use Rattle.std.specs.Prelude.{ℕ, ◌%◌, ◌/◌, List, [], ◌∷◌, length}
 use Rattle.std.specs.List.{flat_map}
 use Rattle.asm_parse.specs.declared.item.Item.{Item}
@@ -6,13 +6,13 @@ use Rattle.asm_parse.specs.declared.operator.Binary.{Binary}
 use Rattle.asm_parse.specs.declared.operator.Unary.{Unary}
 use Rattle.asm_value.specs.declared.atom.Atom.{Atom}
 
--- a number in two bytes, the low one first
-abbrev pub word : ℕ → List ℕ
-word n = (n % 256) ∷ (n / 256) ∷ []
+-- a number as two bytes, the low one first
+abbrev pub word_bytes : ℕ → List ℕ
+word_bytes n = (n % 256) ∷ (n / 256) ∷ []
 
--- bytes behind their number in one byte
-abbrev pub counted : List ℕ → List ℕ
-counted bytes = length bytes ∷ bytes
+-- the length in one byte, and then the bytes
+abbrev pub with_length : List ℕ → List ℕ
+with_length bytes = length bytes ∷ bytes
 
 abbrev pub unary_code : Unary → ℕ
 unary_code Unary.Negate = 0x10
@@ -39,11 +39,11 @@ binary_code Binary.Greater = 0x2E
 binary_code Binary.GreaterOrEqual = 0x2F
 
 abbrev pub item_text : Item Atom → List ℕ
-item_text (Item.Leaf (Atom.Number n)) = 0x01 ∷ word n
-item_text (Item.Leaf (Atom.Ref r)) = 0x02 ∷ word r
+item_text (Item.Leaf (Atom.Number n)) = 0x01 ∷ word_bytes n
+item_text (Item.Leaf (Atom.Ref r)) = 0x02 ∷ word_bytes r
 item_text (Item.Unary op) = unary_code op ∷ []
 item_text (Item.Binary op) = binary_code op ∷ []
 
--- the items of an expression in postfix order
+-- the bytes of an expression: its items in postfix order
 abbrev pub expr_text : List (Item Atom) → List ℕ
 expr_text items = flat_map item_text items

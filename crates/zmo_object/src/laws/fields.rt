@@ -1,4 +1,4 @@
-//! Laws of the definitions, as functions that do nothing: a caller has the clause of the one that it calls.
+//! Laws of expressions in object files. A law is a function that does nothing and whose clause is a theorem.
 
 ghost use Rattle.std.specs.Prelude.{◌≡◌, ℕ, List, Some};
 ghost use Rattle.std.specs.Option.{IfSome};
@@ -9,7 +9,7 @@ ghost use Rattle.zmo_object.specs.Fields.Field.{IsBytes};
 ghost use Rattle.zmo_object.specs.Fields.Postfix.{expr_of};
 ghost use Rattle.zmo_object.specs.Fields.Texts.{expr_text};
 
-/// Each expression is read again from its bytes, and bytes that are read as an expression are its own.
+/// The bytes of an expression read as this expression. If bytes read as an expression, they are the bytes of this expression.
 pub fn one_spelling()
     ensures again { (items : List (Item Atom)) → IsExpr items → expr_of (expr_text items) ≡ Some items }
     ensures spelled { (bytes : List ℕ) → IsBytes bytes → IfSome (expr_of bytes) (λ items. IsExpr items × (bytes ≡ expr_text items)) }

@@ -2,7 +2,7 @@ use Rattle.std.proofs.Common.{◌≡◌, Option, Some, None, Result, Ok, Err, If
 use Rattle.asm_expr.specs.declared.answer.Settled.{Settled}
 use Rattle.asm_expr.proofs.answer.settle_again.Goals as goal
 
--- what holds of what may be answered
+-- what follows from a property of an answer holds of the answer too
 of_answer : {E X : Type 0} (P Q : X → Type 0) (r : Result (Option X) E) → ((x : X) → P x → Q x) → IfOk r (λ answer. IfSome answer P) → IfOk r (λ answer. IfSome answer Q)
 of_answer P Q (Ok (Some x)) f h = f x h
 of_answer P Q (Ok None) f h = h

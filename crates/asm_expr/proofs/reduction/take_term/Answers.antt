@@ -4,16 +4,16 @@ use Rattle.asm_parse.specs.Source.{Operand, view_operand, operand, Name}
 use Rattle.asm_expr.specs.declared.meaning.Meaning.{Meaning}
 use Rattle.asm_expr.specs.declared.meaning.Equated.{Equated}
 use Rattle.asm_parse.specs.Expression.{postfix}
-use Rattle.asm_expr.specs.Settling.{stands_for, meant, size_meant, size_of, standing}
+use Rattle.asm_expr.specs.Settling.{stands_for, meant, size_meant, operand_size, standing}
 use Rattle.asm_expr.specs.Private.Folding.{Folds, fold_all}
-use Rattle.asm_expr.specs.Names.{AreCounted, Table, found, items_of}
+use Rattle.asm_expr.specs.Names.{AreCounted, Table, found, item_count}
 use Rattle.asm_expr.proofs.reduction.take_term.Goals as goal
 
--- the name's expression, and how many terms and operators it stands for
-enough : (t : Table) (name : List ℕ) (o : Operand) (equ : Equated) → AreCounted t → o ≡ Name name → found t name ≡ Some (Meaning.Equ equ) → items_of equ.settled ≤ size_of t o
+-- a name's expression has no more items than the terms and operators that the name stands for
+enough : (t : Table) (name : List ℕ) (o : Operand) (equ : Equated) → AreCounted t → o ≡ Name name → found t name ≡ Some (Meaning.Equ equ) → item_count equ.settled ≤ operand_size t o
 enough t name o equ counted is known =
     let few = counted name (Meaning.Equ equ) known in
-    omega (arith, few.1, ap (size_of t) is, ap size_meant known)
+    omega (arith, few.1, ap (operand_size t) is, ap size_meant known)
 
 at_most : (r : Result (Unit {0}) ExprFault) (new old m n : ℕ) → m ≤ n → IfOk r (λ _. new ≤ old + m) → IfOk r (λ _. new ≤ old + n)
 at_most (Ok x) new old m n few most = omega (arith, few, most)

@@ -3,7 +3,7 @@ use Rattle.std.specs.List.{list_all}
 use Rattle.std.proofs.lemmas.Result.{err_from_is_err_and}
 use Rattle.asm_scan.specs.Tokens.{lexemes}
 use Rattle.asm_parse.specs.Parsed.{parsed}
-use Rattle.asm_parse.specs.Source.{IsSource}
+use Rattle.asm_parse.specs.Source.{AreExpressionItems}
 use Rattle.asm_parse.specs.Expression.{postfix}
 use Rattle.asm_expr.specs.Below.{source}
 use Rattle.asm_expr.specs.Settling.{is_constant_item, is_known}
@@ -14,7 +14,7 @@ use Rattle.asm_macro.proofs.constants.value_of.Goals as goal
 
 pub returns-then-not-is_constant : goal.returns-then-not-is_constant
 returns-then-not-is_constant c = λ cs is.
-    let same = source_whole c.in_ok-tree.tree (subst IsSource c.tree.view_is c.tree.invariant) in
+    let same = source_whole c.in_ok-tree.tree (subst AreExpressionItems c.tree.view_is c.tree.invariant) in
     let read = items_read (parsed (lexemes c.args.tokens.now)) c.in_ok-tree.tree c.in_ok-tree.ensures.parsed in
     let none : list_all (is_constant_item (table_of cs)) c.in_ok-tree.tree ≡ false =
     ap (list_all (is_constant_item (table_of cs))) (sym same) ∙ ap (λ t. list_all (is_constant_item t) (postfix (source c.in_ok-tree.tree))) (sym is) ∙ sym c.is_constant.ensures ∙ c.if-not-is_constant.true in
@@ -29,7 +29,7 @@ returns-then-not-is_defined c = λ cs is.
 
 pub returns-in_err-settled : goal.returns-in_err-settled
 returns-in_err-settled c = λ cs is.
-    let same = source_whole c.in_ok-tree.tree (subst IsSource c.tree.view_is c.tree.invariant) in
+    let same = source_whole c.in_ok-tree.tree (subst AreExpressionItems c.tree.view_is c.tree.invariant) in
     let read = items_read (parsed (lexemes c.args.tokens.now)) c.in_ok-tree.tree c.in_ok-tree.ensures.parsed in
     let constant : list_all (is_constant_item (table_of cs)) c.in_ok-tree.tree ≡ true =
     ap (list_all (is_constant_item (table_of cs))) (sym same) ∙ ap (λ t. list_all (is_constant_item t) (postfix (source c.in_ok-tree.tree))) (sym is) ∙ sym c.is_constant.ensures ∙ c.if-not-is_constant.false in
@@ -41,7 +41,7 @@ returns-in_err-settled c = λ cs is.
 
 pub returns : goal.returns
 returns c = λ cs is.
-    let same = source_whole c.in_ok-tree.tree (subst IsSource c.tree.view_is c.tree.invariant) in
+    let same = source_whole c.in_ok-tree.tree (subst AreExpressionItems c.tree.view_is c.tree.invariant) in
     let read = items_read (parsed (lexemes c.args.tokens.now)) c.in_ok-tree.tree c.in_ok-tree.ensures.parsed in
     let constant : list_all (is_constant_item (table_of cs)) c.in_ok-tree.tree ≡ true =
     ap (list_all (is_constant_item (table_of cs))) (sym same) ∙ ap (λ t. list_all (is_constant_item t) (postfix (source c.in_ok-tree.tree))) (sym is) ∙ sym c.is_constant.ensures ∙ c.if-not-is_constant.false in

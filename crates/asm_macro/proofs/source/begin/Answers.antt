@@ -1,7 +1,7 @@
 use Rattle.std.proofs.Common.{◌≡◌, ◌∙◌, sym, ap, subst, refl, length, map, reverse, arith, [], None}
 use Rattle.std.proofs.lemmas.List.Elements.{All-nil, All-same}
 use Rattle.bstr.specs.Text.{lines_of, without_terminator}
-use Rattle.asm_text.specs.Kept.{IsCall, IsKept}
+use Rattle.asm_text.specs.Kept.{IsCall, IsKeptMacro}
 use Rattle.asm_macro.specs.declared.expansion.Expansion.{Expansion}
 use Rattle.asm_macro.specs.Texts.{numbered}
 use Rattle.asm_macro.specs.State.{start}
@@ -27,7 +27,7 @@ returns c =
         shallow = omega (arith, ap length c.new-3.ensures.items);
         few = omega arith;
         source = c.new-6.ensures x.lines None;
-        macros = All-same (λ e. IsKept x.lines e.1) x.macros.entries [] c.with_hasher.ensures.empty (All-nil (λ e. IsKept x.lines e.1));
+        macros = All-same (λ e. IsKeptMacro x.lines e.1) x.macros.entries [] c.with_hasher.ensures.empty (All-nil (λ e. IsKeptMacro x.lines e.1));
         open_calls = All-same (IsCall x.lines) x.calls.items [] c.new-3.ensures.items (All-nil (IsCall x.lines));
         book = c.new-4.ensures x.lines (innermost (tables_in x));
         books = subst (λ bs. AreBooks x.lines (tables_in x) (reverse bs)) (sym c.new-5.ensures.items) tt;

@@ -5,7 +5,7 @@ use Rattle.asm_text.specs.Lines.{Numbered}
 use Rattle.asm_macro.specs.Views.{lines_seen}
 use Rattle.asm_macro.proofs.whole.collect.Given as goal
 
--- Some lines are given, and with what is still to come they are all that was to come.
+-- The lines collected so far, and those still to come, are the whole expansion.
 abbrev pub invariant-loop-line : goal.invariant-loop-line
 invariant-loop-line l =
     (given : List Numbered) × (lines_seen l.lines.items ≡ lines_seen l.fn.lines.items ++ given)

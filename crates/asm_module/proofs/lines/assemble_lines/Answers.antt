@@ -5,8 +5,8 @@ use Rattle.asm_names.specs.Circles.{lines_named}
 use Rattle.asm_names.specs.Layout.{layout_of}
 use Rattle.asm_names.specs.Lines.{lines_of}
 use Rattle.asm_names.specs.Names.{names}
-use Rattle.asm_statements.specs.Module.Stated.{first_fault}
-use Rattle.asm_names.specs.Settles.{told}
+use Rattle.asm_statements.specs.Module.Stated.{first_statement_fault}
+use Rattle.asm_names.specs.Settles.{is_marked_circular}
 use Rattle.asm_statements.specs.Rules.Fitting.{FitsWord}
 use Rattle.zmo_module.specs.Modules.{Module, statement_of}
 use Rattle.zmo_module.specs.Rules.{IsModule}
@@ -15,7 +15,7 @@ use Rattle.asm_module.proofs.Passed.{equ_first, order_of, state_first, tells_of,
 use Rattle.asm_module.proofs.lines.assemble_lines.Goals as goal
 use Rattle.asm_module.specs.Assembled.{StatesLines}
 use Rattle.asm_module.specs.Private.Steps.{IsFault, IsPlaced, held}
-use Rattle.asm_module.specs.Source.{at}
+use Rattle.asm_module.specs.Source.{fault_on_line}
 use Rattle.asm_module.specs.Whys.{state_why}
 
 pub returns-in-Some-clause-answer : goal.returns-in-Some-clause-answer
@@ -33,7 +33,7 @@ returns-in_err-stated-clause-answer c =
     (state_first c.args.grow (lines_of c.args.lines.items) c.deref-3.result.now (layout_of c.in_ok-settled.layout) c.in_ok-settled.settled
     (tells_of c.told.ensures c.args.table.now c.args.lines.items c.deref-3.result.now c.in_ok-turns.turns.items c.requires.names c.deref-3.ensures.value (subst (λ ls. IsOrder (length ls) (lines_named c.args.table.now (lines_of ls)) c.in_ok-turns.turns.items) c.deref.ensures.value c.in_ok-turns.ensures))
     placed.0 placed.1 c.in_default.is c.stated_by_names.ensures.fault c.in_err-stated.field-0.0
-    (subst (λ n. IsFault (at state_why (first_fault n c.in_ok-settled.settled.names (layout_of c.in_ok-settled.layout) (lines_of c.args.lines.items))) c.in_err-stated.field-0.0) c.requires.names c.in_err-stated.ensures))
+    (subst (λ n. IsFault (fault_on_line state_why (first_statement_fault n c.in_ok-settled.settled.names (layout_of c.in_ok-settled.layout) (lines_of c.args.lines.items))) c.in_err-stated.field-0.0) c.requires.names c.in_err-stated.ensures))
 
 pub returns-clause-answer : goal.returns-clause-answer
 returns-clause-answer c =
@@ -42,7 +42,7 @@ returns-clause-answer c =
     whole c.args.grow (lines_of c.args.lines.items) c.deref-3.result.now (layout_of c.in_ok-settled.layout) c.in_ok-settled.settled
     (tells_of c.told.ensures c.args.table.now c.args.lines.items c.deref-3.result.now c.in_ok-turns.turns.items c.requires.names c.deref-3.ensures.value (subst (λ ls. IsOrder (length ls) (lines_named c.args.table.now (lines_of ls)) c.in_ok-turns.turns.items) c.deref.ensures.value c.in_ok-turns.ensures))
     placed.0 placed.1 c.in_default.is c.stated_by_names.ensures.fault c.stated_by_names.ensures.statements c.args.name.now _ _ c.in_ok-stated.stated.lines.items
-    (subst (λ n. first_fault n c.in_ok-settled.settled.names (layout_of c.in_ok-settled.layout) (lines_of c.args.lines.items) ≡ None) c.requires.names c.in_ok-stated.ensures.0)
+    (subst (λ n. first_statement_fault n c.in_ok-settled.settled.names (layout_of c.in_ok-settled.layout) (lines_of c.args.lines.items) ≡ None) c.requires.names c.in_ok-stated.ensures.0)
     c.in_ok-stated.ensures.1 c.in_ok-stated.ensures.2 whole_is
 
 pub returns-clause-kept : goal.returns-clause-kept
@@ -61,8 +61,8 @@ returns-clause-kept c =
       layout_is = placed.0;
       settles = placed.1;
       equs_sound = c.in_default.is;
-      all_found = c.all_found.ensures (names (lines_of c.args.lines.items)) (lines_of c.args.lines.items) (told c.deref-3.result.now) (layout_of c.in_ok-settled.layout) c.in_ok-settled.settled placed.1;
-      others_sound = subst (λ n. first_fault n c.in_ok-settled.settled.names (layout_of c.in_ok-settled.layout) (lines_of c.args.lines.items) ≡ None) c.requires.names c.in_ok-stated.ensures.0;
+      all_found = c.all_found.ensures (names (lines_of c.args.lines.items)) (lines_of c.args.lines.items) (is_marked_circular c.deref-3.result.now) (layout_of c.in_ok-settled.layout) c.in_ok-settled.settled placed.1;
+      others_sound = subst (λ n. first_statement_fault n c.in_ok-settled.settled.names (layout_of c.in_ok-settled.layout) (lines_of c.args.lines.items) ≡ None) c.requires.names c.in_ok-stated.ensures.0;
       counted = c.counted.ensures;
       spelled = c.requires.spelled;
       named = c.requires.named;
@@ -86,8 +86,8 @@ returns-clause-placed c =
       layout_is = placed.0;
       settles = placed.1;
       equs_sound = c.in_default.is;
-      all_found = c.all_found.ensures (names (lines_of c.args.lines.items)) (lines_of c.args.lines.items) (told c.deref-3.result.now) (layout_of c.in_ok-settled.layout) c.in_ok-settled.settled placed.1;
-      others_sound = subst (λ n. first_fault n c.in_ok-settled.settled.names (layout_of c.in_ok-settled.layout) (lines_of c.args.lines.items) ≡ None) c.requires.names c.in_ok-stated.ensures.0;
+      all_found = c.all_found.ensures (names (lines_of c.args.lines.items)) (lines_of c.args.lines.items) (is_marked_circular c.deref-3.result.now) (layout_of c.in_ok-settled.layout) c.in_ok-settled.settled placed.1;
+      others_sound = subst (λ n. first_statement_fault n c.in_ok-settled.settled.names (layout_of c.in_ok-settled.layout) (lines_of c.args.lines.items) ≡ None) c.requires.names c.in_ok-stated.ensures.0;
       counted = c.counted.ensures;
       spelled = c.requires.spelled;
       named = c.requires.named;

@@ -12,7 +12,7 @@ use Rattle.asm_module.specs.Holding.{entry, entry_name, label_number}
 use Rattle.asm_module.proofs.Holding.Collected.{position_map}
 use Rattle.asm_module.proofs.passing_on.entry_of.Goals as goal
 
--- the entry is where the name of END stands among the labels
+-- the entry is the position of END's name among the labels
 at_name : (labels : List Label) (lines : List Taken) (name : List ℕ) → Some name ≡ entry_name lines → position_from (λ l. bytes_eq name l.name.items) 0 labels ≡ entry (map label_of labels) lines
 at_name labels lines name is = sym (position_map (λ l. bytes_eq name l.name) label_of 0 labels) ∙ ap (option_and_then (label_number (map label_of labels))) is
 

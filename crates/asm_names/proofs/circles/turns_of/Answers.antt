@@ -15,7 +15,7 @@ uses_of-requires c = λ name at is.
     let lt = below name at is in
     omega (arith, lt, length-map c.args.lines.now taken_of, c.requires.few)
 
--- the uses of all lines, where all were taken
+-- the uses of all lines, once all are read
 all_used : (uses : List (Vec ℕ Global)) (names : Names) (lines : List SourceLine) (at : ℕ) → length lines ≤ at → map (λ some. some.items) uses ≡ uses_in names (lines_of (take at lines))
     → map (λ some. some.items) uses ≡ uses_in names (lines_of lines)
 all_used uses names lines at le is = is ∙ ap (λ ls. uses_in names (lines_of ls)) (take_all at lines le)

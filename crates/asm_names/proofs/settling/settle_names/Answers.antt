@@ -3,7 +3,7 @@ use Rattle.std.proofs.lemmas.List.{length-map, take_all}
 use Rattle.asm_names.specs.Lines.{Taken, lines_of, taken_of}
 use Rattle.asm_names.specs.Circles.{lines_named}
 use Rattle.asm_names.specs.Layout.{layout_of}
-use Rattle.asm_names.specs.Settles.{told}
+use Rattle.asm_names.specs.Settles.{is_marked_circular}
 use Rattle.asm_names.specs.Faults.{first}
 use Rattle.asm_names.specs.Private.Turned.{Stands, numbered}
 use Rattle.asm_names.proofs.Rounds.{turn_at}
@@ -12,7 +12,7 @@ use Rattle.asm_names.proofs.settling.settle_names.Goals as goal
 
 pub loop-turn-init : goal.loop-turn-init
 loop-turn-init c =
-    none_settled c.args.table.now (lines_of c.args.lines.now) (told c.args.turns.now) (layout_of c.args.layout.now) _ (rw (c.requires.names) (c.distinct.ensures (lines_of c.args.lines.now))) c.in_ok-places_of.ensures
+    none_settled c.args.table.now (lines_of c.args.lines.now) (is_marked_circular c.args.turns.now) (layout_of c.args.layout.now) _ (rw (c.requires.names) (c.distinct.ensures (lines_of c.args.lines.now))) c.in_ok-places_of.ensures
     (c.in_ok-no_faults.ensures ∙ ap (λ n. replicate n None) (sym (length-map c.args.lines.now taken_of)))
 
 pub bounds-lines-turn : goal.bounds-lines-turn
@@ -41,8 +41,8 @@ returns c =
     let lines : List Taken = lines_of c.args.lines.now in
     let known : Lines_in_order c.args.table.now lines c.args.turns.now =
     known_lines c.args.table.now c.args.lines.now c.args.turns.now c.requires.names c.requires.sound c.requires.turns c.given.ensures.by c.given.ensures.each in
-    let stands : Stands c.args.table.now lines (told c.args.turns.now) (layout_of c.args.layout.now) c.args.turns.now c.loop-turn.settling =
-    subst (λ ts. Stands c.args.table.now lines (told c.args.turns.now) (layout_of c.args.layout.now) ts c.loop-turn.settling)
+    let stands : Stands c.args.table.now lines (is_marked_circular c.args.turns.now) (layout_of c.args.layout.now) c.args.turns.now c.loop-turn.settling =
+    subst (λ ts. Stands c.args.table.now lines (is_marked_circular c.args.turns.now) (layout_of c.args.layout.now) ts c.loop-turn.settling)
     (take_all c.loop-turn.turn-index c.args.turns.now c.loop-turn-test.false) c.loop-turn.invariant in
     let all = all_settled c.args.table.now lines (layout_of c.args.layout.now) c.args.turns.now known c.loop-turn.settling stands in
     record { found = all.0; statements = stands.statements; fault = c.first_of-fault.ensures ∙ ap (λ fs. first (numbered lines fs)) c.deref.ensures.value ∙ all.1 }

@@ -1,5 +1,5 @@
 use Rattle.std.proofs.Common.{◌++◌, arith}
-use Rattle.asm_replace.specs.Views.{seen, texts}
+use Rattle.asm_replace.specs.Views.{names_seen, texts}
 use Rattle.asm_replace.specs.Private.Places.{placed}
 use Rattle.asm_replace.proofs.Places.{place_step}
 use Rattle.asm_replace.proofs.names.add_all.Goals as goal
@@ -7,6 +7,6 @@ use Rattle.asm_replace.proofs.names.add_all.Goals as goal
 pub loop-at-preserved : goal.loop-at-preserved
 loop-at-preserved c = (
   omega (arith, c.loop-at-test.true),
-  λ f. place_step f (seen f c.loop-at.places.entries) (seen f c.add.new.places.entries) (seen f c.args.places.now.entries ++ placed f c.args.kind 0 (texts c.args.names.now)) c.args.kind c.args.names.now c.loop-at.at
+  λ f. place_step f (names_seen f c.loop-at.places.entries) (names_seen f c.add.new.places.entries) (names_seen f c.args.places.now.entries ++ placed f c.args.kind 0 (texts c.args.names.now)) c.args.kind c.args.names.now c.loop-at.at
       c.in_ok-name.name.items c.loop-at-test.true c.in_ok-name.ensures (c.loop-at.invariant.1 f) (c.in_ok-add.ensures f),
 )

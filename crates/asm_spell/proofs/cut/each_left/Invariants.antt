@@ -4,7 +4,7 @@ use Rattle.asm_spell.specs.Private.Cutting.{left, behind}
 use Rattle.asm_spell.proofs.Pieces.{room}
 use Rattle.asm_spell.proofs.cut.each_left.Given as goal
 
--- What is read, and what is read of the operands that are left, is what is read of all.
+-- The operands read so far, and then those that are left, are all operands.
 abbrev pub invariant-loop-left : goal.invariant-loop-left
 invariant-loop-left g l = each g.T.Operand.reads (left l.tokens) ≡ behind (map g.T.Operand.seen l.all.items) (each g.T.Operand.reads (left l.left))
 

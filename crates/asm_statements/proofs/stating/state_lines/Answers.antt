@@ -8,7 +8,7 @@ use Rattle.asm_statements.specs.Private.Steps.{Takes}
 use Rattle.asm_statements.proofs.Module.In_order.{all_stated, goes_on, goes_wrong, none_stated}
 use Rattle.asm_statements.proofs.stating.state_lines.Goals as goal
 
--- the line that is taken, and those that are left then
+-- the line that is read next, and the lines left after it
 next : (lines left : List SourceLine) (at : ℕ) (l : SourceLine) → at < length lines → drop at lines ≡ l ∷ left → (l ≡ get_or lines at l) × (left ≡ drop (at + 1) lines)
 next lines left at l lt is = let both = sym is ∙ drop_more lines at l lt in (heads _ _ _ _ both, tails _ _ _ _ both) where
   heads : (x y : SourceLine) (xs ys : List SourceLine) → x ∷ xs ≡ y ∷ ys → x ≡ y

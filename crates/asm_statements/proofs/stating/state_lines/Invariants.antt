@@ -4,7 +4,7 @@ use Rattle.asm_names.specs.Layout.{layout_of}
 use Rattle.asm_statements.proofs.Module.In_order.{Goes}
 use Rattle.asm_statements.proofs.stating.state_lines.Given as goal
 
--- The lines that are left stand behind those that are taken.
+-- The lines that are left come after those that were read.
 abbrev pub invariant-loop-line : goal.invariant-loop-line
 invariant-loop-line l =
     (into_iter_items l.line-iterator ≡ drop l.at l.fn.lines.items) × (into_iter_len l.line-iterator + l.at ≡ length l.fn.lines.items)

@@ -6,7 +6,7 @@ use Rattle.asm_text.specs.Sections.Sections.{section_of}
 use Rattle.asm_text.proofs.Sections.Branches.{Reached}
 use Rattle.asm_text.proofs.blocks.branches_of.Given as goal
 
--- The branches that are found, and those that are left, are all.
+-- The branches found so far and those that are left are all branches.
 abbrev pub invariant-loop-at : goal.invariant-loop-at
 invariant-loop-at l =
     let seen = l.lines in

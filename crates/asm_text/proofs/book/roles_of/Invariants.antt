@@ -5,7 +5,7 @@ use Rattle.asm_text.specs.Roles.{roles}
 use Rattle.asm_text.specs.Spans.{text_of}
 use Rattle.asm_text.proofs.book.roles_of.Given as goal
 
--- The roles that are found stand before those of the lines that are left.
+-- The roles found so far, and those of the lines that are left, are the roles of the span.
 abbrev pub invariant-loop-at : goal.invariant-loop-at
 invariant-loop-at l =
     let seen = l.lines in

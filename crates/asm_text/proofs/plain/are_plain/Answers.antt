@@ -7,7 +7,7 @@ use Rattle.asm_text.specs.Plain.{are_plain, is_plain}
 use Rattle.asm_text.specs.Signs.{has_sign}
 use Rattle.asm_text.proofs.plain.are_plain.Goals as goal
 
--- a parameter with its argument, of which so much is known, and those behind them
+-- All arguments from `at` on are plain if the one at `at` and those after it are.
 next : (s : Sign) (ps qs : List (Vec ℕ Global)) (at : ℕ) (q : Vec ℕ Global) (plain : Bool) → at < length ps → at < length qs → q ≡ get_or qs at q → is_plain s q.items ≡ plain
     → are_plain s (texts (drop at ps)) (texts (drop at qs)) ≡ (plain && are_plain s (texts (drop (at + 1) ps)) (texts (drop (at + 1) qs)))
 next s ps qs at q plain left right is_q is =

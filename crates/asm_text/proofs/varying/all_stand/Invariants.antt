@@ -3,7 +3,7 @@ use Rattle.asm_text.specs.Stands.{Stands}
 use Rattle.asm_text.specs.Prepared.{said}
 use Rattle.asm_text.proofs.varying.all_stand.Given as goal
 
--- Those that were read are what they are as they stand.
+-- The lines read so far have the roles that they have as written.
 abbrev pub invariant-loop-next : goal.invariant-loop-next
 invariant-loop-next l =
     All (λ k. l.span.at ≤ k → k < l.span.end → k < length l.lines → Stands l.lines (Some (said l.call)) k) (take l.next l.places)

@@ -1,12 +1,12 @@
 use Rattle.std.proofs.Common.{◌-◌, [], length}
-use Rattle.asm_replace.specs.Replaced.{Table}
+use Rattle.asm_replace.specs.Replaced.{ReplacementTable}
 use Rattle.asm_replace.specs.Views.{in_call}
 use Rattle.asm_text.specs.Kept.{HasOnly, Suffice}
 use Rattle.asm_text.proofs.varying.places_of.Given as goal
 
--- The lines that were asked are so.
+-- For the lines before `at`, the places found so far name all whose role may differ.
 abbrev pub invariant-loop-at : goal.invariant-loop-at
-invariant-loop-at l = (t : Table) → HasOnly t (in_call l.names [] 0) → Suffice l.lines l.body.at l.at l.places.items t
+invariant-loop-at l = (t : ReplacementTable) → HasOnly t (in_call l.names [] 0) → Suffice l.lines l.body.at l.at l.places.items t
 
 abbrev pub decreases-loop-at : goal.decreases-loop-at
 decreases-loop-at l = length l.lines - l.at

@@ -1,12 +1,12 @@
 use Rattle.std.proofs.Common.{◌≡◌, ◌^◌, ◌<◌, ◌∷◌, ◌++◌, length, map}
 use Rattle.std.specs.List.{AllByRecursion}
-use Rattle.certificate.specs.Lines.{text_of}
+use Rattle.certificate.specs.Lines.{lines_text}
 use Rattle.certificate.specs.Texts.{cert_header, forced_line}
 use Rattle.certificate.proofs.cert.cert_of.Given as goal
 
 abbrev pub invariant-loop-line : goal.invariant-loop-line
 invariant-loop-line l = record {
-  text_is : l.text ≡ text_of (cert_header ∷ map forced_line l.order.items) ++ l.rest;
+  text_is : l.text ≡ lines_text (cert_header ∷ map forced_line l.order.items) ++ l.rest;
   members : AllByRecursion (λ k. k < 2 ^ 32) l.order.items;
 }
 

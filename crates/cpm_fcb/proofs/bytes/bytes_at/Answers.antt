@@ -1,10 +1,10 @@
 use Rattle.std.proofs.Common.{◌+◌, arith}
 use Rattle.std.proofs.lemmas.List.FromFn.{fill_by_all}
-use Rattle.cpm_fcb.specs.Bytes.{bytes_at, byte_at}
+use Rattle.cpm_fcb.specs.Bytes.{bytes_at, memory_byte}
 use Rattle.cpm_fcb.proofs.bytes.bytes_at.Goals as goal
 
 pub returns : goal.returns
 unfolding bytes_at
 returns g c =
-    fill_by_all (λ i. byte_at (c.args.address + i) c.args.memory.now) c.loop-i.bytes g.row.N 0 c.loop-i.invariant.long
+    fill_by_all (λ i. memory_byte (c.args.address + i) c.args.memory.now) c.loop-i.bytes g.row.N 0 c.loop-i.invariant.long
     (λ k below. c.loop-i.invariant.so_far k (omega (arith, c.loop-i-test.false)))

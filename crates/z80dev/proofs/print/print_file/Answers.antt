@@ -1,6 +1,6 @@
 use Rattle.std.proofs.Common.{refl, subst, Err}
 use Rattle.std.proofs.lemmas.Result.{err_from_is_err_and}
-use Rattle.z80dev.specs.Main.{IsBuiltOf, IsFileOf}
+use Rattle.z80dev.specs.Main.{IsBuiltAsMain, IsFileOf}
 use Rattle.z80dev.specs.Private.Steps.{Writes}
 use Rattle.z80dev.proofs.Ends.{refused, refusing, unread, written}
 use Rattle.z80dev.proofs.print.print_file.Goals as goal
@@ -8,7 +8,7 @@ use Rattle.z80dev.proofs.print.print_file.Goals as goal
 pub returns-in_err-built-clause-ends : goal.returns-in_err-built-clause-ends
 returns-in_err-built-clause-ends g c =
     let refusal = c.in_err-built.field-0.0 in
-    let answer : IsBuiltOf c.in_ok-text.text.items (Err refusal)
+    let answer : IsBuiltAsMain c.in_ok-text.text.items (Err refusal)
     = (record { name = c.as_bytes.result; text = c.deref.result }, (c.as_bytes.ensures.value, c.deref.ensures.value), c.in_err-built.ensures.answer) in
     let is = refusing c.in_ok-text.text.items refusal c.in_ok-text.ensures.limit answer in
     let ends = refused _ _ (g.W.Sink.stream c.args.output.now) (g.I.Input.failed c.read_text.new.input) (g.I.Input.reads c.read_text.new.input) (g.I.Input.interruptions c.read_text.new.input) _ refusal c.in_ok-text.ensures.text c.in_ok-text.ensures.end is in

@@ -1,7 +1,7 @@
 use Rattle.std.proofs.Common.{◌+◌, ◌∙◌, ap, arith, length, sym, subst}
 use Rattle.std.proofs.lemmas.List.{length-drop}
 use Rattle.std.proofs.lemmas.Result.{err_from_is_err_and}
-use Rattle.z80dev_disk.specs.Put.{filled}
+use Rattle.z80dev_disk.specs.Put.{padded_record}
 use Rattle.z80dev_disk.proofs.On_the_way.{Putting, begun, finished, not_begun, not_written, wrote}
 use Rattle.z80dev_disk.proofs.putting.store.Goals as goal
 
@@ -34,7 +34,7 @@ pub loop-piece-preserved : goal.loop-piece-preserved
 loop-piece-preserved c =
     let (some, within, piece_is, rest_is) = c.in-Some.ensures in
     subst (Putting c.args.disk.now c.args.user c.args.name.now c.args.file.now c.write_block_of.new.self (c.loop-piece.number + 1)) (sym rest_is)
-    (wrote c.args.disk.now c.args.user c.args.name.now c.args.file.now c.requires.user c.loop-piece.disk c.loop-piece.number c.loop-piece.rest.now c.loop-piece.invariant c.write_block_of.new.self _ (c.filled.ensures ∙ ap filled piece_is)
+    (wrote c.args.disk.now c.args.user c.args.name.now c.args.file.now c.requires.user c.loop-piece.disk c.loop-piece.number c.loop-piece.rest.now c.loop-piece.invariant c.write_block_of.new.self _ (c.filled.ensures ∙ ap padded_record piece_is)
     c.in_ok-write_block_of.ensures.done c.in_ok-write_block_of.ensures.written c.in_ok-write_block_of.ensures.others c.in_ok-write_block_of.ensures.sound some)
 
 pub returns-clause-stored : goal.returns-clause-stored

@@ -2,7 +2,7 @@ use Rattle.std.proofs.Common.{◌≡◌, inl, map, true, refl, string_bytes, sub
 use Rattle.clap.specs.Words.{HasKind, fault_of, kind_of, takes}
 use Rattle.clap.specs.declared.error.kind.ErrorKind.TheVariants as kind
 use Rattle.std.specs.Prelude.{◌⊎◌}
-use Rattle.z80dev_commands.specs.Commands.{IsCounted, IsJob, IsMiscounted, z80dev}
+use Rattle.z80dev_commands.specs.Commands.{HasRightCount, IsJob, IsMiscounted, z80dev}
 use Rattle.z80dev_jobs.specs.Reading.{reader_of}
 use Rattle.z80dev_jobs.specs.World.{world_of}
 use Rattle.z80dev_jobs.proofs.Refused.{has_user, refused}
@@ -29,7 +29,7 @@ returns-clause-ends g c =
     let texts = map string_bytes c.in-Ok.texts.items in
     refused words texts (kind_of c.in-Err-commands.error) old new c.refuse_words-status.result c.in-Ok.ensures (record { folder = refl; input = refl })
     (subst (λ ts. HasKind (fault_of z80dev (map string_bytes ts)) c.in-Err-commands.error ⊎ IsMiscounted (map string_bytes ts) (kind_of c.in-Err-commands.error)) c.deref.ensures.value why.refused)
-    (subst (λ ts. takes z80dev (map string_bytes ts) ≡ true → IsCounted (map string_bytes ts) → kind_of c.in-Err-commands.error ≡ kind.OutOfMemory) c.deref.ensures.value why.taken) c.refuse_words-status.ensures
+    (subst (λ ts. takes z80dev (map string_bytes ts) ≡ true → HasRightCount (map string_bytes ts) → kind_of c.in-Err-commands.error ≡ kind.OutOfMemory) c.deref.ensures.value why.taken) c.refuse_words-status.ensures
 
 pub work-requires-clause-user : goal.work-requires-clause-user
 work-requires-clause-user g c = has_user (map string_bytes c.deref.result.now) c.in-Ok-commands.job c.in-Ok-commands.ensures.job

@@ -1,5 +1,5 @@
 use Rattle.std.proofs.Common.{ap, subst, ◌∙◌}
-use Rattle.zlink.specs.Built.{IsBuilt, IsExact}
+use Rattle.zlink.specs.Built.{IsBuilt, IsExactBuild}
 use Rattle.z80dev_make.specs.Build.{build_answer}
 use Rattle.z80dev_make.proofs.building.built.Goals as goal
 
@@ -9,7 +9,7 @@ returns c = record {
   named = c.in_ok-sources.ensures;
   result = c.build_with-building.result;
   built = subst (λ s. IsBuilt c.args.grow s c.build_with-building.result) c.deref.ensures.value c.build_with-building.ensures.answer;
-  exact = subst (λ s. IsExact c.args.grow s c.build_with-building.result) c.deref.ensures.value c.build_with-building.ensures.exact;
+  exact = subst (λ s. IsExactBuild c.args.grow s c.build_with-building.result) c.deref.ensures.value c.build_with-building.ensures.exact;
   answers = c.in_ok-answer.ensures ∙ ap (λ s. build_answer c.args.list c.args.files.now s c.build_with-building.result) c.deref-2.ensures.value;
   counted = c.jumps_of-jumps.ensures;
 }

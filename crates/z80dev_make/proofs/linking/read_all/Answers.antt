@@ -4,7 +4,7 @@ use Rattle.std.proofs.lemmas.List.{get_or-map, length-map, map-append, take_all}
 use Rattle.std.proofs.lemmas.List.Elements.{All-append, All-cons, All-nil}
 use Rattle.zmo_module.specs.Modules.{module_of}
 use Rattle.zmo_module.specs.Rules.{IsModule}
-use Rattle.zmo_object.specs.Reading.{Answers, read_of}
+use Rattle.zmo_object.specs.Reading.{AnswersAsRead, read_of}
 use Rattle.z80dev_make.specs.Link.{IsObject}
 use Rattle.z80dev_make.proofs.In_order.{one_more, stops}
 use Rattle.z80dev_make.proofs.linking.read_all.Goals as goal
@@ -18,7 +18,7 @@ returns-in-Err c =
     let lt : c.loop-object.object-index < length bytes = omega (arith, length-map c.args.objects.now (λ o. o.items)) in
     let item = c.object-item.result in
     let at : c.deref.result.now ≡ get_or bytes c.loop-object.object-index item.items = c.deref.ensures.value ∙ ap (λ o. o.items) c.object-item.is ∙ sym (get_or-map (λ o. o.items) c.args.objects.now c.loop-object.object-index item item.items (omega arith)) in
-    stops bytes c.loop-object.object-index item.items (map module_of c.loop-object.modules.items) c.in-Err.fault lt c.loop-object.invariant.0 (subst (λ b. Answers (Err c.in-Err.fault) (read_of b)) at c.in-Err.ensures.exact)
+    stops bytes c.loop-object.object-index item.items (map module_of c.loop-object.modules.items) c.in-Err.fault lt c.loop-object.invariant.0 (subst (λ b. AnswersAsRead (Err c.in-Err.fault) (read_of b)) at c.in-Err.ensures.exact)
 
 pub loop-object-preserved : goal.loop-object-preserved
 loop-object-preserved c =

@@ -11,7 +11,7 @@ use Rattle.zlink.proofs.Built_of.{of_file, refused}
 use Rattle.zlink.proofs.Carried.{Laid, same_shape}
 use Rattle.zlink.proofs.building.build_sources.Goals as goal
 
--- the modules of sources keep the rules of an object
+-- the modules of the sources keep the rules of an object file
 kept_rules : (these : List Assembly) → All IsKept these → All IsModule (modules_of these)
 kept_rules these kept = All-map IsModule (λ a. a.assembled.holds) these (All-weaker IsKept (λ a. IsModule a.assembled.holds) (λ a k. k.rules) these kept)
 

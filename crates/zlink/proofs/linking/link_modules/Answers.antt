@@ -7,11 +7,11 @@ use Rattle.relax.specs.declared.growth.Verdict.TheVariants.{Best}
 use Rattle.relax.specs.Growth.{IsGrowth, after}
 use Rattle.zmo_module.specs.Modules.{Module, module_of}
 use Rattle.zlink.specs.Program.Whole.{program}
-use Rattle.zlink.specs.File.Objects.{ReadsObjects, grown, shape, sized_by}
+use Rattle.zlink.specs.File.Objects.{ReadsObjects, grown, placed_shape, sized_by}
 use Rattle.zlink.specs.File.Places.{ArePlaces}
 use Rattle.zlink.specs.declared.fault.Misfit.TheVariants.{Range, TooLarge}
 use Rattle.zlink.specs.Certified.{IsCertified}
-use Rattle.zlink.specs.Linked.{IsOutput, Output, symbols}
+use Rattle.zlink.specs.Linked.{IsOutput, Output, all_symbols}
 use Rattle.zlink.proofs.Judging.{best, unfit}
 use Rattle.zlink.proofs.Symbols.{symbols_same}
 use Rattle.std.proofs.lemmas.List.{length-map}
@@ -23,29 +23,29 @@ grows s t g e is = subst (λ x. IsGrowth x g) e is
 certifies : (s t : List Sized) (g : Growth) (sizes cert : List ℕ) → s ≡ t → IsCertified s g.order.items g.verdict sizes cert → IsCertified t g.order.items g.verdict sizes cert
 certifies s t g sizes cert e is = subst (λ x. IsCertified x g.order.items g.verdict sizes cert) e is
 
--- the shape of the whole, as it is told
+-- the shape of the whole program
 abbrev whole_of : List Module → List Sized
-whole_of modules = shape (program modules)
+whole_of modules = placed_shape (program modules)
 
 module _ (modules : List Module) (g : Growth) (is : IsGrowth (whole_of modules) g) where
   same_choice : chosen g.long.items ≡ after g.order.items
   same_choice = fun_ext is.long
 
-  -- what stands beside a file is told of the choice after the order
+  -- the other outputs are those of the choice after the order
   told : (n : ℕ) (o : Output) (places : List ℕ) → IsShape (whole_of modules) → g.verdict ≡ Best n → IsCertified (whole_of modules) g.order.items g.verdict o.sizes o.cert
       → ReadsObjects o.file (program modules) (chosen g.long.items)
-      → o.symbols ≡ symbols (λ k. slice_index places k) modules → symbols (λ k. slice_index places k) modules ≡ symbols (place (chosen g.long.items) (whole_of modules)) modules
+      → o.symbols ≡ all_symbols (λ k. slice_index places k) modules → all_symbols (λ k. slice_index places k) modules ≡ all_symbols (place (chosen g.long.items) (whole_of modules)) modules
       → o.grown ≡ grown (program modules) (chosen g.long.items) → IsOutput modules g.order.items o
   told n o places is_shape e certified reads named same marked = record {
     judged = best (whole_of modules) g n o.sizes o.cert is_shape e is certified;
     reads = subst (ReadsObjects o.file (program modules)) same_choice reads;
-    symbols = named ∙ same ∙ ap (λ c. symbols (place c (whole_of modules)) modules) same_choice;
+    symbols = named ∙ same ∙ ap (λ c. all_symbols (place c (whole_of modules)) modules) same_choice;
     grown = marked ∙ ap (grown (program modules)) same_choice;
   }
 
 pub returns-in-Range : goal.returns-in-Range
 returns-in-Range c =
-    let whole = shape (program (map module_of c.args.modules.now)) in
+    let whole = placed_shape (program (map module_of c.args.modules.now)) in
     let g = c.in_ok-growth.growth in (
       c.in_ok-links.ensures.0,
       unfit whole g (Range c.in-Range.statement) _ _ (subst IsShape c.in_ok-shape.ensures (subst IsShape c.shape.view_is c.shape.invariant)) c.in-Range.is (grows _ _ g c.in_ok-shape.ensures c.in_ok-growth.ensures.growth)
@@ -54,7 +54,7 @@ returns-in-Range c =
 
 pub returns : goal.returns
 returns c =
-    let whole = shape (program (map module_of c.args.modules.now)) in
+    let whole = placed_shape (program (map module_of c.args.modules.now)) in
     let g = c.in_ok-growth.growth in (
       c.in_ok-links.ensures.0,
       unfit whole g (TooLarge c.in-TooLarge.total) _ _ (subst IsShape c.in_ok-shape.ensures (subst IsShape c.shape.view_is c.shape.invariant)) c.in-TooLarge.is (grows _ _ g c.in_ok-shape.ensures c.in_ok-growth.ensures.growth)
@@ -75,7 +75,7 @@ returns-in-Best c =
       g.order.items,
       told modules g is c.in-Best.field-0 _ c.in_ok-places-in-Best.places.items (subst IsShape c.in_ok-shape.ensures (subst IsShape c.shape.view_is c.shape.invariant)) c.in-Best.is (certifies _ _ g _ _ c.in_ok-shape.ensures c.in_ok-sizes.ensures)
           (subst (λ l. ReadsObjects c.in_ok-emit-in-Best.field-0.items (program modules) (chosen l)) c.deref-in-Best-4.ensures.value c.in_ok-emit-in-Best.ensures)
-          (c.in_ok-symbols_of-in-Best.ensures ∙ ap (λ ps. symbols (λ k. slice_index ps k) modules) c.deref-in-Best-6.ensures.value)
+          (c.in_ok-symbols_of-in-Best.ensures ∙ ap (λ ps. all_symbols (λ k. slice_index ps k) modules) c.deref-in-Best-6.ensures.value)
           (symbols_same (λ k. slice_index c.in_ok-places-in-Best.places.items k) (place (chosen g.long.items) (whole_of modules)) (length (whole_of modules)) modules (omega (arith, count, sizes)) places.each c.requires)
           (c.in_ok-grown-in-Best.ensures ∙ ap (λ l. grown (program modules) (chosen l)) c.deref-in-Best-7.ensures.value),
       subst (λ choice. ArePlaces choice (whole_of modules) c.in_ok-places-in-Best.places.items) (same_choice modules g is) places,

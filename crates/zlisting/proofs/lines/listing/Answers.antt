@@ -1,7 +1,7 @@
 use Rattle.std.proofs.Common.{◌≡◌, ◌∙◌, [], append-nil, drop, map}
 use Rattle.std.proofs.lemmas.List.{drop_all}
 use Rattle.zlink.specs.Built.{origin_of}
-use Rattle.zlisting.specs.Listing.{bytes_of, parts}
+use Rattle.zlisting.specs.Listing.{file_bytes, listed_statements}
 use Rattle.zlisting.proofs.Whole.{source_more, sources_more, zip_nil}
 use Rattle.zlisting.proofs.lines.listing.Goals as goal
 
@@ -13,7 +13,7 @@ loop-number-preserved c =
     let within = rw c.deref-in-loop-number.ensures.value at c.in-Some.ensures.lookup.3.0 in
     record {
       rest = source_more c.loop-number.number _ _ _ c.in_ok-rest.ensures.rest before.rest;
-      all = sources_more (parts (bytes_of b.com.items) (map origin_of b.statements.items)) c.loop-number.number b.last.items c.args.sources.now 0 _ c.loop-number.rest.now
+      all = sources_more (listed_statements (file_bytes b.com.items) (map origin_of b.statements.items)) c.loop-number.number b.last.items c.args.sources.now 0 _ c.loop-number.rest.now
           c.loop-number.out.items _ within c.loop-number-test.true before.rest text ∙ before.all;
     }
 

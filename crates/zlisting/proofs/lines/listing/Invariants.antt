@@ -1,15 +1,15 @@
 use Rattle.std.proofs.Common.{◌≡◌, ◌++◌, ◌≤◌, drop, map}
 use Rattle.std.specs.List.{enumerate_from, flat_map, zip}
 use Rattle.zlink.specs.Built.{origin_of}
-use Rattle.zlisting.specs.Listing.{bytes_of, listed_source, parts}
+use Rattle.zlisting.specs.Listing.{file_bytes, listed_source, listed_statements}
 use Rattle.zlisting.specs.Listing as spec
 use Rattle.zlisting.specs.Private.Runs.{HasLines, cells_in}
 use Rattle.zlisting.proofs.lines.listing.Given as goal
 
--- The sources so far, and those that are left, are all; and what is left has all cells of the sources that are left.
+-- The sources so far and those that are left are all sources, and the cells that are left are all cells of the sources that are left.
 abbrev pub invariant-loop-number : goal.invariant-loop-number
 invariant-loop-number l =
-    let statements = parts (bytes_of l.built.com.items) (map origin_of l.built.statements.items) in
+    let statements = listed_statements (file_bytes l.built.com.items) (map origin_of l.built.statements.items) in
     record {
       rest : HasLines (λ source line. l.number ≤ source) l.rest (flat_map cells_in statements);
       all : l.out.items ++ flat_map (λ s. listed_source statements s.0 s.1.0 s.1.1.text.now) (enumerate_from l.number (zip (drop l.number l.built.last.items) (drop l.number l.sources)))

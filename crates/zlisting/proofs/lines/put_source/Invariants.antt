@@ -2,7 +2,7 @@ use Rattle.std.proofs.Common.{◌≡◌, ◌+◌, ◌-◌, ◌++◌, ◌≤◌, 
 use Rattle.zlisting.specs.Private.Runs.{HasLines, IsBehind, lines_with, source_with}
 use Rattle.zlisting.proofs.lines.put_source.Given as goal
 
--- The lines so far, and those that are left, are all; and what is left has all cells of the lines behind.
+-- The lines so far and those that are left are all lines, and the cells that are left are all cells of the lines to come.
 abbrev pub invariant-loop-line : goal.invariant-loop-line
 invariant-loop-line l = record {
   can_next : (goal.iterator-loop-line).can_next l.line-iterator;

@@ -1,5 +1,5 @@
 use Rattle.std.proofs.Common.{◌-◌, ◌+◌}
-use Rattle.zmo_module.specs.Holes.{size_of}
+use Rattle.zmo_module.specs.Holes.{width_size}
 use Rattle.zmo_object.specs.Fields.Field.{many}
 use Rattle.zmo_object.proofs.Fields.Many.{GoesOn}
 use Rattle.zmo_object.specs.Reading.{hole_at}
@@ -7,5 +7,5 @@ use Rattle.zmo_object.proofs.hole.holes.Given as goal
 
 abbrev pub invariant-loop : goal.invariant-loop
 invariant-loop l =
-    GoesOn (hole_at l.refs l.content) (λ _ h. h.offset + size_of h.width) l.holes.items l.from (l.count - l.counter) l.rest
-    (many (hole_at l.refs l.content) (λ _ h. h.offset + size_of h.width) 0 l.count l.bytes)
+    GoesOn (hole_at l.refs l.content) (λ _ h. h.offset + width_size h.width) l.holes.items l.from (l.count - l.counter) l.rest
+    (many (hole_at l.refs l.content) (λ _ h. h.offset + width_size h.width) 0 l.count l.bytes)

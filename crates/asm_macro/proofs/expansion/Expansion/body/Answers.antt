@@ -1,7 +1,7 @@
 use Rattle.std.proofs.Common.{◌≡◌, ◌∙◌, ◌-◌, IfOk, ap, subst, length}
 use Rattle.std.specs.List.{slice_get}
 use Rattle.std.specs.Option.{option_map}
-use Rattle.asm_text.specs.Sections.Blocks.{body_of}
+use Rattle.asm_text.specs.Sections.Blocks.{block_body}
 use Rattle.asm_text.specs.Sections.Books.{IsBook}
 use Rattle.asm_text.specs.Prepared.{said}
 use Rattle.asm_text.specs.Sections.Sections.{body_seen}
@@ -30,4 +30,4 @@ pub returns-clause-body : goal.returns-clause-body
 returns-clause-body c =
     let x = c.args.self.now in
     let names = last_table (λ n. said n) x.calls.items c.last.result (c.last.ensures.value ∙ ap (λ xs. slice_get xs (length xs - 1)) c.deref.ensures.value) in
-    subst (λ n. IfOk c.body_of.result (λ found. option_map (body_seen x.lines n) found ≡ body_of (text_of x.lines n x.text))) names c.body_of.ensures.body
+    subst (λ n. IfOk c.body_of.result (λ found. option_map (body_seen x.lines n) found ≡ block_body (text_of x.lines n x.text))) names c.body_of.ensures.body

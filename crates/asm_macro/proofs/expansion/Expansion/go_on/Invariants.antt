@@ -6,7 +6,7 @@ use Rattle.asm_macro.specs.Kept.{AreOf}
 use Rattle.asm_macro.specs.Private.Moves.{IsSound, most_moves, rest_of}
 use Rattle.asm_macro.proofs.expansion.Expansion.go_on.Given as goal
 
--- What is to come now was to come before.
+-- What is still to come is what was still to come at the beginning, as no line was given since.
 abbrev pub invariant-loop-given : goal.invariant-loop-given
 invariant-loop-given l =
     IsSound l.self × (l.initial.self.count ≤ l.self.count)

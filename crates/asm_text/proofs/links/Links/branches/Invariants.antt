@@ -4,7 +4,7 @@ use Rattle.asm_text.specs.Private.Nesting.{if_length}
 use Rattle.asm_text.proofs.Nesting.Walked.{Walking}
 use Rattle.asm_text.proofs.links.Links.branches.Given as goal
 
--- The branches before some line are found, of an IF that is closed.
+-- The IF is closed, and its branches before line `at` are found.
 abbrev pub invariant-loop-at : goal.invariant-loop-at
 invariant-loop-at l =
     (all : Lengths) × (branch_lengths 0 0 (drop l.from l.initial.self) ≡ Some all) × (l.first ≡ l.from + all.0) × (l.last ≡ l.from + if_length all)

@@ -1,7 +1,7 @@
 use Rattle.std.proofs.Common.{◌<◌, ◌∷◌, sym, subst, length}
 use Rattle.std.specs.List.{flat_map}
 use Rattle.cpm_console.specs.Screen.{screen}
-use Rattle.cpm_console.specs.Text.{Shows}
+use Rattle.cpm_console.specs.Text.{PutsText}
 use Rattle.cpm_console.specs.Line.{echo_of, edited, line_end}
 use Rattle.cpm_console.specs.Private.Draft.{line_at}
 use Rattle.cpm_console.proofs.Lines.{text-Retype, text-TakeOut}
@@ -24,7 +24,7 @@ returns-in-len1-up g c =
     let dialog = g.C.Console.dialog in
     let line = line_at c.args.line c.args.buffer.now c.args.self.now.column in
     let some : 0 < length line.bytes = rw c.from.ensures at c.in-len1-up.len_at_least in
-    subst (λ t. Shows (screen dialog c.args.self.now) (screen dialog c.put_text.new.self) t c.put_text.result) (sym (text-TakeOut c.args.key c.args.byte line c.in-TakeOut.is some)) c.put_text.ensures
+    subst (λ t. PutsText (screen dialog c.args.self.now) (screen dialog c.put_text.new.self) t c.put_text.result) (sym (text-TakeOut c.args.key c.args.byte line c.in-TakeOut.is some)) c.put_text.ensures
 
 pub returns-in_ok-put_text-in-Retype : goal.returns-in_ok-put_text-in-Retype
 returns-in_ok-put_text-in-Retype g c =

@@ -1,7 +1,7 @@
 use Rattle.std.proofs.Common.{◌≡◌, true, Err, Ok, ap, refl, slice_set, subst, sym, ◌∙◌}
 use Rattle.cpm_directory.specs.declared.fault.DiskFault.TheVariants.{Fault}
 use Rattle.cpm_directory.specs.Rules.{IsSound}
-use Rattle.cpm_operations.specs.Kept.{IsPut}
+use Rattle.cpm_operations.specs.Kept.{IsGoodPut}
 use Rattle.cpm_operations.specs.Steps.{creation}
 use Rattle.cpm_disk.specs.Calls.{Changed}
 use Rattle.cpm_disk.specs.Files.{IsFile, OthersAreSame}
@@ -48,7 +48,7 @@ returns-in-Ok-clause-others g c =
     let entries = c.deref.ensures.value ∙ c.self.invariant.entries_are c.if-self.false in
     let lent = c.deref_mut.ensures.value ∙ c.self.invariant.entries_are c.if-self.false in
     let asked = ap (creation c.args.user c.args.name.now) (sym entries) ∙ sym c.creation.ensures.step ∙ c.in_ok-number.was in
-    let put = subst (λ es. IsSound c.self.inside.kind es → IsPut c.self.inside.kind es (c.in_ok-number.number, c.in_ok-number.entry)) entries (c.in_ok-number.ensures.kept c.self.inside.kind) c.self.invariant.sound in
+    let put = subst (λ es. IsSound c.self.inside.kind es → IsGoodPut c.self.inside.kind es (c.in_ok-number.number, c.in_ok-number.entry)) entries (c.in_ok-number.ensures.kept c.self.inside.kind) c.self.invariant.sound in
     subst (λ old. OthersAreSame old.kind (g.S.Sectors.sectors old.device) (g.S.Sectors.sectors c.store.new.device) (IsFile c.args.user c.args.name.now)) c.self.view_is
     (create_others c.self.inside.kind _ _ c.args.user c.args.name.now (c.in_ok-number.number, c.in_ok-number.entry) c.is_name.ensures.seven c.self.invariant.sound put asked
     (whole_change c.self.inside.kind _ _ _ (subst (Changed c.self.inside.kind (g.S.Sectors.sectors c.self.inside.device) (g.S.Sectors.sectors c.store.new.device)) (c.in-Ok.ensures.entries ∙ ap (λ es. slice_set es c.in_ok-number.number c.in_ok-number.entry) lent) c.in-Ok.ensures.stored)))
@@ -58,7 +58,7 @@ returns-in-Err-clause-others g c =
     let entries = c.deref.ensures.value ∙ c.self.invariant.entries_are c.if-self.false in
     let lent = c.deref_mut.ensures.value ∙ c.self.invariant.entries_are c.if-self.false in
     let asked = ap (creation c.args.user c.args.name.now) (sym entries) ∙ sym c.creation.ensures.step ∙ c.in_ok-number.was in
-    let put = subst (λ es. IsSound c.self.inside.kind es → IsPut c.self.inside.kind es (c.in_ok-number.number, c.in_ok-number.entry)) entries (c.in_ok-number.ensures.kept c.self.inside.kind) c.self.invariant.sound in
+    let put = subst (λ es. IsSound c.self.inside.kind es → IsGoodPut c.self.inside.kind es (c.in_ok-number.number, c.in_ok-number.entry)) entries (c.in_ok-number.ensures.kept c.self.inside.kind) c.self.invariant.sound in
     subst (λ old. OthersAreSame old.kind (g.S.Sectors.sectors old.device) (g.S.Sectors.sectors c.store.new.device) (IsFile c.args.user c.args.name.now)) c.self.view_is
     (create_others c.self.inside.kind _ _ c.args.user c.args.name.now (c.in_ok-number.number, c.in_ok-number.entry) c.is_name.ensures.seven c.self.invariant.sound put asked
     (partly c.self.inside.kind _ _ _ (second _ _ _ (subst (Changed c.self.inside.kind (g.S.Sectors.sectors c.self.inside.device) (g.S.Sectors.sectors c.store.new.device)) (c.in-Err.ensures.entries ∙ ap (λ es. slice_set es c.in_ok-number.number c.in_ok-number.entry) lent)) c.in-Err.ensures.stopped)))
@@ -68,6 +68,6 @@ returns-in-Ok-clause-made g c =
     let entries = c.deref.ensures.value ∙ c.self.invariant.entries_are c.if-self.false in
     let lent = c.deref_mut.ensures.value ∙ c.self.invariant.entries_are c.if-self.false in
     let asked = ap (creation c.args.user c.args.name.now) (sym entries) ∙ sym c.creation.ensures.step ∙ c.in_ok-number.was in
-    let put = subst (λ es. IsSound c.self.inside.kind es → IsPut c.self.inside.kind es (c.in_ok-number.number, c.in_ok-number.entry)) entries (c.in_ok-number.ensures.kept c.self.inside.kind) c.self.invariant.sound in
+    let put = subst (λ es. IsSound c.self.inside.kind es → IsGoodPut c.self.inside.kind es (c.in_ok-number.number, c.in_ok-number.entry)) entries (c.in_ok-number.ensures.kept c.self.inside.kind) c.self.invariant.sound in
     made_file c.self.inside.kind _ _ c.args.user c.args.name.now (c.in_ok-number.number, c.in_ok-number.entry) c.requires c.is_name.ensures.seven put asked
     (subst (Changed c.self.inside.kind (g.S.Sectors.sectors c.self.inside.device) (g.S.Sectors.sectors c.store.new.device)) (c.in-Ok.ensures.entries ∙ ap (λ es. slice_set es c.in_ok-number.number c.in_ok-number.entry) lent) c.in-Ok.ensures.stored)

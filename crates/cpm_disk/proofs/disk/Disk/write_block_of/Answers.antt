@@ -5,7 +5,7 @@ use Rattle.cpm_operations.specs.Kept.{IsKeptBy}
 use Rattle.cpm_operations.specs.Steps.{writing}
 use Rattle.cpm_disk.specs.Files.{HasRecord, HasSameRecords, IsFile, OthersAreSame}
 use Rattle.cpm_disk.specs.Image.{directory}
-use Rattle.cpm_disk.specs.Operations.{IsWritten}
+use Rattle.cpm_disk.specs.Operations.{IsRecordWritten}
 use Rattle.cpm_disk.proofs.StillMounted.{mounted_partly_written, mounted_written, whole, write_between}
 use Rattle.cpm_disk.proofs.Others.{whole_write, write_others}
 use Rattle.cpm_disk.proofs.Refusals.{write_refused}
@@ -20,7 +20,7 @@ returns-in_err-place-clause-done g c =
     let asked : writing c.self.inside.kind c.args.user c.args.name.now c.args.number (directory c.self.inside.kind (g.S.Sectors.sectors c.self.inside.device)) ≡ Err c.in_err-place.field-0.0 =
     ap (writing c.self.inside.kind c.args.user c.args.name.now c.args.number) (sym (c.deref-2.ensures.value ∙ entries)) ∙ sym c.in_err-place.ensures.step in
     let p = err_from_is_err_and c.from_residual.result c.from_residual.ensures.1 in
-    rw (p.1, p.2) (subst (λ disk. IsWritten g.S.Sectors.sectors g.S.Sectors.faults disk disk c.args.user c.args.name.now c.args.number c.args.bytes.now (Err c.in_err-place.field-0.0)) c.self.view_is
+    rw (p.1, p.2) (subst (λ disk. IsRecordWritten g.S.Sectors.sectors g.S.Sectors.faults disk disk c.args.user c.args.name.now c.args.number c.args.bytes.now (Err c.in_err-place.field-0.0)) c.self.view_is
     (write_refused g.S.Sectors.sectors g.S.Sectors.faults _ c.args.user c.args.name.now c.args.number c.args.bytes.now c.in_err-place.field-0.0 c.if-self.false asked c.in_err-place.ensures.refusals))
 
 pub invariant_of-self : goal.invariant_of-self
@@ -48,7 +48,7 @@ returns-in-Ok-clause-done g c =
     let entries = c.self.invariant.entries_are c.if-self.false in
     let asked : writing c.self.inside.kind c.args.user c.args.name.now c.args.number (directory c.self.inside.kind (g.S.Sectors.sectors c.self.inside.device)) ≡ Ok c.in_ok-place.place =
     ap (writing c.self.inside.kind c.args.user c.args.name.now c.args.number) (sym (c.deref-2.ensures.value ∙ entries)) ∙ sym c.writing_at.ensures.step ∙ c.in_ok-place.was in
-    subst (λ old. IsWritten g.S.Sectors.sectors g.S.Sectors.faults old (record { device = c.write_all.new.device; kind = c.self.inside.kind; failed = c.self.inside.failed }) c.args.user c.args.name.now c.args.number c.args.bytes.now (Ok tt)) c.self.view_is
+    subst (λ old. IsRecordWritten g.S.Sectors.sectors g.S.Sectors.faults old (record { device = c.write_all.new.device; kind = c.self.inside.kind; failed = c.self.inside.failed }) c.args.user c.args.name.now c.args.number c.args.bytes.now (Ok tt)) c.self.view_is
     (c.if-self.false, c.if-self.false, refl, c.in-Ok.ensures.cause, c.in_ok-place.place, asked, (rw (c.from.ensures, c.block_records.ensures) at c.in-Ok.ensures.written))
 
 pub returns-in-Err-clause-done : goal.returns-in-Err-clause-done
@@ -56,7 +56,7 @@ returns-in-Err-clause-done g c =
     let entries = c.self.invariant.entries_are c.if-self.false in
     let asked : writing c.self.inside.kind c.args.user c.args.name.now c.args.number (directory c.self.inside.kind (g.S.Sectors.sectors c.self.inside.device)) ≡ Ok c.in_ok-place.place =
     ap (writing c.self.inside.kind c.args.user c.args.name.now c.args.number) (sym (c.deref-2.ensures.value ∙ entries)) ∙ sym c.writing_at.ensures.step ∙ c.in_ok-place.was in
-    subst (λ old. IsWritten g.S.Sectors.sectors g.S.Sectors.faults old (record { device = c.write_all.new.device; kind = c.self.inside.kind; failed = true }) c.args.user c.args.name.now c.args.number c.args.bytes.now (Err Fault)) c.self.view_is
+    subst (λ old. IsRecordWritten g.S.Sectors.sectors g.S.Sectors.faults old (record { device = c.write_all.new.device; kind = c.self.inside.kind; failed = true }) c.args.user c.args.name.now c.args.number c.args.bytes.now (Err Fault)) c.self.view_is
     (c.if-self.false, refl, refl, c.in-Err.ensures.cause, c.in_ok-place.place, asked, (rw (c.from.ensures, c.block_records.ensures) at c.in-Err.ensures.stopped))
 
 pub returns-in-Ok-clause-sound : goal.returns-in-Ok-clause-sound

@@ -1,5 +1,5 @@
 use Rattle.std.proofs.Common.{◌≡◌, zero, suc, ◌<◌, ℕ, ◌∷◌, ◌∙◌, arith, false, rules, [], refl, slice_index_or, subst}
-use Rattle.z80dev_disk.specs.Put.{IsPut}
+use Rattle.z80dev_disk.specs.Put.{IsPutImage}
 use Rattle.z80dev_disk.specs.Words.{is_wild}
 use Rattle.z80dev_disk.specs.declared.putting.PutFile.{PutFile}
 use Rattle.z80dev_finish.specs.declared.end.End.TheVariants as end
@@ -33,6 +33,6 @@ pub returns : goal.returns
 returns g c = λ o.
     put_changed c.args.target c.args.manner c.args.path.now c.args.word.now c.in_ok-name.name c.in_ok-name.ensures.name (g.F.Files.folder c.args.files.now) (g.F.Files.folder c.claim.new.files) (g.F.Files.folder c.read.new.files)
     (g.F.Files.folder c.change.new.files) o c.in_ok-image.image c.in_ok-file.file.items c.put-made.result c.without_name.result c.change.result c.in_ok-image.ensures c.in_ok-file.ensures.0 c.in_ok-file.ensures.1
-    (subst (λ b. IsPut b c.args.target.user c.args.manner.replace ((c.in_ok-name.name, as_put c.args.manner.text c.in_ok-file.file.items) ∷ []) c.put-made.result) c.deref-2.ensures.value
-    (subst (λ f. IsPut c.deref-2.result.now c.args.target.user c.args.manner.replace ((c.in_ok-name.name, f) ∷ []) c.put-made.result) (c.deref.ensures.value ∙ c.in_ok-bytes.ensures) c.put-made.ensures.answer))
+    (subst (λ b. IsPutImage b c.args.target.user c.args.manner.replace ((c.in_ok-name.name, as_put c.args.manner.text c.in_ok-file.file.items) ∷ []) c.put-made.result) c.deref-2.ensures.value
+    (subst (λ f. IsPutImage c.deref-2.result.now c.args.target.user c.args.manner.replace ((c.in_ok-name.name, f) ∷ []) c.put-made.result) (c.deref.ensures.value ∙ c.in_ok-bytes.ensures) c.put-made.ensures.answer))
     c.without_name.ensures c.change.ensures

@@ -1,5 +1,5 @@
 use Rattle.std.proofs.Common.{◌≡◌, ◌∙◌, ◌∷◌, List, [], ap, length, map, refl, subst, sym}
-use Rattle.z80dev_disk.specs.Put.{IsPut, file_of}
+use Rattle.z80dev_disk.specs.Put.{IsPutImage, named_file}
 use Rattle.z80dev_disk.specs.Words.{own_name}
 use Rattle.z80dev_jobs.specs.Disks.{as_put}
 use Rattle.z80dev_jobs.proofs.Images.{as_many, put_all_changed, put_all_unnamed, put_all_unread}
@@ -26,11 +26,11 @@ puts_of-requires-clause-lengths g c =
 
 pub returns : goal.returns
 returns g c = λ o.
-    let puts = map file_of c.in-Ok.puts.items in
-    let names_are : map (λ p. p.0) puts ≡ c.in_ok-names.names.items = fused (λ p. p.0) file_of c.in-Ok.puts.items ∙ c.in-Ok.ensures.puts.0 ∙ c.deref.ensures.value in
+    let puts = map named_file c.in-Ok.puts.items in
+    let names_are : map (λ p. p.0) puts ≡ c.in_ok-names.names.items = fused (λ p. p.0) named_file c.in-Ok.puts.items ∙ c.in-Ok.ensures.puts.0 ∙ c.deref.ensures.value in
     let files_are : map (λ p. p.1) puts ≡ map (as_put c.args.manner.text) (map (λ t. t.items) c.in_ok-texts.texts.items) =
-    fused (λ p. p.1) file_of c.in-Ok.puts.items ∙ c.in-Ok.ensures.puts.1 ∙ ap (map (λ t. t.items)) c.deref-2.ensures.value ∙ c.in_ok-texts-2.ensures
+    fused (λ p. p.1) named_file c.in-Ok.puts.items ∙ c.in-Ok.ensures.puts.1 ∙ ap (map (λ t. t.items)) c.deref-2.ensures.value ∙ c.in_ok-texts-2.ensures
     ∙ sym (fused (as_put c.args.manner.text) (λ t. t.items) c.in_ok-texts.texts.items) in
     put_all_changed c.args.target c.args.manner (map (λ path. path.now) c.args.paths.now) c.in_ok-names.names.items c.in_ok-names.ensures.names (g.F.Files.folder c.args.files.now) (g.F.Files.folder c.claim.new.files) (g.F.Files.folder c.read_all.new.files)
     (g.F.Files.folder c.change.new.files) o c.in_ok-image.image (map (λ t. t.items) c.in_ok-texts.texts.items) puts c.put-made.result c.change.result c.in_ok-image.ensures c.in_ok-texts.ensures.0 c.in_ok-texts.ensures.1 names_are files_are
-    (subst (λ b. IsPut b c.args.target.user c.args.manner.replace puts c.put-made.result) c.deref-3.ensures.value (subst (λ ps. IsPut c.deref-3.result.now c.args.target.user c.args.manner.replace (map file_of ps) c.put-made.result) c.deref-4.ensures.value c.put-made.ensures.answer)) c.change.ensures
+    (subst (λ b. IsPutImage b c.args.target.user c.args.manner.replace puts c.put-made.result) c.deref-3.ensures.value (subst (λ ps. IsPutImage c.deref-3.result.now c.args.target.user c.args.manner.replace (map named_file ps) c.put-made.result) c.deref-4.ensures.value c.put-made.ensures.answer)) c.change.ensures

@@ -4,9 +4,9 @@ use Rattle.ruler.specs.Choice.{Choice, chosen}
 use Rattle.zmo_module.specs.Modules.{Module, module_of, statement_of}
 use Rattle.zlink.specs.declared.program.joining.Links.{Links}
 use Rattle.zlink.specs.Program.Laws.{part_at, statement_count}
-use Rattle.zlink.specs.Program.Parts.{parts, publics}
+use Rattle.zlink.specs.Program.Parts.{parts, all_publics}
 use Rattle.zlink.specs.Program.Whole.{program, stands}
-use Rattle.zlink.specs.File.Objects.{shape}
+use Rattle.zlink.specs.File.Objects.{placed_shape}
 use Rattle.zlink.specs.File.Places.{ArePlaces}
 use Rattle.zlink.specs.Private.Pieces.{AreLaid, AreReady, IsSizedPiece}
 use Rattle.zlink.proofs.Files.FileSoFar.{Written, finished, many, places-small, ready, same-length, start}
@@ -14,8 +14,8 @@ use Rattle.zlink.proofs.Files.Linking.{IsHere, base-next, ends, here, links-long
 use Rattle.zlink.proofs.Files.Tabled.{follow}
 use Rattle.zlink.proofs.file.emitting.emit.Goals as goal
 
--- the place behind a module's statements is there
-room-there : (modules : List Module) (places : List ℕ) (c : Choice) (k : ℕ) (m : Module) (l : Links) → ArePlaces c (shape (program modules)) places → length (program modules) ≡ statement_count modules → IsHere modules k m l
+-- the address after the statements of a module is in the list
+room-there : (modules : List Module) (places : List ℕ) (c : Choice) (k : ℕ) (m : Module) (l : Links) → ArePlaces c (placed_shape (program modules)) places → length (program modules) ≡ statement_count modules → IsHere modules k m l
     → l.base + length m.statements < length places
 room-there modules places c k m l places_are count h = omega (arith, places_are.len, same-length (program modules), count, ends modules k m l h)
 
@@ -71,7 +71,7 @@ put_statements-requires-clause-ready c =
     let rows = follow modules c.loop-m.m (module_of m) l c.len.result c.args.places.now c.fill_table.new.table.items h counted (omega (arith, room, counted)) table c.laid_out.ensures.statements (map statement_of c.deref.result.now) (ap (map statement_of) c.deref.ensures.value)
     (c.within.ensures.each modules c.requires.modules c.requires.joined) in
     let all : AreReady (chosen c.args.long.now) c.args.places.now c.fill_table.new.table.items l.base (map statement_of c.deref.result.now) =
-    λ i s is. ready (chosen c.args.long.now) (program modules) c.args.places.now c.fill_table.new.table.items (l.base + i) (record { statement = s; stands = stands (publics (parts modules)) (part_at modules c.loop-m.m (module_of m)) }) c.requires.valid c.requires.places (rows.there i s is) (rows.tabled i s is) in
+    λ i s is. ready (chosen c.args.long.now) (program modules) c.args.places.now c.fill_table.new.table.items (l.base + i) (record { statement = s; stands = stands (all_publics (parts modules)) (part_at modules c.loop-m.m (module_of m)) }) c.requires.valid c.requires.places (rows.there i s is) (rows.tabled i s is) in
     subst (λ t. AreReady (chosen c.args.long.now) c.args.places.now t l.base (map statement_of c.deref.result.now)) (sym c.deref-in-loop-m.ensures.value) all
 
 pub loop-m-preserved : goal.loop-m-preserved
@@ -92,7 +92,7 @@ loop-m-preserved c =
     let ss = map statement_of c.deref.result.now in
     let before : Written (chosen c.args.long.now) p l.base c.loop-m.file.items = subst (λ n. Written (chosen c.args.long.now) p n c.loop-m.file.items) (sym h.linked.base) c.loop-m.invariant in
     let laid = subst (λ t. AreLaid (λ j. IsSizedPiece (slice_index c.args.places.now j) (chosen c.args.long.now j) t) l.base ss put.0) c.deref-in-loop-m.ensures.value put.2 in
-    let after = many (chosen c.args.long.now) p c.args.places.now c.fill_table.new.table.items (stands (publics (parts modules)) (part_at modules c.loop-m.m (module_of m))) ss l.base c.loop-m.file.items c.put_statements.new.file.items put.0
+    let after = many (chosen c.args.long.now) p c.args.places.now c.fill_table.new.table.items (stands (all_publics (parts modules)) (part_at modules c.loop-m.m (module_of m))) ss l.base c.loop-m.file.items c.put_statements.new.file.items put.0
     c.requires.places rows before laid put.1 in
     let next : l.base + length ss ≡ statement_count (take (c.loop-m.m + 1) modules) = omega (arith, base-next modules c.loop-m.m (module_of m) l h, own, same, length-map c.deref.result.now statement_of) in
     subst (λ n. Written (chosen c.args.long.now) p n c.put_statements.new.file.items) next after

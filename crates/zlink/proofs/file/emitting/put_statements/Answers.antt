@@ -1,13 +1,13 @@
 use Rattle.std.proofs.Common.{ℕ, ◌++◌, List, slice_index, ap, ◌∙◌, arith, append_assoc}
 use Rattle.ruler.specs.Choice.{chosen}
-use Rattle.zmo_module.specs.Modules.{Statement}
+use Rattle.zmo_module.specs.Modules.{ModuleStatement}
 use Rattle.zlink.specs.Private.Pieces.{IsSizedPiece}
 use Rattle.zlink.proofs.Files.Laid.{laid-step}
 use Rattle.zlink.proofs.file.emitting.put_statements.Goals as goal
 
 pub loop-k-preserved : goal.loop-k-preserved
 loop-k-preserved c =
-    let IsPiece : ℕ → Statement → List ℕ → Type 0 = λ k. IsSizedPiece (slice_index c.args.places.now k) (chosen c.args.long.now k) c.args.table.now in
+    let IsPiece : ℕ → ModuleStatement → List ℕ → Type 0 = λ k. IsSizedPiece (slice_index c.args.places.now k) (chosen c.args.long.now k) c.args.table.now in
     let before = c.loop-k.invariant in
     let put = c.in_ok-put_statement.ensures in (
       before.0 ++ put.0,

@@ -2,7 +2,7 @@ use Rattle.std.proofs.Common.{◌≡◌, ℕ, ◌+◌, ◌*◌, ◌≤◌, vec_l
 use Rattle.ruler.specs.Choice.{chosen, place}
 use Rattle.zlink.proofs.file.layout.places_of.Given as goal
 
--- the places up to statement k are there, and the next is known
+-- the addresses up to statement k are in the list, and the next one is known
 abbrev pub invariant-loop-k : goal.invariant-loop-k
 invariant-loop-k l = record {
   len : vec_len l.places ≡ l.k + 1;

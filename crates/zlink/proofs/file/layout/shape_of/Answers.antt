@@ -3,7 +3,7 @@ use Rattle.std.proofs.lemmas.List.{length-map}
 use Rattle.ruler.specs.Choice.{IsShape}
 use Rattle.zmo_module.specs.Modules.{module_of, statement_of}
 use Rattle.zlink.specs.Program.Whole.{program}
-use Rattle.zlink.specs.File.Objects.{shape}
+use Rattle.zlink.specs.File.Objects.{placed_shape}
 use Rattle.zlink.specs.Private.Refs.{IsSizable}
 use Rattle.zlink.proofs.Files.Linking.{ends, here, is_shape, links-long, parts-all, shape-more, sizable}
 use Rattle.zlink.proofs.file.layout.shape_of.Goals as goal
@@ -33,10 +33,10 @@ loop-m-preserved c =
 pub new-requires : goal.new-requires
 new-requires c =
     let modules = map module_of c.args.modules.now in
-    let whole = c.loop-m.invariant ∙ ap shape (parts-all modules c.loop-m.m (omega (arith, length-map c.args.modules.now module_of))) in
+    let whole = c.loop-m.invariant ∙ ap placed_shape (parts-all modules c.loop-m.m (omega (arith, length-map c.args.modules.now module_of))) in
     subst IsShape (sym whole) (is_shape (program modules) (c.within.ensures.few modules c.requires.joined) (c.within.ensures.each modules c.requires.modules c.requires.joined))
 
 pub returns : goal.returns
 returns c =
     let modules = map module_of c.args.modules.now in
-    c.new.ensures ∙ c.loop-m.invariant ∙ ap shape (parts-all modules c.loop-m.m (omega (arith, length-map c.args.modules.now module_of)))
+    c.new.ensures ∙ c.loop-m.invariant ∙ ap placed_shape (parts-all modules c.loop-m.m (omega (arith, length-map c.args.modules.now module_of)))

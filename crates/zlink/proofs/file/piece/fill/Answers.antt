@@ -1,7 +1,7 @@
 use Rattle.std.proofs.Common.{◌≡◌, ℕ, ◌+◌, ◌++◌, ◌≤◌, length, slice_index, take, drop, ap, ◌∙◌, arith}
 use Rattle.asm_piece.specs.Cells.{written}
 use Rattle.asm_statements.specs.Program.Linked.{fill_one}
-use Rattle.zmo_module.specs.Holes.{size_of}
+use Rattle.zmo_module.specs.Holes.{width_size}
 use Rattle.zlink.proofs.Files.Filled.{filled-more, hole-within, length-fill_one}
 use Rattle.zlink.proofs.file.piece.fill.Goals as goal
 
@@ -15,7 +15,7 @@ loop-hole-preserved c =
     let h = c.hole-item.result in
     let places : ℕ → ℕ = λ ref. slice_index c.args.table.now ref in
     let there = hole-within (length c.args.bytes.now) c.args.holes.now c.loop-hole.hole-index h (omega arith) c.hole-item.is c.requires.within in
-    let within : h.offset + size_of h.width ≤ length c.loop-hole.bytes = omega (arith, there, c.loop-hole.invariant.len) in
+    let within : h.offset + width_size h.width ≤ length c.loop-hole.bytes = omega (arith, there, c.loop-hole.invariant.len) in
     let next : c.write.new.bytes ≡ fill_one places c.loop-hole.bytes h =
     c.write.ensures ∙ ap (λ n. take h.offset c.loop-hole.bytes ++ (written h.width n ++ drop (h.offset + length (written h.width n)) c.loop-hole.bytes)) c.value.ensures in
     record {
