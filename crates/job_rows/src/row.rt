@@ -18,7 +18,7 @@ pub(crate) struct Row<'a> {
     pub(crate) in_errors: Option<&'a str>,
 }
 
-/// The bytes of a text with what stands in braces written out, and `|` for the end of a line.
+/// The bytes of a text of a row, with braces expanded and `|` as the end of a line.
 fn text_of(alloc: Global, text: &str) -> Result<Vec<u8>, anyhow::Error> {
     let mut text = row_text::written_out(alloc, text)?;
     for byte in text.iter_mut() {

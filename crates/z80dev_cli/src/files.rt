@@ -7,7 +7,7 @@ ghost use Rattle.std.specs.Prelude.{◌≡◌, ◌≤◌, IfOk, None, length, op
 ghost use Rattle.common.specs.declared.limits.TheConstants.{LONGEST_TEXT};
 ghost use Rattle.streams.specs.Stream.{counted};
 ghost use Rattle.z80dev_finish.specs.Files.{IsLockWanted};
-ghost use Rattle.z80dev_cli.specs.Host.{lock_in, part_in};
+ghost use Rattle.z80dev_cli.specs.Host.{claim_in, lock_in, part_in};
 
 use lock::{HeldLock, is_one_file, take_lock};
 use part::{Part, write_part};
@@ -54,6 +54,17 @@ impl<'a> HostFiles<'a> {
         self.failures = self.failures.saturating_add(1);
     }
 
+    /// Keeps a lock, with the path of the file that was read under it. A part that was written under an earlier lock is given up.
+    fn take(&mut self, lock: HeldLock, claimed: Option<String>)
+        ensures { self.new ≡ record self.old { lock = Some lock; claimed = claimed; part = None } }
+    {
+        self.lock = Some(lock);
+        self.claimed = claimed;
+        if let Some(part) = self.part.take() {
+            part.discard(self.rt);
+        }
+    }
+
     /// Counts a file that took its place.
     fn count_replacement(&mut self)
         ensures { self.new ≡ record self.old { replacements = counted self.old.replacements } }
@@ -63,7 +74,7 @@ impl<'a> HostFiles<'a> {
 }
 
 impl Files for HostFiles<'_> {
-    ghost folder = { λ h. record { files = None; failures = h.failures; replacements = h.replacements; locked = option_map lock_in h.lock; claimed = option_map string_bytes h.claimed; part = option_map part_in h.part } };
+    ghost folder = { λ h. record { files = None; failures = h.failures; replacements = h.replacements; locked = option_map lock_in h.lock; claimed = option_map claim_in h.claimed; part = option_map part_in h.part } };
 
     fn read(&mut self, alloc: Global, path: &str) -> Result<Vec<u8>, Unread> {
         match read_whole(self.rt, alloc, path) {
@@ -88,7 +99,7 @@ impl Files for HostFiles<'_> {
         match take_lock(self.rt, alloc, path, is_wanted, false) {
             Ok(lock) => {
                 let is_held = lock.is_held;
-                self.lock = Some(lock);
+                self.take(lock, None);
                 Ok(is_held)
             }
             Err(Unread::File) => {
@@ -107,8 +118,7 @@ impl Files for HostFiles<'_> {
         match claim(self.rt, alloc, path, is_wanted) {
             Ok((lock, bytes)) => {
                 let is_locked = lock.is_held;
-                self.lock = Some(lock);
-                self.claimed = Some(claimed);
+                self.take(lock, Some(claimed));
                 Ok(Claimed { bytes, is_locked })
             }
             Err(Unread::File) => {
@@ -184,7 +194,7 @@ fn read_whole(rt: &HostRuntime, alloc: Global, path: &str) -> Result<Vec<u8>, Un
     }
 }
 
-/// Takes the lock of a path and reads the file on which it is, which is that behind symbolic links.
+/// Takes the lock of a path and reads the file that is locked: the one to which symbolic links lead.
 fn claim(
     rt: &HostRuntime,
     alloc: Global,

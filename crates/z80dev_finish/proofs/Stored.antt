@@ -18,16 +18,21 @@ grows_trans (Some a) None new xs ys first rest = absurd first
 grows_trans (Some a) (Some b) None xs ys first rest = absurd rest
 grows_trans (Some a) (Some b) (Some c) xs ys first rest = rest ∙ ap (λ z. z ++ ys) first ∙ append_assoc a xs ys
 
+-- some files are added, and then others
+pub adds_trans : (old mid new : Folder) (xs ys : List File) → Adds old mid xs → Adds mid new ys → Adds old new (xs ++ ys)
+adds_trans old mid new xs ys (grown, replaced, (locked, claimed), part) (more, replaced_then, (locked_then, claimed_then), part_then) =
+    (grows_trans old.files mid.files new.files xs ys grown more, replaced_then ∙ replaced, (locked_then ∙ locked, claimed_then ∙ claimed), part_then ∙ part)
+
 -- no file more
 pub none_more : (old mid new : Folder) (xs : List File) → Adds old mid xs → Adds mid new [] → Adds old new xs
-none_more old mid new xs so_far none = subst (Adds old new) (append-nil xs) (grows_trans old.files mid.files new.files xs [] so_far none)
+none_more old mid new xs so_far none = subst (Adds old new) (append-nil xs) (adds_trans old mid new xs [] so_far none)
 
 -- one file more
 pub one_more : (base : List ℕ) (files : List (Kind × List ℕ)) (k : ℕ) (d : Kind × List ℕ) (old mid new : Folder) → k < length files → Adds old mid (map (named base) (take k files))
     → Adds mid new (named base (get_or files k d) ∷ []) → Adds old new (map (named base) (take (k + 1) files))
 one_more base files k d old mid new lt so_far this =
     subst (Adds old new) (sym (ap (map (named base)) (take_more files k d lt) ∙ map-append (named base) (take k files) (get_or files k d ∷ [])))
-    (grows_trans old.files mid.files new.files (map (named base) (take k files)) (named base (get_or files k d) ∷ []) so_far this)
+    (adds_trans old mid new (map (named base) (take k files)) (named base (get_or files k d) ∷ []) so_far this)
 
 -- a file that is written or not
 pub one_or_none : (base : List ℕ) (files : List (Kind × List ℕ)) (k : ℕ) (d : Kind × List ℕ) (old mid new : Folder) → k < length files → Adds old mid (map (named base) (take k files))

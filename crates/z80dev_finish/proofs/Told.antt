@@ -1,11 +1,11 @@
--- The line of an end is told.
+-- The line of an end is written on standard error.
 use Rattle.std.proofs.Common.{List, ℕ, Option, None, Some, Result, Ok, Err, inl, inr}
 use Rattle.streams.specs.Stream.{Stream}
 use Rattle.streams.specs.declared.writing.WriteFailed.{WriteFailed}
 use Rattle.z80dev_finish.specs.End.{TellsOf}
 use Rattle.z80dev_finish.specs.Private.Steps.{PutsLine}
 
--- Whether the stream failed on the line or not, it is told.
+-- It is, whole or in part, whether the stream failed or not.
 pub told : (text : Option (List ℕ)) (old new : Stream) (result : Result Unit WriteFailed) → PutsLine text old new result → TellsOf text old new
 told None old new result same = same
 told (Some text) old new (Ok _) put = inl put

@@ -1,4 +1,4 @@
--- What commands answer: the files that are written, what is printed then, and what is said on standard error.
+-- What commands answer: the files to write, the lines to print after that, and the text of a refusal.
 use Rattle.std.specs.Prelude.{◌≡◌, ◌⊎◌, ℕ, List, [], Option, Some, codes, map}
 use Rattle.std.specs.Option.{option_map}
 use Rattle.z80dev_finish.specs.declared.answer.Answer as made
@@ -6,7 +6,7 @@ use Rattle.z80dev_finish.specs.declared.answer.Kind.{Kind}
 use Rattle.z80dev_finish.specs.declared.answer.Kind.TheVariants as kind
 use Rattle.z80dev_finish.specs.declared.answer.NewFile.{NewFile}
 
--- what stands behind the path that was given
+-- what is added to the path that the user gave
 abbrev pub ending : Kind → List ℕ
 ending kind.Object = codes ".zmo"
 ending kind.Sizes = codes ".siz"
@@ -16,7 +16,7 @@ ending kind.Listing = codes ".lst"
 ending kind.Symbols = codes ".sym"
 ending kind.Given = []
 
--- files by what they hold, in the order in which they are written; what is printed on standard output; what is said on standard error
+-- files by their kinds, in the order in which they are written; the bytes for standard output; the text of a refusal, for standard error
 pub record Answer : Type 0 where
   pub files : List (Kind × List ℕ)
   pub printed : List ℕ
@@ -33,6 +33,6 @@ answer_by text a = record { files = map file_of a.files.items; printed = a.print
 abbrev pub nothing : List ℕ → Answer
 nothing text = record { files = []; printed = []; said = Some text }
 
--- The answer is what is said, or memory ran out.
+-- The answer is one of these, or memory ran out.
 abbrev pub MemoryAside : (Answer → Type 0) → Answer → Type 0
 MemoryAside Is answer = (answer ≡ nothing (codes "NoMemory")) ⊎ Is answer

@@ -1,4 +1,4 @@
--- How a command ends, and how that is told.
+-- How a command ends: its exit status, and its line on standard error.
 use Rattle.std.specs.Prelude.{◌≡◌, ◌⊎◌, ℕ, List, ◌++◌, Option, None, Some, codes, string_bytes}
 use Rattle.streams.specs.Stream.{Stream}
 use Rattle.streams.specs.Writing.{PutsAll, PutsFront, error_line}
@@ -14,7 +14,7 @@ end_status (end.Path path) = 3
 end_status end.Stream = 3
 end_status end.NoMemory = 1
 
--- what is said after `error: `
+-- the text that follows `error: ` on standard error
 abbrev pub end_text : End → Option (List ℕ)
 end_text end.Done = None
 end_text (end.Refused text) = Some (string_bytes text)
@@ -27,7 +27,7 @@ end_text end.NoMemory = Some (codes "NoMemory")
 abbrev pub IsPut : Stream → Stream → List ℕ → Type 0
 IsPut old new line = PutsAll old new line ⊎ PutsFront old new line
 
--- .. that of an error, where there is one
+-- The line of an error is put, if there is an error.
 abbrev pub TellsOf : Option (List ℕ) → Stream → Stream → Type 0
 TellsOf None old new = new ≡ old
 TellsOf (Some text) old new = IsPut old new (error_line text)

@@ -25,7 +25,7 @@ pub enum Kind {
 }
 
 impl Kind {
-    /// What stands behind the path that was given: a point and the file's ending, or nothing.
+    /// What is added to the path that the user gave: a point and the file's ending, or nothing.
     pub fn ending(self) -> &'static str
         ensures { result.now ≡ ending self }
     {
@@ -55,7 +55,7 @@ pub struct Answer<R> {
     pub files: Vec<NewFile>,
     /// What is printed on standard output once they are written.
     pub printed: Vec<u8>,
-    /// What is said on standard error then, behind `error: `.
+    /// The text that follows `error: ` on standard error.
     pub refusal: Option<R>,
 }
 

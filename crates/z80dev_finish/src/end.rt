@@ -1,4 +1,4 @@
-//! How a command ends, and how that is told.
+//! How a command ends: its exit status, and its line on standard error.
 
 ghost use Rattle.std.specs.Prelude.{◌≡◌, ◌++◌, codes};
 ghost use Rattle.streams.specs.Writing.{Puts, error_line};

@@ -1,7 +1,7 @@
 //! Files by their paths.
 
 ghost use Rattle.std.specs.Prelude.{◌≡◌, Some};
-ghost use Rattle.z80dev_finish.specs.Files.{Claims, Folder, HasLock, IsReady, Locks, Part, PutsInPlace, Reads, Replaces, Stores, Syncs, WritesBeside};
+ghost use Rattle.z80dev_finish.specs.Files.{Claims, Folder, IsFree, IsReady, Locks, Part, PutsInPlace, Reads, Replaces, Stores, Syncs, WritesBeside};
 
 use std::alloc::Global;
 use streams::WriteFailed;
@@ -38,9 +38,10 @@ pub enum Placed {
 /// Files that can be made again are written by [`write`](Files::write). A file that holds a user's work, such as the image of a disk, is
 /// replaced in four calls: it is [claimed](Files::claim), [written beside](Files::write_beside) itself, [synced](Files::sync) and
 /// [put in place](Files::put_in_place). So two programs that hold the lock do not both change a file and lose one of the changes, and
-/// after a power cut the file is the old one or the new one. Each of the last three calls requires those before it, apart from the reading:
-/// a caller promises that by the ghost `claimed`. Only [`put_in_place`](Files::put_in_place) counts a replacement, so a contract that tells
-/// the count excludes [`write`](Files::write).
+/// after a power cut the file is the old one or the new one. Each of the last three calls requires the one before it. Only the claim says
+/// which bytes were read under the lock, and taking another lock ends it; so a contract that works on a claimed file's bytes excludes
+/// bytes that were read before. Only [`put_in_place`](Files::put_in_place) counts a replacement, so a contract that tells the count excludes
+/// [`write`](Files::write).
 pub trait Files {
     /// The files, where they are known, and how often a call failed.
     ghost folder: { Self → Folder };
@@ -61,8 +62,8 @@ pub trait Files {
     fn write(&mut self, path: &str, bytes: &[u8]) -> Result<(), WriteFailed>
         ensures { Stores (folder self.old) (folder self.new) (path.now, bytes.now) result };
 
-    /// Takes the lock of a path for as long as the program runs, whether or not there is a file. The answer says whether the lock is held:
-    /// it is not if `is_wanted` is false, or if the file system has no locks.
+    /// Takes the lock of a path for as long as the program runs, or until it takes another. There may be no file. The answer says whether the
+    /// lock is held: it is not if `is_wanted` is false, or if the file system has no locks.
     ///
     /// # Errors
     ///
@@ -70,7 +71,7 @@ pub trait Files {
     fn lock(&mut self, alloc: Global, path: &str, is_wanted: bool) -> Result<bool, Unread>
         ensures { Locks (folder self.old) (folder self.new) path.now is_wanted result };
 
-    /// Takes the lock of a file as [`lock`](Files::lock) does, and then reads the file whole.
+    /// Takes the lock of a file as [`lock`](Files::lock) does, and then reads the file whole. If it cannot be read, the lock is not taken.
     ///
     /// # Errors
     ///
@@ -78,13 +79,13 @@ pub trait Files {
     fn claim(&mut self, alloc: Global, path: &str, is_wanted: bool) -> Result<Claimed, Unread>
         ensures { Claims (folder self.old) (folder self.new) path.now is_wanted result };
 
-    /// Writes bytes to a new file beside that of a path whose lock is held.
+    /// Writes bytes to a new file beside that of a path whose lock was taken, once for each time that it is.
     ///
     /// # Errors
     ///
     /// If it cannot be written, or if the file of the path is write-protected.
     fn write_beside(&mut self, path: &str, bytes: &[u8]) -> Result<(), WriteFailed>
-        requires locked { HasLock (folder self.old) path.now }
+        requires free { IsFree (folder self.old) path.now }
         ensures { WritesBeside (folder self.old) (folder self.new) path.now bytes.now result };
 
     /// Waits until the bytes of the file that was written beside another have reached the device.
@@ -106,7 +107,7 @@ pub trait Files {
         ensures { (p : Part) → (folder self.old).part ≡ Some p → PutsInPlace (folder self.old) (folder self.new) p keep result };
 }
 
-/// Replaces the file of a path whose lock is held; with `keep`, only if there is none.
+/// Replaces the file of a path whose lock was taken; with `keep`, only if there is none.
 ///
 /// # Errors
 ///
@@ -117,7 +118,7 @@ pub fn replace<F: Files>(
     bytes: &[u8],
     keep: bool,
 ) -> Result<Placed, WriteFailed>
-    requires locked { HasLock (F.folder files.old) path.now }
+    requires free { IsFree (F.folder files.old) path.now }
     ensures { Replaces (F.folder files.old) (F.folder files.new) (path.now, bytes.now) keep result }
 {
     files.write_beside(path, bytes)?;

@@ -31,7 +31,7 @@ finished text base a old new before after (end.Path path) does = absurd does
 finished text base a old new before after end.Stream does = does
 finished text base a old new before after end.NoMemory does = does
 
--- .. over files that were read meanwhile, which changes none
+-- The same over files that were read in between: reading changes no file.
 pub carried : {R : Type 0} (text : R → List ℕ) (base : List ℕ) (a : made.Answer R) (old mid new : Folder) (before after : Stream) (e : End) → mid ≡ old
     → Finishes (λ r. Some (text r)) base a mid new before after e → IsCarriedOut base (answer_by text a) (effect_of old new before after) e
 carried text base a old mid new before after e same does =

@@ -7,22 +7,21 @@ use Rattle.streams.specs.Stream.{Stream}
 use Rattle.z80dev_commands.specs.declared.Target.{Target}
 use Rattle.z80dev_disk.specs.Refusals.{refusal_text}
 use Rattle.z80dev_disk.specs.declared.refusal.Refusal.{Refusal}
-use Rattle.std.specs.List.{AllZip, concat}
+use Rattle.std.specs.List.{AllZip}
 use Rattle.std.specs.Prelude.{◌⊎◌, ◌==◌}
 use Rattle.std.proofs.lemmas.Bool.{false≢true}
 use Rattle.std.proofs.lemmas.List.{get_or-map, length-map, map-append, take_more}
-use Rattle.cpm_image.specs.Image.{blank_image}
 use Rattle.streams.specs.Stream.{counted}
 use Rattle.streams.specs.declared.writing.WriteFailed.{WriteFailed}
 use Rattle.z80dev_disk.specs.declared.getting.Gotten.{Gotten}
-use Rattle.z80dev_finish.proofs.Stored.{grows_none, grows_trans, none_more}
-use Rattle.z80dev_finish.specs.Files.{Adds, File, Folder, IsLockWanted, IsUntouched, Stores}
+use Rattle.z80dev_finish.proofs.Stored.{adds_trans, none_more}
+use Rattle.z80dev_finish.specs.Files.{Adds, File, Folder, Stores}
 use Rattle.z80dev_finish.specs.declared.end.End.{End}
 use Rattle.z80dev_finish.specs.declared.end.End.TheVariants as end
 use Rattle.z80dev_disk.specs.Put.{IsPutImage as IsPutOn}
 use Rattle.z80dev_disk.specs.Words.{file_name_of, own_name, pattern_of}
 use Rattle.z80dev_commands.specs.declared.Manner.{Manner}
-use Rattle.z80dev_jobs.specs.Disks.{BlankEnds, BlankIsMade, Changes, ChangesImage, Claiming, IsChanged, Named, NamedAll, NothingDone, PutEnds, Refuses, Warns, GetsMatching, IsWrittenInto, NamedIfGiven, PutAllEnds, ReadsImage, WritesInto, as_put, bad_name, kind_of, locked_effect, path_in, warnings, without_name}
+use Rattle.z80dev_jobs.specs.Disks.{BlankEnds, Changes, ChangesImage, Claiming, IsChanged, IsNotLocked, Named, NamedAll, NothingDone, PutEnds, Refuses, Warns, GetsMatching, IsWrittenInto, NamedIfGiven, PutAllEnds, ReadsImage, WritesInto, as_put, bad_name, path_in, warnings, without_name}
 use Rattle.z80dev_jobs.specs.Reading.{IsNotRead, IsOneNotRead, IsRead}
 use Rattle.z80dev_finish.specs.Answers.{Answer, answer_by}
 use Rattle.z80dev_finish.specs.Finishing.{Finishes}
@@ -40,7 +39,7 @@ pub ends : (Is : Option (List ℕ) → End → Type 0) (result : Result (Option 
 ends Is (Ok line) is = is
 ends Is (Err e) is = is
 
--- .. in one way, and so in another
+-- A command that ends in one way ends in another, if the one implies the other.
 pub ends_as : (Is Was : Option (List ℕ) → End → Type 0) (result : Result (Option (String Global)) End) → ((line : Option (List ℕ)) (e : End) → Is line e → Was line e) → EndsWith Is result → EndsWith Was result
 ends_as Is Was (Ok line) so is = so (option_map string_bytes line) end.Done is
 ends_as Is Was (Err e) so is = so None e is
@@ -76,10 +75,7 @@ otherwise end.NoMemory line not = refl
 pub unwarned : (Ends : Option (List ℕ) → End → Type 0) (e : End) → Ends None e → Warns Ends None e
 unwarned Ends e is = (None, no_line_at e, is)
 
-pub untouched : (f : Folder) → IsUntouched f f
-untouched f = (grows_none f.files, refl)
-
--- a text that is said where nothing is done
+-- a refusal with this text, before anything is done
 pub refuses : (why : List ℕ) (x : Effect) (e : End) → Says why e → NothingDone x → Refuses why x e
 refuses why x (end.Refused said) says nothing = (says, nothing)
 refuses why x end.NoMemory says nothing = nothing
@@ -92,10 +88,10 @@ refuses why x end.Stream says nothing = absurd says
 pub changed : (t : Target) (Is : List ℕ → Result (Vec ℕ Global) Refusal → Type 0) (old mid new : Folder) (o : Stream) (image : Image) (made : Result (Vec ℕ Global) Refusal) (result : Result (Option (String Global)) End)
     → ClaimsImage old mid t.image.now t.lock (Ok image) → Is image.bytes.items made → ChangesInto t.image.now image made mid new result
     → Warns (ChangesImage t Is (effect_of old new o o)) (line_in result) (end_in result)
-changed t Is old mid new o image made (Ok line) (is_held, mid_is, wanted, read, lines) is (line_is, changes) =
-    (lines_of image, line_is, inl (image.bytes.items, is_held, read, wanted, (lines, inl (made, is, subst (λ f. IsChanged t.image.now image.bytes.items made (effect_of f new o o) end.Done) mid_is (changes o)))))
-changed t Is old mid new o image made (Err e) (is_held, mid_is, wanted, read, lines) is (not_done, changes) =
-    (lines_of image, no_line e (lines_of image) not_done, inl (image.bytes.items, is_held, read, wanted, (lines, inl (made, is, subst (λ f. IsChanged t.image.now image.bytes.items made (effect_of f new o o) e) mid_is (changes o)))))
+changed t Is old mid new o image made (Ok line) (is_held, claimed, lines) is (line_is, changes) =
+    (lines_of image, line_is, inl (image.bytes.items, is_held, mid, claimed, (lines, inl (made, is, changes o))))
+changed t Is old mid new o image made (Err e) (is_held, claimed, lines) is (not_done, changes) =
+    (lines_of image, no_line e (lines_of image) not_done, inl (image.bytes.items, is_held, mid, claimed, (lines, inl (made, is, changes o))))
 
 -- why names are not known, where nothing is done
 pub unnamed_word : (name_in : List ℕ → Option (List ℕ)) (word : List ℕ) (Does : List ℕ → Type 0) (x : Effect) (e : End) → IsWord name_in word (Err e) → NothingDone x → Named (name_in word) Does x e
@@ -110,7 +106,7 @@ unnamed_all name_in words Does x e (inl (n, word, names, at, before, none, says)
 unnamed_all name_in words Does x e (inr out) nothing = inr (inr (out, nothing))
 
 pub nothing_done : (f : Folder) (o : Stream) → NothingDone (effect_of f f o o)
-nothing_done f o = (untouched f, refl)
+nothing_done f o = (refl, refl)
 
 -- ---- ends that a `?` hands on
 
@@ -194,8 +190,7 @@ AfterClaim t Rest x wanted e = Claiming t.image.now t.lock (λ bytes is_held y. 
 
 pub claimed_then : (t : Target) (Rest : List ℕ → Effect → End → Type 0) (old mid new : Folder) (o : Stream) (image : Image) (e : End) → ClaimsImage old mid t.image.now t.lock (Ok image)
     → Rest image.bytes.items (effect_of mid new o o) e → AfterClaim t Rest (effect_of old new o o) (lines_of image) e
-claimed_then t Rest old mid new o image e (is_held, mid_is, wanted, read, lines) rest =
-    inl (image.bytes.items, is_held, read, wanted, (lines, subst (λ f. Rest image.bytes.items (effect_of f new o o) e) mid_is rest))
+claimed_then t Rest old mid new o image e (is_held, claimed, lines) rest = inl (image.bytes.items, is_held, mid, claimed, (lines, rest))
 
 pub not_read : (old new : Folder) (path : List ℕ) (e : End) → IsNotRead old new path e → e ≢ end.Done
 not_read old new path end.Done is same = is
@@ -270,7 +265,7 @@ pub into_more : (folder : List ℕ) (gotten : List Gotten) (k : ℕ) (d : Gotten
 into_more folder gotten k d old mid new file lt is so_far stored = (
   subst (λ fs. Adds old new (map (path_in folder) fs)) (sym (take_more gotten k d lt))
       (subst (Adds old new) (sym (map-append (path_in folder) (take k gotten) (get_or gotten k d ∷ [])))
-      (grows_trans old.files mid.files new.files (map (path_in folder) (take k gotten)) (path_in folder (get_or gotten k d) ∷ []) so_far.0 (subst (λ f. Adds mid new (f ∷ [])) is stored.0))),
+      (adds_trans old mid new (map (path_in folder) (take k gotten)) (path_in folder (get_or gotten k d) ∷ []) so_far.0 (subst (λ f. Adds mid new (f ∷ [])) is stored.0))),
   stored.1 ∙ so_far.1,
 )
 
@@ -282,7 +277,7 @@ into_stopped folder gotten k d old mid new file failed lt is so_far (inl none, f
 into_stopped folder gotten k d old mid new file failed lt is so_far (inr this, failures) = (
   inr (subst (λ fs. Adds old new (map (path_in folder) fs)) (sym (take_more gotten k d lt))
       (subst (Adds old new) (sym (map-append (path_in folder) (take k gotten) (get_or gotten k d ∷ [])))
-      (grows_trans old.files mid.files new.files (map (path_in folder) (take k gotten)) (path_in folder (get_or gotten k d) ∷ []) so_far.0 (subst (λ f. Adds mid new (f ∷ [])) is this)))),
+      (adds_trans old mid new (map (path_in folder) (take k gotten)) (path_in folder (get_or gotten k d) ∷ []) so_far.0 (subst (λ f. Adds mid new (f ∷ [])) is this)))),
   failures ∙ ap counted so_far.1,
 )
 
@@ -293,40 +288,15 @@ not_empty (b ∷ rest) same none = absurd cc
 
 -- ---- blank images
 
--- a lock that is held exactly if it is wanted
-held : (files : Option (List File)) (lock : Bool) → IsLockWanted files lock lock
-held None lock = λ unwanted. unwanted
-held (Some known) lock = refl
-
 pub blank_out : (mega keep lock : Bool) (image : List ℕ) (f : Folder) (o : Stream) (e : End) (result : Result (Option (String Global)) End) → e ≡ end.NoMemory → IsErrAnd result (λ g. g ≡ e)
     → EndsWith (BlankEnds mega keep lock image (effect_of f f o o)) result
 blank_out mega keep lock image f o e result out same =
-    let x = effect_of f f o o in
-    passed_on (BlankEnds mega keep lock image x) e result same (
-      warnings image 0 (lock && not lock),
-      no_line e (warnings image 0 (lock && not lock)) (λ done. no_memory (sym out ∙ done)),
-      (
-        lock,
-        held f.files lock,
-        refl,
-        subst (BlankIsMade image keep (concat (blank_image (kind_of mega))) (locked_effect image lock x)) (sym out) (nothing_done f o),
-      ),
-    )
+    passed_on (BlankEnds mega keep lock image (effect_of f f o o)) e result same (None, no_line_at e, inr (subst (IsNotLocked f f image) (sym out) refl, refl))
 
 pub blank_unlocked : (mega keep lock : Bool) (image : List ℕ) (old new : Folder) (o : Stream) (e : End) (result : Result (Option (String Global)) End) → LocksPath old new image lock (Err e) → IsErrAnd result (λ g. g ≡ e)
     → EndsWith (BlankEnds mega keep lock image (effect_of old new o o)) result
-blank_unlocked mega keep lock image old new o (end.File at last) result (path, no_ending, (adds, failures)) same =
-    let x = effect_of old new o o in
-    passed_on (BlankEnds mega keep lock image x) (end.File at last) result same
-    (warnings image 0 (lock && not lock), refl, (lock, held old.files lock, refl, (refl, path, no_ending, inl adds, failures)))
-blank_unlocked mega keep lock image old new o end.NoMemory result nothing same =
-    let x = effect_of old new o o in
-    passed_on (BlankEnds mega keep lock image x) end.NoMemory result same
-    (warnings image 0 (lock && not lock), refl, (lock, held old.files lock, refl, (nothing, refl)))
-blank_unlocked mega keep lock image old new o end.Done result none same = absurd none
-blank_unlocked mega keep lock image old new o (end.Refused said) result none same = absurd none
-blank_unlocked mega keep lock image old new o (end.Path path) result none same = absurd none
-blank_unlocked mega keep lock image old new o end.Stream result none same = absurd none
+blank_unlocked mega keep lock image old new o e result unlocked same =
+    passed_on (BlankEnds mega keep lock image (effect_of old new o o)) e result same (None, no_line_at e, inr (unlocked, refl))
 
 -- ---- images that are read and not changed
 

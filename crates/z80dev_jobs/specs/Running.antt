@@ -11,10 +11,10 @@ use Rattle.z80dev_disk.specs.Disks.{IsMounted}
 use Rattle.z80dev_disk.specs.Refusals.{refusal_text}
 use Rattle.z80dev_disk.specs.declared.refusal.Refusal.{Refusal}
 use Rattle.z80dev_finish.specs.End.{Tells, end_status}
-use Rattle.z80dev_finish.specs.Files.{Folder, IsLockWanted, claimed_by}
+use Rattle.z80dev_finish.specs.Files.{Folder}
 use Rattle.z80dev_finish.specs.declared.end.End.{End}
 use Rattle.z80dev_finish.specs.declared.end.End.TheVariants as end
-use Rattle.z80dev_jobs.specs.Disks.{IsNotClaimed, KeepsFile, TellsLine, warnings}
+use Rattle.z80dev_jobs.specs.Disks.{HasClaimed, IsNotClaimed, KeepsFile, TellsLine, warnings}
 use Rattle.z80dev_jobs.specs.Reading.{IsInputUnread, IsNotRead, IsRead, Reader, ReadsInput}
 use Rattle.z80dev_jobs.specs.World.{World}
 use Rattle.z80dev_jobs.specs.declared.running.Inputs.{Inputs}
@@ -24,8 +24,7 @@ use Rattle.z80dev_run.specs.Program.{IsRan}
 -- The image of the disk is claimed, if there is one: these are its bytes and the lines that warn of it. No image is no bytes.
 abbrev pub ClaimsDisk : Option (Bor (List ℕ)) → Bool → Folder → Folder → List ℕ → Option (List ℕ) → Type 0
 ClaimsDisk None wanted old new bytes lines = (new ≡ old) × (bytes ≡ []) × (lines ≡ None)
-ClaimsDisk (Some path) wanted old new bytes lines = (is_held : Bool) × (new ≡ claimed_by old path.now is_held) × IsLockWanted old.files wanted is_held × IsRead old path.now bytes
-    × (lines ≡ warnings path.now (length bytes) (wanted && not is_held))
+ClaimsDisk (Some path) wanted old new bytes lines = (is_held : Bool) × HasClaimed old new path.now wanted is_held bytes × (lines ≡ warnings path.now (length bytes) (wanted && not is_held))
 
 abbrev pub IsDiskNotClaimed : Option (Bor (List ℕ)) → Folder → Folder → End → Type 0
 IsDiskNotClaimed None old new e = ⊥

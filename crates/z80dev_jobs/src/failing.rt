@@ -1,4 +1,4 @@
-//! Files of which some call fails.
+//! Files for tests: some of their calls fail.
 
 ghost use Rattle.std.specs.Prelude.{◌≡◌};
 ghost use Rattle.streams.specs.Stream.{counted};
@@ -19,7 +19,7 @@ pub struct Failure {
     pub leaves_new: bool,
 }
 
-/// Files of which some calls fail. The others are passed on.
+/// Files that let some calls fail and pass the others on.
 #[derive(Drop)]
 pub struct FailingFiles<F> {
     files: F,

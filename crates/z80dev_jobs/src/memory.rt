@@ -104,12 +104,14 @@ impl MemoryFiles {
         Ok(())
     }
 
-    /// Takes the lock of a path.
+    /// Takes the lock of a path. What was claimed or written beside a file under another lock is given up.
     fn take_lock(&mut self, path: &str, is_held: bool) -> Result<(), AllocError>
         ensures { TakesLock self.old self.new path.now is_held result }
     {
         let path = Vec::from_slice(self.alloc, path.as_bytes())?;
         self.locked = Some(Lock { path, is_held });
+        self.claimed = None;
+        self.part = None;
         Ok(())
     }
 
@@ -162,11 +164,12 @@ impl Files for MemoryFiles {
     }
 
     fn claim(&mut self, alloc: Global, path: &str, is_wanted: bool) -> Result<Claimed, Unread> {
+        // Nobody else changes files in memory, so the file may be read first: if that fails, the lock is not taken.
+        let bytes = self.read(alloc, path)?;
         let Ok(claimed) = Vec::from_slice(self.alloc, path.as_bytes()) else {
             return Err(Unread::NoMemory);
         };
         let is_locked = self.lock(alloc, path, is_wanted)?;
-        let bytes = self.read(alloc, path)?;
         self.claimed = Some(claimed);
         Ok(Claimed { bytes, is_locked })
     }

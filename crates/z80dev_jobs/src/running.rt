@@ -5,7 +5,7 @@ ghost use Rattle.std.specs.List.{concat};
 ghost use Rattle.z80dev.specs.declared.text.TheConstants.{MOST_READS};
 ghost use Rattle.z80dev_jobs.specs.Private.Steps.{MakesReady};
 ghost use Rattle.z80dev_jobs.specs.Reading.{reader_of};
-ghost use Rattle.z80dev_jobs.specs.Private.Images.{ClaimsDiskImage, HasLockOf};
+ghost use Rattle.z80dev_jobs.specs.Private.Images.{ClaimsDiskImage, IsFreeOf};
 ghost use Rattle.z80dev_jobs.specs.Running.{EndsRun, IsKept, ReadsInputs, ReportsRun, WarnsAfter, lines_in, why_at};
 
 use crate::disks::{Image, claim, keep};
@@ -94,7 +94,7 @@ fn keep_disk<'a, F: Files, W>(
     ran: &Ran<W>,
     files: &mut F,
 ) -> Result<(), End<'a>>
-    requires locked { HasLockOf disk (F.folder files.old) }
+    requires free { IsFreeOf disk (F.folder files.old) }
     ensures { IsKept disk.entry bytes.now (concat ran.now.image) (F.folder files.old) (F.folder files.new) result }
 {
     match disk {
@@ -155,7 +155,7 @@ pub(crate) fn end_run<F: Files, W: Sink, E: Sink>(
     files: &mut F,
     errors: &mut E,
 ) -> u8
-    requires locked { HasLockOf disk (F.folder files.old) }
+    requires free { IsFreeOf disk (F.folder files.old) }
     ensures { EndsRun disk.entry inputs.now.image.items (lines_in inputs.now) ran.old.why ran.old.pc (concat ran.old.image) (W.stream ran.old.output) (W.stream ran.new.output) (F.folder files.old) (F.folder files.new) (E.stream errors.old) (E.stream errors.new) result }
 {
     let flushed = flush(&mut ran.output);

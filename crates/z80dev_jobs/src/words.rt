@@ -26,7 +26,7 @@ impl From<AllocError> for WordsFault {
     }
 }
 
-/// A word as text. That of the number 0, the path by which the program was called, is told to nobody, so it may be any bytes.
+/// A word as text. Word 0, the path by which the program was called, is never printed, so it may have any bytes.
 fn text_of(alloc: Global, number: usize, word: &[u8]) -> Result<String, WordsFault>
     ensures { ReadsWord number word.now result }
 {

@@ -23,7 +23,7 @@ const PAUSE: u64 = 10;
 pub(crate) struct Names {
     /// The path that was given.
     pub(crate) path: String,
-    /// The path of the file behind symbolic links. That file is replaced, not the link.
+    /// The path after symbolic links are followed. The file there is replaced, not the link.
     pub(crate) target: String,
 }
 
@@ -64,7 +64,7 @@ fn copy_of(alloc: Global, path: &str) -> Result<String, Unread>
     }
 }
 
-/// The path of the file behind symbolic links, or the path itself if it is no link. A link whose file is not there is an error: to replace the
+/// The path after symbolic links are followed, which is the path itself if it is no link. A link whose file is not there is an error: to replace the
 /// link would be wrong. A link to a pipe leads to no path, so what is no file keeps its own.
 fn target_of(rt: &HostRuntime, alloc: Global, path: &str) -> Result<String, Unread> {
     if fs::metadata(rt, path).is_ok_and(|found| !found.is_file()) {

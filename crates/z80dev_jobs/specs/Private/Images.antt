@@ -6,10 +6,10 @@ use Rattle.streams.specs.Stream.{Stream, counted}
 use Rattle.z80dev_disk.specs.declared.getting.Gotten.{Gotten}
 use Rattle.z80dev_disk.specs.declared.putting.PutFile.{PutFile}
 use Rattle.z80dev_disk.specs.declared.refusal.Refusal.{Refusal}
-use Rattle.z80dev_finish.specs.Files.{Adds, FailsSo, Folder, HasLock, IsLockWanted, IsUntouched, claimed_by, lock_of}
+use Rattle.z80dev_finish.specs.Files.{Adds, Folder, IsFree, IsLockWanted, locked_by}
 use Rattle.z80dev_finish.specs.declared.end.End.{End}
 use Rattle.z80dev_finish.specs.declared.end.End.TheVariants as end
-use Rattle.z80dev_jobs.specs.Disks.{IsChanged, IsNotClaimed, path_in, warnings}
+use Rattle.z80dev_jobs.specs.Disks.{HasClaimed, IsChanged, IsNotClaimed, IsNotLocked, path_in, warnings}
 use Rattle.z80dev_jobs.specs.Making.{effect_of}
 use Rattle.z80dev_jobs.specs.Reading.{IsNotRead, IsRead}
 use Rattle.z80dev_jobs.specs.Running.{ClaimsDisk, IsDiskNotClaimed}
@@ -24,15 +24,12 @@ ReadsImageFile old new path (Ok image) = (new ≡ old) × IsRead old path image.
 ReadsImageFile old new path (Err e) = IsNotRead old new path e
 
 abbrev pub ClaimsImage : Folder → Folder → List ℕ → Bool → Result Image End → Type 0
-ClaimsImage old new path wanted (Ok image) = (is_held : Bool) × (new ≡ claimed_by old path is_held) × IsLockWanted old.files wanted is_held × IsRead old path image.bytes.items
-    × (lines_of image ≡ warnings path (length image.bytes.items) (wanted && not is_held))
+ClaimsImage old new path wanted (Ok image) = (is_held : Bool) × HasClaimed old new path wanted is_held image.bytes.items × (lines_of image ≡ warnings path (length image.bytes.items) (wanted && not is_held))
 ClaimsImage old new path wanted (Err e) = IsNotClaimed old new path e
 
 abbrev pub LocksPath : Folder → Folder → List ℕ → Bool → Result Bool End → Type 0
-LocksPath old new path wanted (Ok is_held) = (new ≡ record old { locked = Some (lock_of path is_held) }) × IsLockWanted old.files wanted is_held
-LocksPath old new path wanted (Err (end.File at last)) = (at.now ≡ path) × (last.now ≡ []) × FailsSo old new
-LocksPath old new path wanted (Err end.NoMemory) = IsUntouched old new
-LocksPath old new path wanted (Err _) = ⊥
+LocksPath old new path wanted (Ok is_held) = (new ≡ locked_by old path is_held) × IsLockWanted old.files wanted is_held
+LocksPath old new path wanted (Err e) = IsNotLocked old new path e
 
 -- how a command ends that changes a claimed image
 abbrev pub ChangesInto : List ℕ → Image → Result (Vec ℕ Global) Refusal → Folder → Folder → Result (Option (String Global)) End → Type 0
@@ -58,7 +55,7 @@ abbrev pub ClaimsDiskImage : Option (Bor (List ℕ)) → Bool → Folder → Fol
 ClaimsDiskImage disk wanted old new (Ok image) = ClaimsDisk disk wanted old new image.bytes.items (lines_of image)
 ClaimsDiskImage disk wanted old new (Err e) = IsDiskNotClaimed disk old new e
 
--- the lock of the disk of a run was taken, if there is one
-abbrev pub HasLockOf : Option (Bor (List ℕ)) → Folder → Type 0
-HasLockOf None f = Unit {0}
-HasLockOf (Some path) f = HasLock f path.now
+-- a file may be written beside the image of the disk of a run, if there is one
+abbrev pub IsFreeOf : Option (Bor (List ℕ)) → Folder → Type 0
+IsFreeOf None f = Unit {0}
+IsFreeOf (Some path) f = IsFree f path.now

@@ -1,7 +1,7 @@
 -- What keeping a file in memory does.
 use Rattle.std.specs.Prelude.{◌≡◌, ℕ, Bool, false, List, [], ◌∷◌, ◌++◌, Some, Result, Ok, Err}
 use Rattle.std.specs.declared.alloc.AllocError.{AllocError}
-use Rattle.z80dev_finish.specs.Files.{File, lock_of}
+use Rattle.z80dev_finish.specs.Files.{File, locked_by}
 use Rattle.z80dev_jobs.specs.Memory.{file_of, files_of, folder_of}
 use Rattle.z80dev_jobs.specs.declared.memory.MemoryFiles.{MemoryFiles}
 use Rattle.z80dev_jobs.specs.declared.memory.Written.{Written}
@@ -18,7 +18,7 @@ Copies file (Err _) = Unit {0}
 
 -- the lock of a path is taken; or memory is refused, and it is not
 abbrev pub TakesLock : MemoryFiles → MemoryFiles → List ℕ → Bool → Result Unit AllocError → Type 0
-TakesLock old new path is_held (Ok _) = folder_of new ≡ record (folder_of old) { locked = Some (lock_of path is_held) }
+TakesLock old new path is_held (Ok _) = folder_of new ≡ locked_by (folder_of old) path is_held
 TakesLock old new path is_held (Err _) = folder_of new ≡ folder_of old
 
 -- a file is kept beside another; or memory is refused, and it is not

@@ -23,7 +23,7 @@ abbrev pub EndsWith : (Option (List ℕ) → End → Type 0) → Result (Option 
 EndsWith Is (Ok line) = Is (option_map string_bytes line) end.Done
 EndsWith Is (Err e) = Is None e
 
--- .. with warnings
+-- the same, with the warnings of a command
 abbrev pub EndsWarned : (Option (List ℕ) → End → Type 0) → Result (Option (String Global)) End → Type 0
 EndsWarned Is result = EndsWith (Warns Is) result
 

@@ -1,7 +1,7 @@
 //! Images that are read, and those that are claimed, changed and kept.
 
 ghost use Rattle.std.specs.Prelude.{◌≡◌, IfOk, option_map, string_bytes};
-ghost use Rattle.z80dev_finish.specs.Files.{HasLock};
+ghost use Rattle.z80dev_finish.specs.Files.{IsFree};
 ghost use Rattle.z80dev_jobs.specs.Disks.{KeepsFile};
 ghost use Rattle.z80dev_jobs.specs.Private.Images.{ChangesInto, ClaimsImage, ReadsImageFile};
 
@@ -59,7 +59,7 @@ pub(crate) fn keep<'a, F: Files>(
     made: &[u8],
     files: &mut F,
 ) -> Result<(), End<'a>>
-    requires locked { HasLock (F.folder files.old) path.now }
+    requires free { IsFree (F.folder files.old) path.now }
     ensures { KeepsFile path.now bytes.now made.now (F.folder files.old) (F.folder files.new) result }
 {
     if made == bytes {
@@ -79,7 +79,7 @@ pub(crate) fn change<'a, F: Files>(
     made: Result<Vec<u8>, Refusal>,
     files: &mut F,
 ) -> Result<Option<String>, End<'a>>
-    requires locked { HasLock (F.folder files.old) path.now }
+    requires free { IsFree (F.folder files.old) path.now }
     ensures { ChangesInto path.now image made (F.folder files.old) (F.folder files.new) result }
 {
     match made {

@@ -17,7 +17,7 @@ fn byte_count(kind: DiskKind) -> usize
     SECTOR * kind.sector_count() as usize
 }
 
-/// Whether so many bytes are filled up to an image: they are some, and not as many as a disk of either kind has.
+/// Whether an image of this length is filled up: it has bytes, and not the number of bytes of a disk of either kind.
 fn is_filled_up(count: usize) -> bool
     ensures { result ≡ is_filled_up count }
 {
@@ -47,7 +47,7 @@ fn filled_up_line(alloc: Global, path: &str, count: usize) -> Result<String, All
     Ok(line)
 }
 
-/// The lines that warn of an image of so many bytes, and of a lock that was wanted and is not held; none if there is nothing to warn of.
+/// The lines that warn of an image of this length that is filled up, and of a lock that was wanted and is not held; none if neither holds.
 pub(crate) fn warnings(
     alloc: Global,
     path: &str,
