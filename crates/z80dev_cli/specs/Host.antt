@@ -5,12 +5,12 @@ use Rattle.std.specs.Global.{Global}
 use Rattle.z80dev_cli.specs.declared.files.lock.HeldLock.{HeldLock}
 use Rattle.z80dev_cli.specs.declared.files.part.Part as part
 
-abbrev pub lock_in : HeldLock → Lock
-lock_in l = lock_of (string_bytes l.path) l.is_held
+abbrev pub held_lock : HeldLock → Lock
+held_lock l = lock_of (string_bytes l.path) l.is_held
 
 -- Which bytes were read is not known, so the test accepts all.
-abbrev pub claim_in : String Global → Claim
-claim_in path = record { path = string_bytes path; is_given = λ _. true }
+abbrev pub held_claim : String Global → Claim
+held_claim path = record { path = string_bytes path; is_given = λ _. true }
 
-abbrev pub part_in : part.Part → Part
-part_in p = record { path = string_bytes p.names.path; bytes = None; synced = p.is_synced }
+abbrev pub written_part : part.Part → Part
+written_part p = record { path = string_bytes p.names.path; bytes = None; synced = p.is_synced }

@@ -7,7 +7,7 @@ ghost use Rattle.std.specs.Prelude.{◌≡◌, ◌≤◌, IfOk, None, length, op
 ghost use Rattle.common.specs.declared.limits.TheConstants.{LONGEST_TEXT};
 ghost use Rattle.streams.specs.Stream.{counted};
 ghost use Rattle.z80dev_finish.specs.Files.{IsLockWanted};
-ghost use Rattle.z80dev_cli.specs.Host.{claim_in, lock_in, part_in};
+ghost use Rattle.z80dev_cli.specs.Host.{held_claim, held_lock, written_part};
 
 use lock::{HeldLock, is_one_file, take_lock};
 use part::{Part, write_part};
@@ -74,7 +74,7 @@ impl<'a> HostFiles<'a> {
 }
 
 impl Files for HostFiles<'_> {
-    ghost folder = { λ h. record { files = None; failures = h.failures; replacements = h.replacements; locked = option_map lock_in h.lock; claimed = option_map claim_in h.claimed; part = option_map part_in h.part } };
+    ghost folder = { λ h. record { files = None; failures = h.failures; replacements = h.replacements; locked = option_map held_lock h.lock; claimed = option_map held_claim h.claimed; part = option_map written_part h.part } };
 
     fn read(&mut self, alloc: Global, path: &str) -> Result<Vec<u8>, Unread> {
         match read_whole(self.rt, alloc, path) {

@@ -71,10 +71,10 @@ IsUnreadable None path = ⊥
 IsUnreadable (Some files) path = All (λ file. file.0 ≢ path) files ⊎ ((bytes : List ℕ) × IsAt files path bytes × (LONGEST_TEXT < length bytes))
 
 -- Reading a file changes none. It gives the bytes of the file; or there is no file to be read, or the call failed; or memory ran out.
-abbrev pub Reads : Folder → Folder → List ℕ → Result (Vec ℕ Global) Unread → Type 0
-Reads old new path (Ok bytes) = (new ≡ old) × (length bytes.items ≤ LONGEST_TEXT) × IfSome old.files (λ files. IsAt files path bytes.items)
-Reads old new path (Err unread.File) = ((new ≡ old) × IsUnreadable old.files path) ⊎ FailsSo old new
-Reads old new path (Err unread.NoMemory) = new ≡ old
+abbrev pub ReadsPath : Folder → Folder → List ℕ → Result (Vec ℕ Global) Unread → Type 0
+ReadsPath old new path (Ok bytes) = (new ≡ old) × (length bytes.items ≤ LONGEST_TEXT) × IfSome old.files (λ files. IsAt files path bytes.items)
+ReadsPath old new path (Err unread.File) = ((new ≡ old) × IsUnreadable old.files path) ⊎ FailsSo old new
+ReadsPath old new path (Err unread.NoMemory) = new ≡ old
 
 -- Writing a file: it is written; or the call failed, and the file is as before or as it should be.
 abbrev pub Stores : Folder → Folder → File → Result Unit WriteFailed → Type 0

@@ -1,7 +1,7 @@
 //! Files by their paths.
 
 ghost use Rattle.std.specs.Prelude.{◌≡◌, Some};
-ghost use Rattle.z80dev_finish.specs.Files.{Claims, Folder, IsFree, IsReady, Locks, Part, PutsInPlace, Reads, Replaces, Stores, Syncs, WritesBeside};
+ghost use Rattle.z80dev_finish.specs.Files.{Claims, Folder, IsFree, IsReady, Locks, Part, PutsInPlace, ReadsPath, Replaces, Stores, Syncs, WritesBeside};
 
 use std::alloc::Global;
 use streams::WriteFailed;
@@ -52,7 +52,7 @@ pub trait Files {
     ///
     /// Those of [`Unread`].
     fn read(&mut self, alloc: Global, path: &str) -> Result<Vec<u8>, Unread>
-        ensures { Reads (folder self.old) (folder self.new) path.now result };
+        ensures { ReadsPath (folder self.old) (folder self.new) path.now result };
 
     /// Writes a file whole, in place of one that has its path.
     ///

@@ -9,12 +9,12 @@ use Rattle.z80dev_jobs.specs.declared.memory.Part as beside
 use Rattle.z80dev_jobs.specs.declared.memory.Written.{Written}
 
 -- a file that was written, by its path
-abbrev pub file_of : Written → File
-file_of w = (w.path.items, w.bytes.items)
+abbrev pub written_file : Written → File
+written_file w = (w.path.items, w.bytes.items)
 
 -- all that were written, the oldest first
 abbrev pub files_of : MemoryFiles → List File
-files_of m = map file_of m.written.items
+files_of m = map written_file m.written.items
 
 -- the lock that was taken, and the file that is written beside another
 abbrev pub lock_in : memory.Lock → Lock

@@ -2,7 +2,7 @@
 
 ghost use Rattle.std.specs.Prelude.{◌≡◌, [], None, Some, map};
 ghost use Rattle.streams.specs.Stream.{counted};
-ghost use Rattle.z80dev_jobs.specs.Memory.{Finds, file_of, files_of, folder_of};
+ghost use Rattle.z80dev_jobs.specs.Memory.{Finds, written_file, files_of, folder_of};
 ghost use Rattle.z80dev_jobs.specs.Private.Kept.{Copies, Keeps, KeepsPart, TakesLock};
 
 use common::LONGEST_TEXT;
@@ -61,7 +61,7 @@ impl MemoryFiles {
 
     /// All that were written, the oldest first.
     pub fn written(&self) -> &[Written]
-        ensures { map file_of result.now ≡ files_of self.now }
+        ensures { map written_file result.now ≡ files_of self.now }
     {
         &self.written
     }

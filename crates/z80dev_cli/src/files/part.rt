@@ -2,7 +2,7 @@
 
 ghost use Rattle.std.specs.Prelude.{◌≡◌, IfOk, OnOk, false, true, string_bytes};
 ghost use Rattle.z80dev_finish.specs.declared.files.Placed.TheVariants.{Done};
-ghost use Rattle.z80dev_cli.specs.Host.{lock_in};
+ghost use Rattle.z80dev_cli.specs.Host.{held_lock};
 
 use crate::files::lock::{HeldLock, Names, is_same};
 use arrayvec::ArrayString;
@@ -167,7 +167,7 @@ pub(crate) fn write_part(
     lock: &mut HeldLock,
     bytes: &[u8],
 ) -> Result<Part, WriteFailed>
-    ensures lock { lock_in lock.new ≡ lock_in lock.old }
+    ensures lock { held_lock lock.new ≡ held_lock lock.old }
     ensures part { IfOk result (λ p. (string_bytes p.names.path ≡ string_bytes lock.old.path) × (p.is_synced ≡ false)) }
 {
     let Some(names) = lock.names.take() else {

@@ -2,7 +2,7 @@
 use Rattle.std.specs.Prelude.{◌≡◌, ℕ, Bool, false, List, [], ◌∷◌, ◌++◌, Some, Result, Ok, Err}
 use Rattle.std.specs.declared.alloc.AllocError.{AllocError}
 use Rattle.z80dev_finish.specs.Files.{File, locked_by}
-use Rattle.z80dev_jobs.specs.Memory.{file_of, files_of, folder_of}
+use Rattle.z80dev_jobs.specs.Memory.{written_file, files_of, folder_of}
 use Rattle.z80dev_jobs.specs.declared.memory.MemoryFiles.{MemoryFiles}
 use Rattle.z80dev_jobs.specs.declared.memory.Written.{Written}
 
@@ -13,7 +13,7 @@ Keeps old new file (Err _) = folder_of new ≡ folder_of old
 
 -- a copy of a file
 abbrev pub Copies : File → Result Written AllocError → Type 0
-Copies file (Ok w) = file_of w ≡ file
+Copies file (Ok w) = written_file w ≡ file
 Copies file (Err _) = Unit {0}
 
 -- the lock of a path is taken; or memory is refused, and it is not

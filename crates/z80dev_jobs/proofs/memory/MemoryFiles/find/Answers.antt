@@ -3,14 +3,14 @@ use Rattle.std.proofs.lemmas.List.{drop_all, length-map}
 use Rattle.std.proofs.lemmas.List.Elements.{All-nil}
 use Rattle.std.specs.Str.{bytes_eq}
 use Rattle.z80dev_finish.specs.Files.{File, IsAt}
-use Rattle.z80dev_jobs.specs.Memory.{file_of}
+use Rattle.z80dev_jobs.specs.Memory.{written_file}
 use Rattle.z80dev_jobs.proofs.Newest.{is_at, passed}
 use Rattle.z80dev_jobs.proofs.memory.MemoryFiles.find.Goals as goal
 
 pub loop-number-init : goal.loop-number-init
 loop-number-init c =
     let files = c.args.self.now.written.items in
-    rw (drop_all c.len-number.result (map file_of files) (omega (arith, c.len-number.ensures, length-map files file_of))) (All-nil (λ (file : File). file.0 ≢ c.args.path.now))
+    rw (drop_all c.len-number.result (map written_file files) (omega (arith, c.len-number.ensures, length-map files written_file))) (All-nil (λ (file : File). file.0 ≢ c.args.path.now))
 
 pub returns-then-eq : goal.returns-then-eq
 returns-then-eq c =
@@ -18,7 +18,7 @@ returns-then-eq c =
     let n = c.loop-number.number in
     let same : bytes_eq (get_or files (n - 1) c.index-file.result.now).path.items c.args.path.now ≡ true = search rules in
     let bytes : (get_or files (n - 1) c.index-file.result.now).bytes.items ≡ c.as_slice-then-eq.result.now = search rules in
-    subst (IsAt (map file_of files) c.args.path.now) bytes (is_at files c.args.path.now n c.index-file.result.now (omega arith) (omega arith) c.loop-number.invariant same)
+    subst (IsAt (map written_file files) c.args.path.now) bytes (is_at files c.args.path.now n c.index-file.result.now (omega arith) (omega arith) c.loop-number.invariant same)
 
 pub loop-number-preserved : goal.loop-number-preserved
 loop-number-preserved c =
@@ -30,4 +30,4 @@ loop-number-preserved c =
 pub returns : goal.returns
 returns c =
     let done : c.loop-number.number ≡ 0 = omega arith in
-    subst (λ n. All (λ (file : File). file.0 ≢ c.args.path.now) (drop n (map file_of c.args.self.now.written.items))) done c.loop-number.invariant
+    subst (λ n. All (λ (file : File). file.0 ≢ c.args.path.now) (drop n (map written_file c.args.self.now.written.items))) done c.loop-number.invariant
