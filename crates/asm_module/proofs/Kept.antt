@@ -24,7 +24,7 @@ use Rattle.asm_statements.specs.Layouts.Laid.{laid, statements}
 use Rattle.asm_names.specs.Faults as naming
 use Rattle.asm_names.specs.Lines.{Taken, has_statement}
 use Rattle.asm_names.specs.Names.{Names, kind_of_name, names}
-use Rattle.asm_piece.specs.Sized.{IsLike, kind}
+use Rattle.asm_stmt.specs.Sized.{IsLike, kind}
 use Rattle.asm_statements.specs.Rules.Fitting.{FitsWord, IsReadLine}
 use Rattle.asm_statements.specs.Program.Lines.{AreAt, program_of_lines}
 use Rattle.asm_module.specs.Assembled.{StatesLines}

@@ -8,7 +8,7 @@ use Rattle.asm_names.specs.Settles.{Settles, is_marked_circular}
 use Rattle.asm_statements.specs.Layouts.Laid.{laid}
 use Rattle.asm_names.specs.Lines.{Taken}
 use Rattle.asm_names.specs.Names.{Names, names}
-use Rattle.asm_piece.specs.Sized.{IsLike, kind}
+use Rattle.asm_stmt.specs.Sized.{IsLike, kind}
 use Rattle.asm_module.specs.Source as source
 use Rattle.asm_module.specs.Source.{no_layout, source_table}
 

@@ -5,15 +5,15 @@ ghost use Rattle.std.specs.List.{cons_option};
 ghost use Rattle.common.specs.declared.limits.TheConstants.{MOST_STATEMENTS};
 ghost use Rattle.asm_expr.specs.Names.{found};
 ghost use Rattle.asm_spell.specs.Line.{body_of, line_of};
-ghost use Rattle.asm_piece.specs.Made.{ref_of};
+ghost use Rattle.asm_stmt.specs.Made.{ref_of};
 ghost use Rattle.asm_names.specs.Lines.{has_statement, lines_of};
 ghost use Rattle.asm_names.specs.Layout.{layout_of};
 ghost use Rattle.asm_statements.specs.Layouts.Laid.{HasFew, IsFewIn, laid, line_sized, may_grow};
 
 use asm_expr::{Meaning, Names, Statement};
 use asm_names::{Layout, SourceLine};
-use asm_piece::size_of;
 use asm_spell::{Body, Branch, Line};
+use asm_stmt::size_of;
 use std::alloc::{AllocError, Global};
 
 /// Whether a name stands for a label or an external.

@@ -2,9 +2,9 @@
 
 use crate::tables::define;
 use asm_expr::{Atom, Item, Names, Room, Statement, Tree, equate, is_defined, items};
-use asm_piece::{Body, Hole, Made, Piece, StmtFault, are_defined, settle, size_of};
 use asm_scan::tokens;
 use asm_spell::{Line, statement};
+use asm_stmt::{Body, Hole, Made, Piece, StmtFault, are_defined, settle, size_of};
 use std::alloc::Global;
 use std::io::Write;
 

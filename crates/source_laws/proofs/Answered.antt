@@ -23,7 +23,7 @@ use Rattle.asm_module.specs.Reads.Read.{taken, unread}
 use Rattle.asm_statements.specs.declared.fault.StateFault.{StateFault}
 use Rattle.asm_statements.specs.Module.Faults.{body_fault, not_label, undefined_name, made_fault, value_fault}
 use Rattle.asm_statements.specs.Module.Stated as stated
-use Rattle.asm_piece.specs.Made.{Made, made}
+use Rattle.asm_stmt.specs.Made.{Made, made}
 use Rattle.asm_module.specs.declared.fault.AsmFault.{AsmFault}
 use Rattle.asm_module.specs.declared.fault.Why.{Why}
 use Rattle.asm_module.specs.Assembled.{Assembled, Assembles, HasCause, answer, assembled}

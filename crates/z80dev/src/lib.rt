@@ -8,6 +8,7 @@ mod print;
 mod text;
 mod verdict;
 
+pub use cpm_run::{RunEnd, run};
 pub use fault::Fault;
 pub use print::{pipe, print_file};
 pub use streams::{

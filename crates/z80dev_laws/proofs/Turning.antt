@@ -22,7 +22,7 @@ use Rattle.z80_instr.specs.declared.Branch.TheVariants.{Relative, CountDown}
 use Rattle.asm_statements.specs.Program.Statement.{Statement, Code, Data, Space, Jump, Short}
 use Rattle.asm_parse.specs.Expression.{Expression}
 use Rattle.asm_value.specs.declared.atom.Atom.{Atom}
-use Rattle.asm_piece.specs.Made.{widened, long_jump}
+use Rattle.asm_stmt.specs.Made.{widened, long_jump}
 use Rattle.asm_statements.specs.Program.Pieces.{short_jump, IsShortJump, IsPiece, valued}
 use Rattle.z80_form.specs.declared.field.Field.{Field}
 use Rattle.z80_form.specs.Numbers.{with_numbers}

@@ -9,11 +9,11 @@ use Rattle.asm_expr.specs.declared.meaning.Meaning.{Meaning}
 use Rattle.asm_expr.specs.Names.{Table, found}
 use Rattle.z80_instr.specs.declared.Branch.{Branch}
 use Rattle.std.specs.Prelude.{is_some}
-use Rattle.asm_piece.specs.Made.{ref_of}
+use Rattle.asm_stmt.specs.Made.{ref_of}
 use Rattle.asm_spell.specs.Line as line
 use Rattle.asm_spell.specs.Line.{Body, Line}
 use Rattle.asm_names.specs.Lines.{Taken, has_statement, is_statement, placed}
-use Rattle.asm_piece.specs.Sized.{IsLike, Kind, kind, sized}
+use Rattle.asm_stmt.specs.Sized.{IsLike, Kind, kind, sized}
 use Rattle.asm_statements.specs.Layouts.Laid.{laid, line_sized, may_grow, statements}
 
 count_one : (has : Bool) (o : Option Statement) (rest : List Statement) (n : ℕ) → (o ≡ None) ⊎ (has ≡ true) → length rest ≤ n → length (cons_option o rest) ≤ cond has 1 0 + n

@@ -14,10 +14,10 @@ use Rattle.asm_spell.specs.Line.{Body, Line}
 use Rattle.asm_names.specs.Lines.{Taken}
 use Rattle.asm_names.specs.Names.{Names, kind_of_name}
 use Rattle.asm_names.specs.Layout.{Layout}
-use Rattle.asm_piece.specs.Made as made
-use Rattle.asm_piece.specs.Made.{Made, Piece, jump_by, long_jump, ref_of, short_by, value_cells, word_cells}
-use Rattle.asm_piece.specs.Sized.{IsLike, piece_sized, sized}
-use Rattle.asm_piece.proofs.Making.{code_made, data_made, is_space, origin_nothing, space_made}
+use Rattle.asm_stmt.specs.Made as made
+use Rattle.asm_stmt.specs.Made.{Made, Piece, jump_by, long_jump, ref_of, short_by, value_cells, word_cells}
+use Rattle.asm_stmt.specs.Sized.{IsLike, piece_sized, sized}
+use Rattle.asm_stmt.proofs.Making.{code_made, data_made, is_space, origin_nothing, space_made}
 use Rattle.std.specs.Prelude.{is_some}
 use Rattle.std.proofs.Math.Path.{fun_ext}
 use Rattle.asm_statements.proofs.Layouts.Few.{grows_alike}
@@ -85,7 +85,7 @@ piece_laid true t (line.External list) p is = absurd cc
 piece_laid true t (line.End entry) p is = absurd cc
 piece_laid true t line.Z80 p is = absurd cc
 
--- The laws of `asm_piece` that are used here.
+-- The laws of `asm_stmt` that are used here.
 pub record Laws : Type 0 where
   pub piece : (t : Table) (b : Body) (p : Piece) → made.made t b ≡ Ok (made.Some_piece p) → sized t b ≡ Some (piece_sized p)
   pub nothing : (t : Table) (b : Body) → made.made t b ≡ Ok made.Nothing → sized t b ≡ None

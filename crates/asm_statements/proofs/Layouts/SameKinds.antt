@@ -28,9 +28,9 @@ use Rattle.asm_names.specs.declared.equ_fault.EquFault.{EquFault}
 use Rattle.asm_names.specs.Circles.{items_at}
 use Rattle.asm_names.specs.Layout.{Layout}
 use Rattle.asm_names.specs.Meanings.{Entries, after_rounds, circular, equ_meaning, meaning, meaning_by, table_at, undefined, value_by}
-use Rattle.asm_piece.specs.Sized as sized
-use Rattle.asm_piece.specs.Sized.{IsLike, kind}
-use Rattle.asm_piece.proofs.Likes.{agree_like, items_like, numbers_constant, of_numbers, whole_known}
+use Rattle.asm_stmt.specs.Sized as sized
+use Rattle.asm_stmt.specs.Sized.{IsLike, kind}
+use Rattle.asm_stmt.proofs.Likes.{agree_like, items_like, numbers_constant, of_numbers, whole_known}
 
 -- The laws of `asm_expr` that are used here.
 pub record Laws : Type 0 where

@@ -23,9 +23,9 @@ use Rattle.asm_spell.specs.Line.{Body, ExpressionItems, Line}
 use Rattle.asm_names.specs.Lines.{Taken}
 use Rattle.asm_names.specs.Names.{Names, kind_of_name}
 use Rattle.asm_names.specs.Layout.{Layout}
-use Rattle.asm_piece.specs.Made.{AreDefined, Made, made, number_in, ref_of, space_size}
-use Rattle.asm_piece.specs.Sized.{IsLike, jump_sized, size_in, sized, space_sized}
-use Rattle.asm_piece.proofs.Making.{space_made, space_settled}
+use Rattle.asm_stmt.specs.Made.{AreDefined, Made, made, number_in, ref_of, space_size}
+use Rattle.asm_stmt.specs.Sized.{IsLike, jump_sized, size_in, sized, space_sized}
+use Rattle.asm_stmt.proofs.Making.{space_made, space_settled}
 use Rattle.asm_statements.specs.Layouts.Laid.{line_sized, may_grow, statements}
 use Rattle.asm_statements.specs.Module.Stated.{table_at_line, first_statement_fault, statement_fault}
 use Rattle.asm_statements.proofs.Module.In_order.{fault_from}

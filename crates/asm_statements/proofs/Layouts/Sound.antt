@@ -8,7 +8,7 @@ use Rattle.asm_spell.specs.declared.fault.StmtFault.{StmtFault}
 use Rattle.asm_spell.specs.Line.{Body}
 use Rattle.asm_names.specs.Faults.{first, if_so}
 use Rattle.asm_names.specs.Names.{Names, kind_of_name}
-use Rattle.asm_piece.specs.Made.{Made, made}
+use Rattle.asm_stmt.specs.Made.{Made, made}
 use Rattle.asm_statements.specs.declared.fault.StateFault.{StateFault}
 use Rattle.asm_statements.specs.Module.Faults.{body_fault, not_label, used, made_fault}
 

@@ -32,14 +32,14 @@ use Rattle.asm_spell.specs.declared.fault.StmtFault.{StmtFault}
 use Rattle.asm_spell.specs.Faults.{each}
 use Rattle.asm_spell.specs.Line as line
 use Rattle.asm_spell.specs.Line.{Body, ExpressionItems, Value}
-use Rattle.asm_piece.specs.declared.cell.Cell.{Cell}
-use Rattle.asm_piece.specs.declared.cell.Filling.{Filling}
-use Rattle.asm_piece.specs.Cells.{all_told, bytes, holes, is_told}
-use Rattle.asm_piece.specs.Fields as field
-use Rattle.asm_piece.specs.Fields.{byte, byte_by, distance_or, field_filling, fixed, fixed_by, from_end, settled_in, word_filling, word_filling_by}
-use Rattle.asm_piece.specs.Made as made
-use Rattle.asm_piece.specs.Made.{AreDefined, Fillings, IsDefined, Made, Piece, Unknown, ValueDefined, all_laid, code, coded, fillings, jump_by, laid_cells, long_jump, number_filled, number_in, ref_of, short_by, space_of_size, space_fill, text_cell, value_cells, word_cells}
-use Rattle.asm_piece.proofs.Making.{as_stmt_ok, bind_ok, chosen_ok, each_holds, flat, origin_nothing, space_made}
+use Rattle.asm_stmt.specs.declared.cell.Cell.{Cell}
+use Rattle.asm_stmt.specs.declared.cell.Filling.{Filling}
+use Rattle.asm_stmt.specs.Cells.{all_told, bytes, holes, is_told}
+use Rattle.asm_stmt.specs.Fields as field
+use Rattle.asm_stmt.specs.Fields.{byte, byte_by, distance_or, field_filling, fixed, fixed_by, from_end, settled_in, word_filling, word_filling_by}
+use Rattle.asm_stmt.specs.Made as made
+use Rattle.asm_stmt.specs.Made.{AreDefined, Fillings, IsDefined, Made, Piece, Unknown, ValueDefined, all_laid, code, coded, fillings, jump_by, laid_cells, long_jump, number_filled, number_in, ref_of, short_by, space_of_size, space_fill, text_cell, value_cells, word_cells}
+use Rattle.asm_stmt.proofs.Making.{as_stmt_ok, bind_ok, chosen_ok, each_holds, flat, origin_nothing, space_made}
 use Rattle.asm_statements.proofs.Layouts.Sizing.{ConstantsAreNumbers, NumbersSettle, both_pass, source_passes, space_number}
 
 -- If each name has a value, so has each expression.

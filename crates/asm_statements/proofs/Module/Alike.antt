@@ -8,7 +8,7 @@ use Rattle.asm_names.specs.Faults.{first}
 use Rattle.asm_names.specs.Lines.{Taken, placed}
 use Rattle.asm_names.specs.Names.{Names}
 use Rattle.asm_names.specs.Layout.{Layout}
-use Rattle.asm_piece.specs.Made.{made}
+use Rattle.asm_stmt.specs.Made.{made}
 use Rattle.asm_spell.specs.Line as line
 use Rattle.asm_spell.specs.Line.{Body, Line}
 use Rattle.zmo_module.specs.Modules.{ModuleStatement}
@@ -17,7 +17,7 @@ use Rattle.asm_statements.specs.Module.Faults.{not_label, undefined_name, made_f
 use Rattle.asm_statements.specs.Module.Stated.{table_at_line, first_statement_fault, statement_fault, numbered_statements}
 use Rattle.asm_statements.specs.Module.Statements.{line_statement, of_made}
 
--- the law of `asm_piece` that a statement makes the same in two tables that give its names the same meanings
+-- the law of `asm_stmt` that a statement makes the same in two tables that give its names the same meanings
 abbrev pub ByNames : Type 0
 ByNames = (t u : Table) (b : Body) → ((name : List ℕ) → found t name ≡ found u name) → t.here ≡ u.here → t.statements ≡ u.statements → made t b ≡ made u b
 

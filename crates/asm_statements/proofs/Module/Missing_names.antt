@@ -11,9 +11,9 @@ use Rattle.asm_expr.specs.Settling.{is_known}
 use Rattle.asm_spell.specs.Line as line
 use Rattle.asm_spell.specs.Line.{Body, ExpressionItems, Value}
 use Rattle.asm_names.specs.Names.{Names, kind_of_name}
-use Rattle.asm_piece.specs.Made.{AreDefined}
-use Rattle.asm_piece.specs.Private.Defined.{fill_defined, is_defined, operands_defined, value_defined}
-use Rattle.asm_piece.proofs.Passing.{passes}
+use Rattle.asm_stmt.specs.Made.{AreDefined}
+use Rattle.asm_stmt.specs.Private.Defined.{fill_defined, is_defined, operands_defined, value_defined}
+use Rattle.asm_stmt.proofs.Passing.{passes}
 use Rattle.asm_names.specs.Circles.{names_in}
 use Rattle.asm_statements.specs.Module.Faults.{used, value_names}
 use Rattle.asm_statements.specs.Private.Missing.{fill_misses, is_missing, item_misses, tree_misses, value_misses}

@@ -13,15 +13,15 @@ use Rattle.z80_form.specs.declared.form.Form.{Form}
 use Rattle.z80_form.specs.Numbers.{allows, number_field, with_number, with_numbers}
 use Rattle.asm_spell.specs.Faults.{each}
 use Rattle.asm_spell.specs.Line as line
-use Rattle.asm_piece.specs.declared.cell.Filling.{Filling}
-use Rattle.asm_piece.specs.Cells.{is_told, number_or_0}
-use Rattle.asm_piece.specs.Fields as field
-use Rattle.asm_piece.specs.Made.{Fillings, code_hole, fillings, number_filled}
+use Rattle.asm_stmt.specs.declared.cell.Filling.{Filling}
+use Rattle.asm_stmt.specs.Cells.{is_told, number_or_0}
+use Rattle.asm_stmt.specs.Fields as field
+use Rattle.asm_stmt.specs.Made.{Fillings, code_hole, fillings, number_filled}
 use Rattle.asm_statements.specs.Program.Linked.{filled}
 use Rattle.asm_statements.specs.Program.Pieces.{valued}
 use Rattle.asm_statements.proofs.Program.Fields.{AreFields}
 use Rattle.asm_statements.specs.Program.Statement.{filling}
-use Rattle.asm_piece.proofs.Making.{bind_ok, blank_of}
+use Rattle.asm_stmt.proofs.Making.{bind_ok, blank_of}
 use Rattle.asm_statements.proofs.Program.Fillings.{Fills, IsFit, fills, worth_at}
 use Rattle.asm_statements.proofs.Program.Numbers as number
 use Rattle.asm_statements.proofs.Program.Numbers.{IsField, number_range, swapped}

@@ -14,17 +14,17 @@ use Rattle.z80_form.specs.declared.field.Field.{Field}
 use Rattle.asm_spell.specs.declared.fault.StmtFault.{StmtFault}
 use Rattle.asm_spell.specs.Faults.{each}
 use Rattle.asm_spell.specs.Line as line
-use Rattle.asm_piece.specs.declared.cell.Cell.{Cell}
-use Rattle.asm_piece.specs.declared.cell.Filling.{Filling}
+use Rattle.asm_stmt.specs.declared.cell.Cell.{Cell}
+use Rattle.asm_stmt.specs.declared.cell.Filling.{Filling}
 use Rattle.zmo_module.specs.declared.hole.Width.{Width}
-use Rattle.asm_piece.specs.Cells.{all_told, bytes, cell_bytes, holes, is_told}
-use Rattle.asm_piece.specs.Fields as field
-use Rattle.asm_piece.specs.Made as made
-use Rattle.asm_piece.specs.Made.{Made, Piece, Some_piece, all_laid, cells, laid_cells, text_cell, value_cells, word_cells}
+use Rattle.asm_stmt.specs.Cells.{all_told, bytes, cell_bytes, holes, is_told}
+use Rattle.asm_stmt.specs.Fields as field
+use Rattle.asm_stmt.specs.Made as made
+use Rattle.asm_stmt.specs.Made.{Made, Piece, Some_piece, all_laid, cells, laid_cells, text_cell, value_cells, word_cells}
 use Rattle.asm_statements.specs.Program.Pieces.{datum_bytes, width}
 use Rattle.asm_statements.specs.Program.Statement as statement
 use Rattle.asm_statements.specs.Program.Statement.{Datum, byte_items, word_item, replaced_expression}
-use Rattle.asm_piece.proofs.Making.{bind_ok, data_made, each_holds, flat}
+use Rattle.asm_stmt.proofs.Making.{bind_ok, data_made, each_holds, flat}
 use Rattle.asm_statements.proofs.Program.Fillings.{fills}
 use Rattle.asm_statements.proofs.Program.Holes.{cell_at}
 

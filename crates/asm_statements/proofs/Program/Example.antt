@@ -14,7 +14,7 @@ use Rattle.z80_form.specs.declared.field.Field.{Field}
 use Rattle.asm_spell.specs.Line as line
 use Rattle.zmo_module.specs.declared.hole.Hole.{Hole}
 use Rattle.zmo_module.specs.declared.hole.Width.{Width}
-use Rattle.asm_piece.specs.Made as made
+use Rattle.asm_stmt.specs.Made as made
 use Rattle.asm_scan.specs.declared.token.Kind.{Kind}
 use Rattle.asm_scan.specs.declared.token.Mark.{Mark}
 use Rattle.asm_scan.specs.Tokens.{Lexeme}

@@ -21,11 +21,11 @@ use Rattle.z80_form.specs.declared.field.Field.{Field}
 use Rattle.z80_form.specs.Numbers.{allows}
 use Rattle.asm_spell.specs.declared.fault.StmtFault.{StmtFault}
 use Rattle.asm_spell.specs.Line as line
-use Rattle.asm_piece.specs.declared.cell.Filling.{Filling}
-use Rattle.asm_piece.specs.Cells.{is_told}
-use Rattle.asm_piece.specs.Fields.{byte, byte_by, distance_or, field_filling, fixed, fixed_by, from_end, is_number_unknown, number, settled_in, word_filling, word_filling_by}
+use Rattle.asm_stmt.specs.declared.cell.Filling.{Filling}
+use Rattle.asm_stmt.specs.Cells.{is_told}
+use Rattle.asm_stmt.specs.Fields.{byte, byte_by, distance_or, field_filling, fixed, fixed_by, from_end, is_number_unknown, number, settled_in, word_filling, word_filling_by}
 use Rattle.zmo_module.specs.Holes.{ends_in_byte}
-use Rattle.asm_piece.proofs.Making.{as_stmt_ok, bind_ok, chosen_ok}
+use Rattle.asm_stmt.proofs.Making.{as_stmt_ok, bind_ok, chosen_ok}
 use Rattle.asm_statements.specs.Program.Statement.{end_of, filling, replaced_expression, with_meant}
 use Rattle.asm_statements.proofs.Program.Values.{fixed_value, number_value, settled_value}
 

@@ -8,9 +8,9 @@ use Rattle.z80_instr.specs.declared.Branch.{Branch}
 use Rattle.z80_instr.specs.declared.ShortCond.{ShortCond}
 use Rattle.z80_form.specs.declared.field.Field.{Field}
 use Rattle.asm_spell.specs.Line as line
-use Rattle.asm_piece.specs.Made as made
-use Rattle.asm_piece.specs.Made.{Nothing, Piece, Some_piece, long_jump, ref_of}
-use Rattle.asm_piece.proofs.Making.{code_made, data_made, is_space, origin_nothing, space_made}
+use Rattle.asm_stmt.specs.Made as made
+use Rattle.asm_stmt.specs.Made.{Nothing, Piece, Some_piece, long_jump, ref_of}
+use Rattle.asm_stmt.proofs.Making.{code_made, data_made, is_space, origin_nothing, space_made}
 use Rattle.asm_statements.specs.Module.Statements.{statement_by}
 use Rattle.zmo_module.specs.Modules as object
 use Rattle.asm_statements.specs.Program.Linked.{IsSizedLike, IsLinkedPiece}

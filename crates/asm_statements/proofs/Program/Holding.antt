@@ -21,14 +21,14 @@ use Rattle.z80_form.specs.declared.field.Field.{Field}
 use Rattle.z80_form.specs.Numbers.{number_field}
 use Rattle.z80_instr.specs.declared.Branch.{Branch}
 use Rattle.asm_spell.specs.Line as line
-use Rattle.asm_piece.specs.declared.cell.Filling.{Filling}
-use Rattle.asm_piece.specs.Cells.{is_told, number_or_0}
-use Rattle.asm_piece.specs.Fields as field
-use Rattle.asm_piece.specs.Fields.{number, settled_in}
-use Rattle.asm_piece.specs.Made as made
-use Rattle.asm_piece.specs.Made.{Fillings, Made, Nothing, Piece, Some_piece, code_hole, coded, fillings, is_origin, laid_cells, long_jump, number_in, ref_of, space_of_size, space_fill, space_size}
-use Rattle.asm_piece.specs.Sized.{piece_sized}
-use Rattle.asm_piece.proofs.Making.{as_stmt_ok, bind_ok, code_made, code_something, is_space, jump_something, laid_something, no_space, number_in_ok, origin_nothing, short_something, size_kept, space_made, space_settled}
+use Rattle.asm_stmt.specs.declared.cell.Filling.{Filling}
+use Rattle.asm_stmt.specs.Cells.{is_told, number_or_0}
+use Rattle.asm_stmt.specs.Fields as field
+use Rattle.asm_stmt.specs.Fields.{number, settled_in}
+use Rattle.asm_stmt.specs.Made as made
+use Rattle.asm_stmt.specs.Made.{Fillings, Made, Nothing, Piece, Some_piece, code_hole, coded, fillings, is_origin, laid_cells, long_jump, number_in, ref_of, space_of_size, space_fill, space_size}
+use Rattle.asm_stmt.specs.Sized.{piece_sized}
+use Rattle.asm_stmt.proofs.Making.{as_stmt_ok, bind_ok, code_made, code_something, is_space, jump_something, laid_something, no_space, number_in_ok, origin_nothing, short_something, size_kept, space_made, space_settled}
 use Rattle.asm_statements.specs.Program.Linked.{filled}
 use Rattle.asm_statements.specs.Program.Pieces.{IsPiece, IsShortJump, datum_bytes, short_jump, statement_size, takes, valued, width}
 use Rattle.asm_statements.proofs.Program.Fields.{AreFields, IsReady}

@@ -3,11 +3,11 @@ use Rattle.std.proofs.Common.{◌≡◌, ℕ, ◌+◌, List, [], ◌∷◌, ◌+
 use Rattle.std.specs.List.{flat_map}
 use Rattle.std.proofs.Math.Seq.{take-append_seam, drop-append-add, drop-append_seam}
 use Rattle.asm_expr.specs.Below.{value, tree}
-use Rattle.asm_piece.specs.declared.cell.Cell.{Cell}
-use Rattle.asm_piece.specs.declared.cell.Filling.{Filling}
+use Rattle.asm_stmt.specs.declared.cell.Cell.{Cell}
+use Rattle.asm_stmt.specs.declared.cell.Filling.{Filling}
 use Rattle.zmo_module.specs.declared.hole.Hole.{Hole}
 use Rattle.zmo_module.specs.declared.hole.Width.{Width}
-use Rattle.asm_piece.specs.Cells.{bytes, hole, holes, number_or_0, written}
+use Rattle.asm_stmt.specs.Cells.{bytes, hole, holes, number_or_0, written}
 use Rattle.zmo_module.specs.Holes.{width_size}
 use Rattle.asm_statements.specs.Program.Linked.{filled}
 use Rattle.asm_statements.proofs.Program.Fillings.{worth_at}

@@ -10,11 +10,11 @@ use Rattle.z80_instr.specs.declared.Octal.{Octal}
 use Rattle.z80_instr.specs.declared.Instr.{Instr}
 use Rattle.z80_form.specs.declared.field.Field.{Field}
 use Rattle.z80_form.specs.Numbers.{allows, but_last, is_negative, mode_of, number_field, signed, with_bit, with_byte, with_displacement, with_distance, with_mode, with_number, with_restart, with_word_operand}
-use Rattle.asm_piece.specs.declared.cell.Filling.{Filling}
+use Rattle.asm_stmt.specs.declared.cell.Filling.{Filling}
 use Rattle.zmo_module.specs.declared.hole.Width.{Width}
-use Rattle.asm_piece.specs.Cells.{hole, number_or_0, written}
+use Rattle.asm_stmt.specs.Cells.{hole, number_or_0, written}
 use Rattle.zmo_module.specs.Holes.{width_size}
-use Rattle.asm_piece.specs.Made.{code_hole}
+use Rattle.asm_stmt.specs.Made.{code_hole}
 use Rattle.asm_statements.specs.Program.Linked.{filled}
 use Rattle.asm_statements.proofs.Program.Fillings.{IsFit, worth_at}
 use Rattle.asm_statements.proofs.Program.Holes.{one_filled}

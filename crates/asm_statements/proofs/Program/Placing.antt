@@ -8,7 +8,7 @@ use Rattle.asm_expr.specs.Names.{Table, found}
 use Rattle.asm_names.specs.Layout.{Layout}
 use Rattle.asm_names.specs.Lines.{Taken}
 use Rattle.asm_names.specs.Names.{Names, kind_of_name}
-use Rattle.asm_piece.specs.Made.{Made, Nothing, Piece, Some_piece, Unknown, made}
+use Rattle.asm_stmt.specs.Made.{Made, Nothing, Piece, Some_piece, Unknown, made}
 use Rattle.asm_statements.specs.Program.Linked.{IsSizedLike, IsLinkedPiece}
 use Rattle.asm_statements.specs.Program.Pieces.{IsPiece, statement_size, takes}
 use Rattle.asm_statements.specs.Program.Spelled.{IsSpelled}

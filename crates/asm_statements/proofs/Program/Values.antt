@@ -18,8 +18,8 @@ use Rattle.asm_expr.proofs.Folds.{worth-reduced}
 use Rattle.asm_expr.proofs.Guards.{reduced_number}
 use Rattle.asm_expr.proofs.Known.{object_tree}
 use Rattle.asm_expr.proofs.Below.{one_expression, tree-postfix}
-use Rattle.asm_piece.specs.Fields.{number}
-use Rattle.asm_piece.proofs.Making.{answered_items}
+use Rattle.asm_stmt.specs.Fields.{number}
+use Rattle.asm_stmt.proofs.Making.{answered_items}
 use Rattle.asm_statements.specs.Program.Statement as statement
 use Rattle.asm_statements.specs.Program.Statement.{of_settled, with_meant}
 

@@ -27,14 +27,14 @@ use Rattle.asm_spell.specs.Line as line
 use Rattle.zmo_module.specs.declared.hole.Hole.{Hole}
 use Rattle.zmo_module.specs.declared.hole.Width.{Width}
 use Rattle.zmo_module.specs.Holes.{FitsWidth, IsHole, LieWithin, ends_in_byte, width_size}
-use Rattle.asm_piece.specs.declared.cell.Cell.{Cell}
-use Rattle.asm_piece.specs.declared.cell.Filling.{Filling}
-use Rattle.asm_piece.specs.Cells.{bytes, cell_bytes, hole, holes, is_told, number_or_0, written}
-use Rattle.asm_piece.specs.Fields as piece_field
-use Rattle.asm_piece.specs.Fields.{byte, byte_by, fixed, number, settled_in, word_filling, word_filling_by}
-use Rattle.asm_piece.specs.Made as made
-use Rattle.asm_piece.specs.Made.{Fillings, Piece, Some_piece, code_hole, long_jump, number_in, ref_of, text_cell, value_cells, field_width, word_cells}
-use Rattle.asm_piece.proofs.Making.{as_stmt_ok, bind_ok, blank_of, chosen_ok, code_made, data_made, each_holds, flat, is_space, origin_nothing, space_made}
+use Rattle.asm_stmt.specs.declared.cell.Cell.{Cell}
+use Rattle.asm_stmt.specs.declared.cell.Filling.{Filling}
+use Rattle.asm_stmt.specs.Cells.{bytes, cell_bytes, hole, holes, is_told, number_or_0, written}
+use Rattle.asm_stmt.specs.Fields as piece_field
+use Rattle.asm_stmt.specs.Fields.{byte, byte_by, fixed, number, settled_in, word_filling, word_filling_by}
+use Rattle.asm_stmt.specs.Made as made
+use Rattle.asm_stmt.specs.Made.{Fillings, Piece, Some_piece, code_hole, long_jump, number_in, ref_of, text_cell, value_cells, field_width, word_cells}
+use Rattle.asm_stmt.proofs.Making.{as_stmt_ok, bind_ok, blank_of, chosen_ok, code_made, data_made, each_holds, flat, is_space, origin_nothing, space_made}
 use Rattle.asm_statements.specs.Rules.Piece.{KeepsPieceRules}
 use Rattle.asm_statements.proofs.Program.Coding.{Shape, Spelled, first, kept_field, last, none, one, shape}
 use Rattle.asm_statements.proofs.Program.Fields.{AreFields, IsReady}

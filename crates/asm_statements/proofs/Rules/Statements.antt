@@ -12,10 +12,10 @@ use Rattle.asm_spell.specs.Line as line
 use Rattle.asm_spell.specs.Line.{Body, Line}
 use Rattle.asm_names.specs.Lines.{Taken, has_statement, is_statement}
 use Rattle.asm_names.specs.Layout.{Layout, next_at}
-use Rattle.asm_piece.specs.Made as made
-use Rattle.asm_piece.specs.Made.{Made, Nothing, Piece, Some_piece, Unknown, made}
-use Rattle.asm_piece.specs.Sized.{TakesFew}
-use Rattle.asm_piece.proofs.Making.{origin_nothing}
+use Rattle.asm_stmt.specs.Made as made
+use Rattle.asm_stmt.specs.Made.{Made, Nothing, Piece, Some_piece, Unknown, made}
+use Rattle.asm_stmt.specs.Sized.{TakesFew}
+use Rattle.asm_stmt.proofs.Making.{origin_nothing}
 use Rattle.asm_statements.specs.Rules.Piece.{KeepsPieceRules}
 use Rattle.asm_statements.specs.Program.Spelled.{IsSpelled}
 use Rattle.asm_statements.specs.Module.Stated.{table_at_line, numbered_statements}

@@ -9,8 +9,8 @@ use Rattle.asm_spell.specs.Few.{IsFew}
 use Rattle.asm_spell.specs.Line as line
 use Rattle.asm_spell.specs.Line.{Body, Line}
 use Rattle.asm_names.specs.Lines.{Taken, placed}
-use Rattle.asm_piece.specs.Made.{ref_of}
-use Rattle.asm_piece.specs.Sized.{sized}
+use Rattle.asm_stmt.specs.Made.{ref_of}
+use Rattle.asm_stmt.specs.Sized.{sized}
 use Rattle.asm_names.specs.Layout.{Layout}
 
 -- With --grow, a JR to a label or an external is a relaxable jump.

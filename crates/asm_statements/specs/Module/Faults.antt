@@ -10,7 +10,7 @@ use Rattle.asm_names.specs.declared.kind.Kind.{Kind}
 use Rattle.asm_names.specs.Faults.{first, if_so}
 use Rattle.asm_names.specs.Names.{Names, kind_of_name}
 use Rattle.asm_names.specs.Circles.{names_in}
-use Rattle.asm_piece.specs.Made.{Made, made}
+use Rattle.asm_stmt.specs.Made.{Made, made}
 use Rattle.asm_statements.specs.declared.fault.StateFault.{StateFault}
 
 abbrev pub value_names : Value → List (List ℕ)

@@ -5,8 +5,8 @@ use Rattle.asm_expr.specs.Names.{Table}
 use Rattle.asm_spell.specs.declared.fault.StmtFault.{StmtFault}
 use Rattle.asm_spell.specs.Line as line
 use Rattle.asm_spell.specs.Line.{Line}
-use Rattle.asm_piece.specs.Made as made
-use Rattle.asm_piece.specs.Made.{Made, Piece, made}
+use Rattle.asm_stmt.specs.Made as made
+use Rattle.asm_stmt.specs.Made.{Made, Piece, made}
 use Rattle.zmo_module.specs.Modules as object
 use Rattle.zmo_module.specs.Modules.{ModuleStatement}
 

@@ -6,7 +6,7 @@ use Rattle.asm_spell.specs.declared.fault.StmtFault.{StmtFault}
 use Rattle.asm_spell.specs.Line.{Body, Line}
 use Rattle.asm_names.specs.Lines.{Taken}
 use Rattle.asm_names.specs.Names.{Names}
-use Rattle.asm_piece.specs.Made.{made}
+use Rattle.asm_stmt.specs.Made.{made}
 use Rattle.zmo_module.specs.declared.statement.Statement as code
 use Rattle.zmo_module.specs.Modules.{ModuleStatement, statement_of}
 use Rattle.asm_statements.specs.declared.fault.StateFault.{StateFault}

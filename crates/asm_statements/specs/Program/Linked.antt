@@ -2,7 +2,7 @@
 use Rattle.std.specs.Prelude.{◌≡◌, ℕ, ◌+◌, Bool, List, [], ◌∷◌, ◌++◌, Option, Some, None, length, take, drop}
 use Rattle.asm_expr.specs.Below.{value, tree}
 use Rattle.zmo_module.specs.declared.hole.Hole.{Hole}
-use Rattle.asm_piece.specs.Cells.{written}
+use Rattle.asm_stmt.specs.Cells.{written}
 use Rattle.asm_statements.specs.Layouts.Sizes.{size_in_module}
 use Rattle.zmo_module.specs.Modules as object
 use Rattle.zmo_module.specs.Modules.{ModuleStatement}

@@ -11,7 +11,7 @@ use Rattle.z80_instr.specs.Codes.{Codes}
 use Rattle.z80_form.specs.declared.field.Field.{Field}
 use Rattle.z80_form.specs.Numbers.{with_numbers}
 use Rattle.z80_instr.specs.declared.Branch.{Branch}
-use Rattle.asm_piece.specs.Made.{long_jump}
+use Rattle.asm_stmt.specs.Made.{long_jump}
 use Rattle.asm_statements.specs.Program.Statement as statement
 use Rattle.asm_statements.specs.Program.Statement.{Datum, Statement}
 

@@ -17,7 +17,7 @@ use Rattle.z80_instr.specs.declared.ShortCond.{ShortCond}
 use Rattle.z80_form.specs.declared.field.Field.{Field}
 use Rattle.z80_instr.specs.declared.Branch.{Branch}
 use Rattle.asm_spell.specs.Line as line
-use Rattle.asm_piece.specs.Made.{long_jump, ref_of}
+use Rattle.asm_stmt.specs.Made.{long_jump, ref_of}
 
 -- an item of data: a byte or a word
 pub data Datum : Type 0 where

@@ -1,8 +1,8 @@
 -- The rules of an object file that concern one piece.
 use Rattle.std.specs.Prelude.{◌≤◌, ◌<◌, ℕ, All, length}
 use Rattle.zmo_module.specs.Holes.{IsHole, LieWithin}
-use Rattle.asm_piece.specs.Made as made
-use Rattle.asm_piece.specs.Made.{Piece}
+use Rattle.asm_stmt.specs.Made as made
+use Rattle.asm_stmt.specs.Made.{Piece}
 
 -- Given the number of refs: fix-ups ascend, do not overlap and lie in the bytes, and each is one that an object file may hold; a jump goes
 -- to one of the refs; and space has one byte at least.

@@ -11,7 +11,7 @@ ghost use Rattle.asm_expr.specs.declared.meaning.Meaning.{Meaning};
 ghost use Rattle.asm_names.specs.Lines.{Taken, has_statement};
 ghost use Rattle.asm_names.specs.Names.{Names, kind_of_name};
 ghost use Rattle.asm_names.specs.Layout.{Layout, next_at};
-ghost use Rattle.asm_piece.specs.Sized.{IsLike};
+ghost use Rattle.asm_stmt.specs.Sized.{IsLike};
 ghost use Rattle.asm_statements.specs.Layouts.Laid.{laid, statements};
 ghost use Rattle.asm_statements.specs.Module.Stated.{first_statement_fault, numbered_statements};
 ghost use Rattle.asm_statements.specs.Layouts.Sizes.{sizes};
@@ -23,7 +23,7 @@ pub fn laid_by_kinds()
     ensures few { (grow : Bool) (t : Table) (lines : List Taken) → length (statements grow t lines) ≤ count_by (λ l. has_statement l.line) lines }
     ensures like { (grow : Bool) (t u : Table) (lines : List Taken) → IsLike t u → laid grow t lines ≡ laid grow u lines }
 {
-    asm_piece::laws::sizes();
+    asm_stmt::laws::sizes();
 }
 
 /// Names have the same kinds, whatever the layout is and wherever the statements are.
@@ -44,7 +44,7 @@ pub fn all_sized()
         first_statement_fault names t layout lines ≡ None → list_any is_unsized (statements grow u lines) ≡ false }
 {
     asm_expr::laws::number_of_numbers();
-    asm_piece::laws::sizes();
+    asm_stmt::laws::sizes();
 }
 
 /// If no line has an error and each name has a value, the statements that lines make have the sizes that were laid out, by any table that
@@ -58,7 +58,7 @@ pub fn stated_as_laid()
 {
     asm_expr::laws::valued();
     asm_expr::laws::number_of_numbers();
-    asm_piece::laws::sizes();
+    asm_stmt::laws::sizes();
 }
 
 /// For each line, the number of the next statement is at most the count of all statements.

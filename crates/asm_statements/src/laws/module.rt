@@ -17,7 +17,7 @@ pub fn stated_by_names()
     ensures statements { (t u : Table) → ((name : List ℕ) → found t name ≡ found u name) → t.statements ≡ u.statements →
         (grow : Bool) (layout : Layout) (lines : List Taken) → numbered_statements grow t layout lines ≡ numbered_statements grow u layout lines }
 {
-    asm_piece::laws::by_names();
+    asm_stmt::laws::by_names();
 }
 
 /// Settled names have a meaning for each name that is defined, as [`state_lines`](crate::state_lines) requires.

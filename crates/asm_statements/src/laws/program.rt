@@ -11,7 +11,7 @@ ghost use Rattle.asm_spell.specs.Line.{Body};
 ghost use Rattle.asm_names.specs.Lines.{Taken};
 ghost use Rattle.asm_names.specs.Names.{Names, kind_of_name};
 ghost use Rattle.asm_names.specs.Layout.{Layout};
-ghost use Rattle.asm_piece.specs.Made.{Nothing, Piece, Some_piece, made};
+ghost use Rattle.asm_stmt.specs.Made.{Nothing, Piece, Some_piece, made};
 ghost use Rattle.asm_statements.specs.Layouts.Sizes.{sizes};
 ghost use Rattle.asm_statements.specs.Module.Stated.{first_statement_fault, numbered_statements};
 ghost use Rattle.asm_statements.specs.Module.Statements.{statement_by};

@@ -7,7 +7,7 @@ ghost use Rattle.asm_expr.specs.declared.meaning.Meaning.{Meaning};
 ghost use Rattle.asm_spell.specs.Line.{Body};
 ghost use Rattle.asm_names.specs.Lines.{Taken, has_statement};
 ghost use Rattle.asm_names.specs.Layout.{Layout, next_at};
-ghost use Rattle.asm_piece.specs.Made.{Piece, Some_piece, made};
+ghost use Rattle.asm_stmt.specs.Made.{Piece, Some_piece, made};
 ghost use Rattle.zmo_module.specs.Rules.{IsModuleStatement};
 ghost use Rattle.asm_statements.specs.Module.Stated.{numbered_statements};
 ghost use Rattle.asm_statements.specs.Program.Spelled.{IsSpelled};
@@ -35,7 +35,7 @@ pub fn statements_keep_rules()
         All FitsWord (map (λ n. n.1) (numbered_statements grow t layout lines)) → All (IsModuleStatement grow refs) (map (λ n. n.1) (numbered_statements grow t layout lines)) }
 {
     pieces_keep_rules();
-    asm_piece::laws::few();
+    asm_stmt::laws::few();
 }
 
 /// The number of statements is at most the number of lines with a word that may make one.

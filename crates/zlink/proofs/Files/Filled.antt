@@ -4,7 +4,7 @@ use Rattle.std.proofs.lemmas.List.{length-take, take_more}
 use Rattle.asm_value.specs.Items.{value}
 use Rattle.asm_value.specs.Postfix.{tree}
 use Rattle.zmo_module.specs.declared.hole.Hole.{Hole}
-use Rattle.asm_piece.specs.Cells.{written}
+use Rattle.asm_stmt.specs.Cells.{written}
 use Rattle.zmo_module.specs.Holes.{LieWithin, width_size}
 use Rattle.asm_statements.specs.Program.Linked.{fill_one, filled}
 use Rattle.asm_statements.proofs.Program.Holes.{length-written}

@@ -11,8 +11,8 @@ use Rattle.asm_value.specs.Items.{refs, refs_in, value}
 use Rattle.asm_value.specs.Postfix.{tree}
 use Rattle.asm_value.proofs.Judgements.{spelled_tree}
 use Rattle.z80_instr.specs.Codes.{Codes}
-use Rattle.asm_piece.specs.Cells.{written}
-use Rattle.asm_piece.specs.Made.{long_jump}
+use Rattle.asm_stmt.specs.Cells.{written}
+use Rattle.asm_stmt.specs.Made.{long_jump}
 use Rattle.asm_statements.specs.Program.Linked.{IsLinkedPiece, fill_one, filled}
 use Rattle.zmo_module.specs.declared.hole.Hole.{Hole}
 use Rattle.zmo_module.specs.Holes.{IsHole}

@@ -16,7 +16,7 @@ use Rattle.ruler.specs.Choice.{Choice, bytes_before, place}
 use Rattle.ruler.proofs.Places.{bytes-le, bytes-zero}
 use Rattle.zmo_module.specs.Modules as object
 use Rattle.zmo_module.specs.Modules.{ModuleStatement}
-use Rattle.asm_piece.specs.Made.{long_jump}
+use Rattle.asm_stmt.specs.Made.{long_jump}
 use Rattle.asm_statements.specs.Program.Linked.{IsLinkedPiece}
 use Rattle.asm_statements.specs.Program.Pieces.{IsShortJump, short_jump}
 use Rattle.zlink.specs.Program.Whole.{Placed}

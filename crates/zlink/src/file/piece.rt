@@ -5,15 +5,15 @@ ghost use Rattle.std.specs.Int.{w8};
 ghost use Rattle.ruler.specs.Choice.{IsNear};
 ghost use Rattle.z80_instr.specs.Codes.{Codes};
 ghost use Rattle.z80_instr.specs.Table.{canonical};
-ghost use Rattle.asm_piece.specs.Cells.{written};
-ghost use Rattle.asm_piece.specs.Made.{long_jump};
+ghost use Rattle.asm_stmt.specs.Cells.{written};
+ghost use Rattle.asm_stmt.specs.Made.{long_jump};
 ghost use Rattle.asm_statements.specs.Program.Linked.{filled};
 ghost use Rattle.asm_statements.specs.Program.Pieces.{IsShortJump, short_jump};
 ghost use Rattle.zmo_module.specs.Holes.{IsHole, LieWithin, width_size};
 ghost use Rattle.zmo_module.specs.Modules.{statement_of};
 ghost use Rattle.zlink.specs.Private.Pieces.{Appends, IsReady, IsSizedPiece};
 
-use asm_piece::long_jump;
+use asm_stmt::long_jump;
 use asm_value::value;
 use std::alloc::AllocError;
 use z80_encode::encode;

@@ -1,0 +1,41 @@
+-- Fields of one or two bytes, put one after the other.
+use Rattle.std.specs.Prelude.{ℕ, ◌+◌, ◌%◌, Bool, true, false, List, [], ◌∷◌, ◌++◌}
+use Rattle.std.specs.List.{flat_map, list_all}
+use Rattle.z80_instr.specs.Table.{word}
+use Rattle.asm_stmt.specs.declared.cell.Cell.{Cell}
+use Rattle.asm_stmt.specs.declared.cell.Filling.{Filling}
+use Rattle.zmo_module.specs.Holes.{width_size}
+use Rattle.zmo_module.specs.declared.hole.Hole.{Hole}
+use Rattle.zmo_module.specs.declared.hole.Width.{Width}
+
+-- a number as the bytes of a field; of a word, the low byte first
+abbrev pub written : Width → ℕ → List ℕ
+written Width.Byte n = n % 256 ∷ []
+written Width.Word n = word n
+
+-- what the field has in the object file: its value, or 0 if the value depends on addresses
+abbrev pub number_or_0 : Filling → ℕ
+number_or_0 (Filling.Number n) = n
+number_or_0 _ = 0
+
+abbrev pub cell_bytes : Cell → List ℕ
+cell_bytes c = written c.width (number_or_0 c.filling)
+
+abbrev pub bytes : List Cell → List ℕ
+bytes cells = flat_map cell_bytes cells
+
+-- the fix-up of a field whose value depends on addresses, at this offset
+abbrev pub hole : ℕ → Width → Filling → List Hole
+hole at width (Filling.Varying e) = (record { offset = at; width = width; value = e }) ∷ []
+hole at width _ = []
+
+abbrev pub holes : ℕ → List Cell → List Hole
+holes at [] = []
+holes at (c ∷ cs) = hole at c.width c.filling ++ holes (at + width_size c.width) cs
+
+abbrev pub is_told : Filling → Bool
+is_told Filling.Unknown = false
+is_told _ = true
+
+abbrev pub all_told : List Cell → Bool
+all_told cells = list_all (λ c. is_told c.filling) cells
