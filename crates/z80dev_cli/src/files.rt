@@ -7,12 +7,14 @@ ghost use Rattle.std.specs.Prelude.{◌≡◌, ◌≤◌, IfOk, None, length, op
 ghost use Rattle.common.specs.declared.limits.TheConstants.{LONGEST_TEXT};
 ghost use Rattle.streams.specs.Stream.{counted};
 ghost use Rattle.z80dev_finish.specs.Files.{IsLockWanted};
-ghost use Rattle.z80dev_cli.specs.Host.{held_claim, held_lock, written_part};
+ghost use Rattle.z80dev_cli.specs.Host.{held_claim, held_lock, placement_by, written_part};
 
 use lock::{HeldLock, is_one_file, take_lock};
 use part::{Part, write_part};
 use std::alloc::{AllocError, Global};
 use std::fs::{self, Metadata};
+use std::io::ErrorKind;
+use std::os::unix::fs::FileTypeExt;
 use streams::{Watched, WatchedSink, WriteFailed, print};
 use z80dev::{Fault, read_text};
 use z80dev_finish::{Claimed, Files, Placed, Unread};
@@ -33,6 +35,8 @@ pub(crate) struct HostFiles<'a> {
     lock: Option<HeldLock>,
     claimed: Option<String>,
     part: Option<Part>,
+    /// Whether the last file that took the place of another would have been kept from it by one that was there.
+    placed: Option<bool>,
 }
 
 impl<'a> HostFiles<'a> {
@@ -44,6 +48,7 @@ impl<'a> HostFiles<'a> {
             lock: None,
             claimed: None,
             part: None,
+            placed: None,
         }
     }
 
@@ -58,23 +63,25 @@ impl<'a> HostFiles<'a> {
     fn take(&mut self, lock: HeldLock, claimed: Option<String>)
         ensures { self.new ≡ record self.old { lock = Some lock; claimed = claimed; part = None } }
     {
-        self.lock = Some(lock);
-        self.claimed = claimed;
+        // Before the earlier lock is given back, since whoever gets that lock may write a part of this name.
         if let Some(part) = self.part.take() {
             part.discard(self.rt);
         }
+        self.lock = Some(lock);
+        self.claimed = claimed;
     }
 
-    /// Counts a file that took its place.
-    fn count_replacement(&mut self)
-        ensures { self.new ≡ record self.old { replacements = counted self.old.replacements } }
+    /// Counts a file that took its place; `keep` says whether one that was there would have been kept.
+    fn count_replacement(&mut self, keep: bool)
+        ensures { self.new ≡ record self.old { replacements = counted self.old.replacements; placed = Some keep } }
     {
         self.replacements = self.replacements.saturating_add(1);
+        self.placed = Some(keep);
     }
 }
 
 impl Files for HostFiles<'_> {
-    ghost folder = { λ h. record { files = None; failures = h.failures; replacements = h.replacements; locked = option_map held_lock h.lock; claimed = option_map held_claim h.claimed; part = option_map written_part h.part } };
+    ghost folder = { λ h. record { files = None; failures = h.failures; replacements = h.replacements; locked = option_map held_lock h.lock; claimed = option_map held_claim h.claimed; part = option_map written_part h.part; placed = option_map placement_by h.placed } };
 
     fn read(&mut self, alloc: Global, path: &str) -> Result<Vec<u8>, Unread> {
         match read_whole(self.rt, alloc, path) {
@@ -168,7 +175,7 @@ impl Files for HostFiles<'_> {
         };
         match part.put_in_place(self.rt, keep) {
             Ok(Placed::Done) => {
-                self.count_replacement();
+                self.count_replacement(keep);
                 Ok(Placed::Done)
             }
             Ok(Placed::Exists) => Ok(Placed::Exists),
@@ -201,7 +208,7 @@ fn claim(
     path: &str,
     is_wanted: bool,
 ) -> Result<(HeldLock, Vec<u8>), Unread>
-    ensures { IfOk result (λ r. (string_bytes r.0.path ≡ path.now) × IsLockWanted None is_wanted r.0.is_held × (length r.1.items ≤ LONGEST_TEXT)) }
+    ensures { IfOk result (λ r. (string_bytes r.0.path ≡ path.now) × (r.0.is_wanted ≡ is_wanted) × IsLockWanted is_wanted r.0.is_held × (length r.1.items ≤ LONGEST_TEXT)) }
 {
     let lock = take_lock(rt, alloc, path, is_wanted, true)?;
     let bytes = match &lock.names {
@@ -214,13 +221,27 @@ fn claim(
 /// Writes the bytes: to a pipe or a device directly, and else as a new file that takes the place of the path's.
 fn write(rt: &HostRuntime, path: &str, bytes: &[u8]) -> Result<(), WriteFailed> {
     match fs::metadata(rt, path) {
-        Ok(found) if !found.is_file() && !found.is_dir() => {
-            part::write_through(rt, path, bytes)?;
-            Ok(())
-        }
+        // A link to a folder would be replaced, and its folder lost from sight.
+        Ok(found) if found.is_dir() => Err(WriteFailed),
         Ok(found) if is_link(rt, path) => write_linked(rt, path, bytes, &found),
-        _ => part::replace(rt, path, bytes),
+        Ok(found) => write_found(rt, path, bytes, &found),
+        Err(error) if error.kind() == ErrorKind::NotFound => part::replace(rt, path, bytes),
+        Err(_) => Err(WriteFailed),
     }
+}
+
+/// Writes the bytes where there is a file, a pipe or a device.
+fn write_found(
+    rt: &HostRuntime,
+    path: &str,
+    bytes: &[u8],
+    found: &Metadata,
+) -> Result<(), WriteFailed> {
+    if found.is_file() {
+        return part::replace(rt, path, bytes);
+    }
+    part::write_through(rt, path, bytes)?;
+    Ok(())
 }
 
 /// Whether a path is a symbolic link.
@@ -228,8 +249,9 @@ fn is_link(rt: &HostRuntime, path: &str) -> bool {
     fs::symlink_metadata(rt, path).is_ok_and(|link| link.is_symlink())
 }
 
-/// Writes the bytes where a link to a file is. If that is the file of a standard stream, as that of `/dev/stdout` may be, the link stays, since
-/// every program of the system needs it. The bytes go to the stream, so what is printed afterwards comes after them.
+/// Writes the bytes where a link is. If it leads to what a standard stream leads to, as `/dev/stdout` does, the link stays, since every program
+/// of the system needs it. The bytes go to the stream, so what is printed afterwards comes after them. Standard input takes bytes only if it is
+/// a device, such as a terminal.
 fn write_linked(
     rt: &HostRuntime,
     path: &str,
@@ -242,10 +264,10 @@ fn write_linked(
     if is_file_of(rt, ERRORS, found) {
         return print(&mut WatchedSink::new(rt.stderr()), bytes);
     }
-    if is_file_of(rt, INPUT, found) {
+    if is_file_of(rt, INPUT, found) && !found.file_type().is_char_device() {
         return Err(WriteFailed);
     }
-    part::replace(rt, path, bytes)
+    write_found(rt, path, bytes, found)
 }
 
 /// Whether this is the file that a standard stream leads to.

@@ -34,13 +34,16 @@ fn run(rt: &HostRuntime) -> Result<u8, AllocError> {
     Ok(command(rt.alloc(), &words, host).status)
 }
 
-/// Opens something that is there on nearly every system. A program may be kept from the root.
+/// Opens a folder, or if this program may open none, a device that is there on nearly every system.
 fn open_any(rt: &HostRuntime) -> io::Result<File> {
-    fs::open(rt, "/").or_else(|_| fs::open(rt, "/dev/null"))
+    fs::open(rt, "/")
+        .or_else(|_| fs::open(rt, "."))
+        .or_else(|_| fs::open(rt, "/dev/null"))
 }
 
 /// Folders that are open under the numbers of those standard streams that were closed. Without them the next file would get such a number, and
-/// what is printed would be written into that file. A folder can be neither read nor written as a file, so a closed stream still fails.
+/// what is printed would be written into that file. A folder can be neither read nor written as a file, so a closed stream still fails; only
+/// from `/dev/null` a closed standard input reads as empty.
 fn placeholders(rt: &HostRuntime) -> [Option<File>; STREAMS] {
     let mut held = [None, None, None];
     for slot in &mut held {

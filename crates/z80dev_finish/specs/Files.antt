@@ -14,27 +14,38 @@ use Rattle.z80dev_finish.specs.declared.files.Placed.TheVariants as placed
 abbrev pub File : Type 0
 File = List ℕ × List ℕ
 
--- A file that is written beside the one whose place it is to take: the path of that one, its own bytes, where they are known, and whether they
--- have reached the device.
+-- A test of bytes. The call that reads or writes bytes says that its test accepts them, and no other clause says so of any bytes. So a command
+-- that works on other bytes cannot show that the test accepts them, even if the host does not tell what its files contain.
+abbrev pub Test : Type 0
+Test = List ℕ → Bool
+
+-- A file that is written beside the one whose place it is to take: the path of that one, its own bytes, if they are known, a test that accepts
+-- them, and whether they have reached the device.
 pub record Part : Type 0 where
   pub path : List ℕ
   pub bytes : Option (List ℕ)
+  pub accepts : Test
   pub synced : Bool
 
--- The path whose lock was taken, and whether the lock is held: it is not if it was not asked for, or if the file system has no locks.
+-- The path whose lock was taken, whether the lock was asked for, and whether it is held: it is not if the file system has no locks.
 pub record Lock : Type 0 where
   pub path : List ℕ
+  pub is_wanted : Bool
   pub is_held : Bool
 
--- The path of a file that was read under its lock, and a test that accepts the bytes that were read. Only the call that reads them says that the
--- test accepts bytes, so a command that worked on other bytes, such as those of an earlier read, could not show that it accepts them.
+-- the path of a file that was read under its lock, and a test that accepts the bytes that were read
 pub record Claim : Type 0 where
   pub path : List ℕ
-  pub is_given : List ℕ → Bool
+  pub accepts : Test
+
+-- A file that took the place of another: a test that accepts its bytes, and whether a file that was there would have been kept.
+pub record Placement : Type 0 where
+  pub accepts : Test
+  pub keep : Bool
 
 -- The files, if they are known, in the order in which they were written: of those with one path the last is the one that is there. How often a
 -- call failed, and how often a file that was written beside another took its place. The lock that was taken, the file that was read under it,
--- and the file that is written beside another.
+-- the file that is written beside another, and the last that took the place of another.
 pub record Folder : Type 0 where
   pub files : Option (List File)
   pub failures : ℕ
@@ -42,6 +53,7 @@ pub record Folder : Type 0 where
   pub locked : Option Lock
   pub claimed : Option Claim
   pub part : Option Part
+  pub placed : Option Placement
 
 -- the file of this path has these bytes
 abbrev pub IsAt : List File → List ℕ → List ℕ → Type 0
@@ -59,7 +71,7 @@ StaysLocked old new = (new.locked ≡ old.locked) × (new.claimed ≡ old.claime
 
 -- Files are added by writing them, if any. Nothing else changes, apart from the count of failures.
 abbrev pub Adds : Folder → Folder → List File → Type 0
-Adds old new more = Grows old.files new.files more × (new.replacements ≡ old.replacements) × StaysLocked old new × (new.part ≡ old.part)
+Adds old new more = Grows old.files new.files more × (new.replacements ≡ old.replacements) × StaysLocked old new × (new.part ≡ old.part) × (new.placed ≡ old.placed)
 
 -- the call failed, and changed nothing
 abbrev pub FailsSo : Folder → Folder → Type 0
@@ -90,46 +102,46 @@ IsThere files path = IfSome files (λ known. (bytes : List ℕ) × IsAt known pa
 abbrev pub IsAbsent : Option (List File) → List ℕ → Type 0
 IsAbsent files path = IfSome files (λ known. All (λ file. file.0 ≢ path) known)
 
-abbrev pub lock_of : List ℕ → Bool → Lock
-lock_of path is_held = record { path = path; is_held = is_held }
+abbrev pub lock_of : List ℕ → Bool → Bool → Lock
+lock_of path is_wanted is_held = record { path = path; is_wanted = is_wanted; is_held = is_held }
 
 -- the lock of a path was taken
 abbrev pub HasLock : Folder → List ℕ → Type 0
-HasLock f path = (is_held : Bool) × (f.locked ≡ Some (lock_of path is_held))
+HasLock f path = (is_wanted is_held : Bool) × (f.locked ≡ Some (lock_of path is_wanted is_held))
 
--- A lock that is not wanted is not held. One that is wanted is held if files are known; a file system may have no locks.
-abbrev pub IsLockWanted : Option (List File) → Bool → Bool → Type 0
-IsLockWanted None is_wanted is_held = is_wanted ≡ false → is_held ≡ false
-IsLockWanted (Some files) is_wanted is_held = is_held ≡ is_wanted
+-- A lock that is not wanted is not held. One that is wanted need not be held: the file system may have no locks.
+abbrev pub IsLockWanted : Bool → Bool → Type 0
+IsLockWanted is_wanted is_held = is_wanted ≡ false → is_held ≡ false
 
 -- The folder once the lock of a path is taken. A file that was read under an earlier lock is claimed no more, and a part of it is given up.
-abbrev pub locked_by : Folder → List ℕ → Bool → Folder
-locked_by old path is_held = record old { locked = Some (lock_of path is_held); claimed = None; part = None }
+abbrev pub locked_by : Folder → List ℕ → Bool → Bool → Folder
+locked_by old path is_wanted is_held = record old { locked = Some (lock_of path is_wanted is_held); claimed = None; part = None }
 
--- A path is locked, whether or not it has a file: no other program that asks for the lock gets it, until this one ends.
+-- The lock of a path is asked for, whether or not there is a file. If it is held, no other program that asks for it gets it until this one ends;
+-- of a path without a file, the host may say that it is held although there is nothing to lock.
 abbrev pub Locks : Folder → Folder → List ℕ → Bool → Result Bool Unread → Type 0
-Locks old new path is_wanted (Ok is_held) = (new ≡ locked_by old path is_held) × IsLockWanted old.files is_wanted is_held
+Locks old new path is_wanted (Ok is_held) = (new ≡ locked_by old path is_wanted is_held) × IsLockWanted is_wanted is_held
 Locks old new path is_wanted (Err unread.File) = FailsSo old new
 Locks old new path is_wanted (Err unread.NoMemory) = new ≡ old
 
 -- the folder once a file is locked and read
-abbrev pub claimed_by : Folder → List ℕ → Bool → (List ℕ → Bool) → Folder
-claimed_by old path is_held is_given = record (locked_by old path is_held) { claimed = Some (record { path = path; is_given = is_given }) }
+abbrev pub claimed_by : Folder → List ℕ → Bool → Bool → Test → Folder
+claimed_by old path is_wanted is_held accepts = record (locked_by old path is_wanted is_held) { claimed = Some (record { path = path; accepts = accepts }) }
 
 -- A file is locked and then read: it stays as it was read until this program replaces it, or ends. If it cannot be read, the lock is not taken.
 abbrev pub Claims : Folder → Folder → List ℕ → Bool → Result Claimed Unread → Type 0
-Claims old new path is_wanted (Ok c) = (is_given : List ℕ → Bool) × (new ≡ claimed_by old path c.is_locked is_given) × (is_given c.bytes.items ≡ true)
-    × IsLockWanted old.files is_wanted c.is_locked × (length c.bytes.items ≤ LONGEST_TEXT) × IfSome old.files (λ files. IsAt files path c.bytes.items)
+Claims old new path is_wanted (Ok c) = (accepts : Test) × (new ≡ claimed_by old path is_wanted c.is_locked accepts) × (accepts c.bytes.items ≡ true)
+    × IsLockWanted is_wanted c.is_locked × (length c.bytes.items ≤ LONGEST_TEXT) × IfSome old.files (λ files. IsAt files path c.bytes.items)
 Claims old new path is_wanted (Err unread.File) = ((new ≡ old) × IsUnreadable old.files path) ⊎ FailsSo old new
 Claims old new path is_wanted (Err unread.NoMemory) = new ≡ old
 
--- A file may be written beside that of a path: the lock of the path was taken, and nothing was written beside it since.
+-- A file may be written beside that of a path: the lock of the path was taken, and no part is there.
 abbrev pub IsFree : Folder → List ℕ → Type 0
 IsFree f path = HasLock f path × (f.part ≡ None)
 
 -- Bytes are written beside the file of a path, which no reader of that path sees.
 abbrev pub WritesBeside : Folder → Folder → List ℕ → List ℕ → Result Unit WriteFailed → Type 0
-WritesBeside old new path bytes (Ok _) = (p : Part) × (new ≡ record old { part = Some p }) × (p.path ≡ path) × (p.synced ≡ false) × IfSome old.files (λ _. p.bytes ≡ Some bytes)
+WritesBeside old new path bytes (Ok _) = (p : Part) × (new ≡ record old { part = Some p }) × (p.path ≡ path) × (p.accepts bytes ≡ true) × (p.synced ≡ false) × IfSome old.files (λ _. p.bytes ≡ Some bytes)
 WritesBeside old new path bytes (Err _) = FailsSo old new
 
 -- They reach the device. If they do not, the part may be gone.
@@ -157,7 +169,11 @@ Replaced Grown old new = Grown × (new.replacements ≡ counted old.replacements
 -- A call failed: the file did not take its place, or did.
 abbrev pub ReplacedOrNot : Type 0 → Folder → Folder → Type 0
 ReplacedOrNot Grown old new = (new.failures ≡ counted old.failures) × StaysLocked old new
-    × ((Grows old.files new.files [] × (new.replacements ≡ old.replacements)) ⊎ (Grown × (new.replacements ≡ counted old.replacements)))
+    × ((Grows old.files new.files [] × (new.replacements ≡ old.replacements) × (new.placed ≡ old.placed)) ⊎ (Grown × (new.replacements ≡ counted old.replacements)))
+
+-- The last file that took the place of another has these bytes, by its test, and a file that was there would have been kept, or not.
+abbrev pub HasPlaced : Folder → List ℕ → Bool → Type 0
+HasPlaced f bytes keep = (accepts : Test) × (f.placed ≡ Some (record { accepts = accepts; keep = keep })) × (accepts bytes ≡ true)
 
 -- There is a file, which is to be kept.
 abbrev pub IsToBeKept : Folder → List ℕ → Bool → Type 0
@@ -165,12 +181,14 @@ IsToBeKept f path keep = (keep ≡ true) × IsThere f.files path
 
 -- The part takes its place, and with keep only if there is no file. If the call fails, the file is as before or as it should be.
 abbrev pub PutsInPlace : Folder → Folder → Part → Bool → Result Placed WriteFailed → Type 0
-PutsInPlace old new p keep (Ok placed.Done) = Replaced (GrowsByPart old new p) old new × (new.failures ≡ old.failures) × (new.part ≡ None) × (keep ≡ true → IsAbsent old.files p.path)
+PutsInPlace old new p keep (Ok placed.Done) = Replaced (GrowsByPart old new p) old new × (new.failures ≡ old.failures) × (new.part ≡ None)
+    × (new.placed ≡ Some (record { accepts = p.accepts; keep = keep })) × (keep ≡ true → IsAbsent old.files p.path)
 PutsInPlace old new p keep (Ok placed.Exists) = (new ≡ record old { part = None }) × IsToBeKept old p.path keep
-PutsInPlace old new p keep (Err _) = ReplacedOrNot (GrowsByPart old new p) old new
+PutsInPlace old new p keep (Err _) = ReplacedOrNot (GrowsByPart old new p) old new × ((new.part ≡ None) ⊎ (new.part ≡ old.part))
 
 -- The file of a path is replaced by these bytes, and with keep only if there was none.
 abbrev pub Replaces : Folder → Folder → File → Bool → Result Placed WriteFailed → Type 0
-Replaces old new file keep (Ok placed.Done) = Replaced (GrowsBy old new file) old new × (new.failures ≡ old.failures) × (new.part ≡ None) × (keep ≡ true → IsAbsent old.files file.0)
+Replaces old new file keep (Ok placed.Done) = Replaced (GrowsBy old new file) old new × (new.failures ≡ old.failures) × (new.part ≡ None) × HasPlaced new file.1 keep
+    × (keep ≡ true → IsAbsent old.files file.0)
 Replaces old new file keep (Ok placed.Exists) = (new ≡ old) × IsToBeKept old file.0 keep
 Replaces old new file keep (Err _) = ReplacedOrNot (GrowsBy old new file) old new

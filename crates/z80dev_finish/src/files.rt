@@ -36,11 +36,11 @@ pub enum Placed {
 /// Files by their paths, with a count of the calls that failed.
 ///
 /// Files that can be made again are written by [`write`](Files::write). A file that holds a user's work, such as the image of a disk, is
-/// replaced in four calls: it is [claimed](Files::claim), [written beside](Files::write_beside) itself, [synced](Files::sync) and
-/// [put in place](Files::put_in_place). So two programs that hold the lock do not both change a file and lose one of the changes, and
-/// after a power cut the file is the old one or the new one. Each of the last three calls requires the one before it. Only the claim says
-/// which bytes were read under the lock, and taking another lock ends it; so a contract that works on a claimed file's bytes excludes
-/// bytes that were read before. Only [`put_in_place`](Files::put_in_place) counts a replacement, so a contract that tells the count excludes
+/// replaced in four calls: it is [claimed](Files::claim), or only [locked](Files::lock) if it is not read; [written beside](Files::write_beside)
+/// itself; [synced](Files::sync); and [put in place](Files::put_in_place). So two programs that hold the lock do not both change a file and lose
+/// one of the changes, and after a power cut the file is the old one or the new one. The last three calls require that the lock was taken, that
+/// a file is written beside another, and that it is synced. Only the claim says which bytes were read under the lock, and taking another lock
+/// ends it; so a contract that works on a claimed file's bytes excludes bytes that were read before. Only [`put_in_place`](Files::put_in_place) counts a replacement, so a contract that tells the count excludes
 /// [`write`](Files::write).
 pub trait Files {
     /// The files, where they are known, and how often a call failed.
@@ -67,7 +67,7 @@ pub trait Files {
     ///
     /// # Errors
     ///
-    /// Those of [`Unread`]; [`Unread::File`] too if another program holds the lock and keeps it.
+    /// Those of [`Unread`]; [`Unread::File`] too if another program, or this one since an earlier call, holds the lock and keeps it.
     fn lock(&mut self, alloc: Global, path: &str, is_wanted: bool) -> Result<bool, Unread>
         ensures { Locks (folder self.old) (folder self.new) path.now is_wanted result };
 
@@ -75,7 +75,7 @@ pub trait Files {
     ///
     /// # Errors
     ///
-    /// Those of [`Unread`]; [`Unread::File`] too if another program holds the lock and keeps it.
+    /// Those of [`Unread`]; [`Unread::File`] too if another program, or this one since an earlier call, holds the lock and keeps it.
     fn claim(&mut self, alloc: Global, path: &str, is_wanted: bool) -> Result<Claimed, Unread>
         ensures { Claims (folder self.old) (folder self.new) path.now is_wanted result };
 
@@ -111,7 +111,7 @@ pub trait Files {
 ///
 /// # Errors
 ///
-/// If a call fails. Then there is the file that was there before, or the new one.
+/// If a call fails. Then there is the file that was there before, or the new one. To try again, take the lock again.
 pub fn replace<F: Files>(
     files: &mut F,
     path: &str,

@@ -41,7 +41,7 @@ abbrev pub PipeEnds : World → World → ℕ → Type 0
 PipeEnds old new status = (new.folder ≡ old.folder) × OfText old.input.left (λ text. (e : Result Unit Fault) × (status ≡ status_at e)
     × PrintingEnds text (IsCutShort new.input.failed new.input.reads new.input.interruptions) old.output new.output e × TellsOf (said_at e) old.errors new.errors)
 
--- how many instructions a run may take that names no number
+-- how many turns a run may take if the command names no number
 abbrev pub default_steps : ℕ
 default_steps = 100000000
 

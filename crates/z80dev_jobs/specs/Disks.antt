@@ -24,7 +24,7 @@ use Rattle.z80dev_disk.specs.declared.getting.Gotten.{Gotten}
 use Rattle.z80dev_disk.specs.declared.refusal.Refusal.{Refusal}
 use Rattle.z80dev_finish.specs.Answers.{MemoryAside}
 use Rattle.z80dev_finish.specs.End.{IsPut}
-use Rattle.z80dev_finish.specs.Files.{Adds, FailsSo, File, Folder, GrowsBy, IsAbsent, IsLockWanted, IsToBeKept, IsUnreadable, Replaced, ReplacedOrNot, claimed_by, locked_by}
+use Rattle.z80dev_finish.specs.Files.{Adds, FailsSo, File, Folder, GrowsBy, HasPlaced, IsAbsent, IsLockWanted, IsToBeKept, IsUnreadable, Replaced, ReplacedOrNot, Test, claimed_by, locked_by}
 use Rattle.z80dev_finish.specs.declared.end.End.{End}
 use Rattle.z80dev_finish.specs.declared.end.End.TheVariants as end
 use Rattle.z80dev_jobs.specs.Making.{CarriesOut, Effect, LineAt, With, WithAll}
@@ -94,13 +94,13 @@ NamedAll name_in words Does x e =
 
 -- A file was locked and then read, and these bytes were read.
 abbrev pub HasClaimed : Folder → Folder → List ℕ → Bool → Bool → List ℕ → Type 0
-HasClaimed old new path wanted is_held bytes = (is_given : List ℕ → Bool) × (new ≡ claimed_by old path is_held is_given) × (is_given bytes ≡ true)
-    × IsLockWanted old.files wanted is_held × IsRead old path bytes
+HasClaimed old new path wanted is_held bytes = (accepts : Test) × (new ≡ claimed_by old path wanted is_held accepts) × (accepts bytes ≡ true)
+    × IsLockWanted wanted is_held × IsRead old path bytes
 
 -- An image is not claimed; or memory ran out, before the claim or just after it.
 abbrev pub IsNotClaimed : Folder → Folder → List ℕ → End → Type 0
 IsNotClaimed old new path (end.File at last) = (at.now ≡ path) × (last.now ≡ []) × (((new ≡ old) × IsUnreadable old.files path) ⊎ FailsSo old new)
-IsNotClaimed old new path end.NoMemory = (new ≡ old) ⊎ ((is_held : Bool) × (is_given : List ℕ → Bool) × (new ≡ claimed_by old path is_held is_given))
+IsNotClaimed old new path end.NoMemory = (new ≡ old) ⊎ ((is_wanted is_held : Bool) × (accepts : Test) × (new ≡ claimed_by old path is_wanted is_held accepts))
 IsNotClaimed old new path _ = ⊥
 
 -- The image is locked and then read, and the command continues with its bytes and with whether the lock is held, on the files as they are then;
@@ -113,7 +113,7 @@ Claiming path wanted Does x e =
 -- A claimed file is replaced by these bytes under its lock, unless it has them already: then it is not touched, and keeps its time.
 abbrev pub KeepsFile : List ℕ → List ℕ → List ℕ → Folder → Folder → Result Unit End → Type 0
 KeepsFile path bytes made old new (Ok _) = ((made ≡ bytes) × (new ≡ old))
-    ⊎ ((made ≢ bytes) × Replaced (GrowsBy old new (path, made)) old new × (new.failures ≡ old.failures) × (new.part ≡ None))
+    ⊎ ((made ≢ bytes) × Replaced (GrowsBy old new (path, made)) old new × (new.failures ≡ old.failures) × (new.part ≡ None) × HasPlaced new made false)
 KeepsFile path bytes made old new (Err (end.File at last)) = (at.now ≡ path) × (last.now ≡ []) × (made ≢ bytes) × ReplacedOrNot (GrowsBy old new (path, made)) old new
 KeepsFile path bytes made old new (Err _) = ⊥
 
@@ -240,7 +240,7 @@ kind_of false = EightInch
 
 -- A blank image takes its place as a file that was written beside it and synced; with keep only if there is no file.
 abbrev pub BlankIsMade : List ℕ → Bool → List ℕ → Effect → End → Type 0
-BlankIsMade image keep made x end.Done = (x.after ≡ x.before) × Replaced (GrowsBy x.old x.new (image, made)) x.old x.new × (x.new.failures ≡ x.old.failures) × (x.new.part ≡ None)
+BlankIsMade image keep made x end.Done = (x.after ≡ x.before) × Replaced (GrowsBy x.old x.new (image, made)) x.old x.new × (x.new.failures ≡ x.old.failures) × (x.new.part ≡ None) × HasPlaced x.new made keep
     × (keep ≡ true → IsAbsent x.old.files image)
 BlankIsMade image keep made x (end.Refused said) = (string_bytes said ≡ codes "Exists") × NothingDone x × IsToBeKept x.old image keep
 BlankIsMade image keep made x (end.File at last) = (x.after ≡ x.before) × (at.now ≡ image) × (last.now ≡ []) × ReplacedOrNot (GrowsBy x.old x.new (image, made)) x.old x.new
@@ -257,7 +257,7 @@ IsNotLocked old new path _ = ⊥
 -- then; or it is not, which is the end.
 abbrev pub Locking : List ℕ → Bool → (Bool → Effect → Type 0) → Effect → End → Type 0
 Locking path wanted Does x e =
-    ((is_held : Bool) × IsLockWanted x.old.files wanted is_held × Does is_held (record x { old = locked_by x.old path is_held }))
+    ((is_held : Bool) × IsLockWanted wanted is_held × Does is_held (record x { old = locked_by x.old path wanted is_held }))
     ⊎ (IsNotLocked x.old x.new path e × (x.after ≡ x.before))
 
 -- `blank`: the path is locked; then the image is made.

@@ -1,7 +1,7 @@
 -- Files in memory.
 use Rattle.std.specs.Prelude.{◌≢◌, ℕ, ◌+◌, ◌-◌, ◌^◌, All, Bool, true, ◌||◌, ◌&&◌, nat_eq, nat_lt, List, Option, None, Some, map, min, option_map}
 use Rattle.std.specs.Borrow.{Bor}
-use Rattle.z80dev_finish.specs.Files.{Claim, File, Folder, IsAt, Lock, Part, lock_of}
+use Rattle.z80dev_finish.specs.Files.{Claim, File, Folder, IsAt, Lock, Part, Placement, lock_of}
 use Rattle.z80dev_jobs.specs.declared.failing.Failure.{Failure}
 use Rattle.z80dev_jobs.specs.declared.memory.Lock as memory
 use Rattle.z80dev_jobs.specs.declared.memory.MemoryFiles.{MemoryFiles}
@@ -18,14 +18,17 @@ files_of m = map written_file m.written.items
 
 -- the lock that was taken, and the file that is written beside another
 abbrev pub lock_in : memory.Lock → Lock
-lock_in l = lock_of l.path.items l.is_held
+lock_in l = lock_of l.path.items l.is_held l.is_held
 
--- The files themselves show which bytes were read, so the test accepts all.
+-- The files themselves show which bytes were read and written, so the tests accept all.
 abbrev pub claim_in : List ℕ → Claim
-claim_in path = record { path = path; is_given = λ _. true }
+claim_in path = record { path = path; accepts = λ _. true }
 
 abbrev pub part_in : beside.Part → Part
-part_in p = record { path = p.file.path.items; bytes = Some p.file.bytes.items; synced = p.is_synced }
+part_in p = record { path = p.file.path.items; bytes = Some p.file.bytes.items; accepts = λ _. true; synced = p.is_synced }
+
+abbrev pub placement_in : Bool → Placement
+placement_in keep = record { accepts = λ _. true; keep = keep }
 
 -- A host that tells its files: what is promised of the bytes of files is about these.
 abbrev pub folder_of : MemoryFiles → Folder
@@ -36,6 +39,7 @@ folder_of m = record {
   locked = option_map lock_in m.locked;
   claimed = option_map (λ path. claim_in path.items) m.claimed;
   part = option_map part_in m.part;
+  placed = option_map placement_in m.placed;
 }
 
 -- The newest file of a path has these bytes; or there is none.

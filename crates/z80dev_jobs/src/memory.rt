@@ -41,12 +41,14 @@ pub struct MemoryFiles {
     locked: Option<Lock>,
     claimed: Option<Vec<u8>>,
     part: Option<Part>,
+    /// Whether the last file that took the place of another would have been kept from it by one that was there.
+    placed: Option<bool>,
 }
 
 impl MemoryFiles {
     /// None yet.
     pub fn new(alloc: Global) -> MemoryFiles
-        ensures { folder_of result ≡ record { files = Some []; failures = 0; replacements = 0; locked = None; claimed = None; part = None } }
+        ensures { folder_of result ≡ record { files = Some []; failures = 0; replacements = 0; locked = None; claimed = None; part = None; placed = None } }
     {
         MemoryFiles {
             alloc,
@@ -56,6 +58,7 @@ impl MemoryFiles {
             locked: None,
             claimed: None,
             part: None,
+            placed: None,
         }
     }
 
@@ -199,6 +202,7 @@ impl Files for MemoryFiles {
         match self.written.push(part.file) {
             Ok(()) => {
                 self.replacements = self.replacements.saturating_add(1);
+                self.placed = Some(keep);
                 Ok(Placed::Done)
             }
             Err(_) => Err(self.fail()),

@@ -16,7 +16,7 @@ use z80dev::{DONE, End, Files, Input, Sink, report};
 use z80dev_disk::Refusal;
 use z80dev_run::{Ran, Ready, Stop, Why, conclude, ready};
 
-/// The instructions of a run that names no number.
+/// The turns of a run whose command names no number.
 pub(crate) const STEPS: u64 = 100_000_000;
 
 /// What `run` reads: the image of the disk, nothing if no disk is named, and the lines that warn of it; the program; and standard input.

@@ -1,6 +1,6 @@
 //! The lock of a file that a command changes.
 
-ghost use Rattle.std.specs.Prelude.{◌≡◌, IfOk, IfSome, None, string_bytes};
+ghost use Rattle.std.specs.Prelude.{◌≡◌, IfOk, IfSome, string_bytes};
 ghost use Rattle.std.proofs.Props.{props};
 ghost use Rattle.z80dev_finish.specs.Files.{IsLockWanted};
 
@@ -36,6 +36,8 @@ pub(crate) struct HeldLock {
     pub(crate) names: Option<Names>,
     /// The file on which the lock is, which keeps it. None if there is no file, or no lock.
     pub(crate) file: Option<File>,
+    /// Whether the lock was asked for.
+    pub(crate) is_wanted: bool,
     pub(crate) is_held: bool,
     ghost same_path: { IfSome names (λ n. string_bytes n.path ≡ string_bytes path) } by { Prim.hlevel props },
 }
@@ -142,7 +144,7 @@ fn lock_target(
     is_wanted: bool,
     is_read: bool,
 ) -> Result<(Option<File>, bool), Unread>
-    ensures { IfOk result (λ r. IsLockWanted None is_wanted r.1) }
+    ensures { IfOk result (λ r. IsLockWanted is_wanted r.1) }
 {
     if !is_wanted {
         return Ok((None, false));
@@ -165,7 +167,7 @@ pub(crate) fn take_lock(
     is_wanted: bool,
     is_read: bool,
 ) -> Result<HeldLock, Unread>
-    ensures { IfOk result (λ l. (string_bytes l.path ≡ path.now) × IsLockWanted None is_wanted l.is_held) }
+    ensures { IfOk result (λ l. (string_bytes l.path ≡ path.now) × (l.is_wanted ≡ is_wanted) × IsLockWanted is_wanted l.is_held) }
 {
     let copy = copy_of(alloc, path)?;
     let names = Names {
@@ -177,6 +179,7 @@ pub(crate) fn take_lock(
         path: copy,
         names: Some(names),
         file,
+        is_wanted,
         is_held,
     })
 }

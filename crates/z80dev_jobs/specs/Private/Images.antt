@@ -28,7 +28,7 @@ ClaimsImage old new path wanted (Ok image) = (is_held : Bool) × HasClaimed old 
 ClaimsImage old new path wanted (Err e) = IsNotClaimed old new path e
 
 abbrev pub LocksPath : Folder → Folder → List ℕ → Bool → Result Bool End → Type 0
-LocksPath old new path wanted (Ok is_held) = (new ≡ locked_by old path is_held) × IsLockWanted old.files wanted is_held
+LocksPath old new path wanted (Ok is_held) = (new ≡ locked_by old path wanted is_held) × IsLockWanted wanted is_held
 LocksPath old new path wanted (Err e) = IsNotLocked old new path e
 
 -- how a command ends that changes a claimed image
