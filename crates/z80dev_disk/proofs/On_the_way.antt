@@ -21,7 +21,7 @@ use Rattle.cpm_disk.specs.Files.{HasRecord, IsFile, IsNewFile, OthersAreSame}
 use Rattle.cpm_disk.specs.Image.{Image, directory}
 use Rattle.cpm_disk.specs.Operations.{IsCreated, IsRecordWritten}
 use Rattle.z80dev_disk.specs.Put.{NamedFile, IsStopped, IsStored, MakesRoom, PutsFirstRecords, PutsOne, padded_record, is_replaced, record_to_put, records_to_put}
-use Rattle.z80dev_disk.specs.Put.Puts.{made, more}
+use Rattle.z80dev_disk.specs.Put.PutsFirstRecords.{made, more}
 use Rattle.z80dev_disk.specs.Refusals.{RefusesStore}
 use Rattle.z80dev_disk.proofs.Memory.{itself, never, refused_by}
 use Rattle.z80dev_disk.proofs.Others.{both}
