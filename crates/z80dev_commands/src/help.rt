@@ -95,7 +95,7 @@ With --no-lock, nothing waits, and of two commands that change IMG at the same
 time one may undo what the other did. The error is the same if IMG is missing,
 is write-protected or is a symbolic link to nothing.
 
-If nothing changes, IMG is not written. If IMG is write-protected, it is not
+If its bytes stay the same, IMG is not written. If IMG is write-protected, it is not
 replaced. It keeps its permissions, and its owner if the system allows it. If
 IMG is a symbolic link, the link stays and the file that it points to is
 replaced. Other hard links keep the old contents.
@@ -191,8 +191,9 @@ typed input, and only then starts the program. At a terminal, press Ctrl-D to
 end the input; if the program reads nothing, give it </dev/null.
 
 Prints what the program prints. Writes IMG when the program ends, however it
-ends, unless the program left the disk as it was. If run itself is killed, for
-example by Ctrl-C, IMG stays as it was.
+ends, unless its bytes would stay the same; one that is shorter than 256,256
+bytes is filled up. If run itself is killed, for example by Ctrl-C, IMG stays as
+it was.
 
 IMG is locked from before it is read until the end of the run, and replaced as
 `z80dev put --help` explains, so no other command changes it meanwhile. With
