@@ -7,29 +7,32 @@ use Rattle.streams.specs.Stream.{Stream}
 use Rattle.z80dev_commands.specs.declared.Target.{Target}
 use Rattle.z80dev_disk.specs.Refusals.{refusal_text}
 use Rattle.z80dev_disk.specs.declared.refusal.Refusal.{Refusal}
-use Rattle.std.specs.List.{AllZip}
+use Rattle.std.specs.List.{AllZip, concat}
 use Rattle.std.specs.Prelude.{◌⊎◌, ◌==◌}
 use Rattle.std.proofs.lemmas.Bool.{false≢true}
 use Rattle.std.proofs.lemmas.List.{get_or-map, length-map, map-append, take_more}
 use Rattle.streams.specs.Stream.{counted}
+use Rattle.cpm_image.specs.Image.{blank_image}
 use Rattle.streams.specs.declared.writing.WriteFailed.{WriteFailed}
 use Rattle.z80dev_disk.specs.declared.getting.Gotten.{Gotten}
 use Rattle.z80dev_finish.proofs.Stored.{adds_trans, none_more}
-use Rattle.z80dev_finish.specs.Files.{Adds, File, Folder, Stores}
+use Rattle.z80dev_finish.specs.Files.{Adds, File, Folder, GrowsBy, IsToBeKept, ReplacedOrNot, Replaces, Stores, locked_by}
+use Rattle.z80dev_finish.specs.declared.files.Placed.TheVariants as placed
 use Rattle.z80dev_finish.specs.declared.end.End.{End}
 use Rattle.z80dev_finish.specs.declared.end.End.TheVariants as end
 use Rattle.z80dev_disk.specs.Put.{IsPutImage as IsPutOn}
 use Rattle.z80dev_disk.specs.Words.{file_name_of, own_name, pattern_of}
 use Rattle.z80dev_commands.specs.declared.Manner.{Manner}
-use Rattle.z80dev_jobs.specs.Disks.{BlankEnds, Changes, ChangesImage, Claiming, IsChanged, IsNotLocked, Named, NamedAll, NothingDone, PutEnds, Refuses, Warns, GetsMatching, IsWrittenInto, NamedIfGiven, PutAllEnds, ReadsImage, WritesInto, as_put, bad_name, path_in, warnings, without_name}
+use Rattle.z80dev_jobs.specs.Disks.{BlankEnds, Changes, ChangesImage, Claiming, IsChanged, IsNotLocked, Named, NamedAll, NothingDone, PutEnds, Refuses, Warns, GetsMatching, IsWrittenInto, NamedIfGiven, PutAllEnds, ReadsImage, WritesInto, as_put, bad_name, path_in, warnings, without_name, BlankIsMade, kind_of}
 use Rattle.z80dev_jobs.specs.Reading.{IsNotRead, IsOneNotRead, IsRead}
 use Rattle.z80dev_finish.specs.Answers.{Answer, answer_by}
 use Rattle.z80dev_finish.specs.Finishing.{Finishes}
 use Rattle.z80dev_finish.specs.declared.answer.Answer as made
 use Rattle.z80dev_disk.specs.Get.{IsGetAll}
 use Rattle.z80dev_jobs.specs.Making.{CarriesOut, Effect, IsCarriedOut, LineAt, With, WithAll, effect_of}
-use Rattle.z80dev_jobs.specs.Private.Images.{AreInto, ChangesInto, ClaimsImage, LocksPath, ReadsImageFile, WritesAll, lines_of}
+use Rattle.z80dev_jobs.specs.Private.Images.{AreInto, ChangesInto, ClaimsImage, LocksPath, ReadsImageFile, WritesAll, lines_of, IsFreeOf}
 use Rattle.z80dev_jobs.specs.Private.Names.{AreNamed, AreNames, IsPatternIfGiven, IsRefusal, IsWord, Says}
+use Rattle.z80dev_jobs.specs.Running.{ClaimsDisk}
 use Rattle.z80dev_jobs.specs.Private.Steps.{DoneWith, EndsWith, end_in, line_in}
 use Rattle.z80dev_jobs.specs.declared.disks.image.Image.{Image}
 use Rattle.z80dev_jobs.proofs.Carried.{carried, no_line}
@@ -435,3 +438,54 @@ put_all_unnamed t m paths f o e result unnamed same =
       unnamed_all own_name paths (λ names. AfterClaim t (λ bytes y e. WithAll paths (λ files. (puts : List (List ℕ × List ℕ)) × (map (λ p. p.0) puts ≡ names) × (map (λ p. p.1) puts ≡ map (as_put m.text) files)
           × Changes t.image.now bytes (IsPutOn bytes t.user m.replace puts) y e) y e) x None e) x e unnamed (nothing_done f o),
     )
+
+-- ---- blank images whose path is locked
+
+-- The lines that warn of a lock are not made, for want of memory.
+pub blank_unwarned : (mega keep lock is_held : Bool) (image : List ℕ) (old new : Folder) (o : Stream) (e : End) (result : Result (Option (String Global)) End) → LocksPath old new image lock (Ok is_held) → e ≡ end.NoMemory
+    → IsErrAnd result (λ g. g ≡ e) → EndsWith (BlankEnds mega keep lock image (effect_of old new o o)) result
+blank_unwarned mega keep lock is_held image old new o e result locks out same =
+    let x = effect_of old new o o in
+    let y = effect_of (locked_by old image lock is_held) new o o in
+    let nothing : NothingDone y = (locks.0, refl) in
+    passed_on (BlankEnds mega keep lock image x) e result same (
+      warnings image 0 (lock && not is_held),
+      no_line e (warnings image 0 (lock && not is_held)) (λ done. no_memory (sym out ∙ done)),
+      inl (is_held, locks.1, (refl, subst (BlankIsMade image keep (concat (blank_image (kind_of mega))) y) (sym out) nothing)),
+    )
+
+exists_end : (image : List ℕ) (keep : Bool) (made : List ℕ) (y : Effect) (e : End) → NothingDone y → IsToBeKept y.old image keep → Says (codes "Exists") e → BlankIsMade image keep made y e
+exists_end image keep made y (end.Refused said) nothing kept says = (says, nothing, kept)
+exists_end image keep made y end.NoMemory nothing kept says = nothing
+exists_end image keep made y end.Done nothing kept says = absurd says
+exists_end image keep made y (end.File path last) nothing kept says = absurd says
+exists_end image keep made y (end.Path path) nothing kept says = absurd says
+exists_end image keep made y end.Stream nothing kept says = absurd says
+
+-- There is a file, which is to be kept.
+pub blank_exists : (mega keep lock is_held : Bool) (image made : List ℕ) (old mid new : Folder) (o : Stream) (e : End) → LocksPath old mid image lock (Ok is_held) → Replaces mid new (image, made) keep (Ok placed.Exists) → Says (codes "Exists") e
+    → BlankEnds mega keep lock image (effect_of old new o o) None e
+blank_exists mega keep lock is_held image made old mid new o e locks (same, kept) says =
+    let y = effect_of (locked_by old image lock is_held) new o o in
+    let nothing : NothingDone y = (same ∙ locks.0, refl) in
+    let still : IsToBeKept (locked_by old image lock is_held) image keep = subst (λ f. IsToBeKept f image keep) locks.0 kept in (
+      warnings image 0 (lock && not is_held),
+      no_line e (warnings image 0 (lock && not is_held)) (says_not_done (codes "Exists") e says),
+      inl (is_held, locks.1, (refl, exists_end image keep (concat (blank_image (kind_of mega))) y e nothing still says)),
+    )
+
+-- A call failed while the image was put in place.
+pub blank_failed : (mega keep lock is_held : Bool) (image made : List ℕ) (at last : Bor (List ℕ)) (old mid new : Folder) (o : Stream) → LocksPath old mid image lock (Ok is_held)
+    → made ≡ concat (blank_image (kind_of mega)) → ReplacedOrNot (GrowsBy mid new (image, made)) mid new → at.now ≡ image → last.now ≡ [] → BlankEnds mega keep lock image (effect_of old new o o) None (end.File at last)
+blank_failed mega keep lock is_held image made at last old mid new o locks is failed path no_ending =
+    let locked = locked_by old image lock is_held in
+    let since : ReplacedOrNot (GrowsBy locked new (image, made)) locked new = subst (λ f. ReplacedOrNot (GrowsBy f new (image, made)) f new) locks.0 failed in
+    let so : ReplacedOrNot (GrowsBy locked new (image, concat (blank_image (kind_of mega)))) locked new = subst (λ b. ReplacedOrNot (GrowsBy locked new (image, b)) locked new) is since in
+    (warnings image 0 (lock && not is_held), refl, inl (is_held, locks.1, (refl, (refl, path, no_ending, so))))
+
+-- ---- the disk of a run
+
+-- The image of a run's disk is claimed, so a file may be written beside it.
+pub free_of : (disk : Option (Bor (List ℕ))) (wanted : Bool) (old new : Folder) (bytes : List ℕ) (lines : Option (List ℕ)) → ClaimsDisk disk wanted old new bytes lines → IsFreeOf disk new
+free_of None wanted old new bytes lines claims = tt
+free_of (Some path) wanted old new bytes lines (is_held, (accepts, is, given, may, read), told) = ((wanted, is_held, ap (λ f. f.locked) is), ap (λ f. f.part) is)

@@ -1,6 +1,12 @@
 use Rattle.std.proofs.Common.{inl, inr, map, refl}
 use Rattle.std.specs.List.{concat}
+use Rattle.z80dev_jobs.proofs.Images.{free_of}
 use Rattle.z80dev_jobs.proofs.dispatch.run_job.Goals as goal
+
+pub end_run-status-requires : goal.end_run-status-requires
+end_run-status-requires g c = record {
+  free = free_of c.args.disk c.args.lock (g.F.Files.folder c.args.host.files) (g.F.Files.folder c.inputs_of.new.files) _ _ c.in-Ok.ensures.inputs.0;
+}
 
 pub returns-in-Err-ready_of-clause-ends : goal.returns-in-Err-ready_of-clause-ends
 returns-in-Err-ready_of-clause-ends g c =

@@ -1,6 +1,7 @@
-use Rattle.std.proofs.Common.{◌≡◌, ◌∙◌, ◌∷◌, List, [], ap, length, map, refl, subst, sym}
+use Rattle.std.proofs.Common.{◌≡◌, ◌∙◌, ◌∷◌, List, [], Err, ap, inr, length, map, refl, rules, subst, sym}
 use Rattle.z80dev_disk.specs.Put.{IsPutImage, named_file}
 use Rattle.z80dev_disk.specs.Words.{own_name}
+use Rattle.z80dev_finish.specs.declared.end.End.TheVariants as end
 use Rattle.z80dev_jobs.specs.Disks.{as_put}
 use Rattle.z80dev_jobs.proofs.Images.{as_many, put_all_changed, put_all_unnamed, put_all_unread}
 use Rattle.z80dev_jobs.proofs.disks.changing.put_files.Goals as goal
@@ -17,6 +18,16 @@ pub returns-in_err-texts : goal.returns-in_err-texts
 returns-in_err-texts g c = λ o.
     put_all_unread c.args.target c.args.manner (map (λ path. path.now) c.args.paths.now) c.in_ok-names.names.items c.in_ok-names.ensures.names (g.F.Files.folder c.args.files.now) (g.F.Files.folder c.claim.new.files) (g.F.Files.folder c.read_all.new.files) o
     c.in_ok-image.image c.in_err-texts.field-0.0 c.from_residual-in_err-texts.result c.in_ok-image.ensures c.in_err-texts.ensures c.from_residual-in_err-texts.ensures.1
+
+pub returns-in_err-texts-2 : goal.returns-in_err-texts-2
+returns-in_err-texts-2 g c = λ o.
+    put_all_unread c.args.target c.args.manner (map (λ path. path.now) c.args.paths.now) c.in_ok-names.names.items c.in_ok-names.ensures.names (g.F.Files.folder c.args.files.now) (g.F.Files.folder c.claim.new.files) (g.F.Files.folder c.read_all.new.files) o
+    c.in_ok-image.image end.NoMemory c.from_residual-in_err-texts-2.result c.in_ok-image.ensures (inr (refl, c.in_ok-texts.ensures.0)) (search rules)
+
+pub returns-in_default : goal.returns-in_default
+returns-in_default g c = λ o.
+    put_all_unread c.args.target c.args.manner (map (λ path. path.now) c.args.paths.now) c.in_ok-names.names.items c.in_ok-names.ensures.names (g.F.Files.folder c.args.files.now) (g.F.Files.folder c.claim.new.files) (g.F.Files.folder c.read_all.new.files) o
+    c.in_ok-image.image end.NoMemory (Err end.NoMemory) c.in_ok-image.ensures (inr (refl, c.in_ok-texts.ensures.0)) refl
 
 pub puts_of-requires-clause-lengths : goal.puts_of-requires-clause-lengths
 puts_of-requires-clause-lengths g c =
