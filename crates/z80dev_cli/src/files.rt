@@ -3,7 +3,7 @@
 mod lock;
 mod part;
 
-ghost use Rattle.std.specs.Prelude.{◌≡◌, ◌≤◌, IfOk, None, length, option_map, string_bytes};
+ghost use Rattle.std.specs.Prelude.{◌≡◌, ◌≤◌, IfOk, None, length, option_map, string_bytes, true};
 ghost use Rattle.common.specs.declared.limits.TheConstants.{LONGEST_TEXT};
 ghost use Rattle.streams.specs.Stream.{counted};
 ghost use Rattle.z80dev_finish.specs.Files.{IsLockWanted};
@@ -31,6 +31,7 @@ const ERRORS: &str = "/proc/self/fd/2";
 pub(crate) struct HostFiles<'a> {
     rt: &'a HostRuntime,
     failures: u64,
+    is_written: bool,
     replacements: u64,
     lock: Option<HeldLock>,
     claimed: Option<String>,
@@ -44,6 +45,7 @@ impl<'a> HostFiles<'a> {
         HostFiles {
             rt,
             failures: 0,
+            is_written: false,
             replacements: 0,
             lock: None,
             claimed: None,
@@ -81,7 +83,7 @@ impl<'a> HostFiles<'a> {
 }
 
 impl Files for HostFiles<'_> {
-    ghost folder = { λ h. record { files = None; failures = h.failures; replacements = h.replacements; locked = option_map held_lock h.lock; claimed = option_map held_claim h.claimed; part = option_map written_part h.part; placed = option_map placement_by h.placed } };
+    ghost folder = { λ h. record { files = None; failures = h.failures; is_written = h.is_written; replacements = h.replacements; gives = λ _ _. true; locked = option_map held_lock h.lock; claimed = option_map held_claim h.claimed; part = option_map written_part h.part; placed = option_map placement_by h.placed } };
 
     fn read(&mut self, alloc: Global, path: &str) -> Result<Vec<u8>, Unread> {
         match read_whole(self.rt, alloc, path) {
@@ -95,6 +97,7 @@ impl Files for HostFiles<'_> {
     }
 
     fn write(&mut self, path: &str, bytes: &[u8]) -> Result<(), WriteFailed> {
+        self.is_written = true;
         let answer = write(self.rt, path, bytes);
         if answer.is_err() {
             self.fail();
@@ -249,22 +252,26 @@ fn is_link(rt: &HostRuntime, path: &str) -> bool {
     fs::symlink_metadata(rt, path).is_ok_and(|link| link.is_symlink())
 }
 
-/// Writes the bytes where a link is. If it leads to what a standard stream leads to, as `/dev/stdout` does, the link stays, since every program
-/// of the system needs it. The bytes go to the stream, so what is printed afterwards comes after them. Standard input takes bytes only if it is
-/// a device, such as a terminal.
+/// Writes the bytes where a link is. If it leads to the file or socket of standard output or standard error, as `/dev/stdout` may, the link
+/// stays, since every program of the system needs it. The bytes go to the stream, so what is printed afterwards comes after them. What standard
+/// input leads to takes no bytes, unless it is a device such as a terminal.
 fn write_linked(
     rt: &HostRuntime,
     path: &str,
     bytes: &[u8],
     found: &Metadata,
 ) -> Result<(), WriteFailed> {
-    if is_file_of(rt, OUTPUT, found) {
+    let kind = found.file_type();
+    let is_device = kind.is_char_device() || kind.is_block_device();
+    // A pipe or a device can be opened by its path. A file would be replaced, and a socket cannot be opened.
+    let is_for_stream = found.is_file() || kind.is_socket();
+    if is_for_stream && is_file_of(rt, OUTPUT, found) {
         return print(&mut WatchedSink::new(rt.stdout()), bytes);
     }
-    if is_file_of(rt, ERRORS, found) {
+    if is_for_stream && is_file_of(rt, ERRORS, found) {
         return print(&mut WatchedSink::new(rt.stderr()), bytes);
     }
-    if is_file_of(rt, INPUT, found) && !found.file_type().is_char_device() {
+    if !is_device && is_file_of(rt, INPUT, found) {
         return Err(WriteFailed);
     }
     write_found(rt, path, bytes, found)

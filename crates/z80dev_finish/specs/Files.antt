@@ -14,8 +14,8 @@ use Rattle.z80dev_finish.specs.declared.files.Placed.TheVariants as placed
 abbrev pub File : Type 0
 File = List ℕ × List ℕ
 
--- A test of bytes. The call that reads or writes bytes says that its test accepts them, and no other clause says so of any bytes. So a command
--- that works on other bytes cannot show that the test accepts them, even if the host does not tell what its files contain.
+-- A test of bytes. The calls that read a file or write one beside another say that a test accepts its bytes, and no other clause says so of any
+-- bytes. So a command that works on other bytes cannot show that the test accepts them, even if the host does not tell what its files contain.
 abbrev pub Test : Type 0
 Test = List ℕ → Bool
 
@@ -38,18 +38,21 @@ pub record Claim : Type 0 where
   pub path : List ℕ
   pub accepts : Test
 
--- A file that took the place of another: a test that accepts its bytes, and whether a file that was there would have been kept.
+-- A file that took the place of another: a test that accepts its bytes, and whether the host was asked to keep a file that was there.
 pub record Placement : Type 0 where
   pub accepts : Test
   pub keep : Bool
 
 -- The files, if they are known, in the order in which they were written: of those with one path the last is the one that is there. How often a
--- call failed, and how often a file that was written beside another took its place. The lock that was taken, the file that was read under it,
--- the file that is written beside another, and the last that took the place of another.
+-- call failed, whether a file was written otherwise than beside another, and how often a file that was written beside another took its place.
+-- For each path a test that accepts the bytes that reading it gives, which never changes. The lock that was taken, the file that was read under
+-- it, the file that is written beside another, and the last that took the place of another.
 pub record Folder : Type 0 where
   pub files : Option (List File)
   pub failures : ℕ
+  pub is_written : Bool
   pub replacements : ℕ
+  pub gives : List ℕ → Test
   pub locked : Option Lock
   pub claimed : Option Claim
   pub part : Option Part
@@ -69,7 +72,7 @@ Grows (Some files) (Some others) more = others ≡ files ++ more
 abbrev pub StaysLocked : Folder → Folder → Type 0
 StaysLocked old new = (new.locked ≡ old.locked) × (new.claimed ≡ old.claimed)
 
--- Files are added by writing them, if any. Nothing else changes, apart from the count of failures.
+-- Files are added by writing them, if any. Nothing else changes, apart from the count of failures and the note that a file was written.
 abbrev pub Adds : Folder → Folder → List File → Type 0
 Adds old new more = Grows old.files new.files more × (new.replacements ≡ old.replacements) × StaysLocked old new × (new.part ≡ old.part) × (new.placed ≡ old.placed)
 
@@ -84,7 +87,7 @@ IsUnreadable (Some files) path = All (λ file. file.0 ≢ path) files ⊎ ((byte
 
 -- Reading a file changes none. It gives the bytes of the file; or there is no file to be read, or the call failed; or memory ran out.
 abbrev pub ReadsPath : Folder → Folder → List ℕ → Result (Vec ℕ Global) Unread → Type 0
-ReadsPath old new path (Ok bytes) = (new ≡ old) × (length bytes.items ≤ LONGEST_TEXT) × IfSome old.files (λ files. IsAt files path bytes.items)
+ReadsPath old new path (Ok bytes) = (new ≡ old) × (old.gives path bytes.items ≡ true) × (length bytes.items ≤ LONGEST_TEXT) × IfSome old.files (λ files. IsAt files path bytes.items)
 ReadsPath old new path (Err unread.File) = ((new ≡ old) × IsUnreadable old.files path) ⊎ FailsSo old new
 ReadsPath old new path (Err unread.NoMemory) = new ≡ old
 
@@ -117,8 +120,8 @@ IsLockWanted is_wanted is_held = is_wanted ≡ false → is_held ≡ false
 abbrev pub locked_by : Folder → List ℕ → Bool → Bool → Folder
 locked_by old path is_wanted is_held = record old { locked = Some (lock_of path is_wanted is_held); claimed = None; part = None }
 
--- The lock of a path is asked for, whether or not there is a file. If it is held, no other program that asks for it gets it until this one ends;
--- of a path without a file, the host may say that it is held although there is nothing to lock.
+-- The lock of a path is asked for, whether or not there is a file. If it is held, no other program that asks for it gets it until this one ends or
+-- takes another lock; of a path without a file, the host may say that it is held although there is nothing to lock.
 abbrev pub Locks : Folder → Folder → List ℕ → Bool → Result Bool Unread → Type 0
 Locks old new path is_wanted (Ok is_held) = (new ≡ locked_by old path is_wanted is_held) × IsLockWanted is_wanted is_held
 Locks old new path is_wanted (Err unread.File) = FailsSo old new
@@ -128,10 +131,10 @@ Locks old new path is_wanted (Err unread.NoMemory) = new ≡ old
 abbrev pub claimed_by : Folder → List ℕ → Bool → Bool → Test → Folder
 claimed_by old path is_wanted is_held accepts = record (locked_by old path is_wanted is_held) { claimed = Some (record { path = path; accepts = accepts }) }
 
--- A file is locked and then read: it stays as it was read until this program replaces it, or ends. If it cannot be read, the lock is not taken.
+-- A file is locked and then read: it stays as it was read until this program replaces it, takes another lock, or ends. If it cannot be read, the lock is not taken.
 abbrev pub Claims : Folder → Folder → List ℕ → Bool → Result Claimed Unread → Type 0
 Claims old new path is_wanted (Ok c) = (accepts : Test) × (new ≡ claimed_by old path is_wanted c.is_locked accepts) × (accepts c.bytes.items ≡ true)
-    × IsLockWanted is_wanted c.is_locked × (length c.bytes.items ≤ LONGEST_TEXT) × IfSome old.files (λ files. IsAt files path c.bytes.items)
+    × IsLockWanted is_wanted c.is_locked × (old.gives path c.bytes.items ≡ true) × (length c.bytes.items ≤ LONGEST_TEXT) × IfSome old.files (λ files. IsAt files path c.bytes.items)
 Claims old new path is_wanted (Err unread.File) = ((new ≡ old) × IsUnreadable old.files path) ⊎ FailsSo old new
 Claims old new path is_wanted (Err unread.NoMemory) = new ≡ old
 
@@ -162,18 +165,26 @@ GrowsBy old new file = Grows old.files new.files (file ∷ [])
 abbrev pub GrowsByPart : Folder → Folder → Part → Type 0
 GrowsByPart old new p = IfSome p.bytes (λ bytes. GrowsBy old new (p.path, bytes))
 
--- One file more took the place of another under its lock; the first argument says by which file known files have grown.
+-- One file more took the place of another under its lock, and no file was written otherwise; the first argument says which file that is.
 abbrev pub Replaced : Type 0 → Folder → Folder → Type 0
-Replaced Grown old new = Grown × (new.replacements ≡ counted old.replacements) × StaysLocked old new
+Replaced Placing old new = Placing × (new.replacements ≡ counted old.replacements) × (new.is_written ≡ old.is_written) × StaysLocked old new
 
 -- A call failed: the file did not take its place, or did.
 abbrev pub ReplacedOrNot : Type 0 → Folder → Folder → Type 0
-ReplacedOrNot Grown old new = (new.failures ≡ counted old.failures) × StaysLocked old new
-    × ((Grows old.files new.files [] × (new.replacements ≡ old.replacements) × (new.placed ≡ old.placed)) ⊎ (Grown × (new.replacements ≡ counted old.replacements)))
+ReplacedOrNot Placing old new = (new.failures ≡ counted old.failures) × (new.is_written ≡ old.is_written) × StaysLocked old new
+    × ((Grows old.files new.files [] × (new.replacements ≡ old.replacements) × (new.placed ≡ old.placed)) ⊎ (Placing × (new.replacements ≡ counted old.replacements)))
 
 -- The last file that took the place of another has these bytes, by its test, and a file that was there would have been kept, or not.
 abbrev pub HasPlaced : Folder → List ℕ → Bool → Type 0
 HasPlaced f bytes keep = (accepts : Test) × (f.placed ≡ Some (record { accepts = accepts; keep = keep })) × (accepts bytes ≡ true)
+
+-- This file takes the place of another: known files grow by it, and with keep only if there was no file of its path.
+abbrev pub Places : Folder → Folder → File → Bool → Type 0
+Places old new file keep = GrowsBy old new file × HasPlaced new file.1 keep × (keep ≡ true → IsAbsent old.files file.0)
+
+-- the same of a part
+abbrev pub PlacesPart : Folder → Folder → Part → Bool → Type 0
+PlacesPart old new p keep = GrowsByPart old new p × (new.placed ≡ Some (record { accepts = p.accepts; keep = keep })) × (keep ≡ true → IsAbsent old.files p.path)
 
 -- There is a file, which is to be kept.
 abbrev pub IsToBeKept : Folder → List ℕ → Bool → Type 0
@@ -181,14 +192,12 @@ IsToBeKept f path keep = (keep ≡ true) × IsThere f.files path
 
 -- The part takes its place, and with keep only if there is no file. If the call fails, the file is as before or as it should be.
 abbrev pub PutsInPlace : Folder → Folder → Part → Bool → Result Placed WriteFailed → Type 0
-PutsInPlace old new p keep (Ok placed.Done) = Replaced (GrowsByPart old new p) old new × (new.failures ≡ old.failures) × (new.part ≡ None)
-    × (new.placed ≡ Some (record { accepts = p.accepts; keep = keep })) × (keep ≡ true → IsAbsent old.files p.path)
+PutsInPlace old new p keep (Ok placed.Done) = Replaced (PlacesPart old new p keep) old new × (new.failures ≡ old.failures) × (new.part ≡ None)
 PutsInPlace old new p keep (Ok placed.Exists) = (new ≡ record old { part = None }) × IsToBeKept old p.path keep
-PutsInPlace old new p keep (Err _) = ReplacedOrNot (GrowsByPart old new p) old new × ((new.part ≡ None) ⊎ (new.part ≡ old.part))
+PutsInPlace old new p keep (Err _) = ReplacedOrNot (PlacesPart old new p keep) old new × ((new.part ≡ None) ⊎ (new.part ≡ old.part))
 
 -- The file of a path is replaced by these bytes, and with keep only if there was none.
 abbrev pub Replaces : Folder → Folder → File → Bool → Result Placed WriteFailed → Type 0
-Replaces old new file keep (Ok placed.Done) = Replaced (GrowsBy old new file) old new × (new.failures ≡ old.failures) × (new.part ≡ None) × HasPlaced new file.1 keep
-    × (keep ≡ true → IsAbsent old.files file.0)
+Replaces old new file keep (Ok placed.Done) = Replaced (Places old new file keep) old new × (new.failures ≡ old.failures) × (new.part ≡ None)
 Replaces old new file keep (Ok placed.Exists) = (new ≡ old) × IsToBeKept old file.0 keep
-Replaces old new file keep (Err _) = ReplacedOrNot (GrowsBy old new file) old new
+Replaces old new file keep (Err _) = ReplacedOrNot (Places old new file keep) old new

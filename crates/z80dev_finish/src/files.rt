@@ -43,7 +43,7 @@ pub enum Placed {
 /// ends it; so a contract that works on a claimed file's bytes excludes bytes that were read before. Only [`put_in_place`](Files::put_in_place) counts a replacement, so a contract that tells the count excludes
 /// [`write`](Files::write).
 pub trait Files {
-    /// The files, where they are known, and how often a call failed.
+    /// The files, if they are known, and what the calls have done so far.
     ghost folder: { Self → Folder };
 
     /// Reads a file whole.

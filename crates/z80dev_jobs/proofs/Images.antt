@@ -16,7 +16,7 @@ use Rattle.cpm_image.specs.Image.{blank_image}
 use Rattle.streams.specs.declared.writing.WriteFailed.{WriteFailed}
 use Rattle.z80dev_disk.specs.declared.getting.Gotten.{Gotten}
 use Rattle.z80dev_finish.proofs.Stored.{adds_trans, none_more}
-use Rattle.z80dev_finish.specs.Files.{Adds, File, Folder, GrowsBy, IsToBeKept, ReplacedOrNot, Replaces, Stores, locked_by}
+use Rattle.z80dev_finish.specs.Files.{Adds, File, Folder, IsToBeKept, Places, ReplacedOrNot, Replaces, Stores, locked_by}
 use Rattle.z80dev_finish.specs.declared.files.Placed.TheVariants as placed
 use Rattle.z80dev_finish.specs.declared.end.End.{End}
 use Rattle.z80dev_finish.specs.declared.end.End.TheVariants as end
@@ -476,11 +476,11 @@ blank_exists mega keep lock is_held image made old mid new o e locks (same, kept
 
 -- A call failed while the image was put in place.
 pub blank_failed : (mega keep lock is_held : Bool) (image made : List ℕ) (at last : Bor (List ℕ)) (old mid new : Folder) (o : Stream) → LocksPath old mid image lock (Ok is_held)
-    → made ≡ concat (blank_image (kind_of mega)) → ReplacedOrNot (GrowsBy mid new (image, made)) mid new → at.now ≡ image → last.now ≡ [] → BlankEnds mega keep lock image (effect_of old new o o) None (end.File at last)
+    → made ≡ concat (blank_image (kind_of mega)) → ReplacedOrNot (Places mid new (image, made) keep) mid new → at.now ≡ image → last.now ≡ [] → BlankEnds mega keep lock image (effect_of old new o o) None (end.File at last)
 blank_failed mega keep lock is_held image made at last old mid new o locks is failed path no_ending =
     let locked = locked_by old image lock is_held in
-    let since : ReplacedOrNot (GrowsBy locked new (image, made)) locked new = subst (λ f. ReplacedOrNot (GrowsBy f new (image, made)) f new) locks.0 failed in
-    let so : ReplacedOrNot (GrowsBy locked new (image, concat (blank_image (kind_of mega)))) locked new = subst (λ b. ReplacedOrNot (GrowsBy locked new (image, b)) locked new) is since in
+    let since : ReplacedOrNot (Places locked new (image, made) keep) locked new = subst (λ f. ReplacedOrNot (Places f new (image, made) keep) f new) locks.0 failed in
+    let so : ReplacedOrNot (Places locked new (image, concat (blank_image (kind_of mega))) keep) locked new = subst (λ b. ReplacedOrNot (Places locked new (image, b) keep) locked new) is since in
     (warnings image 0 (lock && not is_held), refl, inl (is_held, locks.1, (refl, (refl, path, no_ending, so))))
 
 -- ---- the disk of a run

@@ -24,7 +24,7 @@ use Rattle.z80dev_disk.specs.declared.getting.Gotten.{Gotten}
 use Rattle.z80dev_disk.specs.declared.refusal.Refusal.{Refusal}
 use Rattle.z80dev_finish.specs.Answers.{MemoryAside}
 use Rattle.z80dev_finish.specs.End.{IsPut}
-use Rattle.z80dev_finish.specs.Files.{Adds, FailsSo, File, Folder, GrowsBy, HasPlaced, IsAbsent, IsLockWanted, IsToBeKept, IsUnreadable, Replaced, ReplacedOrNot, Test, claimed_by, locked_by}
+use Rattle.z80dev_finish.specs.Files.{Adds, FailsSo, File, Folder, IsLockWanted, IsToBeKept, IsUnreadable, Places, Replaced, ReplacedOrNot, Test, claimed_by, locked_by}
 use Rattle.z80dev_finish.specs.declared.end.End.{End}
 use Rattle.z80dev_finish.specs.declared.end.End.TheVariants as end
 use Rattle.z80dev_jobs.specs.Making.{CarriesOut, Effect, LineAt, With, WithAll}
@@ -113,8 +113,8 @@ Claiming path wanted Does x e =
 -- A claimed file is replaced by these bytes under its lock, unless it has them already: then it is not touched, and keeps its time.
 abbrev pub KeepsFile : List ℕ → List ℕ → List ℕ → Folder → Folder → Result Unit End → Type 0
 KeepsFile path bytes made old new (Ok _) = ((made ≡ bytes) × (new ≡ old))
-    ⊎ ((made ≢ bytes) × Replaced (GrowsBy old new (path, made)) old new × (new.failures ≡ old.failures) × (new.part ≡ None) × HasPlaced new made false)
-KeepsFile path bytes made old new (Err (end.File at last)) = (at.now ≡ path) × (last.now ≡ []) × (made ≢ bytes) × ReplacedOrNot (GrowsBy old new (path, made)) old new
+    ⊎ ((made ≢ bytes) × Replaced (Places old new (path, made) false) old new × (new.failures ≡ old.failures) × (new.part ≡ None))
+KeepsFile path bytes made old new (Err (end.File at last)) = (at.now ≡ path) × (last.now ≡ []) × (made ≢ bytes) × ReplacedOrNot (Places old new (path, made) false) old new
 KeepsFile path bytes made old new (Err _) = ⊥
 
 -- How a command ends that only keeps an image.
@@ -240,10 +240,9 @@ kind_of false = EightInch
 
 -- A blank image takes its place as a file that was written beside it and synced; with keep only if there is no file.
 abbrev pub BlankIsMade : List ℕ → Bool → List ℕ → Effect → End → Type 0
-BlankIsMade image keep made x end.Done = (x.after ≡ x.before) × Replaced (GrowsBy x.old x.new (image, made)) x.old x.new × (x.new.failures ≡ x.old.failures) × (x.new.part ≡ None) × HasPlaced x.new made keep
-    × (keep ≡ true → IsAbsent x.old.files image)
+BlankIsMade image keep made x end.Done = (x.after ≡ x.before) × Replaced (Places x.old x.new (image, made) keep) x.old x.new × (x.new.failures ≡ x.old.failures) × (x.new.part ≡ None)
 BlankIsMade image keep made x (end.Refused said) = (string_bytes said ≡ codes "Exists") × NothingDone x × IsToBeKept x.old image keep
-BlankIsMade image keep made x (end.File at last) = (x.after ≡ x.before) × (at.now ≡ image) × (last.now ≡ []) × ReplacedOrNot (GrowsBy x.old x.new (image, made)) x.old x.new
+BlankIsMade image keep made x (end.File at last) = (x.after ≡ x.before) × (at.now ≡ image) × (last.now ≡ []) × ReplacedOrNot (Places x.old x.new (image, made) keep) x.old x.new
 BlankIsMade image keep made x end.NoMemory = NothingDone x
 BlankIsMade image keep made x _ = ⊥
 

@@ -35,7 +35,9 @@ abbrev pub folder_of : MemoryFiles → Folder
 folder_of m = record {
   files = Some (files_of m);
   failures = m.failures;
+  is_written = m.is_written;
   replacements = m.replacements;
+  gives = λ _ _. true;
   locked = option_map lock_in m.locked;
   claimed = option_map (λ path. claim_in path.items) m.claimed;
   part = option_map part_in m.part;

@@ -1,5 +1,5 @@
 -- What a command reads: files by their paths, and standard input.
-use Rattle.std.specs.Prelude.{◌≡◌, ◌⊎◌, ℕ, ◌<◌, ◌≤◌, Bool, false, IfSome, List, [], Option, Some, Result, Ok, Err, Vec, length, map, slice_get, take}
+use Rattle.std.specs.Prelude.{◌≡◌, ◌⊎◌, ℕ, ◌<◌, ◌≤◌, Bool, false, true, IfSome, List, [], Option, Some, Result, Ok, Err, Vec, length, map, slice_get, take}
 use Rattle.std.specs.Global.{Global}
 use Rattle.std.specs.List.{AllZip}
 use Rattle.common.specs.declared.limits.TheConstants.{LONGEST_TEXT}
@@ -8,9 +8,10 @@ use Rattle.z80dev_finish.specs.declared.end.End.{End}
 use Rattle.z80dev_finish.specs.declared.end.End.TheVariants as end
 use Rattle.z80dev_finish.specs.Files.{Folder, FailsSo, IsAt, IsUnreadable}
 
--- The file of this path has these bytes, at most as many as a text may have. Of files that are not known, this says nothing of the bytes.
+-- The file of this path has these bytes, at most as many as a text may have. Of files that are not known, this says only that reading the path
+-- may give them.
 abbrev pub IsRead : Folder → List ℕ → List ℕ → Type 0
-IsRead folder path bytes = (length bytes ≤ LONGEST_TEXT) × IfSome folder.files (λ files. IsAt files path bytes)
+IsRead folder path bytes = (folder.gives path bytes ≡ true) × (length bytes ≤ LONGEST_TEXT) × IfSome folder.files (λ files. IsAt files path bytes)
 
 -- A file is not read: the end names its path; or memory ran out.
 abbrev pub IsNotRead : Folder → Folder → List ℕ → End → Type 0

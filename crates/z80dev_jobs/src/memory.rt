@@ -1,6 +1,6 @@
 //! Files in memory: what tests of the whole command work on. Unlike those of the system, they tell a contract their bytes.
 
-ghost use Rattle.std.specs.Prelude.{◌≡◌, [], None, Some, map};
+ghost use Rattle.std.specs.Prelude.{◌≡◌, [], None, Some, false, map, true};
 ghost use Rattle.streams.specs.Stream.{counted};
 ghost use Rattle.z80dev_jobs.specs.Memory.{Finds, written_file, files_of, folder_of};
 ghost use Rattle.z80dev_jobs.specs.Private.Kept.{Copies, Keeps, KeepsPart, TakesLock};
@@ -37,6 +37,7 @@ pub struct MemoryFiles {
     alloc: Global,
     written: Vec<Written>,
     failures: u64,
+    is_written: bool,
     replacements: u64,
     locked: Option<Lock>,
     claimed: Option<Vec<u8>>,
@@ -48,12 +49,13 @@ pub struct MemoryFiles {
 impl MemoryFiles {
     /// None yet.
     pub fn new(alloc: Global) -> MemoryFiles
-        ensures { folder_of result ≡ record { files = Some []; failures = 0; replacements = 0; locked = None; claimed = None; part = None; placed = None } }
+        ensures { folder_of result ≡ record { files = Some []; failures = 0; is_written = false; replacements = 0; gives = λ _ _. true; locked = None; claimed = None; part = None; placed = None } }
     {
         MemoryFiles {
             alloc,
             written: Vec::new(alloc),
             failures: 0,
+            is_written: false,
             replacements: 0,
             locked: None,
             claimed: None,
@@ -104,6 +106,7 @@ impl MemoryFiles {
     {
         let file = self.copy(path, bytes)?;
         self.written.push(file)?;
+        self.is_written = true;
         Ok(())
     }
 

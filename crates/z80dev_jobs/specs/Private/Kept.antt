@@ -8,7 +8,7 @@ use Rattle.z80dev_jobs.specs.declared.memory.Written.{Written}
 
 -- the file comes after those that there are; or memory is refused, and none comes
 abbrev pub Keeps : MemoryFiles → MemoryFiles → File → Result Unit AllocError → Type 0
-Keeps old new file (Ok _) = folder_of new ≡ record (folder_of old) { files = Some (files_of old ++ file ∷ []) }
+Keeps old new file (Ok _) = folder_of new ≡ record (folder_of old) { files = Some (files_of old ++ file ∷ []); is_written = true }
 Keeps old new file (Err _) = folder_of new ≡ folder_of old
 
 -- a copy of a file
