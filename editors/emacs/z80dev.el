@@ -5,7 +5,7 @@
 ;;; Commentary:
 
 ;; (load "/PATH/editors/emacs/z80dev.el") in your init file.  Then files that end with .asm, .mac or .z80 open in `z80dev-mode',
-;; and in a compilation buffer `next-error' goes to the line of `error: PATH(LINE): NAME' and of `grown PATH(LINE)'.
+;; and in a compilation buffer `next-error' goes to the line of `error: PATH(LINE): NAME', and RET to that of `grown PATH(LINE)'.
 
 ;;; Code:
 
