@@ -13,7 +13,8 @@ use Rattle.zmo_module.specs.Modules.{Module}
 use Rattle.asm_module.proofs.Once.{OfLines, equ_fault_same, lines_same, module_same, program_same, state_fault_same}
 use Rattle.asm_module.specs.Assembled.{Assembled, Assembles, HasCause, IsProgram, IsStated, TellsLines, answer, assembled}
 use Rattle.asm_module.specs.declared.fault.AsmFault.{AsmFault}
-use Rattle.asm_module.specs.Source.{first_equ_line_fault, first_pass, layout, module_by, state_fault, statement_lines}
+use Rattle.asm_statements.specs.Outlines.{layout}
+use Rattle.asm_module.specs.Source.{first_equ_line_fault, first_pass, module_by, state_fault, statement_lines}
 
 abbrev Expansion : Type 0
 Expansion = Result (List Numbered) (ℕ × MacroFault)

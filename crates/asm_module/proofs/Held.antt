@@ -1,25 +1,21 @@
 -- What a module has: the number of its labels is within the limit, and its parts make the whole.
-use Rattle.std.proofs.Common.{◌≡◌, ◌≤◌, ◌+◌, ◌∙◌, sym, ap, refl, subst, ℕ, Bool, List, Option, None, length, map, take, arith}
+use Rattle.std.proofs.Common.{◌≡◌, ◌≤◌, ◌∙◌, sym, ap, refl, ℕ, Bool, List, Option, length, map, take, arith}
 use Rattle.std.proofs.lemmas.List.{length-map}
 use Rattle.asm_names.specs.Layout.{Layout}
 use Rattle.asm_names.specs.Meanings.{externals}
 use Rattle.asm_module.specs.Holding.{begins, entry, labels, listed, publics}
-use Rattle.asm_names.specs.Faults.{first_name_fault}
 use Rattle.asm_names.specs.Lines.{Taken}
 use Rattle.asm_names.specs.Names.{Names, names}
 use Rattle.zmo_module.specs.declared.module.Label as label
 use Rattle.zmo_module.specs.declared.module.Module as whole
 use Rattle.zmo_module.specs.Modules.{Label, Module, label_of, module_of, statement_of}
 use Rattle.asm_module.specs.Private.Steps.{held}
+use Rattle.asm_module.proofs.Holding.Keeping.{few_kept}
 
-pub few_labels : ((layout : Layout) (names : Names) → length (labels layout names) + length (externals names) ≤ length names)
-    → ((lines : List Taken) → first_name_fault lines ≡ None → length (names lines) ≤ 40000)
-    → (layout : Layout) (lines : List Taken) (given : Names) (all : List label.Label) → given ≡ names lines → first_name_fault lines ≡ None
-    → map label_of all ≡ labels layout given → length all ≤ 40000
-few_labels few names_few layout lines given all is sound are =
+pub few_labels : (layout : Layout) (given : Names) (all : List label.Label) → length given ≤ 40000 → map label_of all ≡ labels layout given → length all ≤ 40000
+few_labels layout given all most are =
     let count : length all ≡ length (labels layout given) = sym (length-map all label_of) ∙ ap length are in
-    let le = few layout given in
-    let most : length given ≤ 40000 = subst (λ n. length n ≤ 40000) (sym is) (names_few lines sound) in
+    let le = few_kept layout given in
     omega (arith, count, le, most)
 
 -- A module with these parts is the one that its lines make.

@@ -1,6 +1,5 @@
 mod Reading_lines
 mod Holding
-mod Placed
 mod Once
 mod Answered
 mod Passed

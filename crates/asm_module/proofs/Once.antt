@@ -25,7 +25,8 @@ use Rattle.asm_spell.specs.Line.{ExpressionItems, Line}
 use Rattle.asm_statements.specs.Program.Lines.{program_of_lines}
 use Rattle.asm_statements.specs.Module.Stated as stated
 use Rattle.asm_statements.specs.Module.Stated.{numbered_statements}
-use Rattle.asm_module.specs.Source.{fault_on_line, first_equ_line_fault, layout, module_by, no_layout, state_fault, statement_lines, source_table}
+use Rattle.asm_statements.specs.Outlines.{layout, no_layout, source_table}
+use Rattle.asm_module.specs.Source.{fault_on_line, first_equ_line_fault, module_by, state_fault, statement_lines}
 use Rattle.asm_module.specs.Whys.{equ_why, state_why}
 
 -- if two functions agree on each element, the mapped lists are equal

@@ -1,20 +1,11 @@
 -- What is answered for a whole source.
-use Rattle.std.proofs.Common.{◌≡◌, ◌≤◌, ◌∙◌, sym, ap, refl, subst, ℕ, Bool, false, List, [], ◌∷◌, Option, Some, None, Ok, Err, length, map, slice_get}
+use Rattle.std.proofs.Common.{◌≡◌, ◌≤◌, ◌∙◌, sym, ap, refl, subst, ℕ, Bool, false, List, [], ◌∷◌, Option, Some, None, Ok, Err, length}
 use Rattle.std.specs.List.{All}
 use Rattle.std.proofs.lemmas.List.{length-map}
 use Rattle.asm_macro.specs.declared.expansion.TheConstants.{MOST_LINES}
-use Rattle.asm_scan.specs.Scanned.{scanned}
-use Rattle.asm_scan.specs.Tokens.{Lexeme}
-use Rattle.asm_spell.specs.Few.{IsFew}
-use Rattle.asm_spell.specs.Line as line
-use Rattle.asm_spell.specs.Line.{Body, Line}
-use Rattle.asm_parse.specs.Names.{IsDefinable}
-use Rattle.asm_statements.specs.Rules.Fitting.{IsReadLine}
-use Rattle.asm_spell.specs.Names.{line_names}
-use Rattle.zmo_module.specs.Rules.{IsObjectName}
-use Rattle.asm_spell.specs.Spelling.{spelled}
+use Rattle.asm_statements.specs.Outlines as source
+use Rattle.asm_statements.specs.Program.Spelled.{IsLineOfText}
 use Rattle.asm_names.specs.Circles.{TellsCircles}
-use Rattle.asm_statements.specs.Layouts.Laid.{HasFew, IsFewIn}
 use Rattle.asm_macro.specs.declared.fault.MacroFault.{MacroFault}
 use Rattle.asm_macro.specs.Expands.{End, IsExpanded, IsExpansion}
 use Rattle.asm_macro.specs.Texts.{source_lines}
@@ -23,7 +14,7 @@ use Rattle.asm_names.specs.Faults.{first}
 use Rattle.asm_names.specs.Lines.{Taken}
 use Rattle.asm_names.specs.Names.{names}
 use Rattle.asm_module.specs.declared.line_fault.LineFault.{LineFault}
-use Rattle.asm_module.specs.Reads.Read.{IsTakenLine, taken, unread}
+use Rattle.asm_module.specs.Reads.Read.{taken, unread}
 use Rattle.asm_module.specs.Reads.Source.{IsSourceText, last_listed}
 use Rattle.asm_text.specs.Lines.{Numbered}
 use Rattle.zmo_module.specs.Modules.{Module}
@@ -31,9 +22,9 @@ use Rattle.asm_module.specs.Assembled.{Assembles, IsRefused, TellsLines, answer}
 use Rattle.asm_module.specs.declared.fault.AsmFault.{AsmFault}
 use Rattle.asm_module.specs.declared.fault.Why.{Why}
 use Rattle.asm_module.specs.Private.Steps.{FaultBy, HasFault, IsFault, IsWhole}
-use Rattle.asm_module.specs.Source as source
-use Rattle.asm_module.specs.Source.{fault_on_line, first_equ_line_fault, first_pass, source_fault, state_fault}
+use Rattle.asm_module.specs.Source.{fault_on_line, first_equ_line_fault, first_pass, module_by, source_fault, state_fault, statement_lines}
 use Rattle.asm_module.specs.Whys.{line_why, macro_why, name_why}
+use Rattle.asm_module.proofs.Reading_lines.Kept.{all_of_text, numbers_kept}
 
 -- An expansion that stops.
 pub stops : (name text : List ℕ) (grow : Bool) (number : ℕ) (why : MacroFault) → IsSourceText text (Err (number, why))
@@ -56,7 +47,7 @@ refused Why.NoMemory name text grow fault is = tt
 module _ (name text : List ℕ) (grow : Bool) (from : List Numbered) (expanded : IsExpanded text (Ok from)) (lines : List Taken) (are : lines ≡ taken from) where
   by_circle : (circle : ℕ → Bool) → TellsLines circle (Ok from) → (fault : AsmFault) → source_fault grow from circle ≡ Some fault → Assembles name text grow (Err fault)
   by_circle circle tells fault is =
-      (Ok from, expanded, circle, tells, ap (λ f. answer f (record { holds = source.module_by name grow (taken from) circle (source.layout grow (taken from) circle); each = source.statement_lines grow (taken from) circle (source.layout grow (taken from) circle); last = last_listed (length (source_lines text)) (taken from) })) is)
+      (Ok from, expanded, circle, tells, ap (λ f. answer f (record { holds = module_by name grow (taken from) circle (source.layout grow (taken from) circle); each = statement_lines grow (taken from) circle (source.layout grow (taken from) circle); last = last_listed (length (source_lines text)) (taken from) })) is)
 
   -- The first pass finds an error.
   pub passed_fault : (other : Option (ℕ × LineFault)) (fault : AsmFault) → other ≡ unread from
@@ -122,51 +113,19 @@ module _ (name text : List ℕ) (grow : Bool) (from : List Numbered) (expanded :
           expanded,
           now.circle,
           (λ none. now.tells),
-          ap (λ f. answer f (record { holds = source.module_by name grow (taken from) now.circle (source.layout grow (taken from) now.circle); each = source.statement_lines grow (taken from) now.circle (source.layout grow (taken from) now.circle); last = last_listed (length (source_lines text)) (taken from) })) none
-              ∙ ap (λ h. Ok (record { holds = h; each = source.statement_lines grow (taken from) now.circle (source.layout grow (taken from) now.circle); last = last_listed (length (source_lines text)) (taken from) })) (sym now.module_is)
+          ap (λ f. answer f (record { holds = module_by name grow (taken from) now.circle (source.layout grow (taken from) now.circle); each = statement_lines grow (taken from) now.circle (source.layout grow (taken from) now.circle); last = last_listed (length (source_lines text)) (taken from) })) none
+              ∙ ap (λ h. Ok (record { holds = h; each = statement_lines grow (taken from) now.circle (source.layout grow (taken from) now.circle); last = last_listed (length (source_lines text)) (taken from) })) (sym now.module_is)
               ∙ ap (λ e. Ok (record { holds = m; each = e; last = last_listed (length (source_lines text)) (taken from) })) (sym now.each_is)
               ∙ ap (λ l. Ok (record { holds = m; each = each; last = l })) (sym last_there),
         )
 
     -- The number of lines is within the limit.
-    pub few_lines : ((text : List ℕ) (lines : List Numbered) (end : End) → IsExpansion text lines end → length lines ≤ MOST_LINES)
-        → ((lines : List Numbered) → unread lines ≡ None → map (λ l. l.number) (taken lines) ≡ map (λ l. l.number) lines) → length lines ≤ MOST_LINES
-    few_lines few read =
+    pub few_lines : ((text : List ℕ) (lines : List Numbered) (end : End) → IsExpansion text lines end → length lines ≤ MOST_LINES) → length lines ≤ MOST_LINES
+    few_lines few =
         let le : length from ≤ MOST_LINES = few text from expanded.0 expanded.2 in
-        let same : length (taken from) ≡ length from = sym (length-map (taken from) (λ l. l.number)) ∙ ap length (read from all) ∙ length-map from (λ l. l.number) in
+        let same : length (taken from) ≡ length from = sym (length-map (taken from) (λ l. l.number)) ∙ ap length (numbers_kept from all) ∙ length-map from (λ l. l.number) in
         subst (λ n. n ≤ MOST_LINES) (sym (ap length are ∙ same)) le
 
-  -- DB or DW in a line makes 1 to 65,535 bytes.
-  pub few_data : ((lines : List Numbered) (k : ℕ) (l : Taken) → slice_get (taken lines) k ≡ Some l → (there : Numbered) × (slice_get lines k ≡ Some there) × IsTakenLine there l)
-      → ((bytes : List ℕ) (tokens : List Lexeme) (label : Option (List ℕ)) (body : Body) → scanned bytes ≡ Ok tokens → spelled tokens ≡ Ok (line.Statement label (Some body)) → IsFew body)
-      → (k : ℕ) (l : Taken) → slice_get lines k ≡ Some l → HasFew l
-  few_data each few k l there =
-      let r = each from k l (ap (λ ls. slice_get ls k) (sym are) ∙ there) in
-      by_line l.line r.0 r.2.tokens r.2.scans r.2.spells
-    where
-      by_line : (one : Line) (there : Numbered) (tokens : List Lexeme) → scanned there.text ≡ Ok tokens → spelled tokens ≡ Ok one → IsFewIn one
-      by_line (line.Equ x e) there tokens scans spells = tt
-      by_line (line.Statement label None) there tokens scans spells = tt
-      by_line (line.Statement label (Some body)) there tokens scans spells = few there.text tokens label body scans spells
-
-  -- Each line was parsed from tokens.
-  pub spelled_line : ((lines : List Numbered) (k : ℕ) (l : Taken) → slice_get (taken lines) k ≡ Some l → (there : Numbered) × (slice_get lines k ≡ Some there) × IsTakenLine there l)
-      → ((bytes : List ℕ) (tokens : List Lexeme) (label : Option (List ℕ)) (body : Body) → scanned bytes ≡ Ok tokens → spelled tokens ≡ Ok (line.Statement label (Some body)) → IsFew body)
-      → (k : ℕ) (l : Taken) → slice_get lines k ≡ Some l → IsReadLine l.line
-  spelled_line each few k l there =
-      let r = each from k l (ap (λ ls. slice_get ls k) (sym are) ∙ there) in
-      by_line l.line r.0 r.2.tokens r.2.scans r.2.spells
-    where
-      by_line : (one : Line) (there : Numbered) (tokens : List Lexeme) → scanned there.text ≡ Ok tokens → spelled tokens ≡ Ok one → IsReadLine one
-      by_line (line.Equ x e) there tokens scans spells = tt
-      by_line (line.Statement label None) there tokens scans spells = tt
-      by_line (line.Statement label (Some body)) there tokens scans spells = (record { tokens = tokens; label = label; is = spells }, few there.text tokens label body scans spells)
-
-  -- The names in a line are names that an object file may hold.
-  pub named_line : ((lines : List Numbered) (k : ℕ) (l : Taken) → slice_get (taken lines) k ≡ Some l → (there : Numbered) × (slice_get lines k ≡ Some there) × IsTakenLine there l)
-      → ((bytes : List ℕ) (tokens : List Lexeme) (one : Line) → scanned bytes ≡ Ok tokens → spelled tokens ≡ Ok one → All IsDefinable (line_names one))
-      → ((bytes : List ℕ) (tokens : List Lexeme) (one : Line) → scanned bytes ≡ Ok tokens → spelled tokens ≡ Ok one → All (λ name. length name ≤ 255) (line_names one))
-      → (k : ℕ) (l : Taken) → slice_get lines k ≡ Some l → All IsObjectName (line_names l.line)
-  named_line each definable short k l there =
-      let r = each from k l (ap (λ ls. slice_get ls k) (sym are) ∙ there) in
-      λ j d lt. (definable r.0.text r.2.tokens l.line r.2.scans r.2.spells j d lt, short r.0.text r.2.tokens l.line r.2.scans r.2.spells j d lt)
+  -- Each line was parsed from text.
+  pub of_text : All (λ l. IsLineOfText l.line) lines
+  of_text = subst (All (λ l. IsLineOfText l.line)) (sym are) (all_of_text from)

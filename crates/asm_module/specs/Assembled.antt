@@ -6,6 +6,7 @@ use Rattle.asm_macro.specs.Expands.{IsExpanded}
 use Rattle.asm_macro.specs.Texts.{source_lines}
 use Rattle.asm_names.specs.Lines.{Taken}
 use Rattle.asm_names.specs.Names.{names}
+use Rattle.asm_statements.specs.Outlines.{layout, source_table}
 use Rattle.asm_statements.specs.Program.Statement as stated
 use Rattle.asm_statements.specs.Program.Lines.{AreAt, program_of_lines}
 use Rattle.asm_module.specs.Reads.Read.{taken}
@@ -16,7 +17,7 @@ use Rattle.zmo_module.specs.Modules.{Module, ModuleStatement, module_of}
 use Rattle.asm_module.specs.declared.assembling.Lines as listing
 use Rattle.asm_module.specs.declared.fault.AsmFault.{AsmFault}
 use Rattle.asm_module.specs.declared.fault.Why.{Why}
-use Rattle.asm_module.specs.Source.{first_pass, layout, module_by, source_fault, statement_lines, source_table}
+use Rattle.asm_module.specs.Source.{first_pass, module_by, source_fault, statement_lines}
 use Rattle.asm_module.specs.Whys.{macro_why}
 
 -- a module, the line of each of its statements, and the last line that the listing shows

@@ -2,3 +2,4 @@
 pub use Rattle.asm_statements.specs.Program.Lines.{AreAt, IsLinkedAs}
 pub use Rattle.asm_statements.specs.Layouts.Sizes.{size_in_module, sizes}
 pub use Rattle.asm_statements.specs.Module.Stated.{numbered_statements}
+pub use Rattle.asm_statements.specs.Outlines.{layout, source_table}

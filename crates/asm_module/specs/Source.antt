@@ -2,11 +2,9 @@
 use Rattle.std.specs.Prelude.{ℕ, Bool, List, [], ◌∷◌, Option, map, take}
 use Rattle.std.specs.Option.{option_map}
 use Rattle.zmo_module.specs.declared.module.TheConstants.{LONGEST_NAME}
-use Rattle.asm_expr.specs.Names.{Table}
 use Rattle.asm_names.specs.Layout.{Layout}
 use Rattle.asm_names.specs.Meanings as equ
-use Rattle.asm_names.specs.Meanings.{name_meanings, externals, table_at}
-use Rattle.asm_statements.specs.Layouts.Laid.{laid}
+use Rattle.asm_names.specs.Meanings.{externals}
 use Rattle.asm_names.specs.Faults as defined
 use Rattle.asm_names.specs.Faults.{first}
 use Rattle.asm_names.specs.Lines.{Taken}
@@ -14,24 +12,13 @@ use Rattle.asm_names.specs.Names.{names}
 use Rattle.asm_module.specs.Reads.Read.{taken, unread}
 use Rattle.asm_statements.specs.Module.Stated as stated
 use Rattle.asm_statements.specs.Module.Stated.{numbered_statements}
+use Rattle.asm_statements.specs.Outlines.{layout, source_table}
 use Rattle.asm_text.specs.Lines.{Numbered}
 use Rattle.zmo_module.specs.Modules.{Module}
 use Rattle.asm_module.specs.declared.fault.AsmFault.{AsmFault}
 use Rattle.asm_module.specs.declared.fault.Why.{Why}
 use Rattle.asm_module.specs.Holding.{begins, entry, labels, listed, publics}
 use Rattle.asm_module.specs.Whys.{equ_why, line_why, name_why, state_why}
-
--- the layout before any statement is laid out
-abbrev pub no_layout : Layout
-no_layout = record { next = []; statements = [] }
-
--- What names stand for, given which lines lead back to themselves.
-abbrev pub source_table : List Taken → (ℕ → Bool) → Layout → Table
-source_table lines circle layout = table_at layout (name_meanings (names lines) lines circle layout) 0
-
--- Which statements the lines have, by size. Sizes depend only on constants, so they are known before addresses are.
-abbrev pub layout : Bool → List Taken → (ℕ → Bool) → Layout
-layout grow lines circle = laid grow (source_table lines circle no_layout) lines
 
 -- an error on a line, as one of the source
 abbrev pub fault_on_line : {A : Type 0} → (A → Why) → Option (ℕ × A) → Option AsmFault

@@ -39,10 +39,6 @@ pub fn assemble_with(
     ensures placed { IfOk result (λ r. States text.now grow (module_of r.0).statements) }
 {
     asm_macro::laws::few_lines();
-    crate::laws::each_spelled();
-    crate::laws::all_read();
-    asm_spell::laws::few();
-    asm_spell::laws::names();
     let source = match read_source(alloc, text) {
         Ok(source) => source,
         Err((line, why)) => return Err(of_macro(line, why)),

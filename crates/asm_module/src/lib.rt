@@ -14,7 +14,6 @@ mod lines;
 mod listed;
 mod naming;
 mod passing_on;
-mod placing;
 mod reading;
 mod source;
 

@@ -1,46 +1,24 @@
 //! Assembles the lines of a source to a module.
 
-ghost use Rattle.std.specs.Prelude.{◌≡◌, ◌<◌, ◌^◌, [], ℕ, All, Bool, List, None, IfOk, length, take};
+ghost use Rattle.std.specs.Prelude.{◌≡◌, ◌≤◌, ◌<◌, ◌^◌, [], All, None, IfOk, length, take};
+ghost use Rattle.common.specs.declared.limits.TheConstants.{MOST_NAMES};
 ghost use Rattle.zmo_module.specs.declared.module.TheConstants.{LONGEST_NAME};
-ghost use Rattle.asm_expr.specs.Names.{found};
 ghost use Rattle.asm_names.specs.Layout.{layout_of};
-ghost use Rattle.asm_statements.specs.Layouts.Laid.{HasFew};
 ghost use Rattle.asm_names.specs.Faults.{first_name_fault};
 ghost use Rattle.asm_names.specs.Lines.{lines_of};
-ghost use Rattle.asm_names.specs.Names.{kind_of_name, names};
-ghost use Rattle.asm_statements.specs.Rules.Fitting.{IsReadLine};
-ghost use Rattle.asm_spell.specs.Names.{line_names};
+ghost use Rattle.asm_names.specs.Names.{names};
+ghost use Rattle.asm_statements.specs.Program.Spelled.{IsLineOfText};
 ghost use Rattle.zmo_module.specs.Modules.{module_of};
-ghost use Rattle.zmo_module.specs.Rules.{IsModule, IsObjectName};
+ghost use Rattle.zmo_module.specs.Rules.{IsModule};
 ghost use Rattle.asm_module.specs.Assembled.{StatesLines};
-ghost use Rattle.asm_module.specs.Private.Steps.{AnswersLines, States, held};
+ghost use Rattle.asm_module.specs.Private.Steps.{AnswersLines, held};
 
 use crate::fault::{AsmFault, of_equ, of_state};
 use crate::passing_on::{begins, entry_of, externals_of, labels_of, publics_of};
-use crate::placing::place;
-use asm_expr::Names;
-use asm_names::{Layout, NameTable, SourceLine, turns_of};
-use asm_statements::{Stated, fit_words, state_lines};
+use asm_names::{Layout, NameTable, SourceLine};
+use asm_statements::{emit, outline_of};
 use std::alloc::{AllocError, Global};
 use zmo_module::{LONGEST_NAME, Module};
-
-/// Answers the statements of lines, or the error of the first line other than an EQU that has one.
-fn state(
-    alloc: Global,
-    lines: Vec<SourceLine>,
-    table: &NameTable,
-    names: Names,
-    layout: &Layout,
-    grow: bool,
-) -> Result<Stated, AsmFault>
-    requires { (name : List ℕ) → found names name ≡ None → kind_of_name table.now name ≡ None }
-    ensures { States grow table.now names (layout_of layout.now) (lines_of lines.items) result }
-{
-    match state_lines(alloc, lines, table, names, layout, grow) {
-        Ok(stated) => Ok(stated),
-        Err((line, why)) => Err(of_state(line, why)),
-    }
-}
 
 /// Answers the first 255 bytes of a name.
 fn short_name(alloc: Global, name: &[u8]) -> Result<Vec<u8>, AllocError>
@@ -61,11 +39,9 @@ fn hold(
     grow: bool,
 ) -> Result<Module, AllocError>
     requires names { table.now ≡ names (lines_of lines.now) }
-    requires sound { first_name_fault (lines_of lines.now) ≡ None }
+    requires few { length table.now ≤ MOST_NAMES }
     ensures { IfOk result (λ m. module_of m ≡ held name.now grow (lines_of lines.now) (layout_of layout.now) []) }
 {
-    asm_names::laws::few();
-    crate::laws::kept();
     let labels = labels_of(alloc, table, layout)?;
     let publics = publics_of(alloc, &labels, lines)?;
     Ok(Module {
@@ -91,39 +67,20 @@ pub(crate) fn assemble_lines(
     requires sound { first_name_fault (lines_of lines.items) ≡ None }
     requires names { table.now ≡ names (lines_of lines.items) }
     requires few { length lines.items < 2 ^ 32 }
-    requires data { All HasFew (lines_of lines.items) }
-    requires spelled { All (λ l. IsReadLine l.line) (lines_of lines.items) }
-    requires named { All (λ l. All IsObjectName (line_names l.line)) (lines_of lines.items) }
+    requires parsed { All (λ l. IsLineOfText l.line) (lines_of lines.items) }
     ensures answer { AnswersLines name.now grow (lines_of lines.items) result }
     ensures kept { IfOk result (λ r. IsModule (module_of r.0)) }
     ensures placed { IfOk result (λ r. StatesLines grow (lines_of lines.items) (module_of r.0).statements) }
 {
-    asm_names::laws::told();
-    asm_names::laws::valued();
-    asm_names::laws::refs();
-    asm_statements::laws::kinds_anywhere();
-    asm_names::laws::few();
-    asm_names::laws::distinct();
-    asm_statements::laws::all_found();
-    asm_statements::laws::stated_by_names();
-    asm_statements::laws::all_sized();
-    asm_statements::laws::stated_as_laid();
-    asm_statements::laws::next_within();
-    asm_statements::laws::statements_keep_rules();
-    asm_statements::laws::few_statements();
-    asm_statements::laws::statements_at_places();
-    crate::laws::named();
-    crate::laws::kept();
-    crate::laws::within();
-    let turns = turns_of(alloc, &lines, table)?;
-    let (settled, layout) = place(alloc, &lines, table, &turns, grow)?;
-    if let Some((line, why)) = settled.fault {
+    let outline = outline_of(alloc, &lines, table, grow)?;
+    if let Some((line, why)) = outline.settled.fault {
         return Err(of_equ(line, why));
     }
-    settled.names.counted();
-    let mut module = hold(alloc, name, &lines, table, &layout, grow)?;
-    let stated = state(alloc, lines, table, settled.names, &layout, grow)?;
-    fit_words(&stated.statements);
+    let mut module = hold(alloc, name, &lines, table, &outline.layout, grow)?;
+    let stated = match emit(alloc, lines, table, outline, grow) {
+        Ok(stated) => stated,
+        Err((line, why)) => return Err(of_state(line, why)),
+    };
     module.statements = stated.statements;
     Ok((module, stated.lines))
 }

@@ -2,3 +2,4 @@ mod Layouts
 mod Module
 pub mod Program
 mod Rules
+mod Whole

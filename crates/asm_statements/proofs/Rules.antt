@@ -1,3 +1,4 @@
 pub mod Pieces
 mod Listed
 pub mod Statements
+pub mod Named

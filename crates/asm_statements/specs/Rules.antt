@@ -1,2 +1,3 @@
-pub mod Piece
 pub mod Fitting
+pub mod Piece
+pub mod Object

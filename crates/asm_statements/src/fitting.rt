@@ -16,7 +16,7 @@ fn fits_word(statement: &Statement)
 }
 
 /// Does nothing. Its contract says the same of each statement.
-pub fn fit_words(statements: &[Statement])
+pub(crate) fn fit_words(statements: &[Statement])
     ensures { All FitsWord (map statement_of statements.now) }
 {
     for statement in statements {

@@ -4,8 +4,10 @@ mod layout;
 mod module;
 mod program;
 mod rules;
+mod source;
 
-pub use layout::{all_sized, kinds_anywhere, laid_by_kinds, next_within, stated_as_laid};
-pub use module::{all_found, stated_by_names};
-pub use program::{pieces_at_places, statements_at_places};
-pub use rules::{few_statements, pieces_keep_rules, statements_keep_rules};
+pub use layout::kinds_anywhere;
+pub use module::all_found;
+pub use program::pieces_at_places;
+pub use rules::pieces_keep_rules;
+pub(crate) use source::{emitted, outlined};

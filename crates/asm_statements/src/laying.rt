@@ -75,7 +75,7 @@ fn put(statements: &mut Vec<Statement>, one: Option<Statement>) -> Result<(), Al
 /// Answers the sizes of the statements of all lines, as far as they are known, and for each line the number of the next statement. The
 /// answer depends on what names stand for, but not on the addresses of labels and externals. If `grow` is true, a written `JR` counts as
 /// relaxable.
-pub fn lay(
+pub(crate) fn lay(
     alloc: Global,
     lines: &[SourceLine],
     names: &Names,

@@ -27,7 +27,8 @@ use Rattle.asm_stmt.specs.Made.{Made, made}
 use Rattle.asm_module.specs.declared.fault.AsmFault.{AsmFault}
 use Rattle.asm_module.specs.declared.fault.Why.{Why}
 use Rattle.asm_module.specs.Assembled.{Assembled, Assembles, HasCause, answer, assembled}
-use Rattle.asm_module.specs.Source.{fault_on_line, first_equ_line_fault, first_pass, layout, source_fault, state_fault, source_table}
+use Rattle.asm_module.specs.Below.{layout, source_table}
+use Rattle.asm_module.specs.Source.{fault_on_line, first_equ_line_fault, first_pass, source_fault, state_fault}
 use Rattle.asm_module.specs.Whys.{equ_why, line_why, macro_why, name_why, state_why}
 use Rattle.source_laws.proofs.Reach.{is_led, is_passed}
 

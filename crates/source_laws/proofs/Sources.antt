@@ -5,7 +5,8 @@ use Rattle.asm_names.specs.Faults.{first}
 use Rattle.asm_module.specs.Reads.Read.{taken}
 use Rattle.asm_module.specs.declared.fault.AsmFault.{AsmFault}
 use Rattle.asm_module.specs.Assembled.{Assembled, Assembles, HasCause, IsStated, answer}
-use Rattle.asm_module.specs.Source.{first_equ_line_fault, first_pass, layout, state_fault}
+use Rattle.asm_module.specs.Below.{layout}
+use Rattle.asm_module.specs.Source.{first_equ_line_fault, first_pass, state_fault}
 use Rattle.asm_statements.specs.Program.Statement.{Statement}
 use Rattle.zlink.specs.declared.source.Source.{Source}
 use Rattle.zlink.specs.Sources.{Assembly, AreAssembled, IsFirstFaulty}

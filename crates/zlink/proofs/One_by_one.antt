@@ -10,8 +10,8 @@ use Rattle.asm_module.specs.declared.assembling.Lines as listing
 use Rattle.asm_module.specs.declared.fault.AsmFault.{AsmFault}
 use Rattle.asm_module.specs.declared.fault.Why.{Why}
 use Rattle.asm_module.specs.Assembled.{Assembled, Assembles, IsRefused, States, answer, assembled, assembled_of}
-use Rattle.asm_module.specs.Source.{layout, source_fault as lines_fault, source_table}
-use Rattle.asm_module.specs.Below.{numbered_statements}
+use Rattle.asm_module.specs.Source.{source_fault as lines_fault}
+use Rattle.asm_module.specs.Below.{layout, numbered_statements, source_table}
 use Rattle.asm_module.specs.Reads.Read.{taken}
 use Rattle.zmo_module.specs.declared.module.Module as whole
 use Rattle.zmo_module.specs.Modules.{module_of}

@@ -1,18 +1,12 @@
 -- The rules that the labels and externals of a list of names keep.
-use Rattle.std.proofs.Common.{◌≡◌, ◌≤◌, ◌+◌, sym, ℕ, true, false, cond, All, List, [], ◌∷◌, ◌++◌, Option, Some, None, length, map, arith}
-use Rattle.std.specs.Prelude.{is_some}
-use Rattle.std.specs.List.{AllByRecursion, IsDistinct, enumerate_from, flat_map}
+use Rattle.std.proofs.Common.{◌≡◌, ◌≤◌, ◌+◌, sym, ℕ, false, All, List, [], ◌∷◌, ◌++◌, length, map, arith}
+use Rattle.std.specs.List.{AllByRecursion, IsDistinct}
 use Rattle.std.specs.Str.{bytes_eq}
 use Rattle.std.proofs.lemmas.Bool.{false_from_ne_true, both_ways}
-use Rattle.std.proofs.lemmas.List.Elements.{All-append, All-cons, All-head, All-nil, All-tail}
+use Rattle.std.proofs.lemmas.List.Elements.{All-cons, All-head, All-nil, All-tail}
 use Rattle.std.proofs.lemmas.Slice.Eq.{bytes_eq-Decides}
-use Rattle.asm_spell.specs.Line as line
-use Rattle.asm_spell.specs.Line.{Body, Line}
-use Rattle.asm_spell.specs.Names.{line_names}
-use Rattle.asm_spell.specs.Spelling.{option_names}
 use Rattle.asm_names.specs.declared.kind.Kind.{Kind}
-use Rattle.asm_names.specs.Lines.{Taken}
-use Rattle.asm_names.specs.Names.{Names, declared, defines, kind_of_name, names, with_name, with_names}
+use Rattle.asm_names.specs.Names.{Names, names}
 use Rattle.asm_names.specs.Layout.{Layout, next_at}
 use Rattle.asm_names.specs.Meanings.{externals}
 use Rattle.zmo_module.specs.Rules.{IsLabel, IsObjectName}
@@ -24,56 +18,6 @@ Key = List ℕ
 -- P holds of the name
 abbrev Of : (Key → Type 0) → Key × Kind → Type 0
 Of P d = P d.0
-
--- What holds of each name in a line holds of each name that the line defines.
-
-module _ (P : Key → Type 0) where
-  externals_named : (list : List Key) → All P list → All (Of P) (map (λ name. (name, Kind.External)) list)
-  externals_named [] all = All-nil (Of P)
-  externals_named (x ∷ xs) all = All-cons (Of P) (x, Kind.External) (map (λ name. (name, Kind.External)) xs) (All-head P x xs all) (externals_named xs (All-tail P x xs all))
-
-  declared_named : (body : Option Body) → All P (option_names body) → All (Of P) (declared body)
-  declared_named None all = All-nil (Of P)
-  declared_named (Some (line.External list)) all = externals_named list all
-  declared_named (Some (line.Code i n)) all = All-nil (Of P)
-  declared_named (Some (line.Jump c t)) all = All-nil (Of P)
-  declared_named (Some (line.Short b t)) all = All-nil (Of P)
-  declared_named (Some (line.Bytes vs)) all = All-nil (Of P)
-  declared_named (Some (line.Words fs)) all = All-nil (Of P)
-  declared_named (Some (line.Space s f)) all = All-nil (Of P)
-  declared_named (Some (line.Public list)) all = All-nil (Of P)
-  declared_named (Some (line.Origin e)) all = All-nil (Of P)
-  declared_named (Some (line.End entry)) all = All-nil (Of P)
-  declared_named (Some line.Z80) all = All-nil (Of P)
-
-  line_named : (at : ℕ) (l : Line) → All P (line_names l) → All (Of P) (defines at l)
-  line_named at (line.Equ name e) all = All-cons (Of P) (name, Kind.Equ at) [] (All-head P name [] all) (All-nil (Of P))
-  line_named at (line.Statement None body) all = declared_named body all
-  line_named at (line.Statement (Some name) body) all =
-      All-cons (Of P) (name, Kind.Label at) (declared body) (All-head P name (option_names body) all) (declared_named body (All-tail P name (option_names body) all))
-
-  abbrev Has : Taken → Type 0
-  Has l = All P (line_names l.line)
-
-  definitions_named : (n : ℕ) (lines : List Taken) → All Has lines → All (Of P) (flat_map (λ l. defines l.0 l.1.line) (enumerate_from n lines))
-  definitions_named n [] all = All-nil (Of P)
-  definitions_named n (l ∷ ls) all =
-      All-append (Of P) (defines n l.line) (flat_map (λ l. defines l.0 l.1.line) (enumerate_from (n + 1) ls))
-      (line_named n l.line (All-head Has l ls all)) (definitions_named (n + 1) ls (All-tail Has l ls all))
-
-  one_named : (old : Names) (d : Key × Kind) → All (Of P) old → P d.0 → All (Of P) (with_name old d)
-  one_named old d all one =
-      elim (is_some (kind_of_name old d.0)) as (λ b. All (Of P) (cond b old (old ++ d ∷ []))) [
-        | true ↦ all
-        | false ↦ All-append (Of P) old (d ∷ []) all (All-cons (Of P) d [] one (All-nil (Of P)))
-      ]
-
-  all_named : (old more : Names) → All (Of P) old → All (Of P) more → All (Of P) (with_names old more)
-  all_named old [] all rest = all
-  all_named old (d ∷ ds) all rest = all_named (with_name old d) ds (one_named old d all (All-head (Of P) d ds rest)) (All-tail (Of P) d ds rest)
-
-pub names_named : (P : Key → Type 0) (lines : List Taken) → All (λ l. All P (line_names l.line)) lines → All (λ d. P d.0) (names lines)
-names_named P lines all = all_named P [] (flat_map (λ l. defines l.0 l.1.line) (enumerate_from 0 lines)) (All-nil (Of P)) (definitions_named P 0 lines all)
 
 -- Labels and externals have names that an object file may hold.
 

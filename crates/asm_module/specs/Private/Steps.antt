@@ -1,31 +1,23 @@
 -- The steps of assembling, as the code takes them.
-use Rattle.std.specs.Prelude.{◌≡◌, ℕ, Bool, List, [], ◌∷◌, Option, Some, None, Result, Ok, Err, Vec, map, take}
+use Rattle.std.specs.Prelude.{◌≡◌, ℕ, Bool, List, [], ◌∷◌, Option, Some, None, Result, Ok, Err, Vec, take}
 use Rattle.std.specs.Global.{Global}
 use Rattle.zmo_module.specs.declared.module.TheConstants.{LONGEST_NAME}
-use Rattle.asm_expr.specs.Names.{Table}
-use Rattle.asm_names.specs.declared.walk.Turn.{Turn}
 use Rattle.asm_names.specs.Circles.{TellsCircles}
-use Rattle.asm_names.specs.declared.layout.Layout as layout
-use Rattle.asm_names.specs.declared.settling.SettledNames.{SettledNames}
-use Rattle.asm_names.specs.Layout.{Layout, layout_of}
+use Rattle.asm_names.specs.Layout.{Layout}
 use Rattle.asm_names.specs.Meanings.{externals}
-use Rattle.asm_names.specs.Settles.{Settles, is_marked_circular}
 use Rattle.asm_names.specs.Faults as defined
 use Rattle.asm_names.specs.Faults.{first}
 use Rattle.asm_names.specs.Lines.{Taken}
 use Rattle.asm_names.specs.Names.{Names, names}
 use Rattle.asm_module.specs.declared.line_fault.LineFault.{LineFault}
-use Rattle.asm_statements.specs.Module.Stated as stated
-use Rattle.asm_statements.specs.Module.Stated.{numbered_statements}
-use Rattle.asm_statements.specs.declared.stating.Stated.{Stated}
 use Rattle.zmo_module.specs.declared.module.Module as whole
-use Rattle.zmo_module.specs.Modules.{Module, ModuleStatement, module_of, statement_of}
+use Rattle.zmo_module.specs.Modules.{Module, ModuleStatement, module_of}
 use Rattle.asm_module.specs.declared.fault.AsmFault.{AsmFault}
 use Rattle.asm_module.specs.declared.fault.Why.{Why}
 use Rattle.asm_module.specs.Holding.{begins, entry, labels, listed, publics}
-use Rattle.asm_module.specs.Source as source
-use Rattle.asm_module.specs.Source.{fault_on_line, first_equ_line_fault, module_by, no_layout, state_fault, statement_lines}
-use Rattle.asm_module.specs.Whys.{line_why, name_why, state_why}
+use Rattle.asm_statements.specs.Outlines as source
+use Rattle.asm_module.specs.Source.{fault_on_line, first_equ_line_fault, module_by, state_fault, statement_lines}
+use Rattle.asm_module.specs.Whys.{line_why, name_why}
 
 -- this is the error that was found, or memory ran out
 abbrev pub FaultBy : Why → Option AsmFault → AsmFault → Type 0
@@ -39,18 +31,6 @@ IsFault found fault = FaultBy fault.why found fault
 abbrev pub Passes : List Taken → Option (ℕ × LineFault) → Result Names AsmFault → Type 0
 Passes lines unread (Ok table) = (defined.first_name_fault lines ≡ None) × (unread ≡ None) × (table ≡ names lines)
 Passes lines unread (Err fault) = IsFault (first (fault_on_line name_why (defined.first_name_fault lines) ∷ fault_on_line line_why unread ∷ [])) fault
-
--- The names are settled, and the statements are laid out.
-abbrev pub IsPlaced : Bool → List Taken → List Turn → SettledNames × layout.Layout → Type 0
-IsPlaced grow lines turns (settled, placed) = (layout_of placed ≡ source.layout grow lines (is_marked_circular turns)) × Settles (names lines) lines (is_marked_circular turns) (layout_of placed) settled
-
--- The statements of lines by this table of names, or their first error as one of the source.
-abbrev pub States : Bool → Names → Table → Layout → List Taken → Result Stated AsmFault → Type 0
-States grow names t layout lines (Ok s) =
-    (stated.first_statement_fault names t layout lines ≡ None)
-    × (map statement_of s.statements.items ≡ map (λ n. n.1) (numbered_statements grow t layout lines))
-    × (s.lines.items ≡ map (λ n. n.0) (numbered_statements grow t layout lines))
-States grow names t layout lines (Err fault) = IsFault (fault_on_line state_why (stated.first_statement_fault names t layout lines)) fault
 
 -- The module of statements, given the names and lines of its source.
 abbrev pub held : List ℕ → Bool → List Taken → Layout → List ModuleStatement → Module

@@ -1,5 +1,5 @@
 -- What the lines of an expansion parse as.
-use Rattle.std.specs.Prelude.{◌≡◌, ℕ, List, [], ◌∷◌, Option, Some, None, Result, Ok, Err}
+use Rattle.std.specs.Prelude.{ℕ, List, [], ◌∷◌, Option, Some, None, Result, Ok, Err}
 use Rattle.asm_scan.specs.declared.fault.ScanFault.{ScanFault}
 use Rattle.asm_scan.specs.Scanned.{scanned}
 use Rattle.asm_scan.specs.Tokens.{Lexeme}
@@ -40,10 +40,3 @@ unread_or number (Err why) rest = Some (number, why)
 abbrev pub unread : List Numbered → Option (ℕ × LineFault)
 unread [] = None
 unread (l ∷ ls) = unread_or l.number (read_line l.text) (unread ls)
-
--- The line parses as this, and the number is that of the line.
-pub record IsTakenLine (from : Numbered) (l : Taken) : Type 0 where
-  pub tokens : List Lexeme
-  pub scans : scanned from.text ≡ Ok tokens
-  pub spells : spelled tokens ≡ Ok l.line
-  pub number_is : l.number ≡ from.number

@@ -1,30 +1,21 @@
 //! Laws about the layout: the statements have the sizes that were laid out before names had addresses. A law is a function that does
 //! nothing and whose clause is a theorem.
 
-ghost use Rattle.std.specs.Prelude.{◌≡◌, ◌≤◌, ℕ, Bool, true, false, List, None, Some, length, map, count_by};
+ghost use Rattle.std.specs.Prelude.{◌≡◌, ℕ, Bool, true, false, List, None, Some, map};
 ghost use Rattle.std.specs.List.{list_any};
 ghost use Rattle.asm_expr.specs.Distances.{is_unsized};
 ghost use Rattle.asm_expr.specs.Names.{Table, found};
 ghost use Rattle.asm_expr.specs.Origins.{is_number_name, is_valued_name};
 ghost use Rattle.asm_expr.specs.Settling.{is_constant_name};
 ghost use Rattle.asm_expr.specs.declared.meaning.Meaning.{Meaning};
-ghost use Rattle.asm_names.specs.Lines.{Taken, has_statement};
+ghost use Rattle.asm_names.specs.Lines.{Taken};
 ghost use Rattle.asm_names.specs.Names.{Names, kind_of_name};
-ghost use Rattle.asm_names.specs.Layout.{Layout, next_at};
+ghost use Rattle.asm_names.specs.Layout.{Layout};
 ghost use Rattle.asm_stmt.specs.Sized.{IsLike};
-ghost use Rattle.asm_statements.specs.Layouts.Laid.{laid, statements};
+ghost use Rattle.asm_statements.specs.Layouts.Laid.{statements};
 ghost use Rattle.asm_statements.specs.Module.Stated.{first_statement_fault, numbered_statements};
 ghost use Rattle.asm_statements.specs.Layouts.Sizes.{sizes};
 ghost use Rattle.asm_names.specs.Meanings.{name_meanings, table_at};
-
-/// The number of statements is at most the number of lines with a word that may make one. Two tables that give each name the same kind give
-/// the same layout.
-pub fn laid_by_kinds()
-    ensures few { (grow : Bool) (t : Table) (lines : List Taken) → length (statements grow t lines) ≤ count_by (λ l. has_statement l.line) lines }
-    ensures like { (grow : Bool) (t u : Table) (lines : List Taken) → IsLike t u → laid grow t lines ≡ laid grow u lines }
-{
-    asm_stmt::laws::sizes();
-}
 
 /// Names have the same kinds, whatever the layout is and wherever the statements are.
 pub fn kinds_anywhere()
@@ -37,7 +28,7 @@ pub fn kinds_anywhere()
 
 /// If no line has an error and each constant is a number, the size of each statement is known, by any table that gives each name the same
 /// kind.
-pub fn all_sized()
+pub(super) fn all_sized()
     ensures { (grow : Bool) (names : Names) (t u : Table) (layout : Layout) (lines : List Taken) → IsLike t u →
         ((name : List ℕ) → found t name ≡ None → kind_of_name names name ≡ None) →
         ((name : List ℕ) (what : Meaning) → found t name ≡ Some what → is_constant_name (Some what) ≡ true → is_number_name (Some what) ≡ true) →
@@ -49,7 +40,7 @@ pub fn all_sized()
 
 /// If no line has an error and each name has a value, the statements that lines make have the sizes that were laid out, by any table that
 /// gives each name the same kind.
-pub fn stated_as_laid()
+pub(super) fn stated_as_laid()
     ensures { (grow : Bool) (names : Names) (t u : Table) (layout : Layout) (lines : List Taken) → IsLike t u →
         ((name : List ℕ) → found t name ≡ None → kind_of_name names name ≡ None) →
         ((name : List ℕ) (what : Meaning) → found t name ≡ Some what → is_valued_name (Some what) ≡ true) →
@@ -60,8 +51,3 @@ pub fn stated_as_laid()
     asm_expr::laws::number_of_numbers();
     asm_stmt::laws::sizes();
 }
-
-/// For each line, the number of the next statement is at most the count of all statements.
-pub fn next_within()
-    ensures { (grow : Bool) (t : Table) (lines : List Taken) (at : ℕ) → next_at (laid grow t lines) at ≤ length (statements grow t lines) }
-{}

@@ -11,7 +11,7 @@ ghost use Rattle.asm_names.specs.Settles.{Settles};
 ghost use Rattle.asm_statements.specs.Module.Stated.{first_statement_fault, numbered_statements};
 
 /// The first error of lines and their statements depend only on what names stand for and on the sizes of the statements.
-pub fn stated_by_names()
+pub(super) fn stated_by_names()
     ensures fault { (t u : Table) → ((name : List ℕ) → found t name ≡ found u name) → t.statements ≡ u.statements →
         (names : Names) (layout : Layout) (lines : List Taken) → first_statement_fault names t layout lines ≡ first_statement_fault names u layout lines }
     ensures statements { (t u : Table) → ((name : List ℕ) → found t name ≡ found u name) → t.statements ≡ u.statements →

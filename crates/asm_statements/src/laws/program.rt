@@ -40,7 +40,7 @@ pub fn pieces_at_places()
 
 /// If no line has an error, each name has a value and the sizes of the statements are known, the statements of the module are those of the
 /// program that the lines describe, at all addresses that grow by the sizes.
-pub fn statements_at_places()
+pub(super) fn statements_at_places()
     ensures { (grow : Bool) (names : Names) (t : Table) (layout : Layout) (lines : List Taken) → ((name : List ℕ) → found t name ≡ None → kind_of_name names name ≡ None) →
         ((name : List ℕ) (what : Meaning) → found t name ≡ Some what → is_valued_name (Some what) ≡ true) → list_any is_unsized t.statements ≡ false →
         All (λ l. IsReadLine l.line) lines → first_statement_fault names t layout lines ≡ None → t.statements ≡ sizes (map (λ n. n.1) (numbered_statements grow t layout lines)) →

@@ -1,11 +1,11 @@
 //! Laws about the rules of object files, which the statements keep. A law is a function that does nothing and whose clause is a theorem.
 
-ghost use Rattle.std.specs.Prelude.{◌≡◌, ◌≤◌, ◌<◌, ℕ, All, Bool, List, Some, Ok, count_by, length, map};
+ghost use Rattle.std.specs.Prelude.{◌≡◌, ◌<◌, ℕ, All, Bool, List, Some, Ok, map};
 ghost use Rattle.asm_expr.specs.Names.{AreCounted, Table, found};
 ghost use Rattle.asm_expr.specs.Origins.{AllBring, Brings};
 ghost use Rattle.asm_expr.specs.declared.meaning.Meaning.{Meaning};
 ghost use Rattle.asm_spell.specs.Line.{Body};
-ghost use Rattle.asm_names.specs.Lines.{Taken, has_statement};
+ghost use Rattle.asm_names.specs.Lines.{Taken};
 ghost use Rattle.asm_names.specs.Layout.{Layout, next_at};
 ghost use Rattle.asm_stmt.specs.Made.{Piece, Some_piece, made};
 ghost use Rattle.zmo_module.specs.Rules.{IsModuleStatement};
@@ -29,7 +29,7 @@ pub fn pieces_keep_rules()
 
 /// The statements of parsed lines keep the rules of an object file, given its number of refs, if `$` and the names bring only refs below
 /// that and the size of space fits a word.
-pub fn statements_keep_rules()
+pub(super) fn statements_keep_rules()
     ensures { (grow : Bool) (t : Table) (layout : Layout) (lines : List Taken) (refs : ℕ) → AreCounted t → ((at : ℕ) → next_at layout at < refs) →
         ((name : List ℕ) (what : Meaning) → found t name ≡ Some what → Brings (λ r. r < refs) what) → All (λ l. IsReadLine l.line) lines →
         All FitsWord (map (λ n. n.1) (numbered_statements grow t layout lines)) → All (IsModuleStatement grow refs) (map (λ n. n.1) (numbered_statements grow t layout lines)) }
@@ -37,8 +37,3 @@ pub fn statements_keep_rules()
     pieces_keep_rules();
     asm_stmt::laws::few();
 }
-
-/// The number of statements is at most the number of lines with a word that may make one.
-pub fn few_statements()
-    ensures { (grow : Bool) (t : Table) (layout : Layout) (lines : List Taken) → length (numbered_statements grow t layout lines) ≤ count_by (λ l. has_statement l.line) lines }
-{}

@@ -1,13 +1,12 @@
 use Rattle.std.proofs.Common.{◌∙◌, sym, ap, subst, length, arith}
 use Rattle.std.proofs.lemmas.List.{length-map}
-use Rattle.std.proofs.lemmas.Option.{slice_get-get_or}
 use Rattle.std.proofs.lemmas.Result.{err_from_is_err_and}
 use Rattle.asm_macro.specs.Texts.{source_lines}
 use Rattle.asm_module.specs.Reads.Source.{last_listed}
 use Rattle.asm_names.specs.Lines.{lines_of, taken_of}
 use Rattle.zmo_module.specs.Modules.{module_of}
 use Rattle.asm_module.specs.Assembled.{IsRefused, StatesLines}
-use Rattle.asm_module.proofs.Whole.{few_data, few_lines, named_line, no_fault, other_fault, passed_fault, spelled_line, stops}
+use Rattle.asm_module.proofs.Whole.{few_lines, no_fault, of_text, other_fault, passed_fault, stops}
 use Rattle.asm_module.proofs.assembling.assemble_with.Goals as goal
 
 pub returns-in-Err-clause-answer : goal.returns-in-Err-clause-answer
@@ -24,14 +23,14 @@ returns-in_err-table-clause-answer c =
 pub assemble_lines-requires-clause-few : goal.assemble_lines-requires-clause-few
 assemble_lines-requires-clause-few c =
     let s = c.in-Ok.ensures in
-    let le = few_lines c.args.name.now c.args.text.now c.args.grow s.0 s.1 (lines_of c.in-Ok.source.lines.items) s.2 c.in_ok-table.ensures.0 (sym s.3 ∙ c.in_ok-table.ensures.1) c.few_lines.ensures c.all_read.ensures in
+    let le = few_lines c.args.name.now c.args.text.now c.args.grow s.0 s.1 (lines_of c.in-Ok.source.lines.items) s.2 c.in_ok-table.ensures.0 (sym s.3 ∙ c.in_ok-table.ensures.1) c.few_lines.ensures in
     let same = length-map c.in-Ok.source.lines.items taken_of in
     omega (arith, le, same)
 
-pub assemble_lines-requires-clause-data : goal.assemble_lines-requires-clause-data
-assemble_lines-requires-clause-data c =
-    let s = c.in-Ok.ensures in λ k d lt.
-    few_data c.args.name.now c.args.text.now c.args.grow s.0 s.1 (lines_of c.in-Ok.source.lines.items) s.2 c.each_spelled.ensures c.few.ensures.data k _ (slice_get-get_or (lines_of c.in-Ok.source.lines.items) k d lt)
+pub assemble_lines-requires-clause-parsed : goal.assemble_lines-requires-clause-parsed
+assemble_lines-requires-clause-parsed c =
+    let s = c.in-Ok.ensures in
+    of_text c.args.name.now c.args.text.now c.args.grow s.0 s.1 (lines_of c.in-Ok.source.lines.items) s.2
 
 pub returns-in_err-module-clause-answer : goal.returns-in_err-module-clause-answer
 returns-in_err-module-clause-answer c =
@@ -44,16 +43,6 @@ returns-clause-answer c =
     let s = c.in-Ok.ensures in
     no_fault c.args.name.now c.args.text.now c.args.grow s.0 s.1 (lines_of c.in-Ok.source.lines.items) s.2 c.in_ok-table.ensures.0 (sym s.3 ∙ c.in_ok-table.ensures.1) c.in-Ok.source.last (module_of c.in_ok-module.module) c.in_ok-module.each.items
     (s.4 ∙ ap (last_listed (length (source_lines c.args.text.now))) (sym s.2)) c.in_ok-module.ensures.answer
-
-pub assemble_lines-requires-clause-spelled : goal.assemble_lines-requires-clause-spelled
-assemble_lines-requires-clause-spelled c =
-    let s = c.in-Ok.ensures in λ k d lt.
-    spelled_line c.args.name.now c.args.text.now c.args.grow s.0 s.1 (lines_of c.in-Ok.source.lines.items) s.2 c.each_spelled.ensures c.few.ensures.data k _ (slice_get-get_or (lines_of c.in-Ok.source.lines.items) k d lt)
-
-pub assemble_lines-requires-clause-named : goal.assemble_lines-requires-clause-named
-assemble_lines-requires-clause-named c =
-    let s = c.in-Ok.ensures in λ k d lt.
-    named_line c.args.name.now c.args.text.now c.args.grow s.0 s.1 (lines_of c.in-Ok.source.lines.items) s.2 c.each_spelled.ensures c.names.ensures.defined c.few.ensures.names k _ (slice_get-get_or (lines_of c.in-Ok.source.lines.items) k d lt)
 
 pub returns-clause-placed : goal.returns-clause-placed
 returns-clause-placed c =

@@ -10,12 +10,12 @@ use Rattle.asm_module.proofs.lines.hold.Goals as goal
 pub publics_of-requires : goal.publics_of-requires
 publics_of-requires c =
     subst (λ ls. length ls ≤ 40000) (sym c.deref.ensures.value)
-    (few_labels c.kept.ensures.few c.few.ensures.names (layout_of c.args.layout.now) (lines_of c.args.lines.now) c.args.table.now c.in_ok-labels.labels.items c.requires.names c.requires.sound c.in_ok-labels.ensures)
+    (few_labels (layout_of c.args.layout.now) c.args.table.now c.in_ok-labels.labels.items c.requires.few c.in_ok-labels.ensures)
 
 pub entry_of-requires : goal.entry_of-requires
 entry_of-requires c =
     subst (λ ls. length ls ≤ 40000) (sym c.deref-2.ensures.value)
-    (few_labels c.kept.ensures.few c.few.ensures.names (layout_of c.args.layout.now) (lines_of c.args.lines.now) c.args.table.now c.in_ok-labels.labels.items c.requires.names c.requires.sound c.in_ok-labels.ensures)
+    (few_labels (layout_of c.args.layout.now) c.args.table.now c.in_ok-labels.labels.items c.requires.few c.in_ok-labels.ensures)
 
 pub returns : goal.returns
 returns c =

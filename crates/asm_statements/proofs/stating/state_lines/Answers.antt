@@ -1,7 +1,7 @@
-use Rattle.std.proofs.Common.{◌≡◌, ◌<◌, ◌≤◌, ◌+◌, ◌∙◌, ap, sym, subst, arith, refl, ℕ, List, ◌∷◌, Ok, drop, get_or, length}
+use Rattle.std.proofs.Common.{◌≡◌, ◌<◌, ◌+◌, ◌∙◌, ap, sym, subst, arith, ℕ, List, ◌∷◌, drop, get_or, length}
 use Rattle.std.proofs.lemmas.List.{drop_more}
 use Rattle.asm_expr.specs.Names.{Table, found}
-use Rattle.asm_names.specs.Layout.{layout_of, next_at}
+use Rattle.asm_names.specs.Layout.{layout_of}
 use Rattle.asm_names.specs.Lines.{taken_of}
 use Rattle.asm_names.specs.declared.kind.SourceLine.{SourceLine}
 use Rattle.asm_statements.specs.Private.Steps.{Takes}

@@ -1,0 +1,2 @@
+pub mod Settled_twice
+pub mod No_fault
