@@ -3,7 +3,9 @@
 use Rattle.std.specs.Prelude.{ℕ, ◌+◌, ◌*◌, ◌/◌, ◌%◌, ◌==◌, Bool, ◌&&◌, ◌||◌, not, List, [], ◌∷◌, ◌++◌, take, drop, replicate, slice_index, slice_index_or, slice_set, nat_lt, nat_le, max, if◌then◌else◌, count_by}
 use Rattle.std.specs.Str.{bytes_eq}
 use Rattle.cpm_directory.specs.declared.attribute.Attribute.TheVariants.{ReadOnly, System}
-use Rattle.cpm_directory.specs.declared.entry.TheConstants.{USERS}
+use Rattle.cpm_directory.specs.declared.entry.TheConstants.{FREE, USERS}
+use Rattle.cpm_directory.specs.declared.layout.TheConstants.{BLOCKS_OFFSET, ENTRY_BYTES, EX_OFFSET, EXTENT_RECORDS, NAME_OFFSET, RC_OFFSET, S1_OFFSET, S2_EXTENTS, S2_OFFSET, S2_VALUES}
+use Rattle.cpm_image.specs.declared.format.TheConstants.{BLANK}
 use Rattle.cpm_image.specs.declared.kind.DiskKind.{DiskKind}
 use Rattle.cpm_image.specs.declared.kind.DiskKind.TheVariants.{EightInch, Megabyte}
 use Rattle.cpm_image.specs.Kind.{block_records}
@@ -18,17 +20,17 @@ bytes_of e = e.user ∷ e.name ++ e.extent ∷ e.s1 ∷ e.s2 ∷ e.records ∷ e
 abbrev pub entry_of : List ℕ → Entry
 entry_of bytes = record {
   user = slice_index bytes 0;
-  name = take 11 (drop 1 bytes);
-  extent = slice_index bytes 12;
-  s1 = slice_index bytes 13;
-  s2 = slice_index bytes 14;
-  records = slice_index bytes 15;
-  blocks = drop 16 bytes;
+  name = take 11 (drop NAME_OFFSET bytes);
+  extent = slice_index bytes EX_OFFSET;
+  s1 = slice_index bytes S1_OFFSET;
+  s2 = slice_index bytes S2_OFFSET;
+  records = slice_index bytes RC_OFFSET;
+  blocks = drop BLOCKS_OFFSET bytes;
 }
 
 -- the entry that is 32 bytes of E5H
 abbrev pub blank : Entry
-blank = entry_of (replicate 32 0xE5)
+blank = entry_of (replicate ENTRY_BYTES BLANK)
 
 -- the entry with a number, or a blank one after the last
 abbrev pub at : List Entry → ℕ → Entry
@@ -39,7 +41,7 @@ abbrev pub is_extent : Entry → Bool
 is_extent e = nat_lt e.user USERS
 
 abbrev pub is_free : Entry → Bool
-is_free e = e.user == 0xE5
+is_free e = e.user == FREE
 
 -- whether an entry belongs to this file of this user
 abbrev pub is_of : ℕ → List ℕ → Entry → Bool
@@ -47,7 +49,7 @@ is_of user name e = (e.user == user) && bytes_eq (letters e.name) name
 
 -- The number of an extent of 128 records: EX, plus 32 times the low six bits of S2. (On an eight inch disk these are 0.)
 abbrev pub extent_number : Entry → ℕ
-extent_number e = 32 * (e.s2 % 64) + e.extent
+extent_number e = S2_EXTENTS * (e.s2 % S2_VALUES) + e.extent
 
 abbrev pub is_extent_of : ℕ → List ℕ → ℕ → Entry → Bool
 is_extent_of user name number e = is_of user name e && (extent_number e == number)
@@ -74,7 +76,7 @@ matches_byte p b = (p == 0x3F) || (p == b)
 
 -- the same, and EX and the low six bits of S2 also match the pattern
 abbrev pub is_exact_match : ℕ → Pattern → Entry → Bool
-is_exact_match user pattern e = is_match user pattern.name e && (matches_byte pattern.extent e.extent && matches_byte pattern.high (e.s2 % 64))
+is_exact_match user pattern e = is_match user pattern.name e && (matches_byte pattern.extent e.extent && matches_byte pattern.high (e.s2 % S2_VALUES))
 
 -- the words in these bytes, low byte first
 unfoldable pub words_of_bytes : List ℕ → List ℕ
@@ -103,7 +105,7 @@ has_record kind e i = nat_lt i e.records && not (block kind e (i / block_records
 
 -- the number of records that the file has up to the end of this extent
 abbrev pub record_end : Entry → ℕ
-record_end e = 128 * extent_number e + e.records
+record_end e = EXTENT_RECORDS * extent_number e + e.records
 
 -- the logical record of the disk for record i of an extent whose block for it is b
 abbrev pub place_in_block : DiskKind → ℕ → ℕ → ℕ
@@ -115,7 +117,7 @@ place_on_disk kind e i = place_in_block kind (block kind e (i / block_records ki
 
 -- the entry of a new extent without records
 abbrev pub new_extent : ℕ → List ℕ → ℕ → Entry
-new_extent user name number = record { user = user; name = name; extent = number % 32; s1 = 0; s2 = number / 32; records = 0; blocks = replicate 16 0 }
+new_extent user name number = record { user = user; name = name; extent = number % S2_EXTENTS; s1 = 0; s2 = number / S2_EXTENTS; records = 0; blocks = replicate 16 0 }
 
 -- the sixteen bytes after the block of one group of records is set
 abbrev pub with_block : DiskKind → List ℕ → ℕ → ℕ → List ℕ
@@ -128,7 +130,7 @@ with_record kind e i b = record e { records = max e.records (i + 1); blocks = wi
 
 -- an erased entry: only the user byte changes
 abbrev pub erased : Entry → Entry
-erased e = record e { user = 0xE5 }
+erased e = record e { user = FREE }
 
 -- a renamed entry: only the letters of the name change
 abbrev pub renamed : List ℕ → Entry → Entry

@@ -1,6 +1,6 @@
 -- The rules of a directory, and the first fault of a directory that breaks one.
 use Rattle.std.specs.Prelude.{◌≡◌, ◌<◌, ◌≤◌, ◌⊎◌, ℕ, ◌%◌, true, List, length, take, Result, Ok, Err, ⊤, All, AllPairs, Any}
-use Rattle.cpm_directory.specs.declared.rules.TheConstants.{LAST_EXTENT, MOST_RECORDS}
+use Rattle.cpm_directory.specs.declared.layout.TheConstants.{EXTENT_RECORDS, LAST_EXTENT, S2_VALUES}
 use Rattle.cpm_directory.specs.Types.{Broken, Entry, DiskFault}
 use Rattle.cpm_image.specs.Kind.{block_count, first_block, last_high}
 use Rattle.cpm_image.specs.declared.kind.DiskKind.{DiskKind}
@@ -10,7 +10,7 @@ use Rattle.cpm_directory.specs.Letters.{letters}
 
 -- the counts of an entry are in range: its records, EX, and the low six bits of S2
 abbrev pub IsGood : DiskKind → Entry → Type 0
-IsGood kind e = (e.records ≤ MOST_RECORDS) × (e.extent ≤ LAST_EXTENT) × (e.s2 % 64 ≤ last_high kind)
+IsGood kind e = (e.records ≤ EXTENT_RECORDS) × (e.extent ≤ LAST_EXTENT) × (e.s2 % S2_VALUES ≤ last_high kind)
 
 -- 0, or the number of a block for files; the blocks before those are the directory
 abbrev pub IsBlock : DiskKind → ℕ → Type 0

@@ -9,8 +9,11 @@ ghost use Rattle.cpm_directory.specs.Searches.{free_block, free_blocks, space_of
 use crate::{Entry, Space};
 use cpm_image::DiskKind;
 
+/// The most blocks that a disk can have.
+pub(crate) const MOST_BLOCKS: usize = 512;
+
 /// A flag for each block that a disk can have. Greater numbers are not marked.
-pub(crate) type Marks = [bool; 512];
+pub(crate) type Marks = [bool; MOST_BLOCKS];
 
 /// Marks a block, and answers whether it is 0 or was not marked before.
 fn mark_block(marks: &mut Marks, block: u16) -> bool
@@ -42,7 +45,7 @@ pub(crate) fn mark(marks: &mut Marks, kind: DiskKind, entry: &Entry) -> bool
 fn taken(kind: DiskKind, entries: &[Entry]) -> Marks
     ensures { AreMarks kind result entries.now }
 {
-    let mut marks = [false; 512];
+    let mut marks = [false; MOST_BLOCKS];
     for entry in entries {
         if entry.is_extent() {
             mark(&mut marks, kind, entry);

@@ -6,8 +6,12 @@ ghost use Rattle.cpm_directory.specs.Entries.{matches_byte, with_block, with_hig
 ghost use Rattle.cpm_directory.specs.Letters.{byte_matches, letters, name_matches, with_letters};
 
 use crate::attribute::byte_of;
+use crate::layout::{
+    BLOCKS_OFFSET, ENTRY_BYTES, EX_OFFSET, EXTENT_RECORDS, NAME_OFFSET, RC_OFFSET, S1_OFFSET,
+    S2_EXTENTS, S2_OFFSET, S2_VALUES,
+};
 use crate::{Attribute, Name, Pattern};
-use cpm_image::DiskKind;
+use cpm_image::{BLANK, DiskKind};
 
 /// A directory entry: 32 bytes. With a user from 0 to 31 it is an extent of a file. With E5H as the user it is free. With any other user
 /// it is foreign: no user below 32 has the file, and the entry takes no block.
@@ -31,14 +35,12 @@ pub struct Entry {
     pub blocks: [u8; 16],
 }
 
-/// The user byte of a free entry.
-const FREE: u8 = 0xE5;
+/// The user byte of a free entry. So every entry of a blank disk is free.
+pub const FREE: u8 = BLANK;
 /// The number of users that can have files.
 pub const USERS: u8 = 32;
 /// `?` in a pattern, which matches any byte.
 const WILD: u8 = 0x3F;
-/// Only the low six bits of S2 count.
-const HIGH: u8 = 64;
 
 /// Whether a byte of a pattern matches a byte of a name, by their low seven bits.
 fn byte_matches(pattern: u8, byte: u8) -> bool
@@ -106,37 +108,37 @@ impl Entry {
     ghost use Rattle.cpm_directory.specs.Entries.{block, blocks_of, bytes_of, extent_number, entry_of, erased, has_record, held_blocks, is_exact_match, is_extent, is_extent_of, is_free, is_match, is_of, is_read_only, is_system, marked, new_extent, place_on_disk, record_end, renamed, with_record};
 
     /// The entry that these 32 bytes are.
-    pub fn from_bytes(bytes: &[u8; 32]) -> Entry
+    pub fn from_bytes(bytes: &[u8; ENTRY_BYTES]) -> Entry
         ensures { result ≡ entry_of bytes.now }
     {
         let mut name = [0; 11];
-        name.copy_from_slice(&bytes[1..12]);
+        name.copy_from_slice(&bytes[NAME_OFFSET..EX_OFFSET]);
         let mut blocks = [0; 16];
-        blocks.copy_from_slice(&bytes[16..]);
+        blocks.copy_from_slice(&bytes[BLOCKS_OFFSET..]);
         Entry {
             user: bytes[0],
             name,
-            extent: bytes[12],
-            s1: bytes[13],
-            s2: bytes[14],
-            records: bytes[15],
+            extent: bytes[EX_OFFSET],
+            s1: bytes[S1_OFFSET],
+            s2: bytes[S2_OFFSET],
+            records: bytes[RC_OFFSET],
             blocks,
         }
     }
 
     /// The 32 bytes of the entry.
-    pub fn to_bytes(&self) -> [u8; 32]
+    pub fn to_bytes(&self) -> [u8; ENTRY_BYTES]
         ensures bytes { result ≡ bytes_of self.now }
         ensures again { entry_of result ≡ self.now }
     {
-        let mut bytes = [0; 32];
+        let mut bytes = [0; ENTRY_BYTES];
         bytes[0] = self.user;
-        bytes[1..12].copy_from_slice(&self.name);
-        bytes[12] = self.extent;
-        bytes[13] = self.s1;
-        bytes[14] = self.s2;
-        bytes[15] = self.records;
-        bytes[16..].copy_from_slice(&self.blocks);
+        bytes[NAME_OFFSET..EX_OFFSET].copy_from_slice(&self.name);
+        bytes[EX_OFFSET] = self.extent;
+        bytes[S1_OFFSET] = self.s1;
+        bytes[S2_OFFSET] = self.s2;
+        bytes[RC_OFFSET] = self.records;
+        bytes[BLOCKS_OFFSET..].copy_from_slice(&self.blocks);
         bytes
     }
 
@@ -172,7 +174,7 @@ impl Entry {
     pub fn extent_number(&self) -> u16
         ensures { result ≡ extent_number self.now }
     {
-        32 * u16::from(self.s2 % HIGH) + u16::from(self.extent)
+        u16::from(S2_EXTENTS) * u16::from(self.s2 % S2_VALUES) + u16::from(self.extent)
     }
 
     /// Whether the entry has the attribute read-only, the high bit of the type's first byte.
@@ -202,7 +204,7 @@ impl Entry {
     {
         self.is_match(user, &pattern.name)
             && is_asked(pattern.extent, self.extent)
-            && is_asked(pattern.high, self.s2 % HIGH)
+            && is_asked(pattern.high, self.s2 % S2_VALUES)
     }
 
     /// The number of records that the file has up to the end of this extent.
@@ -210,7 +212,7 @@ impl Entry {
         ensures { result ≡ record_end self.now }
     {
         let records = self.records;
-        128 * u32::from(self.extent_number()) + u32::from(records)
+        u32::from(EXTENT_RECORDS) * u32::from(self.extent_number()) + u32::from(records)
     }
 
     /// The number of block numbers in the entry.
@@ -253,7 +255,7 @@ impl Entry {
 
     /// Whether the extent has record `i`: it is below the count, and its block is there.
     pub fn has_record(&self, kind: DiskKind, i: u8) -> bool
-        requires { i < 128 }
+        requires { i < EXTENT_RECORDS }
         ensures { result ≡ has_record kind self.now i }
     {
         i < self.records && self.block(kind, i / kind.block_records()) != 0
@@ -261,7 +263,7 @@ impl Entry {
 
     /// The logical record of the disk that has record `i` of the extent, if the entry has the block for it.
     pub fn place_on_disk(&self, kind: DiskKind, i: u8) -> u32
-        requires { i < 128 }
+        requires { i < EXTENT_RECORDS }
         ensures { result ≡ place_on_disk kind self.now i }
     {
         let records = kind.block_records();
@@ -300,7 +302,7 @@ impl Entry {
 
     /// The entry after its record `i` is written to a block.
     pub fn with_record(&self, kind: DiskKind, i: u8, number: u16) -> Entry
-        requires record { i < 128 }
+        requires record { i < EXTENT_RECORDS }
         requires number { number < number_limit kind }
         ensures entry { result ≡ with_record kind self.now i number }
         ensures placed { block kind result (i / block_records kind) ≡ number }
@@ -320,9 +322,9 @@ impl Entry {
         Entry {
             user,
             name,
-            extent: (number % 32) as u8,
+            extent: (number % u16::from(S2_EXTENTS)) as u8,
             s1: 0,
-            s2: (number / 32) as u8,
+            s2: (number / u16::from(S2_EXTENTS)) as u8,
             records: 0,
             blocks: [0; 16],
         }

@@ -2,6 +2,7 @@
 
 ghost use Rattle.std.specs.Prelude.{◌≡◌, ◌↔◌, ◌∷◌, [], All, List, ℕ, Result, length, ⊤};
 ghost use Rattle.cpm_image.specs.declared.kind.DiskKind.{DiskKind};
+ghost use Rattle.cpm_directory.specs.declared.layout.TheConstants.{ENTRY_BYTES};
 ghost use Rattle.cpm_directory.specs.Types.{Broken, DiskFault, Entry};
 ghost use Rattle.cpm_directory.specs.Entries.{bytes_of, entry_of};
 ghost use Rattle.cpm_directory.specs.Letters.{letters};
@@ -11,7 +12,7 @@ use crate::{Entry, Name};
 
 /// The bytes of an entry that was made from 32 bytes are the same 32 bytes. So an entry that nothing changes is kept byte for byte.
 pub fn same_bytes()
-    ensures { (bytes : List ℕ) → length bytes ≡ 32 → bytes_of (entry_of bytes) ≡ bytes }
+    ensures { (bytes : List ℕ) → length bytes ≡ ENTRY_BYTES → bytes_of (entry_of bytes) ≡ bytes }
 {}
 
 /// A name has eleven bytes, each below 80H. (The law holds for a name, not for any bytes, so it takes one.)

@@ -9,6 +9,7 @@ mod entry;
 mod fault;
 mod file;
 pub mod laws;
+mod layout;
 mod listing;
 mod name;
 mod pattern;
@@ -19,12 +20,16 @@ pub use attribute::Attribute;
 pub use blocks::{free_block, space_of};
 pub use broken::Broken;
 pub use count::{Space, Usage};
-pub use entry::{Entry, USERS};
+pub use entry::{Entry, FREE, USERS};
 pub use fault::DiskFault;
+pub use layout::{
+    BLOCKS_OFFSET, ENTRY_BYTES, EX_OFFSET, EXTENT_RECORDS, LAST_EXTENT, NAME_OFFSET, RC_OFFSET,
+    RECORD_ENTRIES, S1_OFFSET, S2_EXTENTS, S2_OFFSET, S2_RECORDS, S2_VALUES,
+};
 pub use listing::{Listed, list};
 pub use name::Name;
 pub use pattern::Pattern;
-pub use rules::{LAST_EXTENT, MOST_RECORDS, faults, judge};
+pub use rules::{faults, judge};
 pub use searches::{
     file_is_read_only, file_is_system, find, free_entry, is_file, position_of, size, usage_of,
 };

@@ -5,25 +5,19 @@ ghost use Rattle.cpm_directory.specs.Entries.{blocks_of, is_extent};
 ghost use Rattle.cpm_directory.specs.Private.Marks.{AddsMarks, AreMarks};
 ghost use Rattle.cpm_directory.specs.Rules.{AreBlocks, AreBroken, HasOwnName, IsBlock, IsEntryJudged, IsGood, IsJudged, IsRuleFault};
 
-use crate::blocks::{Marks, mark};
+use crate::blocks::{MOST_BLOCKS, Marks, mark};
+use crate::layout::{EXTENT_RECORDS, LAST_EXTENT, S2_VALUES};
 use crate::{Broken, DiskFault, Entry, Name};
 use cpm_image::DiskKind;
 use std::alloc::Global;
-
-/// The most records of an extent.
-pub const MOST_RECORDS: u8 = 128;
-/// The greatest EX.
-pub const LAST_EXTENT: u8 = 31;
-/// Only the low six bits of S2 count.
-const COUNTS: u8 = 64;
 
 /// Whether the counts of an entry are in range.
 fn is_good(kind: DiskKind, entry: &Entry) -> bool
     ensures { IsTrue result ↔ IsGood kind entry.now }
 {
-    entry.records <= MOST_RECORDS
+    entry.records <= EXTENT_RECORDS
         && entry.extent <= LAST_EXTENT
-        && entry.s2 % COUNTS <= kind.last_high()
+        && entry.s2 % S2_VALUES <= kind.last_high()
 }
 
 /// Whether a number is 0 or that of a block for files.
@@ -97,7 +91,7 @@ pub fn judge(kind: DiskKind, entries: &[Entry]) -> Result<(), DiskFault>
     ensures judged { IsJudged kind entries.now result }
     ensures refusals { IfErr result IsRuleFault }
 {
-    let mut marks = [false; 512];
+    let mut marks = [false; MOST_BLOCKS];
     for (number, entry) in entries.iter().enumerate() {
         if entry.is_extent() {
             judge_entry(&mut marks, kind, &entries[..number], entry)?;
@@ -117,7 +111,7 @@ pub fn faults(alloc: Global, kind: DiskKind, entries: &[Entry]) -> Result<Vec<Br
     ensures broken { IfOk result (λ broken. AreBroken kind entries.now broken.items) }
     ensures memory { IfErr result (λ fault. fault ≡ DiskFault.NoMemory) }
 {
-    let mut marks = [false; 512];
+    let mut marks = [false; MOST_BLOCKS];
     let mut broken = Vec::new(alloc);
     for (number, entry) in entries.iter().enumerate() {
         if entry.is_extent() {

@@ -3,6 +3,7 @@
 ghost use Rattle.std.specs.Prelude.{◌≡◌, ◌<◌, ◌⊎◌, ℕ, List, [], length, OnErr, OnOk, slice_index_or, slice_set};
 ghost use Rattle.cpm_image.specs.Device.{HasCountedFault};
 
+use crate::format::RECORD_BYTES;
 use thiserror::Error;
 
 /// The device failed.
@@ -30,7 +31,7 @@ pub trait Sectors {
     /// # Errors
     ///
     /// [`DeviceFault`] if the device failed.
-    fn read(&mut self, n: u32, bytes: &mut [u8; 128]) -> Result<(), DeviceFault>
+    fn read(&mut self, n: u32, bytes: &mut [u8; RECORD_BYTES]) -> Result<(), DeviceFault>
         requires { n < length (sectors self.old) }
         ensures read { OnOk result (bytes.new ≡ slice_index_or (sectors self.old) n []) }
         ensures kept { sectors self.new ≡ sectors self.old }
@@ -41,7 +42,7 @@ pub trait Sectors {
     /// # Errors
     ///
     /// [`DeviceFault`] if the device failed.
-    fn write(&mut self, n: u32, bytes: &[u8; 128]) -> Result<(), DeviceFault>
+    fn write(&mut self, n: u32, bytes: &[u8; RECORD_BYTES]) -> Result<(), DeviceFault>
         requires { n < length (sectors self.old) }
         ensures written { OnOk result (sectors self.new ≡ slice_set (sectors self.old) n bytes.now) }
         ensures stopped { OnErr result ((sectors self.new ≡ sectors self.old) ⊎ (sectors self.new ≡ slice_set (sectors self.old) n bytes.now)) }

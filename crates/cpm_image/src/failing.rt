@@ -1,6 +1,7 @@
 //! Devices that fail, for tests of what a failure leaves.
 
 use crate::device::{DeviceFault, Sectors};
+use crate::format::RECORD_BYTES;
 use crate::memory::MemoryImage;
 use std::marker::Model;
 
@@ -108,7 +109,7 @@ impl Sectors for Failing {
         self.image.len()
     }
 
-    fn read(&mut self, n: u32, bytes: &mut [u8; 128]) -> Result<(), DeviceFault>
+    fn read(&mut self, n: u32, bytes: &mut [u8; RECORD_BYTES]) -> Result<(), DeviceFault>
         requires { n < length self.old.image }
         ensures due { is_err result ≡ is_due self.old.left }
         ensures left { self.new.left ≡ after_call self.old.lasts self.old.left }
@@ -125,7 +126,7 @@ impl Sectors for Failing {
         self.image.read(n, bytes)
     }
 
-    fn write(&mut self, n: u32, bytes: &[u8; 128]) -> Result<(), DeviceFault>
+    fn write(&mut self, n: u32, bytes: &[u8; RECORD_BYTES]) -> Result<(), DeviceFault>
         requires { n < length self.old.image }
         ensures due { is_err result ≡ is_due self.old.left }
         ensures left { self.new.left ≡ after_call self.old.lasts self.old.left }

@@ -13,7 +13,7 @@ mod skew;
 pub use device::{DeviceFault, Sectors};
 pub use failing::{FailedWrite, Failing};
 pub use fault::ImageFault;
-pub use format::{RECORD_COUNT, SECTOR_COUNT};
+pub use format::{BLANK, RECORD_BYTES, RECORD_COUNT, SECTOR_COUNT};
 pub use kind::DiskKind;
 pub use memory::MemoryImage;
 pub use skew::{logical, logical_of};

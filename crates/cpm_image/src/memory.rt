@@ -1,16 +1,18 @@
 //! Images in memory.
 
 ghost use Rattle.std.specs.Prelude.{◌≡◌, ◌≤◌, ◌-◌, ◌++◌, IfOk, length, replicate};
+ghost use Rattle.cpm_image.specs.declared.format.TheConstants.{BLANK, RECORD_BYTES};
 ghost use Rattle.cpm_image.specs.Image.{kind_of_bytes};
 
 use crate::device::{DeviceFault, Sectors};
 use crate::fault::ImageFault;
+use crate::format::{BLANK, RECORD_BYTES};
 use crate::kind::DiskKind;
 use std::alloc::{AllocError, Global};
 use std::marker::Model;
 
 /// A sector that was never written.
-const BLANK_SECTOR: [u8; 128] = [0xE5; 128];
+const BLANK_SECTOR: [u8; RECORD_BYTES] = [BLANK; RECORD_BYTES];
 
 /// The number of bytes of a Megabyte disk.
 const MEGABYTE: usize = 1_048_576;
@@ -27,9 +29,13 @@ fn kind_of_bytes(bytes: &[u8]) -> DiskKind
 }
 
 /// These sectors, followed by blank ones up to `count`.
-fn filled_up(alloc: Global, given: &[[u8; 128]], count: usize) -> Result<Vec<[u8; 128]>, AllocError>
+fn filled_up(
+    alloc: Global,
+    given: &[[u8; RECORD_BYTES]],
+    count: usize,
+) -> Result<Vec<[u8; RECORD_BYTES]>, AllocError>
     requires { length given.now ≤ «count» }
-    ensures { IfOk result (λ sectors. sectors.items ≡ given.now ++ replicate («count» - length given.now) (replicate 128 0xE5)) }
+    ensures { IfOk result (λ sectors. sectors.items ≡ given.now ++ replicate («count» - length given.now) (replicate RECORD_BYTES BLANK)) }
 {
     let mut sectors = Vec::with_capacity(alloc, count)?;
     sectors.extend_from_slice(given)?;
@@ -40,7 +46,7 @@ fn filled_up(alloc: Global, given: &[[u8; 128]], count: usize) -> Result<Vec<[u8
 /// The image of a disk: 2,002 sectors of 128 bytes, or 8,192 on a Megabyte disk. In a contract it is the list of them.
 #[derive(Debug, Drop)]
 pub struct MemoryImage {
-    sectors: Vec<[u8; 128]>,
+    sectors: Vec<[u8; RECORD_BYTES]>,
 }
 
 impl Model for MemoryImage {
@@ -69,7 +75,7 @@ impl MemoryImage {
     pub fn from_bytes(alloc: Global, bytes: &[u8]) -> Result<MemoryImage, ImageFault>
         ensures { IsImageOf bytes.now result }
     {
-        let (given, rest) = bytes.as_chunks::<128>();
+        let (given, rest) = bytes.as_chunks::<RECORD_BYTES>();
         if !rest.is_empty() {
             return Err(ImageFault::NotSectors);
         }
@@ -95,7 +101,7 @@ impl MemoryImage {
     }
 
     /// The sectors, in the order of the bytes of the image.
-    pub fn sectors(&self) -> &[[u8; 128]]
+    pub fn sectors(&self) -> &[[u8; RECORD_BYTES]]
         ensures { result.now ≡ self.now }
     {
         &self.sectors
@@ -117,7 +123,7 @@ impl Sectors for MemoryImage {
         self.sectors.len() as u32
     }
 
-    fn read(&mut self, n: u32, bytes: &mut [u8; 128]) -> Result<(), DeviceFault>
+    fn read(&mut self, n: u32, bytes: &mut [u8; RECORD_BYTES]) -> Result<(), DeviceFault>
         requires { n < length self.old }
         ensures never { IsOk result }
         ensures read { bytes.new ≡ slice_index_or self.old n [] }
@@ -127,7 +133,7 @@ impl Sectors for MemoryImage {
         Ok(())
     }
 
-    fn write(&mut self, n: u32, bytes: &[u8; 128]) -> Result<(), DeviceFault>
+    fn write(&mut self, n: u32, bytes: &[u8; RECORD_BYTES]) -> Result<(), DeviceFault>
         requires { n < length self.old }
         ensures never { IsOk result }
         ensures written { self.new ≡ slice_set self.old n bytes.now }
