@@ -1,5 +1,6 @@
 -- The functions that use neither the console nor the disk: 12, 13, 14, 24, 25, 26 and 32. (CP/M 2.2 Interface Guide.)
 use Rattle.std.specs.Prelude.{◌%◌, ◌==◌, ℕ, Result, Ok, Err, if◌then◌else◌}
+use Rattle.cpm_directory.specs.declared.entry.TheConstants.{USERS}
 use Rattle.cpm_fcb.specs.declared.stop.Stop.{Stop}
 use Rattle.cpm_fcb.specs.declared.stop.Stop.TheVariants as stop
 use Rattle.cpm_bdos.specs.declared.function.SettingCall.{SettingCall}
@@ -20,7 +21,7 @@ selected drive dma user = if drive == 0 then Ok (settings 0 dma user) else Err s
 
 -- function 32: FFH answers the user, and any other byte modulo 32 becomes the user
 abbrev pub user_set : ℕ → ℕ → ℕ → Settings
-user_set byte dma user = if byte == 0xFF then settings user dma user else settings 0 dma (byte % 32)
+user_set byte dma user = if byte == 0xFF then settings user dma user else settings 0 dma (byte % USERS)
 
 abbrev pub set_by : SettingCall → ℕ → ℕ → ℕ → Result Settings Stop
 set_by setting.Version argument dma user = Ok (settings 0x0022 dma user)

@@ -5,6 +5,7 @@ ghost use Rattle.cpm_directory.specs.declared.entry.TheConstants.{USERS};
 ghost use Rattle.cpm_bdos.specs.Settings.{set_by, user_set};
 
 use crate::function::SettingCall;
+use cpm_directory::USERS;
 use cpm_fcb::Stop;
 
 /// The DMA address after a reset.
@@ -88,7 +89,7 @@ fn user_set(byte: u8, dma: u16, user: u8) -> Settings
         Settings {
             value: 0,
             dma,
-            user: byte % 32,
+            user: byte % USERS,
         }
     }
 }

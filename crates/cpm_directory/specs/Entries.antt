@@ -52,7 +52,7 @@ abbrev pub extent_number : Entry → ℕ
 extent_number e = S2_EXTENTS * (e.s2 % S2_VALUES) + e.extent
 
 abbrev pub is_extent_of : ℕ → List ℕ → ℕ → Entry → Bool
-is_extent_of user name number e = is_of user name e && (extent_number e == number)
+is_extent_of user name extent e = is_of user name e && (extent_number e == extent)
 
 -- The high bit of the type's first byte means read-only, that of its second byte system.
 abbrev pub is_read_only : Entry → Bool
@@ -117,7 +117,7 @@ place_on_disk kind e i = place_in_block kind (block kind e (i / block_records ki
 
 -- the entry of a new extent without records
 abbrev pub new_extent : ℕ → List ℕ → ℕ → Entry
-new_extent user name number = record { user = user; name = name; extent = number % S2_EXTENTS; s1 = 0; s2 = number / S2_EXTENTS; records = 0; blocks = replicate 16 0 }
+new_extent user name extent = record { user = user; name = name; extent = extent % S2_EXTENTS; s1 = 0; s2 = extent / S2_EXTENTS; records = 0; blocks = replicate 16 0 }
 
 -- the sixteen bytes after the block of one group of records is set
 abbrev pub with_block : DiskKind → List ℕ → ℕ → ℕ → List ℕ

@@ -164,17 +164,17 @@ impl Entry {
     }
 
     /// Whether the entry is the extent with this number of this file.
-    pub fn is_extent_of(&self, user: u8, name: &Name, number: u16) -> bool
-        ensures { result ≡ is_extent_of user name.now number self.now }
+    pub fn is_extent_of(&self, user: u8, name: &Name, extent: u16) -> bool
+        ensures { result ≡ is_extent_of user name.now extent self.now }
     {
-        self.is_of(user, name) && self.extent_number() == number
+        self.is_of(user, name) && self.extent_number() == extent
     }
 
     /// The number of the extent: EX plus 32 times the low six bits of S2.
     pub fn extent_number(&self) -> u16
         ensures { result ≡ extent_number self.now }
     {
-        u16::from(S2_EXTENTS) * u16::from(self.s2 % S2_VALUES) + u16::from(self.extent)
+        S2_EXTENTS as u16 * u16::from(self.s2 % S2_VALUES) + u16::from(self.extent)
     }
 
     /// Whether the entry has the attribute read-only, the high bit of the type's first byte.
@@ -212,7 +212,7 @@ impl Entry {
         ensures { result ≡ record_end self.now }
     {
         let records = self.records;
-        u32::from(EXTENT_RECORDS) * u32::from(self.extent_number()) + u32::from(records)
+        EXTENT_RECORDS as u32 * u32::from(self.extent_number()) + u32::from(records)
     }
 
     /// The number of block numbers in the entry.
@@ -301,30 +301,30 @@ impl Entry {
     }
 
     /// The entry after its record `i` is written to a block.
-    pub fn with_record(&self, kind: DiskKind, i: u8, number: u16) -> Entry
+    pub fn with_record(&self, kind: DiskKind, i: u8, block_number: u16) -> Entry
         requires record { i < EXTENT_RECORDS }
-        requires number { number < number_limit kind }
-        ensures entry { result ≡ with_record kind self.now i number }
-        ensures placed { block kind result (i / block_records kind) ≡ number }
+        requires block { block_number < number_limit kind }
+        ensures entry { result ≡ with_record kind self.now i block_number }
+        ensures placed { block kind result (i / block_records kind) ≡ block_number }
     {
         Entry {
             records: self.records.max(i + 1),
-            blocks: with_block(&self.blocks, kind, i / kind.block_records(), number),
+            blocks: with_block(&self.blocks, kind, i / kind.block_records(), block_number),
             ..*self
         }
     }
 
     /// The entry of a new extent without records.
-    pub fn new_extent(user: u8, name: [u8; 11], number: u16) -> Entry
-        requires { number < 8192 }
-        ensures { result ≡ new_extent user name number }
+    pub fn new_extent(user: u8, name: [u8; 11], extent: u16) -> Entry
+        requires { extent < 8192 }
+        ensures { result ≡ new_extent user name extent }
     {
         Entry {
             user,
             name,
-            extent: (number % u16::from(S2_EXTENTS)) as u8,
+            extent: (extent % S2_EXTENTS as u16) as u8,
             s1: 0,
-            s2: (number / u16::from(S2_EXTENTS)) as u8,
+            s2: (extent / S2_EXTENTS as u16) as u8,
             records: 0,
             blocks: [0; 16],
         }

@@ -21,10 +21,10 @@ fn is_good(kind: DiskKind, entry: &Entry) -> bool
 }
 
 /// Whether a number is 0 or that of a block for files.
-fn is_block(kind: DiskKind, number: u16) -> bool
-    ensures { IsTrue result ↔ IsBlock kind number }
+fn is_block(kind: DiskKind, block: u16) -> bool
+    ensures { IsTrue result ↔ IsBlock kind block }
 {
-    number == 0 || kind.first_block() <= number && number < kind.block_count()
+    block == 0 || kind.first_block() <= block && block < kind.block_count()
 }
 
 /// Whether each block number of an entry is 0 or that of a block for files.
@@ -45,10 +45,10 @@ fn has_own_name(before: &[Entry], entry: &Entry) -> bool
     ensures { MatchBool result (HasOwnName before.now entry.now) (¬ HasOwnName before.now entry.now) }
 {
     let name = Name::new(entry.name);
-    let number = entry.extent_number();
+    let extent = entry.extent_number();
     !before
         .iter()
-        .any(|other| other.is_extent_of(entry.user, &name, number))
+        .any(|other| other.is_extent_of(entry.user, &name, extent))
 }
 
 /// Tests an entry after those before it, and marks its blocks even if it breaks a rule.

@@ -48,15 +48,15 @@ fn numbered(position: Option<usize>) -> Option<u16>
 }
 
 /// The number of the entry of a file's extent.
-pub fn position_of(entries: &[Entry], user: u8, name: &Name, number: u16) -> Option<u16>
+pub fn position_of(entries: &[Entry], user: u8, name: &Name, extent: u16) -> Option<u16>
     requires { length entries.now ≤ 65536 }
-    ensures found { result ≡ position (is_extent_of user name.now number) entries.now }
+    ensures found { result ≡ position (is_extent_of user name.now extent) entries.now }
     ensures within { IfSome result (λ k. k < length entries.now) }
 {
     numbered(
         entries
             .iter()
-            .position(|entry| entry.is_extent_of(user, name, number)),
+            .position(|entry| entry.is_extent_of(user, name, extent)),
     )
 }
 

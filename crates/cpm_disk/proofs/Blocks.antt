@@ -99,14 +99,14 @@ filled_partly kind first old new p i n bytes same small low prepared made old_is
     (stopped_over kind old new p.block i bytes small low (subst (λ m. (new ≡ old) ⊎ Wrote kind old new m bytes) same made) j below)
 
 -- and then the entry is written, or it is not
-pub written_whole : (kind : DiskKind) (first old new : Image) (p : Placement) (i : ℕ) (bytes : List ℕ) (entries put : List Entry) → first_block kind ≤ p.block → p.block < block_count kind → i < block_records kind → directory kind first ≡ entries → HasWritten kind first old p.block i p.is_new bytes → put ≡ slice_set entries p.number p.entry → Changed kind old new put → Written kind first new p i bytes
+pub written_whole : (kind : DiskKind) (first old new : Image) (p : Placement) (i : ℕ) (bytes : List ℕ) (entries put : List Entry) → first_block kind ≤ p.block → p.block < block_count kind → i < block_records kind → directory kind first ≡ entries → HasWritten kind first old p.block i p.is_new bytes → put ≡ slice_set entries p.entry_number p.entry → Changed kind old new put → Written kind first new p i bytes
 written_whole kind first old new p i bytes entries put files small low was wrote_it is_put made = record {
   data_are = then_entry kind first old new p.block i p.is_new bytes put files small low wrote_it made;
-  entries_are = made.entries_are ∙ is_put ∙ ap (λ es. slice_set es p.number p.entry) (sym was);
+  entries_are = made.entries_are ∙ is_put ∙ ap (λ es. slice_set es p.entry_number p.entry) (sym was);
 }
 
-pub written_partly : (kind : DiskKind) (first old new : Image) (p : Placement) (i : ℕ) (bytes : List ℕ) (entries put : List Entry) → first_block kind ≤ p.block → p.block < block_count kind → i < block_records kind → directory kind first ≡ entries → directory kind old ≡ entries → HasWritten kind first old p.block i p.is_new bytes → put ≡ slice_set entries p.number p.entry → (new ≡ old) ⊎ Changed kind old new put → PartlyWritten kind first new p i bytes
+pub written_partly : (kind : DiskKind) (first old new : Image) (p : Placement) (i : ℕ) (bytes : List ℕ) (entries put : List Entry) → first_block kind ≤ p.block → p.block < block_count kind → i < block_records kind → directory kind first ≡ entries → directory kind old ≡ entries → HasWritten kind first old p.block i p.is_new bytes → put ≡ slice_set entries p.entry_number p.entry → (new ≡ old) ⊎ Changed kind old new put → PartlyWritten kind first new p i bytes
 written_partly kind first old new p i bytes entries put files small low was still wrote_it is_put (inl same) =
     inl (subst (λ image. HasWritten kind first image p.block i p.is_new bytes) (sym same) wrote_it, λ k. inl (ap (λ image. at (directory kind image) k) same ∙ ap (λ es. at es k) (still ∙ sym was)))
 written_partly kind first old new p i bytes entries put files small low was still wrote_it is_put (inr made) =
-    inl (then_entry kind first old new p.block i p.is_new bytes put files small low wrote_it made, λ k. inr (ap (λ es. at es k) (made.entries_are ∙ is_put ∙ ap (λ es. slice_set es p.number p.entry) (sym was))))
+    inl (then_entry kind first old new p.block i p.is_new bytes put files small low wrote_it made, λ k. inr (ap (λ es. at es k) (made.entries_are ∙ is_put ∙ ap (λ es. slice_set es p.entry_number p.entry) (sym was))))

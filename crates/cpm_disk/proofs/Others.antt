@@ -121,20 +121,20 @@ pub beside_write : (kind : DiskKind) (old new : Image) (p : Placement) (i : ℕ)
 beside_write kind old new p i bytes user name other others low sound kept apart left = same_file kind old new other others
     (λ k below. elim (write_between kind old new p i bytes left k) as (λ _. Alike (is_of other others) (at (directory kind old) k) (at (directory kind new) k)) [
       | inl same ↦ inl same
-      | inr after ↦ subst (Alike (is_of other others) (at (directory kind old) k)) (sym after) (put_alike (directory kind old) p.number p.entry other others kept.within before (apart_from user name other others p.entry kept.of_file apart) k)
+      | inr after ↦ subst (Alike (is_of other others) (at (directory kind old) k)) (sym after) (put_alike (directory kind old) p.entry_number p.entry other others kept.within before (apart_from user name other others p.entry kept.of_file apart) k)
     ])
     (λ k j below low_j of some.
     let ext = below_extent (at (directory kind old) k) (let user_is = (of_file other others (at (directory kind old) k) of).0 in omega arith) in
     let range : (first_block kind ≤ block kind (at (directory kind old) k) (j / block_records kind)) × (block kind (at (directory kind old) k) (j / block_records kind) < block_count kind) = elim (sound.blocks k ext (j / block_records kind)) [ inl none ↦ absurd (some none) | inr files ↦ files ] in
-    let elsewhere : k ≢ p.number = λ here. true≢false (sym of ∙ subst (λ n. is_of other others (at (directory kind old) n) ≡ false) (sym here) before) in
+    let elsewhere : k ≢ p.entry_number = λ here. true≢false (sym of ∙ subst (λ n. is_of other others (at (directory kind old) n) ≡ false) (sym here) before) in
     let other_block : block kind (at (directory kind old) k) (j / block_records kind) ≢ p.block = λ same. kept.apart k (j / block_records kind) elsewhere ext same in
     let within = place_within kind (block kind (at (directory kind old) k) (j / block_records kind)) j range.0 range.1 in
     untouched kind old new p i bytes left (place_on_disk kind (at (directory kind old) k) j) within.1 within.0 (λ in_it. other_block (same_block kind (block kind (at (directory kind old) k) (j / block_records kind)) p.block j in_it)))
   where
-    before : is_of other others (at (directory kind old) p.number) ≡ false
-    before = elim kept.was as (λ _. is_of other others (at (directory kind old) p.number) ≡ false) [
-      | inl of ↦ apart_from user name other others (at (directory kind old) p.number) of apart
-      | inr free ↦ not_free other others (at (directory kind old) p.number) low free
+    before : is_of other others (at (directory kind old) p.entry_number) ≡ false
+    before = elim kept.was as (λ _. is_of other others (at (directory kind old) p.entry_number) ≡ false) [
+      | inl of ↦ apart_from user name other others (at (directory kind old) p.entry_number) of apart
+      | inr free ↦ not_free other others (at (directory kind old) p.entry_number) low free
     ]
 
 pub created_entry : (user : ℕ) (name : List ℕ) (entries : List Entry) (put : ℕ × Entry) → creation user name entries ≡ Ok put → put.1 ≡ new_extent user name 0

@@ -45,7 +45,7 @@ mounted_partly kind image new entries changed items failed known now was kept le
 }
 
 -- what a stopped write leaves of the directory
-pub write_between : (kind : DiskKind) (old new : Image) (p : Placement) (i : ℕ) (bytes : List ℕ) → PartlyWritten kind old new p i bytes → IsBetween (directory kind old) (slice_set (directory kind old) p.number p.entry) (directory kind new)
+pub write_between : (kind : DiskKind) (old new : Image) (p : Placement) (i : ℕ) (bytes : List ℕ) → PartlyWritten kind old new p i bytes → IsBetween (directory kind old) (slice_set (directory kind old) p.entry_number p.entry) (directory kind new)
 write_between kind old new p i bytes (inl put) = put.1
 write_between kind old new p i bytes (inr none) = λ k. inl (ap (λ es. at es k) none.0)
 
@@ -53,7 +53,7 @@ write_count : (kind : DiskKind) (old new : Image) (p : Placement) (i : ℕ) (byt
 write_count kind old new p i bytes (inl put) = put.0.rest.count
 write_count kind old new p i bytes (inr none) = none.1.count
 
-pub mounted_written : (kind : DiskKind) (image new : Image) (entries items : List Entry) (failed : Bool) (known : Option Writable) (user : ℕ) (name : List ℕ) (p : Placement) (i : ℕ) (bytes : List ℕ) → IsMounted kind image entries failed known → IsKeptBy kind user name (directory kind image) p → Written kind image new p i bytes → items ≡ slice_set (directory kind image) p.number p.entry → length items ≡ entry_count kind → file_is_read_only user name (directory kind new) ≡ false → IsMounted kind new items failed (Some (record { user = user; name = name }))
+pub mounted_written : (kind : DiskKind) (image new : Image) (entries items : List Entry) (failed : Bool) (known : Option Writable) (user : ℕ) (name : List ℕ) (p : Placement) (i : ℕ) (bytes : List ℕ) → IsMounted kind image entries failed known → IsKeptBy kind user name (directory kind image) p → Written kind image new p i bytes → items ≡ slice_set (directory kind image) p.entry_number p.entry → length items ≡ entry_count kind → file_is_read_only user name (directory kind new) ≡ false → IsMounted kind new items failed (Some (record { user = user; name = name }))
 mounted_written kind image new entries items failed known user name p i bytes was kept made same long free = record {
   count = made.data_are.rest.count ∙ was.count;
   sound = kept.sound (directory kind new) (λ k. inr (ap (λ es. at es k) made.entries_are));

@@ -56,7 +56,7 @@ holder kind old user name number p placed low kept m e group found holds =
     let (k, below, is_at, passes) = found_at (is_extent_of user name m) (directory kind old) e found in
     let of = (and_parts (is_of user name e) (extent_number e == m) passes).0 in
     let ext : is_extent (at (directory kind old) k) ≡ true = subst (λ x. is_extent x ≡ true) is_at (below_extent e (let user_is = (of_file user name e of).0 in omega arith)) in
-    let here : k ≡ p.number = elim (cases_eq k p.number) as (λ _. k ≡ p.number) [
+    let here : k ≡ p.entry_number = elim (cases_eq k p.entry_number) as (λ _. k ≡ p.entry_number) [
       | inl same ↦ same
       | inr away ↦ absurd (kept.apart k group away ext (ap (λ x. block kind x group) (sym is_at) ∙ holds))
     ] in
@@ -132,22 +132,22 @@ left_old kind old new user name number bytes p placed low sound sound_new kept a
     ]
 
 -- a directory in which one entry is as it was or as it was to be is the old or the new directory
-between_one : (kind : DiskKind) (old new : Image) (p : Placement) → p.number < entry_count kind → IsBetween (directory kind old) (slice_set (directory kind old) p.number p.entry) (directory kind new) → (directory kind new ≡ directory kind old) ⊎ (directory kind new ≡ slice_set (directory kind old) p.number p.entry)
-between_one kind old new p within between = elim (between p.number) as (λ _. (directory kind new ≡ directory kind old) ⊎ (directory kind new ≡ slice_set (directory kind old) p.number p.entry)) [
-  | inl was ↦ inl (same_entries kind (directory kind new) (directory kind old) (length_directory kind new) (length_directory kind old) (λ k _. elim (cases_eq k p.number) as (λ _. at (directory kind new) k ≡ at (directory kind old) k) [
+between_one : (kind : DiskKind) (old new : Image) (p : Placement) → p.entry_number < entry_count kind → IsBetween (directory kind old) (slice_set (directory kind old) p.entry_number p.entry) (directory kind new) → (directory kind new ≡ directory kind old) ⊎ (directory kind new ≡ slice_set (directory kind old) p.entry_number p.entry)
+between_one kind old new p within between = elim (between p.entry_number) as (λ _. (directory kind new ≡ directory kind old) ⊎ (directory kind new ≡ slice_set (directory kind old) p.entry_number p.entry)) [
+  | inl was ↦ inl (same_entries kind (directory kind new) (directory kind old) (length_directory kind new) (length_directory kind old) (λ k _. elim (cases_eq k p.entry_number) as (λ _. at (directory kind new) k ≡ at (directory kind old) k) [
     | inl here ↦ ap (at (directory kind new)) here ∙ was ∙ ap (at (directory kind old)) (sym here)
     | inr away ↦ either k away
   ]))
-  | inr now ↦ inr (same_entries kind (directory kind new) (slice_set (directory kind old) p.number p.entry) (length_directory kind new) (length-set (directory kind old) p.number p.entry ∙ length_directory kind old) (λ k _. elim (cases_eq k p.number) as (λ _. at (directory kind new) k ≡ at (slice_set (directory kind old) p.number p.entry) k) [
-    | inl here ↦ ap (at (directory kind new)) here ∙ now ∙ ap (at (slice_set (directory kind old) p.number p.entry)) (sym here)
-    | inr away ↦ either k away ∙ sym (get_or-set_other (directory kind old) p.number k p.entry blank away)
+  | inr now ↦ inr (same_entries kind (directory kind new) (slice_set (directory kind old) p.entry_number p.entry) (length_directory kind new) (length-set (directory kind old) p.entry_number p.entry ∙ length_directory kind old) (λ k _. elim (cases_eq k p.entry_number) as (λ _. at (directory kind new) k ≡ at (slice_set (directory kind old) p.entry_number p.entry) k) [
+    | inl here ↦ ap (at (directory kind new)) here ∙ now ∙ ap (at (slice_set (directory kind old) p.entry_number p.entry)) (sym here)
+    | inr away ↦ either k away ∙ sym (get_or-set_other (directory kind old) p.entry_number k p.entry blank away)
   ]))
 ]
   where
-    either : (k : ℕ) → k ≢ p.number → at (directory kind new) k ≡ at (directory kind old) k
+    either : (k : ℕ) → k ≢ p.entry_number → at (directory kind new) k ≡ at (directory kind old) k
     either k away = elim (between k) as (λ _. at (directory kind new) k ≡ at (directory kind old) k) [
       | inl same ↦ same
-      | inr after ↦ after ∙ get_or-set_other (directory kind old) p.number k p.entry blank away
+      | inr after ↦ after ∙ get_or-set_other (directory kind old) p.entry_number k p.entry blank away
     ]
 
 pub write_left : (kind : DiskKind) (old new : Image) (user : ℕ) (name : List ℕ) (number : ℕ) (bytes : List ℕ) (p : Placement) → user < USERS → IsSound kind (directory kind old) → IsSound kind (directory kind new) → IsKeptBy kind user name (directory kind old) p

@@ -203,7 +203,7 @@ record_put kind old new user name number bytes place b is_new spelled numbers lo
 -- where a placement comes from: the entry of the extent as it was, and the block of the record
 pub record Placed (kind : DiskKind) (entries : List Entry) (user : ℕ) (name : List ℕ) (number : ℕ) (p : Placement) : Type 0 where
   pub place : ℕ × Entry
-  pub at_number : p.number ≡ place.0
+  pub at_number : p.entry_number ≡ place.0
   pub entry : p.entry ≡ with_record kind place.1 (number % 128) p.block
   pub fits : IsPlace kind user name entries place
   pub was : Was kind entries user name (number / 128) place
@@ -220,7 +220,7 @@ placed_of kind user name number entries p low sound kept asked =
     let below = ltb-true number (file_records kind) (not-false (nat_lt number (file_records kind)) near) in
     let fits = place_found kind user name (number / 128) entries (position (is_extent_of user name (number / 128)) entries) place low (omega arith) sound refl is_place in
     let blocks = block_found kind user name entries place (number % 128 / block_records kind) found fits in_its_block in
-    let same : ◌≡◌ {A = Placement} (record { number = place.0; entry = with_record kind place.1 (number % 128) found.0; block = found.0; is_new = found.1 }) p = cc in
+    let same : ◌≡◌ {A = Placement} (record { entry_number = place.0; entry = with_record kind place.1 (number % 128) found.0; block = found.0; is_new = found.1 }) p = cc in
     subst (λ (q : Placement). Placed kind entries user name number q) same (record {
       place = place;
       at_number = refl;

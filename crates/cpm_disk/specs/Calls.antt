@@ -1,6 +1,7 @@
 -- What the calls of a mounted disk answer, and what they leave.
 use Rattle.std.specs.Prelude.{◌≡◌, ◌≢◌, ◌<◌, ◌⊎◌, ◌*◌, ◌+◌, ℕ, Bool, true, false, List, Result, Ok, Err, replicate, slice_set, ⊤, if◌then◌else◌}
 use Rattle.cpm_image.specs.Device.{HasRisen}
+use Rattle.cpm_image.specs.declared.format.TheConstants.{RECORD_BYTES}
 use Rattle.cpm_image.specs.Kind.{block_records}
 use Rattle.cpm_image.specs.declared.kind.DiskKind.{DiskKind}
 use Rattle.cpm_directory.specs.declared.entry.Entry.{Entry}
@@ -46,18 +47,18 @@ pub record PartlyChanged (kind : DiskKind) (old new : Image) (entries : List Ent
 -- Record i of a block was written. The other records of a new block are zeros.
 pub record HasWritten (kind : DiskKind) (old new : Image) (block i : ℕ) (is_new : Bool) (bytes : List ℕ) : Type 0 where
   pub here : disk_record kind new (block_records kind * block + i) ≡ bytes
-  pub beside : (j : ℕ) → j < block_records kind → j ≢ i → disk_record kind new (block_records kind * block + j) ≡ (if is_new then replicate 128 0 else disk_record kind old (block_records kind * block + j))
+  pub beside : (j : ℕ) → j < block_records kind → j ≢ i → disk_record kind new (block_records kind * block + j) ≡ (if is_new then replicate RECORD_BYTES 0 else disk_record kind old (block_records kind * block + j))
   pub rest : SameBut kind (λ n. IsOfDirectory kind n ⊎ IsOfBlock kind block n) old new
 
 -- a record was written, and then its entry
 pub record Written (kind : DiskKind) (old new : Image) (p : Placement) (i : ℕ) (bytes : List ℕ) : Type 0 where
   pub data_are : HasWritten kind old new p.block i p.is_new bytes
-  pub entries_are : directory kind new ≡ slice_set (directory kind old) p.number p.entry
+  pub entries_are : directory kind new ≡ slice_set (directory kind old) p.entry_number p.entry
 
 -- The write was stopped. Either the record is written, and its entry is as it was or as it was to be; or the directory is as it was, and
 -- if the block is not new, at most this record of it is written.
 abbrev pub PartlyWritten : DiskKind → Image → Image → Placement → ℕ → List ℕ → Type 0
 PartlyWritten kind old new p i bytes =
-    (HasWritten kind old new p.block i p.is_new bytes × IsBetween (directory kind old) (slice_set (directory kind old) p.number p.entry) (directory kind new))
+    (HasWritten kind old new p.block i p.is_new bytes × IsBetween (directory kind old) (slice_set (directory kind old) p.entry_number p.entry) (directory kind new))
     ⊎ ((directory kind new ≡ directory kind old) × SameBut kind (λ n. IsOfBlock kind p.block n) old new
     × (p.is_new ≡ false → (j : ℕ) → j < block_records kind → (disk_record kind new (block_records kind * p.block + j) ≡ disk_record kind old (block_records kind * p.block + j)) ⊎ ((j ≡ i) × (disk_record kind new (block_records kind * p.block + j) ≡ bytes))))

@@ -5,6 +5,7 @@ use Rattle.cpm_image.specs.Kind.{block_records, directory_records, entry_count, 
 use Rattle.cpm_image.specs.Skew.{sector_of}
 use Rattle.cpm_image.specs.declared.kind.DiskKind.{DiskKind}
 use Rattle.cpm_directory.specs.declared.entry.Entry.{Entry}
+use Rattle.cpm_directory.specs.declared.layout.TheConstants.{ENTRY_BYTES, RECORD_ENTRIES}
 use Rattle.cpm_directory.specs.Entries.{entry_of}
 
 -- the sectors of a device, each a list of bytes
@@ -17,7 +18,7 @@ disk_record kind image n = slice_index_or image (sector_of kind n) []
 
 -- The first blocks are the directory. Each of its records has four entries.
 abbrev pub entry_at : DiskKind → Image → ℕ → Entry
-entry_at kind image k = entry_of (take 32 (drop (32 * (k % 4)) (disk_record kind image (k / 4))))
+entry_at kind image k = entry_of (take ENTRY_BYTES (drop (ENTRY_BYTES * (k % RECORD_ENTRIES)) (disk_record kind image (k / RECORD_ENTRIES))))
 
 unfoldable pub directory : DiskKind → Image → List Entry
 directory kind image = map (entry_at kind image) (range_with_len 0 (entry_count kind))

@@ -9,7 +9,7 @@ ghost use Rattle.cpm_disk.specs.Image.{IsOfBlock, SameBut, directory, disk_recor
 
 use crate::records::{store, write_record};
 use cpm_directory::Entry;
-use cpm_image::{DeviceFault, DiskKind, Sectors};
+use cpm_image::{DeviceFault, DiskKind, RECORD_BYTES, Sectors};
 use cpm_operations::Placement;
 
 /// The logical record of the disk that is record `i` of a block.
@@ -35,7 +35,7 @@ fn clear_others<S: Sectors>(
     ensures rest { SameBut kind (IsOfBlock kind block) (S.sectors device.old) (S.sectors device.new) }
     ensures cause { HasCountedFault (S.faults device.old) (S.faults device.new) result }
 {
-    let zeros = [0; 128];
+    let zeros = [0; RECORD_BYTES];
     for i in 0..u32::from(kind.block_records()) {
         if i != kept {
             write_record(device, kind, record_of(kind, block, i), &zeros)?;
@@ -70,7 +70,7 @@ fn write_block<S: Sectors>(
     kind: DiskKind,
     place: &Placement,
     i: u32,
-    bytes: &[u8; 128],
+    bytes: &[u8; RECORD_BYTES],
 ) -> Result<(), DeviceFault>
     requires count { length (S.sectors device.old) ≡ sector_count kind }
     requires block { place.now.block < block_count kind }
@@ -93,21 +93,21 @@ pub(crate) fn write_all<S: Sectors>(
     entries: &mut [Entry],
     place: &Placement,
     i: u32,
-    bytes: &[u8; 128],
+    bytes: &[u8; RECORD_BYTES],
 ) -> Result<(), DeviceFault>
     requires count { length (S.sectors device.old) ≡ sector_count kind }
     requires size { length entries.old ≡ entry_count kind }
     requires entries { directory kind (S.sectors device.old) ≡ entries.old }
-    requires number { place.now.number < entry_count kind }
+    requires number { place.now.entry_number < entry_count kind }
     requires from { first_block kind ≤ place.now.block }
     requires to { place.now.block < block_count kind }
     requires place { i < block_records kind }
-    ensures entries { OnOk result (entries.new ≡ slice_set entries.old place.now.number place.now.entry) }
+    ensures entries { OnOk result (entries.new ≡ slice_set entries.old place.now.entry_number place.now.entry) }
     ensures written { OnOk result (Written kind (S.sectors device.old) (S.sectors device.new) place.now i bytes.now) }
     ensures stopped { OnErr result (PartlyWritten kind (S.sectors device.old) (S.sectors device.new) place.now i bytes.now) }
     ensures size { length entries.new ≡ entry_count kind }
     ensures cause { HasCountedFault (S.faults device.old) (S.faults device.new) result }
 {
     write_block(device, kind, place, i, bytes)?;
-    store(device, kind, entries, place.number, place.entry)
+    store(device, kind, entries, place.entry_number, place.entry)
 }

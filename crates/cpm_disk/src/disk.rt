@@ -12,10 +12,10 @@ use crate::records::{read_record, store};
 use crate::writable::{Writable, is_known};
 use cpm_directory::laws::{are_entries, is_name};
 use cpm_directory::{
-    Attribute, DiskFault, Entry, Listed, Name, Pattern, Space, Usage, find, judge, list,
-    position_of, size, space_of, usage_of,
+    Attribute, DiskFault, ENTRY_BYTES, Entry, Listed, Name, Pattern, Space, Usage, find, judge,
+    list, position_of, size, space_of, usage_of,
 };
-use cpm_image::{DiskKind, Sectors};
+use cpm_image::{BLANK, DiskKind, RECORD_BYTES, Sectors};
 use cpm_operations::{creation, erasure, extent_near, marking, reading_at, renaming, writing_at};
 use std::alloc::Global;
 use std::marker::Model;
@@ -123,27 +123,27 @@ impl<S: Sectors> Disk<S> {
 
     /// The number of the entry of a file's extent. The number of the extent is EX plus 32 times the low six bits of S2. There is at most
     /// one such entry. A `?` in the name only matches itself. `None` after a failure.
-    pub fn find_extent(&self, user: u8, name: &Name, number: u16) -> Option<u16>
-        ensures found { result ≡ (if self.now.failed then None else position (is_extent_of user name.now number) (directory self.now.kind (S.sectors self.now.device))) }
+    pub fn find_extent(&self, user: u8, name: &Name, extent: u16) -> Option<u16>
+        ensures found { result ≡ (if self.now.failed then None else position (is_extent_of user name.now extent) (directory self.now.kind (S.sectors self.now.device))) }
         ensures within { IfSome result (λ k. k < entry_count self.now.kind) }
         ensures sound { IsSound self.now.kind (directory self.now.kind (S.sectors self.now.device)) }
     {
         if self.failed {
             return None;
         }
-        position_of(&self.entries, user, name, number)
+        position_of(&self.entries, user, name, extent)
     }
 
     /// The 32 bytes of an entry. After a failure they are all E5H.
-    pub fn entry(&self, number: u16) -> [u8; 32]
-        requires { number < entry_count self.now.kind }
-        ensures bytes { result ≡ (if self.now.failed then replicate 32 0xE5 else bytes_of (at (directory self.now.kind (S.sectors self.now.device)) number)) }
+    pub fn entry(&self, entry_number: u16) -> [u8; ENTRY_BYTES]
+        requires { entry_number < entry_count self.now.kind }
+        ensures bytes { result ≡ (if self.now.failed then replicate ENTRY_BYTES BLANK else bytes_of (at (directory self.now.kind (S.sectors self.now.device)) entry_number)) }
         ensures sound { IsSound self.now.kind (directory self.now.kind (S.sectors self.now.device)) }
     {
         if self.failed {
-            return [0xE5; 32];
+            return [BLANK; ENTRY_BYTES];
         }
-        self.entries[usize::from(number)].to_bytes()
+        self.entries[usize::from(entry_number)].to_bytes()
     }
 
     /// The number of records up to the file's last one, whether they were written or not: at most 4,096, or 65,536 on a Megabyte disk.
@@ -345,7 +345,7 @@ impl<S: Sectors> Disk<S> {
         user: u8,
         name: &Name,
         number: u32,
-    ) -> Result<[u8; 128], DiskFault>
+    ) -> Result<[u8; RECORD_BYTES], DiskFault>
         requires { user < USERS }
         ensures done { IsRecordRead S.sectors S.faults self.old self.new user name.now number result }
         ensures refusals { IfErr result (FailsOr RefusesReading) }
@@ -356,9 +356,9 @@ impl<S: Sectors> Disk<S> {
             return Err(DiskFault::Failed);
         }
         let at = extent_near(self.kind, &self.entries, self.near, user, name, number);
-        let place = reading_at(self.kind, &self.entries, at, user, name, number)?;
-        let mut bytes = [0; 128];
-        match read_record(&mut self.device, self.kind, place, &mut bytes) {
+        let logical_record = reading_at(self.kind, &self.entries, at, user, name, number)?;
+        let mut bytes = [0; RECORD_BYTES];
+        match read_record(&mut self.device, self.kind, logical_record, &mut bytes) {
             Ok(()) => {
                 self.near = at.unwrap_or(self.near);
                 Ok(bytes)
@@ -384,7 +384,7 @@ impl<S: Sectors> Disk<S> {
         user: u8,
         name: &Name,
         number: u32,
-        bytes: &[u8; 128],
+        bytes: &[u8; RECORD_BYTES],
     ) -> Result<(), DiskFault>
         requires { user < USERS }
         ensures done { IsRecordWritten S.sectors S.faults self.old self.new user name.now number bytes.now result }
@@ -410,7 +410,7 @@ impl<S: Sectors> Disk<S> {
             bytes,
         ) {
             Ok(()) => {
-                self.near = place.number;
+                self.near = place.entry_number;
                 self.writable = Some(Writable { user, name: *name });
                 Ok(())
             }

@@ -7,16 +7,16 @@ ghost use Rattle.cpm_disk.specs.Image.{directory};
 ghost use Rattle.cpm_disk.specs.Private.Reading.{Extended, IsReadFault};
 
 use crate::records::read_record;
-use cpm_directory::{DiskFault, Entry};
-use cpm_image::{DiskKind, Sectors};
+use cpm_directory::{DiskFault, ENTRY_BYTES, Entry};
+use cpm_image::{DiskKind, RECORD_BYTES, Sectors};
 use std::alloc::Global;
 
 /// Adds the four entries of a directory record.
-fn add_entries(entries: &mut Vec<Entry>, bytes: &[u8; 128]) -> Result<(), DiskFault>
-    ensures added { OnOk result (Extended entries.old.items entries.new.items bytes.now 4) }
+fn add_entries(entries: &mut Vec<Entry>, bytes: &[u8; RECORD_BYTES]) -> Result<(), DiskFault>
+    ensures added { OnOk result (Extended entries.old.items entries.new.items bytes.now RECORD_ENTRIES) }
     ensures memory { IfErr result (λ fault. fault ≡ DiskFault.NoMemory) }
 {
-    let (pieces, _) = bytes.as_chunks::<32>();
+    let (pieces, _) = bytes.as_chunks::<ENTRY_BYTES>();
     for piece in pieces {
         entries.push(Entry::from_bytes(piece))?;
     }
@@ -37,7 +37,7 @@ pub(crate) fn read_entries<S: Sectors>(
 {
     let mut entries = Vec::new(alloc);
     for number in 0..kind.directory_records() {
-        let mut bytes = [0; 128];
+        let mut bytes = [0; RECORD_BYTES];
         if read_record(device, kind, number, &mut bytes).is_err() {
             return Err(DiskFault::Fault);
         }

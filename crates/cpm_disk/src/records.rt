@@ -7,53 +7,53 @@ ghost use Rattle.cpm_directory.specs.Entries.{at, entry_of};
 ghost use Rattle.cpm_disk.specs.Image.{SameBut, Wrote, directory, disk_record};
 ghost use Rattle.cpm_disk.specs.Calls.{Changed};
 
-use cpm_directory::Entry;
-use cpm_image::{DeviceFault, DiskKind, Sectors, logical_of};
+use cpm_directory::{ENTRY_BYTES, Entry, RECORD_ENTRIES};
+use cpm_image::{DeviceFault, DiskKind, RECORD_BYTES, Sectors, logical_of};
 
-/// The number of entries in a directory record.
-const ENTRIES_IN_RECORD: usize = 4;
+/// The number of entries in a directory record, for indices.
+const ENTRIES_IN_RECORD: usize = RECORD_ENTRIES as usize;
 
 /// Reads a logical record.
 pub(crate) fn read_record<S: Sectors>(
     device: &mut S,
     kind: DiskKind,
-    number: u32,
-    bytes: &mut [u8; 128],
+    logical_record: u32,
+    bytes: &mut [u8; RECORD_BYTES],
 ) -> Result<(), DeviceFault>
     requires count { length (S.sectors device.old) ≡ sector_count kind }
-    requires number { number < record_count kind }
-    ensures read { OnOk result (bytes.new ≡ disk_record kind (S.sectors device.old) number) }
+    requires logical { logical_record < record_count kind }
+    ensures read { OnOk result (bytes.new ≡ disk_record kind (S.sectors device.old) logical_record) }
     ensures kept { S.sectors device.new ≡ S.sectors device.old }
     ensures cause { HasCountedFault (S.faults device.old) (S.faults device.new) result }
 {
-    device.read(logical_of(kind, number), bytes)
+    device.read(logical_of(kind, logical_record), bytes)
 }
 
 /// Writes a logical record.
 pub(crate) fn write_record<S: Sectors>(
     device: &mut S,
     kind: DiskKind,
-    number: u32,
-    bytes: &[u8; 128],
+    logical_record: u32,
+    bytes: &[u8; RECORD_BYTES],
 ) -> Result<(), DeviceFault>
     requires count { length (S.sectors device.old) ≡ sector_count kind }
-    requires number { number < record_count kind }
-    ensures written { OnOk result (Wrote kind (S.sectors device.old) (S.sectors device.new) number bytes.now) }
-    ensures stopped { OnErr result ((S.sectors device.new ≡ S.sectors device.old) ⊎ Wrote kind (S.sectors device.old) (S.sectors device.new) number bytes.now) }
+    requires logical { logical_record < record_count kind }
+    ensures written { OnOk result (Wrote kind (S.sectors device.old) (S.sectors device.new) logical_record bytes.now) }
+    ensures stopped { OnErr result ((S.sectors device.new ≡ S.sectors device.old) ⊎ Wrote kind (S.sectors device.old) (S.sectors device.new) logical_record bytes.now) }
     ensures cause { HasCountedFault (S.faults device.old) (S.faults device.new) result }
 {
-    device.write(logical_of(kind, number), bytes)
+    device.write(logical_of(kind, logical_record), bytes)
 }
 
 /// The bytes of a directory record.
-fn directory_record(entries: &[Entry], record: usize) -> [u8; 128]
-    requires { 4 * «record» + 4 ≤ length entries.now }
-    ensures { (i : ℕ) → i < 4 → entry_of (take 32 (drop (32 * i) result)) ≡ at entries.now (4 * «record» + i) }
+fn directory_record(entries: &[Entry], record: usize) -> [u8; RECORD_BYTES]
+    requires { RECORD_ENTRIES * «record» + RECORD_ENTRIES ≤ length entries.now }
+    ensures { (i : ℕ) → i < RECORD_ENTRIES → entry_of (take ENTRY_BYTES (drop (ENTRY_BYTES * i) result)) ≡ at entries.now (RECORD_ENTRIES * «record» + i) }
 {
-    let mut bytes = [0; 128];
+    let mut bytes = [0; RECORD_BYTES];
     for i in 0..ENTRIES_IN_RECORD {
         let entry = entries[ENTRIES_IN_RECORD * record + i].to_bytes();
-        bytes[32 * i..32 * i + 32].copy_from_slice(&entry);
+        bytes[ENTRY_BYTES * i..ENTRY_BYTES * i + ENTRY_BYTES].copy_from_slice(&entry);
     }
     bytes
 }
@@ -63,19 +63,24 @@ pub(crate) fn store<S: Sectors>(
     device: &mut S,
     kind: DiskKind,
     entries: &mut [Entry],
-    number: u16,
+    entry_number: u16,
     entry: Entry,
 ) -> Result<(), DeviceFault>
     requires count { length (S.sectors device.old) ≡ sector_count kind }
     requires size { length entries.old ≡ entry_count kind }
-    requires number { number < entry_count kind }
+    requires number { entry_number < entry_count kind }
     requires entries { directory kind (S.sectors device.old) ≡ entries.old }
-    ensures entries { entries.new ≡ slice_set entries.old number entry }
+    ensures entries { entries.new ≡ slice_set entries.old entry_number entry }
     ensures stored { OnOk result (Changed kind (S.sectors device.old) (S.sectors device.new) entries.new) }
     ensures stopped { OnErr result ((S.sectors device.new ≡ S.sectors device.old) ⊎ Changed kind (S.sectors device.old) (S.sectors device.new) entries.new) }
     ensures cause { HasCountedFault (S.faults device.old) (S.faults device.new) result }
 {
-    entries[usize::from(number)] = entry;
-    let bytes = directory_record(entries, usize::from(number / 4));
-    write_record(device, kind, u32::from(number / 4), &bytes)
+    entries[usize::from(entry_number)] = entry;
+    let bytes = directory_record(entries, usize::from(entry_number / RECORD_ENTRIES));
+    write_record(
+        device,
+        kind,
+        u32::from(entry_number / RECORD_ENTRIES),
+        &bytes,
+    )
 }

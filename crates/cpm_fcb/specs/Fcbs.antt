@@ -2,40 +2,42 @@
 -- (CP/M 2.2 Interface Guide, file control blocks.)
 use Rattle.std.specs.Prelude.{◌+◌, ◌*◌, ◌==◌, ℕ, Bool, nat_le, List, Result, Ok, Err, take, drop, slice_index, if◌then◌else◌, ⊤}
 use Rattle.std.specs.List.{list_any}
+use Rattle.cpm_directory.specs.declared.layout.TheConstants.{EX_OFFSET, NAME_OFFSET, S2_OFFSET}
+use Rattle.cpm_fcb.specs.declared.fcb.TheConstants.{CR_OFFSET, FCB_BYTES, NEW_NAME_OFFSET, R0_OFFSET, R1_OFFSET, R2_OFFSET}
 use Rattle.cpm_fcb.specs.declared.stop.Stop.{Stop}
 use Rattle.cpm_fcb.specs.declared.stop.Stop.TheVariants as stop
 use Rattle.cpm_fcb.specs.Bytes.{bytes_at}
 use Rattle.cpm_fcb.specs.Stops.{unless_stopped}
 
 abbrev pub fcb_at : ℕ → List ℕ → List ℕ
-fcb_at address memory = bytes_at address 36 memory
+fcb_at address memory = bytes_at address FCB_BYTES memory
 
 abbrev pub drive_of : List ℕ → ℕ
 drive_of fcb = slice_index fcb 0
 
--- bytes 1 to 11
+-- bytes 1 to 11, as in a directory entry
 abbrev pub name_of : List ℕ → List ℕ
-name_of fcb = take 11 (drop 1 fcb)
+name_of fcb = take 11 (drop NAME_OFFSET fcb)
 
 -- the second name of a rename, in bytes 17 to 27
 abbrev pub new_name_of : List ℕ → List ℕ
-new_name_of fcb = take 11 (drop 17 fcb)
+new_name_of fcb = take 11 (drop NEW_NAME_OFFSET fcb)
 
 abbrev pub extent_of : List ℕ → ℕ
-extent_of fcb = slice_index fcb 12
+extent_of fcb = slice_index fcb EX_OFFSET
 
 abbrev pub s2_of : List ℕ → ℕ
-s2_of fcb = slice_index fcb 14
+s2_of fcb = slice_index fcb S2_OFFSET
 
 abbrev pub current_of : List ℕ → ℕ
-current_of fcb = slice_index fcb 32
+current_of fcb = slice_index fcb CR_OFFSET
 
 -- R0 and R1, and R2
 abbrev pub random_of : List ℕ → ℕ
-random_of fcb = slice_index fcb 33 + 256 * slice_index fcb 34
+random_of fcb = slice_index fcb R0_OFFSET + 256 * slice_index fcb R1_OFFSET
 
 abbrev pub overflow_of : List ℕ → ℕ
-overflow_of fcb = slice_index fcb 35
+overflow_of fcb = slice_index fcb R2_OFFSET
 
 abbrev pub question : ℕ
 question = 0x3F

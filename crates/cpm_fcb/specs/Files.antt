@@ -1,6 +1,8 @@
 -- Questions to a disk that change nothing. A disk that has failed finds nothing, and its entries are all E5H.
 use Rattle.std.specs.Prelude.{◌+◌, ℕ, List, Option, Some, None, drop, position, replicate, if◌then◌else◌}
+use Rattle.cpm_image.specs.declared.format.TheConstants.{BLANK}
 use Rattle.cpm_directory.specs.declared.entry.Entry.{Entry}
+use Rattle.cpm_directory.specs.declared.layout.TheConstants.{ENTRY_BYTES}
 use Rattle.cpm_directory.specs.declared.pattern.Pattern.{Pattern}
 use Rattle.cpm_directory.specs.Entries.{at, bytes_of, is_extent_of}
 use Rattle.cpm_directory.specs.Searches.{found_from, size}
@@ -22,7 +24,7 @@ extent_found sectors disk user name number = if disk.failed then None else posit
 
 -- the 32 bytes of an entry
 abbrev pub entry_bytes : {S : Type 0} → (S → Image) → Mounted S → ℕ → List ℕ
-entry_bytes sectors disk k = if disk.failed then replicate 32 0xE5 else bytes_of (at (entries sectors disk) k)
+entry_bytes sectors disk k = if disk.failed then replicate ENTRY_BYTES BLANK else bytes_of (at (entries sectors disk) k)
 
 -- memory after the bytes of an entry from an offset on are copied to a file control block; unchanged if there is no entry
 abbrev pub with_entry : {S : Type 0} → (S → Image) → Mounted S → ℕ → ℕ → Option ℕ → List ℕ → List ℕ

@@ -5,6 +5,7 @@ ghost use Rattle.cpm_image.specs.Kind.{entry_count};
 ghost use Rattle.cpm_fcb.specs.Files.{with_entry};
 
 use crate::bytes::put_field;
+use cpm_directory::ENTRY_BYTES;
 use cpm_disk::Disk;
 use cpm_image::Sectors;
 use z80_cpu::Memory;
@@ -13,20 +14,20 @@ use z80_cpu::Memory;
 pub fn put_entry<S: Sectors>(
     disk: &Disk<S>,
     entry: Option<u16>,
-    offset: u16,
+    offset: usize,
     memory: &mut Memory,
     address: u16,
 )
     requires entry { IfSome entry (λ k. k < entry_count disk.now.kind) }
-    requires offset { offset ≤ 32 }
+    requires offset { offset ≤ ENTRY_BYTES }
     ensures { memory.new ≡ with_entry S.sectors disk.now offset address entry memory.old }
 {
     if let Some(number) = entry {
         put_field(
             memory,
             address,
-            offset,
-            disk.entry(number).split_at(offset as usize).1,
+            offset as u16,
+            disk.entry(number).split_at(offset).1,
         );
     }
 }

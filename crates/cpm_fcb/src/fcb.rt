@@ -5,8 +5,27 @@ ghost use Rattle.cpm_fcb.specs.Fcbs.{has_question, name_judged};
 
 use crate::bytes::bytes_at;
 use crate::stop::Stop;
+use cpm_directory::{EX_OFFSET, NAME_OFFSET, S2_OFFSET};
 use std::marker::Model;
 use z80_cpu::Memory;
+
+/// The number of bytes in a file control block. The first 32 have the fields of a directory entry, with the drive as the user.
+pub const FCB_BYTES: usize = 36;
+
+/// The offset in a file control block of the second name of a rename.
+pub const NEW_NAME_OFFSET: usize = 17;
+
+/// The offset in a file control block of CR.
+pub const CR_OFFSET: usize = 32;
+
+/// The offset in a file control block of R0.
+pub const R0_OFFSET: usize = 33;
+
+/// The offset in a file control block of R1.
+pub const R1_OFFSET: usize = 34;
+
+/// The offset in a file control block of R2.
+pub const R2_OFFSET: usize = 35;
 
 /// `?` as a byte of a name, as a drive or as EX matches any.
 pub const QUESTION: u8 = 0x3F;
@@ -18,7 +37,7 @@ const LAST_DRIVE: u8 = 16;
 /// list of the 36 bytes.
 #[derive(Clone, Copy, Debug, PartialEq, Eq)]
 pub struct Fcb {
-    bytes: [u8; 36],
+    bytes: [u8; FCB_BYTES],
 }
 
 impl Model for Fcb {
@@ -55,7 +74,7 @@ impl Fcb {
         ensures { result ≡ name_of self.now }
     {
         let mut name = [0; 11];
-        name.copy_from_slice(&self.bytes[1..12]);
+        name.copy_from_slice(&self.bytes[NAME_OFFSET..EX_OFFSET]);
         name
     }
 
@@ -64,7 +83,7 @@ impl Fcb {
         ensures { result ≡ new_name_of self.now }
     {
         let mut name = [0; 11];
-        name.copy_from_slice(&self.bytes[17..28]);
+        name.copy_from_slice(&self.bytes[NEW_NAME_OFFSET..NEW_NAME_OFFSET + 11]);
         name
     }
 
@@ -72,34 +91,34 @@ impl Fcb {
     pub fn extent(&self) -> u8
         ensures { result ≡ extent_of self.now }
     {
-        self.bytes[12]
+        self.bytes[EX_OFFSET]
     }
 
     pub fn s2(&self) -> u8
         ensures { result ≡ s2_of self.now }
     {
-        self.bytes[14]
+        self.bytes[S2_OFFSET]
     }
 
     /// CR.
     pub fn current(&self) -> u8
         ensures { result ≡ current_of self.now }
     {
-        self.bytes[32]
+        self.bytes[CR_OFFSET]
     }
 
     /// R0 and R1.
     pub fn random(&self) -> u16
         ensures { result ≡ random_of self.now }
     {
-        u16::from_le_bytes([self.bytes[33], self.bytes[34]])
+        u16::from_le_bytes([self.bytes[R0_OFFSET], self.bytes[R1_OFFSET]])
     }
 
     /// R2.
     pub fn overflow(&self) -> u8
         ensures { result ≡ overflow_of self.now }
     {
-        self.bytes[35]
+        self.bytes[R2_OFFSET]
     }
 
     /// Tests the drive.

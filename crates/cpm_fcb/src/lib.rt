@@ -8,5 +8,7 @@ mod stop;
 
 pub use bytes::{bytes_at, put_bytes, put_field};
 pub use entry::put_entry;
-pub use fcb::{Fcb, QUESTION};
+pub use fcb::{
+    CR_OFFSET, FCB_BYTES, Fcb, NEW_NAME_OFFSET, QUESTION, R0_OFFSET, R1_OFFSET, R2_OFFSET,
+};
 pub use stop::{Stop, stop_of};

@@ -18,29 +18,29 @@ const STEP: u32 = 6;
 ///
 /// The first two tracks are the system's. On each other track consecutive records are six sectors apart, round and round, as in the
 /// standard translate table, so that a computer has time between two records.
-pub fn logical(number: u32) -> u32
-    requires { number < RECORD_COUNT }
-    ensures sector { result ≡ sector number }
+pub fn logical(logical_record: u32) -> u32
+    requires { logical_record < RECORD_COUNT }
+    ensures sector { result ≡ sector logical_record }
     ensures behind_system { 52 ≤ result }
     ensures within { result < SECTOR_COUNT }
-    ensures distinct { (m : ℕ) → m < RECORD_COUNT → sector m ≡ sector number → m ≡ number }
+    ensures distinct { (m : ℕ) → m < RECORD_COUNT → sector m ≡ sector logical_record → m ≡ logical_record }
 {
-    let turn = number % TRACK;
+    let turn = logical_record % TRACK;
     // Six and 26 are even: after 13 steps of six the records are back where they began, and the other 13 records of the track are one
     // sector further on.
     let place = STEP * turn % TRACK + turn / (TRACK / 2);
-    TRACK * (SYSTEM_TRACKS + number / TRACK) + place
+    TRACK * (SYSTEM_TRACKS + logical_record / TRACK) + place
 }
 
 /// The sector of the image, counted from 0, with this logical record of a disk of either format.
-pub fn logical_of(kind: DiskKind, number: u32) -> u32
-    requires { number < record_count kind }
-    ensures sector { result ≡ sector_of kind number }
+pub fn logical_of(kind: DiskKind, logical_record: u32) -> u32
+    requires { logical_record < record_count kind }
+    ensures sector { result ≡ sector_of kind logical_record }
     ensures within { result < sector_count kind }
-    ensures distinct { (m : ℕ) → m < record_count kind → sector_of kind m ≡ sector_of kind number → m ≡ number }
+    ensures distinct { (m : ℕ) → m < record_count kind → sector_of kind m ≡ sector_of kind logical_record → m ≡ logical_record }
 {
     match kind {
-        DiskKind::EightInch => logical(number),
-        DiskKind::Megabyte => number,
+        DiskKind::EightInch => logical(logical_record),
+        DiskKind::Megabyte => logical_record,
     }
 }

@@ -191,7 +191,7 @@ writing_keeps kind user name number entries p low sound is =
     let small = ltb-true number (file_records kind) (not-false (nat_lt number (file_records kind)) near) in
     let fits = place_found kind user name (number / 128) entries (position (is_extent_of user name (number / 128)) entries) place low (omega arith) sound refl placed in
     let blocks = block_found kind user name entries place (number % 128 / block_records kind) found fits in_block in
-    let same : ◌≡◌ {A = Placement} (record { number = place.0; entry = with_record kind place.1 (number % 128) found.0; block = found.0; is_new = found.1 }) p = cc in
+    let same : ◌≡◌ {A = Placement} (record { entry_number = place.0; entry = with_record kind place.1 (number % 128) found.0; block = found.0; is_new = found.1 }) p = cc in
     subst (IsKeptBy kind user name entries) same (record {
       within = fits.within;
       was = fits.was;

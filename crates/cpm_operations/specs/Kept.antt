@@ -24,10 +24,10 @@ pub record IsGoodPut (kind : DiskKind) (entries : List Entry) (put : ℕ × Entr
 -- What is promised of a placement: its entry belongs to the file, and takes the place of one of that file or of a free one; its block is
 -- for files and in no other entry; and the directory keeps the rules.
 pub record IsKeptBy (kind : DiskKind) (user : ℕ) (name : List ℕ) (entries : List Entry) (p : Placement) : Type 0 where
-  pub within : p.number < length entries
-  pub was : (is_of user name (at entries p.number) ≡ true) ⊎ (is_free (at entries p.number) ≡ true)
+  pub within : p.entry_number < length entries
+  pub was : (is_of user name (at entries p.entry_number) ≡ true) ⊎ (is_free (at entries p.entry_number) ≡ true)
   pub of_file : is_of user name p.entry ≡ true
   pub block_from : first_block kind ≤ p.block
   pub block_to : p.block < block_count kind
-  pub apart : (k group : ℕ) → k ≢ p.number → is_extent (at entries k) ≡ true → block kind (at entries k) group ≡ p.block → ⊥
-  pub sound : StaysSound kind entries (slice_set entries p.number p.entry)
+  pub apart : (k group : ℕ) → k ≢ p.entry_number → is_extent (at entries k) ≡ true → block kind (at entries k) group ≡ p.block → ⊥
+  pub sound : StaysSound kind entries (slice_set entries p.entry_number p.entry)

@@ -6,6 +6,7 @@ use Rattle.cpm_image.specs.declared.kind.DiskKind.{DiskKind}
 use Rattle.cpm_directory.specs.declared.attribute.Attribute.{Attribute}
 use Rattle.cpm_directory.specs.declared.entry.Entry.{Entry}
 use Rattle.cpm_directory.specs.declared.fault.DiskFault.{DiskFault}
+use Rattle.cpm_directory.specs.declared.layout.TheConstants.{EXTENT_RECORDS}
 use Rattle.cpm_operations.specs.declared.placement.Placement.{Placement}
 use Rattle.cpm_directory.specs.declared.fault.DiskFault.TheVariants as fault
 use Rattle.cpm_directory.specs.Entries.{at, block, erased, has_record, is_extent_of, is_match, is_of, is_read_only, marked, new_extent, place_on_disk, renamed, with_record}
@@ -79,19 +80,19 @@ abbrev pub reading : DiskKind → ℕ → List ℕ → ℕ → List Entry → Re
 reading kind user name number entries =
     unless (not (is_file user name entries)) fault.NotFound
     (unless (not (nat_lt number (file_records kind))) fault.TooFar
-    (some_or (find (is_extent_of user name (number / 128)) entries) fault.NoExtent >>= written_place kind (number % 128)))
+    (some_or (find (is_extent_of user name (number / EXTENT_RECORDS)) entries) fault.NoExtent >>= written_place kind (number % EXTENT_RECORDS)))
 
 -- the number and the entry of a file's extent: the one that it has, otherwise a new extent at the lowest free number, with the name in
 -- the file's lowest entry
 abbrev pub found_or_new : ℕ → List ℕ → ℕ → List Entry → Option ℕ → Result (ℕ × Entry) DiskFault
-found_or_new user name number entries (Some k) = Ok (k, at entries k)
-found_or_new user name number entries None =
+found_or_new user name extent entries (Some k) = Ok (k, at entries k)
+found_or_new user name extent entries None =
     some_or (free_entry entries) fault.DirectoryFull >>= λ k.
     some_or (find (is_of user name) entries) fault.NotFound >>= λ e.
-    Ok (k, new_extent user e.name number)
+    Ok (k, new_extent user e.name extent)
 
 abbrev pub extent_place : ℕ → List ℕ → ℕ → List Entry → Result (ℕ × Entry) DiskFault
-extent_place user name number entries = found_or_new user name number entries (position (is_extent_of user name number) entries)
+extent_place user name extent entries = found_or_new user name extent entries (position (is_extent_of user name extent) entries)
 
 -- the block of a group of records, and whether it is new: the block that the entry has, otherwise the lowest free one
 abbrev pub block_place : DiskKind → Entry → ℕ → List Entry → Result (ℕ × Bool) DiskFault
@@ -103,13 +104,13 @@ block_place kind e group entries = if block kind e group == 0
 abbrev pub placing_in : DiskKind → ℕ → Entry → ℕ → List Entry → Result Placement DiskFault
 placing_in kind k e i entries =
     block_place kind e (i / block_records kind) entries >>= λ found.
-    Ok (record { number = k; entry = with_record kind e i found.0; block = found.0; is_new = found.1 })
+    Ok (record { entry_number = k; entry = with_record kind e i found.0; block = found.0; is_new = found.1 })
 
 -- where to write a record of a file
 abbrev pub placing : DiskKind → ℕ → List ℕ → ℕ → List Entry → Result Placement DiskFault
 placing kind user name number entries =
-    extent_place user name (number / 128) entries >>= λ place.
-    placing_in kind place.0 place.1 (number % 128) entries
+    extent_place user name (number / EXTENT_RECORDS) entries >>= λ place.
+    placing_in kind place.0 place.1 (number % EXTENT_RECORDS) entries
 
 abbrev pub writing : DiskKind → ℕ → List ℕ → ℕ → List Entry → Result Placement DiskFault
 writing kind user name number entries =

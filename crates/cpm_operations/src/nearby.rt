@@ -2,6 +2,7 @@
 
 ghost use Rattle.std.specs.Prelude.{◌≡◌, ◌<◌, ◌≤◌, ◌/◌, ◌%◌, IfErr, IfOk, IfSome, None, false, length, position, slice_index_or, true};
 ghost use Rattle.cpm_directory.specs.declared.entry.TheConstants.{USERS};
+ghost use Rattle.cpm_directory.specs.declared.layout.TheConstants.{EXTENT_RECORDS};
 ghost use Rattle.cpm_directory.specs.Entries.{blank, block, is_extent_of};
 ghost use Rattle.cpm_directory.specs.Rules.{IsSound};
 ghost use Rattle.cpm_directory.specs.Searches.{file_is_read_only};
@@ -13,18 +14,18 @@ ghost use Rattle.cpm_operations.specs.Steps.{reading, writing};
 
 use crate::Placement;
 use crate::operations::{place_in, reading, record_of, writing};
-use cpm_directory::{DiskFault, Entry, Name, position_of};
+use cpm_directory::{DiskFault, EXTENT_RECORDS, Entry, Name, position_of};
 use cpm_image::DiskKind;
 
 /// Whether the entry with this number is that of a file's extent.
-fn is_extent_at(entries: &[Entry], at: u16, user: u8, name: &Name, number: u16) -> bool
-    ensures { result ≡ true → (at < length entries.now) × (is_extent_of user name.now number (slice_index_or entries.now at blank) ≡ true) }
+fn is_extent_at(entries: &[Entry], at: u16, user: u8, name: &Name, extent: u16) -> bool
+    ensures { result ≡ true → (at < length entries.now) × (is_extent_of user name.now extent (slice_index_or entries.now at blank) ≡ true) }
 {
-    let place = usize::from(at);
-    if place >= entries.len() {
+    let position = usize::from(at);
+    if position >= entries.len() {
         return false;
     }
-    entries[place].is_extent_of(user, name, number)
+    entries[position].is_extent_of(user, name, extent)
 }
 
 /// The number of the directory entry of a record's extent. The entry `near` is tried first. `None` if there is no such entry, or if no
@@ -39,12 +40,12 @@ pub fn extent_near(
 ) -> Option<u16>
     requires { length entries.now ≤ 65536 }
     ensures found { IfSome result (IsExtentAt kind user name.now number entries.now) }
-    ensures none { result ≡ None → number < file_records kind → position (is_extent_of user name.now (number / 128)) entries.now ≡ None }
+    ensures none { result ≡ None → number < file_records kind → position (is_extent_of user name.now (number / EXTENT_RECORDS)) entries.now ≡ None }
 {
     if number >= kind.file_records() {
         return None;
     }
-    let extent = (number / 128) as u16;
+    let extent = (number / EXTENT_RECORDS as u32) as u16;
     if is_extent_at(entries, near, user, name, extent) {
         return Some(near);
     }
@@ -72,7 +73,11 @@ pub fn reading_at(
     ensures within { IfOk result (λ n. (directory_records kind ≤ n) × (n < record_count kind)) }
 {
     match at {
-        Some(at) => record_of(kind, &entries[usize::from(at)], (number % 128) as u8),
+        Some(at) => record_of(
+            kind,
+            &entries[usize::from(at)],
+            (number % EXTENT_RECORDS as u32) as u8,
+        ),
         None => reading(kind, entries, user, name, number),
     }
 }
@@ -98,14 +103,20 @@ pub fn writing_at(
     requires may_write { may_write ≡ true → file_is_read_only user name.now entries.now ≡ false }
     requires sound { IsSound kind entries.now }
     ensures step { result ≡ writing kind user name.now number entries.now }
-    ensures placed { IfOk result (λ p. block kind p.entry (number % 128 / block_records kind) ≡ p.block) }
+    ensures placed { IfOk result (λ p. block kind p.entry (number % EXTENT_RECORDS / block_records kind) ≡ p.block) }
     ensures refusals { IfErr result RefusesWriting }
     ensures kept { IfOk result (IsKeptBy kind user name.now entries.now) }
 {
     if may_write {
         if let Some(at) = at {
             let entry = entries[usize::from(at)];
-            return place_in(kind, entries, at, &entry, (number % 128) as u8);
+            return place_in(
+                kind,
+                entries,
+                at,
+                &entry,
+                (number % EXTENT_RECORDS as u32) as u8,
+            );
         }
     }
     writing(kind, entries, user, name, number)

@@ -4,6 +4,7 @@ ghost use Rattle.std.specs.Prelude.{◌≡◌, ◌<◌, ◌≤◌, ◌/◌, ◌%
 ghost use Rattle.std.specs.List.{list_any};
 ghost use Rattle.cpm_directory.specs.declared.attribute.Attribute.{Attribute};
 ghost use Rattle.cpm_directory.specs.declared.entry.TheConstants.{USERS};
+ghost use Rattle.cpm_directory.specs.declared.layout.TheConstants.{EXTENT_RECORDS};
 ghost use Rattle.cpm_directory.specs.Entries.{block, is_extent_of, is_match, is_of, is_read_only};
 ghost use Rattle.cpm_directory.specs.Rules.{IsSound};
 ghost use Rattle.cpm_image.specs.Kind.{block_records, directory_records, entry_blocks, file_records, number_limit, record_count};
@@ -15,7 +16,8 @@ ghost use Rattle.cpm_operations.specs.Steps.{after_erasure, after_marking, after
 use crate::Placement;
 use cpm_directory::laws::is_name;
 use cpm_directory::{
-    DiskFault, Entry, Name, file_is_read_only, free_block, free_entry, is_file, position_of,
+    DiskFault, EXTENT_RECORDS, Entry, Name, file_is_read_only, free_block, free_entry, is_file,
+    position_of,
 };
 use cpm_image::DiskKind;
 
@@ -28,8 +30,8 @@ fn new_file(entries: &[Entry], user: u8, name: &Name) -> Result<(u16, Entry), Di
     if is_file(entries, user, name) {
         return Err(DiskFault::Exists);
     }
-    let number = free_entry(entries).ok_or(DiskFault::DirectoryFull)?;
-    Ok((number, Entry::new_extent(user, name.bytes(), 0)))
+    let at = free_entry(entries).ok_or(DiskFault::DirectoryFull)?;
+    Ok((at, Entry::new_extent(user, name.bytes(), 0)))
 }
 
 /// Whether an entry of the user matches a pattern.
@@ -102,11 +104,11 @@ fn may_rename(entries: &[Entry], user: u8, old: &Name, new: &Name) -> Result<(),
 }
 
 /// The entry of a file's extent.
-fn extent_entry(entries: &[Entry], user: u8, name: &Name, number: u16) -> Option<Entry>
-    ensures { result ≡ find (is_extent_of user name.now number) entries.now }
+fn extent_entry(entries: &[Entry], user: u8, name: &Name, extent: u16) -> Option<Entry>
+    ensures { result ≡ find (is_extent_of user name.now extent) entries.now }
 {
     for entry in entries {
-        if entry.is_extent_of(user, name, number) {
+        if entry.is_extent_of(user, name, extent) {
             return Some(*entry);
         }
     }
@@ -127,7 +129,7 @@ fn first_entry(entries: &[Entry], user: u8, name: &Name) -> Option<Entry>
 
 /// The logical record of the disk that has record `i` of an extent, if the extent has it.
 pub(crate) fn record_of(kind: DiskKind, entry: &Entry, i: u8) -> Result<u32, DiskFault>
-    requires { i < 128 }
+    requires { i < EXTENT_RECORDS }
     ensures step { result ≡ written_place kind i entry.now }
     ensures refusals { IfErr result RefusesReading }
 {
@@ -154,8 +156,8 @@ fn read_place(
     if number >= kind.file_records() {
         return Err(DiskFault::TooFar);
     }
-    let extent = (number / 128) as u16;
-    let i = (number % 128) as u8;
+    let extent = (number / EXTENT_RECORDS as u32) as u16;
+    let i = (number % EXTENT_RECORDS as u32) as u8;
     let entry = extent_entry(entries, user, name, extent).ok_or(DiskFault::NoExtent)?;
     record_of(kind, &entry, i)
 }
@@ -166,19 +168,19 @@ fn extent_of(
     entries: &[Entry],
     user: u8,
     name: &Name,
-    number: u16,
+    extent: u16,
 ) -> Result<(u16, Entry), DiskFault>
     requires size { length entries.now ≤ 65536 }
-    requires number { number < 512 }
-    ensures step { result ≡ extent_place user name.now number entries.now }
+    requires extent { extent < 512 }
+    ensures step { result ≡ extent_place user name.now extent entries.now }
     ensures refusals { IfErr result RefusesWriting }
 {
-    if let Some(place) = position_of(entries, user, name, number) {
-        return Ok((place, entries[usize::from(place)]));
+    if let Some(at) = position_of(entries, user, name, extent) {
+        return Ok((at, entries[usize::from(at)]));
     }
-    let place = free_entry(entries).ok_or(DiskFault::DirectoryFull)?;
+    let at = free_entry(entries).ok_or(DiskFault::DirectoryFull)?;
     let first = first_entry(entries, user, name).ok_or(DiskFault::NotFound)?;
-    Ok((place, Entry::new_extent(user, first.name, number)))
+    Ok((at, Entry::new_extent(user, first.name, extent)))
 }
 
 /// The block of a group of records, and whether it is new: the block that the entry has, otherwise the lowest free one.
@@ -205,18 +207,18 @@ fn block_of(
 pub(crate) fn place_in(
     kind: DiskKind,
     entries: &[Entry],
-    number: u16,
+    at: u16,
     entry: &Entry,
     i: u8,
 ) -> Result<Placement, DiskFault>
-    requires { i < 128 }
-    ensures step { result ≡ placing_in kind number entry.now i entries.now }
+    requires { i < EXTENT_RECORDS }
+    ensures step { result ≡ placing_in kind at entry.now i entries.now }
     ensures refusals { IfErr result RefusesWriting }
     ensures placed { IfOk result (λ p. block kind p.entry (i / block_records kind) ≡ p.block) }
 {
     let (block, is_new) = block_of(kind, entries, entry, i / kind.block_records())?;
     Ok(Placement {
-        number,
+        entry_number: at,
         entry: entry.with_record(kind, i, block),
         block,
         is_new,
@@ -235,10 +237,16 @@ fn place(
     requires size { length entries.now ≤ 65536 }
     ensures step { result ≡ placing kind user name.now number entries.now }
     ensures refusals { IfErr result RefusesWriting }
-    ensures placed { IfOk result (λ p. block kind p.entry (number % 128 / block_records kind) ≡ p.block) }
+    ensures placed { IfOk result (λ p. block kind p.entry (number % EXTENT_RECORDS / block_records kind) ≡ p.block) }
 {
-    let (at, entry) = extent_of(entries, user, name, (number / 128) as u16)?;
-    place_in(kind, entries, at, &entry, (number % 128) as u8)
+    let (at, entry) = extent_of(entries, user, name, (number / EXTENT_RECORDS as u32) as u16)?;
+    place_in(
+        kind,
+        entries,
+        at,
+        &entry,
+        (number % EXTENT_RECORDS as u32) as u8,
+    )
 }
 
 /// Where to write a record of a file, if it may be written.
@@ -252,7 +260,7 @@ fn write_place(
     requires { length entries.now ≤ 65536 }
     ensures step { result ≡ writing kind user name.now number entries.now }
     ensures refusals { IfErr result RefusesWriting }
-    ensures placed { IfOk result (λ p. block kind p.entry (number % 128 / block_records kind) ≡ p.block) }
+    ensures placed { IfOk result (λ p. block kind p.entry (number % EXTENT_RECORDS / block_records kind) ≡ p.block) }
 {
     if !is_file(entries, user, name) {
         return Err(DiskFault::NotFound);
@@ -368,7 +376,7 @@ pub fn writing(
     requires user { user < USERS }
     requires size { length entries.now ≤ 65535 }
     ensures step { result ≡ writing kind user name.now number entries.now }
-    ensures placed { IfOk result (λ p. block kind p.entry (number % 128 / block_records kind) ≡ p.block) }
+    ensures placed { IfOk result (λ p. block kind p.entry (number % EXTENT_RECORDS / block_records kind) ≡ p.block) }
     ensures refusals { IfErr result RefusesWriting }
     ensures kept { IsSound kind entries.now → IfOk result (IsKeptBy kind user name.now entries.now) }
 {

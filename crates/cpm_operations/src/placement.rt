@@ -6,7 +6,7 @@ use cpm_directory::Entry;
 #[derive(Clone, Copy, Debug, PartialEq, Eq)]
 pub struct Placement {
     /// The number of the directory entry of the record's extent.
-    pub number: u16,
+    pub entry_number: u16,
     /// That entry after the record is written.
     pub entry: Entry,
     /// The block of the record.

@@ -1,6 +1,7 @@
 -- What `dir` prints: a line for each file that is asked for, by user and then by name.
 use Rattle.std.specs.Prelude.{◌≡◌, ℕ, ◌*◌, ◌==◌, Bool, true, ◌&&◌, List, [], ◌∷◌, ◌++◌, Option, None, Some, codes, decimal, drop, filter, take}
 use Rattle.std.specs.List.{concat, flat_map}
+use Rattle.cpm_image.specs.declared.format.TheConstants.{RECORD_BYTES}
 use Rattle.cpm_image.specs.declared.kind.DiskKind.{DiskKind}
 use Rattle.cpm_directory.specs.Letters.{name_matches}
 use Rattle.cpm_directory.specs.Searches.{IsListing, space_of, usage_of}
@@ -34,7 +35,7 @@ is_asked user pattern file = is_users user file && is_named pattern file
 
 -- ` BYTES ENTRIES BLOCKS`, where BYTES is 128 for each record below the file's size
 abbrev pub usage_text : Listed → Usage → List ℕ
-usage_text file usage = codes " " ++ (decimal (128 * file.records) ++ (codes " " ++ (decimal usage.entries ++ (codes " " ++ decimal usage.blocks))))
+usage_text file usage = codes " " ++ (decimal (RECORD_BYTES * file.records) ++ (codes " " ++ (decimal usage.entries ++ (codes " " ++ decimal usage.blocks))))
 
 -- `USER NAME.TYP RECORDS`, in a long listing ` BYTES ENTRIES BLOCKS`, then ` RO` if the file is read-only and ` SYS` if it is a system
 -- file

@@ -2,6 +2,7 @@
 use Rattle.std.specs.Prelude.{◌≡◌, ◌⊎◌, ℕ, Bool, not, List, [], ◌∷◌, Option, None, Some, Result, Ok, Err, Vec, filter, find, if◌then◌else◌, map, option_map, replicate, string_bytes, unwrap_or}
 use Rattle.std.specs.Global.{Global}
 use Rattle.std.specs.List.{flat_map, range_with_len}
+use Rattle.cpm_image.specs.declared.format.TheConstants.{RECORD_BYTES}
 use Rattle.cpm_image.specs.declared.kind.DiskKind.{DiskKind}
 use Rattle.cpm_directory.specs.Searches.{IsListing, size}
 use Rattle.cpm_directory.specs.declared.fault.DiskFault.TheVariants as fault
@@ -19,7 +20,7 @@ use Rattle.z80dev_disk.specs.declared.refusal.Refusal.TheVariants as refusal
 
 -- a record of a file, or 128 zeros if the file has no such record
 abbrev pub copied_record : DiskKind → Image → ℕ → List ℕ → ℕ → List ℕ
-copied_record kind image user name number = unwrap_or (file_record kind image user name number) (replicate 128 0)
+copied_record kind image user name number = unwrap_or (file_record kind image user name number) (replicate RECORD_BYTES 0)
 
 -- the first `count` records of a file, one after the other
 abbrev pub copied_below : DiskKind → Image → ℕ → List ℕ → ℕ → List ℕ

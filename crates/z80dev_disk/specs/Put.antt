@@ -1,6 +1,7 @@
 -- What `put` answers: an image in which files of a user are created, one after the other, and the records of each are written.
 use Rattle.std.specs.Prelude.{◌≡◌, ◌⊎◌, ◌<◌, ℕ, ◌+◌, ◌-◌, ◌*◌, ◌/◌, ◌%◌, Bool, true, false, ◌&&◌, List, ◌++◌, None, Some, Result, Ok, Err, Vec, drop, if◌then◌else◌, length, nat_lt, replicate, slice_set, take}
 use Rattle.std.specs.Global.{Global}
+use Rattle.cpm_image.specs.declared.format.TheConstants.{RECORD_BYTES}
 use Rattle.cpm_image.specs.Kind.{block_records}
 use Rattle.cpm_image.specs.declared.kind.DiskKind.{DiskKind}
 use Rattle.cpm_directory.specs.Rules.{IsSound}
@@ -22,15 +23,15 @@ use Rattle.z80dev_disk.specs.declared.refusal.Refusal.{Refusal}
 
 -- the number of records of a file with these bytes
 abbrev pub records_to_put : List ℕ → ℕ
-records_to_put file = (length file + 127) / 128
+records_to_put file = (length file + (RECORD_BYTES - 1)) / RECORD_BYTES
 
 -- a record that begins with these bytes and is padded with 1AH, which ends a text
 abbrev pub padded_record : List ℕ → List ℕ
-padded_record piece = piece ++ replicate (128 - length piece) 0x1A
+padded_record piece = piece ++ replicate (RECORD_BYTES - length piece) 0x1A
 
 -- record `n` of a file with these bytes
 abbrev pub record_to_put : List ℕ → ℕ → List ℕ
-record_to_put file n = padded_record (take 128 (drop (128 * n) file))
+record_to_put file n = padded_record (take RECORD_BYTES (drop (RECORD_BYTES * n) file))
 
 -- The image after the file is created and its first `n` records are written, one after the other.
 pub data PutsFirstRecords (kind : DiskKind) (old : Image) (user : ℕ) (name file : List ℕ) : ℕ → Image → Type 0 where

@@ -23,12 +23,12 @@ pub(crate) fn of_any_extent(name: &[u8; 11]) -> Pattern
 }
 
 /// The directory entry with this number.
-fn entry_at(disk: &Disk<MemoryImage>, number: u16) -> Entry
+fn entry_at(disk: &Disk<MemoryImage>, entry_number: u16) -> Entry
     requires sound { disk.now.failed ≡ false }
-    requires within { number < entry_count disk.now.kind }
-    ensures { result ≡ at (directory disk.now.kind disk.now.device) number }
+    requires within { entry_number < entry_count disk.now.kind }
+    ensures { result ≡ at (directory disk.now.kind disk.now.device) entry_number }
 {
-    Entry::from_bytes(&disk.entry(number))
+    Entry::from_bytes(&disk.entry(entry_number))
 }
 
 /// A law: the name in each directory entry has eleven bytes. The loop only gives the prover each entry.

@@ -20,7 +20,7 @@ use crate::shown::{HostName, is_host_name};
 use crate::text::host_text;
 use cpm_directory::{DiskFault, Listed, Name};
 use cpm_disk::Disk;
-use cpm_image::MemoryImage;
+use cpm_image::{MemoryImage, RECORD_BYTES};
 use std::alloc::{AllocError, Global};
 use z80dev_finish::Answer;
 
@@ -33,7 +33,7 @@ pub struct Gotten {
 }
 
 /// A record of a user's file, or 128 zeros if the file has no such record.
-fn copied(disk: &mut Disk<MemoryImage>, user: u8, name: &Name, number: u32) -> [u8; 128]
+fn copied(disk: &mut Disk<MemoryImage>, user: u8, name: &Name, number: u32) -> [u8; RECORD_BYTES]
     requires sound { disk.old.failed ≡ false }
     requires user { user < USERS }
     requires within { number < file_records disk.old.kind }
@@ -42,7 +42,7 @@ fn copied(disk: &mut Disk<MemoryImage>, user: u8, name: &Name, number: u32) -> [
 {
     match disk.read_block_of(user, name, number) {
         Ok(bytes) => bytes,
-        Err(_) => [0; 128],
+        Err(_) => [0; RECORD_BYTES],
     }
 }
 

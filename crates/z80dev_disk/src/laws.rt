@@ -2,6 +2,7 @@
 
 ghost use Rattle.std.specs.Prelude.{◌≡◌, ◌++◌, ◌-◌, ◌*◌, ◌==◌, ℕ, List, false, length, replicate, true};
 ghost use Rattle.std.specs.List.{list_any};
+ghost use Rattle.cpm_image.specs.declared.format.TheConstants.{RECORD_BYTES};
 ghost use Rattle.cpm_image.specs.declared.kind.DiskKind.{DiskKind};
 ghost use Rattle.cpm_directory.specs.Searches.{size};
 ghost use Rattle.cpm_disk.specs.Image.{Image, directory};
@@ -13,7 +14,7 @@ ghost use Rattle.z80dev_disk.specs.Text.{cpm_text, host_text};
 /// A file that was put on a disk comes back with `get`, padded with 1AH to whole records.
 pub fn put_is_gotten()
     ensures { (kind : DiskKind) (old new : Image) (user : ℕ) (name file : List ℕ) → HasFile kind old new user name file
-        → got kind new user name false (size user name (directory kind new)) ≡ one_file (file ++ replicate (128 * records_to_put file - length file) 0x1A) }
+        → got kind new user name false (size user name (directory kind new)) ≡ one_file (file ++ replicate (RECORD_BYTES * records_to_put file - length file) 0x1A) }
 {}
 
 /// A text without 1AH comes back unchanged from its form of CP/M, whatever number of bytes 1AH follows.

@@ -14,7 +14,7 @@ use crate::refusal::Refusal;
 use crate::shown::{joined, trimmed, when};
 use cpm_directory::{DiskFault, Entry, Listed, Space, Usage};
 use cpm_disk::Disk;
-use cpm_image::MemoryImage;
+use cpm_image::{MemoryImage, RECORD_BYTES};
 use std::alloc::{AllocError, Global};
 use z80dev_finish::Answer;
 
@@ -95,7 +95,7 @@ pub(crate) fn asked_for(
 fn usage_text(alloc: Global, file: &Listed, usage: Usage) -> Result<String, AllocError>
     ensures { IfOk result (λ text. string_bytes text ≡ usage_text file.now usage) }
 {
-    let bytes = 128 * u64::from(file.records);
+    let bytes = RECORD_BYTES as u64 * u64::from(file.records);
     let entries = usage.entries;
     let blocks = usage.blocks;
     format!(in alloc; " {bytes} {entries} {blocks}")

@@ -17,11 +17,8 @@ use crate::image::{disk_of, image_bytes};
 use crate::refusal::Refusal;
 use cpm_directory::{DiskFault, Name};
 use cpm_disk::Disk;
-use cpm_image::MemoryImage;
+use cpm_image::{MemoryImage, RECORD_BYTES};
 use std::alloc::Global;
-
-/// The number of bytes in a record.
-const RECORD: usize = 128;
 
 /// Pads the last record of a file. CP/M takes it as the end of a text.
 const FILL: u8 = 0x1A;
@@ -35,23 +32,23 @@ pub struct PutFile<'a> {
 }
 
 /// A record that begins with these bytes and is padded with 1AH.
-fn filled(piece: &[u8]) -> [u8; 128]
-    requires { length piece.now ≤ 128 }
+fn filled(piece: &[u8]) -> [u8; RECORD_BYTES]
+    requires { length piece.now ≤ RECORD_BYTES }
     ensures { result ≡ padded_record piece.now }
 {
-    let mut record = [FILL; RECORD];
+    let mut record = [FILL; RECORD_BYTES];
     record[..piece.len()].copy_from_slice(piece);
     record
 }
 
 /// Divides the rest of a file into its first record, which may be shorter than 128 bytes, and what follows; `None` if nothing is left.
 fn cut(rest: &[u8]) -> Option<(&[u8], &[u8])>
-    ensures { MatchOption result (length rest.now ≡ 0) (λ parts. (0 < length rest.now) × (length parts.0.now ≤ 128) × (parts.0.now ≡ take 128 rest.now) × (parts.1.now ≡ drop 128 rest.now)) }
+    ensures { MatchOption result (length rest.now ≡ 0) (λ parts. (0 < length rest.now) × (length parts.0.now ≤ RECORD_BYTES) × (parts.0.now ≡ take RECORD_BYTES rest.now) × (parts.1.now ≡ drop RECORD_BYTES rest.now)) }
 {
     if rest.is_empty() {
         return None;
     }
-    Some(rest.split_at(rest.len().min(RECORD)))
+    Some(rest.split_at(rest.len().min(RECORD_BYTES)))
 }
 
 /// Creates a file and writes its records, one after the other.

@@ -1,5 +1,6 @@
 -- Functions 22, 19 and 23: make, erase and rename files. (CP/M 2.2 Interface Guide.)
-use Rattle.std.specs.Prelude.{◌≡◌, ◌+◌, ◌%◌, ℕ, List, Result, Ok, Err, replicate, ⊤}
+use Rattle.std.specs.Prelude.{◌≡◌, ◌+◌, ◌-◌, ◌%◌, ℕ, List, Result, Ok, Err, replicate, ⊤}
+use Rattle.cpm_directory.specs.declared.layout.TheConstants.{ENTRY_BYTES, EX_OFFSET, RECORD_ENTRIES}
 use Rattle.cpm_directory.specs.declared.fault.DiskFault.{DiskFault}
 use Rattle.cpm_directory.specs.declared.fault.DiskFault.TheVariants as fault
 use Rattle.cpm_directory.specs.Letters.{letters}
@@ -13,7 +14,7 @@ use Rattle.cpm_fcb.specs.Fcbs.{drive_judged, fcb_at, file_judged, name_of, names
 
 -- function 22: bytes 12 to 31 of the file control block become 0
 abbrev pub make_answer : ℕ → List ℕ → Result ℕ DiskFault → Result Done Stop
-make_answer address memory (Ok k) = done (k % 4) (with_bytes (address + 12) (replicate 20 0) memory)
+make_answer address memory (Ok k) = done (k % RECORD_ENTRIES) (with_bytes (address + EX_OFFSET) (replicate (ENTRY_BYTES - EX_OFFSET) 0) memory)
 make_answer address memory (Err fault.Exists) = done 0xFF memory
 make_answer address memory (Err fault.DirectoryFull) = done 0xFF memory
 make_answer address memory (Err refusal) = Err (stop_of refusal)

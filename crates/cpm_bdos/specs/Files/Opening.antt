@@ -1,6 +1,6 @@
 -- Functions 15 and 16: open and close files. (CP/M 2.2 Interface Guide.)
 use Rattle.std.specs.Prelude.{◌+◌, ◌*◌, ◌%◌, ℕ, nat_le, List, Option, Some, None, Result, Ok, if◌then◌else◌}
-use Rattle.cpm_directory.specs.declared.rules.TheConstants.{LAST_EXTENT}
+use Rattle.cpm_directory.specs.declared.layout.TheConstants.{LAST_EXTENT, NAME_OFFSET, RECORD_ENTRIES, S2_EXTENTS, S2_VALUES}
 use Rattle.cpm_image.specs.declared.kind.DiskKind.{DiskKind}
 use Rattle.cpm_image.specs.declared.kind.DiskKind.TheVariants.{EightInch, Megabyte}
 use Rattle.cpm_directory.specs.declared.pattern.Pattern.{Pattern}
@@ -14,7 +14,7 @@ use Rattle.cpm_fcb.specs.Files.{extent_found, entry_found, with_entry}
 
 -- the number of an entry modulo 4, or FFH
 abbrev pub code_of : Option ℕ → ℕ
-code_of (Some k) = k % 4
+code_of (Some k) = k % RECORD_ENTRIES
 code_of None = 0xFF
 
 -- Function 15 searches for bytes 1 to 12 of the file control block, with S2 taken as 0; a `?` in them matches any byte.
@@ -26,12 +26,12 @@ abbrev pub open_answer : {S : Type 0} → (S → Image) → Mounted S → ℕ �
 open_answer sectors disk user address memory =
     let fcb = fcb_at address memory in
     let entry = entry_found sectors disk user (open_pattern fcb) 0 in
-    unless_stopped (drive_judged fcb) (done (code_of entry) (with_entry sectors disk 1 address entry memory))
+    unless_stopped (drive_judged fcb) (done (code_of entry) (with_entry sectors disk NAME_OFFSET address entry memory))
 
 -- the number of the extent that a file control block is at: EX and, only on a Megabyte disk, 32 times the low six bits of S2
 abbrev pub fcb_extent_number : DiskKind → List ℕ → ℕ
 fcb_extent_number EightInch fcb = extent_of fcb
-fcb_extent_number Megabyte fcb = 32 * (s2_of fcb % 64) + extent_of fcb
+fcb_extent_number Megabyte fcb = S2_EXTENTS * (s2_of fcb % S2_VALUES) + extent_of fcb
 
 -- the directory entry of that extent; there is none for an EX above 31
 abbrev pub extent_entry : {S : Type 0} → (S → Image) → Mounted S → ℕ → List ℕ → Option ℕ

@@ -1,6 +1,7 @@
 -- Functions 17 and 18: search the directory. (CP/M 2.2 Interface Guide.)
 use Rattle.std.specs.Prelude.{◌≡◌, ◌+◌, ◌*◌, ◌/◌, ◌==◌, ℕ, nat_lt, List, Option, Some, None, option_map, Result, Ok, Err, if◌then◌else◌, ⊤}
 use Rattle.cpm_image.specs.Kind.{entry_count}
+use Rattle.cpm_directory.specs.declared.layout.TheConstants.{ENTRY_BYTES, RECORD_ENTRIES}
 use Rattle.cpm_disk.specs.Calls.{Mounted}
 use Rattle.cpm_disk.specs.Image.{Image}
 use Rattle.cpm_fcb.specs.declared.stop.Stop.{Stop}
@@ -37,13 +38,13 @@ next_search sectors disk None = None
 -- The directory record from entry `first` on, which has four entries, is copied to the DMA buffer.
 abbrev pub with_directory_record : {S : Type 0} → (S → Image) → Mounted S → ℕ → ℕ → List ℕ → List ℕ
 with_directory_record sectors disk dma first memory =
-    with_bytes (dma + 96) (entry_bytes sectors disk (first + 3))
-    (with_bytes (dma + 64) (entry_bytes sectors disk (first + 2))
-    (with_bytes (dma + 32) (entry_bytes sectors disk (first + 1))
+    with_bytes (dma + 3 * ENTRY_BYTES) (entry_bytes sectors disk (first + 3))
+    (with_bytes (dma + 2 * ENTRY_BYTES) (entry_bytes sectors disk (first + 2))
+    (with_bytes (dma + ENTRY_BYTES) (entry_bytes sectors disk (first + 1))
     (with_bytes dma (entry_bytes sectors disk first) memory)))
 
 abbrev pub with_searched : {S : Type 0} → (S → Image) → Mounted S → ℕ → Option Search → List ℕ → List ℕ
-with_searched sectors disk dma (Some search) memory = with_directory_record sectors disk dma (search.found / 4 * 4) memory
+with_searched sectors disk dma (Some search) memory = with_directory_record sectors disk dma (search.found / RECORD_ENTRIES * RECORD_ENTRIES) memory
 with_searched sectors disk dma None memory = memory
 
 -- the number modulo 4 of the entry that was found, or FFH

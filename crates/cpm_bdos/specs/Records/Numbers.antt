@@ -5,6 +5,7 @@ use Rattle.cpm_directory.specs.Letters.{letters}
 use Rattle.cpm_disk.specs.Calls.{Mounted}
 use Rattle.cpm_disk.specs.Image.{Image}
 use Rattle.cpm_image.specs.declared.kind.DiskKind.{DiskKind}
+use Rattle.cpm_fcb.specs.declared.fcb.TheConstants.{R0_OFFSET}
 use Rattle.cpm_fcb.specs.declared.stop.Stop.{Stop}
 use Rattle.cpm_fcb.specs.Bytes.{with_bytes}
 use Rattle.cpm_fcb.specs.Stops.{Done, unless_stopped, done}
@@ -14,7 +15,7 @@ use Rattle.cpm_bdos.specs.Records.Places.{place_of, record_at}
 
 -- a number of 24 bits in R0 to R2, low byte first
 abbrev pub with_random : ℕ → ℕ → List ℕ → List ℕ
-with_random address number memory = with_bytes (address + 33) ((number % 256) ∷ (number / 256 % 256) ∷ (number / 65536) ∷ []) memory
+with_random address number memory = with_bytes (address + R0_OFFSET) ((number % 256) ∷ (number / 256 % 256) ∷ (number / 65536) ∷ []) memory
 
 -- function 35: the size; or FFH, with 0 as the size, if there is no such file
 abbrev pub size_stored_as : ℕ → List ℕ → Option ℕ → Result Done Stop

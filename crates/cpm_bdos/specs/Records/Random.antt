@@ -2,12 +2,15 @@
 use Rattle.std.specs.Prelude.{◌≡◌, ◌+◌, ◌/◌, ◌%◌, ◌==◌, ◌&&◌, ℕ, Bool, true, false, nat_lt, List, [], ◌∷◌, Result, Ok, Err, ⊤}
 use Rattle.cpm_image.specs.Kind.{file_records}
 use Rattle.cpm_image.specs.declared.kind.DiskKind.{DiskKind}
+use Rattle.cpm_image.specs.declared.format.TheConstants.{RECORD_BYTES}
+use Rattle.cpm_directory.specs.declared.layout.TheConstants.{EX_OFFSET, EXTENT_RECORDS, S2_EXTENTS, S2_OFFSET, S2_RECORDS}
 use Rattle.cpm_directory.specs.declared.fault.DiskFault.{DiskFault}
 use Rattle.cpm_directory.specs.declared.fault.DiskFault.TheVariants as fault
 use Rattle.cpm_directory.specs.Letters.{letters}
 use Rattle.cpm_disk.specs.Calls.{Mounted}
 use Rattle.cpm_disk.specs.Image.{Image}
 use Rattle.cpm_disk.specs.Operations.{IsRecordRead, IsRecordWritten}
+use Rattle.cpm_fcb.specs.declared.fcb.TheConstants.{CR_OFFSET}
 use Rattle.cpm_fcb.specs.declared.stop.Stop.{Stop}
 use Rattle.cpm_fcb.specs.Bytes.{bytes_at, with_bytes}
 use Rattle.cpm_fcb.specs.Stops.{Done, Ends, Unless, done, stop_of}
@@ -17,7 +20,9 @@ use Rattle.cpm_bdos.specs.Records.Entries.{with_extent_entry}
 -- EX, S2 and CR are set to the position of the record, even if there is no such record; a stop leaves them as they were
 abbrev pub with_place_of : ℕ → ℕ → List ℕ → List ℕ
 with_place_of address number memory =
-    with_bytes (address + 32) ((number % 128) ∷ []) (with_bytes (address + 14) ((number / 4096) ∷ []) (with_bytes (address + 12) ((number / 128 % 32) ∷ []) memory))
+    with_bytes (address + CR_OFFSET) ((number % EXTENT_RECORDS) ∷ [])
+    (with_bytes (address + S2_OFFSET) ((number / S2_RECORDS) ∷ [])
+    (with_bytes (address + EX_OFFSET) ((number / EXTENT_RECORDS % S2_EXTENTS) ∷ []) memory))
 
 -- whether a file can have the record with the number in R0 to R2
 abbrev pub can_have_record : DiskKind → List ℕ → Bool
@@ -70,5 +75,5 @@ WritesAt sectors faults old new user dma address before now result =
     Unless (file_judged fcb) old new before now result
     (Within (can_have_record old.kind fcb) old new before now result
     ((reply : Result ⊤ DiskFault)
-    × IsRecordWritten sectors faults old new user (letters (name_of fcb)) (random_of fcb) (bytes_at dma 128 before) reply
+    × IsRecordWritten sectors faults old new user (letters (name_of fcb)) (random_of fcb) (bytes_at dma RECORD_BYTES before) reply
     × Ends (write_at sectors new user address (random_of fcb) before reply) before now result))

@@ -1,12 +1,15 @@
 -- Functions 20 and 21: read and write records one after the other. (CP/M 2.2 Interface Guide.)
 use Rattle.std.specs.Prelude.{◌≡◌, ◌+◌, ◌==◌, ℕ, List, [], ◌∷◌, Option, Some, None, Result, Ok, Err, if◌then◌else◌, ⊤}
 use Rattle.cpm_image.specs.declared.kind.DiskKind.{DiskKind}
+use Rattle.cpm_image.specs.declared.format.TheConstants.{RECORD_BYTES}
+use Rattle.cpm_directory.specs.declared.layout.TheConstants.{EX_OFFSET, EXTENT_RECORDS, S2_OFFSET}
 use Rattle.cpm_directory.specs.declared.fault.DiskFault.{DiskFault}
 use Rattle.cpm_directory.specs.declared.fault.DiskFault.TheVariants as fault
 use Rattle.cpm_directory.specs.Letters.{letters}
 use Rattle.cpm_disk.specs.Calls.{Mounted}
 use Rattle.cpm_disk.specs.Image.{Image}
 use Rattle.cpm_disk.specs.Operations.{IsRecordRead, IsRecordWritten}
+use Rattle.cpm_fcb.specs.declared.fcb.TheConstants.{CR_OFFSET}
 use Rattle.cpm_fcb.specs.declared.stop.Stop.{Stop}
 use Rattle.cpm_fcb.specs.Bytes.{bytes_at, with_bytes}
 use Rattle.cpm_fcb.specs.Stops.{Done, Ends, Unless, unless_stopped, done, stop_of}
@@ -19,13 +22,13 @@ use Rattle.cpm_bdos.specs.Records.Entries.{with_extent_entry}
 -- extent, and if S2 went up, it is written too. Only these bytes are written here, so if the DMA buffer overlaps the file control block,
 -- its other bytes are those of the record.
 abbrev pub with_extent : ℕ → Place → Place → List ℕ → List ℕ
-with_extent address old new memory = if old.current == 128 then with_bytes (address + 12) (new.extent ∷ []) memory else memory
+with_extent address old new memory = if old.current == EXTENT_RECORDS then with_bytes (address + EX_OFFSET) (new.extent ∷ []) memory else memory
 
 abbrev pub with_s2 : ℕ → Place → Place → List ℕ → List ℕ
-with_s2 address old new memory = if old.s2 == new.s2 then memory else with_bytes (address + 14) (new.s2 ∷ []) memory
+with_s2 address old new memory = if old.s2 == new.s2 then memory else with_bytes (address + S2_OFFSET) (new.s2 ∷ []) memory
 
 abbrev pub with_place : ℕ → Place → Place → List ℕ → List ℕ
-with_place address old new memory = with_bytes (address + 32) ((new.current + 1) ∷ []) (with_s2 address old new (with_extent address old new memory))
+with_place address old new memory = with_bytes (address + CR_OFFSET) ((new.current + 1) ∷ []) (with_s2 address old new (with_extent address old new memory))
 
 -- what stops a call before the disk is used: drive, name, and EX, S2 and CR
 abbrev pub sequential_judged : DiskKind → List ℕ → Result ⊤ Stop
@@ -82,5 +85,5 @@ WritesNext sectors faults old new user dma address before now result =
     Unless (sequential_judged old.kind fcb) old new before now result
     (InTurn (turned old.kind place) 2 old new before now result (λ next.
     (reply : Result ⊤ DiskFault)
-    × IsRecordWritten sectors faults old new user (letters (name_of fcb)) (record_at old.kind next) (bytes_at dma 128 before) reply
+    × IsRecordWritten sectors faults old new user (letters (name_of fcb)) (record_at old.kind next) (bytes_at dma RECORD_BYTES before) reply
     × Ends (write_next sectors new user address place next before reply) before now result))

@@ -6,10 +6,14 @@ ghost use Rattle.cpm_fcb.specs.Stops.{Ends};
 ghost use Rattle.cpm_bdos.specs.Files.Changes.{ErasesFiles, Makes, RenamesFile, erase_answer, make_answer, rename_answer};
 
 use crate::files::opening::NOT_FOUND;
+use cpm_directory::{ENTRY_BYTES, EX_OFFSET, RECORD_ENTRIES};
 use cpm_disk::{Disk, DiskFault, Name, Pattern};
 use cpm_fcb::{Fcb, Stop, put_field, stop_of};
 use cpm_image::Sectors;
 use z80_cpu::Memory;
+
+/// How many bytes function 22 clears: from EX to the last block.
+const CLEARED: usize = ENTRY_BYTES - EX_OFFSET;
 
 /// Function 22: creates a file with extent 0, and sets bytes 12 to 31 of the file control block to 0.
 ///
@@ -29,8 +33,8 @@ pub fn make<S: Sectors>(
     fcb.judge_file()?;
     match disk.create(user, &Name::new(fcb.name())) {
         Ok(number) => {
-            put_field(memory, address, 12, &[0; 20]);
-            Ok(number % 4)
+            put_field(memory, address, EX_OFFSET as u16, &[0; CLEARED]);
+            Ok(number % RECORD_ENTRIES)
         }
         Err(fault) => not_made(fault),
     }

@@ -4,7 +4,7 @@ ghost use Rattle.std.specs.Prelude.{◌≡◌};
 ghost use Rattle.cpm_fcb.specs.Stops.{Ends};
 ghost use Rattle.cpm_bdos.specs.Files.Opening.{closed, code_of, extent_entry, fcb_extent_number, open_answer};
 
-use cpm_directory::LAST_EXTENT;
+use cpm_directory::{LAST_EXTENT, NAME_OFFSET, RECORD_ENTRIES, S2_EXTENTS, S2_VALUES};
 use cpm_disk::{Disk, DiskKind, Name, Pattern};
 use cpm_fcb::{Fcb, Stop, put_entry};
 use cpm_image::Sectors;
@@ -18,7 +18,7 @@ pub(crate) fn code_of(entry: Option<u16>) -> u16
     ensures { result ≡ code_of entry }
 {
     match entry {
-        Some(number) => number % 4,
+        Some(number) => number % RECORD_ENTRIES,
         None => NOT_FOUND,
     }
 }
@@ -45,7 +45,7 @@ pub fn open<S: Sectors>(
         high: 0,
     };
     let found = disk.find(user, &pattern, 0);
-    put_entry(disk, found, 1, memory, address);
+    put_entry(disk, found, NAME_OFFSET, memory, address);
     Ok(code_of(found))
 }
 
@@ -89,6 +89,6 @@ fn extent_number(kind: DiskKind, fcb: &Fcb) -> u16
     let extent = u16::from(fcb.extent());
     match kind {
         DiskKind::EightInch => extent,
-        DiskKind::Megabyte => 32 * u16::from(fcb.s2() % 64) + extent,
+        DiskKind::Megabyte => S2_EXTENTS as u16 * u16::from(fcb.s2() % S2_VALUES) + extent,
     }
 }

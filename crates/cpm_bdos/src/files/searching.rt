@@ -6,6 +6,7 @@ ghost use Rattle.cpm_bdos.specs.Files.Searching.{SearchesFirst, search_answer, n
 
 use crate::files::opening::code_of;
 use crate::files::search::{Search, Sought};
+use cpm_directory::{ENTRY_BYTES, RECORD_ENTRIES};
 use cpm_disk::{Disk, Pattern};
 use cpm_fcb::{Fcb, QUESTION, Stop, put_bytes, put_field};
 use cpm_image::Sectors;
@@ -120,7 +121,12 @@ fn put_searched<S: Sectors>(disk: &Disk<S>, dma: u16, memory: &mut Memory, searc
     ensures { memory.new ≡ with_searched S.sectors disk.now dma search memory.old }
 {
     if let Some(search) = search {
-        put_record(disk, dma, memory, u16::from(search.found / 4 * 4));
+        put_record(
+            disk,
+            dma,
+            memory,
+            u16::from(search.found) / RECORD_ENTRIES * RECORD_ENTRIES,
+        );
     }
 }
 
@@ -130,9 +136,19 @@ fn put_record<S: Sectors>(disk: &Disk<S>, dma: u16, memory: &mut Memory, first: 
     ensures { memory.new ≡ with_directory_record S.sectors disk.now dma first memory.old }
 {
     put_bytes(memory, dma, &disk.entry(first));
-    put_field(memory, dma, 32, &disk.entry(first + 1));
-    put_field(memory, dma, 64, &disk.entry(first + 2));
-    put_field(memory, dma, 96, &disk.entry(first + 3));
+    put_field(memory, dma, ENTRY_BYTES as u16, &disk.entry(first + 1));
+    put_field(
+        memory,
+        dma,
+        (2 * ENTRY_BYTES) as u16,
+        &disk.entry(first + 2),
+    );
+    put_field(
+        memory,
+        dma,
+        (3 * ENTRY_BYTES) as u16,
+        &disk.entry(first + 3),
+    );
 }
 
 /// What a search answers: the number modulo 4 of the entry that it found, or FFH.

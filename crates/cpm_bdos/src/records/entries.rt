@@ -3,6 +3,7 @@
 ghost use Rattle.std.specs.Prelude.{◌≡◌, ◌<◌, ◌/◌};
 ghost use Rattle.cpm_bdos.specs.Records.Entries.{with_extent_entry};
 
+use cpm_directory::{EXTENT_RECORDS, RC_OFFSET};
 use cpm_disk::{Disk, Name};
 use cpm_fcb::put_entry;
 use cpm_image::Sectors;
@@ -17,9 +18,9 @@ pub(crate) fn put_extent_entry<S: Sectors>(
     memory: &mut Memory,
     address: u16,
 )
-    requires { number / 128 < 65536 }
+    requires { number / EXTENT_RECORDS < 65536 }
     ensures { memory.new ≡ with_extent_entry S.sectors disk.now user name.now number address memory.old }
 {
-    let entry = disk.find_extent(user, name, (number / 128) as u16);
-    put_entry(disk, entry, 15, memory, address);
+    let entry = disk.find_extent(user, name, (number / EXTENT_RECORDS as u32) as u16);
+    put_entry(disk, entry, RC_OFFSET, memory, address);
 }

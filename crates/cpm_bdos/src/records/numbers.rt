@@ -7,7 +7,7 @@ ghost use Rattle.cpm_bdos.specs.Records.Numbers.{record_number_stored, size_stor
 
 use crate::records::place::Place;
 use cpm_disk::{Disk, DiskKind, Name};
-use cpm_fcb::{Fcb, Stop, put_field};
+use cpm_fcb::{Fcb, R0_OFFSET, Stop, put_field};
 use cpm_image::Sectors;
 use z80_cpu::Memory;
 
@@ -64,5 +64,5 @@ fn put_random(memory: &mut Memory, address: u16, number: u32)
     let low = (number % 256) as u8;
     let middle = (number / 256 % 256) as u8;
     let high = (number / 65_536) as u8;
-    put_field(memory, address, 33, &[low, middle, high]);
+    put_field(memory, address, R0_OFFSET as u16, &[low, middle, high]);
 }

@@ -1,6 +1,6 @@
 //! The position of a file control block in its file.
 
-use cpm_directory::{LAST_EXTENT, MOST_RECORDS};
+use cpm_directory::{EXTENT_RECORDS, LAST_EXTENT, S2_RECORDS, S2_VALUES};
 use cpm_disk::DiskKind;
 use cpm_fcb::{Fcb, Stop};
 
@@ -14,7 +14,7 @@ pub struct Place {
 
 impl Place {
     ghost use Rattle.std.specs.Prelude.{◌≡◌, ◌<◌, ◌≤◌, IfSome, OnOk, false};
-    ghost use Rattle.cpm_directory.specs.declared.rules.TheConstants.{MOST_RECORDS};
+    ghost use Rattle.cpm_directory.specs.declared.layout.TheConstants.{EXTENT_RECORDS};
     ghost use Rattle.cpm_bdos.specs.Records.Places.{is_bad, next_extent, next_high, place_judged, place_of, record_at, turned};
 
     /// The position in a file control block.
@@ -34,16 +34,18 @@ impl Place {
     {
         let high = match kind {
             DiskKind::EightInch => 0,
-            DiskKind::Megabyte => u32::from(self.s2 % 64),
+            DiskKind::Megabyte => u32::from(self.s2 % S2_VALUES),
         };
-        4096 * high + 128 * u32::from(self.extent) + u32::from(self.current)
+        S2_RECORDS as u32 * high
+            + EXTENT_RECORDS as u32 * u32::from(self.extent)
+            + u32::from(self.current)
     }
 
     /// Tests a position for reading or writing the next record: EX, CR and, on a Megabyte disk, the low six bits of S2 must not be too
     /// great.
     pub(crate) fn judge(self, kind: DiskKind) -> Result<(), Stop>
         ensures judged { result ≡ place_judged kind self }
-        ensures within { OnOk result (self.current ≤ MOST_RECORDS) }
+        ensures within { OnOk result (self.current ≤ EXTENT_RECORDS) }
     {
         if self.is_bad(kind) {
             Err(Stop::BadFcb)
@@ -54,21 +56,21 @@ impl Place {
 
     fn is_bad(self, kind: DiskKind) -> bool
         ensures bad { result ≡ is_bad kind self }
-        ensures within { result ≡ false → self.current ≤ MOST_RECORDS }
+        ensures within { result ≡ false → self.current ≤ EXTENT_RECORDS }
     {
-        let bad = self.extent > LAST_EXTENT || self.current > MOST_RECORDS;
+        let bad = self.extent > LAST_EXTENT || self.current > EXTENT_RECORDS;
         match kind {
             DiskKind::EightInch => bad,
-            DiskKind::Megabyte => bad || self.s2 % 64 > kind.last_high(),
+            DiskKind::Megabyte => bad || self.s2 % S2_VALUES > kind.last_high(),
         }
     }
 
     /// The position of the next record: if CR is 128, it is record 0 of the next extent; `None` if there is none.
     pub(crate) fn turned(self, kind: DiskKind) -> Option<Place>
         ensures place { result ≡ turned kind self }
-        ensures within { self.current ≤ MOST_RECORDS → IfSome result (λ p. p.current < MOST_RECORDS) }
+        ensures within { self.current ≤ EXTENT_RECORDS → IfSome result (λ p. p.current < EXTENT_RECORDS) }
     {
-        if self.current == MOST_RECORDS {
+        if self.current == EXTENT_RECORDS {
             self.next_extent(kind)
         } else {
             Some(self)
@@ -78,7 +80,7 @@ impl Place {
     /// The position at the beginning of the next extent. After EX 31 that is EX 0 of the next S2, which exists only on a Megabyte disk.
     fn next_extent(self, kind: DiskKind) -> Option<Place>
         ensures place { result ≡ next_extent kind self }
-        ensures within { IfSome result (λ p. p.current < MOST_RECORDS) }
+        ensures within { IfSome result (λ p. p.current < EXTENT_RECORDS) }
     {
         if self.extent < LAST_EXTENT {
             return Some(Place {
@@ -96,9 +98,9 @@ impl Place {
     /// The position at the beginning of the first extent of the next S2, if there is one.
     fn next_high(self) -> Option<Place>
         ensures place { result ≡ next_high DiskKind.Megabyte self }
-        ensures within { IfSome result (λ p. p.current < MOST_RECORDS) }
+        ensures within { IfSome result (λ p. p.current < EXTENT_RECORDS) }
     {
-        if self.s2 % 64 < DiskKind::Megabyte.last_high() {
+        if self.s2 % S2_VALUES < DiskKind::Megabyte.last_high() {
             Some(Place {
                 extent: 0,
                 s2: self.s2 + 1,

@@ -6,8 +6,9 @@ ghost use Rattle.cpm_fcb.specs.Stops.{Ends};
 ghost use Rattle.cpm_bdos.specs.Records.Random.{ReadsAt, WritesAt, can_have_record, refused_random_read, refused_random_write, with_place_of};
 
 use crate::records::entries::put_extent_entry;
+use cpm_directory::{EX_OFFSET, EXTENT_RECORDS, S2_EXTENTS, S2_OFFSET, S2_RECORDS};
 use cpm_disk::{Disk, DiskFault, DiskKind, Name};
-use cpm_fcb::{Fcb, Stop, bytes_at, put_bytes, put_field, stop_of};
+use cpm_fcb::{CR_OFFSET, Fcb, Stop, bytes_at, put_bytes, put_field, stop_of};
 use cpm_image::Sectors;
 use z80_cpu::Memory;
 
@@ -105,9 +106,16 @@ fn is_within(fcb: &Fcb, kind: DiskKind) -> bool
 fn put_place_of(memory: &mut Memory, address: u16, number: u16)
     ensures { memory.new ≡ with_place_of address number memory.old }
 {
-    put_field(memory, address, 12, &[(number / 128 % 32) as u8]);
-    put_field(memory, address, 14, &[(number / 4096) as u8]);
-    put_field(memory, address, 32, &[(number % 128) as u8]);
+    let extent = number / EXTENT_RECORDS as u16 % S2_EXTENTS as u16;
+    put_field(memory, address, EX_OFFSET as u16, &[extent as u8]);
+    put_field(
+        memory,
+        address,
+        S2_OFFSET as u16,
+        &[(number / S2_RECORDS) as u8],
+    );
+    let current = number % EXTENT_RECORDS as u16;
+    put_field(memory, address, CR_OFFSET as u16, &[current as u8]);
 }
 
 /// What function 33 answers if the disk refuses.

@@ -8,8 +8,9 @@ ghost use Rattle.cpm_bdos.specs.Records.Sequential.{ReadsNext, WritesNext, refus
 
 use crate::records::entries::put_extent_entry;
 use crate::records::place::Place;
+use cpm_directory::{EX_OFFSET, EXTENT_RECORDS, S2_OFFSET};
 use cpm_disk::{Disk, DiskFault, DiskKind, Name};
-use cpm_fcb::{Fcb, Stop, bytes_at, put_bytes, put_field, stop_of};
+use cpm_fcb::{CR_OFFSET, Fcb, Stop, bytes_at, put_bytes, put_field, stop_of};
 use cpm_image::Sectors;
 use z80_cpu::Memory;
 
@@ -96,7 +97,7 @@ pub fn write_next<S: Sectors>(
 /// Tests drive and name, and then the position.
 fn judge(fcb: &Fcb, kind: DiskKind) -> Result<(), Stop>
     ensures judged { result ≡ sequential_judged kind fcb.now }
-    ensures within { OnOk result (current_of fcb.now ≤ 128) }
+    ensures within { OnOk result (current_of fcb.now ≤ EXTENT_RECORDS) }
 {
     fcb.judge_file()?;
     Place::of(fcb).judge(kind)
@@ -104,19 +105,19 @@ fn judge(fcb: &Fcb, kind: DiskKind) -> Result<(), Stop>
 
 /// Sets CR to the record after this one, EX too if CR was 128, and S2 too if it went up.
 fn put_place(memory: &mut Memory, address: u16, old: Place, new: Place)
-    requires { new.current < 128 }
+    requires { new.current < EXTENT_RECORDS }
     ensures { memory.new ≡ with_place address old new memory.old }
 {
     put_extent(memory, address, old, new);
     put_s2(memory, address, old, new);
-    put_field(memory, address, 32, &[new.current + 1]);
+    put_field(memory, address, CR_OFFSET as u16, &[new.current + 1]);
 }
 
 fn put_extent(memory: &mut Memory, address: u16, old: Place, new: Place)
     ensures { memory.new ≡ with_extent address old new memory.old }
 {
-    if old.current == 128 {
-        put_field(memory, address, 12, &[new.extent]);
+    if old.current == EXTENT_RECORDS {
+        put_field(memory, address, EX_OFFSET as u16, &[new.extent]);
     }
 }
 
@@ -124,7 +125,7 @@ fn put_s2(memory: &mut Memory, address: u16, old: Place, new: Place)
     ensures { memory.new ≡ with_s2 address old new memory.old }
 {
     if old.s2 != new.s2 {
-        put_field(memory, address, 14, &[new.s2]);
+        put_field(memory, address, S2_OFFSET as u16, &[new.s2]);
     }
 }
 

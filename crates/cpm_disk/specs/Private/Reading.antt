@@ -1,6 +1,7 @@
 -- Directory entries that are read from a device.
 use Rattle.std.specs.Prelude.{◌≡◌, ◌<◌, ◌+◌, ◌*◌, ℕ, List, length, take, drop}
 use Rattle.cpm_image.specs.Device.{HasRisen}
+use Rattle.cpm_directory.specs.declared.layout.TheConstants.{ENTRY_BYTES}
 use Rattle.cpm_directory.specs.declared.entry.Entry.{Entry}
 use Rattle.cpm_directory.specs.declared.fault.DiskFault.{DiskFault}
 use Rattle.cpm_directory.specs.declared.fault.DiskFault.TheVariants as fault
@@ -10,7 +11,7 @@ use Rattle.cpm_directory.specs.Entries.{at, entry_of}
 pub record Extended (old new : List Entry) (bytes : List ℕ) (count : ℕ) : Type 0 where
   pub size : length new ≡ length old + count
   pub kept : (k : ℕ) → k < length old → at new k ≡ at old k
-  pub added : (i : ℕ) → i < count → at new (length old + i) ≡ entry_of (take 32 (drop (32 * i) bytes))
+  pub added : (i : ℕ) → i < count → at new (length old + i) ≡ entry_of (take ENTRY_BYTES (drop (ENTRY_BYTES * i) bytes))
 
 -- why the entries are not read
 abbrev pub IsReadFault : ℕ → ℕ → DiskFault → Type 0

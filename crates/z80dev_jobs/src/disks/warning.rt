@@ -4,17 +4,15 @@ ghost use Rattle.std.specs.Prelude.{◌≡◌, IfOk, option_map, string_bytes};
 ghost use Rattle.cpm_image.specs.Image.{byte_count};
 ghost use Rattle.z80dev_jobs.specs.Disks.{filled_up_line, is_filled_up, unlocked_line, warnings};
 
+use cpm_image::RECORD_BYTES;
 use std::alloc::{AllocError, Global};
 use z80dev_disk::DiskKind;
-
-/// The bytes of a sector.
-const SECTOR: usize = 128;
 
 /// The bytes of an image of a kind.
 fn byte_count(kind: DiskKind) -> usize
     ensures { result ≡ byte_count kind }
 {
-    SECTOR * kind.sector_count() as usize
+    RECORD_BYTES * kind.sector_count() as usize
 }
 
 /// Whether an image of this length is filled up: it has bytes, and not the number of bytes of a disk of either kind.

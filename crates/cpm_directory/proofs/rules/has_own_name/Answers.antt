@@ -8,5 +8,5 @@ use Rattle.cpm_directory.proofs.rules.has_own_name.Goals as goal
 pub returns : goal.returns
 returns c =
     let e = c.args.entry.now in
-    let found = any_from_yields_List (is_extent_of e.user c.new-name.result c.extent_number-number.result) c.any.new.self _ c.any.result c.any.ensures.ran (YieldsList-from_slice c.args.before.now cc) (λ x b q k. search (rules, tests)) in
-    rw (found, c.new-name.ensures, c.extent_number-number.ensures) (own_name c.args.before.now e c.requires)
+    let found = any_from_yields_List (is_extent_of e.user c.new-name.result c.extent_number-extent.result) c.any.new.self _ c.any.result c.any.ensures.ran (YieldsList-from_slice c.args.before.now cc) (λ x b q k. search (rules, tests)) in
+    rw (found, c.new-name.ensures, c.extent_number-extent.ensures) (own_name c.args.before.now e c.requires)

@@ -9,7 +9,7 @@ use Rattle.cpm_disk.proofs.records.store.Given as given
 made : (g : given.Over) (c : goal.After-write_record g)
     → Wrote c.args.kind (g.S.Sectors.sectors c.args.device.now) (g.S.Sectors.sectors c.write_record.new.device) c.from-3.result c.directory_record-bytes.result
     → Changed c.args.kind (g.S.Sectors.sectors c.args.device.now) (g.S.Sectors.sectors c.write_record.new.device) (slice_set c.args.entries.now c.from.result c.args.entry)
-made g c = changed_as c.args.kind _ _ c.args.entries.now c.args.number c.from.result c.from-2.result c.from-3.result c.args.entry c.directory_record-bytes.result
+made g c = changed_as c.args.kind _ _ c.args.entries.now c.args.entry_number c.from.result c.from-2.result c.from-3.result c.args.entry c.directory_record-bytes.result
     c.from.ensures c.from-2.ensures c.from-3.ensures c.requires.entries c.requires.number c.directory_record-bytes.ensures
 
 pub returns-clause-stored : goal.returns-clause-stored

@@ -8,6 +8,6 @@ pub returns : goal.returns
 returns c =
     let kind = c.args.disk.now.kind in
     let image = c.args.disk.now.device in
-    let are = c.entry.ensures.bytes ∙ ap (λ b. if b then replicate 32 0xE5 else bytes_of (at (directory kind image) c.args.number)) c.requires.sound in
+    let are = c.entry.ensures.bytes ∙ ap (λ b. if b then replicate 32 0xE5 else bytes_of (at (directory kind image) c.args.entry_number)) c.requires.sound in
     let long : length c.entry.result ≡ 32 = search rules in
-    c.from_bytes.ensures ∙ spelled kind image c.args.number c.entry.result c.requires.within are long
+    c.from_bytes.ensures ∙ spelled kind image c.args.entry_number c.entry.result c.requires.within are long

@@ -33,7 +33,7 @@ invariant_of-self g c =
     ap (writing c.self.inside.kind c.args.user c.args.name.now c.args.number) (sym (c.deref-2.ensures.value ∙ entries)) ∙ sym c.writing_at.ensures.step ∙ c.in_ok-place.was in
     let sound = kept.sound _ (write_between c.self.inside.kind _ _ c.in_ok-place.place _ _ (whole_write c.self.inside.kind _ _ c.in_ok-place.place _ _ (rw (c.from.ensures, c.block_records.ensures) at c.in-Ok.ensures.written))) in
     mounted_written c.self.inside.kind _ _ c.self.inside.entries.items _ c.self.inside.failed _ c.args.user c.args.name.now c.in_ok-place.place _ _ c.self.invariant kept (rw (c.from.ensures, c.block_records.ensures) at c.in-Ok.ensures.written)
-    (all ∙ c.in-Ok.ensures.entries ∙ ap (λ es. slice_set es c.in_ok-place.place.number c.in_ok-place.place.entry) (c.deref_mut.ensures.value ∙ entries)) (ap length all ∙ c.in-Ok.ensures.size) (still_writable c.self.inside.kind _ _ c.args.user c.args.name.now c.args.number c.args.bytes.now c.in_ok-place.place c.requires c.self.invariant.sound sound kept c.in_ok-place.ensures.placed asked (rw (c.from.ensures, c.block_records.ensures) at c.in-Ok.ensures.written))
+    (all ∙ c.in-Ok.ensures.entries ∙ ap (λ es. slice_set es c.in_ok-place.place.entry_number c.in_ok-place.place.entry) (c.deref_mut.ensures.value ∙ entries)) (ap length all ∙ c.in-Ok.ensures.size) (still_writable c.self.inside.kind _ _ c.args.user c.args.name.now c.args.number c.args.bytes.now c.in_ok-place.place c.requires c.self.invariant.sound sound kept c.in_ok-place.ensures.placed asked (rw (c.from.ensures, c.block_records.ensures) at c.in-Ok.ensures.written))
 
 pub invariant_of-self-in-Err : goal.invariant_of-self-in-Err
 invariant_of-self-in-Err g c =
