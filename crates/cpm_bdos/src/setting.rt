@@ -1,7 +1,6 @@
 //! The functions that use neither the console nor the disk.
 
 ghost use Rattle.std.specs.Prelude.{◌≡◌, ◌<◌, IfOk};
-ghost use Rattle.cpm_directory.specs.declared.entry.TheConstants.{USERS};
 ghost use Rattle.cpm_bdos.specs.Settings.{set_by, user_set};
 
 use crate::function::SettingCall;

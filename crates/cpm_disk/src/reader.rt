@@ -3,6 +3,7 @@
 ghost use Rattle.std.specs.Prelude.{◌≡◌, IfErr, IfOk, OnOk, length};
 ghost use Rattle.cpm_image.specs.Kind.{sector_count};
 ghost use Rattle.cpm_directory.specs.declared.fault.DiskFault.TheVariants as DiskFault;
+ghost use Rattle.cpm_directory.specs.declared.layout.TheConstants.{RECORD_ENTRIES};
 ghost use Rattle.cpm_disk.specs.Image.{directory};
 ghost use Rattle.cpm_disk.specs.Private.Reading.{Extended, IsReadFault};
 

@@ -1,7 +1,6 @@
 //! Images in memory.
 
 ghost use Rattle.std.specs.Prelude.{◌≡◌, ◌≤◌, ◌-◌, ◌++◌, IfOk, length, replicate};
-ghost use Rattle.cpm_image.specs.declared.format.TheConstants.{BLANK, RECORD_BYTES};
 ghost use Rattle.cpm_image.specs.Image.{kind_of_bytes};
 
 use crate::device::{DeviceFault, Sectors};

@@ -2,7 +2,6 @@
 
 ghost use Rattle.std.specs.Prelude.{◌≡◌, ◌<◌, ◌≤◌, ◌/◌, ◌%◌, IfErr, IfOk, IfSome, None, false, length, position, slice_index_or, true};
 ghost use Rattle.cpm_directory.specs.declared.entry.TheConstants.{USERS};
-ghost use Rattle.cpm_directory.specs.declared.layout.TheConstants.{EXTENT_RECORDS};
 ghost use Rattle.cpm_directory.specs.Entries.{blank, block, is_extent_of};
 ghost use Rattle.cpm_directory.specs.Rules.{IsSound};
 ghost use Rattle.cpm_directory.specs.Searches.{file_is_read_only};

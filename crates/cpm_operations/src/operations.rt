@@ -4,7 +4,6 @@ ghost use Rattle.std.specs.Prelude.{◌≡◌, ◌<◌, ◌≤◌, ◌/◌, ◌%
 ghost use Rattle.std.specs.List.{list_any};
 ghost use Rattle.cpm_directory.specs.declared.attribute.Attribute.{Attribute};
 ghost use Rattle.cpm_directory.specs.declared.entry.TheConstants.{USERS};
-ghost use Rattle.cpm_directory.specs.declared.layout.TheConstants.{EXTENT_RECORDS};
 ghost use Rattle.cpm_directory.specs.Entries.{block, is_extent_of, is_match, is_of, is_read_only};
 ghost use Rattle.cpm_directory.specs.Rules.{IsSound};
 ghost use Rattle.cpm_image.specs.Kind.{block_records, directory_records, entry_blocks, file_records, number_limit, record_count};

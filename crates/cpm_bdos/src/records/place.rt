@@ -14,7 +14,6 @@ pub struct Place {
 
 impl Place {
     ghost use Rattle.std.specs.Prelude.{◌≡◌, ◌<◌, ◌≤◌, IfSome, OnOk, false};
-    ghost use Rattle.cpm_directory.specs.declared.layout.TheConstants.{EXTENT_RECORDS};
     ghost use Rattle.cpm_bdos.specs.Records.Places.{is_bad, next_extent, next_high, place_judged, place_of, record_at, turned};
 
     /// The position in a file control block.
