@@ -11,7 +11,7 @@ use crate::layout::{
     S2_EXTENTS, S2_OFFSET, S2_VALUES,
 };
 use crate::{Attribute, Name, Pattern};
-use cpm_image::{BLANK, DiskKind};
+use cpm_image::{BLANK, DiskKind, LogicalRecord};
 
 /// A directory entry: 32 bytes. With a user from 0 to 31 it is an extent of a file. With E5H as the user it is free. With any other user
 /// it is foreign: no user below 32 has the file, and the entry takes no block.
@@ -262,12 +262,13 @@ impl Entry {
     }
 
     /// The logical record of the disk that has record `i` of the extent, if the entry has the block for it.
-    pub fn place_on_disk(&self, kind: DiskKind, i: u8) -> u32
+    pub fn place_on_disk(&self, kind: DiskKind, i: u8) -> LogicalRecord
         requires { i < EXTENT_RECORDS }
         ensures { result ≡ place_on_disk kind self.now i }
     {
         let records = kind.block_records();
-        u32::from(records) * u32::from(self.block(kind, i / records)) + u32::from(i % records)
+        let first = u32::from(records) * u32::from(self.block(kind, i / records));
+        LogicalRecord::new(first + u32::from(i % records))
     }
 
     /// The entry after it is erased: only its user byte changes.

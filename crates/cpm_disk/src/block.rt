@@ -9,17 +9,17 @@ ghost use Rattle.cpm_disk.specs.Image.{IsOfBlock, SameBut, directory, disk_recor
 
 use crate::records::{store, write_record};
 use cpm_directory::Entry;
-use cpm_image::{DeviceFault, DiskKind, RECORD_BYTES, Sectors};
+use cpm_image::{DeviceFault, DiskKind, LogicalRecord, RECORD_BYTES, Sectors};
 use cpm_operations::Placement;
 
 /// The logical record of the disk that is record `i` of a block.
-fn record_of(kind: DiskKind, block: u16, i: u32) -> u32
+fn record_of(kind: DiskKind, block: u16, i: u32) -> LogicalRecord
     requires block { block < block_count kind }
     requires record { i < block_records kind }
     ensures record { result ≡ block_records kind * block + i }
     ensures within { result < record_count kind }
 {
-    u32::from(kind.block_records()) * u32::from(block) + i
+    LogicalRecord::new(u32::from(kind.block_records()) * u32::from(block) + i)
 }
 
 /// Fills all records of a block with zeros, except one.

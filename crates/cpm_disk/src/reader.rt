@@ -9,7 +9,7 @@ ghost use Rattle.cpm_disk.specs.Private.Reading.{Extended, IsReadFault};
 
 use crate::records::read_record;
 use cpm_directory::{DiskFault, ENTRY_BYTES, Entry};
-use cpm_image::{DiskKind, RECORD_BYTES, Sectors};
+use cpm_image::{DiskKind, LogicalRecord, RECORD_BYTES, Sectors};
 use std::alloc::Global;
 
 /// Adds the four entries of a directory record.
@@ -39,7 +39,7 @@ pub(crate) fn read_entries<S: Sectors>(
     let mut entries = Vec::new(alloc);
     for number in 0..kind.directory_records() {
         let mut bytes = [0; RECORD_BYTES];
-        if read_record(device, kind, number, &mut bytes).is_err() {
+        if read_record(device, kind, LogicalRecord::new(number), &mut bytes).is_err() {
             return Err(DiskFault::Fault);
         }
         add_entries(&mut entries, &bytes)?;

@@ -8,7 +8,7 @@ ghost use Rattle.cpm_disk.specs.Image.{SameBut, Wrote, directory, disk_record};
 ghost use Rattle.cpm_disk.specs.Calls.{Changed};
 
 use cpm_directory::{ENTRY_BYTES, Entry, RECORD_ENTRIES};
-use cpm_image::{DeviceFault, DiskKind, RECORD_BYTES, Sectors, logical_of};
+use cpm_image::{DeviceFault, DiskKind, LogicalRecord, RECORD_BYTES, Sectors, logical_of};
 
 /// The number of entries in a directory record, for indices.
 const ENTRIES_IN_RECORD: usize = RECORD_ENTRIES as usize;
@@ -17,7 +17,7 @@ const ENTRIES_IN_RECORD: usize = RECORD_ENTRIES as usize;
 pub(crate) fn read_record<S: Sectors>(
     device: &mut S,
     kind: DiskKind,
-    logical_record: u32,
+    logical_record: LogicalRecord,
     bytes: &mut [u8; RECORD_BYTES],
 ) -> Result<(), DeviceFault>
     requires count { length (S.sectors device.old) ≡ sector_count kind }
@@ -33,7 +33,7 @@ pub(crate) fn read_record<S: Sectors>(
 pub(crate) fn write_record<S: Sectors>(
     device: &mut S,
     kind: DiskKind,
-    logical_record: u32,
+    logical_record: LogicalRecord,
     bytes: &[u8; RECORD_BYTES],
 ) -> Result<(), DeviceFault>
     requires count { length (S.sectors device.old) ≡ sector_count kind }
@@ -77,10 +77,6 @@ pub(crate) fn store<S: Sectors>(
 {
     entries[usize::from(entry_number)] = entry;
     let bytes = directory_record(entries, usize::from(entry_number / RECORD_ENTRIES));
-    write_record(
-        device,
-        kind,
-        u32::from(entry_number / RECORD_ENTRIES),
-        &bytes,
-    )
+    let logical_record = LogicalRecord::new(u32::from(entry_number / RECORD_ENTRIES));
+    write_record(device, kind, logical_record, &bytes)
 }

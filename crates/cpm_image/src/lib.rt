@@ -9,6 +9,7 @@ mod kind;
 pub mod laws;
 mod memory;
 mod skew;
+mod units;
 
 pub use device::{DeviceFault, Sectors};
 pub use failing::{FailedWrite, Failing};
@@ -17,3 +18,4 @@ pub use format::{BLANK, RECORD_BYTES, RECORD_COUNT, SECTOR_COUNT};
 pub use kind::DiskKind;
 pub use memory::MemoryImage;
 pub use skew::{logical, logical_of};
+pub use units::LogicalRecord;

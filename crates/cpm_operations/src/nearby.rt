@@ -14,7 +14,7 @@ ghost use Rattle.cpm_operations.specs.Steps.{reading, writing};
 use crate::Placement;
 use crate::operations::{place_in, reading, record_of, writing};
 use cpm_directory::{DiskFault, EXTENT_RECORDS, Entry, Name, position_of};
-use cpm_image::DiskKind;
+use cpm_image::{DiskKind, LogicalRecord};
 
 /// Whether the entry with this number is that of a file's extent.
 fn is_extent_at(entries: &[Entry], at: u16, user: u8, name: &Name, extent: u16) -> bool
@@ -63,7 +63,7 @@ pub fn reading_at(
     user: u8,
     name: &Name,
     number: u32,
-) -> Result<u32, DiskFault>
+) -> Result<LogicalRecord, DiskFault>
     requires user { user < USERS }
     requires at { IfSome at (IsExtentAt kind user name.now number entries.now) }
     requires sound { IsSound kind entries.now }

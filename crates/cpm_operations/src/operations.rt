@@ -18,7 +18,7 @@ use cpm_directory::{
     DiskFault, EXTENT_RECORDS, Entry, Name, file_is_read_only, free_block, free_entry, is_file,
     position_of,
 };
-use cpm_image::DiskKind;
+use cpm_image::{DiskKind, LogicalRecord};
 
 /// The entry of a new file, and its number, the lowest that is free.
 fn new_file(entries: &[Entry], user: u8, name: &Name) -> Result<(u16, Entry), DiskFault>
@@ -127,7 +127,7 @@ fn first_entry(entries: &[Entry], user: u8, name: &Name) -> Option<Entry>
 }
 
 /// The logical record of the disk that has record `i` of an extent, if the extent has it.
-pub(crate) fn record_of(kind: DiskKind, entry: &Entry, i: u8) -> Result<u32, DiskFault>
+pub(crate) fn record_of(kind: DiskKind, entry: &Entry, i: u8) -> Result<LogicalRecord, DiskFault>
     requires { i < EXTENT_RECORDS }
     ensures step { result ≡ written_place kind i entry.now }
     ensures refusals { IfErr result RefusesReading }
@@ -145,7 +145,7 @@ fn read_place(
     user: u8,
     name: &Name,
     number: u32,
-) -> Result<u32, DiskFault>
+) -> Result<LogicalRecord, DiskFault>
     ensures step { result ≡ reading kind user name.now number entries.now }
     ensures refusals { IfErr result RefusesReading }
 {
@@ -350,7 +350,7 @@ pub fn reading(
     user: u8,
     name: &Name,
     number: u32,
-) -> Result<u32, DiskFault>
+) -> Result<LogicalRecord, DiskFault>
     requires { user < USERS }
     ensures step { result ≡ reading kind user name.now number entries.now }
     ensures refusals { IfErr result RefusesReading }

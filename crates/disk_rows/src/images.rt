@@ -3,7 +3,7 @@
 use crate::shown::{decimal, first_of, kind_of, padded, short, show_bytes};
 use anyhow::{Context, anyhow};
 use cpm_directory::DiskFault;
-use cpm_image::{DeviceFault, DiskKind, ImageFault, MemoryImage, Sectors, logical_of};
+use cpm_image::{DeviceFault, DiskKind, ImageFault, LogicalRecord, MemoryImage, Sectors, logical_of};
 use std::alloc::Global;
 use std::io::Write;
 
@@ -60,7 +60,7 @@ fn sector_of(kind: DiskKind, record: u32) -> Result<u32, anyhow::Error> {
     if record >= kind.record_count() {
         return Err(anyhow!("no such record"));
     }
-    Ok(logical_of(kind, record))
+    Ok(logical_of(kind, LogicalRecord::new(record)))
 }
 
 /// A row that prints the sector of a record: the format, and the record.

@@ -140,7 +140,7 @@ fn report_record<W: Write>(
     } else {
         "not there"
     };
-    Ok(write!(out, " {is_there}, {}", entry.place_on_disk(kind, record))?)
+    Ok(write!(out, " {is_there}, {}", entry.place_on_disk(kind, record).number())?)
 }
 
 /// Prints a block of the last entry on a disk of a format: the format, and which block.

@@ -5,7 +5,7 @@ use anyhow::{Context, anyhow};
 use cpm_bdos::Bdos;
 use cpm_console::{FailingConsole, MemoryConsole};
 use cpm_disk::{Disk, DiskKind};
-use cpm_image::{FailedWrite, Failing, MemoryImage, Sectors, logical};
+use cpm_image::{FailedWrite, Failing, LogicalRecord, MemoryImage, Sectors, logical};
 use std::alloc::Global;
 use std::io::Write;
 use z80_cpu::{Cpu, Flags, Memory};
@@ -135,7 +135,7 @@ fn put_entry(image: &mut MemoryImage, front: &[u8]) -> Result<(), anyhow::Error>
     for (at, byte) in record[..32].iter_mut().enumerate() {
         *byte = *front.get(at).unwrap_or(&0);
     }
-    let sector = logical(0);
+    let sector = logical(LogicalRecord::new(0));
     if sector >= image.len() {
         return Err(anyhow!("no such sector"));
     }
