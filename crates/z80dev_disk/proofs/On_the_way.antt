@@ -85,7 +85,7 @@ only_writing kind user name n entries is writable =
     (only_unless (not (nat_lt n (file_records kind))) fault.TooFar _ (λ _. tt)
     (only_bind {B = Placement} (extent_place user name (n / 128) entries) _ (entry_of (position (is_extent_of user name (n / 128)) entries)) (λ place.
     only_bind {B = Placement} (block_place kind place.1 (n % 128 / block_records kind) entries)
-    (λ found. Ok (record { number = place.0; entry = with_record kind place.1 (n % 128) found.0; block = found.0; is_new = found.1 })) (block_of place.1 (block kind place.1 (n % 128 / block_records kind) == 0)) (λ found. tt)))))
+    (λ found. Ok (record { entry_number = place.0; entry = with_record kind place.1 (n % 128) found.0; block = found.0; is_new = found.1 })) (block_of place.1 (block kind place.1 (n % 128 / block_records kind) == 0)) (λ found. tt)))))
   where
     entry_of : (o : Option ℕ) → Only (found_or_new user name (n / 128) entries o)
     entry_of (Some k) = tt
