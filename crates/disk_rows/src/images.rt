@@ -3,7 +3,9 @@
 use crate::shown::{decimal, first_of, kind_of, padded, short, show_bytes};
 use anyhow::{Context, anyhow};
 use cpm_directory::DiskFault;
-use cpm_image::{DeviceFault, DiskKind, ImageFault, LogicalRecord, MemoryImage, Sectors, logical_of};
+use cpm_image::{
+    DeviceFault, DiskKind, ImageFault, LogicalRecord, MemoryImage, Sectors, logical_of,
+};
 use std::alloc::Global;
 use std::io::Write;
 

@@ -140,7 +140,11 @@ fn report_record<W: Write>(
     } else {
         "not there"
     };
-    Ok(write!(out, " {is_there}, {}", entry.place_on_disk(kind, record).number())?)
+    Ok(write!(
+        out,
+        " {is_there}, {}",
+        entry.place_on_disk(kind, record).number()
+    )?)
 }
 
 /// Prints a block of the last entry on a disk of a format: the format, and which block.
