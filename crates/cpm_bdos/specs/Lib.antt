@@ -5,3 +5,4 @@ pub mod Functions
 pub mod Settings
 pub mod System
 pub mod Answer
+pub mod Alike

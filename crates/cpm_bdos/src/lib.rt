@@ -7,6 +7,7 @@ mod bdos;
 pub mod console;
 pub mod files;
 mod function;
+pub mod laws;
 mod outcome;
 pub mod records;
 mod registers;

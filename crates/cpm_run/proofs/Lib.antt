@@ -1,2 +1,3 @@
 mod Laid
 mod Going
+pub mod OneRun

@@ -2,3 +2,4 @@ pub mod Words
 pub mod Start
 pub mod Turns
 pub mod Run
+pub mod Undisturbed

@@ -6,6 +6,7 @@
 
 mod ending;
 mod fault;
+pub mod laws;
 mod places;
 mod running;
 mod starting;

@@ -21,8 +21,8 @@ use Rattle.z80dev_disk.specs.declared.refusal.Refusal.TheVariants as refusal
 -- the refusal of bytes that are not an image
 pub no_image : (stored : List ℕ) (why : ImageFault) → IsImageOf stored (Err why) → IsRefusalOf RefusesNone (of_image why) × UnlessMemory (IsDiskRefusal stored) (of_image why)
 no_image stored bytes.NoMemory is = (tt, tt)
-no_image stored bytes.NotSectors is = (tt, is)
-no_image stored bytes.TooLong is = (tt, is)
+no_image stored bytes.NotSectors is = (λ e. absurd (let other : bytes.NotSectors ≡ bytes.NoMemory = e in cc), is)
+no_image stored bytes.TooLong is = (λ e. absurd (let other : bytes.TooLong ≡ bytes.NoMemory = e in cc), is)
 
 size_of : (kind : DiskKind) (n : ℕ) → n ≡ sector_count kind → IsDiskSize n
 size_of EightInch n is = inl is
@@ -61,7 +61,7 @@ unless_memory Holds refusal.NoMemory is = tt
 pub of_bytes : (Own : Refusal → Type 0) (Says : _) (stored : List ℕ) (why : Refusal) → IsRefusalOf RefusesNone why × UnlessMemory (IsDiskRefusal stored) why → IsRefusalOf Own why × UnlessMemory (λ w. OfDisk stored Says (refused w)) why
 of_bytes Own Says stored refusal.BadName (refuses, is) = absurd refuses
 of_bytes Own Says stored (refusal.BadFile name) (refuses, is) = absurd refuses
-of_bytes Own Says stored (refusal.Image why) (refuses, is) = (tt, inr (refusal.Image why, is, refl))
+of_bytes Own Says stored (refusal.Image why) (refuses, is) = (refuses, inr (refusal.Image why, is, refl))
 of_bytes Own Says stored (refusal.Disk why) (inl rule, is) = (inl rule, inr (refusal.Disk why, is, refl))
 of_bytes Own Says stored (refusal.Disk why) (inr none, is) = absurd none
 of_bytes Own Says stored (refusal.Named why name) (refuses, is) = absurd refuses
@@ -84,7 +84,7 @@ pub no_edit : (Own : Refusal → Type 0) (Does : DiskKind → Image → Image �
     → IsRefusalOf RefusesNone why × UnlessMemory (IsDiskRefusal stored) why → IsRefusalOf Own why × Edited stored Does Stops (Err why)
 no_edit Own Does Stops stored refusal.BadName (refuses, is) = absurd refuses
 no_edit Own Does Stops stored (refusal.BadFile name) (refuses, is) = absurd refuses
-no_edit Own Does Stops stored (refusal.Image why) (refuses, is) = (tt, inl is)
+no_edit Own Does Stops stored (refusal.Image why) (refuses, is) = (refuses, inl is)
 no_edit Own Does Stops stored (refusal.Disk why) (inl rule, is) = (inl rule, inl is)
 no_edit Own Does Stops stored (refusal.Disk why) (inr none, is) = absurd none
 no_edit Own Does Stops stored (refusal.Named why name) (refuses, is) = absurd refuses

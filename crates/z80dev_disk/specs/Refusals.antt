@@ -1,5 +1,5 @@
 -- Why a command on an image is refused, and how it is printed: by the name of the innermost variant, with a file's name in parentheses.
-use Rattle.std.specs.Prelude.{◌≡◌, ◌⊎◌, ℕ, Bool, true, false, List, ◌++◌, Option, Some, codes, ⊤}
+use Rattle.std.specs.Prelude.{◌≡◌, ◌≢◌, ◌⊎◌, ℕ, Bool, true, false, List, ◌++◌, Option, Some, codes, ⊤}
 use Rattle.cpm_directory.specs.declared.fault.DiskFault.{DiskFault}
 use Rattle.cpm_directory.specs.declared.fault.DiskFault.TheVariants as fault
 use Rattle.cpm_directory.specs.Letters.{letters}
@@ -61,9 +61,9 @@ unnamed (refusal.Named why name) = refusal.Disk why
 unnamed why = why
 
 -- The refusals of a command: those of bytes that are not the image of a disk, and its own. A device in memory never fails, so no refusal
--- is about a fault of the device.
+-- is about a fault of the device. A lack of memory is never inside another refusal.
 abbrev pub IsRefusalOf : (Refusal → Type 0) → Refusal → Type 0
-IsRefusalOf Own (refusal.Image why) = ⊤
+IsRefusalOf Own (refusal.Image why) = why ≢ bytes.NoMemory
 IsRefusalOf Own (refusal.Disk why) = IsRuleFault why ⊎ Own (refusal.Disk why)
 IsRefusalOf Own refusal.NoMemory = ⊤
 IsRefusalOf Own why = Own why
