@@ -1,5 +1,5 @@
 -- The errors of lines and expressions have a cause in the source: they are never that memory ran out.
-use Rattle.std.proofs.Common.{◌≢◌, ◌+◌, if◌then◌else◌, refl, subst, ℕ, zero, suc, true, false, nat_lt, List, [], ◌∷◌, Option, Some, None, Result, Ok, Err}
+use Rattle.std.proofs.Common.{◌≡◌, ◌≢◌, ◌+◌, if◌then◌else◌, refl, subst, ℕ, zero, suc, true, false, nat_lt, List, [], ◌∷◌, Option, Some, None, Result, Ok, Err}
 use Rattle.std.specs.List.{list_all}
 use Rattle.asm_scan.specs.declared.fault.ScanFault.{ScanFault}
 use Rattle.asm_scan.specs.Tokens.{Lexeme}
@@ -25,6 +25,7 @@ use Rattle.asm_expr.specs.Settling as settling
 use Rattle.asm_macro.specs.declared.fault.MacroFault.{MacroFault}
 use Rattle.asm_macro.specs.Faults.{fault_of_expr, fault_of_scan}
 use Rattle.asm_macro.specs.Values.{settled_number, value_of_tokens, worth_of_items}
+use Rattle.source_laws.specs.Causes.{IsOfSource}
 
 -- the answer of scanning a line is never that memory ran out
 no_scan : (text : List ℕ) (r : Result (List Lexeme) ScanFault) → Scans text r → r ≢ Err ScanFault.NoMemory
@@ -81,41 +82,42 @@ parsed_caused (Some phrase) = elim (nat_lt MOST_OPEN (depth phrase)) as (λ b. C
   | false ↦ λ is. absurd (cc is)
 ]
 
--- An answer of an expansion is not that memory ran out.
+-- If the answer is an error of an expansion, it has a cause in the source.
 abbrev IsCaused : {A : Type 0} → Result A MacroFault → Type 0
-IsCaused r = r ≢ Err MacroFault.NoMemory
+IsCaused (Ok value) = Unit {0}
+IsCaused (Err why) = IsOfSource why
 
-pub expr_caused : (why : ExprFault) → why ≢ ExprFault.NoMemory → fault_of_expr why ≢ MacroFault.NoMemory
-expr_caused ExprFault.Syntax none is = absurd (cc is)
-expr_caused ExprFault.DivideByZero none is = absurd (cc is)
-expr_caused ExprFault.LabelDivisor none is = absurd (cc is)
-expr_caused ExprFault.TooDeep none is = absurd (cc is)
-expr_caused ExprFault.TooLarge none is = absurd (cc is)
-expr_caused ExprFault.NoMemory none is = none refl
+expr_caused : (why : ExprFault) → why ≢ ExprFault.NoMemory → IsOfSource (fault_of_expr why)
+expr_caused ExprFault.Syntax none = tt
+expr_caused ExprFault.DivideByZero none = tt
+expr_caused ExprFault.LabelDivisor none = tt
+expr_caused ExprFault.TooDeep none = tt
+expr_caused ExprFault.TooLarge none = tt
+expr_caused ExprFault.NoMemory none = none refl
 
-scan_caused : (why : ScanFault) → why ≢ ScanFault.NoMemory → fault_of_scan why ≢ MacroFault.NoMemory
-scan_caused ScanFault.BadByte none is = absurd (cc is)
-scan_caused ScanFault.OpenString none is = absurd (cc is)
-scan_caused ScanFault.LineTooLong none is = absurd (cc is)
-scan_caused ScanFault.BadNumber none is = absurd (cc is)
-scan_caused ScanFault.NoMemory none is = none refl
+scan_caused : (why : ScanFault) → why ≢ ScanFault.NoMemory → IsOfSource (fault_of_scan why)
+scan_caused ScanFault.BadByte none = tt
+scan_caused ScanFault.OpenString none = tt
+scan_caused ScanFault.LineTooLong none = tt
+scan_caused ScanFault.BadNumber none = tt
+scan_caused ScanFault.NoMemory none = none refl
 
 -- the scan error of a line, as an error of the expansion
-pub scans_caused : (text : List ℕ) (why : ScanFault) → Scans text (Err why) → fault_of_scan why ≢ MacroFault.NoMemory
+pub scans_caused : (text : List ℕ) (why : ScanFault) → Scans text (Err why) → IsOfSource (fault_of_scan why)
 scans_caused text why scans = scan_caused why (λ is. no_scan text (Err why) scans (cc is))
 
 number_caused : (r : Result Settled ExprFault) → Caused r → IsCaused (settled_number r)
-number_caused (Ok (Settled.Known (Item.Leaf (Atom.Number n) ∷ []))) none is = absurd (cc is)
-number_caused (Ok _) none is = absurd (cc is)
-number_caused (Err why) none is = expr_caused why (λ w. none (cc w)) (cc is)
+number_caused (Ok (Settled.Known (Item.Leaf (Atom.Number n) ∷ []))) none = tt
+number_caused (Ok _) none = tt
+number_caused (Err why) none = expr_caused why (λ w. none (cc w))
 
 items_caused : (t : Table) (r : Result (List (Item Operand)) ExprFault) → Caused r → IsCaused (worth_of_items t r)
 items_caused t (Ok items) none =
     elim (list_all (is_number_item t) items) as (λ b. IsCaused (if b then settled_number (settled t (source items)) else Err MacroFault.ConditionNamesLabel)) [
       | true ↦ number_caused (settled t (source items)) (unless_caused _ _ (behind_caused 0 t (source items)))
-      | false ↦ λ is. absurd (cc is)
+      | false ↦ tt
     ]
-items_caused t (Err why) none = λ is. expr_caused why (λ w. none (cc w)) (cc is)
+items_caused t (Err why) none = expr_caused why (λ w. none (cc w))
 
-pub worth_caused : (t : Table) (tokens : List Lexeme) → IsCaused (value_of_tokens t tokens)
-worth_caused t tokens = items_caused t (parsed tokens) (search (parsed_caused))
+pub worth_caused : (t : Table) (tokens : List Lexeme) (why : MacroFault) → value_of_tokens t tokens ≡ Err why → IsOfSource why
+worth_caused t tokens why is = subst IsCaused is (items_caused t (parsed tokens) (search (parsed_caused)))

@@ -7,6 +7,7 @@ ghost use Rattle.asm_module.specs.declared.fault.AsmFault.{AsmFault};
 ghost use Rattle.asm_module.specs.Assembled.{Assembled, Assembles, HasCause};
 ghost use Rattle.asm_text.specs.Lines.{Numbered};
 ghost use Rattle.ruler.specs.Choice.{Choice, IsSettled};
+ghost use Rattle.source_laws.specs.Causes.{IsOfSource};
 ghost use Rattle.source_laws.specs.Grown.{IsMarkedJump};
 ghost use Rattle.zlink.specs.declared.source.Source.{Source};
 ghost use Rattle.zlink.specs.Linked.{IsOutput, Output};
@@ -16,10 +17,11 @@ ghost use Rattle.zlink.specs.Program.Whole.{program};
 ghost use Rattle.zmo_module.specs.Modules.{Module};
 
 /// Each source has an expansion, which may stop with an error. By `asm_macro::laws::one_expansion` it has only one. The error is
-/// never `NoMemory`.
+/// never `NoMemory`, and never has `NoMemory` inside, as `Scan(NoMemory)` would.
 pub fn some_expansion()
     ensures some { (text : List ℕ) → (lines : List Numbered) × (end : End) × IsExpansion text lines end }
     ensures caused { (text : List ℕ) (lines : List Numbered) (number : ℕ) (why : MacroFault) → IsExpansion text lines (Stopped number why) → why ≢ MacroFault.NoMemory }
+    ensures alone { (text : List ℕ) (lines : List Numbered) (number : ℕ) (why : MacroFault) → IsExpansion text lines (Stopped number why) → IsOfSource why }
 {
     asm_scan::laws::scanned();
     asm_macro::laws::parts();
