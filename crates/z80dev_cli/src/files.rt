@@ -3,7 +3,7 @@
 mod lock;
 mod part;
 
-ghost use Rattle.std.specs.Prelude.{◌≡◌, ◌≤◌, IfOk, None, length, option_map, string_bytes, true};
+ghost use Rattle.std.specs.Prelude.{◌≡◌, ◌≤◌, IfOk, None, false, length, option_map, string_bytes, true};
 ghost use Rattle.common.specs.declared.limits.TheConstants.{LONGEST_TEXT};
 ghost use Rattle.streams.specs.Stream.{counted};
 ghost use Rattle.z80dev_finish.specs.Files.{IsLockWanted};
@@ -26,15 +26,17 @@ const OUTPUT: &str = "/proc/self/fd/1";
 
 const ERRORS: &str = "/proc/self/fd/2";
 
-/// The files of the system, how often a call failed, and how often a file took the place of another.
+/// The files of the system, how often a call failed, how often a file took the place of another, and how often a lock was asked for.
 #[derive(Drop)]
 pub(crate) struct HostFiles<'a> {
     rt: &'a HostRuntime,
     failures: u64,
-    is_written: bool,
     replacements: u64,
+    asks: u64,
     lock: Option<HeldLock>,
     claimed: Option<String>,
+    /// Whether a part was written under the lock, or was to be. A lock has names for one part.
+    is_spent: bool,
     part: Option<Part>,
     /// Whether the last file that took the place of another would have been kept from it by one that was there.
     placed: Option<bool>,
@@ -45,10 +47,11 @@ impl<'a> HostFiles<'a> {
         HostFiles {
             rt,
             failures: 0,
-            is_written: false,
             replacements: 0,
+            asks: 0,
             lock: None,
             claimed: None,
+            is_spent: false,
             part: None,
             placed: None,
         }
@@ -61,9 +64,16 @@ impl<'a> HostFiles<'a> {
         self.failures = self.failures.saturating_add(1);
     }
 
+    /// Counts a lock that is asked for.
+    fn ask(&mut self)
+        ensures { self.new ≡ record self.old { asks = counted self.old.asks } }
+    {
+        self.asks = self.asks.saturating_add(1);
+    }
+
     /// Keeps a lock, with the path of the file that was read under it. A part that was written under an earlier lock is given up.
     fn take(&mut self, lock: HeldLock, claimed: Option<String>)
-        ensures { self.new ≡ record self.old { lock = Some lock; claimed = claimed; part = None } }
+        ensures { self.new ≡ record self.old { lock = Some lock; claimed = claimed; is_spent = false; part = None } }
     {
         // Before the earlier lock is given back, since whoever gets that lock may write a part of this name.
         if let Some(part) = self.part.take() {
@@ -71,6 +81,7 @@ impl<'a> HostFiles<'a> {
         }
         self.lock = Some(lock);
         self.claimed = claimed;
+        self.is_spent = false;
     }
 
     /// Counts a file that took its place; `keep` says whether one that was there would have been kept.
@@ -83,7 +94,7 @@ impl<'a> HostFiles<'a> {
 }
 
 impl Files for HostFiles<'_> {
-    ghost folder = { λ h. record { files = None; failures = h.failures; is_written = h.is_written; replacements = h.replacements; gives = λ _ _. true; locked = option_map held_lock h.lock; claimed = option_map held_claim h.claimed; part = option_map written_part h.part; placed = option_map placement_by h.placed } };
+    ghost folder = { λ h. record { files = None; stored = None; failures = h.failures; replacements = h.replacements; gives = λ _ _. true; asks = h.asks; locked = option_map held_lock h.lock; claimed = option_map held_claim h.claimed; is_spent = h.is_spent; part = option_map written_part h.part; placed = option_map placement_by h.placed } };
 
     fn read(&mut self, alloc: Global, path: &str) -> Result<Vec<u8>, Unread> {
         match read_whole(self.rt, alloc, path) {
@@ -97,7 +108,6 @@ impl Files for HostFiles<'_> {
     }
 
     fn write(&mut self, path: &str, bytes: &[u8]) -> Result<(), WriteFailed> {
-        self.is_written = true;
         let answer = write(self.rt, path, bytes);
         if answer.is_err() {
             self.fail();
@@ -106,6 +116,7 @@ impl Files for HostFiles<'_> {
     }
 
     fn lock(&mut self, alloc: Global, path: &str, is_wanted: bool) -> Result<bool, Unread> {
+        self.ask();
         match take_lock(self.rt, alloc, path, is_wanted, false) {
             Ok(lock) => {
                 let is_held = lock.is_held;
@@ -121,6 +132,7 @@ impl Files for HostFiles<'_> {
     }
 
     fn claim(&mut self, alloc: Global, path: &str, is_wanted: bool) -> Result<Claimed, Unread> {
+        self.ask();
         let claimed = match String::from_str(alloc, path) {
             Ok(copy) => copy,
             Err(AllocError) => return Err(Unread::NoMemory),
@@ -140,6 +152,7 @@ impl Files for HostFiles<'_> {
     }
 
     fn write_beside(&mut self, path: &str, bytes: &[u8]) -> Result<(), WriteFailed> {
+        self.is_spent = true;
         let Some(lock) = &mut self.lock else {
             unreachable!();
         };

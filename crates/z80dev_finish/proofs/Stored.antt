@@ -20,8 +20,15 @@ grows_trans (Some a) (Some b) (Some c) xs ys first rest = rest ∙ ap (λ z. z +
 
 -- some files are added, and then others
 pub adds_trans : (old mid new : Folder) (xs ys : List File) → Adds old mid xs → Adds mid new ys → Adds old new (xs ++ ys)
-adds_trans old mid new xs ys (grown, replaced, (locked, claimed), part, placed) (more, replaced_then, (locked_then, claimed_then), part_then, placed_then) =
-    (grows_trans old.files mid.files new.files xs ys grown more, replaced_then ∙ replaced, (locked_then ∙ locked, claimed_then ∙ claimed), part_then ∙ part, placed_then ∙ placed)
+adds_trans old mid new xs ys (grown, stored, replaced, (asks, locked, claimed), spent, part, placed) (more, stored_then, replaced_then, (asks_then, locked_then, claimed_then), spent_then, part_then, placed_then) = (
+  grows_trans old.files mid.files new.files xs ys grown more,
+  grows_trans old.stored mid.stored new.stored xs ys stored stored_then,
+  replaced_then ∙ replaced,
+  (asks_then ∙ asks, locked_then ∙ locked, claimed_then ∙ claimed),
+  spent_then ∙ spent,
+  part_then ∙ part,
+  placed_then ∙ placed,
+)
 
 -- no file more
 pub none_more : (old mid new : Folder) (xs : List File) → Adds old mid xs → Adds mid new [] → Adds old new xs

@@ -43,18 +43,22 @@ pub record Placement : Type 0 where
   pub accepts : Test
   pub keep : Bool
 
--- The files, if they are known, in the order in which they were written: of those with one path the last is the one that is there. How often a
--- call failed, whether a file was written otherwise than beside another, and how often a file that was written beside another took its place.
--- For each path a test that accepts the bytes that reading it gives, which never changes. The lock that was taken, the file that was read under
--- it, the file that is written beside another, and the last that took the place of another.
+-- The files, if they are known, in the order in which they were written: of those with one path the last is the one that is there. The files that
+-- were written otherwise than beside another, in their order, if the host tells that: one that does may still leave open what its files contain.
+-- How often a call failed, and how often a file that was written beside another took its place. For each path a test that accepts the bytes that
+-- reading it gives, which reading and locking do not change. How often a lock was asked for; the lock that was taken last; the file that was read
+-- under it; and whether it is spent: a file was written beside another under it, or was to be. The file that is written beside another, and the
+-- last that took the place of another.
 pub record Folder : Type 0 where
   pub files : Option (List File)
+  pub stored : Option (List File)
   pub failures : ℕ
-  pub is_written : Bool
   pub replacements : ℕ
   pub gives : List ℕ → Test
+  pub asks : ℕ
   pub locked : Option Lock
   pub claimed : Option Claim
+  pub is_spent : Bool
   pub part : Option Part
   pub placed : Option Placement
 
@@ -62,19 +66,20 @@ pub record Folder : Type 0 where
 abbrev pub IsAt : List File → List ℕ → List ℕ → Type 0
 IsAt files path bytes = (before after : List File) × (files ≡ before ++ (path, bytes) ∷ after) × All (λ file. file.0 ≢ path) after
 
--- known files grow by these
+-- files, if they are known, grow by these
 abbrev pub Grows : Option (List File) → Option (List File) → List File → Type 0
 Grows None new more = Unit {0}
 Grows (Some files) None more = ⊥
 Grows (Some files) (Some others) more = others ≡ files ++ more
 
--- the lock stays as it is, and so does the file that was read under it
+-- No lock is asked for: the one that was taken stays, and so does the file that was read under it.
 abbrev pub StaysLocked : Folder → Folder → Type 0
-StaysLocked old new = (new.locked ≡ old.locked) × (new.claimed ≡ old.claimed)
+StaysLocked old new = (new.asks ≡ old.asks) × (new.locked ≡ old.locked) × (new.claimed ≡ old.claimed)
 
--- Files are added by writing them, if any. Nothing else changes, apart from the count of failures and the note that a file was written.
+-- Files are added by writing them, if any, and no other is written. Nothing else changes, apart from the count of failures and what reading gives.
 abbrev pub Adds : Folder → Folder → List File → Type 0
-Adds old new more = Grows old.files new.files more × (new.replacements ≡ old.replacements) × StaysLocked old new × (new.part ≡ old.part) × (new.placed ≡ old.placed)
+Adds old new more = Grows old.files new.files more × Grows old.stored new.stored more × (new.replacements ≡ old.replacements) × StaysLocked old new
+    × (new.is_spent ≡ old.is_spent) × (new.part ≡ old.part) × (new.placed ≡ old.placed)
 
 -- the call failed, and changed nothing
 abbrev pub FailsSo : Folder → Folder → Type 0
@@ -116,36 +121,47 @@ HasLock f path = (is_wanted is_held : Bool) × (f.locked ≡ Some (lock_of path 
 abbrev pub IsLockWanted : Bool → Bool → Type 0
 IsLockWanted is_wanted is_held = is_wanted ≡ false → is_held ≡ false
 
--- The folder once the lock of a path is taken. A file that was read under an earlier lock is claimed no more, and a part of it is given up.
-abbrev pub locked_by : Folder → List ℕ → Bool → Bool → Folder
-locked_by old path is_wanted is_held = record old { locked = Some (lock_of path is_wanted is_held); claimed = None; part = None }
+-- the folder once a lock is asked for, also in vain
+abbrev pub after_asking : Folder → Folder
+after_asking old = record old { asks = counted old.asks }
 
--- The lock of a path is asked for, whether or not there is a file. If it is held, no other program that asks for it gets it until this one ends or
--- takes another lock; of a path without a file, the host may say that it is held although there is nothing to lock.
+-- The folder once the lock of a path is taken, which is not spent. A file that was read under an earlier lock is claimed no more, and a part of it
+-- is given up.
+abbrev pub locked_by : Folder → List ℕ → Bool → Bool → Folder
+locked_by old path is_wanted is_held = record (after_asking old) { locked = Some (lock_of path is_wanted is_held); claimed = None; is_spent = false; part = None }
+
+-- The lock of a path is asked for, whether or not there is a file. If it is held, no other program that asks for it gets it until this one ends,
+-- takes another lock, or puts a file in place; of a path without a file, the host may say that it is held although there is nothing to lock.
 abbrev pub Locks : Folder → Folder → List ℕ → Bool → Result Bool Unread → Type 0
 Locks old new path is_wanted (Ok is_held) = (new ≡ locked_by old path is_wanted is_held) × IsLockWanted is_wanted is_held
-Locks old new path is_wanted (Err unread.File) = FailsSo old new
-Locks old new path is_wanted (Err unread.NoMemory) = new ≡ old
+Locks old new path is_wanted (Err unread.File) = FailsSo (after_asking old) new
+Locks old new path is_wanted (Err unread.NoMemory) = new ≡ after_asking old
 
 -- the folder once a file is locked and read
 abbrev pub claimed_by : Folder → List ℕ → Bool → Bool → Test → Folder
 claimed_by old path is_wanted is_held accepts = record (locked_by old path is_wanted is_held) { claimed = Some (record { path = path; accepts = accepts }) }
 
--- A file is locked and then read: it stays as it was read until this program replaces it, takes another lock, or ends. If it cannot be read, the lock is not taken.
+-- A file is locked and then read: it stays as it was read until this program replaces it, takes another lock, or ends. If it cannot be read, the
+-- lock is not taken, but it was asked for. One call asks once, however often the host tries.
 abbrev pub Claims : Folder → Folder → List ℕ → Bool → Result Claimed Unread → Type 0
 Claims old new path is_wanted (Ok c) = (accepts : Test) × (new ≡ claimed_by old path is_wanted c.is_locked accepts) × (accepts c.bytes.items ≡ true)
     × IsLockWanted is_wanted c.is_locked × (old.gives path c.bytes.items ≡ true) × (length c.bytes.items ≤ LONGEST_TEXT) × IfSome old.files (λ files. IsAt files path c.bytes.items)
-Claims old new path is_wanted (Err unread.File) = ((new ≡ old) × IsUnreadable old.files path) ⊎ FailsSo old new
-Claims old new path is_wanted (Err unread.NoMemory) = new ≡ old
+Claims old new path is_wanted (Err unread.File) = ((new ≡ after_asking old) × IsUnreadable old.files path) ⊎ FailsSo (after_asking old) new
+Claims old new path is_wanted (Err unread.NoMemory) = new ≡ after_asking old
 
--- A file may be written beside that of a path: the lock of the path was taken, and no part is there.
+-- A file may be written beside that of a path: the lock of the path was taken and is not spent, and no part is there.
 abbrev pub IsFree : Folder → List ℕ → Type 0
-IsFree f path = HasLock f path × (f.part ≡ None)
+IsFree f path = HasLock f path × (f.is_spent ≡ false) × (f.part ≡ None)
 
--- Bytes are written beside the file of a path, which no reader of that path sees.
+-- the folder once the lock is spent
+abbrev pub spent : Folder → Folder
+spent old = record old { is_spent = true }
+
+-- Bytes are written beside the file of a path, which no reader of that path sees. This spends the lock. If it fails, the lock may be spent or not, so
+-- nobody may write again before the lock is taken again.
 abbrev pub WritesBeside : Folder → Folder → List ℕ → List ℕ → Result Unit WriteFailed → Type 0
-WritesBeside old new path bytes (Ok _) = (p : Part) × (new ≡ record old { part = Some p }) × (p.path ≡ path) × (p.accepts bytes ≡ true) × (p.synced ≡ false) × IfSome old.files (λ _. p.bytes ≡ Some bytes)
-WritesBeside old new path bytes (Err _) = FailsSo old new
+WritesBeside old new path bytes (Ok _) = (p : Part) × (new ≡ record (spent old) { part = Some p }) × (p.path ≡ path) × (p.accepts bytes ≡ true) × (p.synced ≡ false) × IfSome old.files (λ _. p.bytes ≡ Some bytes)
+WritesBeside old new path bytes (Err _) = FailsSo old new ⊎ FailsSo (spent old) new
 
 -- They reach the device. If they do not, the part may be gone.
 abbrev pub Syncs : Folder → Folder → Part → Result Unit WriteFailed → Type 0
@@ -165,13 +181,14 @@ GrowsBy old new file = Grows old.files new.files (file ∷ [])
 abbrev pub GrowsByPart : Folder → Folder → Part → Type 0
 GrowsByPart old new p = IfSome p.bytes (λ bytes. GrowsBy old new (p.path, bytes))
 
--- One file more took the place of another under its lock, and no file was written otherwise; the first argument says which file that is.
+-- One file more took the place of another under its lock, no file was written otherwise, and no lock was asked for meanwhile; the first argument
+-- says which file that is.
 abbrev pub Replaced : Type 0 → Folder → Folder → Type 0
-Replaced Placing old new = Placing × (new.replacements ≡ counted old.replacements) × (new.is_written ≡ old.is_written) × StaysLocked old new
+Replaced Placing old new = Placing × (new.replacements ≡ counted old.replacements) × (new.stored ≡ old.stored) × StaysLocked old new
 
 -- A call failed: the file did not take its place, or did.
 abbrev pub ReplacedOrNot : Type 0 → Folder → Folder → Type 0
-ReplacedOrNot Placing old new = (new.failures ≡ counted old.failures) × (new.is_written ≡ old.is_written) × StaysLocked old new
+ReplacedOrNot Placing old new = (new.failures ≡ counted old.failures) × (new.stored ≡ old.stored) × StaysLocked old new
     × ((Grows old.files new.files [] × (new.replacements ≡ old.replacements) × (new.placed ≡ old.placed)) ⊎ (Placing × (new.replacements ≡ counted old.replacements)))
 
 -- The last file that took the place of another has these bytes, by its test, and a file that was there would have been kept, or not.
@@ -199,5 +216,5 @@ PutsInPlace old new p keep (Err _) = ReplacedOrNot (PlacesPart old new p keep) o
 -- The file of a path is replaced by these bytes, and with keep only if there was none.
 abbrev pub Replaces : Folder → Folder → File → Bool → Result Placed WriteFailed → Type 0
 Replaces old new file keep (Ok placed.Done) = Replaced (Places old new file keep) old new × (new.failures ≡ old.failures) × (new.part ≡ None)
-Replaces old new file keep (Ok placed.Exists) = (new ≡ old) × IsToBeKept old file.0 keep
+Replaces old new file keep (Ok placed.Exists) = (new ≡ spent old) × IsToBeKept old file.0 keep
 Replaces old new file keep (Err _) = ReplacedOrNot (Places old new file keep) old new

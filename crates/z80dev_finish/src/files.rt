@@ -38,10 +38,12 @@ pub enum Placed {
 /// Files that can be made again are written by [`write`](Files::write). A file that holds a user's work, such as the image of a disk, is
 /// replaced in four calls: it is [claimed](Files::claim), or only [locked](Files::lock) if it is not read; [written beside](Files::write_beside)
 /// itself; [synced](Files::sync); and [put in place](Files::put_in_place). So two programs that hold the lock do not both change a file and lose
-/// one of the changes, and after a power cut the file is the old one or the new one. The last three calls require that the lock was taken, that
-/// a file is written beside another, and that it is synced. Only the claim says which bytes were read under the lock, and taking another lock
-/// ends it; so a contract that works on a claimed file's bytes excludes bytes that were read before. Only [`put_in_place`](Files::put_in_place) counts a replacement, so a contract that tells the count excludes
-/// [`write`](Files::write).
+/// one of the changes, and after a power cut the file is the old one or the new one. The last three calls require that the lock was taken and is
+/// not spent, that a file is written beside another, and that it is synced. Only the claim says which bytes were read under the lock, and taking
+/// another lock ends it; so a contract that works on a claimed file's bytes excludes bytes that were read before. Each lock or claim that is asked
+/// for is counted, so a contract that tells the count excludes another one, also one that fails. Only [`put_in_place`](Files::put_in_place) counts
+/// a replacement, and only [`write`](Files::write) adds to the files that are written otherwise; so a contract that tells both excludes that a file
+/// is written in another way, or that another file is written.
 pub trait Files {
     /// The files, if they are known, and what the calls have done so far.
     ghost folder: { Self → Folder };
@@ -62,8 +64,8 @@ pub trait Files {
     fn write(&mut self, path: &str, bytes: &[u8]) -> Result<(), WriteFailed>
         ensures { Stores (folder self.old) (folder self.new) (path.now, bytes.now) result };
 
-    /// Takes the lock of a path for as long as the program runs, or until it takes another. There may be no file. The answer says whether the
-    /// lock is held: it is not if `is_wanted` is false, or if the file system has no locks.
+    /// Takes the lock of a path for as long as the program runs, or until it takes another or puts a file in place. There may be no file. The
+    /// answer says whether the lock is held: it is not if `is_wanted` is false, or if the file system has no locks.
     ///
     /// # Errors
     ///
@@ -83,7 +85,7 @@ pub trait Files {
     ///
     /// # Errors
     ///
-    /// If it cannot be written, or if the file of the path is write-protected.
+    /// If it cannot be written, or if the file of the path is write-protected. To try again, take the lock again.
     fn write_beside(&mut self, path: &str, bytes: &[u8]) -> Result<(), WriteFailed>
         requires free { IsFree (folder self.old) path.now }
         ensures { WritesBeside (folder self.old) (folder self.new) path.now bytes.now result };

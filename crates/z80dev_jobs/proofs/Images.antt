@@ -16,14 +16,14 @@ use Rattle.cpm_image.specs.Image.{blank_image}
 use Rattle.streams.specs.declared.writing.WriteFailed.{WriteFailed}
 use Rattle.z80dev_disk.specs.declared.getting.Gotten.{Gotten}
 use Rattle.z80dev_finish.proofs.Stored.{adds_trans, none_more}
-use Rattle.z80dev_finish.specs.Files.{Adds, File, Folder, IsToBeKept, Places, ReplacedOrNot, Replaces, Stores, locked_by}
+use Rattle.z80dev_finish.specs.Files.{Adds, File, Folder, IsToBeKept, Places, ReplacedOrNot, Replaces, Stores, locked_by, spent}
 use Rattle.z80dev_finish.specs.declared.files.Placed.TheVariants as placed
 use Rattle.z80dev_finish.specs.declared.end.End.{End}
 use Rattle.z80dev_finish.specs.declared.end.End.TheVariants as end
 use Rattle.z80dev_disk.specs.Put.{IsPutImage as IsPutOn}
 use Rattle.z80dev_disk.specs.Words.{file_name_of, own_name, pattern_of}
 use Rattle.z80dev_commands.specs.declared.Manner.{Manner}
-use Rattle.z80dev_jobs.specs.Disks.{BlankEnds, Changes, ChangesImage, Claiming, IsChanged, IsNotLocked, Named, NamedAll, NothingDone, PutEnds, Refuses, Warns, GetsMatching, IsWrittenInto, NamedIfGiven, PutAllEnds, ReadsImage, WritesInto, as_put, bad_name, path_in, warnings, without_name, BlankIsMade, kind_of}
+use Rattle.z80dev_jobs.specs.Disks.{BlankEnds, Changes, ChangesImage, Claiming, IsChanged, IsNotLocked, Named, NamedAll, NothingDone, PutEnds, Refuses, Warns, GetsMatching, IsWrittenInto, NamedIfGiven, PutAllEnds, ReadsImage, WritesInto, as_put, bad_name, path_in, warnings, without_name, BlankIsMade, GivesUp, kind_of}
 use Rattle.z80dev_jobs.specs.Reading.{IsNotRead, IsOneNotRead, IsRead}
 use Rattle.z80dev_finish.specs.Answers.{Answer, answer_by}
 use Rattle.z80dev_finish.specs.Finishing.{Finishes}
@@ -294,7 +294,7 @@ not_empty (b ∷ rest) same none = absurd cc
 pub blank_out : (mega keep lock : Bool) (image : List ℕ) (f : Folder) (o : Stream) (e : End) (result : Result (Option (String Global)) End) → e ≡ end.NoMemory → IsErrAnd result (λ g. g ≡ e)
     → EndsWith (BlankEnds mega keep lock image (effect_of f f o o)) result
 blank_out mega keep lock image f o e result out same =
-    passed_on (BlankEnds mega keep lock image (effect_of f f o o)) e result same (None, no_line_at e, inr (subst (IsNotLocked f f image) (sym out) refl, refl))
+    passed_on (BlankEnds mega keep lock image (effect_of f f o o)) e result same (None, no_line_at e, inr (subst (IsNotLocked f f image) (sym out) (inl refl), refl))
 
 pub blank_unlocked : (mega keep lock : Bool) (image : List ℕ) (old new : Folder) (o : Stream) (e : End) (result : Result (Option (String Global)) End) → LocksPath old new image lock (Err e) → IsErrAnd result (λ g. g ≡ e)
     → EndsWith (BlankEnds mega keep lock image (effect_of old new o o)) result
@@ -451,27 +451,27 @@ blank_unwarned mega keep lock is_held image old new o e result locks out same =
     passed_on (BlankEnds mega keep lock image x) e result same (
       warnings image 0 (lock && not is_held),
       no_line e (warnings image 0 (lock && not is_held)) (λ done. no_memory (sym out ∙ done)),
-      inl (is_held, locks.1, (refl, subst (BlankIsMade image keep (concat (blank_image (kind_of mega))) y) (sym out) nothing)),
+      inl (is_held, locks.1, (refl, subst (BlankIsMade image keep (concat (blank_image (kind_of mega))) y) (sym out) (inl nothing))),
     )
 
-exists_end : (image : List ℕ) (keep : Bool) (made : List ℕ) (y : Effect) (e : End) → NothingDone y → IsToBeKept y.old image keep → Says (codes "Exists") e → BlankIsMade image keep made y e
-exists_end image keep made y (end.Refused said) nothing kept says = (says, nothing, kept)
-exists_end image keep made y end.NoMemory nothing kept says = nothing
-exists_end image keep made y end.Done nothing kept says = absurd says
-exists_end image keep made y (end.File path last) nothing kept says = absurd says
-exists_end image keep made y (end.Path path) nothing kept says = absurd says
-exists_end image keep made y end.Stream nothing kept says = absurd says
+exists_end : (image : List ℕ) (keep : Bool) (made : List ℕ) (y : Effect) (e : End) → GivesUp image keep y → Says (codes "Exists") e → BlankIsMade image keep made y e
+exists_end image keep made y (end.Refused said) gives says = (says, gives)
+exists_end image keep made y end.NoMemory gives says = inr gives
+exists_end image keep made y end.Done gives says = absurd says
+exists_end image keep made y (end.File path last) gives says = absurd says
+exists_end image keep made y (end.Path path) gives says = absurd says
+exists_end image keep made y end.Stream gives says = absurd says
 
 -- There is a file, which is to be kept.
 pub blank_exists : (mega keep lock is_held : Bool) (image made : List ℕ) (old mid new : Folder) (o : Stream) (e : End) → LocksPath old mid image lock (Ok is_held) → Replaces mid new (image, made) keep (Ok placed.Exists) → Says (codes "Exists") e
     → BlankEnds mega keep lock image (effect_of old new o o) None e
 blank_exists mega keep lock is_held image made old mid new o e locks (same, kept) says =
     let y = effect_of (locked_by old image lock is_held) new o o in
-    let nothing : NothingDone y = (same ∙ locks.0, refl) in
-    let still : IsToBeKept (locked_by old image lock is_held) image keep = subst (λ f. IsToBeKept f image keep) locks.0 kept in (
+    let still : IsToBeKept (locked_by old image lock is_held) image keep = subst (λ f. IsToBeKept f image keep) locks.0 kept in
+    let gives : GivesUp image keep y = (same ∙ ap spent locks.0, refl, still) in (
       warnings image 0 (lock && not is_held),
       no_line e (warnings image 0 (lock && not is_held)) (says_not_done (codes "Exists") e says),
-      inl (is_held, locks.1, (refl, exists_end image keep (concat (blank_image (kind_of mega))) y e nothing still says)),
+      inl (is_held, locks.1, (refl, exists_end image keep (concat (blank_image (kind_of mega))) y e gives says)),
     )
 
 -- A call failed while the image was put in place.
@@ -488,4 +488,4 @@ blank_failed mega keep lock is_held image made at last old mid new o locks is fa
 -- The image of a run's disk is claimed, so a file may be written beside it.
 pub free_of : (disk : Option (Bor (List ℕ))) (wanted : Bool) (old new : Folder) (bytes : List ℕ) (lines : Option (List ℕ)) → ClaimsDisk disk wanted old new bytes lines → IsFreeOf disk new
 free_of None wanted old new bytes lines claims = tt
-free_of (Some path) wanted old new bytes lines (is_held, (accepts, is, given, may, read), told) = ((wanted, is_held, ap (λ f. f.locked) is), ap (λ f. f.part) is)
+free_of (Some path) wanted old new bytes lines (is_held, (accepts, is, given, may, read), told) = ((wanted, is_held, ap (λ f. f.locked) is), ap (λ f. f.is_spent) is, ap (λ f. f.part) is)

@@ -5,3 +5,4 @@ pub mod One_word
 pub mod Refused
 pub mod Images
 pub mod Reported
+pub mod Stored

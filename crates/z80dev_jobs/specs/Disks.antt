@@ -24,7 +24,7 @@ use Rattle.z80dev_disk.specs.declared.getting.Gotten.{Gotten}
 use Rattle.z80dev_disk.specs.declared.refusal.Refusal.{Refusal}
 use Rattle.z80dev_finish.specs.Answers.{MemoryAside}
 use Rattle.z80dev_finish.specs.End.{IsPut}
-use Rattle.z80dev_finish.specs.Files.{Adds, FailsSo, File, Folder, IsLockWanted, IsToBeKept, IsUnreadable, Places, Replaced, ReplacedOrNot, Test, claimed_by, locked_by}
+use Rattle.z80dev_finish.specs.Files.{Adds, FailsSo, File, Folder, IsLockWanted, IsToBeKept, IsUnreadable, Places, Replaced, ReplacedOrNot, Test, after_asking, claimed_by, locked_by, spent}
 use Rattle.z80dev_finish.specs.declared.end.End.{End}
 use Rattle.z80dev_finish.specs.declared.end.End.TheVariants as end
 use Rattle.z80dev_jobs.specs.Making.{CarriesOut, Effect, LineAt, With, WithAll}
@@ -97,10 +97,10 @@ abbrev pub HasClaimed : Folder → Folder → List ℕ → Bool → Bool → Lis
 HasClaimed old new path wanted is_held bytes = (accepts : Test) × (new ≡ claimed_by old path wanted is_held accepts) × (accepts bytes ≡ true)
     × IsLockWanted wanted is_held × IsRead old path bytes
 
--- An image is not claimed; or memory ran out, before the claim or just after it.
+-- An image is not claimed, though its lock was asked for; or memory ran out, in the claim or just after it.
 abbrev pub IsNotClaimed : Folder → Folder → List ℕ → End → Type 0
-IsNotClaimed old new path (end.File at last) = (at.now ≡ path) × (last.now ≡ []) × (((new ≡ old) × IsUnreadable old.files path) ⊎ FailsSo old new)
-IsNotClaimed old new path end.NoMemory = (new ≡ old) ⊎ ((is_wanted is_held : Bool) × (accepts : Test) × (new ≡ claimed_by old path is_wanted is_held accepts))
+IsNotClaimed old new path (end.File at last) = (at.now ≡ path) × (last.now ≡ []) × (((new ≡ after_asking old) × IsUnreadable old.files path) ⊎ FailsSo (after_asking old) new)
+IsNotClaimed old new path end.NoMemory = (new ≡ after_asking old) ⊎ ((is_wanted is_held : Bool) × (accepts : Test) × (new ≡ claimed_by old path is_wanted is_held accepts))
 IsNotClaimed old new path _ = ⊥
 
 -- The image is locked and then read, and the command continues with its bytes and with whether the lock is held, on the files as they are then;
@@ -238,18 +238,22 @@ abbrev pub kind_of : Bool → DiskKind
 kind_of true = Megabyte
 kind_of false = EightInch
 
+-- There is a file, which is to be kept: the blank image was written beside it and given up, which spends the lock, and nothing else is done.
+abbrev pub GivesUp : List ℕ → Bool → Effect → Type 0
+GivesUp image keep x = (x.new ≡ spent x.old) × (x.after ≡ x.before) × IsToBeKept x.old image keep
+
 -- A blank image takes its place as a file that was written beside it and synced; with keep only if there is no file.
 abbrev pub BlankIsMade : List ℕ → Bool → List ℕ → Effect → End → Type 0
 BlankIsMade image keep made x end.Done = (x.after ≡ x.before) × Replaced (Places x.old x.new (image, made) keep) x.old x.new × (x.new.failures ≡ x.old.failures) × (x.new.part ≡ None)
-BlankIsMade image keep made x (end.Refused said) = (string_bytes said ≡ codes "Exists") × NothingDone x × IsToBeKept x.old image keep
+BlankIsMade image keep made x (end.Refused said) = (string_bytes said ≡ codes "Exists") × GivesUp image keep x
 BlankIsMade image keep made x (end.File at last) = (x.after ≡ x.before) × (at.now ≡ image) × (last.now ≡ []) × ReplacedOrNot (Places x.old x.new (image, made) keep) x.old x.new
-BlankIsMade image keep made x end.NoMemory = NothingDone x
+BlankIsMade image keep made x end.NoMemory = NothingDone x ⊎ GivesUp image keep x
 BlankIsMade image keep made x _ = ⊥
 
--- A path is not locked; or memory ran out before.
+-- A path is not locked, though its lock was asked for; or memory ran out, before that or in it.
 abbrev pub IsNotLocked : Folder → Folder → List ℕ → End → Type 0
-IsNotLocked old new path (end.File at last) = (at.now ≡ path) × (last.now ≡ []) × FailsSo old new
-IsNotLocked old new path end.NoMemory = new ≡ old
+IsNotLocked old new path (end.File at last) = (at.now ≡ path) × (last.now ≡ []) × FailsSo (after_asking old) new
+IsNotLocked old new path end.NoMemory = (new ≡ old) ⊎ (new ≡ after_asking old)
 IsNotLocked old new path _ = ⊥
 
 -- The lock of a path is taken, whether or not it has a file, and the command continues with whether the lock is held, on the files as they are

@@ -26,6 +26,7 @@ pub struct FailingFiles<F> {
     failure: Failure,
     calls: u64,
     failures: u64,
+    asks: u64,
 }
 
 impl<F> FailingFiles<F> {
@@ -35,12 +36,14 @@ impl<F> FailingFiles<F> {
         ensures failure { result.failure ≡ failure }
         ensures calls { result.calls ≡ 0 }
         ensures failures { result.failures ≡ 0 }
+        ensures asks { result.asks ≡ 0 }
     {
         FailingFiles {
             files,
             failure,
             calls: 0,
             failures: 0,
+            asks: 0,
         }
     }
 
@@ -55,6 +58,7 @@ impl<F> FailingFiles<F> {
     fn is_failing(&mut self) -> bool
         ensures files { self.new.files ≡ self.old.files }
         ensures failures { self.new.failures ≡ self.old.failures }
+        ensures asks { self.new.asks ≡ self.old.asks }
         ensures calls { self.new.calls ≡ counted self.old.calls }
         ensures fails { result ≡ is_failing self.old.failure (counted self.old.calls) }
     {
@@ -67,13 +71,24 @@ impl<F> FailingFiles<F> {
     fn count(&mut self)
         ensures files { self.new.files ≡ self.old.files }
         ensures failures { self.new.failures ≡ counted self.old.failures }
+        ensures asks { self.new.asks ≡ self.old.asks }
     {
         self.failures = self.failures.saturating_add(1);
+    }
+
+    /// Counts a failure of a call that asks for a lock.
+    fn count_ask(&mut self)
+        ensures files { self.new.files ≡ self.old.files }
+        ensures failures { self.new.failures ≡ counted self.old.failures }
+        ensures asks { self.new.asks ≡ counted self.old.asks }
+    {
+        self.count();
+        self.asks = self.asks.saturating_add(1);
     }
 }
 
 impl<F: Files> Files for FailingFiles<F> {
-    ghost folder = { λ f. with_failures f.failures (F.folder f.files) };
+    ghost folder = { λ f. with_failures f.failures f.asks (F.folder f.files) };
 
     fn read(&mut self, alloc: Global, path: &str) -> Result<Vec<u8>, Unread> {
         if self.is_failing() {
@@ -97,7 +112,7 @@ impl<F: Files> Files for FailingFiles<F> {
 
     fn lock(&mut self, alloc: Global, path: &str, is_wanted: bool) -> Result<bool, Unread> {
         if self.is_failing() {
-            self.count();
+            self.count_ask();
             return Err(Unread::File);
         }
         self.files.lock(alloc, path, is_wanted)
@@ -105,7 +120,7 @@ impl<F: Files> Files for FailingFiles<F> {
 
     fn claim(&mut self, alloc: Global, path: &str, is_wanted: bool) -> Result<Claimed, Unread> {
         if self.is_failing() {
-            self.count();
+            self.count_ask();
             return Err(Unread::File);
         }
         self.files.claim(alloc, path, is_wanted)

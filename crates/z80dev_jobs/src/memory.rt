@@ -2,6 +2,7 @@
 
 ghost use Rattle.std.specs.Prelude.{◌≡◌, [], None, Some, false, map, true};
 ghost use Rattle.streams.specs.Stream.{counted};
+ghost use Rattle.z80dev_finish.specs.Files.{after_asking};
 ghost use Rattle.z80dev_jobs.specs.Memory.{Finds, written_file, files_of, folder_of};
 ghost use Rattle.z80dev_jobs.specs.Private.Kept.{Copies, Keeps, KeepsPart, TakesLock};
 
@@ -15,6 +16,8 @@ use z80dev_finish::{Claimed, Files, Placed, Unread};
 pub struct Written {
     pub path: Vec<u8>,
     pub bytes: Vec<u8>,
+    /// Whether it was written beside the file whose place it took.
+    is_part: bool,
 }
 
 /// The lock that was taken.
@@ -37,10 +40,11 @@ pub struct MemoryFiles {
     alloc: Global,
     written: Vec<Written>,
     failures: u64,
-    is_written: bool,
     replacements: u64,
+    asks: u64,
     locked: Option<Lock>,
     claimed: Option<Vec<u8>>,
+    is_spent: bool,
     part: Option<Part>,
     /// Whether the last file that took the place of another would have been kept from it by one that was there.
     placed: Option<bool>,
@@ -49,16 +53,17 @@ pub struct MemoryFiles {
 impl MemoryFiles {
     /// None yet.
     pub fn new(alloc: Global) -> MemoryFiles
-        ensures { folder_of result ≡ record { files = Some []; failures = 0; is_written = false; replacements = 0; gives = λ _ _. true; locked = None; claimed = None; part = None; placed = None } }
+        ensures { folder_of result ≡ record { files = Some []; stored = Some []; failures = 0; replacements = 0; gives = λ _ _. true; asks = 0; locked = None; claimed = None; is_spent = false; part = None; placed = None } }
     {
         MemoryFiles {
             alloc,
             written: Vec::new(alloc),
             failures: 0,
-            is_written: false,
             replacements: 0,
+            asks: 0,
             locked: None,
             claimed: None,
+            is_spent: false,
             part: None,
             placed: None,
         }
@@ -97,31 +102,43 @@ impl MemoryFiles {
     {
         let path = Vec::from_slice(self.alloc, path.as_bytes())?;
         let bytes = Vec::from_slice(self.alloc, bytes)?;
-        Ok(Written { path, bytes })
+        Ok(Written {
+            path,
+            bytes,
+            is_part: false,
+        })
     }
 
     /// Keeps a copy of a file.
+    #[tactic(auto, using(crate::proofs::Stored::one_more_stored))]
     fn keep(&mut self, path: &str, bytes: &[u8]) -> Result<(), AllocError>
         ensures { Keeps self.old self.new (path.now, bytes.now) result }
     {
         let file = self.copy(path, bytes)?;
         self.written.push(file)?;
-        self.is_written = true;
         Ok(())
     }
 
-    /// Takes the lock of a path. What was claimed or written beside a file under another lock is given up.
+    /// Counts a lock that is asked for.
+    fn ask(&mut self)
+        ensures { folder_of self.new ≡ after_asking (folder_of self.old) }
+    {
+        self.asks = self.asks.saturating_add(1);
+    }
+
+    /// Takes the lock of a path, which was asked for. What was claimed or written beside a file under another lock is given up.
     fn take_lock(&mut self, path: &str, is_held: bool) -> Result<(), AllocError>
         ensures { TakesLock self.old self.new path.now is_held result }
     {
         let path = Vec::from_slice(self.alloc, path.as_bytes())?;
         self.locked = Some(Lock { path, is_held });
         self.claimed = None;
+        self.is_spent = false;
         self.part = None;
         Ok(())
     }
 
-    /// Keeps a copy of a file beside the one whose place it is to take.
+    /// Keeps a copy of a file beside the one whose place it is to take. This spends the lock.
     fn keep_part(&mut self, path: &str, bytes: &[u8]) -> Result<(), AllocError>
         ensures { KeepsPart self.old self.new (path.now, bytes.now) result }
     {
@@ -130,6 +147,7 @@ impl MemoryFiles {
             file,
             is_synced: false,
         });
+        self.is_spent = true;
         Ok(())
     }
 
@@ -163,6 +181,7 @@ impl Files for MemoryFiles {
     }
 
     fn lock(&mut self, _: Global, path: &str, is_wanted: bool) -> Result<bool, Unread> {
+        self.ask();
         match self.take_lock(path, is_wanted) {
             Ok(()) => Ok(is_wanted),
             Err(_) => Err(Unread::NoMemory),
@@ -170,14 +189,20 @@ impl Files for MemoryFiles {
     }
 
     fn claim(&mut self, alloc: Global, path: &str, is_wanted: bool) -> Result<Claimed, Unread> {
+        self.ask();
         // Nobody else changes files in memory, so the file may be read first: if that fails, the lock is not taken.
         let bytes = self.read(alloc, path)?;
         let Ok(claimed) = Vec::from_slice(self.alloc, path.as_bytes()) else {
             return Err(Unread::NoMemory);
         };
-        let is_locked = self.lock(alloc, path, is_wanted)?;
+        let Ok(()) = self.take_lock(path, is_wanted) else {
+            return Err(Unread::NoMemory);
+        };
         self.claimed = Some(claimed);
-        Ok(Claimed { bytes, is_locked })
+        Ok(Claimed {
+            bytes,
+            is_locked: is_wanted,
+        })
     }
 
     fn write_beside(&mut self, path: &str, bytes: &[u8]) -> Result<(), WriteFailed> {
@@ -194,6 +219,7 @@ impl Files for MemoryFiles {
         Ok(())
     }
 
+    #[tactic(auto, using(crate::proofs::Stored::no_more_stored))]
     fn put_in_place(&mut self, keep: bool) -> Result<Placed, WriteFailed> {
         let Some(part) = self.part.take() else {
             unreachable!();
@@ -202,7 +228,9 @@ impl Files for MemoryFiles {
         if keep && self.find(&part.file.path).is_some() {
             return Ok(Placed::Exists);
         }
-        match self.written.push(part.file) {
+        let mut file = part.file;
+        file.is_part = true;
+        match self.written.push(file) {
             Ok(()) => {
                 self.replacements = self.replacements.saturating_add(1);
                 self.placed = Some(keep);
