@@ -2,45 +2,46 @@
 
 ghost use Rattle.std.specs.Prelude.{◌<◌};
 
+use crate::call::ChangeKind;
 use crate::shown::{
-    attribute_of, byte, decimal, first_of, name_of, short, show_answer, show_bytes, show_counts,
-    show_done, show_number, switch_of, user_of,
+    attribute_of, file_name_of, pattern_of, show_answer, show_counts, show_done, show_number,
+    switch_of,
 };
-use anyhow::{Context, anyhow};
 use cpm_disk::{Attribute, Disk, DiskFault, Listed, Name, Pattern};
 use cpm_image::{FailedWrite, Failing, MemoryImage};
-use std::alloc::Global;
-use std::io::Write;
+use row_text::Row;
 
-/// Makes a device over an image: `good`; or `once` or `from` with the number of the call that fails, counted from 0, and `old` or `new`
-/// for what a failed write leaves.
-pub(crate) fn device_of(row: &str, image: MemoryImage) -> Result<Failing, anyhow::Error> {
-    if row == "good" {
-        return Ok(Failing::once(image, u32::MAX, FailedWrite::Old));
-    }
-    let (mode, row) = first_of(row)?;
-    let (call, leaves) = first_of(row)?;
-    let leaves = if leaves == "new" {
+/// Takes what a failed write leaves: `old` or `new`.
+pub(crate) fn leaves_of(row: &mut Row) -> FailedWrite {
+    if row.word() == "new" {
         FailedWrite::New
     } else {
         FailedWrite::Old
-    };
-    match mode.as_bytes() {
-        b"once" => Ok(Failing::once(image, decimal(call)?, leaves)),
-        b"from" => Ok(Failing::lasting(image, decimal(call)?, leaves)),
-        _ => Err(anyhow!("no such device")),
     }
 }
 
-/// Makes a pattern from its columns: EX, S2 and the name.
-fn pattern_of(alloc: Global, row: &str) -> Result<Pattern, anyhow::Error> {
-    let (extent, row) = first_of(row)?;
-    let (high, name) = first_of(row)?;
-    Ok(Pattern {
-        name: name_of(alloc, name)?,
-        extent: byte(extent)?,
-        high: byte(high)?,
-    })
+/// Makes a device over an image: `good`; or `once` or `from` with the number of the call that fails, counted from 0, and `old` or `new`
+/// for what a failed write leaves.
+pub(crate) fn device_of(row: &mut Row, image: MemoryImage) -> Failing {
+    let mode = row.word();
+    if mode == "good" {
+        return good(image);
+    }
+    let call = row.decimal();
+    let leaves = leaves_of(row);
+    if mode == "from" {
+        Failing::lasting(image, call, leaves)
+    } else {
+        if mode != "once" {
+            row.refuse("no such device");
+        }
+        Failing::once(image, call, leaves)
+    }
+}
+
+/// A device over an image that does not fail.
+pub(crate) fn good(image: MemoryImage) -> Failing {
+    Failing::once(image, u32::MAX, FailedWrite::Old)
 }
 
 /// A call that changes a disk.
@@ -54,34 +55,45 @@ pub(crate) enum Change {
     Write(Name, u32, u8),
 }
 
-/// The attribute to set or clear, and the entries: the columns are the attribute, `on` or `off`, and a pattern.
-fn mark_of(alloc: Global, row: &str) -> Result<Change, anyhow::Error> {
-    let (attribute, row) = first_of(row)?;
-    let (switch, row) = first_of(row)?;
-    let pattern = pattern_of(alloc, row)?;
-    Ok(Change::Mark(pattern, attribute_of(attribute)?, switch_of(switch)?))
+/// Takes the attribute to set or clear, and the entries: the columns are the attribute, `on` or `off`, and a pattern.
+fn mark_of(row: &mut Row) -> Change {
+    let attribute = attribute_of(row);
+    let is_set = switch_of(row);
+    Change::Mark(pattern_of(row), attribute, is_set)
 }
 
-/// The change that a row names.
-pub(crate) fn change_of(alloc: Global, call: &str, row: &str) -> Result<Change, anyhow::Error> {
-    match call.as_bytes() {
-        b"create" => Ok(Change::Create(Name::new(name_of(alloc, row)?))),
-        b"erase" => Ok(Change::Erase(pattern_of(alloc, row)?)),
-        b"mark" => mark_of(alloc, row),
-        b"rename" => {
-            let (old, new) = row.split_once('/').context("no new name")?;
-            let old = Name::new(name_of(alloc, old)?);
-            Ok(Change::Rename(old, Name::new(name_of(alloc, new)?)))
+/// Takes two names, with `/` between them.
+fn rename_of(row: &mut Row) -> Change {
+    let old = row.until('/');
+    let old = name_in(row, old);
+    Change::Rename(old, file_name_of(row))
+}
+
+/// The name of eleven bytes that this text is.
+fn name_in(row: &mut Row, text: &str) -> Name {
+    let mut part = Row::new(row.alloc(), text);
+    let name = file_name_of(&mut part);
+    if part.is_wrong() {
+        row.refuse("a name has eleven bytes");
+    }
+    name
+}
+
+/// Takes the columns of a call that changes a disk.
+pub(crate) fn change_of(row: &mut Row, call: ChangeKind) -> Change {
+    match call {
+        ChangeKind::Create => Change::Create(file_name_of(row)),
+        ChangeKind::Erase => Change::Erase(pattern_of(row)),
+        ChangeKind::Mark => mark_of(row),
+        ChangeKind::Rename => rename_of(row),
+        ChangeKind::Read => {
+            let number = row.decimal();
+            Change::Read(file_name_of(row), number)
         }
-        b"read" => {
-            let (number, name) = first_of(row)?;
-            Ok(Change::Read(Name::new(name_of(alloc, name)?), decimal(number)?))
-        }
-        _ => {
-            let (number, row) = first_of(row)?;
-            let (value, name) = first_of(row)?;
-            let name = Name::new(name_of(alloc, name)?);
-            Ok(Change::Write(name, decimal(number)?, byte(value)?))
+        ChangeKind::Write => {
+            let number = row.decimal();
+            let value = row.hexadecimal_byte();
+            Change::Write(file_name_of(row), number, value)
         }
     }
 }
@@ -91,66 +103,50 @@ pub(crate) fn make(change: Change, user: u8, disk: &mut Disk<Failing>) -> Result
     requires { user < 32 }
 {
     match change {
-        Change::Create(name) => {
-            disk.create(user, &name)?;
-            Ok(())
-        }
-        Change::Erase(pattern) => {
-            disk.erase(user, &pattern)?;
-            Ok(())
-        }
-        Change::Mark(pattern, attribute, on) => {
-            disk.mark(user, &pattern, attribute, on)?;
-            Ok(())
-        }
+        Change::Create(name) => disk.create(user, &name).map(|_| ()),
+        Change::Erase(pattern) => disk.erase(user, &pattern).map(|_| ()),
+        Change::Mark(pattern, attribute, on) => disk
+            .mark(user, &pattern, attribute, on)
+            .map(|_| ()),
         Change::Rename(old, new) => disk.rename(user, &old, &new),
-        Change::Read(name, number) => {
-            disk.read_block_of(user, &name, number)?;
-            Ok(())
-        }
+        Change::Read(name, number) => disk.read_block_of(user, &name, number).map(|_| ()),
         Change::Write(name, number, value) => {
             disk.write_block_of(user, &name, number, &[value; 128])
         }
     }
 }
 
+/// Prints the record that a call answers, or why it is refused.
+fn show_record(row: &mut Row, answer: Result<[u8; 128], DiskFault>) {
+    match answer {
+        Ok(bytes) => row.write_runs(&bytes),
+        Err(fault) => write!(row, " {fault:?}"),
+    }
+}
+
 /// Makes a change, and prints the answer.
-fn show_change<W: Write>(
-    out: &mut W,
-    change: Change,
-    user: u8,
-    disk: &mut Disk<Failing>,
-) -> Result<(), anyhow::Error>
+fn show_change(row: &mut Row, change: Change, user: u8, disk: &mut Disk<Failing>)
     requires { user < 32 }
 {
     match change {
-        Change::Create(name) => show_answer(out, disk.create(user, &name)),
-        Change::Erase(pattern) => show_answer(out, disk.erase(user, &pattern)),
+        Change::Create(name) => show_answer(row, disk.create(user, &name)),
+        Change::Erase(pattern) => show_answer(row, disk.erase(user, &pattern)),
         Change::Mark(pattern, attribute, on) => {
-            show_answer(out, disk.mark(user, &pattern, attribute, on))
+            show_answer(row, disk.mark(user, &pattern, attribute, on))
         }
-        Change::Read(name, number) => match disk.read_block_of(user, &name, number) {
-            Ok(bytes) => show_bytes(out, &bytes),
-            Err(fault) => Ok(write!(out, " {fault:?}")?),
-        },
-        _ => show_done(out, make(change, user, disk)),
+        Change::Read(name, number) => show_record(row, disk.read_block_of(user, &name, number)),
+        _ => show_done(row, make(change, user, disk)),
     }
 }
 
 /// A row with a call that changes a disk: the user and the columns of the call.
-pub(crate) fn report_change<W: Write>(
-    alloc: Global,
-    out: &mut W,
-    call: &str,
-    row: &str,
-    disk: &mut Disk<Failing>,
-) -> Result<(), anyhow::Error> {
-    let (user, row) = first_of(row)?;
-    let user = user_of(user)?;
+pub(crate) fn answer_change(row: &mut Row, call: ChangeKind, disk: &mut Disk<Failing>) {
+    let user = row.byte();
     if user >= 32 {
-        return Err(anyhow!("users are 0 to 31"));
+        return row.refuse("users are 0 to 31");
     }
-    show_change(out, change_of(alloc, call, row)?, user, disk)
+    let change = change_of(row, call);
+    show_change(row, change, user, disk)
 }
 
 /// The bytes of a record that begins with its number.
@@ -170,165 +166,129 @@ struct Records {
     name: Name,
 }
 
-fn records_of(alloc: Global, row: &str) -> Result<Records, anyhow::Error> {
-    let (first, row) = first_of(row)?;
-    let (count, row) = first_of(row)?;
-    let (step, row) = first_of(row)?;
-    let (mark, name) = first_of(row)?;
-    Ok(Records {
-        first: decimal(first)?,
-        count: decimal(count)?,
-        step: decimal(step)?,
-        mark: byte(mark)?,
-        name: Name::new(name_of(alloc, name)?),
-    })
+impl Records {
+    fn of(row: &mut Row) -> Records {
+        Records {
+            first: row.decimal(),
+            count: row.decimal(),
+            step: row.decimal(),
+            mark: row.hexadecimal_byte(),
+            name: file_name_of(row),
+        }
+    }
+
+    fn number(&self, i: u32) -> u32 {
+        self.first.wrapping_add(i.wrapping_mul(self.step))
+    }
 }
 
 /// Writes records of user 0 until one is refused, and prints how many were written, and why the next was not.
-pub(crate) fn report_writes<W: Write>(
-    alloc: Global,
-    out: &mut W,
-    row: &str,
-    disk: &mut Disk<Failing>,
-) -> Result<(), anyhow::Error> {
-    let records = records_of(alloc, row)?;
+pub(crate) fn answer_writes(row: &mut Row, disk: &mut Disk<Failing>) {
+    let records = Records::of(row);
     for i in 0..records.count {
-        let number = records.first.wrapping_add(i.wrapping_mul(records.step));
+        let number = records.number(i);
         let bytes = marked(number, records.mark);
         if let Err(fault) = disk.write_block_of(0, &records.name, number, &bytes) {
-            return Ok(write!(out, " {i}, then {fault:?}")?);
+            return write!(row, " {i}, then {fault:?}");
         }
     }
-    Ok(write!(out, " {}", records.count)?)
+    write!(row, " {}", records.count)
 }
 
 /// Reads records of user 0, and prints how many are as they were written.
-pub(crate) fn report_reads<W: Write>(
-    alloc: Global,
-    out: &mut W,
-    row: &str,
-    disk: &mut Disk<Failing>,
-) -> Result<(), anyhow::Error> {
-    let records = records_of(alloc, row)?;
+pub(crate) fn answer_reads(row: &mut Row, disk: &mut Disk<Failing>) {
+    let records = Records::of(row);
     let mut count = 0u32;
     for i in 0..records.count {
-        let number = records.first.wrapping_add(i.wrapping_mul(records.step));
+        let number = records.number(i);
         if disk.read_block_of(0, &records.name, number) == Ok(marked(number, records.mark)) {
             count = count.saturating_add(1);
         }
     }
-    Ok(write!(out, " {count}")?)
+    write!(row, " {count}")
 }
 
 /// A row that prints a directory entry, by its number.
-pub(crate) fn report_entry<W: Write>(
-    out: &mut W,
-    row: &str,
-    disk: &Disk<Failing>,
-) -> Result<(), anyhow::Error> {
-    let number = short(row)?;
+pub(crate) fn answer_entry(row: &mut Row, disk: &Disk<Failing>) {
+    let number = row.short();
     if number >= disk.kind().entry_count() {
-        return Err(anyhow!("no such entry"));
+        return row.refuse("no such entry");
     }
-    show_bytes(out, &disk.entry(number))
+    row.write_runs(&disk.entry(number))
 }
 
 /// A row that searches the directory: by a pattern, from an entry on.
-pub(crate) fn report_found<W: Write>(
-    alloc: Global,
-    out: &mut W,
-    row: &str,
-    disk: &Disk<Failing>,
-) -> Result<(), anyhow::Error> {
-    let (user, row) = first_of(row)?;
-    let (from, row) = first_of(row)?;
-    let pattern = pattern_of(alloc, row)?;
-    show_number(out, disk.find(user_of(user)?, &pattern, short(from)?))
+pub(crate) fn answer_found(row: &mut Row, disk: &Disk<Failing>) {
+    let user = row.byte();
+    let from = row.short();
+    let pattern = pattern_of(row);
+    show_number(row, disk.find(user, &pattern, from))
 }
 
 /// A row that prints the number of the entry of a file's extent.
-pub(crate) fn report_extent<W: Write>(
-    alloc: Global,
-    out: &mut W,
-    row: &str,
-    disk: &Disk<Failing>,
-) -> Result<(), anyhow::Error> {
-    let (user, row) = first_of(row)?;
-    let (number, name) = first_of(row)?;
-    let name = Name::new(name_of(alloc, name)?);
-    show_number(out, disk.find_extent(user_of(user)?, &name, short(number)?))
+pub(crate) fn answer_extent(row: &mut Row, disk: &Disk<Failing>) {
+    let user = row.byte();
+    let number = row.short();
+    let name = file_name_of(row);
+    show_number(row, disk.find_extent(user, &name, number))
 }
 
 /// A row that prints the number of records in a file.
-pub(crate) fn report_size<W: Write>(
-    alloc: Global,
-    out: &mut W,
-    row: &str,
-    disk: &Disk<Failing>,
-) -> Result<(), anyhow::Error> {
-    let (user, name) = first_of(row)?;
-    match disk.size(user_of(user)?, &Name::new(name_of(alloc, name)?)) {
-        Some(size) => Ok(write!(out, " {size}")?),
-        None => Ok(write!(out, " none")?),
+pub(crate) fn answer_size(row: &mut Row, disk: &Disk<Failing>) {
+    let user = row.byte();
+    let name = file_name_of(row);
+    match disk.size(user, &name) {
+        Some(size) => write!(row, " {size}"),
+        None => write!(row, " none"),
     }
 }
 
 /// A row that prints the number of entries and blocks that a file has.
-pub(crate) fn report_usage<W: Write>(
-    alloc: Global,
-    out: &mut W,
-    row: &str,
-    disk: &Disk<Failing>,
-) -> Result<(), anyhow::Error> {
-    let (user, name) = first_of(row)?;
-    let usage = disk.usage(user_of(user)?, &Name::new(name_of(alloc, name)?));
-    show_counts(out, usage.entries, usage.blocks)
+pub(crate) fn answer_usage(row: &mut Row, disk: &Disk<Failing>) {
+    let user = row.byte();
+    let name = file_name_of(row);
+    let usage = disk.usage(user, &name);
+    show_counts(row, usage.entries, usage.blocks)
 }
 
 /// A row that prints the number of entries and blocks that are free.
-pub(crate) fn report_space<W: Write>(
-    out: &mut W,
-    disk: &Disk<Failing>,
-) -> Result<(), anyhow::Error> {
+pub(crate) fn answer_space(row: &mut Row, disk: &Disk<Failing>) {
     let space = disk.space();
-    show_counts(out, space.entries, space.blocks)
+    show_counts(row, space.entries, space.blocks)
 }
 
 /// Prints a file of a list: user, name, number of records, and attributes.
-fn show_listed<W: Write>(out: &mut W, file: &Listed) -> Result<(), anyhow::Error> {
-    write!(out, " {}", file.user)?;
-    show_bytes(out, &file.name.bytes())?;
-    write!(out, " {}", file.records)?;
+fn show_listed(row: &mut Row, file: &Listed) {
+    write!(row, ", {}", file.user);
+    row.write_runs(&file.name.bytes());
+    write!(row, " {}", file.records);
     if file.read_only {
-        write!(out, " read-only")?;
+        write!(row, " read-only");
     }
     if file.system {
-        write!(out, " system")?;
+        write!(row, " system");
     }
-    Ok(())
 }
 
 /// Prints a list of files.
-pub(crate) fn show_list<W: Write>(out: &mut W, files: &[Listed]) -> Result<(), anyhow::Error> {
-    write!(out, " {} files", files.len())?;
+fn show_list(row: &mut Row, files: &[Listed]) {
+    write!(row, " {} files", files.len());
     if files.len() < 10 {
         for file in files {
-            write!(out, ",")?;
-            show_listed(out, file)?;
+            show_listed(row, file);
         }
     }
-    Ok(())
+}
+
+/// Prints the files that a call answers, or why it is refused.
+pub(crate) fn show_files(row: &mut Row, answer: Result<Vec<Listed>, DiskFault>) {
+    match answer {
+        Ok(files) => show_list(row, &files),
+        Err(fault) => write!(row, " {fault:?}"),
+    }
 }
 
 /// A row that prints all files of a disk.
-pub(crate) fn report_list<W: Write>(
-    alloc: Global,
-    out: &mut W,
-    disk: &Disk<Failing>,
-) -> Result<(), anyhow::Error> {
-    match disk.list(alloc) {
-        Ok(files) => show_list(out, &files),
-        Err(DiskFault::NoMemory) => Err(DiskFault::NoMemory.into()),
-        Err(fault) => Ok(write!(out, " {fault:?}")?),
-    }
+pub(crate) fn answer_list(row: &mut Row, disk: &Disk<Failing>) {
+    show_files(row, disk.list(row.alloc()))
 }

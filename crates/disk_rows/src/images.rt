@@ -1,16 +1,15 @@
 //! Rows of images: their sizes, sectors and records, and the entries that rows write into them.
 
-use crate::shown::{decimal, first_of, kind_of, padded, short, show_bytes};
-use anyhow::{Context, anyhow};
+use crate::shown::{kind_of, padded};
 use cpm_directory::DiskFault;
 use cpm_image::{
     DeviceFault, DiskKind, ImageFault, LogicalRecord, MemoryImage, Sectors, logical_of,
 };
-use std::alloc::Global;
-use std::io::Write;
+use row_text::Row;
+use std::alloc::{AllocError, Global};
 
 /// Bytes that differ from their neighbours and from sector to sector.
-fn numbered(alloc: Global, count: u32) -> Result<Vec<u8>, anyhow::Error> {
+fn numbered(alloc: Global, count: u32) -> Result<Vec<u8>, AllocError> {
     let mut bytes = Vec::new(alloc);
     for n in 0..count {
         bytes.push((n % 251) as u8)?;
@@ -27,163 +26,155 @@ fn begins_with(image: &MemoryImage, bytes: &[u8]) -> bool {
     }
 }
 
+fn show_image(row: &mut Row, image: &MemoryImage, bytes: &[u8]) {
+    let sectors = if begins_with(image, bytes) {
+        "sectors of these"
+    } else {
+        "sectors of others"
+    };
+    write!(row, " {} {sectors}", image.len())
+}
+
 /// A row that makes an image of this many bytes.
-pub(crate) fn report_image<W: Write>(
-    alloc: Global,
-    out: &mut W,
-    row: &str,
-) -> Result<(), anyhow::Error> {
-    let bytes = numbered(alloc, decimal(row)?)?;
-    match MemoryImage::from_bytes(alloc, &bytes) {
-        Ok(image) => {
-            let is_begun = begins_with(&image, &bytes);
-            let sectors = if is_begun {
-                "sectors of these"
-            } else {
-                "sectors of others"
-            };
-            Ok(write!(out, " {} {sectors}", image.len())?)
-        }
-        Err(ImageFault::NoMemory) => Err(ImageFault::NoMemory.into()),
-        Err(fault) => Ok(write!(out, " {fault:?}")?),
+pub(crate) fn answer_image(row: &mut Row) {
+    let Ok(bytes) = numbered(row.alloc(), row.decimal()) else {
+        return row.refuse("no memory");
+    };
+    match MemoryImage::from_bytes(row.alloc(), &bytes) {
+        Ok(image) => show_image(row, &image, &bytes),
+        Err(fault) => write!(row, " {fault:?}"),
     }
 }
 
 /// A row that prints the format of a disk with this many sectors.
-pub(crate) fn report_kind<W: Write>(out: &mut W, row: &str) -> Result<(), anyhow::Error> {
-    match DiskKind::of_size(decimal(row)?) {
-        Some(kind) => Ok(write!(out, " {kind:?}, {} records", kind.record_count())?),
-        None => Ok(write!(out, " none")?),
+pub(crate) fn answer_kind(row: &mut Row) {
+    match DiskKind::of_size(row.decimal()) {
+        Some(kind) => write!(row, " {kind:?}, {} records", kind.record_count()),
+        None => write!(row, " none"),
     }
 }
 
 /// The sector of a record, on a disk of a format.
-fn sector_of(kind: DiskKind, record: u32) -> Result<u32, anyhow::Error> {
+fn sector_of(row: &mut Row, kind: DiskKind, record: u32) -> u32 {
     if record >= kind.record_count() {
-        return Err(anyhow!("no such record"));
+        row.refuse("no such record");
+        return 0;
     }
-    Ok(logical_of(kind, LogicalRecord::new(record)))
+    logical_of(kind, LogicalRecord::new(record))
 }
 
 /// A row that prints the sector of a record: the format, and the record.
-pub(crate) fn report_sector<W: Write>(out: &mut W, row: &str) -> Result<(), anyhow::Error> {
-    let (kind, record) = first_of(row)?;
-    let sector = sector_of(kind_of(kind)?, decimal(record)?)?;
-    Ok(write!(out, " {sector}")?)
+pub(crate) fn answer_sector(row: &mut Row) {
+    let kind = kind_of(row);
+    let record = row.decimal();
+    let sector = sector_of(row, kind, record);
+    write!(row, " {sector}")
 }
 
 /// A row that prints the sectors of a track of an eight inch disk, from 1 on, in the order of its records, and the track when it changes.
-pub(crate) fn report_track<W: Write>(out: &mut W, row: &str) -> Result<(), anyhow::Error> {
-    let (first, count) = first_of(row)?;
+pub(crate) fn answer_track(row: &mut Row) {
+    let first = row.decimal();
     let mut track = 0;
-    for number in 0..decimal(count)? {
-        let record = decimal(first)?.saturating_add(number);
-        let sector = sector_of(DiskKind::EightInch, record)?;
+    for number in 0..row.decimal() {
+        let sector = sector_of(row, DiskKind::EightInch, first.saturating_add(number));
         if sector / 26 != track {
             track = sector / 26;
-            write!(out, " track {track}:")?;
+            write!(row, " track {track}:");
         }
-        write!(out, " {}", sector % 26 + 1)?;
+        write!(row, " {}", sector % 26 + 1);
     }
-    Ok(())
 }
 
 /// Writes a directory entry to an image: its number and its first bytes; zeros follow.
-pub(crate) fn put_entry(
-    alloc: Global,
-    row: &str,
-    image: &mut MemoryImage,
-) -> Result<(), anyhow::Error> {
-    let (number, text) = first_of(row)?;
-    let number = short(number)?;
-    let entry: [u8; 32] = padded(alloc, text)?;
-    let kind = DiskKind::of_size(image.len()).context("no disk")?;
-    let sector = sector_of(kind, u32::from(number / 4))?;
-    if number >= kind.entry_count() || sector >= image.len() {
-        return Err(anyhow!("no such entry"));
+pub(crate) fn put_entry(row: &mut Row, image: &mut MemoryImage) {
+    let number = row.short();
+    let entry: [u8; 32] = padded(row);
+    match DiskKind::of_size(image.len()) {
+        Some(kind) if number < kind.entry_count() => {
+            let sector = sector_of(row, kind, u32::from(number / 4));
+            let mut record = sector_at(row, image, sector);
+            let from = 32 * usize::from(number % 4);
+            record[from..from + 32].copy_from_slice(&entry);
+            put_sector(row, image, sector, &record)
+        }
+        _ => row.refuse("no such entry"),
     }
-    let mut record = [0; 128];
-    image.read(sector, &mut record)?;
-    let from = 32 * usize::from(number % 4);
-    record[from..from + 32].copy_from_slice(&entry);
-    Ok(image.write(sector, &record)?)
+}
+
+/// The bytes of a sector.
+fn sector_at(row: &mut Row, image: &mut MemoryImage, sector: u32) -> [u8; 128] {
+    let mut bytes = [0; 128];
+    if sector >= image.len() || image.read(sector, &mut bytes).is_err() {
+        row.refuse("no such sector");
+    }
+    bytes
+}
+
+fn put_sector(row: &mut Row, image: &mut MemoryImage, sector: u32, bytes: &[u8; 128]) {
+    if sector >= image.len() || image.write(sector, bytes).is_err() {
+        row.refuse("no such sector");
+    }
 }
 
 /// Writes a sector, and reads it back: its number and its first bytes; zeros follow.
-pub(crate) fn report_written<W: Write>(
-    alloc: Global,
-    out: &mut W,
-    row: &str,
-    image: &mut MemoryImage,
-) -> Result<(), anyhow::Error> {
-    let (sector, text) = first_of(row)?;
-    let sector = decimal(sector)?;
-    if sector >= image.len() {
-        return Err(anyhow!("no such sector"));
+pub(crate) fn answer_written(row: &mut Row, image: &mut MemoryImage) {
+    let sector = row.decimal();
+    let bytes = padded(row);
+    put_sector(row, image, sector, &bytes);
+    let back = sector_at(row, image, sector);
+    row.write_runs(&back)
+}
+
+/// The bytes of a sector, or of a logical record of the disk.
+fn bytes_at(row: &mut Row, image: &MemoryImage, number: u32, is_record: bool) -> [u8; 128] {
+    let sector = match DiskKind::of_size(image.len()) {
+        Some(kind) if is_record => sector_of(row, kind, number),
+        _ => number,
+    };
+    match image.sectors().get(sector as usize) {
+        Some(bytes) => *bytes,
+        None => {
+            row.refuse("no such sector");
+            [0; 128]
+        }
     }
-    image.write(sector, &padded(alloc, text)?)?;
-    let mut back = [0; 128];
-    image.read(sector, &mut back)?;
-    show_bytes(out, &back)
 }
 
 /// Prints what all sectors of a range have, or that they differ. With `as_records`, the numbers are those of logical records.
-pub(crate) fn report_range<W: Write>(
-    out: &mut W,
-    row: &str,
-    image: &MemoryImage,
-    as_records: bool,
-) -> Result<(), anyhow::Error> {
-    let (from, to) = first_of(row)?;
-    let kind = DiskKind::of_size(image.len()).context("no disk")?;
-    let mut found = None;
-    for number in decimal(from)?..decimal(to)? {
-        let sector = if as_records {
-            sector_of(kind, number)?
-        } else {
-            number
-        };
-        let bytes = *image
-            .sectors()
-            .get(sector as usize)
-            .context("no such sector")?;
-        if found.is_some_and(|first| first != bytes) {
-            return Ok(write!(out, " different bytes")?);
+pub(crate) fn answer_range(row: &mut Row, image: &MemoryImage, as_records: bool) {
+    let from = row.decimal();
+    let first = bytes_at(row, image, from, as_records);
+    for number in from..row.decimal() {
+        if bytes_at(row, image, number, as_records) != first {
+            return write!(row, " different bytes");
         }
-        found = Some(bytes);
     }
-    show_bytes(out, &found.context("no sector")?)
+    row.write_runs(&first)
 }
 
 /// Prints how many sectors of a range differ in two images.
-pub(crate) fn report_changed<W: Write>(
-    out: &mut W,
-    row: &str,
-    before: &MemoryImage,
-    image: &MemoryImage,
-) -> Result<(), anyhow::Error> {
-    let (from, to) = first_of(row)?;
-    let range = decimal(from)?..decimal(to)?;
+pub(crate) fn answer_changed(row: &mut Row, before: &MemoryImage, image: &MemoryImage) {
+    let from = row.decimal();
     let mut count = 0u32;
-    for number in range {
+    for number in from..row.decimal() {
         if before.sectors().get(number as usize) != image.sectors().get(number as usize) {
             count = count.saturating_add(1);
         }
     }
-    Ok(write!(out, " {count}")?)
+    write!(row, " {count}")
 }
 
 /// Prints the texts of some faults.
-pub(crate) fn report_texts<W: Write>(out: &mut W) -> Result<(), anyhow::Error> {
+pub(crate) fn answer_texts(row: &mut Row) {
     let (sectors, long, memory) = (
         ImageFault::NotSectors,
         ImageFault::TooLong,
         ImageFault::NoMemory,
     );
     write!(
-        out,
+        row,
         " {sectors:?}: {sectors}; {long:?}: {long}; {memory:?}: {memory}"
-    )?;
+    );
     let (device, twice) = (DeviceFault, DiskFault::BlockTwice);
-    Ok(write!(out, "; {device:?}: {device}; {twice:?}: {twice}")?)
+    write!(row, "; {device:?}: {device}; {twice:?}: {twice}")
 }

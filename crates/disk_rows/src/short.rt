@@ -1,11 +1,9 @@
 //! A device of 100 sectors, which is not the size of any disk.
 
 use crate::shown::show_faults;
-use anyhow::anyhow;
 use cpm_disk::{Disk, faults_of};
 use cpm_image::{DeviceFault, Sectors};
-use std::alloc::Global;
-use std::io::Write;
+use row_text::Row;
 
 /// A device that counts its calls, which all fail.
 #[derive(Drop)]
@@ -36,19 +34,16 @@ impl Sectors for Short {
 }
 
 /// Prints why the device is not mounted, and how often it was called.
-pub(crate) fn report_short<W: Write>(alloc: Global, out: &mut W) -> Result<(), anyhow::Error> {
-    match Disk::mount(alloc, Short { calls: 0 }) {
-        Ok(_) => Err(anyhow!("a disk of 100 sectors")),
-        Err((fault, device)) => Ok(write!(out, " {fault:?}, {} calls", device.calls)?),
+pub(crate) fn answer_short(row: &mut Row) {
+    match Disk::mount(row.alloc(), Short { calls: 0 }) {
+        Ok(_) => row.refuse("a disk of 100 sectors"),
+        Err((fault, device)) => write!(row, " {fault:?}, {} calls", device.calls),
     }
 }
 
 /// Prints why the faults of the device's directory are not found, and how often it was called.
-pub(crate) fn report_short_faults<W: Write>(
-    alloc: Global,
-    out: &mut W,
-) -> Result<(), anyhow::Error> {
+pub(crate) fn answer_short_faults(row: &mut Row) {
     let mut device = Short { calls: 0 };
-    show_faults(out, faults_of(alloc, &mut device))?;
-    Ok(write!(out, ", {} calls", device.calls)?)
+    show_faults(row, faults_of(row.alloc(), &mut device));
+    write!(row, ", {} calls", device.calls)
 }

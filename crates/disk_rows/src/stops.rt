@@ -2,13 +2,13 @@
 
 ghost use Rattle.std.specs.Prelude.{◌<◌};
 
-use crate::disks::{Change, change_of, device_of, make};
-use crate::shown::{first_of, user_of};
+use crate::call::change_named;
+use crate::disks::{Change, change_of, good, leaves_of, make};
 use anyhow::anyhow;
 use cpm_disk::{Attribute, Disk, DiskFault, Name, Pattern, Space, Usage};
-use cpm_image::{FailedWrite, Failing, MemoryImage};
+use cpm_image::{FailedWrite, Failing, ImageFault, MemoryImage};
+use row_text::Row;
 use std::alloc::Global;
-use std::io::Write;
 
 /// The records of each file that are compared: at the beginning and the end of blocks and extents, and those that rows write.
 const LOOKED_AT: [u32; 22] = [
@@ -31,14 +31,19 @@ struct Stopped {
     leaves: FailedWrite,
 }
 
+/// A copy of an image, unless memory runs out.
+pub(crate) fn copy_of(row: &Row, image: &MemoryImage) -> Option<MemoryImage> {
+    copied(row.alloc(), image).ok()
+}
+
 /// A copy of an image.
-pub(crate) fn copy_of(alloc: Global, image: &MemoryImage) -> Result<MemoryImage, anyhow::Error> {
-    Ok(MemoryImage::from_bytes(alloc, image.sectors().as_flattened())?)
+fn copied(alloc: Global, image: &MemoryImage) -> Result<MemoryImage, ImageFault> {
+    MemoryImage::from_bytes(alloc, image.sectors().as_flattened())
 }
 
 /// The disk of an image, on a device that does not fail.
 fn mounted(alloc: Global, image: MemoryImage) -> Result<Disk<Failing>, anyhow::Error> {
-    match Disk::mount(alloc, device_of("good", image)?) {
+    match Disk::mount(alloc, good(image)) {
         Ok(disk) => Ok(disk),
         Err((fault, _)) => Err(fault.into()),
     }
@@ -191,7 +196,7 @@ fn meets_fault(
     states: (&Seen, &Seen),
 ) -> Result<bool, anyhow::Error> {
     let (before, after) = states;
-    let device = failing(stopped, copy_of(alloc, image)?, call);
+    let device = failing(stopped, copied(alloc, image)?, call);
     let (is_met, is_failed, left) = stopped_at(alloc, device, stopped)?;
     if is_met && !is_failed {
         return Err(anyhow!("a disk that failed answers"));
@@ -204,45 +209,46 @@ fn meets_fault(
     }
 }
 
-/// The call that a row names: `once` or `from`, `old` or `new`, the call, the user and its columns.
-fn stopped_of(alloc: Global, row: &str) -> Result<Stopped, anyhow::Error> {
-    let (mode, row) = first_of(row)?;
-    let (leaves, row) = first_of(row)?;
-    let (call, row) = first_of(row)?;
-    let (user, row) = first_of(row)?;
-    Ok(Stopped {
-        change: change_of(alloc, call, row)?,
-        user: user_of(user)?,
-        lasts: mode == "from",
-        leaves: if leaves == "new" {
-            FailedWrite::New
-        } else {
-            FailedWrite::Old
-        },
+/// Takes the call that a row names: `once` or `from`, `old` or `new`, the call, the user and its columns. None if it is no such call.
+fn stopped_of(row: &mut Row) -> Option<Stopped> {
+    let lasts = row.word() == "from";
+    let leaves = leaves_of(row);
+    let call = change_named(row.word())?;
+    let user = row.byte();
+    Some(Stopped {
+        change: change_of(row, call),
+        user,
+        lasts,
+        leaves,
     })
 }
 
 /// What the finished call leaves.
 fn finished(alloc: Global, image: &MemoryImage, stopped: Stopped) -> Result<Seen, anyhow::Error> {
-    let device = device_of("good", copy_of(alloc, image)?)?;
+    let device = good(copied(alloc, image)?);
     let (_, _, left) = stopped_at(alloc, device, stopped)?;
     look_at(alloc, left)
 }
 
-/// Makes a call on devices that fail at each of their calls in turn, until it meets no fault, and prints at how many it stopped.
-pub(crate) fn report_stops<W: Write>(
-    alloc: Global,
-    out: &mut W,
-    row: &str,
-    image: &MemoryImage,
-) -> Result<(), anyhow::Error> {
-    let stopped = stopped_of(alloc, row)?;
-    let before = look_at(alloc, copy_of(alloc, image)?)?;
+/// Makes a call on devices that fail at each of their calls in turn, until it meets no fault, and answers at how many it stopped.
+fn stops(alloc: Global, image: &MemoryImage, stopped: Stopped) -> Result<u32, anyhow::Error> {
+    let before = look_at(alloc, copied(alloc, image)?)?;
     let after = finished(alloc, image, stopped)?;
     for call in 0..200 {
         if !meets_fault(alloc, image, stopped, call, (&before, &after))? {
-            return Ok(write!(out, " {call}")?);
+            return Ok(call);
         }
     }
     Err(anyhow!("it never ends"))
+}
+
+/// Prints at how many calls of its device a call stopped.
+pub(crate) fn answer_stops(row: &mut Row, image: &MemoryImage) {
+    let Some(stopped) = stopped_of(row) else {
+        return row.refuse("no such call");
+    };
+    match stops(row.alloc(), image, stopped) {
+        Ok(count) => write!(row, " {count}"),
+        Err(why) => write!(row, " {why}"),
+    }
 }

@@ -1,6 +1,9 @@
 //! The rows of tests as text: expands what a row abbreviates in braces, and prints bytes in the form that a row can contain.
 #![tactic(auto)]
 
+mod row;
+
+pub use row::Row;
 use std::alloc::Global;
 use std::io::Write;
 
