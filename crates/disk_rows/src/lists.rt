@@ -145,7 +145,11 @@ fn answer_record(row: &mut Row, kind: DiskKind, entry: &Entry) {
     } else {
         "not there"
     };
-    write!(row, " {is_there}, {}", entry.place_on_disk(kind, record).number())
+    write!(
+        row,
+        " {is_there}, {}",
+        entry.place_on_disk(kind, record).number()
+    )
 }
 
 /// Prints a block of the last entry on a disk of a format: the format, and which block.
