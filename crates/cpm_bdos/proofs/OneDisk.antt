@@ -52,7 +52,7 @@ same_block kind a b x y block i new bytes n same one two below apart from to =
 
 same_written : (kind : DiskKind) (a b x y : Image) (p : Placement) (i : ℕ) (bytes : List ℕ) → SameImage kind a b → Written kind a x p i bytes → Written kind b y p i bytes → SameImage kind x y
 same_written kind a b x y p i bytes same one two = record {
-  entries_are = two.entries_are ∙ ap (λ es. slice_set es p.number p.entry) same.entries_are ∙ sym one.entries_are;
+  entries_are = two.entries_are ∙ ap (λ es. slice_set es p.entry_number p.entry) same.entries_are ∙ sym one.entries_are;
   rest = record {
     count = two.data_are.rest.count ∙ same.rest.count ∙ sym one.data_are.rest.count;
     records = λ n below apart. by_block n below apart (cases_lt n (block_records kind * p.block)) (cases_lt n (block_records kind * p.block + block_records kind));
@@ -234,7 +234,7 @@ module _ {S : Type 0} (sectors : S → Image) (faults : S → ℕ) where
       (λ p y z is first second. (
         refl,
         same_written old.kind (sectors old.device) (sectors device) (sectors new.device) (sectors there.device) p (number % block_records old.kind) bytes same first second,
-        left_sound old.kind es (slice_set es p.number p.entry) _ (placed_soundly old.kind user name number es (Ok p) low (sym is) sound).sound first.entries_are,
+        left_sound old.kind es (slice_set es p.entry_number p.entry) _ (placed_soundly old.kind user name number es (Ok p) low (sym is) sound).sound first.entries_are,
       ))
       (went old new (writing old.kind user name number es) _ _ a good one)
       (went (beside old device) there (writing old.kind user name number fs) _ _ b fine two)
