@@ -1,6 +1,6 @@
 //! A row that a program answers: the columns that it has left, and the answer so far.
 
-use crate::{show_runs, written_out};
+use crate::{show_runs, show_text, written_out};
 use std::alloc::Global;
 use std::fmt::Display;
 use std::io::Write;
@@ -58,6 +58,13 @@ impl<'a> Row<'a> {
         }
     }
 
+    /// Adds bytes to the answer, in the form of `show_text`.
+    pub fn write_text(&mut self, bytes: &[u8]) {
+        if show_text(&mut self.answer, bytes).is_err() {
+            self.is_wrong = true;
+        }
+    }
+
     /// Adds bytes in `<` and `>` to the answer, in the form of `show_runs`.
     pub fn write_runs(&mut self, bytes: &[u8]) {
         self.write_bytes(b" <");
@@ -65,6 +72,11 @@ impl<'a> Row<'a> {
             self.is_wrong = true;
         }
         self.write_bytes(b">");
+    }
+
+    /// The answer so far.
+    pub fn answer(&self) -> &[u8] {
+        &self.answer
     }
 
     /// Takes the next column, which ends at a blank or at the end of the row. It is empty if no column is left.
@@ -101,13 +113,30 @@ impl<'a> Row<'a> {
 
     /// Takes the columns that are left, with everything in braces expanded.
     pub fn bytes(&mut self) -> Vec<u8> {
-        match written_out(self.alloc, self.rest()) {
+        let rest = self.rest();
+        self.bytes_of(rest)
+    }
+
+    /// The bytes of a text, with everything in braces expanded.
+    pub fn bytes_of(&mut self, text: &str) -> Vec<u8> {
+        match written_out(self.alloc, text) {
             Ok(bytes) => bytes,
             Err(_) => {
                 self.refuse("braces");
                 Vec::new(self.alloc)
             }
         }
+    }
+
+    /// The bytes of a text, with everything in braces expanded, and a line feed in place of each `|`.
+    pub fn lines_of(&mut self, text: &str) -> Vec<u8> {
+        let mut bytes = self.bytes_of(text);
+        for byte in bytes.iter_mut() {
+            if *byte == b'|' {
+                *byte = b'\n';
+            }
+        }
+        bytes
     }
 
     /// Takes a number in decimal.
