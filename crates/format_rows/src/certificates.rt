@@ -1,94 +1,76 @@
 //! Reads and writes sizes files and certificates.
 
-use crate::parts::show_parts;
-use crate::texts::lines_of;
-use anyhow::Context;
+use crate::parts::Parts;
+use crate::texts::{lines, show_difference};
 use cert_check::{CheckFault, check};
 use certificate::{Cert, Shape, TextFault, print_cert, print_sizes, read_cert, read_sizes};
-use std::alloc::Global;
-use std::io::Write;
+use row_text::Row;
 
-/// Prints the first bad line of a file. If memory ran out, the program ends.
-fn show_fault<W: Write>(out: &mut W, fault: TextFault) -> Result<(), anyhow::Error> {
-    match fault {
-        TextFault::NoMemory => Err(fault.into()),
-        _ => Ok(write!(out, " {fault:?}")?),
-    }
-}
-
-fn show_shape<W: Write>(alloc: Global, out: &mut W, shape: &Shape) -> Result<(), anyhow::Error> {
-    let mut parts = Vec::new(alloc);
+fn show_shape(row: &mut Row, shape: &Shape) {
+    let mut parts = Parts::new(row.alloc());
     for statement in shape.statements() {
-        let mut part = Vec::new(alloc);
-        write!(part, "{statement:?}")?;
-        parts.push(part)?;
+        let mut part = Row::new(row.alloc(), "");
+        write!(part, "{statement:?}");
+        parts.add(row, &part);
     }
-    show_parts(out, &parts)
+    parts.show(row)
 }
 
 /// Prints the statements of a sizes file and whether they are written as another file, or its first bad line.
-pub(crate) fn report_sizes<W: Write>(
-    alloc: Global,
-    out: &mut W,
-    row: &str,
-) -> Result<(), anyhow::Error> {
-    let text = lines_of(alloc, row)?;
-    match read_sizes(alloc, &text) {
+pub(crate) fn answer_sizes(row: &mut Row) {
+    let text = lines(row);
+    match read_sizes(row.alloc(), &text) {
         Ok(shape) => {
-            if print_sizes(alloc, &shape)?.as_slice() != text.as_slice() {
-                write!(out, " printed otherwise:")?;
-            }
-            show_shape(alloc, out, &shape)
+            let printed = print_sizes(row.alloc(), &shape);
+            show_difference(row, printed, &text, "printed otherwise:");
+            show_shape(row, &shape)
         }
-        Err(fault) => show_fault(out, fault),
+        Err(fault) => write!(row, " {fault:?}"),
     }
 }
 
-fn show_cert<W: Write>(out: &mut W, cert: &Cert) -> Result<(), anyhow::Error> {
+fn show_cert(row: &mut Row, cert: &Cert) {
     for k in &cert.order {
-        write!(out, " {k}")?;
+        write!(row, " {k}");
     }
-    Ok(write!(out, " {:?}", cert.verdict)?)
+    write!(row, " {:?}", cert.verdict)
 }
 
 /// Prints the jumps and the verdict of a certificate and whether they are written as another file, or its first bad
 /// line.
-pub(crate) fn report_certificate<W: Write>(
-    alloc: Global,
-    out: &mut W,
-    row: &str,
-) -> Result<(), anyhow::Error> {
-    let text = lines_of(alloc, row)?;
-    match read_cert(alloc, &text) {
+pub(crate) fn answer_certificate(row: &mut Row) {
+    let text = lines(row);
+    match read_cert(row.alloc(), &text) {
         Ok(cert) => {
-            if print_cert(alloc, &cert)?.as_slice() != text.as_slice() {
-                write!(out, " printed otherwise:")?;
-            }
-            show_cert(out, &cert)
+            let printed = print_cert(row.alloc(), &cert);
+            show_difference(row, printed, &text, "printed otherwise:");
+            show_cert(row, &cert)
         }
-        Err(fault) => show_fault(out, fault),
+        Err(fault) => write!(row, " {fault:?}"),
     }
 }
 
 /// Prints the checker's answer for two files.
-pub(crate) fn report_check<W: Write>(
-    alloc: Global,
-    out: &mut W,
-    row: &str,
-) -> Result<(), anyhow::Error> {
-    let (sizes, cert) = row.split_once('~').context("no certificate")?;
-    match check(alloc, &lines_of(alloc, sizes)?, &lines_of(alloc, cert)?) {
-        Ok(verdict) => Ok(write!(out, " {verdict:?}")?),
-        Err(CheckFault::NoMemory) => Err(CheckFault::NoMemory.into()),
-        Err(fault) => Ok(write!(out, " {fault:?}")?),
+pub(crate) fn answer_check(row: &mut Row) {
+    let sizes = row.until('~');
+    let sizes = row.lines_of(sizes);
+    let cert = lines(row);
+    match check(row.alloc(), &sizes, &cert) {
+        Ok(verdict) => write!(row, " {verdict:?}"),
+        Err(fault) => write!(row, " {fault:?}"),
+    }
+}
+
+/// Prints the name of each error of a file, and its sentence.
+fn show_text_faults(row: &mut Row) {
+    for fault in [TextFault::BadLine(7), TextFault::NoMemory] {
+        write!(row, " {fault:?}: {fault};");
     }
 }
 
 /// Prints the name of each error, and its sentence.
-pub(crate) fn report_faults<W: Write>(out: &mut W) -> Result<(), anyhow::Error> {
-    for fault in [TextFault::BadLine(7), TextFault::NoMemory] {
-        write!(out, " {fault:?}: {fault};")?;
-    }
+pub(crate) fn answer_faults(row: &mut Row) {
+    show_text_faults(row);
     for fault in [
         CheckFault::BadSizes(2),
         CheckFault::BadCertificate(3),
@@ -100,7 +82,6 @@ pub(crate) fn report_faults<W: Write>(out: &mut W) -> Result<(), anyhow::Error> 
         CheckFault::NotOutOfRange(8),
         CheckFault::NoMemory,
     ] {
-        write!(out, " {fault:?}: {fault};")?;
+        write!(row, " {fault:?}: {fault};");
     }
-    Ok(())
 }

@@ -3,6 +3,7 @@
 //! The head of `stdin` says which calls there are and what their columns mean; a line of `;` is a remark.
 #![tactic(auto)]
 
+mod call;
 mod certificates;
 mod choices;
 mod modules;
@@ -12,47 +13,42 @@ mod sized;
 mod spelling;
 mod texts;
 
-use anyhow::anyhow;
-use std::alloc::Global;
+use call::{Call, OnObject, OnText};
+use row_text::Row;
 use std::io::Write;
 
-/// The calls about sizes, certificates and choices.
-fn report_text<W: Write>(
-    alloc: Global,
-    out: &mut W,
-    call: &str,
-    row: &str,
-) -> Result<(), anyhow::Error> {
-    match call.as_bytes() {
-        b"sizes" => certificates::report_sizes(alloc, out, row),
-        b"certificate" => certificates::report_certificate(alloc, out, row),
-        b"check" => certificates::report_check(alloc, out, row),
-        b"faults" => certificates::report_faults(out),
-        b"shape" => choices::report_shape(alloc, out, row),
-        b"least" => choices::report_least(alloc, out, row),
-        _ => Err(anyhow!("no such call")),
+/// Makes calls about object files. Rows after an `object` are about that object file.
+fn answer_object(row: &mut Row, call: OnObject, object: &mut Vec<u8>) {
+    match call {
+        OnObject::Object => {
+            *object = texts::hexadecimal(row);
+            objects::answer_object(row, object)
+        }
+        OnObject::Cuts => objects::answer_cuts(row, object),
+        OnObject::Changes => objects::answer_changes(row, object),
+        OnObject::With => objects::answer_with(row, object),
+        OnObject::Statement => objects::answer_statement(row),
+        OnObject::Sized => sized::answer_sized(row),
     }
 }
 
-/// All calls. Rows after an `object` are about that object file.
-fn report<W: Write>(
-    alloc: Global,
-    out: &mut W,
-    call: &str,
-    row: &str,
-    object: &mut Vec<u8>,
-) -> Result<(), anyhow::Error> {
-    match call.as_bytes() {
-        b"object" => {
-            *object = texts::hexadecimal(alloc, row)?;
-            objects::report_object(alloc, out, object)
-        }
-        b"with" => objects::report_with(alloc, out, row, object),
-        b"cuts" => objects::report_cuts(alloc, out, object),
-        b"changes" => objects::report_changes(alloc, out, object),
-        b"statement" => objects::report_statement(alloc, out, row),
-        b"sized" => sized::report_sized(alloc, out, row),
-        _ => report_text(alloc, out, call, row),
+/// Makes calls about sizes, certificates and choices.
+fn answer_text(row: &mut Row, call: OnText) {
+    match call {
+        OnText::Sizes => certificates::answer_sizes(row),
+        OnText::Certificate => certificates::answer_certificate(row),
+        OnText::Check => certificates::answer_check(row),
+        OnText::Faults => certificates::answer_faults(row),
+        OnText::Least => choices::answer_least(row),
+        OnText::Shape => choices::answer_shape(row),
+    }
+}
+
+/// Makes any call.
+fn answer(row: &mut Row, call: Call, object: &mut Vec<u8>) {
+    match call {
+        Call::Object(call) => answer_object(row, call, object),
+        Call::Text(call) => answer_text(row, call),
     }
 }
 
@@ -65,8 +61,12 @@ fn main(rt: HostRuntime) -> Result<(), anyhow::Error> {
         write!(out, "{line}")?;
         if !line.as_str().starts_with(';') {
             write!(out, " =>")?;
-            let (call, row) = line.split_once(' ').unwrap_or((line.as_str(), ""));
-            report(alloc, &mut out, call, row, &mut object)?;
+            let mut row = Row::new(alloc, &line);
+            match call::call_named(row.word()) {
+                Some(call) => answer(&mut row, call, &mut object),
+                None => row.refuse("no such call"),
+            }
+            row.print(&mut out)?;
         }
         writeln!(out)?;
     }

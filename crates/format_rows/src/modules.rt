@@ -1,143 +1,117 @@
 //! Prints a module in words.
 
-use crate::parts::show_parts;
+use crate::parts::Parts;
 use asm_value::{Atom, Item, Room, items};
-use row_text::show_text;
-use std::alloc::Global;
-use std::io::Write;
-use zmo_module::{Hole, Module, Statement};
+use row_text::Row;
+use zmo_module::{Hole, Label, Module, Statement};
 
 /// Prints a number, the number of a statement or an external, or an operator.
-fn show_item<W: Write>(out: &mut W, item: &Item<Atom>) -> Result<(), anyhow::Error> {
+fn show_item(part: &mut Row, item: &Item<Atom>) {
     match item {
-        Item::Leaf(Atom::Number(n)) => write!(out, " {n}")?,
-        Item::Leaf(Atom::Ref(r)) => write!(out, " #{r}")?,
-        Item::Unary(operator) => write!(out, " {operator:?}")?,
-        Item::Binary(operator) => write!(out, " {operator:?}")?,
+        Item::Leaf(Atom::Number(n)) => write!(part, " {n}"),
+        Item::Leaf(Atom::Ref(r)) => write!(part, " #{r}"),
+        Item::Unary(operator) => write!(part, " {operator:?}"),
+        Item::Binary(operator) => write!(part, " {operator:?}"),
     }
-    Ok(())
 }
 
 /// Prints the offset and the width of a fix-up, and the items of its expression in postfix order.
-fn show_hole<W: Write>(out: &mut W, hole: &Hole) -> Result<(), anyhow::Error> {
-    write!(out, " ({} {:?}", hole.offset, hole.width)?;
+fn show_hole(part: &mut Row, hole: &Hole) {
+    write!(part, " ({} {:?}", hole.offset, hole.width);
     for item in items(&hole.value, &mut Room::new()) {
-        show_item(out, item)?;
+        show_item(part, item);
     }
-    Ok(write!(out, ")")?)
+    write!(part, ")")
 }
 
-fn show_bytes<W: Write>(
-    alloc: Global,
-    out: &mut W,
-    bytes: &[u8],
-    holes: &[Hole],
-) -> Result<(), anyhow::Error> {
-    write!(out, "bytes {}", hex::encode_upper(alloc, bytes)?)?;
+fn show_digits(part: &mut Row, bytes: &[u8]) {
+    write!(part, "bytes ");
+    for byte in bytes {
+        write!(part, "{byte:02X}");
+    }
+}
+
+fn show_bytes(part: &mut Row, bytes: &[u8], holes: &[Hole]) {
+    show_digits(part, bytes);
     for hole in holes {
-        show_hole(out, hole)?;
+        show_hole(part, hole);
     }
-    Ok(())
 }
 
-fn statement_part(alloc: Global, statement: &Statement) -> Result<Vec<u8>, anyhow::Error> {
-    let mut part = Vec::new(alloc);
+fn show_statement(part: &mut Row, statement: &Statement) {
     match statement {
-        Statement::Bytes { bytes, holes } => show_bytes(alloc, &mut part, bytes, holes)?,
+        Statement::Bytes { bytes, holes } => show_bytes(part, bytes, holes),
         Statement::Jump {
             marked,
             condition,
             target,
         } => {
             let mark = if *marked { "marked jump" } else { "jump" };
-            write!(part, "{mark} {condition:?} to {target}")?;
+            write!(part, "{mark} {condition:?} to {target}")
         }
-        Statement::Short { branch, target } => write!(part, "short {branch:?} to {target}")?,
-        Statement::Space { size, fill } => write!(part, "space {size} of {fill:02X}")?,
+        Statement::Short { branch, target } => write!(part, "short {branch:?} to {target}"),
+        Statement::Space { size, fill } => write!(part, "space {size} of {fill:02X}"),
     }
-    Ok(part)
 }
 
-/// Answers the first four bytes and the name of an object file, whether it has `ORG 0100H`, and the label of its entry.
-fn head_part(alloc: Global, module: &Module) -> Result<Vec<u8>, anyhow::Error> {
-    let mut part = Vec::new(alloc);
+/// Prints the first four bytes and the name of an object file, whether it has `ORG 0100H`, and the label of its entry.
+fn add_head(row: &mut Row, parts: &mut Parts, module: &Module) {
+    let mut part = Row::new(row.alloc(), "");
     let magic = if module.grow { "ZMO2" } else { "ZMO1" };
-    write!(part, "{magic} <")?;
-    show_text(&mut part, &module.name)?;
-    write!(part, ">")?;
+    write!(part, "{magic} <");
+    part.write_text(&module.name);
+    write!(part, ">");
     if module.begins {
-        write!(part, " begins")?;
+        write!(part, " begins");
     }
     if let Some(entry) = module.entry {
-        write!(part, " entry {entry}")?;
+        write!(part, " entry {entry}");
     }
-    Ok(part)
+    parts.add(row, &part)
 }
 
-fn put_statements(
-    alloc: Global,
-    parts: &mut Vec<Vec<u8>>,
-    statements: &[Statement],
-) -> Result<(), anyhow::Error> {
+fn add_statements(row: &mut Row, parts: &mut Parts, statements: &[Statement]) {
     for statement in statements {
-        parts.push(statement_part(alloc, statement)?)?;
+        let mut part = Row::new(row.alloc(), "");
+        show_statement(&mut part, statement);
+        parts.add(row, &part);
     }
-    Ok(())
 }
 
-fn put_labels(
-    alloc: Global,
-    parts: &mut Vec<Vec<u8>>,
-    module: &Module,
-) -> Result<(), anyhow::Error> {
-    for label in &module.labels {
-        let mut part = Vec::new(alloc);
-        write!(part, "label ")?;
-        show_text(&mut part, &label.name)?;
-        write!(part, " at {}", label.statement)?;
-        parts.push(part)?;
+fn add_labels(row: &mut Row, parts: &mut Parts, labels: &[Label]) {
+    for label in labels {
+        let mut part = Row::new(row.alloc(), "");
+        write!(part, "label ");
+        part.write_text(&label.name);
+        write!(part, " at {}", label.statement);
+        parts.add(row, &part);
     }
-    Ok(())
 }
 
-fn put_publics(
-    alloc: Global,
-    parts: &mut Vec<Vec<u8>>,
-    publics: &[u16],
-) -> Result<(), anyhow::Error> {
+fn add_publics(row: &mut Row, parts: &mut Parts, publics: &[u16]) {
     for number in publics {
-        let mut part = Vec::new(alloc);
-        write!(part, "public {number}")?;
-        parts.push(part)?;
+        let mut part = Row::new(row.alloc(), "");
+        write!(part, "public {number}");
+        parts.add(row, &part);
     }
-    Ok(())
 }
 
-fn put_externals(
-    alloc: Global,
-    parts: &mut Vec<Vec<u8>>,
-    externals: &[Vec<u8>],
-) -> Result<(), anyhow::Error> {
+fn add_externals(row: &mut Row, parts: &mut Parts, externals: &[Vec<u8>]) {
     for name in externals {
-        let mut part = Vec::new(alloc);
-        write!(part, "external ")?;
-        show_text(&mut part, name)?;
-        parts.push(part)?;
+        let mut part = Row::new(row.alloc(), "");
+        write!(part, "external ");
+        part.write_text(name);
+        parts.add(row, &part);
     }
-    Ok(())
 }
 
 /// Prints everything that a module has.
-pub(crate) fn show_module<W: Write>(
-    alloc: Global,
-    out: &mut W,
-    module: &Module,
-) -> Result<(), anyhow::Error> {
-    let mut parts = Vec::new(alloc);
-    parts.push(head_part(alloc, module)?)?;
-    put_statements(alloc, &mut parts, &module.statements)?;
-    put_labels(alloc, &mut parts, module)?;
-    put_publics(alloc, &mut parts, &module.publics)?;
-    put_externals(alloc, &mut parts, &module.externals)?;
-    show_parts(out, &parts)
+pub(crate) fn show_module(row: &mut Row, module: &Module) {
+    let mut parts = Parts::new(row.alloc());
+    add_head(row, &mut parts, module);
+    add_statements(row, &mut parts, &module.statements);
+    add_labels(row, &mut parts, &module.labels);
+    add_publics(row, &mut parts, &module.publics);
+    add_externals(row, &mut parts, &module.externals);
+    parts.show(row)
 }

@@ -1,101 +1,109 @@
 //! Reads object files, and writes them again.
 
 use crate::modules::show_module;
-use crate::parts::show_parts;
-use crate::texts::hexadecimal;
-use anyhow::Context;
-use std::alloc::Global;
-use std::io::Write;
+use crate::parts::Parts;
+use crate::texts::{hexadecimal, show_difference};
+use row_text::Row;
+use std::alloc::{AllocError, Global};
 use zmo_object::{ObjectFault, read, write};
 
 /// Prints the module of an object file and whether it is written as another file, or the first error of the bytes.
-pub(crate) fn report_object<W: Write>(
-    alloc: Global,
-    out: &mut W,
-    bytes: &[u8],
-) -> Result<(), anyhow::Error> {
-    match read(alloc, bytes) {
+pub(crate) fn answer_object(row: &mut Row, bytes: &[u8]) {
+    match read(row.alloc(), bytes) {
         Ok(module) => {
-            if write(alloc, &module)?.as_slice() != bytes {
-                write!(out, " written otherwise:")?;
-            }
-            show_module(alloc, out, &module)
+            let written = write(row.alloc(), &module);
+            show_difference(row, written, bytes, "written otherwise:");
+            show_module(row, &module)
         }
-        Err(ObjectFault::NoMemory) => Err(ObjectFault::NoMemory.into()),
-        Err(fault) => Ok(write!(out, " {fault:?}")?),
+        Err(fault) => write!(row, " {fault:?}"),
     }
 }
 
-/// Does the same for the object file of the rows, with other bytes from an offset on.
-pub(crate) fn report_with<W: Write>(
+/// The object file with other bytes from an offset on.
+fn changed(
     alloc: Global,
-    out: &mut W,
-    row: &str,
     object: &[u8],
-) -> Result<(), anyhow::Error> {
-    let (at, bytes) = row.split_once(' ').context("no bytes")?;
-    let at = usize::from_str_radix(at, 10)?;
-    let bytes = hexadecimal(alloc, bytes)?;
+    offset: usize,
+    bytes: &[u8],
+) -> Result<Vec<u8>, AllocError> {
     let mut changed = object.to_vec(alloc)?;
-    for (place, byte) in changed.iter_mut().skip(at).zip(&bytes) {
+    for (place, byte) in changed.iter_mut().skip(offset).zip(bytes) {
         *place = *byte;
     }
-    report_object(alloc, out, &changed)
+    Ok(changed)
+}
+
+/// Does the same for the object file of the rows, with other bytes from an offset on.
+pub(crate) fn answer_with(row: &mut Row, object: &[u8]) {
+    let offset = row.decimal() as usize;
+    let bytes = hexadecimal(row);
+    match changed(row.alloc(), object, offset, &bytes) {
+        Ok(changed) => answer_object(row, &changed),
+        Err(_) => row.refuse("no memory"),
+    }
+}
+
+/// The object file without a name that has one statement and the external F.
+fn object_around(alloc: Global, magic: &[u8], statement: &[u8]) -> Result<Vec<u8>, AllocError> {
+    let mut object = magic.to_vec(alloc)?;
+    object.extend_from_slice(b"\0\0\x01\0\0\0\0\0\x01\0")?;
+    object.extend_from_slice(statement)?;
+    object.extend_from_slice(b"\x01F")?;
+    Ok(object)
 }
 
 /// Does the same for an object file without a name that has one statement, which begins after 14 bytes, and the
 /// external F.
-pub(crate) fn report_statement<W: Write>(
-    alloc: Global,
-    out: &mut W,
-    row: &str,
-) -> Result<(), anyhow::Error> {
-    let (magic, statement) = row.split_once(' ').context("no statement")?;
-    let mut object = magic.as_bytes().to_vec(alloc)?;
-    object.extend_from_slice(b"\0\0\x01\0\0\0\0\0\x01\0")?;
-    object.extend_from_slice(&hexadecimal(alloc, statement)?)?;
-    object.extend_from_slice(b"\x01F")?;
-    report_object(alloc, out, &object)
+pub(crate) fn answer_statement(row: &mut Row) {
+    let magic = row.word();
+    let statement = hexadecimal(row);
+    match object_around(row.alloc(), magic.as_bytes(), &statement) {
+        Ok(object) => answer_object(row, &object),
+        Err(_) => row.refuse("no memory"),
+    }
 }
 
-/// Answers the error of bytes, or that they are an object file.
-fn fault_part(alloc: Global, bytes: &[u8]) -> Result<Vec<u8>, anyhow::Error> {
-    let mut part = Vec::new(alloc);
-    match read(alloc, bytes) {
-        Ok(_) => write!(part, "an object")?,
-        Err(ObjectFault::NoMemory) => return Err(ObjectFault::NoMemory.into()),
-        Err(fault) => write!(part, "{fault:?}")?,
+/// Adds the error of bytes, or that they are an object file.
+fn add_fault(row: &mut Row, parts: &mut Parts, bytes: &[u8]) {
+    let mut part = Row::new(row.alloc(), "");
+    match read(row.alloc(), bytes) {
+        Ok(_) => write!(part, "an object"),
+        Err(fault) => write!(part, "{fault:?}"),
     }
-    Ok(part)
+    parts.add(row, &part)
+}
+
+/// An object file with one byte more.
+fn longer(alloc: Global, object: &[u8]) -> Result<Vec<u8>, AllocError> {
+    let mut longer = object.to_vec(alloc)?;
+    longer.push(0)?;
+    Ok(longer)
 }
 
 /// Prints the error of the first 0, 1, 2 and so on bytes of an object file, and of the file with one byte more.
-pub(crate) fn report_cuts<W: Write>(
-    alloc: Global,
-    out: &mut W,
-    object: &[u8],
-) -> Result<(), anyhow::Error> {
-    let mut parts = Vec::new(alloc);
+pub(crate) fn answer_cuts(row: &mut Row, object: &[u8]) {
+    let mut parts = Parts::new(row.alloc());
     for len in 0..object.len() {
-        parts.push(fault_part(alloc, &object[..len])?)?;
+        add_fault(row, &mut parts, &object[..len]);
     }
-    let mut longer = object.to_vec(alloc)?;
-    longer.push(0)?;
-    parts.push(fault_part(alloc, &longer)?)?;
-    show_parts(out, &parts)
+    match longer(row.alloc(), object) {
+        Ok(longer) => add_fault(row, &mut parts, &longer),
+        Err(_) => row.refuse("no memory"),
+    }
+    parts.show(row)
 }
 
 /// Whether bytes have an error, or are an object file that is written as these bytes.
-fn is_faulty_or_same(alloc: Global, bytes: &[u8]) -> Result<bool, anyhow::Error> {
+fn is_faulty_or_same(alloc: Global, bytes: &[u8]) -> Result<bool, AllocError> {
     match read(alloc, bytes) {
         Ok(module) => Ok(write(alloc, &module)?.as_slice() == bytes),
-        Err(ObjectFault::NoMemory) => Err(ObjectFault::NoMemory.into()),
+        Err(ObjectFault::NoMemory) => Err(AllocError),
         Err(_) => Ok(true),
     }
 }
 
 /// Whether that holds of an object file with each value of one byte.
-fn holds_at(alloc: Global, object: &[u8], at: usize) -> Result<bool, anyhow::Error> {
+fn holds_at(alloc: Global, object: &[u8], at: usize) -> Result<bool, AllocError> {
     let mut changed = object.to_vec(alloc)?;
     for value in 0..=255u8 {
         if let Some(byte) = changed.get_mut(at) {
@@ -109,15 +117,13 @@ fn holds_at(alloc: Global, object: &[u8], at: usize) -> Result<bool, anyhow::Err
 }
 
 /// Prints the numbers of those bytes of an object file that have a value with which it is written as another file.
-pub(crate) fn report_changes<W: Write>(
-    alloc: Global,
-    out: &mut W,
-    object: &[u8],
-) -> Result<(), anyhow::Error> {
+pub(crate) fn answer_changes(row: &mut Row, object: &[u8]) {
     for at in 0..object.len() {
-        if !holds_at(alloc, object, at)? {
-            write!(out, " byte {at}")?;
+        match holds_at(row.alloc(), object, at) {
+            Ok(true) => {}
+            Ok(false) => write!(row, " byte {at}"),
+            Err(_) => row.refuse("no memory"),
         }
     }
-    Ok(write!(out, " end")?)
+    write!(row, " end")
 }

@@ -5,9 +5,8 @@ ghost use Rattle.zmo_module.specs.Modules.{module_of};
 ghost use Rattle.zmo_module.specs.Rules.{IsModule};
 
 use crate::spelling::{Kind, Size, object_of};
-use anyhow::{Context, anyhow};
+use row_text::Row;
 use std::alloc::{AllocError, Global};
-use std::io::Write;
 use zmo_module::Module;
 use zmo_object::{ObjectFault, read, write};
 
@@ -29,24 +28,17 @@ fn kind_of(word: &str) -> Kind {
     }
 }
 
-fn size_of(kind: Kind, statements: &str, labels: &str) -> Result<Size, anyhow::Error> {
-    Ok(Size {
-        kind,
-        statements: u16::from_str_radix(statements, 10)?,
-        labels: u16::from_str_radix(labels, 10)?,
-    })
-}
-
-fn job_of(row: &str) -> Result<Job, anyhow::Error> {
-    let (kind, rest) = row.split_once(' ').context("no statements")?;
-    let (statements, rest) = rest.split_once(' ').context("no labels")?;
-    let (labels, rest) = rest.split_once(' ').context("no reads")?;
-    let (reads, writes) = rest.split_once(' ').context("no writes")?;
-    Ok(Job {
-        size: size_of(kind_of(kind), statements, labels)?,
-        reads: u32::from_str_radix(reads, 10)?,
-        writes: u32::from_str_radix(writes, 10)?,
-    })
+fn job_of(row: &mut Row) -> Job {
+    let kind = kind_of(row.word());
+    Job {
+        size: Size {
+            kind,
+            statements: row.short(),
+            labels: row.short(),
+        },
+        reads: row.decimal(),
+        writes: row.decimal(),
+    }
 }
 
 fn read_often(alloc: Global, text: &[u8], times: u32) -> Result<(), ObjectFault> {
@@ -75,16 +67,12 @@ fn is_same(alloc: Global, job: &Job) -> Result<bool, ObjectFault> {
     Ok(write_often(alloc, &module, job.writes, &text)?)
 }
 
-/// Prints whether each file that was written is the object file, or the object file's error.
-pub(crate) fn report_sized<W: Write>(
-    alloc: Global,
-    out: &mut W,
-    row: &str,
-) -> Result<(), anyhow::Error> {
-    let job = job_of(row)?;
-    match is_same(alloc, &job) {
-        Ok(same) => Ok(write!(out, " {same}")?),
-        Err(ObjectFault::NoMemory) => Err(anyhow!("out of memory")),
-        Err(fault) => Ok(write!(out, " {fault}")?),
+/// Prints whether each file that was written is the object file, or the object file's error. A refused allocation ends the program.
+pub(crate) fn answer_sized(row: &mut Row) {
+    let job = job_of(row);
+    match is_same(row.alloc(), &job) {
+        Ok(same) => write!(row, " {same}"),
+        Err(ObjectFault::NoMemory) => row.refuse("no memory"),
+        Err(fault) => write!(row, " {fault}"),
     }
 }
