@@ -1,7 +1,6 @@
 //! Compares the operations on all bytes with a plain computation in whole numbers.
 
-use anyhow::anyhow;
-use std::io::Write;
+use row_text::Row;
 use z80_alu::Flags;
 use z80_instr::AluOperation;
 
@@ -285,37 +284,64 @@ fn agreed_flags() -> u32 {
     agreed
 }
 
-/// The operation on bytes with a name.
-fn operation_of(name: &str) -> Result<AluOperation, anyhow::Error> {
-    match name.as_bytes() {
-        b"ADD" => Ok(AluOperation::Add),
-        b"ADC" => Ok(AluOperation::Adc),
-        b"SUB" => Ok(AluOperation::Sub),
-        b"SBC" => Ok(AluOperation::Sbc),
-        b"AND" => Ok(AluOperation::And),
-        b"XOR" => Ok(AluOperation::Xor),
-        b"OR" => Ok(AluOperation::Or),
-        b"CP" => Ok(AluOperation::Cp),
-        _ => Err(anyhow!("no such operation")),
+/// What `every` counts.
+#[derive(Clone, Copy)]
+enum Every {
+    Bytes(AluOperation),
+    Words(OnWords),
+    DecimalSums,
+    DecimalDifferences,
+    Flags,
+}
+
+/// The words of `every`.
+const COUNTS: [(&str, Every); 14] = [
+    ("ADD", Every::Bytes(AluOperation::Add)),
+    ("ADC", Every::Bytes(AluOperation::Adc)),
+    ("SUB", Every::Bytes(AluOperation::Sub)),
+    ("SBC", Every::Bytes(AluOperation::Sbc)),
+    ("AND", Every::Bytes(AluOperation::And)),
+    ("XOR", Every::Bytes(AluOperation::Xor)),
+    ("OR", Every::Bytes(AluOperation::Or)),
+    ("CP", Every::Bytes(AluOperation::Cp)),
+    ("ADD of words", Every::Words(OnWords::Add)),
+    ("ADC of words", Every::Words(OnWords::Adc)),
+    ("SBC of words", Every::Words(OnWords::Sbc)),
+    ("ADD and DAA", Every::DecimalSums),
+    ("SUB and DAA", Every::DecimalDifferences),
+    ("byte of flags", Every::Flags),
+];
+
+fn count_named(name: &str) -> Option<Every> {
+    for (word, every) in &COUNTS {
+        if *word == name {
+            return Some(*every);
+        }
+    }
+    None
+}
+
+/// For how many numbers an operation agrees with the computation.
+fn count_of(every: Every) -> u32 {
+    match every {
+        Every::Bytes(operation) => agreed(operation),
+        Every::Words(operation) => agreed_words(operation),
+        Every::DecimalSums => agreed_decimals(false),
+        Every::DecimalDifferences => agreed_decimals(true),
+        Every::Flags => agreed_flags(),
     }
 }
 
 /// Prints for how many numbers an operation agrees with the computation.
-pub(crate) fn report_every<W: Write>(out: &mut W, row: &str) -> Result<(), anyhow::Error> {
-    let agreed = match row.as_bytes() {
-        b"ADD and DAA" => agreed_decimals(false),
-        b"SUB and DAA" => agreed_decimals(true),
-        b"ADD of words" => agreed_words(OnWords::Add),
-        b"ADC of words" => agreed_words(OnWords::Adc),
-        b"SBC of words" => agreed_words(OnWords::Sbc),
-        b"byte of flags" => agreed_flags(),
-        _ => agreed(operation_of(row)?),
-    };
-    Ok(write!(out, "{agreed}")?)
+pub(crate) fn answer_every(row: &mut Row) {
+    match count_named(row.rest()) {
+        Some(every) => write!(row, " {}", count_of(every)),
+        None => row.refuse("no such operation"),
+    }
 }
 
 /// Prints the letters of flags.
-pub(crate) fn report_flags<W: Write>(out: &mut W, row: &str) -> Result<(), anyhow::Error> {
-    let flags = Flags::from_byte(u8::from_str_radix(row, 16)?);
-    Ok(write!(out, "{flags}")?)
+pub(crate) fn answer_flags(row: &mut Row) {
+    let flags = Flags::from_byte(row.hexadecimal_byte());
+    write!(row, " {flags}")
 }

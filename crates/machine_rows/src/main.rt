@@ -3,49 +3,46 @@
 //! The head of `stdin` lists the calls and what follows the name of each; a line that begins with `;` is a remark.
 #![tactic(auto)]
 
+mod call;
 mod counted;
 mod machine;
 mod opcodes;
+mod registers;
 mod spelling;
 mod text;
 
-use anyhow::anyhow;
-use std::alloc::Global;
-use std::io;
+use call::{Call, Count, OnProgram, OnTable};
+use row_text::Row;
 use std::io::Write;
 
-/// Makes calls that run programs.
-fn report_machine<W: Write>(
-    alloc: Global,
-    out: &mut W,
-    call: &str,
-    row: &str,
-) -> Result<(), anyhow::Error> {
-    match call.as_bytes() {
-        b"halt" => machine::report_halt(alloc, out, row),
-        b"turns" => machine::report_turns(alloc, out, row),
-        b"run" => machine::report_run(alloc, out, row),
-        b"line" => machine::report_line(alloc, out, row),
-        _ => Err(anyhow!("no such call")),
+/// Makes calls about the bytes and texts of instructions.
+fn answer_table(row: &mut Row, call: OnTable) {
+    match call {
+        OnTable::Opcode => opcodes::answer_opcode(row),
+        OnTable::Page => opcodes::answer_page(row),
+        OnTable::Decode => spelling::answer_decoded(row),
+        OnTable::Law => spelling::answer_law(row),
+        OnTable::Bytes => spelling::answer_bytes(row),
+    }
+}
+
+/// Makes calls that set registers and memory.
+fn answer_program(row: &mut Row, call: OnProgram) {
+    match call {
+        OnProgram::Halt => machine::answer_halt(row),
+        OnProgram::Turns => machine::answer_turns(row),
+        OnProgram::Run => machine::answer_run(row),
+        OnProgram::Line => machine::answer_line(row),
     }
 }
 
 /// Makes any call.
-fn report<W: Write>(
-    alloc: Global,
-    out: &mut W,
-    call: &str,
-    row: &str,
-) -> Result<(), anyhow::Error> {
-    match call.as_bytes() {
-        b"bytes" => spelling::report_bytes(alloc, out, row),
-        b"decode" => spelling::report_decoded(alloc, out, row),
-        b"law" => spelling::report_law(out),
-        b"opcode" => opcodes::report_opcode(alloc, out, row),
-        b"page" => opcodes::report_page(alloc, out, row),
-        b"every" => counted::report_every(out, row),
-        b"flags" => counted::report_flags(out, row),
-        _ => report_machine(alloc, out, call, row),
+fn answer(row: &mut Row, call: Call) {
+    match call {
+        Call::Table(call) => answer_table(row, call),
+        Call::Count(Count::Flags) => counted::answer_flags(row),
+        Call::Count(Count::Every) => counted::answer_every(row),
+        Call::Program(call) => answer_program(row, call),
     }
 }
 
@@ -56,9 +53,13 @@ fn main(rt: HostRuntime) -> Result<(), anyhow::Error> {
         let line = line?;
         write!(out, "{line}")?;
         if !line.as_str().starts_with(';') {
-            write!(out, " => ")?;
-            let (call, row) = line.split_once(' ').unwrap_or((line.as_str(), ""));
-            report(alloc, &mut out, call, row)?;
+            write!(out, " =>")?;
+            let mut row = Row::new(alloc, &line);
+            match call::call_named(row.word()) {
+                Some(call) => answer(&mut row, call),
+                None => row.refuse("no such call"),
+            }
+            row.print(&mut out)?;
         }
         writeln!(out)?;
     }

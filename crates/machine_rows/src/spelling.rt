@@ -1,19 +1,17 @@
 //! Instructions as text and as bytes.
 
 use crate::text::{Reading, read};
-use std::alloc::Global;
-use std::io::Write;
+use row_text::Row;
 use z80_instr::Instr;
 use z80_table::{DecodeFault, decode, encode, laws, size};
 
 /// Prints the bytes that `encode` writes for an instruction.
-pub(crate) fn show_bytes<W: Write>(out: &mut W, instr: &Instr) -> Result<(), anyhow::Error> {
+fn show_bytes(row: &mut Row, instr: &Instr) {
     let mut bytes = [0; 4];
     let count = encode(instr, &mut bytes);
     for byte in &bytes[..count as usize] {
-        write!(out, "{byte:02X}")?;
+        write!(row, "{byte:02X}");
     }
-    Ok(())
 }
 
 /// Whether `encode` writes these bytes for an instruction and no others, and `size` answers their number.
@@ -34,63 +32,62 @@ pub(crate) fn has_short_fronts(bytes: &[u8]) -> bool {
     true
 }
 
+/// Prints the text of an instruction, if it is not the text that was given.
+fn show_other_text(row: &mut Row, given: &str, instr: &Instr) {
+    match format!(in row.alloc(); "{instr}") {
+        Ok(text) => {
+            if text.as_str() != given {
+                write!(row, " = {text}");
+            }
+        }
+        Err(_) => row.refuse("no memory"),
+    }
+}
+
 /// Prints the bytes of an instruction, its own text if that differs from the row's, and whether its bytes are read as another
 /// instruction.
-fn show_instr<W: Write>(
-    alloc: Global,
-    out: &mut W,
-    row: &str,
-    instr: Instr,
-) -> Result<(), anyhow::Error> {
-    show_bytes(out, &instr)?;
-    let text = format!(in alloc; "{instr}")?;
-    if text.as_str() != row {
-        write!(out, " = {text}")?;
-    }
+fn show_instr(row: &mut Row, given: &str, instr: Instr) {
+    write!(row, " ");
+    show_bytes(row, &instr);
+    show_other_text(row, given, &instr);
     let mut bytes = [0; 4];
     let count = encode(&instr, &mut bytes);
     match decode(&bytes[..count as usize]) {
         Ok((read, _)) if read == instr => {}
-        _ => write!(out, " is read back as another")?,
+        _ => write!(row, " is read back as another"),
     }
-    Ok(())
 }
 
 /// Prints the bytes of an instruction that is given as text.
-pub(crate) fn report_bytes<W: Write>(
-    alloc: Global,
-    out: &mut W,
-    row: &str,
-) -> Result<(), anyhow::Error> {
-    match read(alloc, row)? {
-        Reading::Instr(instr) => show_instr(alloc, out, row, instr),
-        Reading::None => Ok(write!(out, "none")?),
-        Reading::Number => Ok(write!(out, "number")?),
+pub(crate) fn answer_bytes(row: &mut Row) {
+    let given = row.rest();
+    match read(row.alloc(), given) {
+        Ok(Reading::Instr(instr)) => show_instr(row, given, instr),
+        Ok(Reading::None) => write!(row, " none"),
+        Ok(Reading::Number) => write!(row, " number"),
+        Err(_) => row.refuse("no tokens, or no memory"),
     }
 }
 
 /// Prints the instruction at the front of bytes, how many of them it takes, and the bytes that `encode` writes for it if they differ.
-pub(crate) fn report_decoded<W: Write>(
-    alloc: Global,
-    out: &mut W,
-    row: &str,
-) -> Result<(), anyhow::Error> {
-    let bytes = hex::decode(alloc, row)?;
+pub(crate) fn answer_decoded(row: &mut Row) {
+    let Ok(bytes) = hex::decode(row.alloc(), row.rest()) else {
+        return row.refuse("no bytes in hexadecimal");
+    };
     match decode(&bytes) {
         Ok((instr, count)) => {
-            write!(out, "{instr}, {count} bytes")?;
+            write!(row, " {instr}, {count} bytes");
             if !is_written(&instr, &bytes) {
-                write!(out, ", written ")?;
-                show_bytes(out, &instr)?;
+                write!(row, ", written ");
+                show_bytes(row, &instr);
             }
-            Ok(())
         }
-        Err(fault) => Ok(write!(out, "{fault:?}")?),
+        Err(fault) => write!(row, " {fault:?}"),
     }
 }
 
 /// Calls the law that no instruction's bytes are the beginning of another's.
-pub(crate) fn report_law<W: Write>(out: &mut W) -> Result<(), anyhow::Error> {
+pub(crate) fn answer_law(row: &mut Row) {
     laws::prefix();
-    Ok(write!(out, "returned")?)
+    write!(row, " returned")
 }

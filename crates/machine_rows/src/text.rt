@@ -3,7 +3,7 @@
 use asm_parse::{Binary, Item, Term, Tree, Unary};
 use asm_scan::tokens;
 use asm_spell::{Body, Line, StmtFault, statement};
-use std::alloc::Global;
+use std::alloc::{AllocError, Global};
 use z80_form::{Field, with_numbers};
 use z80_instr::Instr;
 
@@ -51,7 +51,7 @@ fn filled(
     alloc: Global,
     instr: Instr,
     expressions: &[(Field, Tree)],
-) -> Result<Reading, anyhow::Error> {
+) -> Result<Reading, AllocError> {
     let mut numbers: Vec<(Field, u16)> = Vec::new(alloc);
     for (field, tree) in expressions {
         let Some(value) = number_of(*field, tree) else {
@@ -86,7 +86,7 @@ pub(crate) fn read(alloc: Global, line: &str) -> Result<Reading, anyhow::Error> 
         Err(_) => return Ok(Reading::None),
     };
     match code_of(&spelled) {
-        Some((instr, numbers)) => filled(alloc, instr, numbers),
+        Some((instr, numbers)) => Ok(filled(alloc, instr, numbers)?),
         None => Ok(Reading::None),
     }
 }
