@@ -5,27 +5,28 @@
 #![tactic(auto)]
 
 mod assembled;
+mod call;
 mod expanded;
 mod lines;
 mod meant;
 mod names;
 mod stated;
 
-use anyhow::{Context, anyhow};
-use row_text::written_out;
+use call::Call;
+use row_text::{Row, written_out};
 use std::alloc::Global;
 use std::io::Write;
 
-/// A row: the words after its mark, and its text.
+/// A row as it is read: the words after its mark, and its text.
 #[derive(Drop)]
-struct Row {
+struct Marked {
     head: String,
     text: Vec<u8>,
 }
 
 /// A row with no text yet.
-fn begun(alloc: Global, head: &str) -> Result<Row, anyhow::Error> {
-    Ok(Row {
+fn begun(alloc: Global, head: &str) -> Result<Marked, anyhow::Error> {
+    Ok(Marked {
         head: head.to_string(alloc)?,
         text: Vec::new(alloc),
     })
@@ -33,71 +34,69 @@ fn begun(alloc: Global, head: &str) -> Result<Row, anyhow::Error> {
 
 /// Adds a line to a text, with a line end, unless the line ends in `\`.
 fn add_line(alloc: Global, text: &mut Vec<u8>, line: &str) -> Result<(), anyhow::Error> {
-    match line.strip_suffix('\\') {
-        Some(front) => text.extend_from_slice(&written_out(alloc, front)?)?,
-        None => {
-            text.extend_from_slice(&written_out(alloc, line)?)?;
-            text.push(b'\n')?;
-        }
+    let front = line.strip_suffix('\\').unwrap_or(line);
+    text.extend_from_slice(&written_out(alloc, front)?)?;
+    if front.len() == line.len() {
+        text.push(b'\n')?;
     }
     Ok(())
 }
 
-/// Makes the call that a row names, given what follows the call's name.
-fn report_call<W: Write>(
-    alloc: Global,
-    out: &mut W,
-    call: &str,
-    rest: &str,
-    text: &[u8],
-) -> Result<(), anyhow::Error> {
-    if call == "assemble" {
-        assembled::report_assembled(alloc, out, rest, text)
-    } else if call == "count" {
-        assembled::report_count(alloc, out, rest, text)
-    } else if call == "expand" {
-        expanded::report_expanded(alloc, out, text)
-    } else if call == "lines" {
-        expanded::report_lines(alloc, out, rest, text)
-    } else if call == "kept" {
-        expanded::report_kept(alloc, out, rest, text)
-    } else if call == "names" {
-        names::report_names(alloc, out, rest, text)
-    } else if call == "turns" {
-        names::report_turns(alloc, out, text)
-    } else if call == "meaning" {
-        meant::report_meaning(alloc, out, rest, text)
-    } else if call == "states" {
-        stated::report_stated(alloc, out, rest, text)
-    } else {
-        Err(anyhow!("no such call"))
+/// Makes a call on a text.
+fn make(row: &mut Row, call: Call, text: &[u8]) {
+    match call {
+        Call::Assemble => assembled::answer_assembled(row, text),
+        Call::Count => assembled::answer_count(row, text),
+        Call::Expand => expanded::answer_expanded(row, text),
+        Call::Lines => expanded::answer_lines(row, text),
+        Call::Kept => expanded::answer_kept(row, text),
+        Call::Names => names::answer_names(row, text),
+        Call::Turns => names::answer_turns(row, text),
+        Call::Meaning => meant::answer_meaning(row, text),
+        Call::States => stated::answer_stated(row, text),
     }
 }
 
-/// Prints the answer of a row. A note has none.
-fn report<W: Write>(alloc: Global, out: &mut W, row: &Row) -> Result<(), anyhow::Error> {
-    let (call, rest) = row.head.split_once(' ').context("no title")?;
-    if call == "note" {
-        return Ok(());
+/// Makes the call that a row names; a note has none. A title has to be left of the columns.
+fn answer(row: &mut Row, text: &[u8]) {
+    let name = row.word();
+    if name != "note" {
+        writeln!(row, "----");
+        match call::call_named(name) {
+            Some(call) => make(row, call, text),
+            None => row.refuse("no such call"),
+        }
     }
-    writeln!(out, "----")?;
-    report_call(alloc, out, call, rest, &row.text)
+    if row.rest().is_empty() {
+        row.refuse("no title");
+    }
+}
+
+/// Prints the answer of a row.
+fn print_answer<W: Write>(
+    alloc: Global,
+    out: &mut W,
+    marked: &Marked,
+) -> Result<(), anyhow::Error> {
+    let mut row = Row::new(alloc, &marked.head);
+    answer(&mut row, &marked.text);
+    row.print(out)
 }
 
 fn main(rt: HostRuntime) -> Result<(), anyhow::Error> {
     let alloc = rt.alloc();
     let mut out = rt.stdout();
-    let mut row = begun(alloc, "note of nothing")?;
+    let mut marked = begun(alloc, "note of nothing")?;
     for line in rt.lines(alloc) {
         let line = line?;
         match line.strip_prefix("==== ") {
             Some(head) => {
-                report(alloc, &mut out, &row)?;
-                row = begun(alloc, head)?;
+                print_answer(alloc, &mut out, &marked)?;
+                marked = begun(alloc, head)?;
             }
-            None => add_line(alloc, &mut row.text, &line)?,
+            None => add_line(alloc, &mut marked.text, &line)?,
         }
         writeln!(out, "{line}")?;
     }
-    report(alloc, &mut out, &row)
+    print_answer(alloc, &mut out, &marked)
 }

@@ -1,61 +1,53 @@
 //! Rows about what names stand for.
 
 use crate::lines::{layout_of, lines_of};
-use anyhow::{Context, anyhow};
 use asm_expr::Meaning;
 use asm_names::{Layout, SettledNames, names_of, settle_names, turns_of};
 use common::MOST_STATEMENTS;
+use row_text::Row;
 use std::alloc::Global;
-use std::io::Write;
 
-/// What the names of a row stand for, given a layout of its statements.
-fn settled(alloc: Global, text: &[u8], layout: &Layout) -> Result<SettledNames, anyhow::Error> {
+/// What the names of a row stand for, given a layout of its statements. None if there are too many lines, or one has an error.
+fn settled(alloc: Global, text: &[u8], layout: &Layout) -> Option<SettledNames> {
     let lines = lines_of(alloc, text)?;
     if lines.len() >= 100_000 || layout.statements.len() > MOST_STATEMENTS {
-        return Err(anyhow!("too many lines"));
+        return None;
     }
-    let Ok(names) = names_of(alloc, &lines) else {
-        return Err(anyhow!("names are faulty"));
-    };
-    let turns = turns_of(alloc, &lines, &names)?;
-    Ok(settle_names(alloc, &lines, &names, &turns, layout)?)
+    let names = names_of(alloc, &lines).ok()?;
+    let turns = turns_of(alloc, &lines, &names).ok()?;
+    settle_names(alloc, &lines, &names, &turns, layout).ok()
 }
 
 /// Prints what a name stands for.
-fn show_meaning<W: Write>(out: &mut W, meaning: Option<&Meaning>) -> Result<(), anyhow::Error> {
+fn show_meaning(row: &mut Row, meaning: Option<&Meaning>) {
     match meaning {
-        Some(Meaning::Label(statement)) => write!(out, "label {statement}")?,
-        Some(Meaning::External(number)) => write!(out, "external {number}")?,
-        Some(Meaning::Constant(n)) => write!(out, "constant {n}")?,
-        Some(Meaning::UnknownConstant | Meaning::Equ(_)) => write!(out, "other")?,
-        Some(Meaning::Faulty) => write!(out, "faulty")?,
-        None => write!(out, "nothing")?,
+        Some(Meaning::Label(statement)) => write!(row, "label {statement}"),
+        Some(Meaning::External(number)) => write!(row, "external {number}"),
+        Some(Meaning::Constant(n)) => write!(row, "constant {n}"),
+        Some(Meaning::UnknownConstant | Meaning::Equ(_)) => write!(row, "other"),
+        Some(Meaning::Faulty) => write!(row, "faulty"),
+        None => write!(row, "nothing"),
     }
-    Ok(())
 }
 
 /// Prints what a name stands for, and the first error of the EQU lines.
-fn show_settled<W: Write>(
-    out: &mut W,
-    name: &str,
-    settled: &SettledNames,
-) -> Result<(), anyhow::Error> {
-    write!(out, "{name} ")?;
-    show_meaning(out, settled.names.meaning(name.as_bytes()))?;
+fn show_settled(row: &mut Row, name: &str, settled: &SettledNames) {
+    write!(row, "{name} ");
+    show_meaning(row, settled.names.meaning(name.as_bytes()));
     match &settled.fault {
-        Some((line, why)) => Ok(writeln!(out, ", line {line}: {why:?}")?),
-        None => Ok(writeln!(out)?),
+        Some((line, why)) => writeln!(row, ", line {line}: {why:?}"),
+        None => writeln!(row),
     }
 }
 
 /// Prints what a name of a row stands for, and the first error of the row's EQU lines.
-pub(crate) fn report_meaning<W: Write>(
-    alloc: Global,
-    out: &mut W,
-    columns: &str,
-    text: &[u8],
-) -> Result<(), anyhow::Error> {
-    let (name, columns) = columns.split_once(' ').context("no layout")?;
-    let settled = settled(alloc, text, &layout_of(alloc, columns)?)?;
-    show_settled(out, name, &settled)
+pub(crate) fn answer_meaning(row: &mut Row, text: &[u8]) {
+    let name = row.until(' ');
+    let Some(layout) = layout_of(row) else {
+        return row.refuse("no layout");
+    };
+    match settled(row.alloc(), text, &layout) {
+        Some(settled) => show_settled(row, name, &settled),
+        None => row.refuse("a line has an error"),
+    }
 }
