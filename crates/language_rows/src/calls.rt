@@ -1,15 +1,14 @@
 //! Rows about replacing names, and about the arguments of a call.
 
-use anyhow::Context;
+use crate::scanning::{show_text, tokens_of};
 use asm_replace::{Names, Replacements, arguments, replace};
 use asm_scan::tokens;
-use row_text::{show_text, written_out};
-use std::alloc::Global;
-use std::io::Write;
+use row_text::Row;
+use std::alloc::{AllocError, Global};
 use std::rc::Rc;
 
 /// The texts of a column, with a slash after each.
-fn texts_of(alloc: Global, column: &str) -> Result<Vec<Vec<u8>>, anyhow::Error> {
+fn texts_of(alloc: Global, column: &str) -> Result<Vec<Vec<u8>>, AllocError> {
     let mut texts = Vec::new(alloc);
     for text in column.split_terminator('/') {
         texts.push(text.as_bytes().to_vec(alloc)?)?;
@@ -17,55 +16,72 @@ fn texts_of(alloc: Global, column: &str) -> Result<Vec<Vec<u8>>, anyhow::Error> 
     Ok(texts)
 }
 
-/// What a call replaces names by: its parameters, its arguments, its LOCAL names, and the number of the first of these.
-fn table_of(
-    alloc: Global,
-    parameters: &str,
-    given: &str,
-    locals: &str,
-    first: &str,
-) -> Result<Replacements, anyhow::Error> {
+/// The parameters of a macro, the arguments of a call, and its LOCAL names.
+#[derive(Clone, Copy)]
+struct Texts<'a> {
+    parameters: &'a str,
+    arguments: &'a str,
+    locals: &'a str,
+}
+
+/// What a call replaces names by, with the number of the first of its LOCAL names.
+fn table_of(alloc: Global, texts: Texts, counter: u64) -> Result<Replacements, AllocError> {
     let names = Names::new(
         alloc,
-        &texts_of(alloc, parameters)?,
-        &texts_of(alloc, locals)?,
+        &texts_of(alloc, texts.parameters)?,
+        &texts_of(alloc, texts.locals)?,
     )?;
     Ok(Replacements {
         names: Rc::new(alloc, names)?,
-        arguments: texts_of(alloc, given)?,
-        counter: u64::from_str_radix(first, 10)?,
+        arguments: texts_of(alloc, texts.arguments)?,
+        counter,
     })
 }
 
+/// A line as a call shows it.
+fn replaced(alloc: Global, table: &Replacements, line: &[u8]) -> Option<Vec<u8>> {
+    let mut out = Vec::new(alloc);
+    match replace(table, line, &tokens(alloc, line).ok()?, &mut out) {
+        Ok(()) => Some(out),
+        Err(_) => None,
+    }
+}
+
+fn show_replaced(row: &mut Row, table: &Replacements) {
+    let line = row.bytes();
+    match replaced(row.alloc(), table, &line) {
+        Some(text) => show_text(row, &text),
+        None => row.refuse("no tokens"),
+    }
+}
+
 /// Prints a line as a call shows it. The row has the columns of the call and then the line, with bars between them.
-pub(crate) fn report_replaced<W: Write>(
-    alloc: Global,
-    out: &mut W,
-    row: &str,
-) -> Result<(), anyhow::Error> {
-    let (parameters, row) = row.split_once('|').context("no arguments")?;
-    let (given, row) = row.split_once('|').context("no LOCAL names")?;
-    let (locals, row) = row.split_once('|').context("no number")?;
-    let (first, row) = row.split_once('|').context("no line")?;
-    let table = table_of(alloc, parameters, given, locals, first)?;
-    let line = written_out(alloc, row)?;
-    let mut replaced = Vec::new(alloc);
-    replace(&table, &line, &tokens(alloc, &line)?, &mut replaced)?;
-    write!(out, " <")?;
-    show_text(out, &replaced)?;
-    Ok(write!(out, ">")?)
+pub(crate) fn answer_replaced(row: &mut Row) {
+    let texts = Texts {
+        parameters: row.until('|'),
+        arguments: row.until('|'),
+        locals: row.until('|'),
+    };
+    let Ok(counter) = u64::from_str_radix(row.until('|'), 10) else {
+        return row.refuse("no number");
+    };
+    match table_of(row.alloc(), texts, counter) {
+        Ok(table) => show_replaced(row, &table),
+        Err(_) => row.refuse("no memory"),
+    }
+}
+
+fn show_texts(row: &mut Row, texts: &[Vec<u8>]) {
+    for text in texts {
+        show_text(row, text);
+    }
 }
 
 /// Prints the arguments of a call. The row has what follows the macro's name.
-pub(crate) fn report_arguments<W: Write>(
-    alloc: Global,
-    out: &mut W,
-    line: &[u8],
-) -> Result<(), anyhow::Error> {
-    for argument in &arguments(alloc, line, &tokens(alloc, line)?)? {
-        write!(out, " <")?;
-        show_text(out, argument)?;
-        write!(out, ">")?;
+pub(crate) fn answer_arguments(row: &mut Row, line: &[u8]) {
+    let found = tokens_of(row, line);
+    match arguments(row.alloc(), line, &found) {
+        Ok(texts) => show_texts(row, &texts),
+        Err(_) => row.refuse("no memory"),
     }
-    Ok(())
 }

@@ -1,8 +1,8 @@
 //! Rows about lists of items, which may make an expression or not.
 
 use asm_expr::{Atom, Binary, Expr, Item, Room, Unary, constant, items};
-use std::alloc::Global;
-use std::io::Write;
+use row_text::Row;
+use std::alloc::{AllocError, Global};
 
 /// The item that a byte stands for: a number, a ref as a letter, or an operator.
 fn item_of(byte: u8) -> Item<Atom> {
@@ -20,7 +20,7 @@ fn item_of(byte: u8) -> Item<Atom> {
 }
 
 /// The items that the bytes of a text stand for.
-fn items_of(alloc: Global, text: &[u8]) -> Result<Vec<Item<Atom>>, anyhow::Error> {
+fn items_of(alloc: Global, text: &[u8]) -> Result<Vec<Item<Atom>>, AllocError> {
     let mut list = Vec::new(alloc);
     for byte in text {
         list.push(item_of(*byte))?;
@@ -29,18 +29,17 @@ fn items_of(alloc: Global, text: &[u8]) -> Result<Vec<Item<Atom>>, anyhow::Error
 }
 
 /// Prints the items of the expression that a list makes, and its number if it is fixed.
-pub(crate) fn report_items<W: Write>(
-    alloc: Global,
-    out: &mut W,
-    text: &[u8],
-) -> Result<(), anyhow::Error> {
-    match Expr::of(items_of(alloc, text)?) {
-        Some(expr) => Ok(write!(
-            out,
+pub(crate) fn answer_items(row: &mut Row, text: &[u8]) {
+    let Ok(list) = items_of(row.alloc(), text) else {
+        return row.refuse("no memory");
+    };
+    match Expr::of(list) {
+        Some(expr) => write!(
+            row,
             "{:?}, {:?}",
             items(&expr, &mut Room::new()),
             constant(&expr)
-        )?),
-        None => Ok(write!(out, "no expression")?),
+        ),
+        None => write!(row, "no expression"),
     }
 }

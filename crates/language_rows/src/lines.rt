@@ -1,178 +1,172 @@
 //! Rows about parsed lines.
 
-use anyhow::Context;
-use asm_module::read_source;
+use asm_module::{SourceText, read_source};
 use asm_parse::{Item, KeptName, Term, TermView, Tree};
 use asm_scan::{Token, tokens};
 use asm_spell::{Body, Line, Value, is_name, statement};
-use std::alloc::Global;
-use std::io::Write;
+use row_text::Row;
 
-fn show_item<W: Write>(out: &mut W, item: &Item<Term>) -> Result<(), anyhow::Error> {
+fn show_name(row: &mut Row, name: &[u8]) {
+    row.write_bytes(b" ");
+    row.write_bytes(name)
+}
+
+fn show_item(row: &mut Row, item: &Item<Term>) {
     match item.view() {
-        Item::Leaf(TermView::Number(n)) => write!(out, " {n}")?,
-        Item::Leaf(TermView::Name(name)) => {
-            write!(out, " ")?;
-            out.write_all(name)?;
-        }
-        Item::Leaf(TermView::Here) => write!(out, " $")?,
-        Item::Unary(operator) => write!(out, " {operator:?}")?,
-        Item::Binary(operator) => write!(out, " {operator:?}")?,
+        Item::Leaf(TermView::Number(n)) => write!(row, " {n}"),
+        Item::Leaf(TermView::Name(name)) => show_name(row, name),
+        Item::Leaf(TermView::Here) => write!(row, " $"),
+        Item::Unary(operator) => write!(row, " {operator:?}"),
+        Item::Binary(operator) => write!(row, " {operator:?}"),
     }
-    Ok(())
 }
 
 /// Prints the items of an expression in postfix order.
-fn show_tree<W: Write>(out: &mut W, tree: &Tree) -> Result<(), anyhow::Error> {
+fn show_tree(row: &mut Row, tree: &Tree) {
     for item in tree.items() {
-        show_item(out, item)?;
+        show_item(row, item);
     }
-    Ok(())
 }
 
-fn show_names<W: Write>(out: &mut W, names: &[KeptName]) -> Result<(), anyhow::Error> {
+fn show_names(row: &mut Row, names: &[KeptName]) {
     for name in names {
-        write!(out, " ")?;
-        out.write_all(name)?;
+        show_name(row, name);
     }
-    Ok(())
 }
 
-fn show_value<W: Write>(out: &mut W, value: &Value) -> Result<(), anyhow::Error> {
+fn show_value(row: &mut Row, value: &Value) {
     match value {
         Value::Text(text) => {
-            write!(out, " <")?;
-            out.write_all(text)?;
-            write!(out, ">")?;
+            write!(row, " <");
+            row.write_bytes(text);
+            write!(row, ">")
         }
         Value::Byte(tree) => {
-            write!(out, " byte")?;
-            show_tree(out, tree)?;
+            write!(row, " byte");
+            show_tree(row, tree)
         }
     }
-    Ok(())
 }
 
-fn show_data<W: Write>(out: &mut W, body: &Body) -> Result<(), anyhow::Error> {
+fn show_bytes(row: &mut Row, values: &[Value]) {
+    write!(row, "bytes");
+    for value in values {
+        show_value(row, value);
+    }
+}
+
+fn show_words(row: &mut Row, fields: &[Tree]) {
+    write!(row, "words");
+    for tree in fields {
+        write!(row, " word");
+        show_tree(row, tree);
+    }
+}
+
+fn show_space(row: &mut Row, size: &Tree, fill: Option<&Tree>) {
+    write!(row, "space");
+    show_tree(row, size);
+    if let Some(tree) = fill {
+        write!(row, " fill");
+        show_tree(row, tree);
+    }
+}
+
+fn show_data(row: &mut Row, body: &Body) {
     match body {
-        Body::Bytes(values) => {
-            write!(out, "bytes")?;
-            for value in values {
-                show_value(out, value)?;
-            }
-        }
-        Body::Words(fields) => {
-            write!(out, "words")?;
-            for tree in fields {
-                write!(out, " word")?;
-                show_tree(out, tree)?;
-            }
-        }
-        Body::Space { size, fill } => {
-            write!(out, "space")?;
-            show_tree(out, size)?;
-            if let Some(tree) = fill {
-                write!(out, " fill")?;
-                show_tree(out, tree)?;
-            }
-        }
-        _ => write!(out, "nothing")?,
+        Body::Bytes(values) => show_bytes(row, values),
+        Body::Words(fields) => show_words(row, fields),
+        Body::Space { size, fill } => show_space(row, size, fill.as_ref()),
+        _ => write!(row, "nothing"),
     }
-    Ok(())
 }
 
-fn show_body<W: Write>(out: &mut W, body: &Body) -> Result<(), anyhow::Error> {
+fn show_body(row: &mut Row, body: &Body) {
     match body {
         Body::Code { instr, numbers } => {
-            write!(out, "code {instr}")?;
+            write!(row, "code {instr}");
             for (field, tree) in numbers.as_slice() {
-                write!(out, "; {field:?}")?;
-                show_tree(out, tree)?;
+                write!(row, "; {field:?}");
+                show_tree(row, tree);
             }
         }
         Body::Jump { condition, target } => {
-            write!(out, "jump {condition:?} ")?;
-            out.write_all(target)?;
+            write!(row, "jump {condition:?}");
+            show_name(row, target)
         }
         Body::Short { branch, target } => {
-            write!(out, "short {branch:?} ")?;
-            out.write_all(target)?;
+            write!(row, "short {branch:?}");
+            show_name(row, target)
         }
         Body::Public(names) => {
-            write!(out, "public")?;
-            show_names(out, names)?;
+            write!(row, "public");
+            show_names(row, names)
         }
         Body::External(names) => {
-            write!(out, "external")?;
-            show_names(out, names)?;
+            write!(row, "external");
+            show_names(row, names)
         }
         Body::Origin(tree) => {
-            write!(out, "origin")?;
-            show_tree(out, tree)?;
+            write!(row, "origin");
+            show_tree(row, tree)
         }
-        Body::End(None) => write!(out, "end")?,
+        Body::End(None) => write!(row, "end"),
         Body::End(Some(name)) => {
-            write!(out, "end ")?;
-            out.write_all(name)?;
+            write!(row, "end");
+            show_name(row, name)
         }
-        Body::Z80 => write!(out, "z80")?,
-        _ => show_data(out, body)?,
+        Body::Z80 => write!(row, "z80"),
+        _ => show_data(row, body),
     }
-    Ok(())
 }
 
-fn show_line<W: Write>(out: &mut W, line: &Line) -> Result<(), anyhow::Error> {
+fn show_statement(row: &mut Row, label: Option<&Vec<u8>>, body: Option<&Body>) {
+    if let Some(name) = label {
+        row.write_bytes(name);
+        write!(row, ": ");
+    }
+    match body {
+        Some(body) => show_body(row, body),
+        None => write!(row, "empty"),
+    }
+}
+
+fn show_line(row: &mut Row, line: &Line) {
     match line {
         Line::Equ { name, value } => {
-            out.write_all(name)?;
-            write!(out, " equals")?;
-            show_tree(out, value)?;
+            row.write_bytes(name);
+            write!(row, " equals");
+            show_tree(row, value)
         }
-        Line::Statement { label, body } => {
-            if let Some(name) = label {
-                out.write_all(name)?;
-                write!(out, ": ")?;
-            }
-            match body {
-                Some(body) => show_body(out, body)?,
-                None => write!(out, "empty")?,
-            }
-        }
+        Line::Statement { label, body } => show_statement(row, label.as_ref(), body.as_ref()),
     }
-    Ok(())
 }
 
 /// Prints whether a line is a name that a program can define, and the parsed line or its error.
-pub(crate) fn report_spelled<W: Write>(
-    alloc: Global,
-    out: &mut W,
-    line: &[u8],
-) -> Result<(), anyhow::Error> {
+pub(crate) fn answer_spelled(row: &mut Row, line: &[u8]) {
     if is_name(line) {
-        write!(out, " a name;")?;
+        write!(row, " a name;");
     }
-    write!(out, " ")?;
-    match statement(alloc, &tokens(alloc, line)?) {
-        Ok(found) => show_line(out, &found),
-        Err(fault) => Ok(write!(out, "{fault:?}")?),
+    let Ok(found) = tokens(row.alloc(), line) else {
+        return row.refuse("no tokens");
+    };
+    write!(row, " ");
+    match statement(row.alloc(), &found) {
+        Ok(found) => show_line(row, &found),
+        Err(fault) => write!(row, "{fault:?}"),
     }
 }
 
-/// The tokens of a word, then this many times those of a text, and then those of a last text.
-fn many_tokens<'a>(
-    alloc: Global,
-    word: &'a str,
-    count: u32,
-    text: &'a str,
-    last: &'a str,
-) -> Result<Vec<Token<'a>>, anyhow::Error> {
-    let mut all = tokens(alloc, word.as_bytes())?;
-    let each = tokens(alloc, text.as_bytes())?;
+/// Adds the tokens of a text this many times.
+fn add_tokens<'a>(row: &mut Row, all: &mut Vec<Token<'a>>, text: &'a str, count: u32) {
+    let Ok(each) = tokens(row.alloc(), text.as_bytes()) else {
+        return row.refuse("no tokens");
+    };
     for _ in 0..count {
-        all.extend_from_slice(&each)?;
+        if all.extend_from_slice(&each).is_err() {
+            return row.refuse("no memory");
+        }
     }
-    all.extend_from_slice(&tokens(alloc, last.as_bytes())?)?;
-    Ok(all)
 }
 
 /// How many items a line of DB has; None for any other line.
@@ -186,55 +180,58 @@ fn count_of(line: &Line) -> Option<usize> {
     }
 }
 
-/// Prints how many items DB has when it has more tokens than a line can have, or the error.
-pub(crate) fn report_many<W: Write>(
-    alloc: Global,
-    out: &mut W,
-    row: &str,
-) -> Result<(), anyhow::Error> {
-    let (word, row) = row.split_once('/').context("no count")?;
-    let (count, row) = row.split_once('/').context("no text")?;
-    let (text, last) = row.split_once('/').context("no last text")?;
-    let count = u32::from_str_radix(count, 10)?;
-    match statement(alloc, &many_tokens(alloc, word, count, text, last)?) {
-        Ok(line) => {
-            let items = count_of(&line).context("another line than of DB")?;
-            Ok(write!(out, " {items} items")?)
-        }
-        Err(fault) => Ok(write!(out, " {fault:?}")?),
+fn show_count(row: &mut Row, line: &Line) {
+    match count_of(line) {
+        Some(items) => write!(row, " {items} items"),
+        None => row.refuse("another line than of DB"),
     }
 }
 
-/// A copy of a text, with each bar replaced by a line end.
-fn with_line_ends(alloc: Global, text: &[u8]) -> Result<Vec<u8>, anyhow::Error> {
-    let mut lines = text.to_vec(alloc)?;
-    for byte in lines.iter_mut() {
+/// Prints how many items DB has when it has more tokens than a line can have, or the error.
+pub(crate) fn answer_many(row: &mut Row) {
+    let mut all = Vec::new(row.alloc());
+    let word = row.until('/');
+    add_tokens(row, &mut all, word, 1);
+    let Ok(count) = u32::from_str_radix(row.until('/'), 10) else {
+        return row.refuse("no count");
+    };
+    let text = row.until('/');
+    add_tokens(row, &mut all, text, count);
+    let last = row.rest();
+    add_tokens(row, &mut all, last, 1);
+    match statement(row.alloc(), &all) {
+        Ok(line) => show_count(row, &line),
+        Err(fault) => write!(row, " {fault:?}"),
+    }
+}
+
+/// Replaces each bar by a line end.
+fn put_line_ends(text: &mut [u8]) {
+    for byte in text.iter_mut() {
         if *byte == b'|' {
             *byte = b'\n';
         }
     }
-    Ok(lines)
 }
 
-/// Prints the lines of a source with their numbers, the line that cannot be parsed, and the last line that is listed; or where the
-/// expansion stops.
-pub(crate) fn report_source<W: Write>(
-    alloc: Global,
-    out: &mut W,
-    text: &[u8],
-) -> Result<(), anyhow::Error> {
-    match read_source(alloc, &with_line_ends(alloc, text)?) {
-        Ok(source) => {
-            for line in &source.lines {
-                write!(out, " {} ", line.number)?;
-                show_line(out, &line.line)?;
-                write!(out, " |")?;
-            }
-            if let Some((number, why)) = source.unread {
-                write!(out, " unread {number} {why:?} |")?;
-            }
-            Ok(write!(out, " last {}", source.last)?)
-        }
-        Err((number, why)) => Ok(write!(out, " stops {number} {why:?}")?),
+/// Prints the lines of a source with their numbers, the line that cannot be parsed, and the last line that is listed.
+fn show_source(row: &mut Row, source: &SourceText) {
+    for line in &source.lines {
+        write!(row, " {} ", line.number);
+        show_line(row, &line.line);
+        write!(row, " |");
+    }
+    if let Some((number, why)) = source.unread {
+        write!(row, " unread {number} {why:?} |");
+    }
+    write!(row, " last {}", source.last)
+}
+
+/// Prints what a source says, or where the expansion stops.
+pub(crate) fn answer_source(row: &mut Row, mut text: Vec<u8>) {
+    put_line_ends(&mut text);
+    match read_source(row.alloc(), &text) {
+        Ok(source) => show_source(row, &source),
+        Err((number, why)) => write!(row, " stops {number} {why:?}"),
     }
 }

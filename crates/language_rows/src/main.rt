@@ -3,9 +3,10 @@
 //! The head of `stdin` explains the calls and what follows each. A line that begins with `;` is a remark.
 #![tactic(auto)]
 
-mod answer;
 mod blocks;
+mod call;
 mod calls;
+mod expressions;
 mod items;
 mod lines;
 mod orders;
@@ -13,10 +14,9 @@ mod pieces;
 mod scanning;
 mod tables;
 
-use anyhow::anyhow;
 use asm_expr::Names;
-use row_text::written_out;
-use std::alloc::Global;
+use call::{Alone, Call, OnColumns, OnExpression, OnLine, OnNames};
+use row_text::Row;
 use std::io::Write;
 
 /// The names with which expressions and statements are read, and the number of their table.
@@ -26,132 +26,84 @@ struct Known {
     names: Names,
 }
 
-/// Makes the calls that cut lines into tokens and parse them.
-fn report_text<W: Write>(
-    alloc: Global,
-    out: &mut W,
-    call: &str,
-    text: &[u8],
-) -> Result<(), anyhow::Error> {
-    if call == "tokens" {
-        scanning::report_tokens(alloc, out, text)
-    } else if call == "count" {
-        scanning::report_count(alloc, out, text)
-    } else if call == "faults" {
-        scanning::report_faults(out)
-    } else if call == "form" {
-        scanning::report_form(alloc, out, text)
-    } else if call == "names" {
-        scanning::report_names(alloc, out, text)
-    } else if call == "arguments" {
-        calls::report_arguments(alloc, out, text)
-    } else if call == "spell" {
-        lines::report_spelled(alloc, out, text)
-    } else if call == "source" {
-        lines::report_source(alloc, out, text)
-    } else {
-        Err(anyhow!("no such call"))
+/// Makes calls without columns.
+fn answer_alone(row: &mut Row, call: Alone) {
+    match call {
+        Alone::Faults => scanning::answer_faults(row),
+        Alone::NoLines => blocks::answer_no_lines(row),
     }
 }
 
-/// Makes the calls with columns of their own, or else those that cut lines into tokens and parse them.
-fn report_columns<W: Write>(
-    alloc: Global,
-    out: &mut W,
-    call: &str,
-    row: &str,
-) -> Result<(), anyhow::Error> {
-    if call == "replace" {
-        calls::report_replaced(alloc, out, row)
-    } else if call == "body" {
-        blocks::report_body(alloc, out, row)
-    } else if call == "branches" {
-        blocks::report_branches(alloc, out, row)
-    } else if call == "no-lines" {
-        blocks::report_no_lines(alloc, out)
-    } else if call == "order" {
-        orders::report_order(alloc, out, row)
-    } else if call == "chain" {
-        orders::report_chain(alloc, out, row)
-    } else if call == "defined" {
-        orders::report_defined(alloc, out, row)
-    } else if call == "many" {
-        lines::report_many(alloc, out, row)
-    } else {
-        report_text(alloc, out, call, &written_out(alloc, row)?)
+/// Makes calls that cut a line into tokens or parse it.
+fn answer_line(row: &mut Row, call: OnLine) {
+    let line = row.bytes();
+    match call {
+        OnLine::Tokens => scanning::answer_tokens(row, &line),
+        OnLine::Count => scanning::answer_count(row, &line),
+        OnLine::Form => scanning::answer_form(row, &line),
+        OnLine::Names => scanning::answer_names(row, &line),
+        OnLine::Arguments => calls::answer_arguments(row, &line),
+        OnLine::Spell => lines::answer_spelled(row, &line),
+        OnLine::Source => lines::answer_source(row, line),
     }
 }
 
-/// Makes the calls that read an expression with the names of a table.
-fn report_expression<W: Write>(
-    alloc: Global,
-    out: &mut W,
-    call: &str,
-    text: &[u8],
-    known: &Known,
-) -> Result<(), anyhow::Error> {
-    write!(out, " ")?;
-    let names = &known.names;
-    if call == "value" {
-        answer::report_value(alloc, out, text, names)
-    } else if call == "kept" {
-        answer::report_kept(alloc, out, text, names)
-    } else if call == "offset" {
-        answer::report_offset(alloc, out, text, names)
-    } else if call == "constant" {
-        answer::report_constant(alloc, out, text, names)
-    } else if call == "equ" {
-        answer::report_equ(alloc, out, text, tables::table(alloc, known.table)?)
-    } else if call == "items" {
-        items::report_items(alloc, out, text)
-    } else {
-        answer::report_made(alloc, out, text, names)
+/// Makes calls with columns of their own.
+fn answer_columns(row: &mut Row, call: OnColumns) {
+    match call {
+        OnColumns::Replace => calls::answer_replaced(row),
+        OnColumns::Body => blocks::answer_body(row),
+        OnColumns::Branches => blocks::answer_branches(row),
+        OnColumns::Order => orders::answer_order(row),
+        OnColumns::Chain => orders::answer_chain(row),
+        OnColumns::Defined => orders::answer_defined(row),
+        OnColumns::Many => lines::answer_many(row),
     }
 }
 
-/// Whether a call reads an expression.
-fn is_expression(call: &str) -> bool {
-    const CALLS: [&str; 7] = [
-        "expression",
-        "value",
-        "kept",
-        "offset",
-        "constant",
-        "equ",
-        "items",
-    ];
-    CALLS.iter().any(|name| *name == call)
+/// Takes the number of a table, whose names the rows after this one use.
+fn begin_table(row: &mut Row, known: &mut Known) {
+    known.table = row.decimal();
+    known.names = tables::table(row, known.table);
 }
 
-/// Makes the call that a row names.
-fn report<W: Write>(
-    alloc: Global,
-    out: &mut W,
-    call: &str,
-    row: &str,
-    known: &mut Known,
-) -> Result<(), anyhow::Error> {
-    if call == "table" {
-        let table = u32::from_str_radix(row, 10)?;
-        *known = Known {
-            table,
-            names: tables::table(alloc, table)?,
-        };
-        Ok(())
-    } else if call == "here" {
-        known.names.set_here(u16::from_str_radix(row, 10)?);
-        Ok(())
-    } else if call == "distance" {
-        write!(out, " ")?;
-        answer::report_distance(out, row, &known.names)
-    } else if call == "piece" {
-        pieces::report_piece(alloc, out, &written_out(alloc, row)?, &mut known.names)
-    } else if call == "size" {
-        pieces::report_size(alloc, out, &written_out(alloc, row)?, &known.names)
-    } else if is_expression(call) {
-        report_expression(alloc, out, call, &written_out(alloc, row)?, known)
-    } else {
-        report_columns(alloc, out, call, row)
+/// Makes calls that change or use the names of a table.
+fn answer_names(row: &mut Row, call: OnNames, known: &mut Known) {
+    match call {
+        OnNames::Table => begin_table(row, known),
+        OnNames::Here => known.names.set_here(row.short()),
+        OnNames::Distance => expressions::answer_distance(row, &known.names),
+        OnNames::Piece => pieces::answer_piece(row, &mut known.names),
+        OnNames::Size => pieces::answer_size(row, &known.names),
+    }
+}
+
+/// Makes calls that read an expression with the names of a table.
+fn answer_expression(row: &mut Row, call: OnExpression, known: &Known) {
+    let text = row.bytes();
+    write!(row, " ");
+    match call {
+        OnExpression::Expression => expressions::answer_made(row, &text, &known.names),
+        OnExpression::Value => expressions::answer_value(row, &text, &known.names),
+        OnExpression::Kept => expressions::answer_kept(row, &text, &known.names),
+        OnExpression::Offset => expressions::answer_offset(row, &text, &known.names),
+        OnExpression::Constant => expressions::answer_constant(row, &text, &known.names),
+        OnExpression::Equ => expressions::answer_equ(row, &text, known.table),
+        OnExpression::Items => items::answer_items(row, &text),
+    }
+}
+
+/// Makes any call, which has to use all columns.
+fn answer(row: &mut Row, call: Call, known: &mut Known) {
+    match call {
+        Call::Alone(call) => answer_alone(row, call),
+        Call::Line(call) => answer_line(row, call),
+        Call::Columns(call) => answer_columns(row, call),
+        Call::Names(call) => answer_names(row, call, known),
+        Call::Expression(call) => answer_expression(row, call, known),
+    }
+    if !row.rest().is_empty() {
+        row.refuse("too many columns");
     }
 }
 
@@ -160,15 +112,19 @@ fn main(rt: HostRuntime) -> Result<(), anyhow::Error> {
     let mut out = rt.stdout();
     let mut known = Known {
         table: 0,
-        names: tables::table(alloc, 0)?,
+        names: Names::new(alloc),
     };
     for line in rt.lines(alloc) {
         let line = line?;
         write!(out, "{line}")?;
         if !line.as_str().starts_with(';') {
             write!(out, " =>")?;
-            let (call, row) = line.split_once(' ').unwrap_or((line.as_str(), ""));
-            report(alloc, &mut out, call, row, &mut known)?;
+            let mut row = Row::new(alloc, &line);
+            match call::call_named(row.word()) {
+                Some(call) => answer(&mut row, call, &mut known),
+                None => row.refuse("no such call"),
+            }
+            row.print(&mut out)?;
         }
         writeln!(out)?;
     }

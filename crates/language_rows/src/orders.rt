@@ -1,80 +1,97 @@
 //! Rows about the order in which definitions are settled.
 
-use anyhow::anyhow;
 use asm_names::{Turn, are_defined, order};
+use row_text::Row;
 use std::alloc::Global;
-use std::io::Write;
 
 /// The numbers of a column, separated by commas.
-fn numbers_of(alloc: Global, column: &str) -> Result<Vec<u32>, anyhow::Error> {
+fn numbers_of(alloc: Global, column: &str) -> Option<Vec<u32>> {
     let mut numbers = Vec::new(alloc);
     for number in column.split_terminator(',') {
-        numbers.push(u32::from_str_radix(number, 10)?)?;
+        let number = u32::from_str_radix(number, 10).ok()?;
+        numbers.push(number).ok()?;
     }
-    Ok(numbers)
+    Some(numbers)
 }
 
 /// For each definition, the numbers of those that it names, with a slash after each list.
-fn uses_of(alloc: Global, row: &str) -> Result<Vec<Vec<u32>>, anyhow::Error> {
+fn uses_of(alloc: Global, columns: &str) -> Option<Vec<Vec<u32>>> {
     let mut uses = Vec::new(alloc);
-    for column in row.split_terminator('/') {
-        uses.push(numbers_of(alloc, column)?)?;
+    for column in columns.split_terminator('/') {
+        let numbers = numbers_of(alloc, column)?;
+        uses.push(numbers).ok()?;
     }
-    Ok(uses)
+    Some(uses)
 }
 
-/// The order of some definitions.
-fn order_of(alloc: Global, uses: &[Vec<u32>]) -> Result<Vec<Turn>, anyhow::Error> {
-    if uses.len() >= 100_000 {
-        return Err(anyhow!("too many definitions"));
+/// The order of some definitions. None if they are too many, or have a number of no definition.
+fn order_of(alloc: Global, uses: &[Vec<u32>]) -> Option<Vec<Turn>> {
+    if uses.len() < 100_000 && are_defined(uses) {
+        order(alloc, uses).ok()
+    } else {
+        None
     }
-    if !are_defined(uses) {
-        return Err(anyhow!("a number of no definition"));
+}
+
+fn show_turns(row: &mut Row, turns: &[Turn]) {
+    for turn in turns {
+        let mark = if turn.on_circle { "*" } else { "" };
+        write!(row, " {}{mark}", turn.definition);
     }
-    Ok(order(alloc, uses)?)
+}
+
+/// Takes definitions, and refuses them if they are no numbers.
+fn uses_in(row: &mut Row) -> Vec<Vec<u32>> {
+    let columns = row.rest();
+    match uses_of(row.alloc(), columns) {
+        Some(uses) => uses,
+        None => {
+            row.refuse("no numbers");
+            Vec::new(row.alloc())
+        }
+    }
 }
 
 /// Prints all definitions in an order in which they can be settled, with a star after each that is on a circle.
-pub(crate) fn report_order<W: Write>(
-    alloc: Global,
-    out: &mut W,
-    row: &str,
-) -> Result<(), anyhow::Error> {
-    for turn in &order_of(alloc, &uses_of(alloc, row)?)? {
-        let mark = if turn.on_circle { "*" } else { "" };
-        write!(out, " {}{mark}", turn.definition)?;
+pub(crate) fn answer_order(row: &mut Row) {
+    let uses = uses_in(row);
+    match order_of(row.alloc(), &uses) {
+        Some(turns) => show_turns(row, &turns),
+        None => row.refuse("a number of no definition"),
     }
-    Ok(())
 }
 
 /// A chain of `count` definitions: each names the next one, and the last one names those in `last`.
-fn chain(alloc: Global, count: u32, last: &str) -> Result<Vec<Vec<u32>>, anyhow::Error> {
+fn chain(alloc: Global, count: u32, last: &str) -> Option<Vec<Vec<u32>>> {
     let mut uses = Vec::new(alloc);
     for definition in 1..count {
-        uses.push(vec![in alloc; definition; 1]?)?;
+        uses.push(vec![in alloc; definition; 1].ok()?).ok()?;
     }
-    uses.push(numbers_of(alloc, last)?)?;
-    Ok(uses)
+    uses.push(numbers_of(alloc, last)?).ok()?;
+    Some(uses)
+}
+
+/// The order of a chain.
+fn chain_order(alloc: Global, count: u32, last: &str) -> Option<Vec<Turn>> {
+    let uses = chain(alloc, count, last)?;
+    order_of(alloc, &uses)
 }
 
 /// Prints how many definitions of a chain are in its order, and how many of them are on a circle.
-pub(crate) fn report_chain<W: Write>(
-    alloc: Global,
-    out: &mut W,
-    row: &str,
-) -> Result<(), anyhow::Error> {
-    let (count, last) = row.split_once(' ').unwrap_or((row, ""));
-    let uses = chain(alloc, u32::from_str_radix(count, 10)?, last)?;
-    let turns = order_of(alloc, &uses)?;
-    let circles = turns.iter().filter(|turn| turn.on_circle).count();
-    Ok(write!(out, " {}, {circles} on a circle", turns.len())?)
+pub(crate) fn answer_chain(row: &mut Row) {
+    let count = row.decimal();
+    let last = row.rest();
+    match chain_order(row.alloc(), count, last) {
+        Some(turns) => {
+            let circles = turns.iter().filter(|turn| turn.on_circle).count();
+            write!(row, " {}, {circles} on a circle", turns.len())
+        }
+        None => row.refuse("a number of no definition"),
+    }
 }
 
 /// Prints whether definitions name only definitions.
-pub(crate) fn report_defined<W: Write>(
-    alloc: Global,
-    out: &mut W,
-    row: &str,
-) -> Result<(), anyhow::Error> {
-    Ok(write!(out, " {}", are_defined(&uses_of(alloc, row)?))?)
+pub(crate) fn answer_defined(row: &mut Row) {
+    let uses = uses_in(row);
+    write!(row, " {}", are_defined(&uses))
 }

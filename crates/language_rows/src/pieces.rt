@@ -1,159 +1,128 @@
 //! Rows about statements whose names are known: their bytes, and how many there are.
 
+use crate::scanning::tokens_of;
 use crate::tables::define;
 use asm_expr::{Atom, Item, Names, Room, Statement, Tree, equate, is_defined, items};
-use asm_scan::tokens;
 use asm_spell::{Line, statement};
-use asm_stmt::{Body, Hole, Made, Piece, StmtFault, are_defined, settle, size_of};
-use std::alloc::Global;
-use std::io::Write;
+use asm_stmt::{Body, Hole, Made, Piece, are_defined, settle, size_of};
+use row_text::Row;
 
-fn show_item<W: Write>(out: &mut W, item: &Item<Atom>) -> Result<(), anyhow::Error> {
+fn show_item(row: &mut Row, item: &Item<Atom>) {
     match item {
-        Item::Leaf(Atom::Number(n)) => write!(out, " {n}")?,
-        Item::Leaf(Atom::Ref(r)) => write!(out, " #{r}")?,
-        Item::Unary(operator) => write!(out, " {operator:?}")?,
-        Item::Binary(operator) => write!(out, " {operator:?}")?,
+        Item::Leaf(Atom::Number(n)) => write!(row, " {n}"),
+        Item::Leaf(Atom::Ref(r)) => write!(row, " #{r}"),
+        Item::Unary(operator) => write!(row, " {operator:?}"),
+        Item::Binary(operator) => write!(row, " {operator:?}"),
     }
-    Ok(())
 }
 
 /// Prints the offset and width of a fix-up, and the items of its expression in postfix order.
-fn show_hole<W: Write>(out: &mut W, hole: &Hole) -> Result<(), anyhow::Error> {
-    write!(out, "; {} {:?}", hole.offset, hole.width)?;
+fn show_hole(row: &mut Row, hole: &Hole) {
+    write!(row, "; {} {:?}", hole.offset, hole.width);
     for item in items(&hole.value, &mut Room::new()) {
-        show_item(out, item)?;
+        show_item(row, item);
     }
-    Ok(())
 }
 
-fn show_bytes<W: Write>(out: &mut W, bytes: &[u8], holes: &[Hole]) -> Result<(), anyhow::Error> {
-    for byte in bytes {
-        write!(out, " {byte:02X}")?;
-    }
+fn show_holes(row: &mut Row, holes: &[Hole]) {
     for hole in holes {
-        show_hole(out, hole)?;
+        show_hole(row, hole);
     }
-    Ok(())
 }
 
-fn show_piece<W: Write>(out: &mut W, piece: &Piece) -> Result<(), anyhow::Error> {
+fn show_bytes(row: &mut Row, bytes: &[u8]) {
+    for byte in bytes {
+        write!(row, " {byte:02X}");
+    }
+}
+
+fn show_piece(row: &mut Row, piece: &Piece) {
     match piece {
-        Piece::Bytes { bytes, holes } => show_bytes(out, bytes, holes)?,
-        Piece::Jump { condition, target } => write!(out, " jump {condition:?} #{target}")?,
-        Piece::Short { branch, target } => write!(out, " short {branch:?} #{target}")?,
-        Piece::Space { size, fill } => write!(out, " space {size} of {fill}")?,
+        Piece::Bytes { bytes, holes } => {
+            show_bytes(row, bytes);
+            show_holes(row, holes)
+        }
+        Piece::Jump { condition, target } => write!(row, " jump {condition:?} #{target}"),
+        Piece::Short { branch, target } => write!(row, " short {branch:?} #{target}"),
+        Piece::Space { size, fill } => write!(row, " space {size} of {fill}"),
     }
-    Ok(())
 }
 
-fn show_made<W: Write>(out: &mut W, made: &Made) -> Result<(), anyhow::Error> {
+fn show_made(row: &mut Row, made: &Made) {
     match made {
-        Made::Nothing => write!(out, " nothing")?,
-        Made::Piece(piece) => show_piece(out, piece)?,
-        Made::Unknown => write!(out, " unknown")?,
+        Made::Nothing => write!(row, " nothing"),
+        Made::Piece(piece) => show_piece(row, piece),
+        Made::Unknown => write!(row, " unknown"),
     }
-    Ok(())
 }
 
-fn show_size<W: Write>(out: &mut W, size: Option<Statement>) -> Result<(), anyhow::Error> {
+fn show_size(row: &mut Row, size: Option<Statement>) {
     match size {
-        None => write!(out, " nothing")?,
-        Some(Statement::Sized(size)) => write!(out, " {size} bytes")?,
-        Some(Statement::Relaxable) => write!(out, " 2 or 3 bytes")?,
-        Some(Statement::Unsized) => write!(out, " unsized")?,
-    }
-    Ok(())
-}
-
-/// Prints the name of an error. Fails if memory ran out.
-fn show_fault<W: Write>(out: &mut W, fault: StmtFault) -> Result<(), anyhow::Error> {
-    match fault {
-        StmtFault::NoMemory => Err(fault.into()),
-        _ => Ok(write!(out, " {fault:?}")?),
+        None => write!(row, " nothing"),
+        Some(Statement::Sized(size)) => write!(row, " {size} bytes"),
+        Some(Statement::Relaxable) => write!(row, " 2 or 3 bytes"),
+        Some(Statement::Unsized) => write!(row, " unsized"),
     }
 }
 
-/// The bytes and fix-ups of a statement; None if a name in it is not defined.
-fn made(alloc: Global, body: &Body, names: &Names) -> Result<Option<Made>, StmtFault> {
-    if are_defined(body, names) {
-        Ok(Some(settle(alloc, body, names)?))
-    } else {
-        Ok(None)
+/// Prints the bytes and fix-ups of a statement.
+fn answer_made(row: &mut Row, body: &Body, names: &Names) {
+    if !are_defined(body, names) {
+        return write!(row, " Undefined");
     }
-}
-
-fn report_statement<W: Write>(
-    alloc: Global,
-    out: &mut W,
-    body: &Body,
-    names: &Names,
-) -> Result<(), anyhow::Error> {
-    match made(alloc, body, names) {
-        Ok(Some(made)) => show_made(out, &made),
-        Ok(None) => Ok(write!(out, " Undefined")?),
-        Err(fault) => show_fault(out, fault),
+    match settle(row.alloc(), body, names) {
+        Ok(made) => show_made(row, &made),
+        Err(fault) => write!(row, " {fault:?}"),
     }
 }
 
 /// Prints how many bytes a statement takes.
-fn report_body_size<W: Write>(
-    alloc: Global,
-    out: &mut W,
-    body: &Body,
-    names: &Names,
-) -> Result<(), anyhow::Error> {
-    if are_defined(body, names) {
-        show_size(out, size_of(alloc, body, names)?)
-    } else {
-        Ok(write!(out, " Undefined")?)
+fn answer_body_size(row: &mut Row, body: &Body, names: &Names) {
+    if !are_defined(body, names) {
+        return write!(row, " Undefined");
+    }
+    match size_of(row.alloc(), body, names) {
+        Ok(size) => show_size(row, size),
+        Err(_) => row.refuse("no memory"),
     }
 }
 
-pub(crate) fn report_size<W: Write>(
-    alloc: Global,
-    out: &mut W,
-    line: &[u8],
-    names: &Names,
-) -> Result<(), anyhow::Error> {
-    match statement(alloc, &tokens(alloc, line)?) {
-        Ok(Line::Equ { name: _, value: _ }) => Ok(()),
+pub(crate) fn answer_size(row: &mut Row, names: &Names) {
+    let line = row.bytes();
+    let found = tokens_of(row, &line);
+    match statement(row.alloc(), &found) {
+        Ok(Line::Equ { name: _, value: _ }) => (),
         Ok(Line::Statement { label: _, body }) => match body {
-            Some(body) => report_body_size(alloc, out, &body, names),
-            None => Ok(()),
+            Some(body) => answer_body_size(row, &body, names),
+            None => (),
         },
-        Err(fault) => show_fault(out, fault),
+        Err(fault) => write!(row, " {fault:?}"),
     }
 }
 
 /// Defines a name by EQU, or prints why it has no value.
-fn report_equ<W: Write>(
-    alloc: Global,
-    out: &mut W,
-    name: Vec<u8>,
-    value: &Tree,
-    names: &mut Names,
-) -> Result<(), anyhow::Error> {
+fn answer_equ(row: &mut Row, name: &[u8], value: &Tree, names: &mut Names) {
     if !is_defined(value, names) {
-        return Ok(write!(out, " Undefined")?);
+        return write!(row, " Undefined");
     }
-    let meaning = equate(alloc, value, names)?;
-    define(names, name, meaning)?;
-    Ok(write!(out, " equal")?)
+    match equate(row.alloc(), value, names) {
+        Ok(meaning) => {
+            define(row, names, name, meaning);
+            write!(row, " equal")
+        }
+        Err(_) => row.refuse("no value"),
+    }
 }
 
-pub(crate) fn report_piece<W: Write>(
-    alloc: Global,
-    out: &mut W,
-    line: &[u8],
-    names: &mut Names,
-) -> Result<(), anyhow::Error> {
-    match statement(alloc, &tokens(alloc, line)?) {
-        Ok(Line::Equ { name, value }) => report_equ(alloc, out, name, &value, names),
+pub(crate) fn answer_piece(row: &mut Row, names: &mut Names) {
+    let line = row.bytes();
+    let found = tokens_of(row, &line);
+    match statement(row.alloc(), &found) {
+        Ok(Line::Equ { name, value }) => answer_equ(row, &name, &value, names),
         Ok(Line::Statement { label: _, body }) => match body {
-            Some(body) => report_statement(alloc, out, &body, names),
-            None => Ok(write!(out, " empty")?),
+            Some(body) => answer_made(row, &body, names),
+            None => write!(row, " empty"),
         },
-        Err(fault) => show_fault(out, fault),
+        Err(fault) => write!(row, " {fault:?}"),
     }
 }
