@@ -91,7 +91,7 @@ fn show_object(row: &mut Row, name: &[u8], text: &[u8], grow: bool, object: &Obj
 /// Prints the object file of a source, or its first error.
 pub(crate) fn answer_assembled(row: &mut Row, text: &[u8]) {
     let name = row.until(' ');
-    let name = row.expanded(name);
+    let name = row.bytes_of(name);
     let grow = row.until(' ') == "grow";
     match assemble_with(row.alloc(), &name, text, grow) {
         Ok((module, lines)) => match write(row.alloc(), &module) {
