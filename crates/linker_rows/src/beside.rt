@@ -1,81 +1,72 @@
 //! Prints what comes with a file: the address and the line of each statement, the last lines of its sources, its labels, and the jumps that
 //! grew.
 
-use crate::sources::{build_sources, built_of, column_of, lines_of, sources_of, texts_of};
-use row_text::show_text;
-use std::alloc::Global;
-use std::io::Write;
-use zlink::{Source, build};
+use crate::call::OnBuilt;
+use crate::sources::{build_sources, grow_of, lines_in, sources_of, texts_of};
+use row_text::Row;
+use zlink::{Origin, Source, Symbol, build};
 
 /// Prints the address, the source and the line of each statement.
-pub(crate) fn report_statements<W: Write>(
-    alloc: Global,
-    out: &mut W,
-    row: &str,
-) -> Result<(), anyhow::Error> {
-    for origin in &built_of(alloc, row)?.statements {
+fn show_statements(row: &mut Row, statements: &[Origin]) {
+    for origin in statements {
         let place = origin.place;
-        write!(out, " {place:04X} {}.{}", origin.source, origin.line)?;
+        write!(row, " {place:04X} {}.{}", origin.source, origin.line);
     }
-    Ok(())
 }
 
 /// Prints the address, the module and the name of each label.
-pub(crate) fn report_symbols<W: Write>(
-    alloc: Global,
-    out: &mut W,
-    row: &str,
-) -> Result<(), anyhow::Error> {
-    for symbol in &built_of(alloc, row)?.symbols {
-        write!(out, " {:04X} ", symbol.place)?;
-        show_text(out, &symbol.module)?;
-        write!(out, " ")?;
-        show_text(out, &symbol.name)?;
+fn show_symbols(row: &mut Row, symbols: &[Symbol]) {
+    for symbol in symbols {
+        write!(row, " {:04X} ", symbol.place);
+        row.write_text(&symbol.module);
+        write!(row, " ");
+        row.write_text(&symbol.name);
     }
-    Ok(())
 }
 
-/// Prints for each source the last line that a listing shows.
-pub(crate) fn report_last<W: Write>(
-    alloc: Global,
-    out: &mut W,
-    row: &str,
-) -> Result<(), anyhow::Error> {
-    for line in &built_of(alloc, row)?.last {
-        write!(out, " {line}")?;
+/// Prints numbers: for each source the last line that a listing shows, or the jumps that grew.
+fn show_numbers(row: &mut Row, numbers: &[u32]) {
+    for number in numbers {
+        write!(row, " {number}");
     }
-    Ok(())
 }
 
-/// Prints the numbers of the jumps that grew.
-pub(crate) fn report_grown<W: Write>(
-    alloc: Global,
-    out: &mut W,
-    row: &str,
-) -> Result<(), anyhow::Error> {
-    let (grow, rest) = column_of(row);
-    let texts = texts_of(alloc, rest)?;
-    let sources = sources_of(alloc, &texts)?;
-    for jump in &build_sources(alloc, &sources, grow)?.grown {
-        write!(out, " {jump}")?;
+/// Makes calls that print what comes with the file of a row's sources. Only for `Grown` the row says if a written `JR` may grow.
+pub(crate) fn answer_built(row: &mut Row, call: OnBuilt) {
+    let grow = match call {
+        OnBuilt::Grown => grow_of(row),
+        _ => false,
+    };
+    let texts = texts_of(row);
+    let sources = sources_of(row, &texts);
+    let Ok(built) = build_sources(row.alloc(), &sources, grow) else {
+        return row.refuse("no file");
+    };
+    match call {
+        OnBuilt::Statements => show_statements(row, &built.statements),
+        OnBuilt::Symbols => show_symbols(row, &built.symbols),
+        OnBuilt::Last => show_numbers(row, &built.last),
+        OnBuilt::Grown => show_numbers(row, &built.grown),
     }
-    Ok(())
+}
+
+/// Prints the module of each label.
+fn show_modules(row: &mut Row, symbols: &[Symbol]) {
+    for symbol in symbols {
+        write!(row, " ");
+        row.write_text(&symbol.module);
+    }
 }
 
 /// Prints the module of each label, for a source that has this name and one label.
-pub(crate) fn report_module_name<W: Write>(
-    alloc: Global,
-    out: &mut W,
-    row: &str,
-) -> Result<(), anyhow::Error> {
-    let name = lines_of(alloc, row)?;
+pub(crate) fn answer_module_name(row: &mut Row) {
+    let name = lines_in(row);
     let source = Source {
         name: &name,
         text: b"X:",
     };
-    for symbol in &build(alloc, &[source])?.symbols {
-        write!(out, " ")?;
-        show_text(out, &symbol.module)?;
+    match build(row.alloc(), &[source]) {
+        Ok(built) => show_modules(row, &built.symbols),
+        Err(_) => row.refuse("no file"),
     }
-    Ok(())
 }

@@ -1,10 +1,8 @@
 //! Builds programs whose sources are files in the folder `data`.
 
-use crate::shown::show_checked;
-use anyhow::Context;
-use std::alloc::Global;
+use crate::shown::{show_checked, show_digits};
+use row_text::Row;
 use std::fs;
-use std::io::Write;
 use zlink::{Built, Source, build};
 use zlisting::{listing, symbols};
 
@@ -18,102 +16,122 @@ pub(crate) struct Program {
     built: Built,
 }
 
-/// Answers the contents of the source files of a row, each given as `PATH` or `NAME=PATH`.
-fn texts_of(rt: &HostRuntime, row: &str) -> Result<Vec<Vec<u8>>, anyhow::Error> {
-    let mut texts = Vec::new(rt.alloc());
-    for word in row.split(' ') {
-        let (_, path) = word.split_once('=').unwrap_or(("", word));
-        texts.push(fs::read(rt, path)?)?;
+/// Answers the contents of a source file, which is given as `PATH` or `NAME=PATH`.
+fn text_of(rt: &HostRuntime, row: &mut Row, word: &str) -> Vec<u8> {
+    let (_, path) = word.split_once('=').unwrap_or(("", word));
+    match fs::read(rt, path) {
+        Ok(text) => text,
+        Err(_) => {
+            row.refuse("no such file");
+            Vec::new(row.alloc())
+        }
     }
-    Ok(texts)
 }
 
-/// Answers the sources of a row, given their contents. A path without a name is the name too.
-fn sources_of<'a>(
-    alloc: Global,
-    row: &'a str,
-    texts: &'a [Vec<u8>],
-) -> Result<Vec<Source<'a>>, anyhow::Error> {
-    let mut sources = Vec::new(alloc);
-    for (word, text) in row.split(' ').zip(texts) {
+/// Answers the contents of source files.
+fn texts_of(rt: &HostRuntime, row: &mut Row, words: &str) -> Vec<Vec<u8>> {
+    let mut texts = Vec::new(row.alloc());
+    for word in words.split(' ') {
+        let text = text_of(rt, row, word);
+        if texts.push(text).is_err() {
+            row.refuse("no memory");
+        }
+    }
+    texts
+}
+
+/// Answers sources, given their contents. A path without a name is the name too.
+fn sources_of<'t>(row: &mut Row, words: &'t str, texts: &'t [Vec<u8>]) -> Vec<Source<'t>> {
+    let mut sources = Vec::new(row.alloc());
+    for (word, text) in words.split(' ').zip(texts) {
         let (name, _) = word.split_once('=').unwrap_or((word, ""));
-        sources.push(Source {
-            name: name.as_bytes(),
-            text,
-        })?;
+        let name = name.as_bytes();
+        if sources.push(Source { name, text }).is_err() {
+            row.refuse("no memory");
+        }
     }
-    Ok(sources)
-}
-
-/// Builds the program of these files.
-pub(crate) fn program_of(rt: &HostRuntime, paths: &str) -> Result<Program, anyhow::Error> {
-    let alloc = rt.alloc();
-    let texts = texts_of(rt, paths)?;
-    let sources = sources_of(alloc, paths, &texts)?;
-    Ok(Program {
-        paths: paths.to_string(alloc)?,
-        built: build(alloc, &sources)?,
-    })
+    sources
 }
 
 /// Prints how large a program is, and the checker's answer for it.
-pub(crate) fn report_program<W: Write>(
-    alloc: Global,
-    out: &mut W,
-    program: &Program,
-) -> Result<(), anyhow::Error> {
-    let built = &program.built;
+fn show_program(row: &mut Row, built: &Built) {
     let (bytes, statements) = (built.com.len(), built.statements.len());
-    write!(out, " {bytes} bytes, {statements} statements; check")?;
-    show_checked(alloc, out, &built.sizes, &built.cert)
+    write!(row, " {bytes} bytes, {statements} statements; check");
+    show_checked(row, &built.sizes, &built.cert)
+}
+
+/// Builds the program of these files.
+pub(crate) fn answer_program(rt: &HostRuntime, row: &mut Row) -> Option<Program> {
+    let words = row.rest();
+    let texts = texts_of(rt, row, words);
+    let sources = sources_of(row, words, &texts);
+    let Ok(built) = build(row.alloc(), &sources) else {
+        row.refuse("no file");
+        return None;
+    };
+    show_program(row, &built);
+    match words.to_string(row.alloc()) {
+        Ok(paths) => Some(Program { paths, built }),
+        Err(_) => {
+            row.refuse("no memory");
+            None
+        }
+    }
 }
 
 /// Prints the source and line that the statement at an address comes from.
-fn show_origin<W: Write>(
-    out: &mut W,
-    program: &Program,
-    address: u32,
-) -> Result<(), anyhow::Error> {
+fn show_origin(row: &mut Row, program: &Program, address: u32) {
     for origin in &program.built.statements {
         if origin.place == address {
-            let path = program.paths.split(' ').nth(origin.source);
-            let path = path.context("no such source")?;
-            write!(out, " {path}({})", origin.line)?;
+            match program.paths.split(' ').nth(origin.source) {
+                Some(path) => write!(row, " {path}({})", origin.line),
+                None => row.refuse("no such source"),
+            }
         }
     }
-    Ok(())
 }
 
-/// Prints the bytes that a row asks for.
-pub(crate) fn report_bytes<W: Write>(
-    alloc: Global,
-    out: &mut W,
-    program: &Program,
-    row: &str,
-) -> Result<(), anyhow::Error> {
-    let (address, rest) = row.split_once(' ').context("no count")?;
-    let (count, _) = rest.split_once(' ').context("no note")?;
-    let address = u32::from_str_radix(address, 16)?;
-    let count = usize::from_str_radix(count, 10)?;
-    show_origin(out, program, address)?;
-    let from = (address as usize).saturating_sub(BASE);
-    let behind = program.built.com.get(from..).context("after the file")?;
-    let bytes = behind.get(..count).context("after the file")?;
-    Ok(write!(out, " {}", hex::encode_upper(alloc, bytes)?)?)
+/// Prints the bytes that a row asks for: the address and how many; a note follows.
+pub(crate) fn answer_bytes(row: &mut Row, program: Option<&Program>) {
+    let Some(program) = program else {
+        return row.refuse("no program");
+    };
+    let address = row.hexadecimal();
+    let count = row.decimal();
+    if row.rest().is_empty() {
+        row.refuse("no note");
+    }
+    show_origin(row, program, u32::from(address));
+    let from = usize::from(address).saturating_sub(BASE);
+    let end = from.saturating_add(count as usize);
+    match program.built.com.get(from..end) {
+        Some(bytes) => show_digits(row, bytes),
+        None => row.refuse("after the file"),
+    }
 }
 
 /// Prints the listing of a program, and its symbols.
-pub(crate) fn report_listing<W: Write>(
-    rt: &HostRuntime,
-    out: &mut W,
-    row: &str,
-) -> Result<(), anyhow::Error> {
-    let alloc = rt.alloc();
-    let texts = texts_of(rt, row)?;
-    let sources = sources_of(alloc, row, &texts)?;
-    let built: Built = build(alloc, &sources)?;
-    writeln!(out)?;
-    out.write_all(&listing(alloc, &built, &sources)?)?;
-    writeln!(out, "symbols")?;
-    Ok(out.write_all(&symbols(alloc, &built)?)?)
+fn show_listing(row: &mut Row, built: &Built, sources: &[Source<'_>]) {
+    let lines = listing(row.alloc(), built, sources);
+    let labels = symbols(row.alloc(), built);
+    match (&lines, &labels) {
+        (Ok(lines), Ok(labels)) => {
+            writeln!(row);
+            row.write_bytes(lines);
+            writeln!(row, "symbols");
+            row.write_bytes(labels)
+        }
+        _ => row.refuse("no memory"),
+    }
+}
+
+/// Prints the listing of the program of these files, and its symbols.
+pub(crate) fn answer_listing(rt: &HostRuntime, row: &mut Row) {
+    let words = row.rest();
+    let texts = texts_of(rt, row, words);
+    let sources = sources_of(row, words, &texts);
+    match build(row.alloc(), &sources) {
+        Ok(built) => show_listing(row, &built, &sources),
+        Err(_) => row.refuse("no file"),
+    }
 }

@@ -1,49 +1,46 @@
 //! Assembles sources to modules, and links these.
 
-ghost use Rattle.std.specs.Prelude.{All, IfOk, map};
+ghost use Rattle.std.specs.Prelude.{All, IfSome, map};
 ghost use Rattle.zmo_module.specs.Modules.{module_of};
 ghost use Rattle.zmo_module.specs.Rules.{IsModule};
 
-use crate::sources::{column_of, lines_of, sources_of};
+use crate::shown::show_digits;
+use crate::sources::{grow_of, lines_in};
 use asm_module::assemble_with;
+use row_text::Row;
 use std::alloc::Global;
-use std::io::Write;
 use zlink::{Built, LinkFault, Linked, Module, Source, link};
 use zmo_object::{read, write};
 
 /// Answers the module of a source; if `is_read` is true, it is written as an object file and read again.
-fn module_of_source(
-    alloc: Global,
-    source: Source<'_>,
-    grow: bool,
-    is_read: bool,
-) -> Result<Module, anyhow::Error>
-    ensures { IfOk result (λ m. IsModule (module_of m)) }
+fn module_of_source(alloc: Global, source: Source<'_>, grow: bool, is_read: bool) -> Option<Module>
+    ensures { IfSome result (λ m. IsModule (module_of m)) }
 {
-    let (module, _) = assemble_with(alloc, source.name, source.text, grow)?;
+    let (module, _) = assemble_with(alloc, source.name, source.text, grow).ok()?;
     if is_read {
-        Ok(read(alloc, &write(alloc, &module)?)?)
+        read(alloc, &write(alloc, &module).ok()?).ok()
     } else {
-        Ok(module)
+        Some(module)
     }
 }
 
 /// Answers the modules of sources; if `is_read` is true, each is written as an object file and read again.
 fn modules_of(
     alloc: Global,
-    texts: &[Vec<u8>],
+    sources: &[Source<'_>],
     grow: bool,
     is_read: bool,
-) -> Result<Vec<Module>, anyhow::Error>
-    ensures { IfOk result (λ modules. All IsModule (map module_of modules.items)) }
+) -> Option<Vec<Module>>
+    ensures { IfSome result (λ modules. All IsModule (map module_of modules.items)) }
 {
-    let sources = sources_of(alloc, texts)?;
     let mut modules = Vec::new(alloc);
-    for source in &sources {
+    for source in sources {
         let module = module_of_source(alloc, *source, grow, is_read)?;
-        modules.push(module)?;
+        let Ok(()) = modules.push(module) else {
+            return None;
+        };
     }
-    Ok(modules)
+    Some(modules)
 }
 
 /// Answers how a linked program differs from a built one; empty if they are the same.
@@ -67,50 +64,49 @@ fn difference(linked: &Linked, built: &Built) -> &'static str {
 }
 
 /// Prints how the program linked from the modules of sources differs from the built one.
-pub(crate) fn report_difference<W: Write>(
-    alloc: Global,
-    out: &mut W,
-    texts: &[Vec<u8>],
-    column: (bool, bool),
+pub(crate) fn show_difference(
+    row: &mut Row,
+    sources: &[Source<'_>],
+    grow: bool,
+    is_read: bool,
     built: &Built,
-) -> Result<(), anyhow::Error> {
-    let (grow, is_read) = column;
-    let modules = modules_of(alloc, texts, grow, is_read)?;
-    match link(alloc, &modules) {
-        Ok(linked) => Ok(write!(out, "{}", difference(&linked, built))?),
-        Err(_) => Ok(write!(out, "; linked: no file")?),
+) {
+    let Some(modules) = modules_of(row.alloc(), sources, grow, is_read) else {
+        return row.refuse("no modules");
+    };
+    match link(row.alloc(), &modules) {
+        Ok(linked) => write!(row, "{}", difference(&linked, built)),
+        Err(_) => write!(row, "; linked: no file"),
     }
 }
 
 /// Prints whether the modules of sources, written and read again, are linked, or refused for another reason.
-pub(crate) fn report_refused<W: Write>(
-    alloc: Global,
-    out: &mut W,
-    texts: &[Vec<u8>],
-    grow: bool,
-    want: &LinkFault,
-) -> Result<(), anyhow::Error> {
-    let modules = modules_of(alloc, texts, grow, true)?;
-    match link(alloc, &modules) {
-        Ok(_linked) => Ok(write!(out, "; linked: a file")?),
+pub(crate) fn show_linked(row: &mut Row, sources: &[Source<'_>], grow: bool, want: &LinkFault) {
+    let Some(modules) = modules_of(row.alloc(), sources, grow, true) else {
+        return row.refuse("no modules");
+    };
+    match link(row.alloc(), &modules) {
+        Ok(_linked) => write!(row, "; linked: a file"),
         Err(fault) => {
             if fault != *want {
-                write!(out, "; linked: another fault")?;
+                write!(row, "; linked: another fault");
             }
-            Ok(())
         }
     }
 }
 
+/// The object file of a source that is named A. None if it has an error.
+fn object_of(alloc: Global, text: &[u8], grow: bool) -> Option<Vec<u8>> {
+    let (module, _) = assemble_with(alloc, b"A", text, grow).ok()?;
+    write(alloc, &module).ok()
+}
+
 /// Prints the object file of a source that is named A.
-pub(crate) fn report_object<W: Write>(
-    alloc: Global,
-    out: &mut W,
-    row: &str,
-) -> Result<(), anyhow::Error> {
-    let (grow, text) = column_of(row);
-    let text = lines_of(alloc, text)?;
-    let (module, _) = assemble_with(alloc, b"A", &text, grow)?;
-    let object = write(alloc, &module)?;
-    Ok(write!(out, " {}", hex::encode_upper(alloc, &object)?)?)
+pub(crate) fn answer_object(row: &mut Row) {
+    let grow = grow_of(row);
+    let text = lines_in(row);
+    match object_of(row.alloc(), &text, grow) {
+        Some(object) => show_digits(row, &object),
+        None => row.refuse("no object"),
+    }
 }

@@ -1,9 +1,8 @@
 //! Prints listings and symbols of programs that no build answers: the row says what they have.
 
 use crate::shown::show_lines;
-use anyhow::Context;
+use row_text::Row;
 use std::alloc::Global;
-use std::io::Write;
 use zlink::{Built, Origin, Source, Symbol};
 use zlisting::{listing, symbols};
 
@@ -21,41 +20,42 @@ fn made(alloc: Global, com: Vec<u8>) -> Built {
 }
 
 /// Parses a statement: its address in hexadecimal, its source and its line, with dots between them.
-fn origin_of(text: &str) -> Result<Origin, anyhow::Error> {
-    let (place, rest) = text.split_once('.').context("no source")?;
-    let (source, line) = rest.split_once('.').context("no line")?;
-    Ok(Origin {
-        place: u32::from_str_radix(place, 16)?,
-        source: usize::from_str_radix(source, 10)?,
-        line: u32::from_str_radix(line, 10)?,
+fn origin_of(text: &str) -> Option<Origin> {
+    let (place, rest) = text.split_once('.')?;
+    let (source, line) = rest.split_once('.')?;
+    Some(Origin {
+        place: u32::from_str_radix(place, 16).ok()?,
+        source: usize::from_str_radix(source, 10).ok()?,
+        line: u32::from_str_radix(line, 10).ok()?,
     })
 }
 
-fn put_statements(built: &mut Built, column: &str) -> Result<(), anyhow::Error> {
+fn statements_of(alloc: Global, column: &str) -> Option<Vec<Origin>> {
+    let mut statements = Vec::new(alloc);
     for text in column.split('/') {
-        built.statements.push(origin_of(text)?)?;
+        statements.push(origin_of(text)?).ok()?;
     }
-    Ok(())
+    Some(statements)
 }
 
-fn put_last(built: &mut Built, column: &str) -> Result<(), anyhow::Error> {
+fn numbers_of(alloc: Global, column: &str) -> Option<Vec<u32>> {
+    let mut numbers = Vec::new(alloc);
     for text in column.split('/') {
-        built.last.push(u32::from_str_radix(text, 10)?)?;
+        numbers.push(u32::from_str_radix(text, 10).ok()?).ok()?;
     }
-    Ok(())
+    Some(numbers)
 }
 
-/// Prints the listing of two sources, for a file with these statements and last lines.
-pub(crate) fn report_listing<W: Write>(
-    alloc: Global,
-    out: &mut W,
-    row: &str,
-) -> Result<(), anyhow::Error> {
-    let (com, rest) = row.split_once(' ').context("no statements")?;
-    let (statements, last) = rest.split_once(' ').context("no last lines")?;
-    let mut built = made(alloc, hex::decode(alloc, com)?);
-    put_statements(&mut built, statements)?;
-    put_last(&mut built, last)?;
+/// Answers a program with these bytes, statements and last lines.
+fn program_of(alloc: Global, com: &str, statements: &str, last: &str) -> Option<Built> {
+    let mut built = made(alloc, hex::decode(alloc, com).ok()?);
+    built.statements = statements_of(alloc, statements)?;
+    built.last = numbers_of(alloc, last)?;
+    Some(built)
+}
+
+/// Prints the listing of two sources.
+fn show_listing(row: &mut Row, built: &Built) {
     let sources = [
         Source {
             name: b"A",
@@ -66,31 +66,55 @@ pub(crate) fn report_listing<W: Write>(
             text: b"four",
         },
     ];
-    write!(out, " ")?;
-    show_lines(out, &listing(alloc, &built, &sources)?)
+    match listing(row.alloc(), built, &sources) {
+        Ok(text) => show_lines(row, &text),
+        Err(_) => row.refuse("no memory"),
+    }
+}
+
+/// Prints the listing of two sources, for a file with these statements and last lines.
+pub(crate) fn answer_listing(row: &mut Row) {
+    let com = row.until(' ');
+    let statements = row.until(' ');
+    let last = row.rest();
+    match program_of(row.alloc(), com, statements, last) {
+        Some(built) => show_listing(row, &built),
+        None => row.refuse("no program"),
+    }
 }
 
 /// Parses a label: its module, its name and its address in hexadecimal, with dots between them.
-fn symbol_of(alloc: Global, text: &str) -> Result<Symbol, anyhow::Error> {
-    let (module, rest) = text.split_once('.').context("no name")?;
-    let (name, place) = rest.split_once('.').context("no address")?;
-    Ok(Symbol {
-        name: name.as_bytes().to_vec(alloc)?,
-        module: module.as_bytes().to_vec(alloc)?,
-        place: u32::from_str_radix(place, 16)?,
+fn symbol_of(alloc: Global, text: &str) -> Option<Symbol> {
+    let (module, rest) = text.split_once('.')?;
+    let (name, place) = rest.split_once('.')?;
+    Some(Symbol {
+        place: u32::from_str_radix(place, 16).ok()?,
+        name: name.as_bytes().to_vec(alloc).ok()?,
+        module: module.as_bytes().to_vec(alloc).ok()?,
     })
 }
 
-/// Prints the symbols file of these labels.
-pub(crate) fn report_symbols<W: Write>(
-    alloc: Global,
-    out: &mut W,
-    row: &str,
-) -> Result<(), anyhow::Error> {
+/// Answers a program with these labels and no bytes.
+fn labelled(alloc: Global, columns: &str) -> Option<Built> {
     let mut built = made(alloc, Vec::new(alloc));
-    for text in row.split('/') {
-        built.symbols.push(symbol_of(alloc, text)?)?;
+    for text in columns.split('/') {
+        built.symbols.push(symbol_of(alloc, text)?).ok()?;
     }
-    write!(out, " ")?;
-    show_lines(out, &symbols(alloc, &built)?)
+    Some(built)
+}
+
+fn show_symbols(row: &mut Row, built: &Built) {
+    match symbols(row.alloc(), built) {
+        Ok(text) => show_lines(row, &text),
+        Err(_) => row.refuse("no memory"),
+    }
+}
+
+/// Prints the symbols file of these labels.
+pub(crate) fn answer_symbols(row: &mut Row) {
+    let columns = row.rest();
+    match labelled(row.alloc(), columns) {
+        Some(built) => show_symbols(row, &built),
+        None => row.refuse("no labels"),
+    }
 }

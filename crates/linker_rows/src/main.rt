@@ -5,77 +5,60 @@
 
 mod beside;
 mod building;
+mod call;
 mod files;
 mod linking;
 mod made;
 mod shown;
 mod sources;
 
-use anyhow::anyhow;
+use call::{Call, OnFiles, OnMade, OnSources};
 use files::Program;
-use std::alloc::Global;
+use row_text::Row;
 use std::io::Write;
 
-/// The calls that print what comes with a file.
-fn report_beside<W: Write>(
-    alloc: Global,
-    out: &mut W,
-    call: &str,
-    row: &str,
-) -> Result<(), anyhow::Error> {
-    match call.as_bytes() {
-        b"statements" => beside::report_statements(alloc, out, row),
-        b"symbols" => beside::report_symbols(alloc, out, row),
-        b"last" => beside::report_last(alloc, out, row),
-        b"grown" => beside::report_grown(alloc, out, row),
-        b"module-name" => beside::report_module_name(alloc, out, row),
-        b"made-listing" => made::report_listing(alloc, out, row),
-        b"made-symbols" => made::report_symbols(alloc, out, row),
-        _ => Err(anyhow!("no such call")),
+/// Makes calls that build files.
+fn answer_files(rt: &HostRuntime, row: &mut Row, call: OnFiles, program: &mut Option<Program>) {
+    match call {
+        OnFiles::Program => *program = files::answer_program(rt, row),
+        OnFiles::At => files::answer_bytes(row, program.as_ref()),
+        OnFiles::Listing => files::answer_listing(rt, row),
     }
 }
 
-/// The calls that build sources which are in the row.
-fn report_built<W: Write>(
-    alloc: Global,
-    out: &mut W,
-    call: &str,
-    row: &str,
-) -> Result<(), anyhow::Error> {
-    match call.as_bytes() {
-        b"build" => building::report_build(alloc, out, row),
-        b"texts" => building::report_texts(alloc, out, row),
-        b"judge" => building::report_judged(alloc, out, row),
-        b"same" => building::report_same(alloc, out, row),
-        b"fault" => building::report_fault(alloc, out, row),
-        b"sentence" => building::report_sentence(alloc, out, row),
-        b"no-memory" => building::report_no_memory(out),
-        b"object" => linking::report_object(alloc, out, row),
-        _ => report_beside(alloc, out, call, row),
+/// Makes calls that build sources, or try to.
+fn answer_sources(row: &mut Row, call: OnSources) {
+    match call {
+        OnSources::Build => building::answer_build(row),
+        OnSources::Texts => building::answer_texts(row),
+        OnSources::Judge => building::answer_judged(row),
+        OnSources::Same => building::answer_same(row),
+        OnSources::Fault => building::answer_fault(row),
+        OnSources::Sentence => building::answer_sentence(row),
+        OnSources::NoMemory => building::answer_no_memory(row),
+        OnSources::Object => linking::answer_object(row),
+        OnSources::ModuleName => beside::answer_module_name(row),
     }
 }
 
-/// The calls that build files, and all other calls. Rows after a `program` are about that program.
-fn report<W: Write>(
-    rt: &HostRuntime,
-    out: &mut W,
-    call: &str,
-    row: &str,
-    program: &mut Option<Program>,
-) -> Result<(), anyhow::Error> {
-    match call.as_bytes() {
-        b"program" => {
-            let next = files::program_of(rt, row)?;
-            files::report_program(rt.alloc(), out, &next)?;
-            *program = Some(next);
-            Ok(())
-        }
-        b"at" => match program {
-            Some(program) => files::report_bytes(rt.alloc(), out, program, row),
-            None => Err(anyhow!("no program")),
-        },
-        b"listing" => files::report_listing(rt, out, row),
-        _ => report_built(rt.alloc(), out, call, row),
+/// Makes calls about a program that the row says.
+fn answer_made(row: &mut Row, call: OnMade) {
+    match call {
+        OnMade::Listing => made::answer_listing(row),
+        OnMade::Symbols => made::answer_symbols(row),
+    }
+}
+
+/// Makes any call, which has to use all columns.
+fn answer(rt: &HostRuntime, row: &mut Row, call: Call, program: &mut Option<Program>) {
+    match call {
+        Call::Files(call) => answer_files(rt, row, call, program),
+        Call::Sources(call) => answer_sources(row, call),
+        Call::Built(call) => beside::answer_built(row, call),
+        Call::Made(call) => answer_made(row, call),
+    }
+    if !row.rest().is_empty() {
+        row.refuse("too many columns");
     }
 }
 
@@ -88,8 +71,12 @@ fn main(rt: HostRuntime) -> Result<(), anyhow::Error> {
         write!(out, "{line}")?;
         if !line.as_str().starts_with(';') {
             write!(out, " =>")?;
-            let (call, row) = line.split_once(' ').unwrap_or((line.as_str(), ""));
-            report(&rt, &mut out, call, row, &mut program)?;
+            let mut row = Row::new(alloc, &line);
+            match call::call_named(row.word()) {
+                Some(call) => answer(&rt, &mut row, call, &mut program),
+                None => row.refuse("no such call"),
+            }
+            row.print(&mut out)?;
         }
         writeln!(out)?;
     }

@@ -1,93 +1,77 @@
 //! Prints bytes, lines and errors, as an answer shows them.
 
-use anyhow::anyhow;
-use cert_check::{CheckFault, check};
-use row_text::show_text;
-use std::alloc::Global;
-use std::io::Write;
+use cert_check::check;
+use row_text::Row;
 use zlink::{BuildFault, LinkFault};
 
 /// Prints the same byte `count` times.
-fn show_run<W: Write>(out: &mut W, count: u32, byte: u8) -> Result<(), anyhow::Error> {
+fn show_run(row: &mut Row, count: u32, byte: u8) {
     if count > 4 {
-        return Ok(write!(out, "{{{count}x{byte:02X}}}")?);
+        return write!(row, "{{{count}x{byte:02X}}}");
     }
     for _ in 0..count {
-        write!(out, "{byte:02X}")?;
+        write!(row, "{byte:02X}");
     }
-    Ok(())
 }
 
 /// Prints bytes in hexadecimal. Five or more equal bytes are printed in braces, with their count.
-pub(crate) fn show_bytes<W: Write>(out: &mut W, bytes: &[u8]) -> Result<(), anyhow::Error> {
+pub(crate) fn show_bytes(row: &mut Row, bytes: &[u8]) {
     let mut count = 0u32;
     for (at, byte) in bytes.iter().enumerate() {
         count = count.saturating_add(1);
-        let is_last = match bytes.get(at.saturating_add(1)) {
-            Some(next) => *next != *byte,
-            None => true,
-        };
-        if is_last {
-            show_run(out, count, *byte)?;
+        if bytes.get(at.saturating_add(1)) != Some(byte) {
+            show_run(row, count, *byte);
             count = 0;
         }
     }
-    Ok(())
+}
+
+/// Prints bytes in hexadecimal, however many are equal.
+pub(crate) fn show_digits(row: &mut Row, bytes: &[u8]) {
+    write!(row, " ");
+    for byte in bytes {
+        write!(row, "{byte:02X}");
+    }
 }
 
 /// Prints lines, with `|` for the end of each.
-pub(crate) fn show_lines<W: Write>(out: &mut W, text: &[u8]) -> Result<(), anyhow::Error> {
+pub(crate) fn show_lines(row: &mut Row, text: &[u8]) {
+    write!(row, " ");
     for byte in text {
         if *byte == b'\n' {
-            write!(out, "|")?;
+            write!(row, "|");
         } else {
-            show_text(out, &[*byte])?;
+            row.write_text(&[*byte]);
         }
     }
-    Ok(())
 }
 
 /// Prints the checker's answer for a sizes file and a certificate.
-pub(crate) fn show_checked<W: Write>(
-    alloc: Global,
-    out: &mut W,
-    sizes: &[u8],
-    cert: &[u8],
-) -> Result<(), anyhow::Error> {
-    match check(alloc, sizes, cert) {
-        Ok(verdict) => Ok(write!(out, " {verdict:?}")?),
-        Err(CheckFault::NoMemory) => Err(CheckFault::NoMemory.into()),
-        Err(fault) => Ok(write!(out, " {fault:?}")?),
+pub(crate) fn show_checked(row: &mut Row, sizes: &[u8], cert: &[u8]) {
+    match check(row.alloc(), sizes, cert) {
+        Ok(verdict) => write!(row, " {verdict:?}"),
+        Err(fault) => write!(row, " {fault:?}"),
     }
 }
 
-/// Prints why modules make no file. If memory ran out, the program ends.
-fn show_link_fault<W: Write>(
-    alloc: Global,
-    out: &mut W,
-    fault: &LinkFault,
-) -> Result<(), anyhow::Error> {
+/// Prints why modules make no file.
+fn show_link_fault(row: &mut Row, fault: &LinkFault) {
     match fault {
-        LinkFault::NoMemory => Err(anyhow!("out of memory")),
         LinkFault::NoFit { why, sizes, cert } => {
-            write!(out, " {why:?}; check")?;
-            show_checked(alloc, out, sizes, cert)
+            write!(row, " {why:?}; check");
+            show_checked(row, sizes, cert)
         }
-        _ => Ok(write!(out, " {fault:?}")?),
+        _ => write!(row, " {fault:?}"),
     }
 }
 
 /// Prints why no file is built.
-pub(crate) fn show_fault<W: Write>(
-    alloc: Global,
-    out: &mut W,
-    fault: &BuildFault,
-) -> Result<(), anyhow::Error> {
+pub(crate) fn show_fault(row: &mut Row, fault: &BuildFault) {
     match fault {
         BuildFault::Asm { source, fault } => {
             let (line, why) = (fault.line, fault.why);
-            Ok(write!(out, " source {source}, line {line}: {why:?}")?)
+            write!(row, " source {source}, line {line}: {why:?}")
         }
-        BuildFault::Link(fault) => show_link_fault(alloc, out, fault),
+        BuildFault::Link(fault) => show_link_fault(row, fault),
     }
 }

@@ -1,48 +1,60 @@
 //! Reads the sources that a row has.
 
-use row_text::written_out;
+use row_text::Row;
 use std::alloc::Global;
 use zlink::{BuildFault, Built, Source, build, build_with};
 
 /// The names of the sources of a row, which has eight at most.
 const NAMES: &[u8] = b"ABCDEFGH";
 
-/// Answers lines; each except the last ends in `|` in the row.
-pub(crate) fn lines_of(alloc: Global, row: &str) -> Result<Vec<u8>, anyhow::Error> {
-    let mut text = written_out(alloc, row)?;
+/// Replaces each `|` by a line end.
+fn put_line_ends(text: &mut [u8]) {
     for byte in text.iter_mut() {
         if *byte == b'|' {
             *byte = b'\n';
         }
     }
-    Ok(text)
 }
 
-/// Answers sources with `~` between them in the row.
-pub(crate) fn texts_of(alloc: Global, row: &str) -> Result<Vec<Vec<u8>>, anyhow::Error> {
-    let mut texts = Vec::new(alloc);
-    for text in row.split('~') {
-        texts.push(lines_of(alloc, text)?)?;
+/// Answers lines; each except the last ends in `|` in the text.
+pub(crate) fn lines_of(row: &mut Row, text: &str) -> Vec<u8> {
+    let mut lines = row.expanded(text);
+    put_line_ends(&mut lines);
+    lines
+}
+
+/// Takes the columns that are left as lines.
+pub(crate) fn lines_in(row: &mut Row) -> Vec<u8> {
+    let text = row.rest();
+    lines_of(row, text)
+}
+
+/// Takes whether a written `JR` may grow.
+pub(crate) fn grow_of(row: &mut Row) -> bool {
+    row.word() == "grow"
+}
+
+/// Takes the columns that are left as sources, with `~` between them.
+pub(crate) fn texts_of(row: &mut Row) -> Vec<Vec<u8>> {
+    let mut texts = Vec::new(row.alloc());
+    for text in row.rest().split('~') {
+        let lines = lines_of(row, text);
+        if texts.push(lines).is_err() {
+            row.refuse("no memory");
+        }
     }
-    Ok(texts)
-}
-
-/// Answers whether a written `JR` may grow, as the first word says, and the sources after that word.
-pub(crate) fn column_of(row: &str) -> (bool, &str) {
-    let (word, rest) = row.split_once(' ').unwrap_or((row, ""));
-    (word == "grow", rest)
+    texts
 }
 
 /// Answers sources with these texts, named A, B and so on.
-pub(crate) fn sources_of(
-    alloc: Global,
-    texts: &[Vec<u8>],
-) -> Result<Vec<Source<'_>>, anyhow::Error> {
-    let mut sources = Vec::new(alloc);
+pub(crate) fn sources_of<'t>(row: &mut Row, texts: &'t [Vec<u8>]) -> Vec<Source<'t>> {
+    let mut sources = Vec::new(row.alloc());
     for (text, name) in texts.iter().zip(NAMES.chunks(1)) {
-        sources.push(Source { name, text })?;
+        if sources.push(Source { name, text }).is_err() {
+            row.refuse("no memory");
+        }
     }
-    Ok(sources)
+    sources
 }
 
 /// Builds sources.
@@ -56,11 +68,4 @@ pub(crate) fn build_sources(
     } else {
         build(alloc, sources)
     }
-}
-
-/// Builds the sources of a row, with each written `JR` short. An error ends the program.
-pub(crate) fn built_of(alloc: Global, row: &str) -> Result<Built, anyhow::Error> {
-    let texts = texts_of(alloc, row)?;
-    let sources = sources_of(alloc, &texts)?;
-    Ok(build_sources(alloc, &sources, false)?)
 }
