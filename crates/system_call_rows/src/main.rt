@@ -3,116 +3,98 @@
 //! The head of `stdin` lists the calls and the columns of each; a line that begins with `;` is a remark.
 #![tactic(auto)]
 
+mod call;
 mod calls;
 mod consoles;
 mod machine;
 mod memory;
 mod runs;
-mod shown;
 mod writers;
 
-use anyhow::{Context, anyhow};
+use call::{Call, NewMachine, OnConsole, OnMachine};
 use machine::Machine;
-use row_text::written_out;
-use shown::decimal;
-use std::alloc::Global;
+use row_text::Row;
 use std::io::Write;
 
-/// Makes calls that make a machine, or take one apart.
-fn next_machine<W: Write>(
-    alloc: Global,
-    out: &mut W,
-    call: &str,
-    row: &str,
-    machine: Machine,
-) -> Result<Machine, anyhow::Error> {
-    match call.as_bytes() {
-        b"device" => machine::with_device(alloc, machine, decimal(row)?),
-        b"entry" => machine::with_entry(alloc, &written_out(alloc, row)?),
-        b"run" => runs::report_run(alloc, out, row),
-        b"start" => runs::report_start(alloc, out, row, machine),
-        b"output" => {
-            machine::report_output(out, machine)?;
-            machine::new_machine(alloc, "eight good", &[])
+/// Makes calls of a console that is not in a machine.
+fn answer_console(row: &mut Row, call: OnConsole) {
+    match call {
+        OnConsole::Terminal => consoles::answer_put(row),
+        OnConsole::Line => consoles::answer_line(row),
+        OnConsole::Text => consoles::answer_dollar(row),
+        OnConsole::Stream => consoles::answer_stream(row),
+        OnConsole::Writer => consoles::answer_writer(row),
+    }
+}
+
+/// Makes a machine, from the one before if the call uses that. None: there is no memory, or no such disk.
+fn next_machine(row: &mut Row, call: NewMachine, machine: Machine) -> Option<Machine> {
+    match call {
+        NewMachine::Machine => machine::new_machine(row),
+        NewMachine::Device => machine::with_device(row, machine),
+        NewMachine::Entry => machine::with_entry(row),
+        NewMachine::Run => runs::answer_run(row),
+        NewMachine::Output => {
+            machine::answer_output(row, machine);
+            machine::blank_machine(row.alloc())
         }
-        _ => {
-            let (columns, typed) = row.split_once('|').unwrap_or((row, ""));
-            machine::new_machine(alloc, columns, &written_out(alloc, typed)?)
-        }
+    }
+}
+
+/// Makes calls after which there is another machine.
+fn answer_new(row: &mut Row, call: NewMachine, machine: &mut Option<Machine>) {
+    match machine.take() {
+        Some(before) => *machine = next_machine(row, call, before),
+        None => row.refuse("no machine"),
+    }
+    if machine.is_none() {
+        row.refuse("no machine can be made");
     }
 }
 
 /// Makes calls that use a machine.
-fn report_on_machine<W: Write>(
-    alloc: Global,
-    out: &mut W,
-    call: &str,
-    row: &str,
-    machine: &mut Machine,
-) -> Result<(), anyhow::Error> {
-    match call.as_bytes() {
-        b"call" => calls::report_call(out, row, machine),
-        b"calls" => calls::report_calls(alloc, out, row, machine),
-        b"bios" => calls::report_bios(out, row, machine),
-        b"put" => memory::put_row(alloc, row, machine),
-        b"fcb" => memory::put_fcb(alloc, row, machine),
-        b"bytes" => memory::report_bytes(alloc, out, row, &machine.memory),
-        b"place" => memory::report_place(out, row, &machine.memory),
-        _ => Err(anyhow!("no such call")),
+fn answer_machine(row: &mut Row, call: OnMachine, machine: &mut Machine) {
+    match call {
+        OnMachine::Call => calls::answer_call(row, machine),
+        OnMachine::Calls => calls::answer_calls(row, machine),
+        OnMachine::Bios => calls::answer_bios(row, machine),
+        OnMachine::Put => memory::put_row(row, machine),
+        OnMachine::Fcb => memory::put_fcb(row, machine),
+        OnMachine::Bytes => memory::answer_bytes(row, &machine.memory),
+        OnMachine::Place => memory::answer_place(row, &machine.memory),
+        OnMachine::Start => runs::answer_start(row, machine),
     }
 }
 
 /// Makes any call.
-fn report<W: Write>(
-    alloc: Global,
-    out: &mut W,
-    call: &str,
-    row: &str,
-    machine: &mut Option<Machine>,
-) -> Result<(), anyhow::Error> {
-    match call.as_bytes() {
-        b"terminal" => consoles::report_put(alloc, out, row),
-        b"line" => consoles::report_line(alloc, out, row),
-        b"text" => consoles::report_dollar(alloc, out, row),
-        b"stream" => consoles::report_stream(alloc, out, row),
-        b"writer" => consoles::report_writer(alloc, out, row),
-        b"machine" | b"device" | b"entry" | b"run" | b"start" | b"output" => {
-            let before = machine.take().context("no machine")?;
-            *machine = Some(next_machine(alloc, out, call, row, before)?);
-            Ok(())
-        }
-        _ => report_on_machine(
-            alloc,
-            out,
-            call,
-            row,
-            machine.as_mut().context("no machine")?,
-        ),
+fn answer(row: &mut Row, call: Call, machine: &mut Option<Machine>) {
+    match call {
+        Call::Console(call) => answer_console(row, call),
+        Call::New(call) => answer_new(row, call, machine),
+        Call::Machine(call) => match machine.as_mut() {
+            Some(machine) => answer_machine(row, call, machine),
+            None => row.refuse("no machine"),
+        },
     }
-}
-
-/// Prints a row, and then the answer of its call. A remark has no answer.
-fn report_row<W: Write>(
-    alloc: Global,
-    out: &mut W,
-    line: &str,
-    machine: &mut Option<Machine>,
-) -> Result<(), anyhow::Error> {
-    write!(out, "{line}")?;
-    if !line.is_empty() && !line.starts_with(';') {
-        write!(out, " =>")?;
-        let (call, row) = line.split_once(' ').unwrap_or((line, ""));
-        report(alloc, out, call, row, machine)?;
-    }
-    Ok(writeln!(out)?)
 }
 
 fn main(rt: HostRuntime) -> Result<(), anyhow::Error> {
     let alloc = rt.alloc();
     let mut out = rt.stdout();
-    let mut machine = Some(machine::new_machine(alloc, "eight good", &[])?);
+    let mut machine = machine::blank_machine(alloc);
     for line in rt.lines(alloc) {
-        report_row(alloc, &mut out, &line?, &mut machine)?;
+        let line = line?;
+        write!(out, "{line}")?;
+        if !line.is_empty() && !line.as_str().starts_with(';') {
+            write!(out, " =>")?;
+            let mut row = Row::new(alloc, &line);
+            match call::call_named(row.word()) {
+                Some(call) => answer(&mut row, call, &mut machine),
+                None => row.refuse("no such call"),
+            }
+            row.print(&mut out)?;
+        }
+        writeln!(out)?;
     }
     Ok(())
 }

@@ -1,11 +1,8 @@
 //! Rows of bytes in memory, and of file control blocks.
 
 use crate::machine::Machine;
-use crate::shown::{byte, decimal, show_bytes, word};
-use anyhow::{Context, anyhow};
-use row_text::written_out;
-use std::alloc::Global;
-use std::io::Write;
+use row_text::Row;
+use std::alloc::{AllocError, Global};
 use z80_cpu::Memory;
 
 /// Writes bytes from an address on, even across the top of memory.
@@ -18,18 +15,9 @@ pub(crate) fn put(memory: &mut Memory, address: u16, bytes: &[u8]) {
 }
 
 /// A row that writes bytes: the address and the bytes.
-pub(crate) fn put_row(
-    alloc: Global,
-    row: &str,
-    machine: &mut Machine,
-) -> Result<(), anyhow::Error> {
-    let (address, bytes) = row.split_once(' ').context("no bytes")?;
-    put(
-        &mut machine.memory,
-        word(address)?,
-        &written_out(alloc, bytes)?,
-    );
-    Ok(())
+pub(crate) fn put_row(row: &mut Row, machine: &mut Machine) {
+    let address = row.hexadecimal();
+    put(&mut machine.memory, address, &row.bytes())
 }
 
 /// Writes a file control block with a name, EX, S2 and CR; its other bytes are 0.
@@ -43,50 +31,47 @@ fn put_block(memory: &mut Memory, address: u16, name: &[u8], place: [u8; 3]) {
 }
 
 /// A row that writes a file control block: the address, EX, S2, CR and the name.
-pub(crate) fn put_fcb(
-    alloc: Global,
-    row: &str,
-    machine: &mut Machine,
-) -> Result<(), anyhow::Error> {
-    let (address, row) = row.split_once(' ').context("no EX")?;
-    let (extent, row) = row.split_once(' ').context("no S2")?;
-    let (high, row) = row.split_once(' ').context("no CR")?;
-    let (current, name) = row.split_once(' ').context("no name")?;
-    let name = written_out(alloc, name)?;
+pub(crate) fn put_fcb(row: &mut Row, machine: &mut Machine) {
+    let address = row.hexadecimal();
+    let (extent, high) = (row.hexadecimal_byte(), row.hexadecimal_byte());
+    let place = [extent, high, row.hexadecimal_byte()];
+    let name = row.bytes();
     if name.len() != 11 {
-        return Err(anyhow!("a name has eleven bytes"));
+        return row.refuse("a name has eleven bytes");
     }
-    let place = [byte(extent)?, byte(high)?, byte(current)?];
-    put_block(&mut machine.memory, word(address)?, &name, place);
-    Ok(())
+    put_block(&mut machine.memory, address, &name, place)
 }
 
-/// A row that prints bytes of memory: the address and how many.
-pub(crate) fn report_bytes<W: Write>(
+/// The bytes of memory from an address on.
+fn bytes_at(
     alloc: Global,
-    out: &mut W,
-    row: &str,
     memory: &Memory,
-) -> Result<(), anyhow::Error> {
-    let (address, count) = row.split_once(' ').context("no count")?;
-    let mut next = word(address)?;
+    address: u16,
+    count: u32,
+) -> Result<Vec<u8>, AllocError> {
+    let mut next = address;
     let mut bytes = Vec::new(alloc);
-    for _ in 0..decimal(count)? {
+    for _ in 0..count {
         bytes.push(memory.get(next))?;
         next = next.wrapping_add(1);
     }
-    show_bytes(out, &bytes)
+    Ok(bytes)
+}
+
+/// A row that prints bytes of memory: the address and how many.
+pub(crate) fn answer_bytes(row: &mut Row, memory: &Memory) {
+    let address = row.hexadecimal();
+    match bytes_at(row.alloc(), memory, address, row.decimal()) {
+        Ok(bytes) => row.write_runs(&bytes),
+        Err(_) => row.refuse("no memory"),
+    }
 }
 
 /// A row that prints EX, S2 and CR of a file control block.
-pub(crate) fn report_place<W: Write>(
-    out: &mut W,
-    row: &str,
-    memory: &Memory,
-) -> Result<(), anyhow::Error> {
-    let address = word(row)?;
+pub(crate) fn answer_place(row: &mut Row, memory: &Memory) {
+    let address = row.hexadecimal();
     let extent = memory.get(address.wrapping_add(12));
     let high = memory.get(address.wrapping_add(14));
     let current = memory.get(address.wrapping_add(32));
-    Ok(write!(out, " EX {extent:02X} S2 {high:02X} CR {current:02X}")?)
+    write!(row, " EX {extent:02X} S2 {high:02X} CR {current:02X}")
 }
