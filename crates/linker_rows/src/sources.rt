@@ -18,7 +18,7 @@ fn put_line_ends(text: &mut [u8]) {
 
 /// Answers lines; each except the last ends in `|` in the text.
 pub(crate) fn lines_of(row: &mut Row, text: &str) -> Vec<u8> {
-    let mut lines = row.expanded(text);
+    let mut lines = row.bytes_of(text);
     put_line_ends(&mut lines);
     lines
 }
