@@ -3,69 +3,55 @@
 //! The head of `stdin` lists the calls and what follows the name of each; a line that begins with `;` is a remark.
 #![tactic(auto)]
 
+mod call;
 mod disks;
 mod making;
 mod names;
 mod pipes;
 mod scripted;
+mod step;
 mod words;
 
-use anyhow::anyhow;
-use std::alloc::Global;
-use std::io;
+use call::{Call, Made, OnStreams, OnWords};
+use row_text::Row;
 use std::io::Write;
 
-/// The bytes of a row. Those in braces are written out, and `|` is a line feed.
-pub(crate) fn text_of(alloc: Global, row: &str) -> Result<Vec<u8>, anyhow::Error> {
-    let mut text = row_text::written_out(alloc, row)?;
-    for byte in text.iter_mut() {
-        if *byte == b'|' {
-            *byte = b'\n';
-        }
+/// Makes calls that read and write streams.
+fn answer_streams(row: &mut Row, call: OnStreams) {
+    match call {
+        OnStreams::Pipe => pipes::answer_pipe(row),
+        OnStreams::Streams => pipes::answer_streams(row),
+        OnStreams::Check => pipes::answer_check(row),
     }
-    Ok(text)
 }
 
-/// Prints a blank and bytes in `<>`.
-pub(crate) fn show<W: Write>(out: &mut W, bytes: &[u8]) -> Result<(), anyhow::Error> {
-    write!(out, " <")?;
-    row_text::show_runs(out, bytes)?;
-    Ok(write!(out, ">")?)
+/// Makes calls that make files.
+fn answer_made(row: &mut Row, call: Made) {
+    match call {
+        Made::Asm => making::answer_asm(row),
+        Made::Link => making::answer_link(row),
+        Made::Build => making::answer_build(row),
+    }
 }
 
-/// Makes calls about disks and the words of a command.
-fn report_words<W: Write>(
-    alloc: Global,
-    out: &mut W,
-    call: &str,
-    row: &str,
-) -> Result<(), anyhow::Error> {
-    match call.as_bytes() {
-        b"disk" => disks::report_disk(alloc, out, row),
-        b"name" => names::report_name(alloc, out, row),
-        b"own-name" => names::report_own_name(alloc, out, row),
-        b"pattern" => names::report_pattern(alloc, out, row),
-        b"words" => words::report_job(alloc, out, row),
-        b"says" => words::report_part(alloc, out, row),
-        _ => Err(anyhow!("no such call")),
+/// Makes calls about the words of a command.
+fn answer_words(row: &mut Row, call: OnWords) {
+    match call {
+        OnWords::Name => names::answer_name(row),
+        OnWords::OwnName => names::answer_own_name(row),
+        OnWords::Pattern => names::answer_pattern(row),
+        OnWords::Words => words::answer_job(row),
+        OnWords::Says => words::answer_part(row),
     }
 }
 
 /// Makes any call.
-fn report<W: Write>(
-    alloc: Global,
-    out: &mut W,
-    call: &str,
-    row: &str,
-) -> Result<(), anyhow::Error> {
-    match call.as_bytes() {
-        b"pipe" => pipes::report_pipe(alloc, out, row),
-        b"check" => pipes::report_check(alloc, out, row),
-        b"streams" => pipes::report_streams(alloc, out, row),
-        b"asm" => making::report_asm(alloc, out, row),
-        b"link" => making::report_link(alloc, out, row),
-        b"build" => making::report_build(alloc, out, row),
-        _ => report_words(alloc, out, call, row),
+fn answer(row: &mut Row, call: Call) {
+    match call {
+        Call::Stream(call) => answer_streams(row, call),
+        Call::Make(call) => answer_made(row, call),
+        Call::Word(call) => answer_words(row, call),
+        Call::Disk => disks::answer_disk(row),
     }
 }
 
@@ -77,8 +63,12 @@ fn main(rt: HostRuntime) -> Result<(), anyhow::Error> {
         write!(out, "{line}")?;
         if !line.as_str().starts_with(';') {
             write!(out, " =>")?;
-            let (call, row) = line.split_once(' ').unwrap_or((line.as_str(), ""));
-            report(alloc, &mut out, call, row)?;
+            let mut row = Row::new(alloc, &line);
+            match call::call_named(row.word()) {
+                Some(call) => answer(&mut row, call),
+                None => row.refuse("no such call"),
+            }
+            row.print(&mut out)?;
         }
         writeln!(out)?;
     }

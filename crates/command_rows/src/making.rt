@@ -1,9 +1,7 @@
 //! Rows of `asm`, `link` and `build`, with the files that `finish` writes.
 
-use crate::{show, text_of};
-use anyhow::Context;
-use std::alloc::Global;
-use std::io::Write;
+use row_text::Row;
+use std::alloc::{AllocError, Global};
 use z80dev::{Answer, MemorySink, SourceFile, Told, asm, build, finish, link, report};
 use z80dev_jobs::{FailingFiles, Failure, MemoryFiles};
 
@@ -37,97 +35,116 @@ fn finished(alloc: Global, answer: &Answer<Told<'_>>, room: u64) -> Outcome {
 }
 
 /// Prints how `finish` ended.
-fn show_finished<W: Write>(out: &mut W, finished: &Outcome) -> Result<(), anyhow::Error> {
-    write!(out, " {}", finished.status)?;
-    show(out, &finished.output)?;
-    show(out, &finished.errors)?;
+fn show_finished(row: &mut Row, finished: &Outcome) {
+    write!(row, " {}", finished.status);
+    row.write_runs(&finished.output);
+    row.write_runs(&finished.errors);
     for file in finished.files.written() {
-        out.write_all(b" ")?;
-        out.write_all(&file.path)?;
-        show(out, &file.bytes)?;
+        row.write_bytes(b" ");
+        row.write_bytes(&file.path);
+        row.write_runs(&file.bytes);
     }
-    Ok(())
 }
 
 /// Prints what `asm` makes of a source.
-pub(crate) fn report_asm<W: Write>(
-    alloc: Global,
-    out: &mut W,
-    row: &str,
-) -> Result<(), anyhow::Error> {
-    let (path, text) = row.split_once('=').context("no text")?;
-    let text = text_of(alloc, text)?;
-    let answer = asm(alloc, SourceFile { path, text: &text }, false);
-    show_finished(out, &finished(alloc, &answer, 9))
+pub(crate) fn answer_asm(row: &mut Row) {
+    let path = row.until('=');
+    let text = row.rest();
+    let text = row.lines_of(text);
+    let answer = asm(row.alloc(), SourceFile { path, text: &text }, false);
+    let ended = finished(row.alloc(), &answer, 9);
+    show_finished(row, &ended)
 }
 
 /// The object file of a source, or the bytes after `=`.
-fn object_of(alloc: Global, part: &str) -> Result<Vec<u8>, anyhow::Error> {
+fn object_of(row: &mut Row, part: &str) -> Vec<u8> {
     if let Some(bytes) = part.strip_prefix('=') {
-        return row_text::written_out(alloc, bytes);
+        return row.bytes_of(bytes);
     }
-    let text = text_of(alloc, part)?;
-    let mut answer = asm(
-        alloc,
-        SourceFile {
-            path: "A",
-            text: &text,
-        },
-        false,
-    );
-    let file = answer.files.pop().context("no object")?;
-    Ok(file.bytes)
+    let text = row.lines_of(part);
+    let source = SourceFile {
+        path: "A",
+        text: &text,
+    };
+    let mut answer = asm(row.alloc(), source, false);
+    match answer.files.pop() {
+        Some(file) => file.bytes,
+        None => {
+            row.refuse("no object");
+            Vec::new(row.alloc())
+        }
+    }
+}
+
+/// Takes the rest of a row as object files.
+fn objects_of(row: &mut Row) -> Result<Vec<Vec<u8>>, AllocError> {
+    let mut objects = Vec::new(row.alloc());
+    for part in row.rest().split(" & ") {
+        objects.push(object_of(row, part))?;
+    }
+    Ok(objects)
 }
 
 /// Prints what `link` makes of object files.
-pub(crate) fn report_link<W: Write>(
-    alloc: Global,
-    out: &mut W,
-    row: &str,
-) -> Result<(), anyhow::Error> {
-    let mut objects = Vec::new(alloc);
-    for part in row.split(" & ") {
-        objects.push(object_of(alloc, part)?)?;
-    }
-    let answer = link(alloc, &objects);
-    show_finished(out, &finished(alloc, &answer, 9))
+pub(crate) fn answer_link(row: &mut Row) {
+    let Ok(objects) = objects_of(row) else {
+        return row.refuse("no memory");
+    };
+    let answer = link(row.alloc(), &objects);
+    let ended = finished(row.alloc(), &answer, 9);
+    show_finished(row, &ended)
 }
 
-/// Prints what `build` makes of sources with these paths and texts, and what it reports about their jumps.
-fn show_built<W: Write>(
-    alloc: Global,
-    out: &mut W,
-    paths: &[&str],
-    texts: &[Vec<u8>],
-    grow: bool,
-    room: u64,
-) -> Result<(), anyhow::Error> {
-    let mut sources = Vec::with_capacity(alloc, paths.len())?;
-    for (path, text) in paths.iter().zip(texts) {
-        sources.push(SourceFile { path: *path, text })?;
+/// Sources: their paths, and their texts in the same order.
+#[derive(Drop)]
+struct Sources<'a> {
+    paths: Vec<&'a str>,
+    texts: Vec<Vec<u8>>,
+}
+
+/// Takes the rest of a row as sources.
+fn sources_of<'a>(row: &mut Row<'a>) -> Result<Sources<'a>, AllocError> {
+    let (mut paths, mut texts) = (Vec::new(row.alloc()), Vec::new(row.alloc()));
+    for part in row.rest().split(" & ") {
+        match part.split_once('=') {
+            Some((path, text)) => {
+                paths.push(path)?;
+                texts.push(row.lines_of(text))?;
+            }
+            None => row.refuse("no text"),
+        }
     }
-    let made = build(alloc, &sources, grow, false);
-    show_finished(out, &finished(alloc, &made.answer, room))?;
+    Ok(Sources { paths, texts })
+}
+
+/// The sources as `build` takes them.
+fn lent<'a>(alloc: Global, sources: &'a Sources<'a>) -> Result<Vec<SourceFile<'a>>, AllocError> {
+    let mut files = Vec::with_capacity(alloc, sources.paths.len())?;
+    for (path, text) in sources.paths.iter().zip(&sources.texts) {
+        files.push(SourceFile { path: *path, text })?;
+    }
+    Ok(files)
+}
+
+/// Prints what `build` makes of sources, and what it reports about their jumps.
+fn show_built(row: &mut Row, sources: &[SourceFile], grow: bool, room: u64) {
+    let made = build(row.alloc(), sources, grow, false);
+    let ended = finished(row.alloc(), &made.answer, room);
+    show_finished(row, &ended);
     if let Some(jumps) = made.jumps {
-        write!(out, ", {jumps}")?;
+        write!(row, ", {jumps}");
     }
-    Ok(())
 }
 
 /// Prints what `build` makes of sources.
-pub(crate) fn report_build<W: Write>(
-    alloc: Global,
-    out: &mut W,
-    row: &str,
-) -> Result<(), anyhow::Error> {
-    let (grow, rest) = row.split_once(' ').context("no room")?;
-    let (room, rest) = rest.split_once(' ').context("no files")?;
-    let room = u64::from_str_radix(room, 10)?;
-    let (mut paths, mut texts) = (Vec::new(alloc), Vec::new(alloc));
-    for part in rest.split(" & ") {
-        let (path, text) = part.split_once('=').context("no text")?;
-        paths.push(path)?;
-        texts.push(text_of(alloc, text)?)?;
+pub(crate) fn answer_build(row: &mut Row) {
+    let grow = row.word() == "grow";
+    let room = u64::from(row.decimal());
+    let Ok(sources) = sources_of(row) else {
+        return row.refuse("no memory");
+    };
+    match lent(row.alloc(), &sources) {
+        Ok(files) => show_built(row, &files, grow, room),
+        Err(_) => row.refuse("no memory"),
     }
-    show_built(alloc, out, &paths, &texts, grow == "grow", room)
 }

@@ -1,75 +1,52 @@
 //! Rows of words that are names or patterns of files.
 
-ghost use Rattle.std.specs.Prelude.{◌≡◌, IfOk, false};
-ghost use Rattle.z80dev_disk.specs.Words.{is_wild};
-
-use crate::show;
-use anyhow::Context;
-use std::alloc::Global;
-use std::io::Write;
+use row_text::Row;
 use z80dev_disk::{Name, file_name, is_wild, own_name, pattern_of};
 
-/// A word as a name.
-pub(crate) fn name_of(word: &str) -> Result<Name, anyhow::Error>
-    ensures { IfOk result (λ name. is_wild name ≡ false) }
-{
-    file_name(word).context("no name")
-}
-
-/// A word as a pattern.
-pub(crate) fn pattern(word: &str) -> Result<[u8; 11], anyhow::Error> {
-    pattern_of(word).context("no pattern")
-}
-
-/// Words as patterns.
-pub(crate) fn patterns(alloc: Global, words: &str) -> Result<Vec<[u8; 11]>, anyhow::Error> {
-    let mut found = Vec::new(alloc);
-    for word in words.split(' ') {
-        found.push(pattern(word)?)?;
+/// Takes the rest of a row as a text.
+fn text(row: &mut Row) -> String {
+    match String::from_utf8(row.bytes()) {
+        Ok(text) => text,
+        Err(_) => {
+            row.refuse("no UTF-8");
+            String::new(row.alloc())
+        }
     }
-    Ok(found)
 }
 
 /// Prints a name with its blanks.
-fn show_name<W: Write>(out: &mut W, name: Option<Name>) -> Result<(), anyhow::Error> {
+fn show_name(row: &mut Row, name: Option<Name>) {
     match name {
-        Some(name) => show(out, &name.bytes()),
-        None => Ok(write!(out, " none")?),
+        Some(name) => row.write_runs(&name.bytes()),
+        None => write!(row, " none"),
     }
 }
 
 /// Prints the name that a word gives.
-pub(crate) fn report_name<W: Write>(
-    alloc: Global,
-    out: &mut W,
-    row: &str,
-) -> Result<(), anyhow::Error> {
-    let word = String::from_utf8(row_text::written_out(alloc, row)?)?;
-    show_name(out, file_name(word.as_str()))
+pub(crate) fn answer_name(row: &mut Row) {
+    let word = text(row);
+    show_name(row, file_name(word.as_str()))
 }
 
 /// Prints the name that the last part of a path gives.
-pub(crate) fn report_own_name<W: Write>(
-    alloc: Global,
-    out: &mut W,
-    row: &str,
-) -> Result<(), anyhow::Error> {
-    let path = String::from_utf8(row_text::written_out(alloc, row)?)?;
-    show_name(out, own_name(path.as_str()))
+pub(crate) fn answer_own_name(row: &mut Row) {
+    let path = text(row);
+    show_name(row, own_name(path.as_str()))
+}
+
+/// Prints a pattern with its blanks, and whether it has a `?`.
+fn show_pattern(row: &mut Row, pattern: &[u8; 11]) {
+    row.write_runs(pattern);
+    if is_wild(pattern) {
+        write!(row, " wild");
+    }
 }
 
 /// Prints the pattern that a word gives, with its blanks, and whether it has a `?`.
-pub(crate) fn report_pattern<W: Write>(
-    alloc: Global,
-    out: &mut W,
-    row: &str,
-) -> Result<(), anyhow::Error> {
-    let word = String::from_utf8(row_text::written_out(alloc, row)?)?;
+pub(crate) fn answer_pattern(row: &mut Row) {
+    let word = text(row);
     match pattern_of(word.as_str()) {
-        Some(pattern) => {
-            show(out, &pattern)?;
-            Ok(write!(out, "{}", if is_wild(&pattern) { " wild" } else { "" })?)
-        }
-        None => Ok(write!(out, " none")?),
+        Some(pattern) => show_pattern(row, &pattern),
+        None => write!(row, " none"),
     }
 }

@@ -1,10 +1,8 @@
 //! Rows of `pipe` with a source, and of `check_texts` with a sizes file and its certificate.
 
 use crate::scripted::{Ending, Reader, Writer};
-use crate::{show, text_of};
-use anyhow::{Context, anyhow};
+use row_text::Row;
 use std::alloc::Global;
-use std::io::Write;
 use z80dev::{Bytes, MemorySink, Watched, WatchedSink, check_texts, pipe, report};
 
 /// How a call ended: its status, what it printed and reported, and how often each writer failed.
@@ -18,17 +16,16 @@ struct Ended {
 }
 
 /// Prints how a call ended.
-fn show_ended<W: Write>(out: &mut W, ended: &Ended) -> Result<(), anyhow::Error> {
-    write!(out, " {}", ended.status)?;
-    show(out, &ended.output)?;
-    show(out, &ended.errors)?;
+fn show_ended(row: &mut Row, ended: &Ended) {
+    write!(row, " {}", ended.status);
+    row.write_runs(&ended.output);
+    row.write_runs(&ended.errors);
     if ended.output_failures != 0 {
-        write!(out, ", output failed")?;
+        write!(row, ", output failed");
     }
     if ended.errors_failures != 0 {
-        write!(out, ", errors failed")?;
+        write!(row, ", errors failed");
     }
-    Ok(())
 }
 
 /// Calls `pipe` with a source in memory.
@@ -48,50 +45,72 @@ fn piped_text(alloc: Global, text: &[u8]) -> Ended {
 }
 
 /// Prints what `pipe` makes of a source in memory.
-pub(crate) fn report_pipe<W: Write>(
-    alloc: Global,
-    out: &mut W,
-    row: &str,
-) -> Result<(), anyhow::Error> {
-    let text = text_of(alloc, row)?;
-    show_ended(out, &piped_text(alloc, &text))
+pub(crate) fn answer_pipe(row: &mut Row) {
+    let text = row.rest();
+    let text = row.lines_of(text);
+    let ended = piped_text(row.alloc(), &text);
+    show_ended(row, &ended)
 }
 
-/// Makes the reader that a column describes.
-fn reader_of(column: &str, text: Vec<u8>) -> Result<Reader, anyhow::Error> {
-    let (kind, number) = column.split_once(':').unwrap_or((column, "0"));
-    let number = u64::from_str_radix(number, 10)?;
-    let ending = match kind.as_bytes() {
-        b"whole" => Ending::Whole,
-        b"fails" => Ending::Fails(number),
-        b"interrupted" => Ending::Interrupted(number),
-        b"endless" => Ending::Endless,
-        b"always-interrupted" => Ending::AlwaysInterrupted,
-        _ => return Err(anyhow!("no such reader")),
-    };
-    Ok(Reader {
+/// How the reads of this name end. Some do at the read of this number.
+fn ending_named(name: &str, number: u64) -> Option<Ending> {
+    for (word, ending) in &[
+        ("whole", Ending::Whole),
+        ("fails", Ending::Fails(number)),
+        ("interrupted", Ending::Interrupted(number)),
+        ("endless", Ending::Endless),
+        ("always-interrupted", Ending::AlwaysInterrupted),
+    ] {
+        if *word == name {
+            return Some(*ending);
+        }
+    }
+    None
+}
+
+/// How reads end, from a column.
+fn ending_in(column: &str) -> Option<Ending> {
+    let (name, number) = column.split_once(':').unwrap_or((column, "0"));
+    ending_named(name, u64::from_str_radix(number, 10).ok()?)
+}
+
+/// Makes a reader.
+fn reader_of(text: Vec<u8>, ending: Ending) -> Reader {
+    Reader {
         text,
         given: 0,
         reads: 0,
         ending,
-    })
+    }
+}
+
+/// How many bytes a writer takes.
+fn room_in(kind: &str) -> Option<usize> {
+    match kind {
+        "all" => Some(usize::MAX),
+        "full" => Some(0),
+        _ => usize::from_str_radix(kind, 10).ok(),
+    }
 }
 
 /// Makes the writer that a column describes.
-fn writer_of(alloc: Global, column: &str) -> Result<Writer, anyhow::Error> {
+fn writer_of(row: &mut Row) -> Writer {
+    let column = row.word();
     let (number, kind) = column.split_once('~').unwrap_or(("0", column));
-    let room = match kind.as_bytes() {
-        b"all" => usize::MAX,
-        b"full" => 0,
-        _ => usize::try_from(u64::from_str_radix(kind, 10)?)?,
+    let (room, interruptions) = match (room_in(kind), u64::from_str_radix(number, 10)) {
+        (Some(room), Ok(number)) => (room, number),
+        _ => {
+            row.refuse("no such writer");
+            (0, 0)
+        }
     };
-    Ok(Writer {
-        taken: Vec::new(alloc),
+    Writer {
+        taken: Vec::new(row.alloc()),
         room,
         is_full: kind == "full",
-        interruptions: u64::from_str_radix(number, 10)?,
+        interruptions,
         waits: 0,
-    })
+    }
 }
 
 /// How a call with two writers ended.
@@ -117,33 +136,19 @@ fn piped(alloc: Global, reader: Reader, writer: Writer, teller: Writer) -> (Ende
 }
 
 /// Prints how `pipe` ends with streams that fail.
-pub(crate) fn report_streams<W: Write>(
-    alloc: Global,
-    out: &mut W,
-    row: &str,
-) -> Result<(), anyhow::Error> {
-    let (reader, rest) = row.split_once(' ').context("no writer")?;
-    let (writer, rest) = rest.split_once(' ').context("no second writer")?;
-    let (teller, text) = rest.split_once(' ').context("no text")?;
-    let reader = reader_of(reader, text_of(alloc, text)?)?;
-    let (writer, teller) = (writer_of(alloc, writer)?, writer_of(alloc, teller)?);
-    let (ended, reads, has_failed) = piped(alloc, reader, writer, teller);
-    show_streams(out, &ended, reads, has_failed)
-}
-
-/// Prints how `pipe` ended, how often its reader was read, and whether that failed.
-fn show_streams<W: Write>(
-    out: &mut W,
-    ended: &Ended,
-    reads: u64,
-    has_failed: bool,
-) -> Result<(), anyhow::Error> {
-    show_ended(out, ended)?;
-    write!(out, ", {reads} reads")?;
+pub(crate) fn answer_streams(row: &mut Row) {
+    let Some(ending) = ending_in(row.word()) else {
+        return row.refuse("no such reader");
+    };
+    let (writer, teller) = (writer_of(row), writer_of(row));
+    let text = row.rest();
+    let reader = reader_of(row.lines_of(text), ending);
+    let (ended, reads, has_failed) = piped(row.alloc(), reader, writer, teller);
+    show_ended(row, &ended);
+    write!(row, ", {reads} reads");
     if has_failed {
-        write!(out, ", input failed")?;
+        write!(row, ", input failed");
     }
-    Ok(())
 }
 
 /// Calls `check_texts` and `report` with two writers.
@@ -156,15 +161,12 @@ fn checked(alloc: Global, sizes: &[u8], cert: &[u8], writer: Writer, teller: Wri
 }
 
 /// Prints how `check_texts` ends with two writers.
-pub(crate) fn report_check<W: Write>(
-    alloc: Global,
-    out: &mut W,
-    row: &str,
-) -> Result<(), anyhow::Error> {
-    let (writer, rest) = row.split_once(' ').context("no second writer")?;
-    let (teller, texts) = rest.split_once(' ').context("no texts")?;
-    let (sizes, cert) = texts.split_once(" & ").context("no certificate")?;
-    let (writer, teller) = (writer_of(alloc, writer)?, writer_of(alloc, teller)?);
-    let (sizes, cert) = (text_of(alloc, sizes)?, text_of(alloc, cert)?);
-    show_ended(out, &checked(alloc, &sizes, &cert, writer, teller))
+pub(crate) fn answer_check(row: &mut Row) {
+    let (writer, teller) = (writer_of(row), writer_of(row));
+    let Some((sizes, cert)) = row.rest().split_once(" & ") else {
+        return row.refuse("no certificate");
+    };
+    let (sizes, cert) = (row.lines_of(sizes), row.lines_of(cert));
+    let ended = checked(row.alloc(), &sizes, &cert, writer, teller);
+    show_ended(row, &ended)
 }
