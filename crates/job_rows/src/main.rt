@@ -4,39 +4,38 @@
 //! The head of `stdin` says what a row may have; a line of `;` is a remark.
 #![tactic(auto)]
 
+mod job;
 mod room;
-mod row;
 
-use row::Row;
-use std::alloc::Global;
-use std::io;
+use job::{Job, job_of};
+use row_text::Row;
 use std::io::Write;
 use streams::{Bytes, MemorySink, WatchedSink};
-use z80dev_jobs::{Ended, FailingFiles, Host, command};
-
-/// Prints a blank and bytes in `<>`.
-fn show<W: Write>(out: &mut W, bytes: &[u8]) -> Result<(), anyhow::Error> {
-    write!(out, " <")?;
-    row_text::show_runs(out, bytes)?;
-    Ok(write!(out, ">")?)
-}
+use z80dev_jobs::{Ended, FailingFiles, Host, MemoryFiles, command};
 
 /// Prints what went to a stream, or whether the text that the row asks for is in it.
-fn show_stream<W: Write>(
-    out: &mut W,
-    bytes: Vec<u8>,
-    part: Option<&str>,
-) -> Result<(), anyhow::Error> {
+fn show_stream(row: &mut Row, bytes: Vec<u8>, part: Option<&str>) {
     let Some(part) = part else {
-        return show(out, &bytes);
+        return row.write_runs(&bytes);
     };
-    let text = String::from_utf8(bytes)?;
-    Ok(write!(out, " {}", text.as_str().contains(part))?)
+    match String::from_utf8(bytes) {
+        Ok(text) => write!(row, " {}", text.as_str().contains(part)),
+        Err(_) => row.refuse("no UTF-8"),
+    }
+}
+
+/// Prints the files that were written after this many.
+fn show_files(row: &mut Row, files: &MemoryFiles, given: usize) {
+    for file in files.written().iter().skip(given) {
+        write!(row, " ");
+        row.write_text(&file.path);
+        row.write_runs(&file.bytes);
+    }
 }
 
 /// Runs the command of a row, and prints its status, both streams, and the files that it wrote.
-fn report<W: Write>(alloc: Global, out: &mut W, line: &str) -> Result<(), anyhow::Error> {
-    let Row {
+fn run(row: &mut Row, job: Job) {
+    let Job {
         words,
         files,
         typed,
@@ -44,30 +43,25 @@ fn report<W: Write>(alloc: Global, out: &mut W, line: &str) -> Result<(), anyhow
         room,
         in_output,
         in_errors,
-    } = row::read(alloc, line)?;
+    } = job;
     let given = files.written().len();
     let host = Host {
         files: FailingFiles::new(files, failure),
         input: Bytes::new(&typed),
         output: WatchedSink::new(room),
-        errors: MemorySink::new(alloc),
+        errors: MemorySink::new(row.alloc()),
     };
-    let Ended { status, host } = command(alloc, &words, host);
+    let Ended { status, host } = command(row.alloc(), &words, host);
     let Host {
         files,
         output,
         errors,
         ..
     } = host;
-    write!(out, " {status}")?;
-    show_stream(out, output.into_stream().taken, in_output)?;
-    show_stream(out, errors.into_bytes(), in_errors)?;
-    for file in files.into_files().written().iter().skip(given) {
-        write!(out, " ")?;
-        row_text::show_text(out, &file.path)?;
-        show(out, &file.bytes)?;
-    }
-    Ok(())
+    write!(row, " {status}");
+    show_stream(row, output.into_stream().taken, in_output);
+    show_stream(row, errors.into_bytes(), in_errors);
+    show_files(row, &files.into_files(), given)
 }
 
 fn main(rt: HostRuntime) -> Result<(), anyhow::Error> {
@@ -78,7 +72,12 @@ fn main(rt: HostRuntime) -> Result<(), anyhow::Error> {
         write!(out, "{line}")?;
         if !line.as_str().starts_with(';') {
             write!(out, " =>")?;
-            report(alloc, &mut out, &line)?;
+            let mut row = Row::new(alloc, &line);
+            match job_of(&mut row) {
+                Some(job) => run(&mut row, job),
+                None => row.refuse("no such row"),
+            }
+            row.print(&mut out)?;
         }
         writeln!(out)?;
     }
