@@ -75,7 +75,14 @@ unless_caused : (why : Option ExprFault) (answer : Settled) → NoneOf why → C
 unless_caused None answer none is = absurd (cc is)
 unless_caused (Some why) answer none is = none (cc is)
 
-parsed_caused : (phrase : Option Phrase) → Caused (parsed_by phrase)
+-- what an expression is settled as
+pub fault_caused : (t : Table) (e : Expression Operand) → NoneOf (fault t e)
+fault_caused t e = behind_caused 0 t e
+
+pub settled_caused : (t : Table) (e : Expression Operand) → Caused (settled t e)
+settled_caused t e = unless_caused (fault t e) _ (fault_caused t e)
+
+pub parsed_caused : (phrase : Option Phrase) → Caused (parsed_by phrase)
 parsed_caused None = λ is. absurd (cc is)
 parsed_caused (Some phrase) = elim (nat_lt MOST_OPEN (depth phrase)) as (λ b. Caused (if b then Err ExprFault.TooDeep else Ok (postfix (expression phrase)))) [
   | true ↦ λ is. absurd (cc is)
@@ -106,6 +113,17 @@ scan_caused ScanFault.NoMemory none = none refl
 pub scans_caused : (text : List ℕ) (why : ScanFault) → Scans text (Err why) → IsOfSource (fault_of_scan why)
 scans_caused text why scans = scan_caused why (λ is. no_scan text (Err why) scans (cc is))
 
+-- The error of scanning a line may be inside another.
+inside : (why : ScanFault) → why ≢ ScanFault.NoMemory → IsOfSource (MacroFault.Scan why)
+inside ScanFault.BadByte none = tt
+inside ScanFault.OpenString none = tt
+inside ScanFault.LineTooLong none = tt
+inside ScanFault.BadNumber none = tt
+inside ScanFault.NoMemory none = none refl
+
+pub scan_inside : (text : List ℕ) (why : ScanFault) → Scans text (Err why) → IsOfSource (MacroFault.Scan why)
+scan_inside text why scans = inside why (λ is. no_scan text (Err why) scans (cc is))
+
 number_caused : (r : Result Settled ExprFault) → Caused r → IsCaused (settled_number r)
 number_caused (Ok (Settled.Known (Item.Leaf (Atom.Number n) ∷ []))) none = tt
 number_caused (Ok _) none = tt
@@ -114,7 +132,7 @@ number_caused (Err why) none = expr_caused why (λ w. none (cc w))
 items_caused : (t : Table) (r : Result (List (Item Operand)) ExprFault) → Caused r → IsCaused (worth_of_items t r)
 items_caused t (Ok items) none =
     elim (list_all (is_number_item t) items) as (λ b. IsCaused (if b then settled_number (settled t (source items)) else Err MacroFault.ConditionNamesLabel)) [
-      | true ↦ number_caused (settled t (source items)) (unless_caused _ _ (behind_caused 0 t (source items)))
+      | true ↦ number_caused (settled t (source items)) (settled_caused t (source items))
       | false ↦ tt
     ]
 items_caused t (Err why) none = expr_caused why (λ w. none (cc w))

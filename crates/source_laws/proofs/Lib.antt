@@ -2,6 +2,7 @@ mod Total
 mod Reach
 mod Faults
 mod Causes
+mod Statements
 mod Answered
 mod Sources
 mod Grown

@@ -7,7 +7,7 @@ ghost use Rattle.asm_module.specs.declared.fault.AsmFault.{AsmFault};
 ghost use Rattle.asm_module.specs.Assembled.{Assembled, Assembles, HasCause};
 ghost use Rattle.asm_text.specs.Lines.{Numbered};
 ghost use Rattle.ruler.specs.Choice.{Choice, IsSettled};
-ghost use Rattle.source_laws.specs.Causes.{IsOfSource};
+ghost use Rattle.source_laws.specs.Causes.{IsOfSource, LacksNoMemory};
 ghost use Rattle.source_laws.specs.Grown.{IsMarkedJump};
 ghost use Rattle.zlink.specs.declared.source.Source.{Source};
 ghost use Rattle.zlink.specs.Linked.{IsOutput, Output};
@@ -27,11 +27,13 @@ pub fn some_expansion()
     asm_macro::laws::parts();
 }
 
-/// Each source is a module, or has a first error, which is not `NoMemory`. By `asm_module::laws::one_answer` only one of these
-/// holds, and only one module or error is possible.
+/// Each source is a module, or has a first error, which is not `NoMemory` and never has `NoMemory` inside, as `Stmt(Expr(NoMemory))` would.
+/// By `asm_module::laws::one_answer` only one of these holds, and only one module or error is possible.
 pub fn some_answer()
-    ensures { (name text : List ℕ) (grow : Bool) → (result : Result Assembled AsmFault) × HasCause result × Assembles name text grow result }
+    ensures some { (name text : List ℕ) (grow : Bool) → (result : Result Assembled AsmFault) × HasCause result × Assembles name text grow result }
+    ensures alone { (name text : List ℕ) (grow : Bool) (result : Result Assembled AsmFault) → Assembles name text grow result → HasCause result → LacksNoMemory result }
 {
+    asm_scan::laws::scanned();
     some_expansion();
 }
 
