@@ -1329,6 +1329,7 @@ function walk(number) {
     walk_number = number
     in_comment = 0; scope = 0; above = ""; macros = 0; procs = 0; proc_count = 0; radix = 10; lists = 0; ended = 0; said_org = 0
     if_depth = 0
+    segment = from == "m80" ? "CSEG" : "_CODE"; last_filled = ""; split("", filled)
     split("", seen); split("", counter); split("", parameter); split("", parameter_now); split("", own_of); split("", constant); split("", constant_ours); split("", stack)
     run(1, lines)
     if (number == 2 && in_comment) mark("", "a comment without an end")
@@ -1502,6 +1503,7 @@ function say(label, text,    s, note) {
     s = label == "" ? "" : name_for(label) ":"
     if (text != "") s = s (flush_left ? "" : "\t") text
     flush_left = 0
+    if (text != "" && text !~ /^(EQU|PUBLIC|EXTRN|END|ORG|IF|ELSE|REPT|LOCAL)/ && !macros) { filled[segment] = 1; last_filled = segment }
     if (s == "" && note == "") return
     if (length(s) + length(note) > 240 && note != "") { plain(note); note = "" }
     if (note != "") s = s (s == "" ? "" : "\t") note
@@ -1559,6 +1561,17 @@ function say_alone(label, text) {
 }
 
 # ---- Directives
+
+# Whether a directive goes on with a segment after lines of another one. Other linkers join the parts of a segment; here they stay where
+# they are. M80's data would come to stand before the code.
+function is_late_segment(word, a,    to) {
+    if (from == "m80" && toupper(word) ~ /^(CSEG|DSEG|ASEG)$/) to = toupper(word)
+    else if (from == "sdas" && toupper(word) == ".AREA") to = value_of[a + 1]
+    else return 0
+    if (to == segment) return 0
+    segment = to
+    return last_filled != to && ((to in filled) || from == "m80" && to == "CSEG" && last_filled != "")
+}
 
 function names_after(a, b, list,    k, n) {
     n = 0
@@ -1743,7 +1756,8 @@ function directive(label, word, what, a, b,    s, k, n, list, t, dollar, name, p
         say(label, "")
     } else if (what == "DROP") {
         if (label != "" && walk_number == 2) print name_for(label) ":"
-        if (walk_number == 2) plain(";" source)
+        if (walk_number == 2 && is_late_segment(word, a)) mark("", "code after data: lines stay in their order here")
+        else if (walk_number == 2) plain(";" source)
     } else if (what == "COMMENT") {
         t = substr(source, end_of[a] + 1)
         sub(/^[ \t]+/, "", t)
