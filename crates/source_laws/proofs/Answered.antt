@@ -87,7 +87,7 @@ if_so_but : {A : Type 0} (Is : A → Type 0) (why : A) (b : Bool) → Is why →
 if_so_but Is why true is = is
 if_so_but Is why false is = tt
 
-on_line : {A : Type 0} (Is : A → Type 0) (number : ℕ) (one : Option A) → NoneBut Is one → NoneBut (λ f. Is f.1) (option_map (λ why. (number, why)) one)
+on_line : {A : Type 0} (Is : A → Type 0) (number : ℕ) (one : Option A) → NoneBut Is one → NoneBut (λ (f : ℕ × A). Is f.1) (option_map (λ why. (number, why)) one)
 on_line Is number (Some why) is = is
 on_line Is number None is = tt
 
@@ -108,7 +108,7 @@ scanned_read : (text : List ℕ) (r : Result (List Lexeme) ScanFault) → Scans 
 scanned_read text (Ok tokens) scans = spelled_read (spelled tokens) (spelled_caused tokens)
 scanned_read text (Err why) scans = scan_inside text why scans
 
-unread_or_but : (number : ℕ) (r : Result Line LineFault) (rest : Option (ℕ × LineFault)) → IsRead r → NoneBut (λ f. IsOfText f.1) rest → NoneBut (λ f. IsOfText f.1) (unread_or number r rest)
+unread_or_but : (number : ℕ) (r : Result Line LineFault) (rest : Option (ℕ × LineFault)) → IsRead r → NoneBut (λ (f : ℕ × LineFault). IsOfText f.1) rest → NoneBut (λ (f : ℕ × LineFault). IsOfText f.1) (unread_or number r rest)
 unread_or_but number (Ok line) rest is others = others
 unread_or_but number (Err why) rest is others = is
 
@@ -141,10 +141,10 @@ equ_line_but known circle laid entries at (line.Equ name e) = equ_but known circ
 equ_line_but known circle laid entries at (line.Statement label body) = tt
 
 equs_but : (known : Names) (circle : ℕ → Bool) (laid : Layout) (entries : Entries) (lines : List (ℕ × Taken))
-    → NoneBut (λ f. IsOfEqu f.1) (first (map (λ l. option_map (λ why. (l.1.number, why)) (equ_line_fault known circle laid entries l.0 l.1.line)) lines))
+    → NoneBut (λ (f : ℕ × EquFault). IsOfEqu f.1) (first (map (λ l. option_map (λ why. (l.1.number, why)) (equ_line_fault known circle laid entries l.0 l.1.line)) lines))
 equs_but known circle laid entries [] = tt
 equs_but known circle laid entries (l ∷ ls) =
-    first_but (λ f. IsOfEqu f.1) _ _ (on_line IsOfEqu l.1.number _ (equ_line_but known circle laid entries l.0 l.1.line)) (equs_but known circle laid entries ls)
+    first_but (λ (f : ℕ × EquFault). IsOfEqu f.1) _ _ (on_line IsOfEqu l.1.number _ (equ_line_but known circle laid entries l.0 l.1.line)) (equs_but known circle laid entries ls)
 
 -- the errors of other lines
 abbrev IsOfState : StateFault → Type 0
@@ -168,15 +168,15 @@ state_but known t (line.Statement label None) = tt
 state_but known t (line.Equ name e) = tt
 
 states_but : (known : Names) (t : Table) (laid : Layout) (lines : List (ℕ × Taken))
-    → NoneBut (λ f. IsOfState f.1) (first (map (λ l. option_map (λ why. (l.1.number, why)) (stated.statement_fault known (stated.table_at_line laid t l.0) l.1.line)) lines))
+    → NoneBut (λ (f : ℕ × StateFault). IsOfState f.1) (first (map (λ l. option_map (λ why. (l.1.number, why)) (stated.statement_fault known (stated.table_at_line laid t l.0) l.1.line)) lines))
 states_but known t laid [] = tt
-states_but known t laid (l ∷ ls) = first_but (λ f. IsOfState f.1) _ _ (on_line IsOfState l.1.number _ (state_but known (stated.table_at_line laid t l.0) l.1.line)) (states_but known t laid ls)
+states_but known t laid (l ∷ ls) = first_but (λ (f : ℕ × StateFault). IsOfState f.1) _ _ (on_line IsOfState l.1.number _ (state_but known (stated.table_at_line laid t l.0) l.1.line)) (states_but known t laid ls)
 
 -- As errors of a source.
 abbrev IsCaused : Option AsmFault → Type 0
-IsCaused fault = NoneBut (λ f. IsCauseOf f.why) fault
+IsCaused fault = NoneBut (λ (f : AsmFault). IsCauseOf f.why) fault
 
-as_source : {A : Type 0} (Is : A → Type 0) (view : A → Why) → ((why : A) → Is why → IsCauseOf (view why)) → (fault : Option (ℕ × A)) → NoneBut (λ f. Is f.1) fault → IsCaused (fault_on_line view fault)
+as_source : {A : Type 0} (Is : A → Type 0) (view : A → Why) → ((why : A) → Is why → IsCauseOf (view why)) → (fault : Option (ℕ × A)) → NoneBut (λ (f : ℕ × A). Is f.1) fault → IsCaused (fault_on_line view fault)
 as_source Is view each (Some f) is = each f.1 is
 as_source Is view each None is = tt
 
@@ -186,7 +186,7 @@ name_cause NameFault.TooManyStatements none = tt
 name_cause NameFault.TooManyNames none = tt
 name_cause NameFault.NoMemory none = none refl
 
-names_but : (fault : Option (ℕ × NameFault)) → NoneIs NameFault.NoMemory fault → NoneBut (λ f. f.1 ≢ NameFault.NoMemory) fault
+names_but : (fault : Option (ℕ × NameFault)) → NoneIs NameFault.NoMemory fault → NoneBut (λ (f : ℕ × NameFault). f.1 ≢ NameFault.NoMemory) fault
 names_but (Some (n, why)) none = λ is. none n (cc is)
 names_but None none = tt
 
@@ -260,7 +260,7 @@ module _
     (some : (text : List ℕ) → (lines : List Numbered) × (end : End) × IsExpansion text lines end)
     (alone : (text : List ℕ) (lines : List Numbered) (number : ℕ) (why : MacroFault) → IsExpansion text lines (Stopped number why) → IsOfSource why)
   where
-    unread_but : (lines : List Numbered) → NoneBut (λ f. IsOfText f.1) (unread lines)
+    unread_but : (lines : List Numbered) → NoneBut (λ (f : ℕ × LineFault). IsOfText f.1) (unread lines)
     unread_but [] = tt
     unread_but (l ∷ ls) = unread_or_but l.number (read_line l.text) (unread ls) (scanned_read l.text (scanned l.text) (scans l.text)) (unread_but ls)
 
@@ -271,9 +271,9 @@ module _
         let by_line = as_source IsOfText line_why line_cause (unread lines) (unread_but lines) in
         let by_equ = as_source IsOfEqu equ_why equ_cause _ (equs_but (names (taken lines)) circle laid (name_meanings (names (taken lines)) (taken lines) circle laid) (placed (taken lines))) in
         let by_state = as_source IsOfState state_why state_cause _ (states_but (names (taken lines)) (source_table (taken lines) circle laid) laid (placed (taken lines))) in
-        first_but (λ f. IsCauseOf f.why) (first_pass lines) _ (first_but (λ f. IsCauseOf f.why) (fault_on_line name_why (defined.first_name_fault (taken lines))) _ by_name (first_but (λ f. IsCauseOf f.why) (fault_on_line line_why (unread lines)) [] by_line tt))
-        (first_but (λ f. IsCauseOf f.why) (first_equ_line_fault (taken lines) circle laid) _ by_equ
-        (first_but (λ f. IsCauseOf f.why) (state_fault (taken lines) circle laid) [] by_state tt))
+        first_but (λ (f : AsmFault). IsCauseOf f.why) (first_pass lines) _ (first_but (λ (f : AsmFault). IsCauseOf f.why) (fault_on_line name_why (defined.first_name_fault (taken lines))) _ by_name (first_but (λ (f : AsmFault). IsCauseOf f.why) (fault_on_line line_why (unread lines)) [] by_line tt))
+        (first_but (λ (f : AsmFault). IsCauseOf f.why) (first_equ_line_fault (taken lines) circle laid) _ by_equ
+        (first_but (λ (f : AsmFault). IsCauseOf f.why) (state_fault (taken lines) circle laid) [] by_state tt))
 
     of_lines : (name text : List ℕ) (grow : Bool) (lines : List Numbered) → IsExpanded text (Ok lines) → Answers name text grow
     of_lines name text grow lines is =
@@ -309,4 +309,4 @@ module _
     expanded_lacks name text grow circle (Err (number, why)) is caused = stopped_lacks text number why is caused
 
     pub no_memory_inside : (name text : List ℕ) (grow : Bool) (result : Result Assembled AsmFault) → Assembles name text grow result → HasCause result → LacksNoMemory result
-    no_memory_inside name text grow result (expanded, is, circle, tells, refl) caused = expanded_lacks name text grow circle expanded is caused
+    no_memory_inside name text grow result (expanded, is, circle, _, same) caused = subst (λ r. HasCause r → LacksNoMemory r) same (expanded_lacks name text grow circle expanded is) caused

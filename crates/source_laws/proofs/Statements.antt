@@ -1,7 +1,7 @@
 -- The errors of lines and statements have a cause in the source: they are never that memory ran out, and have that never inside.
-use Rattle.std.proofs.Common.{◌≡◌, ◌≢◌, ◌+◌, ◌==◌, ◌&&◌, ◌%◌, if◌then◌else◌, refl, subst, ℕ, zero, suc, Bool, true, false, nat_lt, List, [], ◌∷◌, Option, Some, None, Result, Ok, Err, map}
-use Rattle.std.specs.List.{flat_map, list_all, list_any}
-use Rattle.std.specs.Option.{option_and_then, option_map}
+use Rattle.std.proofs.Common.{◌≢◌, ◌==◌, ◌&&◌, if◌then◌else◌, refl, ℕ, Bool, true, false, List, [], ◌∷◌, Option, Some, None, Result, Ok, Err, map}
+use Rattle.std.specs.List.{AllByRecursion, list_all, list_any}
+use Rattle.std.specs.Option.{option_map}
 use Rattle.std.specs.Map.{lookup}
 use Rattle.std.specs.Str.{str_eq_ignore_ascii_case}
 use Rattle.common.specs.Results.{◌>>=◌}
@@ -10,6 +10,8 @@ use Rattle.asm_scan.specs.Tokens.{Lexeme}
 use Rattle.asm_parse.specs.declared.fault.ExprFault.{ExprFault}
 use Rattle.asm_parse.specs.Expression.{postfix}
 use Rattle.asm_parse.specs.Parsed.{parsed}
+use Rattle.asm_parse.specs.declared.item.Item.{Item}
+use Rattle.asm_parse.specs.Source as operand
 use Rattle.asm_line.specs.Forms as front
 use Rattle.asm_line.specs.Lists.{name_list}
 use Rattle.z80_instr.specs.declared.IndexRegister.{IndexRegister}
@@ -28,19 +30,18 @@ use Rattle.asm_spell.specs.Faults.{each, of_expression, value_or}
 use Rattle.asm_spell.specs.Line.{Body, ExpressionItems, Line, Value}
 use Rattle.asm_spell.specs.Line as line
 use Rattle.zmo_module.specs.Holes.{ends_in_byte}
-use Rattle.asm_spell.specs.Operands.{WrittenOperand, answered_by, at_expression, index_named, indexed, indexed_or, inner, is_memory, is_one_name, is_sign_kind, memory_operand, name_alone, named_or, operands, parsed_expression, pointed, pointed_or, token_name, with_expression, written_operand}
+use Rattle.asm_spell.specs.Operands.{WrittenOperand, answered_by, index_named, indexed, indexed_or, inner, is_memory, is_one_name, is_sign_kind, memory_operand, name_alone, named_or, operands, parsed_expression, pointed, pointed_or, token_name, with_expression, written_operand}
 use Rattle.asm_spell.specs.Directives.{bytes_body, data_item, directive, directives, end, end_body, external, is_empty_text, name_or_expression, nameless, names_listed, names_or, of_bytes, of_nothing, of_origin, of_space, of_words, origin_body, public, space_body, text_alone, text_or, words_body, z80_body}
-use Rattle.asm_spell.specs.Spelling.{equ_definition, has_reserved, instruction, instruction_by, labelled_line, line_by, operation, spelled, word_by}
+use Rattle.asm_spell.specs.Spelling.{has_reserved, instruction, instruction_by, labelled_line, line_by, operation, spelled, word_by}
 use Rattle.asm_expr.specs.declared.answer.Settled.{Settled}
 use Rattle.asm_expr.specs.declared.here.Offset.{Offset}
-use Rattle.asm_expr.specs.declared.meaning.Meaning.{Meaning}
 use Rattle.asm_expr.specs.declared.unknown.Unknown.{Unknown}
 use Rattle.asm_expr.specs.Below.{source}
 use Rattle.asm_expr.specs.Names.{Table, found}
 use Rattle.asm_expr.specs.Offsets.{offset}
 use Rattle.asm_expr.specs.Settling.{fault, is_constant_item, settled}
 use Rattle.asm_stmt.specs.Fields.{as_stmt, byte, byte_by, distance_filling, distance_or, field_filling, fixed, fixed_by, from_end, is_number_unknown, number, settled_in}
-use Rattle.asm_stmt.specs.Made.{Made, Jump, Short, bytes_made, code, fillings, is_origin, jump_by, long_jump, made, number_filled, origin, ref_of, short_by, space_fill, space_made, space_size, value_cells, word_cells, words_made}
+use Rattle.asm_stmt.specs.Made.{code, fillings, is_origin, jump_by, long_jump, made, number_filled, ref_of, short_by, space_fill, space_size, value_cells, word_cells}
 use Rattle.source_laws.specs.Causes.{IsOfStatement}
 use Rattle.source_laws.proofs.Faults.{fault_caused, parsed_caused, settled_caused}
 
@@ -58,9 +59,9 @@ each_caused read [] h = tt
 each_caused read (x ∷ xs) h = then_caused (read x) _ (h x) (λ y. then_caused (each read xs) _ (each_caused read xs h) (λ ys. tt))
 
 -- one of two answers
-if_caused : {A : Type 0} (b : Bool) (yes no : Result A StmtFault) → Caused yes → Caused no → Caused (if b then yes else no)
-if_caused true yes no one other = one
-if_caused false yes no one other = other
+if_caused : {A : Type 0} (b : Bool) (p q : Result A StmtFault) → Caused p → Caused q → Caused (if b then p else q)
+if_caused true p q one other = one
+if_caused false p q one other = other
 
 value_caused : {A : Type 0} (why : StmtFault) (o : Option A) → IsOfStatement why → Caused (value_or why o)
 value_caused why None h = h
@@ -177,11 +178,11 @@ abbrev ReadsIf : Option (List Lexeme → Result Body StmtFault) → Type 0
 ReadsIf None = Unit {0}
 ReadsIf (Some read) = Reads read
 
-next_caused : (name word : List ℕ) (read : List Lexeme → Result Body StmtFault) (more : List (List ℕ × (List Lexeme → Result Body StmtFault)))
-    → Reads read → ReadsIf (lookup (str_eq_ignore_ascii_case name) more) → ReadsIf (lookup (str_eq_ignore_ascii_case name) ((word, read) ∷ more))
-next_caused name word read more one others = elim (str_eq_ignore_ascii_case name word) as (λ b. ReadsIf (if b then Some read else lookup (str_eq_ignore_ascii_case name) more)) [
-  | true ↦ one
-  | false ↦ others
+found_caused : (name : List ℕ) (entries : List (List ℕ × (List Lexeme → Result Body StmtFault))) → AllByRecursion (λ entry. Reads entry.1) entries → ReadsIf (lookup (str_eq_ignore_ascii_case name) entries)
+found_caused name [] all = tt
+found_caused name (entry ∷ entries) all = elim (str_eq_ignore_ascii_case name entry.0) as (λ b. ReadsIf (if b then Some entry.1 else lookup (str_eq_ignore_ascii_case name) entries)) [
+  | true ↦ all.0
+  | false ↦ found_caused name entries all.1
 ]
 
 of_bytes_caused : Reads of_bytes
@@ -199,23 +200,18 @@ public_caused tokens = then_caused (names_listed tokens) _ (listed_caused tokens
 external_caused : Reads external
 external_caused tokens = then_caused (names_listed tokens) _ (listed_caused tokens) (λ list. tt)
 
+origin_caused : Reads of_origin
+origin_caused = expressions_caused origin_body origin_body_caused
+
+nothing_caused : Reads of_nothing
+nothing_caused = expressions_caused z80_body z80_caused
+
+nameless_caused : Reads nameless
+nameless_caused = expressions_caused (λ _. Err StmtFault.BadOperands) (λ es. tt)
+
 directive_caused : (name : List ℕ) → ReadsIf (directive name)
-directive_caused name =
-    next_caused name _ of_bytes _ of_bytes_caused
-    (next_caused name _ of_bytes _ of_bytes_caused
-    (next_caused name _ of_bytes _ of_bytes_caused
-    (next_caused name _ of_words _ of_words_caused
-    (next_caused name _ of_words _ of_words_caused
-    (next_caused name _ of_space _ of_space_caused
-    (next_caused name _ of_space _ of_space_caused
-    (next_caused name _ public _ public_caused
-    (next_caused name _ public _ public_caused
-    (next_caused name _ external _ external_caused
-    (next_caused name _ external _ external_caused
-    (next_caused name _ of_origin _ (expressions_caused origin_body origin_body_caused)
-    (next_caused name _ end _ end_caused
-    (next_caused name _ of_nothing _ (expressions_caused z80_body z80_caused)
-    (next_caused name _ nameless [] (expressions_caused (λ _. Err StmtFault.BadOperands) (λ es. tt)) tt))))))))))))))
+directive_caused name = found_caused name directives
+    (of_bytes_caused, (of_bytes_caused, (of_bytes_caused, (of_words_caused, (of_words_caused, (of_space_caused, (of_space_caused, (public_caused, (public_caused, (external_caused, (external_caused, (origin_caused, (end_caused, (nothing_caused, (nameless_caused, tt)))))))))))))))
 
 word_caused : (m : Option Mnemonic) (read : Option (List Lexeme → Result Body StmtFault)) (tokens : List Lexeme) → ReadsIf read → Caused (word_by m read tokens)
 word_caused (Some m) read tokens h = instruction_caused m tokens
@@ -306,7 +302,7 @@ code_caused t instr numbers = then_caused (fillings t numbers) _ (each_caused (n
 
 jump_caused : (r : Option ℕ) (t : Table) (condition : Option ShortCond) (target : List ℕ) → Caused (jump_by r t condition target)
 jump_caused (Some r) t condition target = tt
-jump_caused None t condition target = code_caused t (long_jump condition 0) _
+jump_caused None t condition target = code_caused t (long_jump condition 0) ((Field.Word, Item.Leaf (operand.Name target) ∷ []) ∷ [])
 
 short_caused : (r : Option ℕ) (branch : Branch) → Caused (short_by r branch)
 short_caused (Some r) branch = tt
