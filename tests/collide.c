@@ -1,13 +1,14 @@
 /* Prints names of seven letters and digits that all fall into one place of a hash table of 4,096 groups, with one tag, by the fixed hash
  * of the toolchain's indexmap: a slice is its length and then its bytes, each a call of a hasher that folds a product of 128 bits.
- * The word is how many names. */
+ * The first word is how many names. With a second word the hasher first takes a number of 64 bits: SipHash-1-3 of nothing, which is the key
+ * of a table whose key depends on no name. */
 #include <stdint.h>
 #include <stdio.h>
 #include <stdlib.h>
 
 #define LETTERS 7
 
-static const uint64_t start = 0x243f6a8885a308d3, multiplier = 0x9e3779b97f4a7c15;
+static const uint64_t start = 0x243f6a8885a308d3, multiplier = 0x9e3779b97f4a7c15, nothing = 0xd1fba762150c532c;
 static const char signs[] = "ABCDEFGHIJKLMNOPQRSTUVWXYZ0123456789";
 
 static uint64_t fold(uint64_t a, uint64_t b)
@@ -42,7 +43,8 @@ static void names(int len, uint64_t state)
 
 int main(int count, char **words)
 {
+    const uint64_t factor = multiplier ^ 2 * sizeof(uint64_t);
     wanted = count > 1 ? atol(words[1]) : 0;
-    names(0, fold(start ^ LETTERS, multiplier ^ 2 * sizeof(uint64_t)));
+    names(0, fold((count > 2 ? fold(start ^ nothing, factor) : start) ^ LETTERS, factor));
     return 0;
 }
