@@ -14,8 +14,9 @@ use Rattle.clap.specs.declared.error.kind.ErrorKind.TheVariants.{MissingRequired
 use Rattle.z80dev_commands.specs.declared.Attribute.{Attribute}
 use Rattle.z80dev_commands.specs.declared.Attribute.TheVariants.{ReadOnly, System}
 use Rattle.z80dev_commands.specs.declared.Job.{Job}
-use Rattle.z80dev_commands.specs.declared.Job.TheVariants.{Pipe, Asm, Link, Build, Check, Dir, Put, PutAll, Get, GetAll, Erase, Rename, Protect, CheckDisk, Blank, Run}
+use Rattle.z80dev_commands.specs.declared.Job.TheVariants.{Pipe, Asm, Link, Build, Check, Dis, Dir, Put, PutAll, Get, GetAll, Erase, Rename, Protect, CheckDisk, Blank, Run}
 use Rattle.z80dev_commands.specs.declared.Manner.{Manner}
+use Rattle.z80dev_commands.specs.declared.Shared.{Shared}
 use Rattle.z80dev_commands.specs.declared.Target.{Target}
 
 -- ---- arguments
@@ -40,15 +41,30 @@ paths_rule name = record (new_rule name) {
 abbrev pub words_rule : Text → Rule
 words_rule name = record (paths_rule name) { required = false }
 
--- `--out BASE`, which is required
+-- `--out BASE`, or `-o BASE`, which is required
 abbrev pub out_rule : Rule
-out_rule = record (path_rule (codes "BASE")) { long = Some (codes "out") }
+out_rule = record (path_rule (codes "BASE")) { long = Some (codes "out"); short = Some 111 }
+
+-- the same, which need not be given
+abbrev pub base_rule : Rule
+base_rule = record out_rule { required = false }
 
 -- `--NAME ID`, which need not be given
 abbrev pub option_rule : Text → Text → Rule
 option_rule name id = record (new_rule id) { long = Some name; action = Some Set }
 
--- the same with a number from 0 to `most` as its value
+-- `--NAME ID`, which may be given any number of times
+abbrev pub list_rule : Text → Text → Rule
+list_rule name id = record (option_rule name id) { action = Some Append }
+
+-- `--define NAME=VALUE` and `--with FILE`, each any number of times
+abbrev pub define_rule : Rule
+define_rule = list_rule (codes "define") (codes "NAME=VALUE")
+
+abbrev pub with_file_rule : Rule
+with_file_rule = list_rule (codes "with") (codes "FILE")
+
+-- `--NAME ID` with a number from 0 to `most` as its value
 abbrev pub number_rule : Text → Text → ℕ → Rule
 number_rule name id most = record (option_rule name id) { parser = Some (Unsigned 0 most) }
 
@@ -78,21 +94,26 @@ target_rules = user_rule ∷ flag_rule (codes "no-lock") ∷ path_rule (codes "I
 abbrev pub with_rules : Text → List Rule → Shape
 with_rules name rules = record (new_shape name) { rules = rules }
 
--- `asm --out BASE [--grow] SRC`
+-- `asm --out BASE [--grow] [--define NAME=VALUE].. [--with FILE].. SRC`
 abbrev pub asm_shape : Shape
-asm_shape = with_rules (codes "asm") (out_rule ∷ flag_rule (codes "grow") ∷ path_rule (codes "SRC") ∷ [])
+asm_shape = with_rules (codes "asm") (out_rule ∷ flag_rule (codes "grow") ∷ define_rule ∷ with_file_rule ∷ path_rule (codes "SRC") ∷ [])
 
 -- `link --out BASE OBJ..`
 abbrev pub link_shape : Shape
 link_shape = with_rules (codes "link") (out_rule ∷ paths_rule (codes "OBJ") ∷ [])
 
--- `build --out BASE [--grow] [--list] [--verbose] SRC..`
+-- `build [--out BASE] [--grow] [--list] [--verbose] [--define NAME=VALUE].. [--with FILE].. SRC..`
 abbrev pub build_shape : Shape
-build_shape = with_rules (codes "build") (out_rule ∷ flag_rule (codes "grow") ∷ flag_rule (codes "list") ∷ verbose_rule ∷ paths_rule (codes "SRC") ∷ [])
+build_shape = with_rules (codes "build")
+    (base_rule ∷ flag_rule (codes "grow") ∷ flag_rule (codes "list") ∷ verbose_rule ∷ define_rule ∷ with_file_rule ∷ paths_rule (codes "SRC") ∷ [])
 
 -- `check SIZES CERT`
 abbrev pub check_shape : Shape
 check_shape = with_rules (codes "check") (path_rule (codes "SIZES") ∷ path_rule (codes "CERT") ∷ [])
+
+-- `dis [--labels SYM] [--entry ADDR].. COM`
+abbrev pub dis_shape : Shape
+dis_shape = with_rules (codes "dis") (option_rule (codes "labels") (codes "SYM") ∷ list_rule (codes "entry") (codes "ADDR") ∷ path_rule (codes "COM") ∷ [])
 
 -- `dir [--user N] [--long] IMG [NAME]`
 abbrev pub dir_shape : Shape
@@ -137,9 +158,9 @@ run_shape = with_rules (codes "run")
 abbrev pub bare : App
 bare = record { top = record (new_shape (codes "z80dev")) { disable_help_subcommand = true; has_version = true }; subs = [] }
 
--- the command with the commands that make programs
+-- the command with the commands that make programs and take them apart
 abbrev pub programs : App
-programs = with_subcommand (with_subcommand (with_subcommand (with_subcommand bare asm_shape) link_shape) build_shape) check_shape
+programs = with_subcommand (with_subcommand (with_subcommand (with_subcommand (with_subcommand bare asm_shape) link_shape) build_shape) check_shape) dis_shape
 
 -- with those that list, copy, erase and rename the files of a disk
 abbrev pub with_files : App
@@ -183,6 +204,10 @@ FindsAny id values rows = values_of id rows ≡ map (λ value. value.now) values
 -- these texts are the value of the first argument and then all values of the second
 abbrev pub FindsJoined : Text → Text → List (Bor Text) → List Row → Type 0
 FindsJoined one more values rows = (text : Text) × (first_of one rows ≡ Some text) × (text ∷ values_of more rows ≡ map (λ value. value.now) values)
+
+-- The definitions and the shared files that stand before each source, in the order of the words.
+abbrev pub FindsShared : Shared → List Row → Type 0
+FindsShared shared rows = FindsAny (codes "NAME=VALUE") shared.defines.items rows × FindsAny (codes "FILE") shared.files.items rows
 
 -- the text reads as this number of 64 bits: decimal digits, with or without a plus in front
 abbrev pub ReadsAs : Text → ℕ → Type 0
@@ -233,12 +258,15 @@ Meets met name Holds = (rows : List Row) × (met ≡ Some (name, rows)) × Holds
 -- The job of the command that a parse found, with the values of its arguments.
 abbrev pub IsJobOf : Option (Text × List Row) → Job → Type 0
 IsJobOf met Pipe = met ≡ None
-IsJobOf met (Asm out grow source) =
-    Meets met (codes "asm") (λ rows. HasValue (codes "BASE") out rows × (is_on (codes "grow") rows ≡ grow) × HasValue (codes "SRC") source rows)
+IsJobOf met (Asm out grow shared source) = Meets met (codes "asm") (λ rows. HasValue (codes "BASE") out rows
+    × (is_on (codes "grow") rows ≡ grow) × FindsShared shared rows × HasValue (codes "SRC") source rows)
 IsJobOf met (Link out objects) = Meets met (codes "link") (λ rows. HasValue (codes "BASE") out rows × FindsAll (codes "OBJ") objects.items rows)
-IsJobOf met (Build out grow list verbose sources) = Meets met (codes "build") (λ rows. HasValue (codes "BASE") out rows
-    × (is_on (codes "grow") rows ≡ grow) × (is_on (codes "list") rows ≡ list) × (is_on (codes "verbose") rows ≡ verbose) × FindsAll (codes "SRC") sources.items rows)
+IsJobOf met (Build out grow list verbose shared sources) = Meets met (codes "build") (λ rows. FindsIfGiven (codes "BASE") out rows
+    × (is_on (codes "grow") rows ≡ grow) × (is_on (codes "list") rows ≡ list) × (is_on (codes "verbose") rows ≡ verbose) × FindsShared shared rows
+    × FindsAll (codes "SRC") sources.items rows)
 IsJobOf met (Check sizes cert) = Meets met (codes "check") (λ rows. HasValue (codes "SIZES") sizes rows × HasValue (codes "CERT") cert rows)
+IsJobOf met (Dis labels entries program) = Meets met (codes "dis") (λ rows. FindsIfGiven (codes "SYM") labels rows
+    × FindsAny (codes "ADDR") entries.items rows × HasValue (codes "COM") program rows)
 IsJobOf met (Dir image user long name) = Meets met (codes "dir") (λ rows. HasValue (codes "IMG") image rows
     × FindsUser user rows × (is_on (codes "long") rows ≡ long) × FindsIfGiven (codes "NAME") name rows)
 IsJobOf met (Put target manner file name) = Meets met (codes "put") (λ rows. (is_on (codes "to") rows ≡ false)

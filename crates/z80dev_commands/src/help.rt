@@ -8,7 +8,7 @@ pub(crate) const WITHOUT_COMMAND: &str =
 Example: printf 'JP X\nNOP\nX: RET\n' | z80dev
 prints 180100c9.
 
-Example: z80dev build --out game main.asm print.asm
+Example: z80dev build -o game main.asm print.asm
 writes game.com, which `z80dev run game.com` runs.
 
 `z80dev COMMAND --help` explains what a command reads, writes and prints.
@@ -16,9 +16,12 @@ docs/GUIDE.md in the sources takes you through a whole program.";
 
 pub(crate) const ASM: &str =
     r"Reads SRC and writes the object file BASE.zmo for `z80dev link`. Prints
-nothing.
+nothing. If SRC or a FILE has the path BASE.zmo, nothing is written, and there
+is a line `error: Overwrites(PATH)`.
 
-Example: z80dev asm --out main main.asm
+`z80dev build --help` explains --define and --with.
+
+Example: z80dev asm -o main main.asm
 writes main.zmo.";
 
 pub(crate) const LINK: &str =
@@ -26,9 +29,10 @@ pub(crate) const LINK: &str =
 BASE.siz, the size of each statement; BASE.crt, the certificate that no choice
 of short and long jumps gives fewer bytes; and BASE.com, the program. If no
 choice fits, it writes BASE.siz and BASE.crt only, and the certificate shows
-why. Prints nothing.
+why. Prints nothing. If an OBJ has the path of one of these files, nothing is
+written, and there is a line `error: Overwrites(PATH)`.
 
-Example: z80dev link --out game main.zmo print.zmo
+Example: z80dev link -o game main.zmo print.zmo
 writes game.siz, game.crt and game.com.";
 
 pub(crate) const BUILD: &str =
@@ -39,11 +43,24 @@ no choice fits, it writes BASE.siz and BASE.crt only, and the certificate shows
 why. Prints nothing; with --grow, prints a line `grown PATH(LINE)` for each JR
 that became a JP.
 
-A file that it writes replaces one of the same name without a warning, even if
-that is one of the sources or is write-protected.
+Without --out, BASE is the path of the first SRC without its ending: src/game for
+src/game.asm.
 
-Example: z80dev build --list --out game main.asm print.asm
-writes game.siz, game.crt, game.com, game.lst and game.sym.";
+--define and --with may be given several times. Each source is assembled as if
+a line `NAME EQU VALUE` for each definition and then all lines of each FILE
+stood before its own first line. A FILE may have EQU lines, macros and EXTRN
+lines, and conditions and repetitions of these. VALUE is a number as in a
+source: 12, 0FFH or 101B.
+
+A file that it writes replaces one of the same name without a warning, even one
+that is write-protected. But if a SRC or a FILE has the path of one of them,
+nothing is written, and there is a line `error: Overwrites(PATH)`.
+
+Example: z80dev build --list -o game main.asm print.asm
+writes game.siz, game.crt, game.com, game.lst and game.sym.
+
+Example: z80dev build --define DEBUG=1 --with screen.inc main.asm
+defines DEBUG in main.asm, which may use the macros of screen.inc.";
 
 pub(crate) const CHECK: &str =
     r"Reads the sizes and the certificate that link and build write, and prints one
@@ -56,6 +73,24 @@ Writes nothing.
 
 Example: z80dev check game.siz game.crt
 prints a line such as best 260.";
+
+pub(crate) const DIS: &str =
+    r"Reads COM, a program that CP/M loads at 0100H, and prints a source file of which
+`z80dev build` makes the same bytes. Writes nothing.
+
+What the program reaches from 0100H by jumps and calls is printed as
+instructions, and the rest as data. If it also jumps to an address that it
+computes or reads from a table, give that address with --entry, which may be
+given several times. ADDR is a number as in a source, such as 0150H or 336.
+
+With --labels, the labels have the names of SYM, which `z80dev build --list`
+writes. Without, a label is L and its address, such as L0150.
+
+Example: z80dev dis game.com >game.asm
+writes game.asm.
+
+Example: z80dev dis --labels game.sym --entry 0150H game.com
+prints the source with the names of game.sym.";
 
 pub(crate) const DIR: &str =
     r"Reads IMG and prints a line for each file: its user, its name, its length in

@@ -2,10 +2,10 @@
 
 ghost use Rattle.std.specs.Prelude.{◌≡◌, ◌∷◌, [], true, IfOk, MatchResult, Some, codes, is_some, length, map};
 ghost use Rattle.clap.specs.Words.{all_of, first_of, found_of, kind_of, rows_of};
-ghost use Rattle.z80dev_commands.specs.Commands.{HasValue, FindsAll, FindsAny, FindsIfGiven, FindsLock, FindsManner, FindsNumber, FindsTarget, FindsUser, FindsUserOrZero, IsJobOf, Miscounts, is_on, is_system_attribute, protect_name};
+ghost use Rattle.z80dev_commands.specs.Commands.{HasValue, FindsAll, FindsAny, FindsIfGiven, FindsLock, FindsManner, FindsNumber, FindsShared, FindsTarget, FindsUser, FindsUserOrZero, IsJobOf, Miscounts, is_on, is_system_attribute, protect_name};
 ghost use Rattle.z80dev_commands.specs.Private.{AreFound, HasTarget, IsFlag, IsNumber, IsRefused};
 
-use crate::{Attribute, Job, Manner, Target, usage};
+use crate::{Attribute, Job, Manner, Shared, Target, usage};
 use clap::error::ErrorKind;
 use clap::{ArgMatches, Command, Error};
 use std::alloc::{AllocError, Global};
@@ -108,6 +108,16 @@ fn target<'a>(found: &ArgMatches<'a>) -> Target<'a>
     }
 }
 
+/// What stands before each source.
+fn shared<'a>(alloc: Global, found: &ArgMatches<'a>) -> Result<Shared<'a>, AllocError>
+    ensures { IfOk result (λ shared. FindsShared shared (rows_of (found_of found.now))) }
+{
+    Ok(Shared {
+        defines: texts_if_given(alloc, found, "NAME=VALUE")?,
+        files: texts_if_given(alloc, found, "FILE")?,
+    })
+}
+
 /// The path, if there is exactly one.
 ///
 /// # Errors
@@ -135,15 +145,16 @@ fn miscounted(
     command.error(kind, form)
 }
 
-fn asm<'a>(found: &ArgMatches<'a>) -> Job<'a>
+fn asm<'a>(alloc: Global, found: &ArgMatches<'a>) -> Result<Job<'a>, AllocError>
     requires { AreFound (codes "asm") (rows_of (found_of found.now)) }
-    ensures { IsJobOf (Some (codes "asm", rows_of (found_of found.now))) result }
+    ensures { IfOk result (IsJobOf (Some (codes "asm", rows_of (found_of found.now)))) }
 {
-    Job::Asm {
+    Ok(Job::Asm {
         out: text(found, "BASE"),
         grow: flag(found, "grow"),
+        shared: shared(alloc, found)?,
         source: text(found, "SRC"),
-    }
+    })
 }
 
 fn link<'a>(alloc: Global, found: &ArgMatches<'a>) -> Result<Job<'a>, AllocError>
@@ -161,10 +172,11 @@ fn build<'a>(alloc: Global, found: &ArgMatches<'a>) -> Result<Job<'a>, AllocErro
     ensures { IfOk result (IsJobOf (Some (codes "build", rows_of (found_of found.now)))) }
 {
     Ok(Job::Build {
-        out: text(found, "BASE"),
+        out: text_if_given(found, "BASE"),
         grow: flag(found, "grow"),
         list: flag(found, "list"),
         verbose: flag(found, "verbose"),
+        shared: shared(alloc, found)?,
         sources: texts(alloc, found, "SRC")?,
     })
 }
@@ -177,6 +189,17 @@ fn check<'a>(found: &ArgMatches<'a>) -> Job<'a>
         sizes: text(found, "SIZES"),
         cert: text(found, "CERT"),
     }
+}
+
+fn dis<'a>(alloc: Global, found: &ArgMatches<'a>) -> Result<Job<'a>, AllocError>
+    requires { AreFound (codes "dis") (rows_of (found_of found.now)) }
+    ensures { IfOk result (IsJobOf (Some (codes "dis", rows_of (found_of found.now)))) }
+{
+    Ok(Job::Dis {
+        labels: text_if_given(found, "SYM"),
+        entries: texts_if_given(alloc, found, "ADDR")?,
+        program: text(found, "COM"),
+    })
 }
 
 fn dir<'a>(found: &ArgMatches<'a>) -> Job<'a>
@@ -354,10 +377,11 @@ pub(crate) fn job<'a>(alloc: Global, name: &str, found: &ArgMatches<'a>) -> Resu
     ensures { MatchResult result (IsJobOf (Some (name.now, rows_of (found_of found.now)))) (IsRefused (Some (name.now, rows_of (found_of found.now)))) }
 {
     match name {
-        "asm" => Ok(asm(found)),
+        "asm" => Ok(asm(alloc, found)?),
         "link" => Ok(link(alloc, found)?),
         "build" => Ok(build(alloc, found)?),
         "check" => Ok(check(found)),
+        "dis" => Ok(dis(alloc, found)?),
         "dir" => Ok(dir(found)),
         "put" => put(alloc, found),
         "get" => get(alloc, found),

@@ -14,7 +14,7 @@ use clap::Error;
 use std::alloc::Global;
 
 /// The image that a command changes, and how.
-#[derive(Clone, Copy, Debug, PartialEq, Eq)]
+#[derive(Clone, Copy, Debug)]
 pub struct Target<'a> {
     /// The path of the image.
     pub image: &'a str,
@@ -25,7 +25,7 @@ pub struct Target<'a> {
 }
 
 /// The attribute that `protect` sets and `unprotect` clears.
-#[derive(Clone, Copy, Debug, PartialEq, Eq)]
+#[derive(Clone, Copy, Debug)]
 pub enum Attribute {
     /// The file is read-only: `erase` refuses it.
     ReadOnly,
@@ -34,7 +34,7 @@ pub enum Attribute {
 }
 
 /// How files are put on a disk.
-#[derive(Clone, Copy, Debug, PartialEq, Eq)]
+#[derive(Clone, Copy, Debug)]
 pub struct Manner {
     /// Whether a file of the same name is replaced.
     pub replace: bool,
@@ -42,16 +42,26 @@ pub struct Manner {
     pub text: bool,
 }
 
+/// What stands before the first line of each source.
+#[derive(Debug, Drop)]
+pub struct Shared<'a> {
+    /// The definitions, as `NAME=VALUE`, in the order of the words.
+    pub defines: Vec<&'a str>,
+    /// The paths of the files that the sources share, in the order of the words.
+    pub files: Vec<&'a str>,
+}
+
 /// The job that the words ask for.
-#[derive(Debug, PartialEq, Eq, Drop)]
+#[derive(Debug, Drop)]
 pub enum Job<'a> {
     /// No words: assembles the source on standard input to a .COM file, and prints its bytes in hexadecimal.
     Pipe,
-    /// Assembles a source: the path of the files to write, without their endings; whether a written `JR` may become a `JP`; and the path
-    /// of the source.
+    /// Assembles a source: the path of the files to write, without their endings; whether a written `JR` may become a `JP`; what stands
+    /// before the source; and its path.
     Asm {
         out: &'a str,
         grow: bool,
+        shared: Shared<'a>,
         source: &'a str,
     },
     /// Links object files: the path of the files to write, without their endings; and the paths of the object files in the order of the
@@ -60,20 +70,28 @@ pub enum Job<'a> {
         out: &'a str,
         objects: Vec<&'a str>,
     },
-    /// Assembles and links sources: the path of the files to write, without their endings; whether a written `JR` may become a `JP`;
-    /// whether a listing and the symbols are written; whether the command reports how many jumps are short; and the paths of the sources
-    /// in the order of the words.
+    /// Assembles and links sources: the path of the files to write, without their endings, or None for that of the first source; whether
+    /// a written `JR` may become a `JP`; whether a listing and the symbols are written; whether the command reports how many jumps are
+    /// short; what stands before each source; and the paths of the sources in the order of the words, at least one.
     Build {
-        out: &'a str,
+        out: Option<&'a str>,
         grow: bool,
         list: bool,
         verbose: bool,
+        shared: Shared<'a>,
         sources: Vec<&'a str>,
     },
     /// Checks a certificate: the paths of the sizes file and of the certificate.
     Check {
         sizes: &'a str,
         cert: &'a str,
+    },
+    /// Writes a source that builds to a program: the path of a file of its labels, if one is given; addresses at which code begins, in
+    /// the order of the words; and the path of the .COM file.
+    Dis {
+        labels: Option<&'a str>,
+        entries: Vec<&'a str>,
+        program: &'a str,
     },
     /// Lists the files of a disk: the path of its image; the user whose files are listed, 0 to 31, or None for all users; whether each
     /// line also gives the room that the file takes; and the name of the files to list, which may have `?` and `*`, or None for all.

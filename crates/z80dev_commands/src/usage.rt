@@ -1,131 +1,23 @@
-//! The command for `clap`: its commands, and the arguments of each.
+//! The command for `clap`: its commands.
+
+mod arguments;
 
 ghost use Rattle.std.specs.Prelude.{◌≡◌, IfOk, Ok, false, codes};
-ghost use Rattle.clap.specs.Words.{AddsSubcommand, app_of, new_app, rule_of};
+ghost use Rattle.clap.specs.Words.{AddsSubcommand, app_of, new_app};
 ghost use Rattle.clap.specs.declared.builder.command.Command.TheViews.{out-Command};
-ghost use Rattle.z80dev_commands.specs.Commands.{asm_shape, bare, blank_shape, build_shape, check_disk_shape, check_shape, dir_shape, erase_shape, flag_rule, get_shape, link_shape, name_rule, option_rule, out_rule, path_rule, paths_rule, programs, protect_shape, put_shape, rename_shape, run_shape, steps_rule, user_rule, verbose_rule, with_files, words_rule, z80dev};
-ghost use Rattle.z80dev_commands.specs.Private.{alone, with_target};
+ghost use Rattle.z80dev_commands.specs.Commands.{asm_shape, bare, blank_shape, build_shape, check_disk_shape, check_shape, dir_shape, dis_shape, erase_shape, get_shape, link_shape, programs, protect_shape, put_shape, rename_shape, run_shape, with_files, z80dev};
+ghost use Rattle.z80dev_commands.specs.Private.{alone};
 
 use crate::help;
-use clap::builder::ValueParser;
-use clap::{Arg, ArgAction, Command, value_parser};
+use arguments::{
+    base, define, flag, grow, image, list, name_if_given, names, no_lock, option, out_given, path,
+    paths, steps, user, user_or_zero, verbose, with_file, with_target, words,
+};
+use clap::Command;
 use std::alloc::{AllocError, Global};
 
 /// The version that `--version` prints after the command's name.
 const VERSION: &str = "0.2.0";
-
-/// A required path, with its help.
-fn path<'a>(alloc: Global, name: &'a str, help: &'a str) -> Arg<'a>
-    ensures rule { rule_of result ≡ path_rule name.now }
-    ensures local { result.global ≡ false }
-{
-    Arg::new(alloc, name)
-        .required(true)
-        .action(ArgAction::Set)
-        .help(help)
-}
-
-/// One or more paths.
-fn paths<'a>(alloc: Global, name: &'a str, help: &'a str) -> Arg<'a>
-    ensures rule { rule_of result ≡ paths_rule name.now }
-    ensures local { result.global ≡ false }
-{
-    Arg::new(alloc, name)
-        .required(true)
-        .num_args(1..)
-        .action(ArgAction::Append)
-        .help(help)
-}
-
-/// Any number of words, even none.
-fn words<'a>(alloc: Global, name: &'a str, help: &'a str) -> Arg<'a>
-    ensures rule { rule_of result ≡ words_rule name.now }
-    ensures local { result.global ≡ false }
-{
-    paths(alloc, name, help).required(false)
-}
-
-/// `--out BASE`.
-fn out<'a>(alloc: Global) -> Arg<'a>
-    ensures rule { rule_of result ≡ out_rule }
-    ensures local { result.global ≡ false }
-{
-    path(
-        alloc,
-        "BASE",
-        "The path of the files to write, without their endings",
-    )
-    .long("out")
-}
-
-/// The option `--NAME ID`, which need not be given.
-fn option<'a>(alloc: Global, name: &'a str, id: &'a str, help: &'a str) -> Arg<'a>
-    ensures rule { rule_of result ≡ option_rule name.now id.now }
-    ensures local { result.global ≡ false }
-{
-    Arg::new(alloc, id)
-        .long(name)
-        .action(ArgAction::Set)
-        .help(help)
-}
-
-/// `--steps N`.
-fn steps<'a>(alloc: Global) -> Arg<'a>
-    ensures rule { rule_of result ≡ steps_rule }
-    ensures local { result.global ≡ false }
-{
-    option(
-        alloc,
-        "steps",
-        "N",
-        "The most steps (instructions, repetitions, system calls) [default: 100000000]",
-    )
-    .value_parser(value_parser!(u64))
-}
-
-/// `--user N`.
-fn user<'a>(alloc: Global, help: &'a str) -> Arg<'a>
-    ensures rule { rule_of result ≡ user_rule }
-    ensures local { result.global ≡ false }
-{
-    option(alloc, "user", "N", help).value_parser(ValueParser::unsigned(0, 31))
-}
-
-/// The flag `--NAME`.
-fn flag<'a>(alloc: Global, name: &'a str, help: &'a str) -> Arg<'a>
-    ensures rule { rule_of result ≡ flag_rule name.now }
-    ensures local { result.global ≡ false }
-{
-    Arg::new(alloc, name)
-        .long(name)
-        .action(ArgAction::SetTrue)
-        .help(help)
-}
-
-/// `--grow`.
-fn grow<'a>(alloc: Global) -> Arg<'a>
-    ensures rule { rule_of result ≡ flag_rule (codes "grow") }
-    ensures local { result.global ≡ false }
-{
-    flag(
-        alloc,
-        "grow",
-        "Lets a JR that does not reach its label become a JP",
-    )
-}
-
-/// `--verbose`, or `-v`.
-fn verbose<'a>(alloc: Global) -> Arg<'a>
-    ensures rule { rule_of result ≡ verbose_rule }
-    ensures local { result.global ≡ false }
-{
-    flag(
-        alloc,
-        "verbose",
-        "Reports on standard error how many jumps are short and long, and the bytes saved",
-    )
-    .short('v')
-}
 
 /// A command without its arguments: its name, what it does, and the text at the end of its help.
 fn titled<'a>(alloc: Global, name: &'a str, about: &'a str, below: &'a str) -> Command<'a>
@@ -145,8 +37,10 @@ fn asm<'a>(alloc: Global) -> Result<Command<'a>, AllocError>
         "Assembles a source file to an object file",
         help::ASM,
     )
-    .arg(out(alloc))?
+    .arg(out_given(alloc))?
     .arg(grow(alloc))?
+    .arg(define(alloc))?
+    .arg(with_file(alloc))?
     .arg(path(alloc, "SRC", "The source file"))
 }
 
@@ -155,7 +49,7 @@ fn link<'a>(alloc: Global) -> Result<Command<'a>, AllocError>
     ensures local { IfOk result (λ c. (out-Command c).has_globals ≡ false) }
 {
     titled(alloc, "link", "Links object files to a program", help::LINK)
-        .arg(out(alloc))?
+        .arg(out_given(alloc))?
         .arg(paths(
             alloc,
             "OBJ",
@@ -173,7 +67,7 @@ fn build<'a>(alloc: Global) -> Result<Command<'a>, AllocError>
         "Assembles and links source files to a program",
         help::BUILD,
     )
-    .arg(out(alloc))?
+    .arg(base(alloc))?
     .arg(grow(alloc))?
     .arg(flag(
         alloc,
@@ -181,6 +75,8 @@ fn build<'a>(alloc: Global) -> Result<Command<'a>, AllocError>
         "Also writes the listing BASE.lst and the labels BASE.sym",
     ))?
     .arg(verbose(alloc))?
+    .arg(define(alloc))?
+    .arg(with_file(alloc))?
     .arg(paths(
         alloc,
         "SRC",
@@ -206,6 +102,31 @@ fn check<'a>(alloc: Global) -> Result<Command<'a>, AllocError>
     ))
 }
 
+fn dis<'a>(alloc: Global) -> Result<Command<'a>, AllocError>
+    ensures app { IfOk result (λ c. app_of c ≡ alone dis_shape) }
+    ensures local { IfOk result (λ c. (out-Command c).has_globals ≡ false) }
+{
+    titled(
+        alloc,
+        "dis",
+        "Prints a source file that builds to a program",
+        help::DIS,
+    )
+    .arg(option(
+        alloc,
+        "labels",
+        "SYM",
+        "A file of labels, as `build --list` writes it",
+    ))?
+    .arg(list(
+        alloc,
+        "entry",
+        "ADDR",
+        "An address at which code begins, such as 0150H",
+    ))?
+    .arg(path(alloc, "COM", "The path of the program"))
+}
+
 /// The command `z80dev` without its commands.
 fn bare<'a>(alloc: Global) -> Result<Command<'a>, AllocError>
     ensures app { IfOk result (λ c. app_of c ≡ bare) }
@@ -216,55 +137,6 @@ fn bare<'a>(alloc: Global) -> Result<Command<'a>, AllocError>
         .after_help(help::WITHOUT_COMMAND)
         .disable_help_subcommand(true)
         .bin_name("z80dev")
-}
-
-/// The path of an image.
-fn image<'a>(alloc: Global) -> Arg<'a>
-    ensures rule { rule_of result ≡ path_rule (codes "IMG") }
-    ensures local { result.global ≡ false }
-{
-    path(alloc, "IMG", "The path of the disk image")
-}
-
-/// `--no-lock`.
-fn no_lock<'a>(alloc: Global) -> Arg<'a>
-    ensures rule { rule_of result ≡ flag_rule (codes "no-lock") }
-    ensures local { result.global ≡ false }
-{
-    flag(alloc, "no-lock", "Does not lock IMG")
-}
-
-/// `--user N`, which means user 0 if it is not given.
-fn user_or_zero<'a>(alloc: Global) -> Arg<'a>
-    ensures rule { rule_of result ≡ user_rule }
-    ensures local { result.global ≡ false }
-{
-    user(alloc, "The user whose files they are, 0 to 31 [default: 0]")
-}
-
-/// Adds the arguments of a command that changes an image: `--user N`, `--no-lock` and the path of the image.
-fn with_target<'a>(alloc: Global, command: Command<'a>) -> Result<Command<'a>, AllocError>
-    requires { (out-Command command).has_globals ≡ false }
-    ensures app { IfOk result (λ c. app_of c ≡ with_target (app_of command.entry)) }
-    ensures local { IfOk result (λ c. (out-Command c).has_globals ≡ false) }
-{
-    command
-        .arg(user_or_zero(alloc))?
-        .arg(no_lock(alloc))?
-        .arg(image(alloc))
-}
-
-/// The name of the files to list, which need not be given.
-fn name_if_given<'a>(alloc: Global) -> Arg<'a>
-    ensures rule { rule_of result ≡ name_rule (codes "NAME") }
-    ensures local { result.global ≡ false }
-{
-    path(
-        alloc,
-        "NAME",
-        "Lists the files of this name only, such as '*.COM'",
-    )
-    .required(false)
 }
 
 fn dir<'a>(alloc: Global) -> Result<Command<'a>, AllocError>
@@ -354,18 +226,6 @@ pub(crate) fn get<'a>(alloc: Global) -> Result<Command<'a>, AllocError>
         "The file's name on the disk, such as BIG.DAT; with --all, the folder to write into",
     ))?
     .arg(words(alloc, "FILE", "The path of the file to write"))
-}
-
-/// One or more names of files on a disk.
-fn names<'a>(alloc: Global) -> Arg<'a>
-    ensures rule { rule_of result ≡ paths_rule (codes "NAME") }
-    ensures local { result.global ≡ false }
-{
-    paths(
-        alloc,
-        "NAME",
-        "The files' names on the disk, such as BIG.DAT or '*.BAK'",
-    )
 }
 
 fn erase<'a>(alloc: Global) -> Result<Command<'a>, AllocError>
@@ -487,14 +347,15 @@ fn with_command<'a>(
     command?.subcommand(more?)
 }
 
-/// The command with the commands that make programs.
+/// The command with the commands that make programs and take them apart.
 fn programs<'a>(alloc: Global) -> Result<Command<'a>, AllocError>
     ensures app { IfOk result (λ c. app_of c ≡ programs) }
 {
     let command = with_command(bare(alloc), asm(alloc));
     let command = with_command(command, link(alloc));
     let command = with_command(command, build(alloc));
-    with_command(command, check(alloc))
+    let command = with_command(command, check(alloc));
+    with_command(command, dis(alloc))
 }
 
 /// The command with those and the commands that list, copy, erase and rename the files of a disk.

@@ -3,7 +3,7 @@ use Rattle.std.proofs.lemmas.Result.{IfOk-weaker}
 use Rattle.clap.specs.Words.{app_of}
 use Rattle.z80dev_commands.specs.Commands.{flag_rule, path_rule, user_rule}
 use Rattle.z80dev_commands.proofs.Builders.{with_argument}
-use Rattle.z80dev_commands.proofs.usage.with_target.Goals as goal
+use Rattle.z80dev_commands.proofs.usage.arguments.with_target.Goals as goal
 
 pub returns : goal.returns
 returns c =
