@@ -1,3 +1,6 @@
+pub mod Faulty
+pub mod Named
 pub mod In_order
+pub mod Numbers
 pub mod Refused
 pub mod Written

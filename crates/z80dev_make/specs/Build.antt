@@ -1,5 +1,5 @@
--- What `build` answers for sources.
-use Rattle.std.specs.Prelude.{◌≡◌, ◌⊎◌, ℕ, Bool, true, false, List, [], ◌∷◌, ◌++◌, None, Some, Option, Result, Ok, Err, codes, decimal, slice_get}
+-- What `build` answers for sources behind a front.
+use Rattle.std.specs.Prelude.{◌≡◌, ◌⊎◌, ℕ, ◌-◌, Bool, true, false, List, [], ◌∷◌, ◌++◌, None, Some, Option, Result, Ok, Err, codes, decimal, map, slice_get}
 use Rattle.std.specs.List.{AllZip, flat_map}
 use Rattle.zlink.specs.declared.building.Built.{Built}
 use Rattle.zlink.specs.declared.fault.BuildFault.{BuildFault}
@@ -9,7 +9,9 @@ use Rattle.zlink.specs.declared.source.Source.{Source}
 use Rattle.zlink.specs.Built.{IsBuilt, IsExactBuild}
 use Rattle.zlisting.specs.Listing.{listing}
 use Rattle.zlisting.specs.Symbols.{symbols}
-use Rattle.z80dev_make.specs.Faults.Refusals.{of_source, program_refusal_text}
+use Rattle.z80dev_make.specs.Front.{fault_text, front_lines, front_text}
+use Rattle.z80dev_make.specs.Shared.{UnlessFaulty}
+use Rattle.z80dev_make.specs.declared.front.Front.{Front}
 use Rattle.z80dev_finish.specs.declared.answer.Kind.{Kind}
 use Rattle.z80dev_finish.specs.declared.answer.Kind.TheVariants as kind
 use Rattle.z80dev_make.specs.declared.answer.SourceFile.{SourceFile}
@@ -42,22 +44,54 @@ abbrev pub built_files : Bool → List Source → Built → List (Kind × List �
 built_files false sources b = program_files b.sizes.items b.cert.items b.com.items
 built_files true sources b = program_files b.sizes.items b.cert.items b.com.items ++ (kind.Listing, listing b sources) ∷ [] ++ (kind.Symbols, symbols b) ∷ []
 
--- the files of a program, or why there is none
-abbrev pub build_answer : Bool → List SourceFile → List Source → Result Built BuildFault → Answer
-build_answer list files sources (Ok b) = record { files = built_files list sources b; printed = grown_lines files b.statements.items b.grown.items; said = None }
-build_answer list files sources (Err (build.Asm source fault)) = nothing (program_refusal_text (path_at files source) (of_source fault))
-build_answer list files sources (Err (build.Link fault)) = no_program fault
+-- the source is the file's text behind the text of the front, and its name is the file's path
+abbrev pub IsBehind : Front → SourceFile → Source → Type 0
+IsBehind front file source = (source.name.now ≡ file.path.now) × (source.text.now ≡ front_text front ++ file.text.now)
 
--- The sources have their paths as names, this is what building them answers, and these are the jumps of the program.
-pub record IsBuild (files : List SourceFile) (grow list : Bool) (answer : Answer) (jumps : Option Jumps) : Type 0 where
-  pub sources : List Source
-  pub named : AllZip IsSource files sources
+-- the number of a line, and the origin of a statement, if the source begins so many lines later
+abbrev pub earlier : ℕ → ℕ → ℕ
+earlier lines line = line - lines
+
+abbrev pub earlier_origin : ℕ → Origin → Origin
+earlier_origin lines from = record from { line = earlier lines from.line }
+
+-- The same program, but its lines have their own numbers.
+pub record HasOwnLines (front : Front) (b own : Built) : Type 0 where
+  pub file : own.com ≡ b.com
+  pub sizes : own.sizes ≡ b.sizes
+  pub cert : own.cert ≡ b.cert
+  pub symbols : own.symbols ≡ b.symbols
+  pub grown : own.grown ≡ b.grown
+  pub statements : own.statements.items ≡ map (earlier_origin (front_lines front)) b.statements.items
+  pub last : own.last.items ≡ map (earlier (front_lines front)) b.last.items
+
+-- the files of a program, whose listing shows the sources without the front
+abbrev pub built_answer : Bool → List SourceFile → List Source → Built → Answer
+built_answer list files sources own = record { files = built_files list sources own; printed = grown_lines files own.statements.items own.grown.items; said = None }
+
+-- what is answered, given the result of building
+abbrev pub Answers : Front → Bool → List SourceFile → List Source → Result Built BuildFault → Answer → Type 0
+Answers front list files sources (Ok b) answer = (own : Built) × HasOwnLines front b own × (answer ≡ built_answer list files sources own)
+Answers front list files sources (Err (build.Asm number fault)) answer = answer ≡ nothing (fault_text front (path_at files number) fault)
+Answers front list files sources (Err (build.Link fault)) answer = answer ≡ no_program fault
+
+-- This is answered for building the sources behind the text of the front, and these are the jumps of the program.
+pub record IsBuild (front : Front) (files : List SourceFile) (grow list : Bool) (answer : Answer) (jumps : Option Jumps) : Type 0 where
+  pub behind : List Source
+  pub named : AllZip (IsBehind front) files behind
   pub result : Result Built BuildFault
-  pub built : IsBuilt grow sources result
-  pub exact : IsExactBuild grow sources result
-  pub answers : answer ≡ build_answer list files sources result
+  pub built : IsBuilt grow behind result
+  pub exact : IsExactBuild grow behind result
+  pub sources : List Source
+  pub alone : AllZip IsSource files sources
+  pub answers : Answers front list files sources result answer
   pub counted : jumps ≡ jumps_of result
 
--- The answer is that of building the sources, or memory ran out.
-abbrev pub IsMade : List SourceFile → Bool → Bool → Answer → Option Jumps → Type 0
-IsMade files grow list answer jumps = ((answer ≡ nothing (codes "NoMemory")) × (jumps ≡ None)) ⊎ IsBuild files grow list answer jumps
+-- Only this is reported.
+abbrev pub IsRefusal : List ℕ → Answer → Option Jumps → Type 0
+IsRefusal said answer jumps = (answer ≡ nothing said) × (jumps ≡ None)
+
+-- The answer is the first error of the front; or if it has none, that of building the sources behind it; or memory ran out.
+abbrev pub IsMade : Front → List SourceFile → Bool → Bool → Answer → Option Jumps → Type 0
+IsMade front files grow list answer jumps = IsRefusal (codes "NoMemory") answer jumps
+    ⊎ UnlessFaulty front (λ said. IsRefusal said answer jumps) (IsBuild front files grow list answer jumps)

@@ -1,14 +1,18 @@
 //! The command `asm`: assembles a source to an object file.
 
-ghost use Rattle.std.specs.Prelude.{◌≡◌, IfOk};
+ghost use Rattle.std.specs.Prelude.{◌≡◌, ◌++◌, IfOk};
 ghost use Rattle.zmo_module.specs.Modules.{module_of};
 ghost use Rattle.zmo_module.specs.Rules.{IsModule};
 ghost use Rattle.z80dev_finish.specs.Answers.{MemoryAside};
 ghost use Rattle.z80dev_make.specs.Answers.{answer_of};
-ghost use Rattle.z80dev_make.specs.Asm.{IsAsm, object_answer};
+ghost use Rattle.z80dev_make.specs.Asm.{IsAsm, IsAsmBehind, object_answer};
+ghost use Rattle.z80dev_make.specs.Front.{front_text};
 
 use crate::answer::{SourceFile, refused, without_memory};
-use crate::faults::{Refusal, Told};
+use crate::faults::Told;
+use crate::front::{Front, front_text, text_behind};
+use crate::locating::told_at;
+use crate::sharing::fault_of_front;
 use asm_module::{Module, Why, assemble_with};
 use std::alloc::{AllocError, Global};
 use z80dev_finish::{Answer, Kind, NewFile};
@@ -28,37 +32,62 @@ fn object_of<'a>(alloc: Global, module: &Module) -> Result<Answer<Told<'a>>, All
     Ok(Answer::done(files, Vec::new(alloc)))
 }
 
-/// Answers the object file of a source, or its first error.
+/// Answers the object file of a source, or its first error, given the text of the front with the source behind it.
 fn assembled<'a>(
     alloc: Global,
+    front: Front<'a>,
     file: SourceFile<'a>,
+    text: &[u8],
     grow: bool,
 ) -> Result<Answer<Told<'a>>, AllocError>
-    ensures { IfOk result (λ answer. IsAsm file.entry grow (answer_of answer)) }
+    requires { text.now ≡ front_text front ++ file.text.now }
+    ensures { IfOk result (λ answer. IsAsmBehind front.entry file.entry grow (answer_of answer)) }
 {
-    match assemble_with(alloc, file.path.as_bytes(), file.text, grow) {
+    match assemble_with(alloc, file.path.as_bytes(), text, grow) {
         Ok((module, _)) => {
             let answer = object_of(alloc, &module)?;
             Ok(answer)
         }
         Err(fault) => match fault.why {
             Why::NoMemory => Err(AllocError),
-            _ => {
-                let refusal = Refusal::Source(fault);
-                let path = file.path;
-                Ok(refused(alloc, Told { path, refusal }))
-            }
+            _ => Ok(refused(alloc, told_at(front, file.path, fault))),
         },
     }
 }
 
-/// Assembles a source, and answers its object file. If `grow` is true, a written `JR` may become a `JP` when it is linked.
-///
-/// A source that has an error is refused with its first one.
-pub fn asm<'a>(alloc: Global, file: SourceFile<'a>, grow: bool) -> Answer<Told<'a>>
-    ensures { MemoryAside (IsAsm file.entry grow) (answer_of result) }
+/// Answers the object file of a source behind a front, or the first error.
+fn assembled_behind<'a>(
+    alloc: Global,
+    front: Front<'a>,
+    file: SourceFile<'a>,
+    grow: bool,
+) -> Result<Answer<Told<'a>>, AllocError>
+    ensures { IfOk result (λ answer. IsAsm front.entry file.entry grow (answer_of answer)) }
 {
-    match assembled(alloc, file, grow) {
+    let before = front_text(alloc, front)?;
+    if before.is_empty() {
+        return assembled(alloc, front, file, file.text, grow);
+    }
+    if let Some(told) = fault_of_front(alloc, front, &before)? {
+        return Ok(refused(alloc, told));
+    }
+    let text = text_behind(alloc, &before, file.text)?;
+    assembled(alloc, front, file, &text, grow)
+}
+
+/// Assembles a source behind a front, and answers its object file. If `grow` is true, a written `JR` may become a `JP` when it is linked.
+///
+/// A front that has an error is refused with its first one, and otherwise a source that has one. An error is reported with the line of the
+/// file in which it is.
+pub fn asm<'a>(
+    alloc: Global,
+    front: Front<'a>,
+    file: SourceFile<'a>,
+    grow: bool,
+) -> Answer<Told<'a>>
+    ensures { MemoryAside (IsAsm front.entry file.entry grow) (answer_of result) }
+{
+    match assembled_behind(alloc, front, file, grow) {
         Ok(answer) => answer,
         Err(_) => without_memory(alloc),
     }

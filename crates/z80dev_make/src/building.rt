@@ -1,32 +1,24 @@
 //! The command `build`: builds a program from sources.
 
-ghost use Rattle.std.specs.Prelude.{◌≡◌, IfOk, Ok, false, slice_get, string_bytes, true};
+ghost use Rattle.std.specs.Prelude.{◌≡◌, IfOk, false, slice_get, string_bytes, true};
 ghost use Rattle.std.specs.List.{AllZip};
-ghost use Rattle.z80dev_make.specs.Answers.{IsSource, answer_of};
-ghost use Rattle.z80dev_make.specs.Build.{IsBuild, IsMade, build_answer, grown_lines, line_from, path_at};
+ghost use Rattle.z80dev_make.specs.Answers.{answer_of, told_text};
+ghost use Rattle.z80dev_make.specs.Build.{Answers, IsBehind, IsBuild, IsMade, IsRefusal, built_answer, grown_lines, line_from, path_at};
+ghost use Rattle.z80dev_make.specs.Front.{front_text};
+ghost use Rattle.z80dev_make.specs.Shared.{UnlessFaulty};
 
 use crate::answer::{SourceFile, no_program, program, refused, without_memory};
-use crate::faults::{Refusal, Told};
+use crate::behind::{sources_behind, sources_of, texts_behind, with_own_lines};
+use crate::faults::Told;
+use crate::front::{Front, front_text};
 use crate::jumps::{Jumps, jumps_of};
+use crate::locating::told_at;
+use crate::sharing::fault_of_front;
 use std::alloc::{AllocError, Global};
 use std::fmt;
 use z80dev_finish::{Answer, Kind, NewFile};
 use zlink::{BuildFault, Built, Origin, Source, build_with};
 use zlisting::{listing, symbols};
-
-/// Answers the sources, whose names are their paths.
-fn sources_of<'a>(alloc: Global, files: &[SourceFile<'a>]) -> Result<Vec<Source<'a>>, AllocError>
-    ensures { IfOk result (λ sources. AllZip IsSource files.now sources.items) }
-{
-    let mut sources = Vec::with_capacity(alloc, files.len())?;
-    for file in files {
-        sources.push(Source {
-            name: file.path.as_bytes(),
-            text: file.text,
-        })?;
-    }
-    Ok(sources)
-}
 
 /// Answers the path of a source, given its number.
 fn path_at<'a>(files: &[SourceFile<'a>], number: usize) -> &'a str
@@ -102,7 +94,7 @@ fn plain<'a>(
     sources: &[Source<'a>],
     built: Built,
 ) -> Result<Answer<Told<'a>>, AllocError>
-    ensures { IfOk result (λ answer. answer_of answer ≡ build_answer false files.now sources.now (Ok built)) }
+    ensures { IfOk result (λ answer. answer_of answer ≡ built_answer false files.now sources.now built) }
 {
     let printed = grown_lines(alloc, files, &built)?;
     let made = program(alloc, built.sizes, built.cert, built.com)?;
@@ -116,7 +108,7 @@ fn listed<'a>(
     sources: &[Source<'a>],
     built: Built,
 ) -> Result<Answer<Told<'a>>, AllocError>
-    ensures { IfOk result (λ answer. answer_of answer ≡ build_answer true files.now sources.now (Ok built)) }
+    ensures { IfOk result (λ answer. answer_of answer ≡ built_answer true files.now sources.now built) }
 {
     let printed = grown_lines(alloc, files, &built)?;
     let lines = listing(alloc, &built, sources)?;
@@ -133,28 +125,43 @@ fn listed<'a>(
     Ok(Answer::done(made, printed))
 }
 
+/// Answers the files of a program, with its listing and its labels if `list` is true.
+fn written<'a>(
+    alloc: Global,
+    files: &[SourceFile<'a>],
+    sources: &[Source<'a>],
+    built: Built,
+    list: bool,
+) -> Result<Answer<Told<'a>>, AllocError>
+    ensures { IfOk result (λ answer. answer_of answer ≡ built_answer list files.now sources.now built) }
+{
+    if list {
+        listed(alloc, files, sources, built)
+    } else {
+        plain(alloc, files, sources, built)
+    }
+}
+
 /// Answers what is to be done, given the result of building.
 fn answered<'a>(
     alloc: Global,
+    front: Front<'a>,
     files: &[SourceFile<'a>],
     sources: &[Source<'a>],
     building: Result<Built, BuildFault>,
     list: bool,
 ) -> Result<Answer<Told<'a>>, AllocError>
-    ensures { IfOk result (λ answer. answer_of answer ≡ build_answer list files.now sources.now building) }
+    ensures { IfOk result (λ answer. Answers front.entry list files.now sources.now building (answer_of answer)) }
 {
     match building {
         Ok(built) => {
-            if list {
-                listed(alloc, files, sources, built)
-            } else {
-                plain(alloc, files, sources, built)
-            }
+            let own = with_own_lines(built, front);
+            let answer = written(alloc, files, sources, own, list)?;
+            Ok(answer)
         }
         Err(BuildFault::Asm { source, fault }) => {
             let path = path_at(files, source);
-            let refusal = Refusal::of_source(fault);
-            Ok(refused(alloc, Told { path, refusal }))
+            Ok(refused(alloc, told_at(front, path, fault)))
         }
         Err(BuildFault::Link(fault)) => no_program(alloc, fault),
     }
@@ -169,32 +176,92 @@ pub struct Made<'a> {
     pub jumps: Option<Jumps>,
 }
 
-/// Answers the program of sources, or why there is none.
+/// Answers the program of sources, or why there is none, given the sources behind the front.
 fn built<'a>(
     alloc: Global,
+    front: Front<'a>,
+    files: &[SourceFile<'a>],
+    behind: &[Source<'_>],
+    grow: bool,
+    list: bool,
+) -> Result<Made<'a>, AllocError>
+    requires { AllZip (IsBehind front) files.now behind.now }
+    ensures { IfOk result (λ made. IsBuild front.entry files.now grow list (answer_of made.answer) made.jumps) }
+{
+    let sources = sources_of(alloc, files)?;
+    let building = build_with(alloc, behind, grow);
+    let jumps = jumps_of(&building);
+    let answer = answered(alloc, front, files, &sources, building, list)?;
+    Ok(Made { answer, jumps })
+}
+
+/// Answers the program of sources behind a front that has a text, or why there is none.
+fn built_behind<'a>(
+    alloc: Global,
+    front: Front<'a>,
+    before: &[u8],
     files: &[SourceFile<'a>],
     grow: bool,
     list: bool,
 ) -> Result<Made<'a>, AllocError>
-    ensures { IfOk result (λ made. IsBuild files.now grow list (answer_of made.answer) made.jumps) }
+    requires { before.now ≡ front_text front }
+    ensures { IfOk result (λ made. IsBuild front.entry files.now grow list (answer_of made.answer) made.jumps) }
 {
-    let sources = sources_of(alloc, files)?;
-    let building = build_with(alloc, &sources, grow);
-    let jumps = jumps_of(&building);
-    let answer = answered(alloc, files, &sources, building, list)?;
-    Ok(Made { answer, jumps })
+    let texts = texts_behind(alloc, before, files)?;
+    let behind = sources_behind(alloc, files, &texts)?;
+    built(alloc, front, files, &behind, grow, list)
 }
 
-/// Builds the program of sources in their order, and answers it with its sizes file and certificate; and if `list` is true, with its
-/// listing and its labels. If `grow` is true, a written `JR` may become a `JP`, and a line `grown PATH(LINE)` is printed for each that did,
-/// in their order. [`Made`] also has how many jumps are short and long.
+/// Answers the refusal of a front.
+fn front_refused<'a>(alloc: Global, told: Told<'a>) -> Made<'a>
+    ensures { IsRefusal (told_text told.entry) (answer_of result.answer) result.jumps }
+{
+    Made {
+        answer: refused(alloc, told),
+        jumps: None,
+    }
+}
+
+/// Answers the program of sources behind a front, or the first error.
+fn made_behind<'a>(
+    alloc: Global,
+    front: Front<'a>,
+    files: &[SourceFile<'a>],
+    grow: bool,
+    list: bool,
+) -> Result<Made<'a>, AllocError>
+    ensures { IfOk result (λ made. UnlessFaulty front.entry (λ said. IsRefusal said (answer_of made.answer) made.jumps) (IsBuild front.entry files.now grow list (answer_of made.answer) made.jumps)) }
+{
+    let before = front_text(alloc, front)?;
+    if before.is_empty() {
+        let sources = sources_of(alloc, files)?;
+        return built(alloc, front, files, &sources, grow, list);
+    }
+    if let Some(told) = fault_of_front(alloc, front, &before)? {
+        return Ok(front_refused(alloc, told));
+    }
+    built_behind(alloc, front, &before, files, grow, list)
+}
+
+/// Builds the program of sources behind a front, in the order of the sources, and answers it with its sizes file and certificate; and if
+/// `list` is true, with its listing and its labels. If `grow` is true, a written `JR` may become a `JP`, and a line `grown PATH(LINE)` is
+/// printed for each that did, in their order. [`Made`] also has how many jumps are short and long.
+///
+/// A front that has an error is refused with its first one. The listing shows the sources without the front, and every line is named by
+/// its own file and number.
 ///
 /// If no choice of short and long jumps fits, the sizes file and the certificate are answered, and the reason is reported. Any other error
 /// is reported without files.
-pub fn build<'a>(alloc: Global, files: &[SourceFile<'a>], grow: bool, list: bool) -> Made<'a>
-    ensures { IsMade files.now grow list (answer_of result.answer) result.jumps }
+pub fn build<'a>(
+    alloc: Global,
+    front: Front<'a>,
+    files: &[SourceFile<'a>],
+    grow: bool,
+    list: bool,
+) -> Made<'a>
+    ensures { IsMade front.entry files.now grow list (answer_of result.answer) result.jumps }
 {
-    match built(alloc, files, grow, list) {
+    match made_behind(alloc, front, files, grow, list) {
         Ok(made) => made,
         Err(_) => Made {
             answer: without_memory(alloc),

@@ -6,16 +6,23 @@
 
 mod answer;
 mod assembling;
+mod behind;
 mod building;
+mod defining;
 mod faults;
+mod front;
 mod jumps;
 pub mod laws;
 mod linking;
+mod locating;
+mod sharing;
 
 pub use answer::SourceFile;
 pub use assembling::asm;
 pub use building::{Made, build};
+pub use defining::bad_define;
 pub use faults::{Refusal, Told};
+pub use front::Front;
 pub use jumps::Jumps;
 pub use linking::link;
 pub use z80dev_finish::{Answer, Kind, NewFile};

@@ -59,9 +59,15 @@ abbrev pub misfit_text : Misfit → List ℕ
 misfit_text (misfit.Range k) = name_with_number (codes "Range") k
 misfit_text (misfit.TooLarge n) = name_with_number (codes "Size") n
 
--- the text of a refusal, given the path of the source that has the error
+-- the line of a file, and what its error is
+abbrev pub line_text : List ℕ → ℕ → List ℕ → List ℕ
+line_text path line name = path ++ codes "(" ++ decimal line ++ codes "): " ++ name
+
+-- the text of a refusal, given the path of the file that has the error, or the word
 abbrev pub program_refusal_text : List ℕ → Refusal → List ℕ
-program_refusal_text path (refusal.Source fault) = path ++ codes "(" ++ decimal fault.line ++ codes "): " ++ why_name fault.why
+program_refusal_text path (refusal.Source fault) = line_text path fault.line (why_name fault.why)
+program_refusal_text path (refusal.NotShared line) = line_text path line (codes "NotShared")
+program_refusal_text word (refusal.Define why) = codes "--define " ++ word ++ codes ": " ++ why_name why
 program_refusal_text path (refusal.Object fault) = object_text fault
 program_refusal_text path (refusal.Modules fault) = modules_text fault
 program_refusal_text path (refusal.NoFit why) = misfit_text why

@@ -13,6 +13,10 @@ use zmo_object::ObjectFault;
 pub enum Refusal {
     /// A source has this first error.
     Source(AsmFault),
+    /// A shared file has something in this line that only a source may have.
+    NotShared(u32),
+    /// The line of a definition from the command line has this error.
+    Define(Why),
     /// An object file cannot be read.
     Object(ObjectFault),
     /// The modules cannot be joined to a program.
@@ -66,11 +70,11 @@ impl Refusal {
     }
 }
 
-/// A refusal as it is printed after `error: `: an error of a source as `PATH(LINE): NAME`, any other by its name. A name is that of the
-/// innermost variant, with its numbers in parentheses.
+/// A refusal as it is printed after `error: `: an error of a source or a shared file as `PATH(LINE): NAME`, one of a definition as
+/// `--define WORD: NAME`, any other by its name. A name is that of the innermost variant, with its numbers in parentheses.
 #[derive(Clone, Copy, Debug, PartialEq, Eq)]
 pub struct Told<'a> {
-    /// The path of the source that has the error; it has no meaning for another error.
+    /// The path of the file that has the error, or the word of the definition; it has no meaning for another error.
     pub path: &'a str,
     pub refusal: Refusal,
 }
@@ -88,6 +92,15 @@ impl fmt::Display for Told<'_> {
                 let line = fault.line;
                 let name = why_name(fault.why);
                 write!(f, "{path}({line}): {name}")
+            }
+            Refusal::NotShared(line) => {
+                let path = self.path;
+                write!(f, "{path}({line}): NotShared")
+            }
+            Refusal::Define(why) => {
+                let word = self.path;
+                let name = why_name(why);
+                write!(f, "--define {word}: {name}")
             }
             Refusal::Object(fault) => match fault {
                 ObjectFault::Magic => f.write_str("Magic"),

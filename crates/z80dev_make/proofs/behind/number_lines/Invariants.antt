@@ -1,0 +1,8 @@
+use Rattle.std.proofs.Common.{◌≡◌, ℕ}
+use Rattle.z80dev_make.specs.Build.{earlier}
+use Rattle.z80dev_make.specs.Private.Steps.{Counts}
+use Rattle.z80dev_make.proofs.Numbers.{front_changed}
+use Rattle.z80dev_make.proofs.behind.number_lines.Given as goal
+
+abbrev pub invariant-loop-number : goal.invariant-loop-number
+invariant-loop-number l = (all : ℕ) → Counts l.lines all → l.numbers ≡ front_changed (earlier all) l.initial.numbers l.number-index

@@ -1,0 +1,65 @@
+-- The front: what stands before each source. Definitions from the command line come first, then shared files.
+use Rattle.std.specs.Prelude.{ℕ, ◌+◌, ◌-◌, ◌==◌, not, List, [], ◌∷◌, ◌++◌, Option, Some, None, codes, drop, if◌then◌else◌, length, nat_le, slice_get, take}
+use Rattle.std.specs.List.{flat_map, prefix_len, sum_by}
+use Rattle.std.specs.Option.{option_map}
+use Rattle.asm_macro.specs.Texts.{source_lines, source_part}
+use Rattle.zlink.specs.Types.{AsmFault, Why}
+use Rattle.z80dev_make.specs.declared.answer.SourceFile.{SourceFile}
+use Rattle.z80dev_make.specs.declared.front.Front.{Front}
+use Rattle.z80dev_make.specs.declared.faults.refusal.Refusal.TheVariants as refusal
+use Rattle.z80dev_make.specs.Faults.Refusals.{of_source, program_refusal_text}
+
+abbrev pub line_feed : List ℕ
+line_feed = 0x0A ∷ []
+
+-- a word NAME=VALUE: what comes before its first `=`, and what comes after it
+abbrev pub name_length : List ℕ → ℕ
+name_length word = prefix_len (λ byte. not (byte == 0x3D)) word
+
+abbrev pub defined_name : List ℕ → List ℕ
+defined_name word = take (name_length word) word
+
+abbrev pub defined_value : List ℕ → List ℕ
+defined_value word = drop (name_length word + 1) word
+
+-- the line of a word NAME=VALUE
+abbrev pub define_line : List ℕ → List ℕ
+define_line word = defined_name word ++ codes " EQU " ++ defined_value word
+
+-- the line end that a text lacks, given its last byte
+abbrev pub missing_end : Option ℕ → List ℕ
+missing_end None = []
+missing_end (Some byte) = if byte == 0x0A then [] else line_feed
+
+abbrev pub with_end : List ℕ → List ℕ
+with_end text = text ++ missing_end (slice_get text (length text - 1))
+
+-- The text of the front: a line for each word, then each shared file up to its first byte 1AH. A line end is added to a file whose last line
+-- has none.
+abbrev pub front_text : Front → List ℕ
+front_text front =
+    flat_map (λ word. define_line word.now ++ line_feed) front.defines.now ++ flat_map (λ file. with_end (source_part file.text.now)) front.files.now
+
+-- how many lines the front has
+abbrev pub line_count : SourceFile → ℕ
+line_count file = length (source_lines file.text.now)
+
+abbrev pub front_lines : Front → ℕ
+front_lines front = length front.defines.now + sum_by line_count front.files.now
+
+-- the path and the own number of a line of shared files, one after the other; if they have fewer lines, it is a line of the source with this
+-- path
+abbrev pub line_in : List SourceFile → List ℕ → ℕ → List ℕ × ℕ
+line_in [] path line = (path, line)
+line_in (file ∷ files) path line = if nat_le line (line_count file) then (file.path.now, line) else line_in files path (line - line_count file)
+
+-- an error in the line of a word is reported with the word, any other with the path and the number of its line
+abbrev pub word_or_line : Option (List ℕ) → List ℕ × ℕ → Why → List ℕ
+word_or_line (Some word) at why = program_refusal_text word (refusal.Define why)
+word_or_line None at why = program_refusal_text at.0 (of_source (record { line = at.1; why = why }))
+
+-- The text of an error that the front has, or a source behind it. The path is that of the source.
+abbrev pub fault_text : Front → List ℕ → AsmFault → List ℕ
+fault_text front path fault =
+    word_or_line (option_map (λ word. word.now) (slice_get front.defines.now (fault.line - 1)))
+    (line_in front.files.now path (fault.line - length front.defines.now)) fault.why

@@ -1,0 +1,69 @@
+//! Says in which file and line an error is that a front has, or a source behind it.
+
+ghost use Rattle.std.specs.Prelude.{◌≡◌, ◌-◌, length};
+ghost use Rattle.z80dev_make.specs.Answers.{told_text};
+ghost use Rattle.z80dev_make.specs.Front.{fault_text, line_in};
+ghost use Rattle.z80dev_make.specs.Shared.{unshared_text};
+
+use crate::answer::SourceFile;
+use crate::faults::{Refusal, Told};
+use crate::front::{Front, line_count};
+use zlink::AsmFault;
+
+/// A line of a file.
+#[derive(Clone, Copy)]
+struct Place<'a> {
+    path: &'a str,
+    line: u32,
+}
+
+/// Answers the path and the own number of a line of shared files, one after the other; if they have fewer lines, it is a line of the source
+/// with this path.
+fn line_in<'a>(files: &[SourceFile<'a>], path: &'a str, line: u32) -> Place<'a>
+    ensures { (result.path.now, result.line) ≡ line_in files.now path.now line }
+{
+    let mut line = line;
+    for file in files {
+        let count = line_count(file);
+        if line as usize <= count {
+            let path = file.path;
+            return Place { path, line };
+        }
+        line -= count as u32;
+    }
+    Place { path, line }
+}
+
+/// Answers the place of a line behind the lines of words.
+fn place_of<'a>(front: Front<'a>, path: &'a str, line: u32) -> Place<'a>
+    ensures { (result.path.now, result.line) ≡ line_in front.entry.files.now path.now (line - length front.entry.defines.now) }
+{
+    let words = u32::try_from(front.defines.len()).unwrap_or(u32::MAX);
+    line_in(front.files, path, line.saturating_sub(words))
+}
+
+/// Answers the refusal of an error that a front has, or the source with this path behind it.
+pub(crate) fn told_at<'a>(front: Front<'a>, path: &'a str, fault: AsmFault) -> Told<'a>
+    ensures { told_text result ≡ fault_text front.entry path.now fault }
+{
+    let AsmFault { line, why } = fault;
+    if let Some(word) = front.defines.get(line.saturating_sub(1) as usize) {
+        let refusal = Refusal::Define(why);
+        return Told {
+            path: *word,
+            refusal,
+        };
+    }
+    let Place { path, line } = place_of(front, path, line);
+    let refusal = Refusal::of_source(AsmFault { line, why });
+    Told { path, refusal }
+}
+
+/// Answers the refusal of a line that a shared file may not hold.
+pub(crate) fn unshared_at<'a>(front: Front<'a>, line: u32) -> Told<'a>
+    ensures { told_text result ≡ unshared_text front.entry line }
+{
+    let Place { path, line } = place_of(front, "", line);
+    let refusal = Refusal::NotShared(line);
+    Told { path, refusal }
+}
