@@ -20,4 +20,6 @@ pub use z80dev_commands::{Job, commands};
 pub use z80dev_finish::{
     Answer, DONE, End, FILE_FAULT, Files, Kind, NewFile, REFUSED, USAGE, Unread, finish, report,
 };
-pub use z80dev_make::{Jumps, Made, Refusal, SourceFile, Told, asm, build, link};
+pub use z80dev_make::{
+    Front, Jumps, Made, Refusal, SourceFile, Told, asm, bad_define, build, link,
+};
