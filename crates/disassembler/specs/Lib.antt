@@ -1,0 +1,5 @@
+pub mod Faults
+pub mod Entries
+pub mod Labels
+pub mod Disassembly
+pub mod Private

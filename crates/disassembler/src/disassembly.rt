@@ -1,0 +1,130 @@
+//! Writes a source text that builds to the bytes of a program.
+
+ghost use Rattle.std.specs.Prelude.{◌≡◌, IfOk, true, map};
+ghost use Rattle.std.specs.Option.{option_map};
+ghost use Rattle.disassembler.specs.Disassembly.{IsDisassembly, Rebuilds};
+ghost use Rattle.disassembler.specs.Private.{IsRebuilt};
+
+use crate::entries::entry_offsets;
+use crate::fault::DisassemblyFault;
+use crate::items::Layout;
+use crate::labels::{first_bad_label, read_labels};
+use crate::lines::Lines;
+use crate::statements::{put_items, put_last_labels, put_plain};
+use common::LONGEST_PROGRAM;
+use std::alloc::{AllocError, Global};
+use zlink::{BuildFault, LinkFault, Source, Why, build};
+
+/// The most labels of a labels file that are used. With one label for each item the text has at most 40,000 names and 60,000 lines, as a
+/// source may have.
+const MOST_LABELS: usize = 20_000;
+
+/// The name of the source whose text is tried. No answer has it.
+const SOURCE_NAME: &str = "PROGRAM";
+
+/// Whether a source was refused because memory ran out.
+fn ran_out_of_memory(fault: &BuildFault) -> bool {
+    match fault {
+        BuildFault::Asm { fault, .. } => matches!(fault.why, Why::NoMemory),
+        BuildFault::Link(fault) => matches!(fault, LinkFault::NoMemory),
+    }
+}
+
+/// Whether a text builds to these bytes.
+fn builds_to(alloc: Global, text: &[u8], program: &[u8]) -> Result<bool, AllocError>
+    ensures { IfOk result (λ same. same ≡ true → Rebuilds text.now program.now) }
+{
+    let name = SOURCE_NAME.as_bytes();
+    match build(alloc, &[Source { name, text }]) {
+        Ok(built) => Ok(built.com.as_slice() == program),
+        Err(fault) => {
+            if ran_out_of_memory(&fault) {
+                Err(AllocError)
+            } else {
+                Ok(false)
+            }
+        }
+    }
+}
+
+/// Writes the first lines of a text.
+fn put_head(alloc: Global, lines: &mut Lines, count: usize) -> Result<(), AllocError> {
+    let first = format!(in alloc;
+        "The source of a program of {count} bytes, written from its .COM file."
+    )?;
+    lines.put_remark(first.as_str())?;
+    lines.put_remark("`z80dev build` makes the same bytes of it.")
+}
+
+/// Writes a program as instructions and data.
+fn full_text(
+    alloc: Global,
+    program: &[u8],
+    labels: Option<&[u8]>,
+    entries: &[usize],
+) -> Result<Vec<u8>, AllocError> {
+    let labels = read_labels(alloc, labels, MOST_LABELS)?;
+    let layout = Layout::new(alloc, program, &labels, entries)?;
+    let mut lines = Lines::new(alloc);
+    put_head(alloc, &mut lines, program.len())?;
+    put_items(alloc, &layout, &mut lines)?;
+    put_plain(alloc, &mut lines, program, layout.end)?;
+    put_last_labels(alloc, &layout, &mut lines)?;
+    Ok(lines.into_text())
+}
+
+/// Writes a program as bytes. A program of 64,512 bytes has 2,016 statements, so the text is never too long.
+fn plain_text(alloc: Global, program: &[u8]) -> Result<Vec<u8>, AllocError> {
+    let mut lines = Lines::new(alloc);
+    put_head(alloc, &mut lines, program.len())?;
+    put_plain(alloc, &mut lines, program, 0)?;
+    Ok(lines.into_text())
+}
+
+/// Answers the first text that builds to the bytes of a program.
+fn rebuilt<'a>(
+    alloc: Global,
+    program: &[u8],
+    labels: Option<&[u8]>,
+    entries: &[usize],
+) -> Result<Vec<u8>, DisassemblyFault<'a>>
+    ensures { IsRebuilt program.now result }
+{
+    let text = full_text(alloc, program, labels, entries)?;
+    if builds_to(alloc, &text, program)? {
+        return Ok(text);
+    }
+    let text = plain_text(alloc, program)?;
+    if builds_to(alloc, &text, program)? {
+        return Ok(text);
+    }
+    Err(DisassemblyFault::NotRebuilt)
+}
+
+/// Answers a source text that builds to the bytes of a program.
+///
+/// Code is what can be reached from the first byte and from the entries; everything else is data. `labels` is a labels file, whose names the
+/// text uses.
+///
+/// # Errors
+///
+/// [`DisassemblyFault::TooLong`] if the program has more than 64,512 bytes; otherwise [`DisassemblyFault::BadEntry`] with the first entry
+/// that is not an address of a byte of the program; otherwise [`DisassemblyFault::BadLabels`] with the first line of the labels file that is
+/// not one of a label; [`DisassemblyFault::NoMemory`] if memory ran out.
+pub fn disassemble<'a>(
+    alloc: Global,
+    program: &[u8],
+    labels: Option<&[u8]>,
+    entries: &[&'a str],
+) -> Result<Vec<u8>, DisassemblyFault<'a>>
+    ensures { IsDisassembly program.now (option_map (λ text. text.now) labels.entry) (map (λ word. word.now) entries.now) result }
+{
+    if program.len() > LONGEST_PROGRAM as usize {
+        return Err(DisassemblyFault::TooLong);
+    }
+    let offsets = entry_offsets(alloc, program.len(), entries)?;
+    if let Some(line) = first_bad_label(labels) {
+        return Err(DisassemblyFault::BadLabels(line));
+    }
+    rebuilt(alloc, program, labels, &offsets)
+}

@@ -1,0 +1,150 @@
+//! Reads the labels file: a line `AAAA PATH NAME` for each label.
+
+ghost use Rattle.std.specs.Prelude.{◌≡◌, is_some};
+ghost use Rattle.std.specs.List.{after_last, list_all, list_any};
+ghost use Rattle.asm_scan.specs.Classes.{continues_name};
+ghost use Rattle.std.specs.Option.{option_map};
+ghost use Rattle.disassembler.specs.Labels.{first_bad_label, first_bad_line, is_label_line, is_one_name, is_path_and_name, is_space, is_upper_digit};
+
+use asm_macro::source_part;
+use asm_scan::{begins_name, continues_name};
+use bstr::ByteSlice;
+use std::alloc::{AllocError, Global};
+use std::str;
+
+/// A label of a labels file.
+#[derive(Clone, Copy)]
+pub(crate) struct Label<'a> {
+    pub(crate) address: u16,
+    pub(crate) name: &'a [u8],
+}
+
+/// Whether a byte is a hexadecimal digit in upper case.
+pub(crate) fn is_upper_digit(byte: u8) -> bool
+    ensures { result ≡ is_upper_digit byte }
+{
+    byte.is_ascii_digit() || matches!(byte, b'A'..=b'F')
+}
+
+/// Whether all bytes can come after the first byte of a name.
+fn continues(bytes: &[u8]) -> bool
+    ensures { result ≡ list_all continues_name bytes.now }
+{
+    bytes.iter().all(|b| continues_name(*b))
+}
+
+/// Whether all bytes are one name.
+fn is_one_name(bytes: &[u8]) -> bool
+    ensures { result ≡ is_one_name bytes.now }
+{
+    match bytes {
+        [first, more @ ..] => begins_name(*first) && continues(more),
+        [] => false,
+    }
+}
+
+/// Whether one of the bytes is a space.
+fn has_space(bytes: &[u8]) -> bool
+    ensures { result ≡ list_any is_space bytes.now }
+{
+    bytes.iter().any(|b| *b == b' ')
+}
+
+/// Answers what comes after the last space, or everything if there is no space.
+fn after_last_space(bytes: &[u8]) -> &[u8]
+    ensures { result.now ≡ after_last is_space bytes.now }
+{
+    let mut from = bytes.len();
+    while from > 0 && bytes[from - 1] != b' ' {
+        from -= 1;
+    }
+    &bytes[from..]
+}
+
+/// Answers the name of `PATH NAME`.
+fn name_after_path(bytes: &[u8]) -> Option<&[u8]>
+    ensures { is_some result ≡ is_path_and_name bytes.now }
+{
+    let name = after_last_space(bytes);
+    if has_space(bytes) && is_one_name(name) {
+        Some(name)
+    } else {
+        None
+    }
+}
+
+/// Answers the name of a line `AAAA PATH NAME`, if it is one.
+fn name_of_line(line: &[u8]) -> Option<&[u8]>
+    ensures { is_some result ≡ is_label_line line.now }
+{
+    match line {
+        [a, b, c, d, e, rest @ ..] => {
+            let has_address = is_upper_digit(*a)
+                && is_upper_digit(*b)
+                && is_upper_digit(*c)
+                && is_upper_digit(*d)
+                && *e == b' ';
+            if has_address {
+                name_after_path(rest)
+            } else {
+                None
+            }
+        }
+        _ => None,
+    }
+}
+
+/// Answers the number that a line begins with.
+fn address_of_line(line: &[u8]) -> Option<u16> {
+    let digits = str::from_utf8(line.get(..4)?).ok()?;
+    u16::from_str_radix(digits, 16).ok()
+}
+
+/// Answers the label of a line.
+fn label_of_line(line: &[u8]) -> Option<Label<'_>> {
+    let name = name_of_line(line)?;
+    let address = address_of_line(line)?;
+    Some(Label { address, name })
+}
+
+/// Answers the first line that is not one of a label, counted from 1.
+fn first_bad_line(text: &[u8]) -> Option<usize>
+    ensures { result ≡ first_bad_line text.now }
+{
+    let mut number = 0;
+    for line in source_part(text).lines() {
+        number += 1;
+        if name_of_line(line).is_none() {
+            return Some(number);
+        }
+    }
+    None
+}
+
+/// Answers the first line of the labels file, if there is one, that is not one of a label.
+pub(crate) fn first_bad_label(text: Option<&[u8]>) -> Option<usize>
+    ensures { result ≡ first_bad_label (option_map (λ text. text.now) text.entry) }
+{
+    first_bad_line(text?)
+}
+
+/// Answers the labels of a labels file, at most `most` of them.
+pub(crate) fn read_labels(
+    alloc: Global,
+    text: Option<&[u8]>,
+    most: usize,
+) -> Result<Vec<Label<'_>>, AllocError> {
+    let mut labels = Vec::new(alloc);
+    let Some(text) = text else {
+        return Ok(labels);
+    };
+    for line in source_part(text).lines() {
+        if labels.len() == most {
+            return Ok(labels);
+        }
+        if let Some(label) = label_of_line(line) {
+            labels.push(label)?;
+        }
+    }
+    Ok(labels)
+}

@@ -1,0 +1,264 @@
+//! Writes the statements of the text.
+
+use crate::code::Found;
+use crate::data::string_len;
+use crate::items::{Item, Layout};
+use crate::lines::Lines;
+use crate::names::Names;
+use crate::place::{address_of, offset_of};
+use crate::reference::Reference;
+use std::alloc::{AllocError, Global};
+use z80_table::encode;
+
+/// The 0 before a number that begins with a letter.
+fn zero_before(letter: bool) -> &'static str {
+    if letter { "0" } else { "" }
+}
+
+/// Answers a word as it is written.
+fn word_text(alloc: Global, nn: u16) -> Result<String, AllocError> {
+    format!(in alloc; "{}{nn:04X}H", zero_before(nn >= 0xA000))
+}
+
+/// Answers a byte as it is written.
+fn byte_text(alloc: Global, n: u8) -> Result<String, AllocError> {
+    format!(in alloc; "{}{n:02X}H", zero_before(n >= 0xA0))
+}
+
+/// Answers the name of a label that has none from the labels file.
+fn made_name(alloc: Global, address: u16) -> Result<Vec<u8>, AllocError> {
+    let name = format!(in alloc; "L{address:04X}")?;
+    Vec::from_slice(alloc, name.as_bytes())
+}
+
+/// Answers the name of the label at an address, if there is one; only one of the labels file if `only_given` is true.
+fn name_at(
+    alloc: Global,
+    names: &Names,
+    address: u16,
+    only_given: bool,
+) -> Result<Option<Vec<u8>>, AllocError> {
+    let Some(offset) = offset_of(address).filter(|offset| names.is_labelled(*offset)) else {
+        return Ok(None);
+    };
+    match names.at(offset).first() {
+        Some(name) => Ok(Some(name.text.clone()?)),
+        None if only_given => Ok(None),
+        None => Ok(Some(made_name(alloc, address)?)),
+    }
+}
+
+/// Writes the labels of an offset.
+fn put_labels(
+    alloc: Global,
+    names: &Names,
+    offset: usize,
+    lines: &mut Lines,
+) -> Result<(), AllocError> {
+    if !names.is_labelled(offset) {
+        return Ok(());
+    }
+    let address = address_of(offset);
+    let given = names.at(offset);
+    for name in given {
+        lines.put_label(&name.text, address)?;
+    }
+    if given.is_empty() {
+        lines.put_label(&made_name(alloc, address)?, address)?;
+    }
+    Ok(())
+}
+
+/// Writes operands with a name in place of the number of a reference.
+///
+/// A `JP` that the linker could make short gets `+0` after its label, since it then always takes three bytes.
+fn put_named(
+    alloc: Global,
+    lines: &mut Lines,
+    operands: &str,
+    reference: Reference,
+    name: &[u8],
+) -> Result<(), AllocError> {
+    let number = word_text(alloc, reference.address())?;
+    let parts = match reference {
+        Reference::Relative(_) => operands.split_once('$'),
+        _ => operands.split_once(number.as_str()),
+    };
+    let Some((before, after)) = parts else {
+        return lines.put(operands.as_bytes());
+    };
+    lines.put(before.as_bytes())?;
+    lines.put(name)?;
+    match reference {
+        Reference::Relaxable(_) => lines.put(b"+0"),
+        Reference::Target(_) | Reference::Relative(_) => Ok(()),
+        Reference::Word(_) => lines.put(after.as_bytes()),
+    }
+}
+
+/// Writes the operands of an instruction.
+fn put_operands(
+    alloc: Global,
+    names: &Names,
+    lines: &mut Lines,
+    operands: &str,
+    found: Found,
+) -> Result<(), AllocError> {
+    let Some(reference) = found.reference() else {
+        return lines.put(operands.as_bytes());
+    };
+    let only_given = matches!(reference, Reference::Word(_));
+    match name_at(alloc, names, reference.address(), only_given)? {
+        Some(name) => put_named(alloc, lines, operands, reference, &name),
+        None => lines.put(operands.as_bytes()),
+    }
+}
+
+/// Whether the assembler writes an instruction with these bytes.
+fn is_canonical(found: Found, bytes: &[u8]) -> bool {
+    let mut buffer = [0; 4];
+    let len = encode(&found.instr, &mut buffer) as usize;
+    buffer.get(..len) == Some(bytes)
+}
+
+/// Writes an instruction. If the assembler has other bytes for it, its bytes are written, and the instruction is a comment.
+fn put_code(
+    alloc: Global,
+    names: &Names,
+    lines: &mut Lines,
+    at: usize,
+    found: Found,
+    bytes: &[u8],
+) -> Result<(), AllocError> {
+    let instr = found.instr;
+    let shown = format!(in alloc; "{instr}")?;
+    if !is_canonical(found, bytes) {
+        lines.put_mnemonic("DB")?;
+        lines.begin_operands()?;
+        put_numbers(alloc, lines, bytes, "")?;
+        return lines.end_line(address_of(at), shown.as_str());
+    }
+    match shown.as_str().split_once(' ') {
+        Some((mnemonic, operands)) => {
+            lines.put_mnemonic(mnemonic)?;
+            lines.begin_operands()?;
+            put_operands(alloc, names, lines, operands, found)?;
+        }
+        None => lines.put_mnemonic(shown.as_str())?,
+    }
+    lines.end_line(address_of(at), "")
+}
+
+/// Writes bytes as numbers, with commas between them and `before` in front of the first.
+fn put_numbers(
+    alloc: Global,
+    lines: &mut Lines,
+    bytes: &[u8],
+    before: &str,
+) -> Result<(), AllocError> {
+    let mut comma = before;
+    for byte in bytes {
+        lines.put(comma.as_bytes())?;
+        lines.put(byte_text(alloc, *byte)?.as_bytes())?;
+        comma = ",";
+    }
+    Ok(())
+}
+
+/// Writes characters as a string. A quote in it is written twice.
+fn put_string(lines: &mut Lines, characters: &[u8]) -> Result<(), AllocError> {
+    lines.put(b"'")?;
+    for character in characters {
+        if *character == b'\'' {
+            lines.put(b"'")?;
+        }
+        lines.put(&[*character])?;
+    }
+    lines.put(b"'")
+}
+
+/// Writes a line of data.
+fn put_data(alloc: Global, lines: &mut Lines, at: usize, bytes: &[u8]) -> Result<(), AllocError> {
+    lines.put_mnemonic("DB")?;
+    lines.begin_operands()?;
+    let (characters, numbers) = bytes.split_at(string_len(bytes));
+    if characters.is_empty() {
+        put_numbers(alloc, lines, numbers, "")?;
+    } else {
+        put_string(lines, characters)?;
+        put_numbers(alloc, lines, numbers, ",")?;
+    }
+    lines.end_line(address_of(at), "")
+}
+
+/// Writes bytes of zero.
+fn put_zeros(alloc: Global, lines: &mut Lines, at: usize, count: usize) -> Result<(), AllocError> {
+    lines.put_mnemonic("DS")?;
+    lines.begin_operands()?;
+    lines.put(format!(in alloc; "{count}")?.as_bytes())?;
+    lines.end_line(address_of(at), "")
+}
+
+/// Writes the item at an offset with its labels, and answers the offset of the next item.
+fn put_item(
+    alloc: Global,
+    layout: &Layout<'_>,
+    lines: &mut Lines,
+    at: usize,
+) -> Result<usize, AllocError> {
+    put_labels(alloc, &layout.names, at, lines)?;
+    let item = layout.item_at(at);
+    match item {
+        Item::Code(found, bytes) => put_code(alloc, &layout.names, lines, at, found, bytes)?,
+        Item::Zeros(count) => put_zeros(alloc, lines, at, count)?,
+        Item::Data(bytes) => put_data(alloc, lines, at, bytes)?,
+    }
+    Ok(at.saturating_add(item.len()))
+}
+
+/// Writes the items of a program.
+pub(crate) fn put_items(
+    alloc: Global,
+    layout: &Layout<'_>,
+    lines: &mut Lines,
+) -> Result<(), AllocError> {
+    let mut next = 0;
+    for at in 0..layout.end {
+        if at >= next {
+            next = put_item(alloc, layout, lines, at)?;
+        }
+    }
+    Ok(())
+}
+
+/// Writes the labels at the end of a program.
+pub(crate) fn put_last_labels(
+    alloc: Global,
+    layout: &Layout<'_>,
+    lines: &mut Lines,
+) -> Result<(), AllocError> {
+    let end = layout.program.len();
+    put_labels(alloc, &layout.names, end, lines)?;
+    lines.end_label(address_of(end))
+}
+
+/// How many bytes are on a line without strings.
+const PLAIN_BYTES: usize = 32;
+
+/// Writes the bytes of a program from an offset on, as numbers only.
+pub(crate) fn put_plain(
+    alloc: Global,
+    lines: &mut Lines,
+    program: &[u8],
+    from: usize,
+) -> Result<(), AllocError> {
+    let mut at = from;
+    for bytes in program.get(from..).unwrap_or(&[]).chunks(PLAIN_BYTES) {
+        lines.put_mnemonic("DB")?;
+        lines.begin_operands()?;
+        put_numbers(alloc, lines, bytes, "")?;
+        lines.end_line(address_of(at), "")?;
+        at = at.saturating_add(bytes.len());
+    }
+    Ok(())
+}
