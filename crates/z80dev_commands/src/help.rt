@@ -98,9 +98,9 @@ records of 128 bytes, then RO if it is read-only and SYS if it is a system file.
 With --long, also prints its bytes, directory entries and blocks, and at the end
 what is free. Writes nothing.
 
-With NAME, prints only the files that match: ? stands for any character, and
-for none at the end of the name or of the type; * stands for the rest of either.
-That no file matches is an error.
+With NAME, which is in upper case, prints only the files that match: ? stands
+for any character, and for none at the end of the name or of the type; * stands
+for the rest of either. That no file matches is an error.
 
 Example: z80dev dir a.img
 prints lines such as 0 GAME.COM 3.
@@ -224,6 +224,9 @@ pub(crate) const RUN: &str =
     r"Reads IMG, COM and all of standard input, which is what the program gets as its
 typed input, and only then starts the program. At a terminal, press Ctrl-D to
 end the input; if the program reads nothing, give it </dev/null.
+
+COM is a file of your system, not of IMG: `z80dev get` gets a program from an
+image.
 
 Prints what the program prints. Writes IMG when the program ends, however it
 ends, unless its bytes would stay the same; one that is shorter than 256,256
