@@ -49,11 +49,11 @@ fn builds_to(alloc: Global, text: &[u8], program: &[u8]) -> Result<bool, AllocEr
 
 /// Writes the first lines of a text.
 fn put_head(alloc: Global, lines: &mut Lines, count: usize) -> Result<(), AllocError> {
-    let first = format!(in alloc;
-        "The source of a program of {count} bytes, written from its .COM file."
+    lines.put_remark(
+        "Made from a .COM file: `z80dev build` makes the same file from this source.",
     )?;
-    lines.put_remark(first.as_str())?;
-    lines.put_remark("`z80dev build` makes the same bytes of it.")
+    let size = format!(in alloc; "Its size in bytes: {count}.")?;
+    lines.put_remark(size.as_str())
 }
 
 /// Writes a program as instructions and data.

@@ -86,9 +86,11 @@ impl<'a> Layout<'a> {
         self.end
     }
 
-    /// Whether an item of its own has to begin at an offset.
+    /// Whether no item may go on over an offset: the items end there, or another one begins.
     fn has_to_begin(&self, at: usize) -> bool {
-        !matches!(self.kinds.get(at), Some(Kind::Data)) || self.names.is_labelled(at)
+        at >= self.end
+            || !matches!(self.kinds.get(at), Some(Kind::Data))
+            || self.names.is_labelled(at)
     }
 
     /// Answers the data at an offset, at most `most` bytes of it.
