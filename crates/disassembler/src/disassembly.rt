@@ -15,8 +15,8 @@ use common::LONGEST_PROGRAM;
 use std::alloc::{AllocError, Global};
 use zlink::{BuildFault, LinkFault, Source, Why, build};
 
-/// The most labels of a labels file that are used. With one label for each item the text has at most 40,000 names and 60,000 lines, as a
-/// source may have.
+/// The most labels of a labels file that are used. A source may have 40,000 names and 60,000 lines: with one label of its own for each of
+/// 17,000 items, the text has at most 37,001 names. Its lines are those of the items, 2,016 of other bytes, and one for each of these labels.
 const MOST_LABELS: usize = 20_000;
 
 /// The name of the source whose text is tried. No answer has it.

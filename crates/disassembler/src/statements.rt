@@ -242,7 +242,7 @@ pub(crate) fn put_last_labels(
     lines.end_label(address_of(end))
 }
 
-/// How many bytes are on a line without strings.
+/// How many bytes are on a line of the rest of a long program, which has 183 characters then.
 const PLAIN_BYTES: usize = 32;
 
 /// Writes the bytes of a program from an offset on, as numbers only.
