@@ -91,7 +91,7 @@ fn grown_lines(
 fn plain<'a>(
     alloc: Global,
     files: &[SourceFile<'a>],
-    sources: &[Source<'a>],
+    sources: &[Source<'_>],
     built: Built,
 ) -> Result<Answer<Told<'a>>, AllocError>
     ensures { IfOk result (λ answer. answer_of answer ≡ built_answer false files.now sources.now built) }
@@ -105,7 +105,7 @@ fn plain<'a>(
 fn listed<'a>(
     alloc: Global,
     files: &[SourceFile<'a>],
-    sources: &[Source<'a>],
+    sources: &[Source<'_>],
     built: Built,
 ) -> Result<Answer<Told<'a>>, AllocError>
     ensures { IfOk result (λ answer. answer_of answer ≡ built_answer true files.now sources.now built) }
@@ -129,7 +129,7 @@ fn listed<'a>(
 fn written<'a>(
     alloc: Global,
     files: &[SourceFile<'a>],
-    sources: &[Source<'a>],
+    sources: &[Source<'_>],
     built: Built,
     list: bool,
 ) -> Result<Answer<Told<'a>>, AllocError>
@@ -147,7 +147,7 @@ fn answered<'a>(
     alloc: Global,
     front: Front<'a>,
     files: &[SourceFile<'a>],
-    sources: &[Source<'a>],
+    sources: &[Source<'_>],
     building: Result<Built, BuildFault>,
     list: bool,
 ) -> Result<Answer<Told<'a>>, AllocError>
