@@ -1,4 +1,5 @@
 pub mod Faulty
+pub mod Lines
 pub mod Named
 pub mod In_order
 pub mod Numbers

@@ -4,7 +4,7 @@ use Rattle.asm_module.specs.declared.fault.AsmFault.{AsmFault}
 use Rattle.asm_module.specs.Assembled.{Assembled, Assembles, HasCause}
 use Rattle.zmo_module.specs.Modules.{Module}
 use Rattle.zmo_object.specs.Texts.{module_text}
-use Rattle.z80dev_make.specs.Front.{fault_text, front_text}
+use Rattle.z80dev_make.specs.Front.{front_text, source_fault_text}
 use Rattle.z80dev_make.specs.Shared.{UnlessFaulty}
 use Rattle.z80dev_finish.specs.declared.answer.Kind.TheVariants as kind
 use Rattle.z80dev_make.specs.declared.answer.SourceFile.{SourceFile}
@@ -18,7 +18,7 @@ object_answer m = record { files = (kind.Object, module_text m) ∷ []; printed 
 -- the object file of the source's module, or its first error
 abbrev pub asm_answer : Front → SourceFile → Result Assembled AsmFault → Answer
 asm_answer front file (Ok a) = object_answer a.holds
-asm_answer front file (Err fault) = nothing (fault_text front file.path.now fault)
+asm_answer front file (Err fault) = nothing (source_fault_text front file.path.now fault)
 
 -- The answer is that of assembling the source behind the text of the front. Its name is its path.
 abbrev pub IsAsmBehind : Front → SourceFile → Bool → Answer → Type 0

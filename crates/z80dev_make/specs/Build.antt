@@ -9,7 +9,7 @@ use Rattle.zlink.specs.declared.source.Source.{Source}
 use Rattle.zlink.specs.Built.{IsBuilt, IsExactBuild}
 use Rattle.zlisting.specs.Listing.{listing}
 use Rattle.zlisting.specs.Symbols.{symbols}
-use Rattle.z80dev_make.specs.Front.{fault_text, front_lines, front_text}
+use Rattle.z80dev_make.specs.Front.{front_lines, front_text, source_fault_text}
 use Rattle.z80dev_make.specs.Shared.{UnlessFaulty}
 use Rattle.z80dev_make.specs.declared.front.Front.{Front}
 use Rattle.z80dev_finish.specs.declared.answer.Kind.{Kind}
@@ -72,7 +72,7 @@ built_answer list files sources own = record { files = built_files list sources 
 -- what is answered, given the result of building
 abbrev pub Answers : Front → Bool → List SourceFile → List Source → Result Built BuildFault → Answer → Type 0
 Answers front list files sources (Ok b) answer = (own : Built) × HasOwnLines front b own × (answer ≡ built_answer list files sources own)
-Answers front list files sources (Err (build.Asm number fault)) answer = answer ≡ nothing (fault_text front (path_at files number) fault)
+Answers front list files sources (Err (build.Asm number fault)) answer = answer ≡ nothing (source_fault_text front (path_at files number) fault)
 Answers front list files sources (Err (build.Link fault)) answer = answer ≡ no_program fault
 
 -- This is answered for building the sources behind the text of the front, and these are the jumps of the program.

@@ -1,13 +1,16 @@
 -- The front: what stands before each source. Definitions from the command line come first, then shared files.
-use Rattle.std.specs.Prelude.{ℕ, ◌+◌, ◌-◌, ◌==◌, not, List, [], ◌∷◌, ◌++◌, Option, Some, None, codes, drop, if◌then◌else◌, length, nat_le, slice_get, take}
-use Rattle.std.specs.List.{flat_map, prefix_len, sum_by}
+use Rattle.std.specs.Prelude.{ℕ, ◌+◌, ◌-◌, ◌==◌, ◌&&◌, not, Bool, true, false, List, [], ◌∷◌, ◌++◌, Option, Some, None, codes, drop, if◌then◌else◌, length, nat_le, slice_get, take}
+use Rattle.std.specs.Borrow.{Bor}
+use Rattle.std.specs.List.{flat_map, list_all, prefix_len, sum_by}
 use Rattle.std.specs.Option.{option_map}
 use Rattle.asm_macro.specs.Texts.{source_lines, source_part}
+use Rattle.asm_macro.specs.declared.fault.MacroFault.{MacroFault}
 use Rattle.zlink.specs.Types.{AsmFault, Why}
 use Rattle.z80dev_make.specs.declared.answer.SourceFile.{SourceFile}
 use Rattle.z80dev_make.specs.declared.front.Front.{Front}
 use Rattle.z80dev_make.specs.declared.faults.refusal.Refusal.TheVariants as refusal
-use Rattle.z80dev_make.specs.Faults.Refusals.{of_source, program_refusal_text}
+use Rattle.z80dev_make.specs.Faults.Names.{why_name}
+use Rattle.z80dev_make.specs.Faults.Refusals.{line_text, of_source, program_refusal_text}
 
 abbrev pub line_feed : List ℕ
 line_feed = 0x0A ∷ []
@@ -40,6 +43,13 @@ abbrev pub front_text : Front → List ℕ
 front_text front =
     flat_map (λ word. define_line word.now ++ line_feed) front.defines.now ++ flat_map (λ file. with_end (source_part file.text.now)) front.files.now
 
+-- a byte that may be in a word: it is no line feed and not 1AH, which would end a line or the text
+abbrev pub is_plain : ℕ → Bool
+is_plain byte = not (byte == 0x0A) && not (byte == 0x1A)
+
+abbrev pub are_plain : List (Bor (List ℕ)) → Bool
+are_plain words = list_all (λ word. list_all is_plain word.now) words
+
 -- how many lines the front has
 abbrev pub line_count : SourceFile → ℕ
 line_count file = length (source_lines file.text.now)
@@ -58,8 +68,18 @@ abbrev pub word_or_line : Option (List ℕ) → List ℕ × ℕ → Why → List
 word_or_line (Some word) at why = program_refusal_text word (refusal.Define why)
 word_or_line None at why = program_refusal_text at.0 (of_source (record { line = at.1; why = why }))
 
--- The text of an error that the front has, or a source behind it. The path is that of the source.
+-- The text of an error in a line of the front, or of a source behind it. The path is that of the source.
 abbrev pub fault_text : Front → List ℕ → AsmFault → List ℕ
 fault_text front path fault =
     word_or_line (option_map (λ word. word.now) (slice_get front.defines.now (fault.line - 1)))
     (line_in front.files.now path (fault.line - length front.defines.now)) fault.why
+
+abbrev pub is_too_long : Why → Bool
+is_too_long (Why.Macro MacroFault.TooManyLines) = true
+is_too_long why = false
+
+-- The text of an error of a source behind the front. If both together are longer than a source may be, the error is in their first line. It is
+-- reported for the first line of the source, since the front by itself is not too long.
+abbrev pub source_fault_text : Front → List ℕ → AsmFault → List ℕ
+source_fault_text front path fault =
+    if is_too_long fault.why && nat_le fault.line (front_lines front) then line_text path 1 (why_name fault.why) else fault_text front path fault

@@ -11,7 +11,7 @@ ghost use Rattle.z80dev_make.specs.Front.{front_text};
 use crate::answer::{SourceFile, refused, without_memory};
 use crate::faults::Told;
 use crate::front::{Front, front_text, text_behind};
-use crate::locating::told_at;
+use crate::locating::told_behind;
 use crate::sharing::fault_of_front;
 use asm_module::{Module, Why, assemble_with};
 use std::alloc::{AllocError, Global};
@@ -50,7 +50,7 @@ fn assembled<'a>(
         }
         Err(fault) => match fault.why {
             Why::NoMemory => Err(AllocError),
-            _ => Ok(refused(alloc, told_at(front, file.path, fault))),
+            _ => Ok(refused(alloc, told_behind(front, file.path, fault))),
         },
     }
 }

@@ -12,7 +12,7 @@ use crate::behind::{sources_behind, sources_of, texts_behind, with_own_lines};
 use crate::faults::Told;
 use crate::front::{Front, front_text};
 use crate::jumps::{Jumps, jumps_of};
-use crate::locating::told_at;
+use crate::locating::told_behind;
 use crate::sharing::fault_of_front;
 use std::alloc::{AllocError, Global};
 use std::fmt;
@@ -161,7 +161,7 @@ fn answered<'a>(
         }
         Err(BuildFault::Asm { source, fault }) => {
             let path = path_at(files, source);
-            Ok(refused(alloc, told_at(front, path, fault)))
+            Ok(refused(alloc, told_behind(front, path, fault)))
         }
         Err(BuildFault::Link(fault)) => no_program(alloc, fault),
     }

@@ -1,7 +1,8 @@
 //! Laws about the calls. A law is a function that does nothing and whose clause is a theorem.
 
-ghost use Rattle.std.specs.Prelude.{All, List, Result, map};
+ghost use Rattle.std.specs.Prelude.{◌≡◌, ◌++◌, ℕ, All, List, Result, length, map, true};
 ghost use Rattle.std.specs.List.{AllZip};
+ghost use Rattle.asm_macro.specs.Texts.{source_lines};
 ghost use Rattle.zmo_module.specs.Modules.{Module};
 ghost use Rattle.zmo_module.specs.Rules.{IsModule};
 ghost use Rattle.zmo_object.specs.Texts.{module_text};
@@ -9,7 +10,9 @@ ghost use Rattle.zlink.specs.declared.fault.LinkFault.{LinkFault};
 ghost use Rattle.zlink.specs.declared.linking.Linked.{Linked};
 ghost use Rattle.zlink.specs.Linked.{IsLinked};
 ghost use Rattle.zlink.specs.Outcomes.{AreSame, linked_outcome};
+ghost use Rattle.z80dev_make.specs.Front.{are_plain, front_lines, front_text};
 ghost use Rattle.z80dev_make.specs.Link.{IsObject};
+ghost use Rattle.z80dev_make.specs.declared.front.Front.{Front};
 
 use zlink::laws::one_link;
 use zmo_object::laws::one_text;
@@ -23,3 +26,9 @@ pub fn written()
     one_text();
     one_link();
 }
+
+/// A source behind a front has the lines of the front, and then its own. So its line N has the number of lines of the front and N.
+pub fn lines_behind()
+    ensures behind { (front : Front) (text : List ℕ) → are_plain front.defines.now ≡ true → source_lines (front_text front ++ text) ≡ source_lines (front_text front) ++ source_lines text }
+    ensures count { (front : Front) → are_plain front.defines.now ≡ true → length (source_lines (front_text front)) ≡ front_lines front }
+{}

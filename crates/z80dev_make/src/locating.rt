@@ -1,14 +1,14 @@
 //! Says in which file and line an error is that a front has, or a source behind it.
 
-ghost use Rattle.std.specs.Prelude.{◌≡◌, ◌-◌, length};
+ghost use Rattle.std.specs.Prelude.{◌≡◌, ◌-◌, length, nat_le};
 ghost use Rattle.z80dev_make.specs.Answers.{told_text};
-ghost use Rattle.z80dev_make.specs.Front.{fault_text, line_in};
+ghost use Rattle.z80dev_make.specs.Front.{fault_text, front_lines, is_too_long, line_in, source_fault_text};
 ghost use Rattle.z80dev_make.specs.Shared.{unshared_text};
 
 use crate::answer::SourceFile;
 use crate::faults::{Refusal, Told};
-use crate::front::{Front, line_count};
-use zlink::AsmFault;
+use crate::front::{Front, front_lines, line_count};
+use zlink::{AsmFault, MacroFault, Why};
 
 /// A line of a file.
 #[derive(Clone, Copy)]
@@ -42,7 +42,7 @@ fn place_of<'a>(front: Front<'a>, path: &'a str, line: u32) -> Place<'a>
     line_in(front.files, path, line.saturating_sub(words))
 }
 
-/// Answers the refusal of an error that a front has, or the source with this path behind it.
+/// Answers the refusal of an error in a line of a front, or of the source with this path behind it.
 pub(crate) fn told_at<'a>(front: Front<'a>, path: &'a str, fault: AsmFault) -> Told<'a>
     ensures { told_text result ≡ fault_text front.entry path.now fault }
 {
@@ -57,6 +57,32 @@ pub(crate) fn told_at<'a>(front: Front<'a>, path: &'a str, fault: AsmFault) -> T
     let Place { path, line } = place_of(front, path, line);
     let refusal = Refusal::of_source(AsmFault { line, why });
     Told { path, refusal }
+}
+
+/// Whether a line is in a front.
+fn is_in_front(front: Front<'_>, line: u32) -> bool
+    ensures { result ≡ nat_le line (front_lines front.entry) }
+{
+    line as usize <= front_lines(front)
+}
+
+/// Whether a text is longer than a source may be.
+fn is_too_long(why: Why) -> bool
+    ensures { result ≡ is_too_long why }
+{
+    matches!(why, Why::Macro(MacroFault::TooManyLines))
+}
+
+/// Answers the refusal of an error that the source with this path has behind a front.
+pub(crate) fn told_behind<'a>(front: Front<'a>, path: &'a str, fault: AsmFault) -> Told<'a>
+    ensures { told_text result ≡ source_fault_text front.entry path.now fault }
+{
+    let AsmFault { line, why } = fault;
+    if is_too_long(why) && is_in_front(front, line) {
+        let refusal = Refusal::Source(AsmFault { line: 1, why });
+        return Told { path, refusal };
+    }
+    told_at(front, path, fault)
 }
 
 /// Answers the refusal of a line that a shared file may not hold.

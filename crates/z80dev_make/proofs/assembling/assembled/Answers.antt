@@ -18,4 +18,4 @@ returns c =
     let named = subst (λ n. IsRefused fault.why n c.args.text.now c.args.grow fault) c.as_bytes.ensures.value c.in-Err.ensures.answer in
     let refused = subst (λ t. IsRefused fault.why path t c.args.grow fault) c.requires named in
     let text = front_text c.args.front ++ c.args.file.text.now in
-    (Err fault, c.in_default.not-NoMemory, caused path text c.args.grow fault fault.why c.in_default.not-NoMemory refused, c.refused.ensures ∙ ap nothing c.told_at.ensures)
+    (Err fault, c.in_default.not-NoMemory, caused path text c.args.grow fault fault.why c.in_default.not-NoMemory refused, c.refused.ensures ∙ ap nothing c.told_behind.ensures)
