@@ -23,6 +23,8 @@ pub(crate) enum Made {
     Asm,
     Link,
     Build,
+    Define,
+    Front,
 }
 
 /// Calls about the words of a command.
@@ -36,13 +38,15 @@ pub(crate) enum OnWords {
 }
 
 /// The names of all calls.
-const CALLS: [(&str, Call); 12] = [
+const CALLS: [(&str, Call); 14] = [
     ("pipe", Call::Stream(OnStreams::Pipe)),
     ("streams", Call::Stream(OnStreams::Streams)),
     ("check", Call::Stream(OnStreams::Check)),
     ("asm", Call::Make(Made::Asm)),
     ("link", Call::Make(Made::Link)),
     ("build", Call::Make(Made::Build)),
+    ("define", Call::Make(Made::Define)),
+    ("front", Call::Make(Made::Front)),
     ("disk", Call::Disk),
     ("name", Call::Word(OnWords::Name)),
     ("own-name", Call::Word(OnWords::OwnName)),

@@ -5,6 +5,7 @@
 
 mod call;
 mod disks;
+mod fronts;
 mod making;
 mod names;
 mod pipes;
@@ -31,6 +32,8 @@ fn answer_made(row: &mut Row, call: Made) {
         Made::Asm => making::answer_asm(row),
         Made::Link => making::answer_link(row),
         Made::Build => making::answer_build(row),
+        Made::Define => fronts::answer_define(row),
+        Made::Front => fronts::answer_front(row),
     }
 }
 

@@ -2,8 +2,14 @@
 
 use row_text::Row;
 use std::alloc::{AllocError, Global};
-use z80dev::{Answer, MemorySink, SourceFile, Told, asm, build, finish, link, report};
+use z80dev::{Answer, Front, Made, MemorySink, SourceFile, Told, asm, build, finish, link, report};
 use z80dev_jobs::{FailingFiles, Failure, MemoryFiles};
+
+/// Nothing before a source.
+const NO_FRONT: Front<'static> = Front {
+    defines: &[],
+    files: &[],
+};
 
 /// How `finish` ended: the status, what it printed and reported, and the files.
 #[derive(Drop)]
@@ -51,7 +57,8 @@ pub(crate) fn answer_asm(row: &mut Row) {
     let path = row.until('=');
     let text = row.rest();
     let text = row.lines_of(text);
-    let answer = asm(row.alloc(), SourceFile { path, text: &text }, false);
+    let source = SourceFile { path, text: &text };
+    let answer = asm(row.alloc(), NO_FRONT, source, false);
     let ended = finished(row.alloc(), &answer, 9);
     show_finished(row, &ended)
 }
@@ -66,7 +73,7 @@ fn object_of(row: &mut Row, part: &str) -> Vec<u8> {
         path: "A",
         text: &text,
     };
-    let mut answer = asm(row.alloc(), source, false);
+    let mut answer = asm(row.alloc(), NO_FRONT, source, false);
     match answer.files.pop() {
         Some(file) => file.bytes,
         None => {
@@ -97,15 +104,15 @@ pub(crate) fn answer_link(row: &mut Row) {
 
 /// Sources: their paths, and their texts in the same order.
 #[derive(Drop)]
-struct Sources<'a> {
-    paths: Vec<&'a str>,
-    texts: Vec<Vec<u8>>,
+pub(crate) struct Sources<'a> {
+    pub(crate) paths: Vec<&'a str>,
+    pub(crate) texts: Vec<Vec<u8>>,
 }
 
-/// Takes the rest of a row as sources.
-fn sources_of<'a>(row: &mut Row<'a>) -> Result<Sources<'a>, AllocError> {
+/// Takes a part of a row as sources, with ` & ` between them.
+pub(crate) fn sources_of<'a>(row: &mut Row, part: &'a str) -> Result<Sources<'a>, AllocError> {
     let (mut paths, mut texts) = (Vec::new(row.alloc()), Vec::new(row.alloc()));
-    for part in row.rest().split(" & ") {
+    for part in part.split(" & ") {
         match part.split_once('=') {
             Some((path, text)) => {
                 paths.push(path)?;
@@ -118,7 +125,10 @@ fn sources_of<'a>(row: &mut Row<'a>) -> Result<Sources<'a>, AllocError> {
 }
 
 /// The sources as `build` takes them.
-fn lent<'a>(alloc: Global, sources: &'a Sources<'a>) -> Result<Vec<SourceFile<'a>>, AllocError> {
+pub(crate) fn lent<'a>(
+    alloc: Global,
+    sources: &'a Sources<'a>,
+) -> Result<Vec<SourceFile<'a>>, AllocError> {
     let mut files = Vec::with_capacity(alloc, sources.paths.len())?;
     for (path, text) in sources.paths.iter().zip(&sources.texts) {
         files.push(SourceFile { path: *path, text })?;
@@ -126,9 +136,8 @@ fn lent<'a>(alloc: Global, sources: &'a Sources<'a>) -> Result<Vec<SourceFile<'a
     Ok(files)
 }
 
-/// Prints what `build` makes of sources, and what it reports about their jumps.
-fn show_built(row: &mut Row, sources: &[SourceFile], grow: bool, room: u64) {
-    let made = build(row.alloc(), sources, grow, false);
+/// Prints what `build` makes, and what it reports about jumps.
+pub(crate) fn show_made(row: &mut Row, made: Made, room: u64) {
     let ended = finished(row.alloc(), &made.answer, room);
     show_finished(row, &ended);
     if let Some(jumps) = made.jumps {
@@ -136,11 +145,18 @@ fn show_built(row: &mut Row, sources: &[SourceFile], grow: bool, room: u64) {
     }
 }
 
+/// Prints what `build` makes of sources, and what it reports about their jumps.
+fn show_built(row: &mut Row, sources: &[SourceFile], grow: bool, room: u64) {
+    let made = build(row.alloc(), NO_FRONT, sources, grow, false);
+    show_made(row, made, room)
+}
+
 /// Prints what `build` makes of sources.
 pub(crate) fn answer_build(row: &mut Row) {
     let grow = row.word() == "grow";
     let room = u64::from(row.decimal());
-    let Ok(sources) = sources_of(row) else {
+    let part = row.rest();
+    let Ok(sources) = sources_of(row, part) else {
         return row.refuse("no memory");
     };
     match lent(row.alloc(), &sources) {

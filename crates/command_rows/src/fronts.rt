@@ -1,0 +1,80 @@
+//! Rows of words that are definitions, and of sources behind a front.
+
+use crate::making::{Sources, lent, show_made, sources_of};
+use row_text::Row;
+use std::alloc::{AllocError, Global};
+use z80dev::{Front, SourceFile, bad_define, build};
+
+/// Takes a part of a row as words with commas between them; `-` is no word.
+fn words_of<'a>(alloc: Global, part: &'a str) -> Result<Vec<&'a str>, AllocError> {
+    let mut words = Vec::new(alloc);
+    if part != "-" {
+        for word in part.split(',') {
+            words.push(word)?;
+        }
+    }
+    Ok(words)
+}
+
+/// Prints the first of the words that is no definition.
+pub(crate) fn answer_define(row: &mut Row) {
+    let part = row.rest();
+    let Ok(words) = words_of(row.alloc(), part) else {
+        return row.refuse("no memory");
+    };
+    match bad_define(row.alloc(), &words) {
+        Ok(Some(word)) => write!(row, " bad {word}"),
+        Ok(None) => write!(row, " good"),
+        Err(_) => row.refuse("no memory"),
+    }
+}
+
+/// Takes a part of a row as shared files; `-` is no file.
+fn shared_of<'a>(row: &mut Row, part: &'a str) -> Result<Sources<'a>, AllocError> {
+    if part == "-" {
+        return Ok(Sources {
+            paths: Vec::new(row.alloc()),
+            texts: Vec::new(row.alloc()),
+        });
+    }
+    sources_of(row, part)
+}
+
+/// Prints what `build` makes of sources behind a front.
+fn show_behind(row: &mut Row, front: Front, sources: &[SourceFile], list: bool) {
+    let made = build(row.alloc(), front, sources, true, list);
+    show_made(row, made, 9)
+}
+
+/// Prints what `build` makes of sources behind a front, given as words, shared files and sources.
+fn answer_behind(
+    row: &mut Row,
+    list: bool,
+    words: &str,
+    shared: &str,
+    sources: &str,
+) -> Result<(), AllocError> {
+    let words = words_of(row.alloc(), words)?;
+    let shared = shared_of(row, shared)?;
+    let sources = sources_of(row, sources)?;
+    let shared_files = lent(row.alloc(), &shared)?;
+    let source_files = lent(row.alloc(), &sources)?;
+    let front = Front {
+        defines: &words,
+        files: &shared_files,
+    };
+    show_behind(row, front, &source_files, list);
+    Ok(())
+}
+
+/// Prints what `build` makes of sources behind a front.
+pub(crate) fn answer_front(row: &mut Row) {
+    let list = row.word() == "list";
+    let words = row.word();
+    let Some((shared, sources)) = row.rest().split_once(" ++ ") else {
+        return row.refuse("no sources");
+    };
+    if answer_behind(row, list, words, shared, sources).is_err() {
+        row.refuse("no memory");
+    }
+}
