@@ -1,4 +1,4 @@
-//! Rows of words that are definitions, and of sources behind a front.
+//! Rows of words that are definitions, and of sources after a front.
 
 use crate::making::{Sources, lent, show_made, sources_of};
 use row_text::Row;
@@ -40,13 +40,13 @@ fn shared_of<'a>(row: &mut Row, part: &'a str) -> Result<Sources<'a>, AllocError
     sources_of(row, part)
 }
 
-/// Prints what `build` makes of sources behind a front.
+/// Prints what `build` makes of sources after a front.
 fn show_behind(row: &mut Row, front: Front, sources: &[SourceFile], list: bool) {
     let made = build(row.alloc(), front, sources, true, list);
     show_made(row, made, 9)
 }
 
-/// Prints what `build` makes of sources behind a front, given as words, shared files and sources.
+/// Prints what `build` makes of sources after a front, given as words, shared files and sources.
 fn answer_behind(
     row: &mut Row,
     list: bool,
@@ -67,7 +67,7 @@ fn answer_behind(
     Ok(())
 }
 
-/// Prints what `build` makes of sources behind a front.
+/// Prints what `build` makes of sources after a front.
 pub(crate) fn answer_front(row: &mut Row) {
     let list = row.word() == "list";
     let words = row.word();

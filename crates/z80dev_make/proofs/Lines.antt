@@ -1,4 +1,4 @@
--- The lines of a front, and those of a source behind it.
+-- The lines of a front, and those of a source after it.
 use Rattle.std.proofs.Common.{◌≡◌, ◌+◌, ◌-◌, ◌<◌, ◌==◌, ◌&&◌, ℕ, zero, suc, true, false, not, codes, List, [], ◌∷◌, ◌++◌, Option, Some, None, length, length-append, map, take, drop, slice_get, slice_index, refl, sym, ap, ap₂, subst, ◌∙◌, arith, inl, inr, ⊎_elim}
 use Rattle.std.specs.Prelude.{◌≢◌}
 use Rattle.std.specs.Borrow.{Bor}
@@ -11,7 +11,7 @@ use Rattle.bstr.proofs.lemmas.LineLemmas.{EndsLine, lines-append, lines-nil, lin
 use Rattle.asm_macro.specs.Texts.{source_lines, source_part}
 use Rattle.z80dev_make.specs.declared.answer.SourceFile.{SourceFile}
 use Rattle.z80dev_make.specs.declared.front.Front.{Front}
-use Rattle.z80dev_make.specs.Front.{are_plain, define_line, defined_name, defined_value, front_lines, front_text, is_plain, line_count, line_feed, missing_end, name_length, with_end}
+use Rattle.z80dev_make.specs.Front.{have_word_bytes, define_line, defined_name, defined_value, front_lines, front_text, is_word_byte, line_count, end_of_line, missing_end, name_length, with_end}
 
 -- No byte is 1AH.
 abbrev pub Free : List ℕ → Type 0
@@ -160,39 +160,39 @@ feed_free (Some b) = ⊎_elim
 other_than : (b n : ℕ) → not (b == n) ≡ true → b ≢ n
 other_than b n differs is = let yes : not (b == n) ≡ false = ap not (eq-eqb b n is) in absurd (cc)
 
-plain_free : (xs : List ℕ) → list_all is_plain xs ≡ true → Free xs
+plain_free : (xs : List ℕ) → list_all is_word_byte xs ≡ true → Free xs
 plain_free [] plain = tt
 plain_free (b ∷ xs) plain =
-    let parts = and_parts (is_plain b) (list_all is_plain xs) plain in
+    let parts = and_parts (is_word_byte b) (list_all is_word_byte xs) plain in
     let here = and_parts (not (b == 10)) (not (b == 0x1A)) parts.0 in
     (other_than b 0x1A here.1, plain_free xs parts.1)
 
-plain_feedless : (xs : List ℕ) → list_all is_plain xs ≡ true → Feedless xs
+plain_feedless : (xs : List ℕ) → list_all is_word_byte xs ≡ true → Feedless xs
 plain_feedless [] plain = tt
 plain_feedless (b ∷ xs) plain =
-    let parts = and_parts (is_plain b) (list_all is_plain xs) plain in
+    let parts = and_parts (is_word_byte b) (list_all is_word_byte xs) plain in
     let here = and_parts (not (b == 10)) (not (b == 0x1A)) parts.0 in
     (other_than b 10 here.0, plain_feedless xs parts.1)
 
-plain_append : (a b : List ℕ) → list_all is_plain a ≡ true → list_all is_plain b ≡ true → list_all is_plain (a ++ b) ≡ true
+plain_append : (a b : List ℕ) → list_all is_word_byte a ≡ true → list_all is_word_byte b ≡ true → list_all is_word_byte (a ++ b) ≡ true
 plain_append [] b pa pb = pb
 plain_append (x ∷ a) b pa pb =
-    let parts = and_parts (is_plain x) (list_all is_plain a) pa in
+    let parts = and_parts (is_word_byte x) (list_all is_word_byte a) pa in
     ap₂ (λ one rest. one && rest) parts.0 (plain_append a b parts.1 pb)
 
-plain_take : (n : ℕ) (xs : List ℕ) → list_all is_plain xs ≡ true → list_all is_plain (take n xs) ≡ true
+plain_take : (n : ℕ) (xs : List ℕ) → list_all is_word_byte xs ≡ true → list_all is_word_byte (take n xs) ≡ true
 plain_take zero xs plain = refl
 plain_take (suc n) [] plain = refl
 plain_take (suc n) (x ∷ xs) plain =
-    let parts = and_parts (is_plain x) (list_all is_plain xs) plain in
+    let parts = and_parts (is_word_byte x) (list_all is_word_byte xs) plain in
     ap₂ (λ one rest. one && rest) parts.0 (plain_take n xs parts.1)
 
-plain_drop : (n : ℕ) (xs : List ℕ) → list_all is_plain xs ≡ true → list_all is_plain (drop n xs) ≡ true
+plain_drop : (n : ℕ) (xs : List ℕ) → list_all is_word_byte xs ≡ true → list_all is_word_byte (drop n xs) ≡ true
 plain_drop zero xs plain = plain
 plain_drop (suc n) [] plain = refl
-plain_drop (suc n) (x ∷ xs) plain = plain_drop n xs (and_parts (is_plain x) (list_all is_plain xs) plain).1
+plain_drop (suc n) (x ∷ xs) plain = plain_drop n xs (and_parts (is_word_byte x) (list_all is_word_byte xs) plain).1
 
-plain_line : (word : List ℕ) → list_all is_plain word ≡ true → list_all is_plain (define_line word) ≡ true
+plain_line : (word : List ℕ) → list_all is_word_byte word ≡ true → list_all is_word_byte (define_line word) ≡ true
 plain_line word plain =
     plain_append (defined_name word ++ codes " EQU ") (defined_value word)
     (plain_append (defined_name word) (codes " EQU ") (plain_take (name_length word) word plain) refl) (plain_drop (name_length word + 1) word plain)
@@ -200,7 +200,7 @@ plain_line word plain =
 -- the lines of words
 
 abbrev words_text : List (Bor (List ℕ)) → List ℕ
-words_text words = flat_map (λ word. define_line word.now ++ line_feed) words
+words_text words = flat_map (λ word. define_line word.now ++ end_of_line) words
 
 feed_ends : (xs : List ℕ) → Ends (xs ++ 10 ∷ [])
 feed_ends [] = refl
@@ -209,20 +209,20 @@ feed_ends (b ∷ c ∷ rest) = feed_ends (c ∷ rest)
 
 words_end : (words : List (Bor (List ℕ))) → Ends (words_text words)
 words_end [] = tt
-words_end (w ∷ ws) = ends-append (define_line w.now ++ line_feed) (words_text ws) (feed_ends (define_line w.now)) (words_end ws)
+words_end (w ∷ ws) = ends-append (define_line w.now ++ end_of_line) (words_text ws) (feed_ends (define_line w.now)) (words_end ws)
 
-words_free : (words : List (Bor (List ℕ))) → are_plain words ≡ true → Free (words_text words)
+words_free : (words : List (Bor (List ℕ))) → have_word_bytes words ≡ true → Free (words_text words)
 words_free [] plain = tt
 words_free (w ∷ ws) plain =
-    let parts = and_parts (list_all is_plain w.now) (are_plain ws) plain in
-    let here = free-append (define_line w.now) line_feed (plain_free (define_line w.now) (plain_line w.now parts.0)) ((λ is. absurd (omega arith)), tt) in
-    free-append (define_line w.now ++ line_feed) (words_text ws) here (words_free ws parts.1)
+    let parts = and_parts (list_all is_word_byte w.now) (have_word_bytes ws) plain in
+    let here = free-append (define_line w.now) end_of_line (plain_free (define_line w.now) (plain_line w.now parts.0)) ((λ is. absurd (omega arith)), tt) in
+    free-append (define_line w.now ++ end_of_line) (words_text ws) here (words_free ws parts.1)
 
-words_count : (words : List (Bor (List ℕ))) (rest : List ℕ) → are_plain words ≡ true → length (lines_of (words_text words ++ rest)) ≡ length words + length (lines_of rest)
+words_count : (words : List (Bor (List ℕ))) (rest : List ℕ) → have_word_bytes words ≡ true → length (lines_of (words_text words ++ rest)) ≡ length words + length (lines_of rest)
 words_count [] rest plain = omega arith
 words_count (w ∷ ws) rest plain =
-    let parts = and_parts (list_all is_plain w.now) (are_plain ws) plain in
-    let line = define_line w.now ++ line_feed in
+    let parts = and_parts (list_all is_word_byte w.now) (have_word_bytes ws) plain in
+    let line = define_line w.now ++ end_of_line in
     let one = one_ended (define_line w.now) (plain_feedless (define_line w.now) (plain_line w.now parts.0)) in
     let cut = ap lines_of (append_assoc line (words_text ws) rest) ∙ joined line (words_text ws ++ rest) (feed_ends (define_line w.now)) in
     let long = ap length cut ∙ length-append (lines_of line) (lines_of (words_text ws ++ rest)) in
@@ -257,12 +257,12 @@ files_count (f ∷ fs) =
     let all = sum_by-cons line_count f fs in
     omega arith
 
--- a front and a source behind it
+-- a front and a source after it
 module _ (front : Front) where
-  front_free : are_plain front.defines.now ≡ true → Free (front_text front)
+  front_free : have_word_bytes front.defines.now ≡ true → Free (front_text front)
   front_free plain = free-append (words_text front.defines.now) (files_text front.files.now) (words_free front.defines.now plain) (files_free front.files.now)
 
-  pub behind : (text : List ℕ) → are_plain front.defines.now ≡ true → source_lines (front_text front ++ text) ≡ source_lines (front_text front) ++ source_lines text
+  pub behind : (text : List ℕ) → have_word_bytes front.defines.now ≡ true → source_lines (front_text front ++ text) ≡ source_lines (front_text front) ++ source_lines text
   behind text plain =
       let before = front_text front in
       let free = front_free plain in
@@ -271,7 +271,7 @@ module _ (front : Front) where
       ap (map without_terminator) cut ∙ map-append without_terminator (lines_of before) (lines_of (source_part text))
       ∙ ap (λ part. map without_terminator (lines_of part) ++ source_lines text) (sym (part_whole before free))
 
-  pub count : are_plain front.defines.now ≡ true → length (source_lines (front_text front)) ≡ front_lines front
+  pub count : have_word_bytes front.defines.now ≡ true → length (source_lines (front_text front)) ≡ front_lines front
   count plain =
       let before = front_text front in
       length-map (lines_of (source_part before)) without_terminator ∙ ap (λ part. length (lines_of part)) (part_whole before (front_free plain))

@@ -1,4 +1,4 @@
--- Sources behind a front, one by one.
+-- Sources after a front, one by one.
 use Rattle.std.proofs.Common.{◌≡◌, List, [], ◌∷◌, ◌++◌, map, sym, ap, ◌∙◌}
 use Rattle.std.specs.List.{AllZip}
 use Rattle.zlink.specs.declared.source.Source.{Source}
@@ -16,7 +16,7 @@ module _ (front : Front) where
   are_behind (f ∷ fs) [] are = let e = are.0 in absurd (cc)
   are_behind (f ∷ fs) (s ∷ ss) are = let names = are.0 in let texts = are.1 in ((cc, cc), are_behind fs ss (cc, cc))
 
-  -- behind a front without text, a source is as it is
+  -- after a front without text, a source is as it is
   pub alone_behind : front_text front ≡ [] → (files : List SourceFile) (sources : List Source) → AllZip IsSource files sources → AllZip (IsBehind front) files sources
   alone_behind none [] [] are = tt
   alone_behind none [] (s ∷ ss) are = absurd are

@@ -1,4 +1,4 @@
--- What `build` answers for sources behind a front.
+-- What `build` answers for sources after a front.
 use Rattle.std.specs.Prelude.{◌≡◌, ◌⊎◌, ℕ, ◌-◌, Bool, true, false, List, [], ◌∷◌, ◌++◌, None, Some, Option, Result, Ok, Err, codes, decimal, map, slice_get}
 use Rattle.std.specs.List.{AllZip, flat_map}
 use Rattle.zlink.specs.declared.building.Built.{Built}
@@ -44,11 +44,11 @@ abbrev pub built_files : Bool → List Source → Built → List (Kind × List �
 built_files false sources b = program_files b.sizes.items b.cert.items b.com.items
 built_files true sources b = program_files b.sizes.items b.cert.items b.com.items ++ (kind.Listing, listing b sources) ∷ [] ++ (kind.Symbols, symbols b) ∷ []
 
--- the source is the file's text behind the text of the front, and its name is the file's path
+-- the source is the file's text after the text of the front, and its name is the file's path
 abbrev pub IsBehind : Front → SourceFile → Source → Type 0
 IsBehind front file source = (source.name.now ≡ file.path.now) × (source.text.now ≡ front_text front ++ file.text.now)
 
--- the number of a line, and the origin of a statement, if the source begins so many lines later
+-- the number of a line, and the origin of a statement, without this many lines before them
 abbrev pub earlier : ℕ → ℕ → ℕ
 earlier lines line = line - lines
 
@@ -70,12 +70,12 @@ abbrev pub built_answer : Bool → List SourceFile → List Source → Built →
 built_answer list files sources own = record { files = built_files list sources own; printed = grown_lines files own.statements.items own.grown.items; said = None }
 
 -- what is answered, given the result of building
-abbrev pub Answers : Front → Bool → List SourceFile → List Source → Result Built BuildFault → Answer → Type 0
-Answers front list files sources (Ok b) answer = (own : Built) × HasOwnLines front b own × (answer ≡ built_answer list files sources own)
-Answers front list files sources (Err (build.Asm number fault)) answer = answer ≡ nothing (source_fault_text front (path_at files number) fault)
-Answers front list files sources (Err (build.Link fault)) answer = answer ≡ no_program fault
+abbrev pub IsAnswerOf : Front → Bool → List SourceFile → List Source → Result Built BuildFault → Answer → Type 0
+IsAnswerOf front list files sources (Ok b) answer = (own : Built) × HasOwnLines front b own × (answer ≡ built_answer list files sources own)
+IsAnswerOf front list files sources (Err (build.Asm number fault)) answer = answer ≡ nothing (source_fault_text front (path_at files number) fault)
+IsAnswerOf front list files sources (Err (build.Link fault)) answer = answer ≡ no_program fault
 
--- This is answered for building the sources behind the text of the front, and these are the jumps of the program.
+-- This is answered for building the sources after the text of the front, and these are the jumps of the program.
 pub record IsBuild (front : Front) (files : List SourceFile) (grow list : Bool) (answer : Answer) (jumps : Option Jumps) : Type 0 where
   pub behind : List Source
   pub named : AllZip (IsBehind front) files behind
@@ -84,14 +84,14 @@ pub record IsBuild (front : Front) (files : List SourceFile) (grow list : Bool) 
   pub exact : IsExactBuild grow behind result
   pub sources : List Source
   pub alone : AllZip IsSource files sources
-  pub answers : Answers front list files sources result answer
+  pub answers : IsAnswerOf front list files sources result answer
   pub counted : jumps ≡ jumps_of result
 
 -- Only this is reported.
 abbrev pub IsRefusal : List ℕ → Answer → Option Jumps → Type 0
 IsRefusal said answer jumps = (answer ≡ nothing said) × (jumps ≡ None)
 
--- The answer is the first error of the front; or if it has none, that of building the sources behind it; or memory ran out.
+-- The answer is the first error of the front; or if it has none, that of building the sources after it; or memory ran out.
 abbrev pub IsMade : Front → List SourceFile → Bool → Bool → Answer → Option Jumps → Type 0
 IsMade front files grow list answer jumps = IsRefusal (codes "NoMemory") answer jumps
     ⊎ UnlessFaulty front (λ said. IsRefusal said answer jumps) (IsBuild front files grow list answer jumps)

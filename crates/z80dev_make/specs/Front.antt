@@ -1,4 +1,4 @@
--- The front: what stands before each source. Definitions from the command line come first, then shared files.
+-- The front: what comes before each source. Definitions from the command line come first, then shared files.
 use Rattle.std.specs.Prelude.{ℕ, ◌+◌, ◌-◌, ◌==◌, ◌&&◌, not, Bool, true, false, List, [], ◌∷◌, ◌++◌, Option, Some, None, codes, drop, if◌then◌else◌, length, nat_le, slice_get, take}
 use Rattle.std.specs.Borrow.{Bor}
 use Rattle.std.specs.List.{flat_map, list_all, prefix_len, sum_by}
@@ -12,8 +12,8 @@ use Rattle.z80dev_make.specs.declared.faults.refusal.Refusal.TheVariants as refu
 use Rattle.z80dev_make.specs.Faults.Names.{why_name}
 use Rattle.z80dev_make.specs.Faults.Refusals.{line_text, of_source, program_refusal_text}
 
-abbrev pub line_feed : List ℕ
-line_feed = 0x0A ∷ []
+abbrev pub end_of_line : List ℕ
+end_of_line = 0x0A ∷ []
 
 -- a word NAME=VALUE: what comes before its first `=`, and what comes after it
 abbrev pub name_length : List ℕ → ℕ
@@ -32,7 +32,7 @@ define_line word = defined_name word ++ codes " EQU " ++ defined_value word
 -- the line end that a text lacks, given its last byte
 abbrev pub missing_end : Option ℕ → List ℕ
 missing_end None = []
-missing_end (Some byte) = if byte == 0x0A then [] else line_feed
+missing_end (Some byte) = if byte == 0x0A then [] else end_of_line
 
 abbrev pub with_end : List ℕ → List ℕ
 with_end text = text ++ missing_end (slice_get text (length text - 1))
@@ -41,14 +41,14 @@ with_end text = text ++ missing_end (slice_get text (length text - 1))
 -- has none.
 abbrev pub front_text : Front → List ℕ
 front_text front =
-    flat_map (λ word. define_line word.now ++ line_feed) front.defines.now ++ flat_map (λ file. with_end (source_part file.text.now)) front.files.now
+    flat_map (λ word. define_line word.now ++ end_of_line) front.defines.now ++ flat_map (λ file. with_end (source_part file.text.now)) front.files.now
 
 -- a byte that may be in a word: it is no line feed and not 1AH, which would end a line or the text
-abbrev pub is_plain : ℕ → Bool
-is_plain byte = not (byte == 0x0A) && not (byte == 0x1A)
+abbrev pub is_word_byte : ℕ → Bool
+is_word_byte byte = not (byte == 0x0A) && not (byte == 0x1A)
 
-abbrev pub are_plain : List (Bor (List ℕ)) → Bool
-are_plain words = list_all (λ word. list_all is_plain word.now) words
+abbrev pub have_word_bytes : List (Bor (List ℕ)) → Bool
+have_word_bytes words = list_all (λ word. list_all is_word_byte word.now) words
 
 -- how many lines the front has
 abbrev pub line_count : SourceFile → ℕ
@@ -68,9 +68,9 @@ abbrev pub word_or_line : Option (List ℕ) → List ℕ × ℕ → Why → List
 word_or_line (Some word) at why = program_refusal_text word (refusal.Define why)
 word_or_line None at why = program_refusal_text at.0 (of_source (record { line = at.1; why = why }))
 
--- The text of an error in a line of the front, or of a source behind it. The path is that of the source.
-abbrev pub fault_text : Front → List ℕ → AsmFault → List ℕ
-fault_text front path fault =
+-- The text of an error in a line of the front, or of a source after it. The path is that of the source.
+abbrev pub front_fault_text : Front → List ℕ → AsmFault → List ℕ
+front_fault_text front path fault =
     word_or_line (option_map (λ word. word.now) (slice_get front.defines.now (fault.line - 1)))
     (line_in front.files.now path (fault.line - length front.defines.now)) fault.why
 
@@ -78,8 +78,8 @@ abbrev pub is_too_long : Why → Bool
 is_too_long (Why.Macro MacroFault.TooManyLines) = true
 is_too_long why = false
 
--- The text of an error of a source behind the front. If both together are longer than a source may be, the error is in their first line. It is
+-- The text of an error of a source after the front. If both together are longer than a source may be, the error is in their first line. It is
 -- reported for the first line of the source, since the front by itself is not too long.
 abbrev pub source_fault_text : Front → List ℕ → AsmFault → List ℕ
 source_fault_text front path fault =
-    if is_too_long fault.why && nat_le fault.line (front_lines front) then line_text path 1 (why_name fault.why) else fault_text front path fault
+    if is_too_long fault.why && nat_le fault.line (front_lines front) then line_text path 1 (why_name fault.why) else front_fault_text front path fault

@@ -11,7 +11,7 @@ use Rattle.asm_spell.specs.Line.{Line}
 use Rattle.asm_text.specs.Lines.{Numbered}
 use Rattle.zlink.specs.Types.{AsmFault}
 use Rattle.z80dev_make.specs.Faults.Refusals.{program_refusal_text}
-use Rattle.z80dev_make.specs.Front.{fault_text, front_text, line_in}
+use Rattle.z80dev_make.specs.Front.{front_fault_text, front_text, line_in}
 use Rattle.z80dev_make.specs.declared.faults.refusal.Refusal.TheVariants as refusal
 use Rattle.z80dev_make.specs.declared.front.Front.{Front}
 
@@ -42,9 +42,9 @@ unshared_at (path, line) = program_refusal_text path (refusal.NotShared line)
 abbrev pub unshared_text : Front → ℕ → List ℕ
 unshared_text front line = unshared_at (line_in front.files.now [] (line - length front.defines.now))
 
-abbrev pub first_fault : Front → Result Assembled AsmFault → Option (List ℕ)
-first_fault front (Ok whole) = None
-first_fault front (Err fault) = Some (fault_text front [] fault)
+abbrev pub first_front_fault : Front → Result Assembled AsmFault → Option (List ℕ)
+first_front_fault front (Ok whole) = None
+first_front_fault front (Err fault) = Some (front_fault_text front [] fault)
 
 -- The expansion has this answer, which has a cause in the source.
 abbrev pub Expands : List ℕ → Result (List Numbered) (ℕ × MacroFault) → Type 0
@@ -54,14 +54,14 @@ Expands text (Err (number, why)) = (why ≢ MacroFault.NoMemory) × IsExpanded t
 -- The first of its lines that a shared file may not hold; otherwise the first error of the front, assembled by itself.
 abbrev pub IsOwnFault : Front → Option ℕ → List ℕ → Option (List ℕ) → Type 0
 IsOwnFault front (Some line) text said = said ≡ Some (unshared_text front line)
-IsOwnFault front None text said = (whole : Result Assembled AsmFault) × HasCause whole × Assembles [] text false whole × (said ≡ first_fault front whole)
+IsOwnFault front None text said = (whole : Result Assembled AsmFault) × HasCause whole × Assembles [] text false whole × (said ≡ first_front_fault front whole)
 
 abbrev pub IsFaultOfText : Front → List ℕ → Option (List ℕ) → Type 0
 IsFaultOfText front [] said = said ≡ None
 IsFaultOfText front (byte ∷ more) said =
     (expanded : Result (List Numbered) (ℕ × MacroFault)) × Expands (byte ∷ more) expanded × IsOwnFault front (unshared_in front expanded) (byte ∷ more) said
 
--- This is said of the front by itself, before any source is looked at. Nothing is said of a front without text.
+-- The error that the front has by itself, before any source is assembled. A front without text has none.
 abbrev pub IsFaultOfFront : Front → Option (List ℕ) → Type 0
 IsFaultOfFront front said = IsFaultOfText front (front_text front) said
 

@@ -32,7 +32,7 @@ fn object_of<'a>(alloc: Global, module: &Module) -> Result<Answer<Told<'a>>, All
     Ok(Answer::done(files, Vec::new(alloc)))
 }
 
-/// Answers the object file of a source, or its first error, given the text of the front with the source behind it.
+/// Answers the object file of a source, or its first error, given the text of the front with the source after it.
 fn assembled<'a>(
     alloc: Global,
     front: Front<'a>,
@@ -55,7 +55,7 @@ fn assembled<'a>(
     }
 }
 
-/// Answers the object file of a source behind a front, or the first error.
+/// Answers the object file of a source after a front, or the first error.
 fn assembled_behind<'a>(
     alloc: Global,
     front: Front<'a>,
@@ -75,7 +75,7 @@ fn assembled_behind<'a>(
     assembled(alloc, front, file, &text, grow)
 }
 
-/// Assembles a source behind a front, and answers its object file. If `grow` is true, a written `JR` may become a `JP` when it is linked.
+/// Assembles a source after a front, and answers its object file. If `grow` is true, a written `JR` may become a `JP` when it is linked.
 ///
 /// A front that has an error is refused with its first one, and otherwise a source that has one. An error is reported with the line of the
 /// file in which it is.

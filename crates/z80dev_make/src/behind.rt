@@ -1,4 +1,4 @@
-//! Sources behind a front: their texts, and their program with the numbers that lines have in their own source.
+//! Sources after a front: their texts, and their program with the numbers that lines have in their own source.
 
 ghost use Rattle.std.specs.Prelude.{◌≡◌, ◌++◌, ◌-◌, ℕ, IfOk, length, map};
 ghost use Rattle.std.specs.List.{AllZip};
@@ -28,7 +28,7 @@ pub(crate) fn sources_of<'a>(
     Ok(sources)
 }
 
-/// Answers the texts of files behind the text of a front.
+/// Answers the texts of files after the text of a front.
 pub(crate) fn texts_behind(
     alloc: Global,
     front: &[u8],

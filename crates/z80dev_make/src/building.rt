@@ -3,7 +3,7 @@
 ghost use Rattle.std.specs.Prelude.{◌≡◌, IfOk, false, slice_get, string_bytes, true};
 ghost use Rattle.std.specs.List.{AllZip};
 ghost use Rattle.z80dev_make.specs.Answers.{answer_of, told_text};
-ghost use Rattle.z80dev_make.specs.Build.{Answers, IsBehind, IsBuild, IsMade, IsRefusal, built_answer, grown_lines, line_from, path_at};
+ghost use Rattle.z80dev_make.specs.Build.{IsAnswerOf, IsBehind, IsBuild, IsMade, IsRefusal, built_answer, grown_lines, line_from, path_at};
 ghost use Rattle.z80dev_make.specs.Front.{front_text};
 ghost use Rattle.z80dev_make.specs.Shared.{UnlessFaulty};
 
@@ -151,7 +151,7 @@ fn answered<'a>(
     building: Result<Built, BuildFault>,
     list: bool,
 ) -> Result<Answer<Told<'a>>, AllocError>
-    ensures { IfOk result (λ answer. Answers front.entry list files.now sources.now building (answer_of answer)) }
+    ensures { IfOk result (λ answer. IsAnswerOf front.entry list files.now sources.now building (answer_of answer)) }
 {
     match building {
         Ok(built) => {
@@ -176,7 +176,7 @@ pub struct Made<'a> {
     pub jumps: Option<Jumps>,
 }
 
-/// Answers the program of sources, or why there is none, given the sources behind the front.
+/// Answers the program of sources, or why there is none, given the sources after the front.
 fn built<'a>(
     alloc: Global,
     front: Front<'a>,
@@ -195,7 +195,7 @@ fn built<'a>(
     Ok(Made { answer, jumps })
 }
 
-/// Answers the program of sources behind a front that has a text, or why there is none.
+/// Answers the program of sources after a front that has a text, or why there is none.
 fn built_behind<'a>(
     alloc: Global,
     front: Front<'a>,
@@ -222,7 +222,7 @@ fn front_refused<'a>(alloc: Global, told: Told<'a>) -> Made<'a>
     }
 }
 
-/// Answers the program of sources behind a front, or the first error.
+/// Answers the program of sources after a front, or the first error.
 fn made_behind<'a>(
     alloc: Global,
     front: Front<'a>,
@@ -243,7 +243,7 @@ fn made_behind<'a>(
     built_behind(alloc, front, &before, files, grow, list)
 }
 
-/// Builds the program of sources behind a front, in the order of the sources, and answers it with its sizes file and certificate; and if
+/// Builds the program of sources after a front, in the order of the sources, and answers it with its sizes file and certificate; and if
 /// `list` is true, with its listing and its labels. If `grow` is true, a written `JR` may become a `JP`, and a line `grown PATH(LINE)` is
 /// printed for each that did, in their order. [`Made`] also has how many jumps are short and long.
 ///

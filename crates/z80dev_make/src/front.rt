@@ -1,9 +1,9 @@
-//! What stands before each source: definitions from the command line, and shared files.
+//! What comes before each source: definitions from the command line, and shared files.
 
 ghost use Rattle.std.specs.Prelude.{◌≡◌, ◌++◌, ◌≤◌, IfOk, OnOk, length};
 ghost use Rattle.std.specs.List.{flat_map};
 ghost use Rattle.asm_macro.specs.Texts.{source_part};
-ghost use Rattle.z80dev_make.specs.Front.{define_line, defined_name, defined_value, front_lines, front_text, line_count, line_feed, name_length, with_end};
+ghost use Rattle.z80dev_make.specs.Front.{define_line, defined_name, defined_value, front_lines, front_text, line_count, end_of_line, name_length, with_end};
 ghost use Rattle.z80dev_make.specs.Private.Steps.{Counts};
 
 use crate::answer::SourceFile;
@@ -11,7 +11,7 @@ use asm_macro::source_part;
 use bstr::ByteSlice;
 use std::alloc::{AllocError, Global};
 
-/// What stands before each source: definitions from the command line, then shared files, in the order of the words.
+/// What comes before each source: definitions from the command line, then shared files, in the order of the words.
 #[derive(Clone, Copy, Debug)]
 pub struct Front<'a> {
     /// Words `NAME=VALUE`, each a line `NAME EQU VALUE`.
@@ -53,7 +53,7 @@ pub(crate) fn put_define(text: &mut Vec<u8>, word: &str) -> Result<(), AllocErro
 
 /// Appends the lines of words.
 fn put_defines(text: &mut Vec<u8>, defines: &[&str]) -> Result<(), AllocError>
-    ensures { OnOk result (text.new.items ≡ text.old.items ++ flat_map (λ word. define_line word.now ++ line_feed) defines.now) }
+    ensures { OnOk result (text.new.items ≡ text.old.items ++ flat_map (λ word. define_line word.now ++ end_of_line) defines.now) }
 {
     for word in defines {
         put_define(text, word)?;
@@ -93,7 +93,7 @@ pub(crate) fn front_text(alloc: Global, front: Front<'_>) -> Result<Vec<u8>, All
     Ok(text)
 }
 
-/// Answers a text behind the text of a front.
+/// Answers a text after the text of a front.
 pub(crate) fn text_behind(alloc: Global, front: &[u8], text: &[u8]) -> Result<Vec<u8>, AllocError>
     ensures { IfOk result (λ both. both.items ≡ front.now ++ text.now) }
 {

@@ -10,7 +10,7 @@ ghost use Rattle.zlink.specs.declared.fault.LinkFault.{LinkFault};
 ghost use Rattle.zlink.specs.declared.linking.Linked.{Linked};
 ghost use Rattle.zlink.specs.Linked.{IsLinked};
 ghost use Rattle.zlink.specs.Outcomes.{AreSame, linked_outcome};
-ghost use Rattle.z80dev_make.specs.Front.{are_plain, front_lines, front_text};
+ghost use Rattle.z80dev_make.specs.Front.{have_word_bytes, front_lines, front_text};
 ghost use Rattle.z80dev_make.specs.Link.{IsObject};
 ghost use Rattle.z80dev_make.specs.declared.front.Front.{Front};
 
@@ -27,8 +27,8 @@ pub fn written()
     one_link();
 }
 
-/// A source behind a front has the lines of the front, and then its own. So its line N has the number of lines of the front and N.
+/// A source after a front has the lines of the front, and then its own. So its line N has the number of lines of the front and N.
 pub fn lines_behind()
-    ensures behind { (front : Front) (text : List ℕ) → are_plain front.defines.now ≡ true → source_lines (front_text front ++ text) ≡ source_lines (front_text front) ++ source_lines text }
-    ensures count { (front : Front) → are_plain front.defines.now ≡ true → length (source_lines (front_text front)) ≡ front_lines front }
+    ensures behind { (front : Front) (text : List ℕ) → have_word_bytes front.defines.now ≡ true → source_lines (front_text front ++ text) ≡ source_lines (front_text front) ++ source_lines text }
+    ensures count { (front : Front) → have_word_bytes front.defines.now ≡ true → length (source_lines (front_text front)) ≡ front_lines front }
 {}

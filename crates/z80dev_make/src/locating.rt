@@ -1,8 +1,8 @@
-//! Says in which file and line an error is that a front has, or a source behind it.
+//! Says in which file and line an error is that a front has, or a source after it.
 
 ghost use Rattle.std.specs.Prelude.{◌≡◌, ◌-◌, length, nat_le};
 ghost use Rattle.z80dev_make.specs.Answers.{told_text};
-ghost use Rattle.z80dev_make.specs.Front.{fault_text, front_lines, is_too_long, line_in, source_fault_text};
+ghost use Rattle.z80dev_make.specs.Front.{front_fault_text, front_lines, is_too_long, line_in, source_fault_text};
 ghost use Rattle.z80dev_make.specs.Shared.{unshared_text};
 
 use crate::answer::SourceFile;
@@ -34,7 +34,7 @@ fn line_in<'a>(files: &[SourceFile<'a>], path: &'a str, line: u32) -> Place<'a>
     Place { path, line }
 }
 
-/// Answers the place of a line behind the lines of words.
+/// Answers the place of a line after the lines of words.
 fn place_of<'a>(front: Front<'a>, path: &'a str, line: u32) -> Place<'a>
     ensures { (result.path.now, result.line) ≡ line_in front.entry.files.now path.now (line - length front.entry.defines.now) }
 {
@@ -42,9 +42,9 @@ fn place_of<'a>(front: Front<'a>, path: &'a str, line: u32) -> Place<'a>
     line_in(front.files, path, line.saturating_sub(words))
 }
 
-/// Answers the refusal of an error in a line of a front, or of the source with this path behind it.
+/// Answers the refusal of an error in a line of a front, or of the source with this path after it.
 pub(crate) fn told_at<'a>(front: Front<'a>, path: &'a str, fault: AsmFault) -> Told<'a>
-    ensures { told_text result ≡ fault_text front.entry path.now fault }
+    ensures { told_text result ≡ front_fault_text front.entry path.now fault }
 {
     let AsmFault { line, why } = fault;
     if let Some(word) = front.defines.get(line.saturating_sub(1) as usize) {
@@ -73,7 +73,7 @@ fn is_too_long(why: Why) -> bool
     matches!(why, Why::Macro(MacroFault::TooManyLines))
 }
 
-/// Answers the refusal of an error that the source with this path has behind a front.
+/// Answers the refusal of an error that the source with this path has after a front.
 pub(crate) fn told_behind<'a>(front: Front<'a>, path: &'a str, fault: AsmFault) -> Told<'a>
     ensures { told_text result ≡ source_fault_text front.entry path.now fault }
 {

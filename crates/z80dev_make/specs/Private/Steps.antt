@@ -20,6 +20,6 @@ AreRead objects (Err fault) = IsFirstFaultyObject objects fault
 abbrev pub AreNamed : List (List ℕ) → List (List ℕ) → List Source → Type 0
 AreNamed names texts sources = (map (λ source. source.name.now) sources ≡ names) × (map (λ source. source.text.now) sources ≡ texts)
 
--- Counted down from the number of a line, so many lines are as good as the others. (They may be fewer: a number of 32 bits is below both then.)
+-- Taken from the number of a line, `lines` give the same as `all`. They may be fewer, if both are higher than any number of a line.
 abbrev pub Counts : ℕ → ℕ → Type 0
 Counts lines all = (line : ℕ) → line < 2 ^ 32 → line - lines ≡ line - all

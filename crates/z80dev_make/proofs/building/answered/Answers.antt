@@ -1,10 +1,10 @@
 use Rattle.std.proofs.Common.{sym, subst}
 use Rattle.z80dev_make.specs.Answers.{answer_of}
-use Rattle.z80dev_make.specs.Build.{Answers}
+use Rattle.z80dev_make.specs.Build.{IsAnswerOf}
 use Rattle.z80dev_make.proofs.building.answered.Goals as goal
 
 pub returns-in_ok-answer-in-Ok : goal.returns-in_ok-answer-in-Ok
 returns-in_ok-answer-in-Ok c =
     let answer = answer_of c.in_ok-answer-in-Ok.answer in
-    subst (λ building. Answers c.args.front c.args.list c.args.files.now c.args.sources.now building answer) (sym c.in-Ok.is)
+    subst (λ building. IsAnswerOf c.args.front c.args.list c.args.files.now c.args.sources.now building answer) (sym c.in-Ok.is)
     (c.with_own_lines-own.result, c.with_own_lines-own.ensures, c.in_ok-answer-in-Ok.ensures)
