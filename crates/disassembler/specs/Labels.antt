@@ -18,7 +18,8 @@ is_one_name (b ∷ more) = begins_name b && list_all continues_name more
 
 -- PATH NAME: what comes after the last space is a name. The path may have spaces too.
 abbrev pub is_path_and_name : List ℕ → Bool
-is_path_and_name bytes = list_any is_space bytes && is_one_name (after_last is_space bytes)
+is_path_and_name [] = false
+is_path_and_name (first ∷ more) = list_any is_space more && is_one_name (after_last is_space more)
 
 -- AAAA PATH NAME
 abbrev pub is_label_line : List ℕ → Bool

@@ -84,8 +84,9 @@ pub(crate) fn find_code(
 ) -> Result<Vec<Kind>, AllocError> {
     let count = program.len();
     let mut kinds = vec![in alloc; Kind::Data; count]?;
-    let mut waiting = Vec::from_slice(alloc, entries)?;
-    waiting.push(0)?;
+    // The last one is taken first: the entries are known, while the code after a call is a guess.
+    let mut waiting = vec![in alloc; 0; 1]?;
+    waiting.extend_from_slice(entries)?;
     // At most one instruction is found at each byte, and each leads to two others at most.
     let most = count.saturating_mul(2).saturating_add(waiting.len());
     for _ in 0..most {

@@ -15,7 +15,10 @@ pub(crate) const FEWEST_ZEROS: usize = 16;
 const MOST_NUMBERS: usize = 8;
 
 /// The most bytes that have to be looked at to find how many a line has: a string that is not cut, numbers, and zeros after them.
-pub(crate) const MOST_SEEN: usize = 72;
+pub(crate) const MOST_SEEN: usize = MOST_CHARACTERS
+    + FEWEST_CHARACTERS
+    + MOST_NUMBERS
+    + FEWEST_ZEROS;
 
 fn is_printable(byte: u8) -> bool {
     matches!(byte, 0x20..=0x7E)

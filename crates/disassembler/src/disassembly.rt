@@ -68,6 +68,9 @@ fn full_text(
     let mut lines = Lines::new(alloc);
     put_head(alloc, &mut lines, program.len())?;
     put_items(alloc, &layout, &mut lines)?;
+    if layout.end < program.len() {
+        lines.put_remark("The rest as bytes: a source has at most 20,000 statements.")?;
+    }
     put_plain(alloc, &mut lines, program, layout.end)?;
     put_last_labels(alloc, &layout, &mut lines)?;
     Ok(lines.into_text())
@@ -77,6 +80,7 @@ fn full_text(
 fn plain_text(alloc: Global, program: &[u8]) -> Result<Vec<u8>, AllocError> {
     let mut lines = Lines::new(alloc);
     put_head(alloc, &mut lines, program.len())?;
+    lines.put_remark("Only bytes: a source with its instructions did not build to the same file.")?;
     put_plain(alloc, &mut lines, program, 0)?;
     Ok(lines.into_text())
 }
@@ -110,7 +114,8 @@ fn rebuilt<'a>(
 ///
 /// [`DisassemblyFault::TooLong`] if the program has more than 64,512 bytes; otherwise [`DisassemblyFault::BadEntry`] with the first entry
 /// that is not an address of a byte of the program; otherwise [`DisassemblyFault::BadLabels`] with the first line of the labels file that is
-/// not one of a label; [`DisassemblyFault::NoMemory`] if memory ran out.
+/// not one of a label; otherwise [`DisassemblyFault::NotRebuilt`] if neither the text of instructions nor that of bytes alone builds to the
+/// program, which no known program does; [`DisassemblyFault::NoMemory`] if memory ran out.
 pub fn disassemble<'a>(
     alloc: Global,
     program: &[u8],

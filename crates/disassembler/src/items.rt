@@ -49,7 +49,7 @@ impl<'a> Layout<'a> {
         entries: &[usize],
     ) -> Result<Layout<'a>, AllocError> {
         let kinds = find_code(alloc, program, entries)?;
-        let names = Names::new(alloc, program, &kinds, labels)?;
+        let names = Names::new(alloc, program, &kinds, labels, entries)?;
         let mut layout = Layout {
             program,
             kinds,
@@ -103,10 +103,11 @@ impl<'a> Layout<'a> {
 
     /// Answers how many bytes of zero are at an offset, up to where another item has to begin.
     fn zeros_at(&self, at: usize) -> usize {
-        let rest = self.program.get(at..).unwrap_or(&[]);
-        let zeros = zero_len(rest);
-        let behind = at.saturating_add(1)..at.saturating_add(zeros);
-        behind.take_while(|k| !self.has_to_begin(*k)).count() + 1
+        let behind = at.saturating_add(1)..self.end;
+        behind
+            .take_while(|k| self.program.get(*k) == Some(&0) && !self.has_to_begin(*k))
+            .count()
+            + 1
     }
 
     /// Answers the item at an offset.

@@ -47,7 +47,7 @@ fn is_one_name(bytes: &[u8]) -> bool
 fn has_space(bytes: &[u8]) -> bool
     ensures { result ≡ list_any is_space bytes.now }
 {
-    bytes.iter().any(|b| *b == b' ')
+    bytes.contains(&b' ')
 }
 
 /// Answers what comes after the last space, or everything if there is no space.
@@ -65,8 +65,11 @@ fn after_last_space(bytes: &[u8]) -> &[u8]
 fn name_after_path(bytes: &[u8]) -> Option<&[u8]>
     ensures { is_some result ≡ is_path_and_name bytes.now }
 {
-    let name = after_last_space(bytes);
-    if has_space(bytes) && is_one_name(name) {
+    let [_, more @ ..] = bytes else {
+        return None;
+    };
+    let name = after_last_space(more);
+    if has_space(more) && is_one_name(name) {
         Some(name)
     } else {
         None

@@ -37,11 +37,8 @@ impl Lines {
 
     /// Goes to a column of the line, or one further if the line is that long already.
     fn go_to(&mut self, column: usize) -> Result<(), AllocError> {
-        self.line.push(b' ')?;
-        for _ in self.line.len()..column {
-            self.line.push(b' ')?;
-        }
-        Ok(())
+        let len = column.max(self.line.len().saturating_add(1));
+        self.line.resize(len, b' ')
     }
 
     /// Writes a comment that is a line of its own.

@@ -37,8 +37,8 @@ fn is_made(name: &[u8]) -> bool {
     }
 }
 
-/// Whether the text can use a name, given in upper case. LOCAL makes the names that begin with `??`, and a name EQU or MACRO would be read as
-/// a definition where a jump names it.
+/// Whether the text can use a name, given in upper case. Names that begin with `??` are those that LOCAL makes, which tell
+/// less than an address. A name EQU or MACRO would be read as a definition where a jump names it.
 fn is_usable(name: &[u8]) -> bool {
     name.len() <= LONGEST_NAME
         && is_name(name)
@@ -66,7 +66,7 @@ fn usable_names(
 ) -> Result<BTreeMap<Vec<u8>, Option<usize>>, AllocError> {
     let mut usable = BTreeMap::new(alloc);
     for label in labels {
-        let name = upper(alloc, label.name)?;
+        let name = label.name.to_ascii_uppercase(alloc)?;
         if !is_usable(&name) {
             continue;
         }
@@ -78,11 +78,6 @@ fn usable_names(
         }
     }
     Ok(usable)
-}
-
-/// Answers a name in upper case.
-fn upper(alloc: Global, name: &[u8]) -> Result<Vec<u8>, AllocError> {
-    name.iter().map(|b| b.to_ascii_uppercase()).collect(alloc)
 }
 
 /// Answers the names of the labels, by their offsets.
@@ -129,8 +124,14 @@ impl Names {
         program: &[u8],
         kinds: &[Kind],
         labels: &[Label<'_>],
+        entries: &[usize],
     ) -> Result<Names, AllocError> {
         let mut labelled = targets(alloc, program, kinds)?;
+        for entry in entries {
+            if label_offset(kinds, address_of(*entry)).is_some() {
+                set(&mut labelled, *entry);
+            }
+        }
         let names = names_of(alloc, kinds, labels)?;
         for name in &names {
             set(&mut labelled, name.offset);
@@ -146,6 +147,12 @@ impl Names {
     /// Whether an offset has a label.
     pub(crate) fn is_labelled(&self, offset: usize) -> bool {
         matches!(self.labelled.get(offset), Some(true))
+    }
+
+    /// Answers the first name that the labels file has for an offset.
+    pub(crate) fn first_at(&self, offset: usize) -> Option<&Name> {
+        let from = self.names.partition_point(|name| name.offset < offset);
+        self.names.get(from).filter(|name| name.offset == offset)
     }
 
     /// Answers the names that the labels file has for an offset.

@@ -41,7 +41,7 @@ fn name_at(
     let Some(offset) = offset_of(address).filter(|offset| names.is_labelled(*offset)) else {
         return Ok(None);
     };
-    match names.at(offset).first() {
+    match names.first_at(offset) {
         Some(name) => Ok(Some(name.text.clone()?)),
         None if only_given => Ok(None),
         None => Ok(Some(made_name(alloc, address)?)),
