@@ -76,7 +76,7 @@ pub(crate) fn target_of(found: Found, count: usize) -> Option<usize> {
     offset_of(address).filter(|offset| *offset <= count)
 }
 
-/// Finds the code that the program can reach from its first byte and from these offsets.
+/// Finds the code that the program can reach from each of these offsets, in their order, and then what it can reach from its first byte.
 pub(crate) fn find_code(
     alloc: Global,
     program: &[u8],
@@ -84,9 +84,10 @@ pub(crate) fn find_code(
 ) -> Result<Vec<Kind>, AllocError> {
     let count = program.len();
     let mut kinds = vec![in alloc; Kind::Data; count]?;
-    // The last one is taken first: the entries are known, while the code after a call is a guess.
-    let mut waiting = vec![in alloc; 0; 1]?;
-    waiting.extend_from_slice(entries)?;
+    let mut waiting = Vec::from_slice(alloc, entries)?;
+    waiting.push(0)?;
+    // The last one is taken first: the entries in their order, since they are known, and then 0100H, since what comes after a call is a guess.
+    waiting.reverse();
     // At most one instruction is found at each byte, and each leads to two others at most.
     let most = count.saturating_mul(2).saturating_add(waiting.len());
     for _ in 0..most {
