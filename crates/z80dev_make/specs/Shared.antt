@@ -47,9 +47,9 @@ first_front_fault front (Ok whole) = None
 first_front_fault front (Err fault) = Some (front_fault_text front [] fault)
 
 -- The expansion has this answer, which has a cause in the source.
-abbrev pub Expands : List ℕ → Result (List Numbered) (ℕ × MacroFault) → Type 0
-Expands text (Ok lines) = IsExpanded text (Ok lines)
-Expands text (Err (number, why)) = (why ≢ MacroFault.NoMemory) × IsExpanded text (Err (number, why))
+abbrev pub HasExpansion : List ℕ → Result (List Numbered) (ℕ × MacroFault) → Type 0
+HasExpansion text (Ok lines) = IsExpanded text (Ok lines)
+HasExpansion text (Err (number, why)) = (why ≢ MacroFault.NoMemory) × IsExpanded text (Err (number, why))
 
 -- The first of its lines that a shared file may not hold; otherwise the first error of the front, assembled by itself.
 abbrev pub IsOwnFault : Front → Option ℕ → List ℕ → Option (List ℕ) → Type 0
@@ -59,7 +59,7 @@ IsOwnFault front None text said = (whole : Result Assembled AsmFault) × HasCaus
 abbrev pub IsFaultOfText : Front → List ℕ → Option (List ℕ) → Type 0
 IsFaultOfText front [] said = said ≡ None
 IsFaultOfText front (byte ∷ more) said =
-    (expanded : Result (List Numbered) (ℕ × MacroFault)) × Expands (byte ∷ more) expanded × IsOwnFault front (unshared_in front expanded) (byte ∷ more) said
+    (expanded : Result (List Numbered) (ℕ × MacroFault)) × HasExpansion (byte ∷ more) expanded × IsOwnFault front (unshared_in front expanded) (byte ∷ more) said
 
 -- The error that the front has by itself, before any source is assembled. A front without text has none.
 abbrev pub IsFaultOfFront : Front → Option (List ℕ) → Type 0

@@ -8,7 +8,7 @@ ghost use Rattle.asm_spell.specs.Line.{line_of};
 ghost use Rattle.asm_text.specs.Lines.{Numbered};
 ghost use Rattle.z80dev_make.specs.Answers.{told_text};
 ghost use Rattle.z80dev_make.specs.Front.{front_text};
-ghost use Rattle.z80dev_make.specs.Shared.{Expands, IsFaultOfFront, IsOwnFault, first_unshared, is_shared, unshared_in};
+ghost use Rattle.z80dev_make.specs.Shared.{HasExpansion, IsFaultOfFront, IsOwnFault, first_unshared, is_shared, unshared_in};
 
 use crate::faults::Told;
 use crate::front::Front;
@@ -45,7 +45,7 @@ fn first_unshared(words: usize, lines: &[SourceLine]) -> Option<u32>
 
 /// Answers the number of the first such line of a front's expansion. If the expansion stops, there is none.
 fn unshared(alloc: Global, front: Front<'_>, text: &[u8]) -> Result<Option<u32>, AllocError>
-    ensures { IfOk result (λ line. (expanded : Result (List Numbered) (ℕ × MacroFault)) × Expands text.now expanded × (line ≡ unshared_in front.entry expanded)) }
+    ensures { IfOk result (λ line. (expanded : Result (List Numbered) (ℕ × MacroFault)) × HasExpansion text.now expanded × (line ≡ unshared_in front.entry expanded)) }
 {
     match read_source(alloc, text) {
         Ok(source) => Ok(first_unshared(front.defines.len(), &source.lines)),

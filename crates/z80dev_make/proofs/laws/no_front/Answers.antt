@@ -1,0 +1,11 @@
+use Rattle.z80dev_make.proofs.Faulty.{faultless, no_lines, no_text}
+use Rattle.z80dev_make.proofs.laws.no_front.Goals as goal
+
+pub returns-clause-text : goal.returns-clause-text
+returns-clause-text c = no_text
+
+pub returns-clause-lines : goal.returns-clause-lines
+returns-clause-lines c = no_lines
+
+pub returns-clause-faultless : goal.returns-clause-faultless
+returns-clause-faultless c = faultless
