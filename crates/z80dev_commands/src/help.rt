@@ -43,14 +43,15 @@ no choice fits, it writes BASE.siz and BASE.crt only, and the certificate shows
 why. Prints nothing; with --grow, prints a line `grown PATH(LINE)` for each JR
 that became a JP.
 
-Without --out, BASE is the path of the first SRC without its ending: src/game for
-src/game.asm.
+Without --out, BASE is the path of the first SRC without its ending: src/game
+for src/game.asm. With --list, it also writes BASE.lst and BASE.sym.
 
 --define and --with may be given several times. Each source is assembled as if
 a line `NAME EQU VALUE` for each definition and then all lines of each FILE
-stood before its own first line. A FILE may have EQU lines, macros and EXTRN
-lines, and conditions and repetitions of these. VALUE is a number as in a
-source: 12, 0FFH or 101B.
+stood before its own first line. A FILE is for EQU lines, macros, conditions
+and repetitions; a line that makes bytes or a label is refused, as in
+`error: defs.inc(7): NotShared`. VALUE is a number as in a source: 12, 0FFH or
+101B.
 
 A file that it writes replaces one of the same name without a warning, even one
 that is write-protected. But if a SRC or a FILE has the path of one of them,
