@@ -99,7 +99,7 @@ _z80dev() {
                 [[ "$option" != --user ]] || user=$each
                 option=''
             fi
-        elif [[ "$each" == --out || "$each" == --disk || "$each" == --steps || "$each" == --user ]]; then
+        elif [[ "$each" =~ ^(--(out|define|with|labels|entry|disk|steps|user)|-o)$ ]]; then
             option=$each
         elif [[ "$each" == --to || "$each" == --all ]]; then
             several=$each
@@ -114,17 +114,20 @@ _z80dev() {
     [[ -z "$option" || "$word" != = ]] || word=''
 
     case $option in
-    --out) _z80dev_bases ;;
+    --out | -o) _z80dev_bases ;;
+    --with) _z80dev_any_file ;;
+    --labels) _z80dev_files sym ;;
     --disk) _z80dev_files img dsk cpm ;;
     esac
     [[ -z "$option" ]] || return
 
     case $command in
-    '') options='asm link build check dir put get erase rename protect unprotect check-disk blank run -h --help -V --version' ;;
-    asm) options='--out --grow -h --help' ;;
-    link) options='--out -h --help' ;;
-    build) options='--out --grow --list -v --verbose -h --help' ;;
+    '') options='asm link build check dis dir put get erase rename protect unprotect check-disk blank run -h --help -V --version' ;;
+    asm) options='-o --out --grow --define --with -h --help' ;;
+    link) options='-o --out -h --help' ;;
+    build) options='-o --out --grow --list -v --verbose --define --with -h --help' ;;
     check | check-disk) options='-h --help' ;;
+    dis) options='--labels --entry -h --help' ;;
     dir) options='--user --long -h --help' ;;
     put) options='--to --replace --text --user --no-lock -h --help' ;;
     get) options='--all --text --user -h --help' ;;
@@ -143,7 +146,7 @@ _z80dev() {
     link:*) _z80dev_files zmo ;;
     check:0) _z80dev_files siz ;;
     check:1) _z80dev_files crt ;;
-    run:0) _z80dev_files com ;;
+    dis:0 | run:0) _z80dev_files com ;;
     run:*) [[ -z "$disk" ]] || _z80dev_names "$disk" ;;
     *:0) _z80dev_files img dsk cpm ;;
     put:1 | put--to:* | get:2) _z80dev_any_file ;;

@@ -15,7 +15,7 @@ function __z80dev_operands
     for word in (commandline -opc)[3..]
         if test $is_value = yes
             set is_value no
-        else if contains -- $word --out --disk --steps --user
+        else if contains -- $word --out -o --define --with --labels --entry --disk --steps --user
             set is_value yes
         else if not string match -q -- '-*' $word
             echo $word
@@ -69,6 +69,7 @@ complete -c z80dev -n __fish_use_subcommand -a asm -d 'Assemble a source file to
 complete -c z80dev -n __fish_use_subcommand -a link -d 'Link objects to a program'
 complete -c z80dev -n __fish_use_subcommand -a build -d 'Assemble and link source files to a program'
 complete -c z80dev -n __fish_use_subcommand -a check -d 'Check the certificate of a program'
+complete -c z80dev -n __fish_use_subcommand -a dis -d 'Print a source file that builds to a program'
 complete -c z80dev -n __fish_use_subcommand -a dir -d 'List the files on a disk image'
 complete -c z80dev -n __fish_use_subcommand -a put -d 'Copy files to a disk image'
 complete -c z80dev -n __fish_use_subcommand -a get -d 'Copy files from a disk image'
@@ -81,24 +82,33 @@ complete -c z80dev -n __fish_use_subcommand -a blank -d 'Make an empty disk imag
 complete -c z80dev -n __fish_use_subcommand -a run -d 'Run a CP/M program'
 
 complete -c z80dev -n '__z80dev_at asm' -s h -l help -d 'Print help'
-complete -c z80dev -n '__z80dev_at asm' -l out -x -a '(__z80dev_bases)' -d 'Path of the object, without its ending'
+complete -c z80dev -n '__z80dev_at asm' -s o -l out -x -a '(__z80dev_bases)' -d 'Path of the object, without its ending'
 complete -c z80dev -n '__z80dev_at asm' -l grow -d 'Let a JR out of reach become a JP'
+complete -c z80dev -n '__z80dev_at asm' -l define -x -d 'Define a name as a number'
+complete -c z80dev -n '__z80dev_at asm' -l with -r -F -d 'File of definitions and macros'
 complete -c z80dev -n '__z80dev_at asm 0' -a '(__z80dev_files asm mac z80)' -d 'Source file'
 
 complete -c z80dev -n '__z80dev_at link' -s h -l help -d 'Print help'
-complete -c z80dev -n '__z80dev_at link' -l out -x -a '(__z80dev_bases)' -d 'Path of the files, without an ending'
+complete -c z80dev -n '__z80dev_at link' -s o -l out -x -a '(__z80dev_bases)' -d 'Path of the files, without an ending'
 complete -c z80dev -n '__z80dev_at link' -a '(__z80dev_files zmo)' -d 'Object'
 
 complete -c z80dev -n '__z80dev_at build' -s h -l help -d 'Print help'
-complete -c z80dev -n '__z80dev_at build' -l out -x -a '(__z80dev_bases)' -d 'Path of the files, without an ending'
+complete -c z80dev -n '__z80dev_at build' -s o -l out -x -a '(__z80dev_bases)' -d 'Path of the files, without an ending'
 complete -c z80dev -n '__z80dev_at build' -l grow -d 'Let a JR out of reach become a JP'
 complete -c z80dev -n '__z80dev_at build' -l list -d 'Write a listing and the labels too'
 complete -c z80dev -n '__z80dev_at build' -s v -l verbose -d 'Print how many jumps are short and long'
+complete -c z80dev -n '__z80dev_at build' -l define -x -d 'Define a name as a number'
+complete -c z80dev -n '__z80dev_at build' -l with -r -F -d 'File of definitions and macros'
 complete -c z80dev -n '__z80dev_at build' -a '(__z80dev_files asm mac z80)' -d 'Source file'
 
 complete -c z80dev -n '__z80dev_at check' -s h -l help -d 'Print help'
 complete -c z80dev -n '__z80dev_at check 0' -a '(__z80dev_files siz)' -d Sizes
 complete -c z80dev -n '__z80dev_at check 1' -a '(__z80dev_files crt)' -d Certificate
+
+complete -c z80dev -n '__z80dev_at dis' -s h -l help -d 'Print help'
+complete -c z80dev -n '__z80dev_at dis' -l labels -x -a '(__z80dev_files sym)' -d 'File of labels'
+complete -c z80dev -n '__z80dev_at dis' -l entry -x -d 'Address at which code begins'
+complete -c z80dev -n '__z80dev_at dis 0' -a '(__z80dev_files com)' -d Program
 
 complete -c z80dev -n '__z80dev_at dir' -s h -l help -d 'Print help'
 complete -c z80dev -n '__z80dev_at dir' -l user -x -d 'List the files of this user only'

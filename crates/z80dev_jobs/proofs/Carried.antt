@@ -1,7 +1,6 @@
 -- From what `finish` does to what a command does.
 use Rattle.std.proofs.Common.{◌≡◌, ℕ, Bool, List, String, Option, None, Some, Result, Ok, Err, ap, inl, inr, refl, subst, string_bytes}
 use Rattle.std.specs.Global.{Global}
-use Rattle.std.specs.List.{AllZip}
 use Rattle.std.specs.Option.{option_map}
 use Rattle.streams.specs.Stream.{Stream}
 use Rattle.streams.specs.Writing.{Puts}
@@ -14,9 +13,7 @@ use Rattle.z80dev_finish.specs.declared.answer.Answer as made
 use Rattle.z80dev_finish.specs.declared.end.End.{End}
 use Rattle.z80dev_finish.specs.declared.end.End.TheVariants as end
 use Rattle.z80dev_jobs.specs.Command.{TellsWith}
-use Rattle.z80dev_jobs.specs.Making.{BuildEnds, IsCarriedOut, LineAt, SaysWhy, effect_of}
-use Rattle.z80dev_jobs.specs.Private.Steps.{BuildsTexts, EndsWith}
-use Rattle.z80dev_jobs.specs.Reading.{IsRead}
+use Rattle.z80dev_jobs.specs.Making.{IsCarriedOut, LineAt, SaysWhy, effect_of}
 
 why_said : {R : Type 0} (text : R → List ℕ) (refusal : Option R) (said : List ℕ) → IsWhy (λ r. Some (text r)) refusal said → SaysWhy (option_map text refusal) said
 why_said text None said none = absurd none
@@ -62,15 +59,3 @@ tells_alone (end.File path last) old new tells = tells
 tells_alone (end.Path path) old new tells = tells
 tells_alone end.Stream old new tells = tells
 tells_alone end.NoMemory old new tells = tells
-
--- sources that were read, and then built
-pub built_of_read : (out : List ℕ) (grow list verbose : Bool) (paths texts : List (List ℕ)) (old mid new : Folder) (before after : Stream) (result : Result (Option (String Global)) End) → mid ≡ old
-    → AllZip (IsRead old) paths texts → EndsWith (BuildsTexts out grow list verbose paths texts (effect_of mid new before after)) result
-    → EndsWith (BuildEnds out grow list verbose paths (effect_of old new before after)) result
-built_of_read out grow list verbose paths texts old mid new before after result same read ends = built result (subst (λ f. EndsWith (BuildsTexts out grow list verbose paths texts (effect_of f new before after)) result) same ends)
-  where
-    built : (r : Result (Option (String Global)) End) → EndsWith (BuildsTexts out grow list verbose paths texts (effect_of old new before after)) r → EndsWith (BuildEnds out grow list verbose paths (effect_of old new before after)) r
-    built (Ok line) (inl is) = inl (texts, read, is)
-    built (Ok line) (inr out_of) = inr (inr (out_of.0, out_of.1), out_of.2)
-    built (Err e) (inl is) = inl (texts, read, is)
-    built (Err e) (inr out_of) = inr (inr (out_of.0, out_of.1), out_of.2)

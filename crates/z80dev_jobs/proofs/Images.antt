@@ -23,13 +23,13 @@ use Rattle.z80dev_finish.specs.declared.end.End.TheVariants as end
 use Rattle.z80dev_disk.specs.Put.{IsPutImage as IsPutOn}
 use Rattle.z80dev_disk.specs.Words.{file_name_of, own_name, pattern_of}
 use Rattle.z80dev_commands.specs.declared.Manner.{Manner}
-use Rattle.z80dev_jobs.specs.Disks.{BlankEnds, Changes, ChangesImage, Claiming, IsChanged, IsNotLocked, Named, NamedAll, NothingDone, PutEnds, Refuses, Warns, GetsMatching, IsWrittenInto, NamedIfGiven, PutAllEnds, ReadsImage, WritesInto, as_put, bad_name, path_in, warnings, without_name, BlankIsMade, GivesUp, kind_of}
+use Rattle.z80dev_jobs.specs.Disks.{BlankEnds, Changes, ChangesImage, Claiming, IsChanged, IsNotLocked, Named, NamedAll, PutEnds, Warns, GetsMatching, IsWrittenInto, NamedIfGiven, PutAllEnds, ReadsImage, WritesInto, as_put, bad_name, path_in, warnings, without_name, BlankIsMade, GivesUp, kind_of}
 use Rattle.z80dev_jobs.specs.Reading.{IsNotRead, IsOneNotRead, IsRead}
 use Rattle.z80dev_finish.specs.Answers.{Answer, answer_by}
 use Rattle.z80dev_finish.specs.Finishing.{Finishes}
 use Rattle.z80dev_finish.specs.declared.answer.Answer as made
 use Rattle.z80dev_disk.specs.Get.{IsGetAll}
-use Rattle.z80dev_jobs.specs.Making.{CarriesOut, Effect, IsCarriedOut, LineAt, With, WithAll, effect_of}
+use Rattle.z80dev_jobs.specs.Making.{CarriesOut, Effect, IsCarriedOut, LineAt, NothingDone, Refuses, With, WithAll, effect_of}
 use Rattle.z80dev_jobs.specs.Private.Images.{AreInto, ChangesInto, ClaimsImage, LocksPath, ReadsImageFile, WritesAll, lines_of, IsFreeOf}
 use Rattle.z80dev_jobs.specs.Private.Names.{AreNamed, AreNames, IsPatternIfGiven, IsRefusal, IsWord, Says}
 use Rattle.z80dev_jobs.specs.Running.{ClaimsDisk}

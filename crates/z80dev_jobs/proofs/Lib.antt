@@ -1,7 +1,12 @@
 pub mod Carried
+pub mod Clear
+pub mod Defined
+pub mod Disassembled
+pub mod Last_point
 pub mod Newest
 pub mod One_by_one
 pub mod One_word
+pub mod Overwritten
 pub mod Refused
 pub mod Images
 pub mod Reported

@@ -7,7 +7,7 @@ use Rattle.clap.specs.declared.error.kind.ErrorKind.{ErrorKind}
 use Rattle.clap.specs.declared.error.kind.ErrorKind.TheVariants as kind
 use Rattle.z80dev_commands.specs.Commands.{HasRightCount, IsJob, IsMiscounted, z80dev}
 use Rattle.z80dev_commands.specs.declared.Job.{Job}
-use Rattle.z80dev_commands.specs.declared.Job.TheVariants.{Pipe, Asm, Link, Build, Check, Dir, Put, PutAll, Get, GetAll, Erase, Rename, Protect, CheckDisk, Blank, Run}
+use Rattle.z80dev_commands.specs.declared.Job.TheVariants.{Pipe, Asm, Link, Build, Check, Dis, Dir, Put, PutAll, Get, GetAll, Erase, Rename, Protect, CheckDisk, Blank, Run}
 use Rattle.z80dev_jobs.specs.Command.{AsksToShow, CommandEnds, IsUsageFault, Untouched}
 use Rattle.z80dev_jobs.specs.Private.Steps.{HasUser, RefusesError}
 use Rattle.z80dev_jobs.specs.Words.{AreTexts}
@@ -57,10 +57,11 @@ has_user texts (Erase target names) is = is.1.2.0.1.0
 has_user texts (Rename target old new) is = is.1.2.0.1.0
 has_user texts (Protect target attribute on names) is = is.1.2.0.1.0
 has_user texts Pipe is = tt
-has_user texts (Asm out grow source) is = tt
+has_user texts (Asm out grow shared source) is = tt
 has_user texts (Link out objects) is = tt
-has_user texts (Build out grow list verbose sources) is = tt
+has_user texts (Build out grow list verbose shared sources) is = tt
 has_user texts (Check sizes cert) is = tt
+has_user texts (Dis labels entries program) is = tt
 has_user texts (Dir image user long name) is = tt
 has_user texts (CheckDisk image) is = tt
 has_user texts (Blank mega keep lock image) is = tt

@@ -1,5 +1,5 @@
 -- What the command `z80dev` does, whatever its words.
-use Rattle.std.specs.Prelude.{◌≡◌, ◌≢◌, ◌⊎◌, ℕ, true, List, ◌++◌, Option, Result, codes, decimal, map, unwrap_or}
+use Rattle.std.specs.Prelude.{◌≡◌, ◌≢◌, ◌⊎◌, ℕ, true, List, ◌++◌, Option, None, Some, Result, codes, decimal, map, unwrap_or}
 use Rattle.clap.specs.Words.{IsAmong, fault_of, takes}
 use Rattle.clap.specs.declared.error.kind.ErrorKind.{ErrorKind}
 use Rattle.clap.specs.declared.error.kind.ErrorKind.TheVariants as kind
@@ -10,15 +10,16 @@ use Rattle.z80dev.specs.Reading.{IsCutShort, OfText}
 use Rattle.z80dev.specs.declared.fault.Fault.{Fault}
 use Rattle.z80dev_commands.specs.Commands.{IsJob, IsMiscounted, z80dev}
 use Rattle.z80dev_commands.specs.declared.Job.{Job}
-use Rattle.z80dev_commands.specs.declared.Job.TheVariants.{Pipe, Asm, Link, Build, Check, Dir, Put, PutAll, Get, GetAll, Erase, Rename, Protect, CheckDisk, Blank, Run}
+use Rattle.z80dev_commands.specs.declared.Job.TheVariants.{Pipe, Asm, Link, Build, Check, Dis, Dir, Put, PutAll, Get, GetAll, Erase, Rename, Protect, CheckDisk, Blank, Run}
 use Rattle.z80dev_finish.specs.End.{IsPut, Tells, TellsOf, end_status}
 use Rattle.z80dev_finish.specs.declared.end.End.{End}
 use Rattle.z80dev_finish.specs.declared.end.End.TheVariants as end
 use Rattle.z80dev_jobs.specs.Disks.{BlankEnds, CheckDiskEnds, DirEnds, EraseEnds, GetAllEnds, GetEnds, ProtectEnds, PutAllEnds, PutEnds, RenameEnds, TellsLine}
-use Rattle.z80dev_jobs.specs.Making.{AsmEnds, BuildEnds, CheckEnds, Effect, LinkEnds, effect_of}
+use Rattle.z80dev_jobs.specs.Making.{AsmEnds, BuildEnds, CheckEnds, DisEnds, Effect, LinkEnds, defines_of, effect_of}
 use Rattle.z80dev_jobs.specs.Running.{RunEnds}
 use Rattle.z80dev_jobs.specs.Words.{AreTexts, IsNotText}
 use Rattle.z80dev_jobs.specs.World.{World}
+use Rattle.z80dev_make.specs.Defines.{first_bad}
 
 abbrev pub effect : World → World → Effect
 effect old new = effect_of old.folder new.folder old.output new.output
@@ -36,6 +37,28 @@ abbrev pub ReportsLine : (Effect → Option (List ℕ) → End → Type 0) → W
 ReportsLine Ends old new status = (line : Option (List ℕ)) × (e : End) × Ends (effect old new) line e × (status ≡ end_status e) × TellsWith line e old.errors new.errors
     × (new.input ≡ old.input)
 
+-- No file is touched, and standard input is not read
+pub record Untouched (old new : World) : Type 0 where
+  pub folder : new.folder ≡ old.folder
+  pub input : new.input ≡ old.input
+
+-- Memory ran out before the job began.
+abbrev pub LacksMemory : Stream → Stream → Stream → Stream → ℕ → Type 0
+LacksMemory before after old new status = (status ≡ 1) × (after ≡ before) × Tells end.NoMemory old new
+
+-- A definition on the command line is refused, as wrong words are.
+abbrev pub RefusesDefine : List ℕ → Stream → Stream → Stream → Stream → ℕ → Type 0
+RefusesDefine word before after old new status = (status ≡ 2) × (after ≡ before) × IsPut old new (error_line (codes "BadDefine(" ++ word ++ codes ")"))
+
+-- The first definition that is not NAME=VALUE is refused. If there is none, the job is done.
+abbrev pub UnlessBad : Option (List ℕ) → (World → World → ℕ → Type 0) → World → World → ℕ → Type 0
+UnlessBad None Does old new status = Does old new status
+UnlessBad (Some word) Does old new status = Untouched old new × RefusesDefine word old.output new.output old.errors new.errors status
+
+-- The definitions are looked at before any file is read. Memory may run out for that.
+abbrev pub Defining : List (List ℕ) → (World → World → ℕ → Type 0) → World → World → ℕ → Type 0
+Defining words Does old new status = UnlessBad (first_bad words) Does old new status ⊎ (Untouched old new × LacksMemory old.output new.output old.errors new.errors status)
+
 -- Without words: the file of the source text on standard input is printed in hexadecimal.
 abbrev pub PipeEnds : World → World → ℕ → Type 0
 PipeEnds old new status = (new.folder ≡ old.folder) × OfText old.input.left (λ text. (e : Result Unit Fault) × (status ≡ status_at e)
@@ -48,10 +71,12 @@ default_steps = 100000000
 -- What each job does.
 abbrev pub JobEnds : Job → World → World → ℕ → Type 0
 JobEnds Pipe old new status = PipeEnds old new status
-JobEnds (Asm out grow source) old new status = Reports (AsmEnds out.now grow source.now) old new status
+JobEnds (Asm out grow shared source) old new status = Defining (defines_of shared) (Reports (AsmEnds out.now grow shared source.now)) old new status
 JobEnds (Link out objects) old new status = Reports (LinkEnds out.now (map (λ path. path.now) objects.items)) old new status
-JobEnds (Build out grow list verbose sources) old new status = ReportsLine (BuildEnds out.now grow list verbose (map (λ path. path.now) sources.items)) old new status
+JobEnds (Build out grow list verbose shared sources) old new status =
+    Defining (defines_of shared) (ReportsLine (BuildEnds out grow list verbose shared (map (λ path. path.now) sources.items))) old new status
 JobEnds (Check sizes cert) old new status = Reports (CheckEnds sizes.now cert.now) old new status
+JobEnds (Dis labels entries program) old new status = Reports (DisEnds labels (map (λ word. word.now) entries.items) program.now) old new status
 JobEnds (Dir image user long name) old new status = ReportsLine (DirEnds image.now user long name) old new status
 JobEnds (Put target manner file name) old new status = ReportsLine (PutEnds target manner file.now name.now) old new status
 JobEnds (PutAll target manner files) old new status = ReportsLine (PutAllEnds target manner (map (λ path. path.now) files.items)) old new status
@@ -63,15 +88,6 @@ JobEnds (Protect target attribute on names) old new status = ReportsLine (Protec
 JobEnds (CheckDisk image) old new status = ReportsLine (CheckDiskEnds image.now) old new status
 JobEnds (Blank mega keep lock image) old new status = ReportsLine (BlankEnds mega keep lock image.now) old new status
 JobEnds (Run disk lock steps program words) old new status = RunEnds disk lock (unwrap_or steps default_steps) program.now (map (λ word. word.now) words.items) old new status
-
--- No file is touched, and standard input is not read
-pub record Untouched (old new : World) : Type 0 where
-  pub folder : new.folder ≡ old.folder
-  pub input : new.input ≡ old.input
-
--- Memory ran out before the job began.
-abbrev pub LacksMemory : Stream → Stream → Stream → Stream → ℕ → Type 0
-LacksMemory before after old new status = (status ≡ 1) × (after ≡ before) × Tells end.NoMemory old new
 
 -- A word is not UTF-8.
 abbrev pub RefusesWord : ℕ → Stream → Stream → Stream → Stream → ℕ → Type 0

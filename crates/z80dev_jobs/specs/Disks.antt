@@ -27,18 +27,8 @@ use Rattle.z80dev_finish.specs.End.{IsPut}
 use Rattle.z80dev_finish.specs.Files.{Adds, FailsSo, File, Folder, IsLockWanted, IsToBeKept, IsUnreadable, Places, Replaced, ReplacedOrNot, Test, after_asking, claimed_by, locked_by, spent}
 use Rattle.z80dev_finish.specs.declared.end.End.{End}
 use Rattle.z80dev_finish.specs.declared.end.End.TheVariants as end
-use Rattle.z80dev_jobs.specs.Making.{CarriesOut, Effect, LineAt, With, WithAll}
+use Rattle.z80dev_jobs.specs.Making.{CarriesOut, Effect, LineAt, NothingDone, Refuses, With, WithAll}
 use Rattle.z80dev_jobs.specs.Reading.{IsRead}
-
--- Nothing is written, locked or printed, and no call failed.
-abbrev pub NothingDone : Effect → Type 0
-NothingDone x = (x.new ≡ x.old) × (x.after ≡ x.before)
-
--- This text is the refusal, and nothing is done; or memory ran out for it.
-abbrev pub Refuses : List ℕ → Effect → End → Type 0
-Refuses why x (end.Refused said) = (string_bytes said ≡ why) × NothingDone x
-Refuses why x end.NoMemory = NothingDone x
-Refuses why x _ = ⊥
 
 -- ---- warnings
 

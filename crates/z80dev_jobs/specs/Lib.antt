@@ -1,5 +1,6 @@
 pub mod Reading
 pub mod World
+pub mod Outputs
 pub mod Making
 pub mod Disks
 pub mod Running

@@ -1,20 +1,30 @@
 -- How commands end that read files, make files of them, and print lines.
-use Rattle.std.specs.Prelude.{◌≡◌, ◌⊎◌, ℕ, Bool, true, false, List, [], ◌∷◌, ◌++◌, Option, None, Some, Result, Ok, Err, map, string_bytes}
+use Rattle.std.specs.Prelude.{◌≡◌, ◌≢◌, ◌⊎◌, ℕ, Bool, true, false, List, [], ◌∷◌, ◌++◌, Option, None, Some, Result, Ok, Err, Vec, map, string_bytes}
+use Rattle.std.specs.Borrow.{Bor}
+use Rattle.std.specs.Global.{Global}
 use Rattle.std.specs.List.{AllZip}
+use Rattle.disassembler.specs.Disassembly.{IsDisassembly}
+use Rattle.disassembler.specs.Faults.{fault_text}
+use Rattle.disassembler.specs.declared.fault.DisassemblyFault.{DisassemblyFault}
+use Rattle.disassembler.specs.declared.fault.DisassemblyFault.TheVariants as fault
 use Rattle.streams.specs.Stream.{Stream}
 use Rattle.streams.specs.Writing.{PutsAll, PutsFront}
 use Rattle.z80dev.specs.Verdict.{VerdictEnds}
+use Rattle.z80dev_commands.specs.declared.Shared.{Shared}
 use Rattle.z80dev_finish.specs.Answers.{Answer, MemoryAside}
 use Rattle.z80dev_finish.specs.Files.{Folder}
 use Rattle.z80dev_finish.specs.Finishing.{AllWritten, IsBrokenOff, IsUnwritten}
+use Rattle.z80dev_finish.specs.declared.answer.Kind.TheVariants as kind
 use Rattle.z80dev_finish.specs.declared.end.End.{End}
 use Rattle.z80dev_finish.specs.declared.end.End.TheVariants as end
+use Rattle.z80dev_jobs.specs.Outputs.{base_of, clash, program_kinds}
 use Rattle.z80dev_jobs.specs.Reading.{IsNotRead, IsOneNotRead, IsRead}
 use Rattle.z80dev_make.specs.Asm.{IsAsm}
 use Rattle.z80dev_make.specs.Build.{IsMade}
 use Rattle.z80dev_make.specs.Link.{IsLink}
 use Rattle.z80dev_make.specs.Jumps.{jumps_text}
 use Rattle.z80dev_make.specs.declared.answer.SourceFile.{SourceFile}
+use Rattle.z80dev_make.specs.declared.front.Front.{Front}
 use Rattle.z80dev_make.specs.declared.jumps.Jumps.{Jumps}
 
 -- Before and after: the files, and standard output.
@@ -31,6 +41,16 @@ effect_of old new before after = record { old = old; new = new; before = before;
 abbrev pub ended : Result End End → End
 ended (Ok e) = e
 ended (Err e) = e
+
+-- Nothing is written, locked or printed, and no call failed.
+abbrev pub NothingDone : Effect → Type 0
+NothingDone x = (x.new ≡ x.old) × (x.after ≡ x.before)
+
+-- This text is the refusal, and nothing is done; or memory ran out for it.
+abbrev pub Refuses : List ℕ → Effect → End → Type 0
+Refuses why x (end.Refused said) = (string_bytes said ≡ why) × NothingDone x
+Refuses why x end.NoMemory = NothingDone x
+Refuses why x _ = ⊥
 
 -- the text of a refusal is this
 abbrev pub SaysWhy : Option (List ℕ) → List ℕ → Type 0
@@ -59,17 +79,40 @@ With path Does x e = ((bytes : List ℕ) × IsRead x.old path bytes × Does byte
 abbrev pub WithAll : List (List ℕ) → (List (List ℕ) → Type 0) → Effect → End → Type 0
 WithAll paths Does x e = ((texts : List (List ℕ)) × AllZip (IsRead x.old) paths texts × Does texts) ⊎ (IsOneNotRead x.old x.new paths e × (x.after ≡ x.before))
 
--- `asm`: the source is read, and its object is written.
-abbrev pub AsmEnds : List ℕ → Bool → List ℕ → Effect → End → Type 0
-AsmEnds out grow path x e = With path (λ text. CarriesOut out (MemoryAside (λ a. (file : SourceFile) × (file.path.now ≡ path) × (file.text.now ≡ text) × IsAsm file grow a)) x e) x e
+-- If there is a reason why it may not write its files, the command refuses with it before it reads a file. Otherwise it continues.
+abbrev pub Unless : Option (List ℕ) → Type 0 → Effect → End → Type 0
+Unless None Does x e = Does
+Unless (Some why) Does x e = Refuses why x e
 
--- `link`: the objects are read, and their program is written.
-abbrev pub LinkEnds : List ℕ → List (List ℕ) → Effect → End → Type 0
-LinkEnds out paths x e = WithAll paths (λ objects. CarriesOut out (MemoryAside (IsLink objects)) x e) x e
+-- ---- the commands
 
 -- sources of these paths and texts
 abbrev pub AreFiles : List (List ℕ) → List (List ℕ) → List SourceFile → Type 0
 AreFiles paths texts files = (map (λ file. file.path.now) files ≡ paths) × (map (λ file. file.text.now) files ≡ texts)
+
+abbrev pub defines_of : Shared → List (List ℕ)
+defines_of shared = map (λ word. word.now) shared.defines.items
+
+abbrev pub files_of : Shared → List (List ℕ)
+files_of shared = map (λ path. path.now) shared.files.items
+
+-- these definitions, and these files with their texts
+abbrev pub IsFront : Shared → List (List ℕ) → Front → Type 0
+IsFront shared texts front = (map (λ word. word.now) front.defines.now ≡ defines_of shared) × AreFiles (files_of shared) texts front.files.now
+
+-- the object of a source that was read, behind a front of which the files were read
+abbrev pub IsAsmOf : Shared → List (List ℕ) → List ℕ → List ℕ → Bool → Answer → Type 0
+IsAsmOf shared fronts path text grow a =
+    (front : Front) × (file : SourceFile) × IsFront shared fronts front × (file.path.now ≡ path) × (file.text.now ≡ text) × IsAsm front file grow a
+
+-- `asm`: the shared files and then the source are read, and its object is written.
+abbrev pub AsmEnds : List ℕ → Bool → Shared → List ℕ → Effect → End → Type 0
+AsmEnds out grow shared path x e = Unless (clash out (kind.Object ∷ []) (files_of shared ++ path ∷ []))
+    (WithAll (files_of shared) (λ fronts. With path (λ text. CarriesOut out (MemoryAside (IsAsmOf shared fronts path text grow)) x e) x e) x e) x e
+
+-- `link`: the objects are read, and their program is written.
+abbrev pub LinkEnds : List ℕ → List (List ℕ) → Effect → End → Type 0
+LinkEnds out paths x e = Unless (clash out (program_kinds false) paths) (WithAll paths (λ objects. CarriesOut out (MemoryAside (IsLink objects)) x e) x e) x e
 
 -- how many jumps are short and long, where this is wanted and there is a program
 abbrev pub told : Bool → Option Jumps → Option (List ℕ)
@@ -82,15 +125,38 @@ abbrev pub LineAt : End → Option (List ℕ) → Option (List ℕ) → Type 0
 LineAt end.Done line wanted = line ≡ wanted
 LineAt other line wanted = line ≡ None
 
--- The program of sources that were read is written, and its jumps are counted.
-abbrev pub IsBuiltOf : List ℕ → Bool → Bool → Bool → List (List ℕ) → List (List ℕ) → Effect → Option (List ℕ) → End → Type 0
-IsBuiltOf out grow list verbose paths texts x line e = (jumps : Option Jumps) × LineAt e line (told verbose jumps)
-    × CarriesOut out (λ a. (files : List SourceFile) × AreFiles paths texts files × IsMade files grow list a jumps) x e
+-- The program of sources that were read, behind a front of which the files were read, is written, and its jumps are counted.
+abbrev pub IsBuiltOf : List ℕ → Bool → Bool → Bool → Shared → List (List ℕ) → List (List ℕ) → List (List ℕ) → Effect → Option (List ℕ) → End → Type 0
+IsBuiltOf base grow list verbose shared fronts paths texts x line e = (jumps : Option Jumps) × LineAt e line (told verbose jumps)
+    × CarriesOut base (λ a. (front : Front) × (files : List SourceFile) × IsFront shared fronts front × AreFiles paths texts files × IsMade front files grow list a jumps) x e
 
--- `build`: the sources are read, and their program is written.
-abbrev pub BuildEnds : List ℕ → Bool → Bool → Bool → List (List ℕ) → Effect → Option (List ℕ) → End → Type 0
-BuildEnds out grow list verbose paths x line e = WithAll paths (λ texts. IsBuiltOf out grow list verbose paths texts x line e) x e
+-- `build`: the shared files and then the sources are read, and their program is written.
+abbrev pub BuildsWith : List ℕ → Bool → Bool → Bool → Shared → List (List ℕ) → Effect → Option (List ℕ) → End → Type 0
+BuildsWith base grow list verbose shared paths x line e = Unless (clash base (program_kinds list) (files_of shared ++ paths))
+    (WithAll (files_of shared) (λ fronts. WithAll paths (λ texts. IsBuiltOf base grow list verbose shared fronts paths texts x line e) x e) x e) x e
+
+abbrev pub BuildEnds : Option (Bor (List ℕ)) → Bool → Bool → Bool → Shared → List (List ℕ) → Effect → Option (List ℕ) → End → Type 0
+BuildEnds out grow list verbose shared paths x line e = BuildsWith (base_of out paths) grow list verbose shared paths x line e
 
 -- `check`: the sizes and the certificate are read, and the checker's verdict is printed. No file is written.
 abbrev pub CheckEnds : List ℕ → List ℕ → Effect → End → Type 0
 CheckEnds sizes cert x e = With sizes (λ s. With cert (λ c. (x.new ≡ x.old) × VerdictEnds s c x.before x.after e) x e) x e
+
+-- A source of a program is printed, or the program, its labels or its entries are refused.
+abbrev pub PrintsSource : List ℕ → Option (List ℕ) → List (List ℕ) → Effect → End → Type 0
+PrintsSource program labels entries x end.Done = (text : Vec ℕ Global) × IsDisassembly program labels entries (Ok text) × PutsAll x.before x.after text.items
+PrintsSource program labels entries x (end.Refused said) =
+    (why : DisassemblyFault) × (why ≢ fault.NoMemory) × IsDisassembly program labels entries (Err why) × (string_bytes said ≡ fault_text why) × (x.after ≡ x.before)
+PrintsSource program labels entries x (end.File path last) = ⊥
+PrintsSource program labels entries x (end.Path path) = ⊥
+PrintsSource program labels entries x end.Stream = (text : Vec ℕ Global) × IsDisassembly program labels entries (Ok text) × PutsFront x.before x.after text.items
+PrintsSource program labels entries x end.NoMemory = x.after ≡ x.before
+
+-- A file is read if its path is given.
+abbrev pub WithIfGiven : Option (Bor (List ℕ)) → (Option (List ℕ) → Type 0) → Effect → End → Type 0
+WithIfGiven None Does x e = Does None
+WithIfGiven (Some path) Does x e = With path.now (λ bytes. Does (Some bytes)) x e
+
+-- `dis`: the program and its labels are read, and a source that builds to the program is printed. No file is written.
+abbrev pub DisEnds : Option (Bor (List ℕ)) → List (List ℕ) → List ℕ → Effect → End → Type 0
+DisEnds labels entries path x e = With path (λ program. WithIfGiven labels (λ names. (x.new ≡ x.old) × PrintsSource program names entries x e) x e) x e

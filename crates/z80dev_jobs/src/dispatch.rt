@@ -4,13 +4,15 @@ ghost use Rattle.std.specs.Prelude.{◌≡◌, ◌≤◌, false, map};
 ghost use Rattle.z80dev.specs.declared.text.TheConstants.{MOST_READS};
 ghost use Rattle.clap.specs.Words.{kind_of};
 ghost use Rattle.z80dev_finish.specs.End.{Tells, end_status};
-ghost use Rattle.z80dev_jobs.specs.Command.{CommandEnds, JobEnds, TellsWith};
-ghost use Rattle.z80dev_jobs.specs.Making.{ended};
-ghost use Rattle.z80dev_jobs.specs.Private.Steps.{HasUser, RefusesError, RefusesFault, end_in, line_in};
+ghost use Rattle.z80dev_make.specs.Defines.{first_bad};
+ghost use Rattle.z80dev_jobs.specs.Command.{CommandEnds, Defining, JobEnds, Reports, ReportsLine, TellsWith};
+ghost use Rattle.z80dev_jobs.specs.Making.{AsmEnds, BuildEnds, defines_of, ended};
+ghost use Rattle.z80dev_jobs.specs.Private.Steps.{HasUser, JudgesDefines, RefusesError, RefusesFault, end_in, line_in};
 ghost use Rattle.z80dev_jobs.specs.Running.{RunEnds};
-ghost use Rattle.z80dev_jobs.specs.Reading.{reader_of};
+ghost use Rattle.z80dev_jobs.specs.Reading.{Reader, reader_of};
 ghost use Rattle.z80dev_jobs.specs.World.{world_of};
 
+use crate::disassembling::dis_file;
 use crate::disks::{
     blank_image, check_image, dir_image, erase_files, get_every, get_file, protect_files, put_file,
     put_files, rename_file,
@@ -23,7 +25,8 @@ use clap::Error;
 use clap::error::ErrorKind;
 use std::alloc::Global;
 use streams::{print, put, tell};
-use z80dev::{DONE, End, Files, Input, Job, Sink, USAGE, commands, pipe, report};
+use z80dev::{DONE, End, Files, Input, Job, Sink, USAGE, bad_define, commands, pipe, report};
+use z80dev_commands::Shared;
 use z80dev_run::Ran;
 
 /// Reports an end, however a function passed it on, and gives the exit status.
@@ -94,6 +97,62 @@ fn report_line<E: Sink>(ended: Result<Option<String>, End<'_>>, errors: &mut E) 
     }
 }
 
+/// Reports the first definition that is not NAME=VALUE, and gives the exit status; or None if there is no such definition.
+fn refuse_define<E: Sink>(alloc: Global, defines: &[&str], errors: &mut E) -> Option<u8>
+    ensures { JudgesDefines (first_bad (map (λ word. word.now) defines.now)) (E.stream errors.old) (E.stream errors.new) result }
+{
+    let Ok(bad) = bad_define(alloc, defines) else {
+        return Some(report(&End::NoMemory, errors));
+    };
+    let word = bad?;
+    match format!(in alloc; "BadDefine({word})") {
+        Ok(text) => {
+            let _ = tell(errors, text.as_bytes());
+            Some(USAGE)
+        }
+        Err(_) => Some(report(&End::NoMemory, errors)),
+    }
+}
+
+/// Assembles a source, unless a definition is refused, and gives the exit status.
+fn asm_job<F: Files, W: Sink, E: Sink>(
+    alloc: Global,
+    out: &str,
+    grow: bool,
+    shared: &Shared<'_>,
+    source: &str,
+    files: &mut F,
+    output: &mut W,
+    errors: &mut E,
+) -> u8
+    ensures { (input : Reader) → Defining (defines_of shared.now) (Reports (AsmEnds out.now grow shared.now source.now)) (world_of (F.folder files.old) input (W.stream output.old) (E.stream errors.old)) (world_of (F.folder files.new) input (W.stream output.new) (E.stream errors.new)) result }
+{
+    if let Some(status) = refuse_define(alloc, &shared.defines, errors) {
+        return status;
+    }
+    let end = asm_file(alloc, out, grow, shared, source, files, output);
+    report_any(end, errors)
+}
+
+/// Builds a program, unless a definition is refused, and gives the exit status.
+fn build_job<F: Files, W: Sink, E: Sink>(
+    alloc: Global,
+    wanted: Wanted<'_>,
+    shared: &Shared<'_>,
+    sources: &[&str],
+    files: &mut F,
+    output: &mut W,
+    errors: &mut E,
+) -> u8
+    ensures { (input : Reader) → Defining (defines_of shared.now) (ReportsLine (BuildEnds wanted.entry.out wanted.entry.grow wanted.entry.list wanted.entry.verbose shared.now (map (λ path. path.now) sources.now))) (world_of (F.folder files.old) input (W.stream output.old) (E.stream errors.old)) (world_of (F.folder files.new) input (W.stream output.new) (E.stream errors.new)) result }
+{
+    if let Some(status) = refuse_define(alloc, &shared.defines, errors) {
+        return status;
+    }
+    let ended = build_files(alloc, wanted, shared, sources, files, output);
+    report_line(ended, errors)
+}
+
 /// Runs a program, and gives the exit status with what the command worked on.
 fn run_job<'a, F: Files, I: Input, W: Sink + Drop, E: Sink>(
     alloc: Global,
@@ -157,10 +216,21 @@ fn work<F: Files, I: Input, W: Sink + Drop, E: Sink>(
 {
     let status = match job {
         Job::Pipe => pipe(alloc, &mut host.input, &mut host.output, &mut host.errors),
-        Job::Asm { out, grow, source } => {
-            let end = asm_file(alloc, out, grow, source, &mut host.files, &mut host.output);
-            report_any(end, &mut host.errors)
-        }
+        Job::Asm {
+            out,
+            grow,
+            shared,
+            source,
+        } => asm_job(
+            alloc,
+            out,
+            grow,
+            &shared,
+            source,
+            &mut host.files,
+            &mut host.output,
+            &mut host.errors,
+        ),
         Job::Link { out, objects } => {
             let end = link_files(alloc, out, &objects, &mut host.files, &mut host.output);
             report_any(end, &mut host.errors)
@@ -170,6 +240,7 @@ fn work<F: Files, I: Input, W: Sink + Drop, E: Sink>(
             grow,
             list,
             verbose,
+            shared,
             sources,
         } => {
             let wanted = Wanted {
@@ -178,11 +249,33 @@ fn work<F: Files, I: Input, W: Sink + Drop, E: Sink>(
                 list,
                 verbose,
             };
-            let ended = build_files(alloc, wanted, &sources, &mut host.files, &mut host.output);
-            report_line(ended, &mut host.errors)
+            build_job(
+                alloc,
+                wanted,
+                &shared,
+                &sources,
+                &mut host.files,
+                &mut host.output,
+                &mut host.errors,
+            )
         }
         Job::Check { sizes, cert } => {
             let end = check_files(alloc, sizes, cert, &mut host.files, &mut host.output);
+            report_any(end, &mut host.errors)
+        }
+        Job::Dis {
+            labels,
+            entries,
+            program,
+        } => {
+            let end = dis_file(
+                alloc,
+                labels,
+                &entries,
+                program,
+                &mut host.files,
+                &mut host.output,
+            );
             report_any(end, &mut host.errors)
         }
         Job::Dir {

@@ -4,12 +4,14 @@
 //! [`MemoryFiles`] keeps files in memory, and [`FailingFiles`] lets some calls of files fail.
 #![tactic(auto)]
 
+mod disassembling;
 mod disks;
 mod dispatch;
 mod failing;
 mod host;
 mod making;
 mod memory;
+mod outputs;
 mod reading;
 mod running;
 mod words;

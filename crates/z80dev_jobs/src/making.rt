@@ -5,50 +5,15 @@ ghost use Rattle.z80dev_jobs.specs.Making.{AreFiles, AsmEnds, BuildEnds, CheckEn
 ghost use Rattle.z80dev_jobs.specs.Private.Steps.{BuildsTexts, EndsWith};
 
 use crate::disks::done_with;
+use crate::outputs::{base_of, program_kinds, refuse_clash};
 use crate::reading::{read, read_all};
 use std::alloc::{AllocError, Global};
-use z80dev::{End, Files, Jumps, Made, Sink, SourceFile, asm, build, check_texts, finish, link};
+use z80dev::{
+    End, Files, Front, Jumps, Kind, Made, Sink, SourceFile, asm, build, check_texts, finish, link,
+};
+use z80dev_commands::Shared;
 
-/// Assembles a source to an object.
-pub(crate) fn asm_file<'a, F: Files, W: Sink>(
-    alloc: Global,
-    out: &'a str,
-    grow: bool,
-    path: &'a str,
-    files: &mut F,
-    output: &mut W,
-) -> Result<End<'a>, End<'a>>
-    ensures { AsmEnds out.now grow path.now (effect_of (F.folder files.old) (F.folder files.new) (W.stream output.old) (W.stream output.new)) (ended result) }
-{
-    let text = read(alloc, path, files)?;
-    let source = SourceFile { path, text: &text };
-    Ok(finish(alloc, out, &asm(alloc, source, grow), files, output))
-}
-
-/// Links objects to a program.
-pub(crate) fn link_files<'a, F: Files, W: Sink>(
-    alloc: Global,
-    out: &'a str,
-    paths: &[&'a str],
-    files: &mut F,
-    output: &mut W,
-) -> Result<End<'a>, End<'a>>
-    ensures { LinkEnds out.now (map (λ path. path.now) paths.now) (effect_of (F.folder files.old) (F.folder files.new) (W.stream output.old) (W.stream output.new)) (ended result) }
-{
-    let objects = read_all(alloc, paths, files)?;
-    Ok(finish(alloc, out, &link(alloc, &objects), files, output))
-}
-
-/// What is wanted of `build`, but for its sources.
-#[derive(Clone, Copy)]
-pub(crate) struct Wanted<'a> {
-    pub(crate) out: &'a str,
-    pub(crate) grow: bool,
-    pub(crate) list: bool,
-    pub(crate) verbose: bool,
-}
-
-/// Sources, each with its path.
+/// Files of source text, each with its path.
 fn sources_of<'a>(
     alloc: Global,
     paths: &[&'a str],
@@ -65,6 +30,54 @@ fn sources_of<'a>(
     Ok(sources)
 }
 
+/// Assembles a source to an object.
+pub(crate) fn asm_file<'a, F: Files, W: Sink>(
+    alloc: Global,
+    out: &'a str,
+    grow: bool,
+    shared: &Shared<'a>,
+    path: &'a str,
+    files: &mut F,
+    output: &mut W,
+) -> Result<End<'a>, End<'a>>
+    ensures { AsmEnds out.now grow shared.now path.now (effect_of (F.folder files.old) (F.folder files.new) (W.stream output.old) (W.stream output.new)) (ended result) }
+{
+    refuse_clash(alloc, out, &[Kind::Object], &shared.files, &[path])?;
+    let fronts = read_all(alloc, &shared.files, files)?;
+    let text = read(alloc, path, files)?;
+    let shared_files = sources_of(alloc, &shared.files, &fronts)?;
+    let front = Front {
+        defines: &shared.defines,
+        files: &shared_files,
+    };
+    let source = SourceFile { path, text: &text };
+    Ok(finish(alloc, out, &asm(alloc, front, source, grow), files, output))
+}
+
+/// Links objects to a program.
+pub(crate) fn link_files<'a, F: Files, W: Sink>(
+    alloc: Global,
+    out: &'a str,
+    paths: &[&'a str],
+    files: &mut F,
+    output: &mut W,
+) -> Result<End<'a>, End<'a>>
+    ensures { LinkEnds out.now (map (λ path. path.now) paths.now) (effect_of (F.folder files.old) (F.folder files.new) (W.stream output.old) (W.stream output.new)) (ended result) }
+{
+    refuse_clash(alloc, out, program_kinds(false), &[], paths)?;
+    let objects = read_all(alloc, paths, files)?;
+    Ok(finish(alloc, out, &link(alloc, &objects), files, output))
+}
+
+/// What is wanted of `build`, but for its sources.
+#[derive(Clone, Copy)]
+pub(crate) struct Wanted<'a> {
+    pub(crate) out: Option<&'a str>,
+    pub(crate) grow: bool,
+    pub(crate) list: bool,
+    pub(crate) verbose: bool,
+}
+
 /// The line that says how many jumps are short and long, if it is wanted and there is a program.
 fn line_of(alloc: Global, verbose: bool, jumps: Option<Jumps>) -> Result<Option<String>, AllocError>
     ensures { IfOk result (λ line. option_map string_bytes line ≡ told verbose jumps) }
@@ -75,37 +88,58 @@ fn line_of(alloc: Global, verbose: bool, jumps: Option<Jumps>) -> Result<Option<
     }
 }
 
-/// Builds the program of sources that were read.
-fn build_texts<'a, F: Files, W: Sink>(
+/// Builds the program of sources that were read, behind a front of which the files were read.
+fn build_texts<'a, 's, F: Files, W: Sink>(
     alloc: Global,
+    base: &'a str,
     wanted: Wanted<'a>,
-    paths: &[&'a str],
-    texts: &[Vec<u8>],
+    shared: &'s Shared<'s>,
+    fronts: &'s [Vec<u8>],
+    paths: &[&'s str],
+    texts: &'s [Vec<u8>],
     files: &mut F,
     output: &mut W,
 ) -> Result<Option<String>, End<'a>>
-    requires { length paths.now ≡ length texts.now }
-    ensures { EndsWith (BuildsTexts wanted.entry.out.now wanted.entry.grow wanted.entry.list wanted.entry.verbose (map (λ path. path.now) paths.now) (map (λ text. text.items) texts.now) (effect_of (F.folder files.old) (F.folder files.new) (W.stream output.old) (W.stream output.new))) result }
+    requires fronts { length shared.now.files.items ≡ length fronts.now }
+    requires texts { length paths.now ≡ length texts.now }
+    ensures { EndsWith (BuildsTexts base.now wanted.entry.grow wanted.entry.list wanted.entry.verbose shared.now (map (λ text. text.items) fronts.now) (map (λ path. path.now) paths.now) (map (λ text. text.items) texts.now) (effect_of (F.folder files.old) (F.folder files.new) (W.stream output.old) (W.stream output.new))) result }
 {
+    let shared_files = sources_of(alloc, &shared.files, fronts)?;
     let sources = sources_of(alloc, paths, texts)?;
-    let Made { answer, jumps } = build(alloc, &sources, wanted.grow, wanted.list);
+    let front = Front {
+        defines: &shared.defines,
+        files: &shared_files,
+    };
+    let Made { answer, jumps } = build(alloc, front, &sources, wanted.grow, wanted.list);
     // Made first: once a file is written, it is too late to run out of memory.
     let line = line_of(alloc, wanted.verbose, jumps)?;
-    done_with(finish(alloc, wanted.out, &answer, files, output), line)
+    done_with(finish(alloc, base, &answer, files, output), line)
 }
 
 /// Builds the program of sources. If all is done, the result is the line of its jumps, if it is wanted.
 pub(crate) fn build_files<'a, F: Files, W: Sink>(
     alloc: Global,
     wanted: Wanted<'a>,
+    shared: &Shared<'a>,
     paths: &[&'a str],
     files: &mut F,
     output: &mut W,
 ) -> Result<Option<String>, End<'a>>
-    ensures { EndsWith (BuildEnds wanted.entry.out.now wanted.entry.grow wanted.entry.list wanted.entry.verbose (map (λ path. path.now) paths.now) (effect_of (F.folder files.old) (F.folder files.new) (W.stream output.old) (W.stream output.new))) result }
+    ensures { EndsWith (BuildEnds wanted.entry.out wanted.entry.grow wanted.entry.list wanted.entry.verbose shared.now (map (λ path. path.now) paths.now) (effect_of (F.folder files.old) (F.folder files.new) (W.stream output.old) (W.stream output.new))) result }
 {
+    let base = base_of(wanted.out, paths);
+    refuse_clash(
+        alloc,
+        base,
+        program_kinds(wanted.list),
+        &shared.files,
+        paths,
+    )?;
+    let fronts = read_all(alloc, &shared.files, files)?;
     let texts = read_all(alloc, paths, files)?;
-    build_texts(alloc, wanted, paths, &texts, files, output)
+    build_texts(
+        alloc, base, wanted, shared, &fronts, paths, &texts, files, output,
+    )
 }
 
 /// Checks a certificate against its sizes.

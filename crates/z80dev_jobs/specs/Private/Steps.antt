@@ -1,5 +1,6 @@
 -- How the steps of commands end.
-use Rattle.std.specs.Prelude.{◌≡◌, ◌⊎◌, ℕ, ◌<◌, Bool, List, Option, None, Result, Ok, Err, String, option_map, string_bytes}
+use Rattle.std.specs.Prelude.{◌≡◌, ◌≢◌, ◌⊎◌, ℕ, ◌<◌, Bool, List, Option, None, Some, Result, Ok, Err, String, Vec, option_map, string_bytes}
+use Rattle.std.specs.Borrow.{Bor}
 use Rattle.clap.specs.declared.error.kind.ErrorKind.{ErrorKind}
 use Rattle.streams.specs.Stream.{Stream}
 use Rattle.std.specs.Global.{Global}
@@ -8,9 +9,17 @@ use Rattle.z80dev_commands.specs.declared.Job.{Job}
 use Rattle.z80dev_commands.specs.declared.Job.TheVariants.{Erase, Get, GetAll, Protect, Put, PutAll, Rename}
 use Rattle.z80dev_finish.specs.declared.end.End.{End}
 use Rattle.z80dev_finish.specs.declared.end.End.TheVariants as end
-use Rattle.z80dev_jobs.specs.Command.{LacksMemory, RefusesWord, RefusesWords}
+use Rattle.disassembler.specs.Disassembly.{IsDisassembly}
+use Rattle.disassembler.specs.Faults.{fault_text}
+use Rattle.disassembler.specs.declared.fault.DisassemblyFault.{DisassemblyFault}
+use Rattle.disassembler.specs.declared.fault.DisassemblyFault.TheVariants as dis
+use Rattle.z80dev_finish.specs.Files.{Folder}
+use Rattle.z80dev_commands.specs.declared.Shared.{Shared}
+use Rattle.z80dev_jobs.specs.Command.{LacksMemory, RefusesDefine, RefusesWord, RefusesWords}
 use Rattle.z80dev_jobs.specs.Disks.{Warns}
-use Rattle.z80dev_jobs.specs.Making.{Effect, IsBuiltOf}
+use Rattle.z80dev_jobs.specs.Making.{Effect, IsBuiltOf, NothingDone}
+use Rattle.z80dev_jobs.specs.Private.Names.{Says}
+use Rattle.z80dev_jobs.specs.Reading.{IsNotRead, IsRead}
 use Rattle.z80dev_jobs.specs.Running.{IsNoDisk}
 use Rattle.z80dev_jobs.specs.declared.running.Inputs.{Inputs}
 use Rattle.z80dev_jobs.specs.declared.words.WordsFault.{WordsFault}
@@ -47,8 +56,39 @@ MakesReady inputs words (Ok made) = IsReadyToRun inputs.program.items words inpu
 MakesReady inputs words (Err e) = IsNoDisk inputs.image.items e
 
 -- the program of sources that were read is written, or memory runs out before
-abbrev pub BuildsTexts : List ℕ → Bool → Bool → Bool → List (List ℕ) → List (List ℕ) → Effect → Option (List ℕ) → End → Type 0
-BuildsTexts out grow list verbose paths texts x line e = IsBuiltOf out grow list verbose paths texts x line e ⊎ ((e ≡ end.NoMemory) × (x.new ≡ x.old) × (x.after ≡ x.before))
+abbrev pub BuildsTexts : List ℕ → Bool → Bool → Bool → Shared → List (List ℕ) → List (List ℕ) → List (List ℕ) → Effect → Option (List ℕ) → End → Type 0
+BuildsTexts base grow list verbose shared fronts paths texts x line e = IsBuiltOf base grow list verbose shared fronts paths texts x line e ⊎ ((e ≡ end.NoMemory) × NothingDone x)
+
+-- a command may write its files, or this is why it may not
+abbrev pub IsClear : Option (List ℕ) → Result Unit End → Type 0
+IsClear why (Ok _) = why ≡ None
+IsClear None (Err e) = e ≡ end.NoMemory
+IsClear (Some why) (Err e) = Says why e
+
+-- a file is read if its path is given
+abbrev pub bytes_in : Option (Vec ℕ Global) → Option (List ℕ)
+bytes_in = option_map (λ bytes. bytes.items)
+
+abbrev pub ReadsIfGiven : Option (Bor (List ℕ)) → Folder → Folder → Result (Option (Vec ℕ Global)) End → Type 0
+ReadsIfGiven None old new result = (result ≡ Ok None) × (new ≡ old)
+ReadsIfGiven (Some path) old new (Ok bytes) = (found : Vec ℕ Global) × (bytes ≡ Some found) × (new ≡ old) × IsRead old path.now found.items
+ReadsIfGiven (Some path) old new (Err e) = IsNotRead old new path.now e
+
+-- a source of a program, or how the command ends because there is none
+abbrev pub RefusesProgram : List ℕ → Option (List ℕ) → List (List ℕ) → End → Type 0
+RefusesProgram program labels entries (end.Refused said) =
+    (why : DisassemblyFault) × (why ≢ dis.NoMemory) × IsDisassembly program labels entries (Err why) × (string_bytes said ≡ fault_text why)
+RefusesProgram program labels entries end.NoMemory = Unit {0}
+RefusesProgram program labels entries _ = ⊥
+
+abbrev pub Disassembles : List ℕ → Option (List ℕ) → List (List ℕ) → Result (Vec ℕ Global) End → Type 0
+Disassembles program labels entries (Ok text) = IsDisassembly program labels entries (Ok text)
+Disassembles program labels entries (Err e) = RefusesProgram program labels entries e
+
+-- the definitions are right, or the command ends with this status
+abbrev pub JudgesDefines : Option (List ℕ) → Stream → Stream → Option ℕ → Type 0
+JudgesDefines bad old new None = (bad ≡ None) × (new ≡ old)
+JudgesDefines bad old new (Some status) = ((word : List ℕ) × (bad ≡ Some word) × RefusesDefine word old old old new status) ⊎ LacksMemory old old old new status
 
 -- why the words are not known
 abbrev pub RefusesFault : WordsFault → Stream → Stream → ℕ → Type 0

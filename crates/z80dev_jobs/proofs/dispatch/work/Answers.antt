@@ -1,12 +1,13 @@
 use Rattle.std.proofs.Common.{map, refl, subst}
 use Rattle.z80dev_jobs.specs.Disks.{BlankEnds, CheckDiskEnds, DirEnds, EraseEnds, GetAllEnds, GetEnds, ProtectEnds, PutAllEnds, PutEnds, RenameEnds}
-use Rattle.z80dev_jobs.specs.Making.{BuildEnds, LinkEnds, effect_of, ended}
+use Rattle.z80dev_jobs.specs.Command.{Defining, ReportsLine}
+use Rattle.z80dev_jobs.specs.Making.{BuildEnds, DisEnds, LinkEnds, defines_of, effect_of, ended}
 use Rattle.z80dev_jobs.specs.Private.Steps.{EndsWith}
 use Rattle.z80dev_jobs.specs.Reading.{reader_of}
 use Rattle.z80dev_jobs.specs.Running.{RunEnds}
 use Rattle.z80dev_jobs.specs.World.{world_of}
 use Rattle.z80dev_jobs.proofs.Reported.{reported}
-use Rattle.z80dev_jobs.proofs.dispatch.work.Goals.{in-Pipe, in-Asm, in-Link, in-Build, in-Check, in-Dir, in-Put, in-PutAll, in-Get, in-GetAll, in-Erase, in-Rename, in-Protect, in-CheckDisk, in-Blank}
+use Rattle.z80dev_jobs.proofs.dispatch.work.Goals.{in-Pipe, in-Asm, in-Link, in-Build, in-Check, in-Dis, in-Dir, in-Put, in-PutAll, in-Get, in-GetAll, in-Erase, in-Rename, in-Protect, in-CheckDisk, in-Blank}
 use Rattle.z80dev_jobs.proofs.dispatch.work.Goals as goal
 
 pub returns-in-Run-clause-ends : goal.returns-in-Run-clause-ends
@@ -29,14 +30,16 @@ returns-clause-ends g c =
     let errors = g.E.Sink.stream c.args.host.errors in
     elim c.match-job.branch [
       | in-Pipe w ↦ rw (w.in-Pipe.is, w.host-is, w.status-is) (refl, w.pipe-status.ensures.ends)
-      | in-Asm w ↦ rw (w.in-Asm.is, w.host-is, w.status-is) (ended w.asm_file-end.result, w.asm_file-end.ensures, w.report_any-status.ensures.status, w.report_any-status.ensures.told, refl)
+      | in-Asm w ↦ rw (w.in-Asm.is, w.host-is, w.status-is) (w.asm_job-status.ensures reader)
       | in-Link w ↦ rw (w.in-Link.is, w.host-is, w.status-is)
-          (ended w.link_files-end.result, subst (λ paths. LinkEnds w.in-Link.out.now (map (λ path. path.now) paths) (effect_of old (g.F.Files.folder w.link_files-end.new.files) before (g.W.Sink.stream w.link_files-end.new.output)) (ended w.link_files-end.result)) w.deref.ensures.value w.link_files-end.ensures, w.report_any-status-in-Link.ensures.status, w.report_any-status-in-Link.ensures.told, refl)
+          (ended w.link_files-end.result, subst (λ paths. LinkEnds w.in-Link.out.now (map (λ path. path.now) paths) (effect_of old (g.F.Files.folder w.link_files-end.new.files) before (g.W.Sink.stream w.link_files-end.new.output)) (ended w.link_files-end.result)) w.deref.ensures.value w.link_files-end.ensures, w.report_any-status.ensures.status, w.report_any-status.ensures.told, refl)
       | in-Build w ↦ rw (w.in-Build.is, w.host-is, w.status-is)
-          (reported (BuildEnds w.in-Build.out.now w.in-Build.grow w.in-Build.list w.in-Build.verbose (map (λ path. path.now) w.in-Build.sources.items)) old (g.F.Files.folder w.build_files-ended.new.files) reader before (g.W.Sink.stream w.build_files-ended.new.output) errors (g.E.Sink.stream w.report_line-status.new.errors) w.build_files-ended.result w.report_line-status.result (subst (λ xs. EndsWith (BuildEnds w.in-Build.out.now w.in-Build.grow w.in-Build.list w.in-Build.verbose (map (λ path. path.now) xs) (effect_of old (g.F.Files.folder w.build_files-ended.new.files) before (g.W.Sink.stream w.build_files-ended.new.output))) w.build_files-ended.result) w.deref-in-Build.ensures.value w.build_files-ended.ensures) w.report_line-status.ensures.status w.report_line-status.ensures.told)
+          (subst (λ xs. Defining (defines_of w.in-Build.shared) (ReportsLine (BuildEnds w.in-Build.out w.in-Build.grow w.in-Build.list w.in-Build.verbose w.in-Build.shared (map (λ path. path.now) xs))) (world_of old reader before errors) (world_of (g.F.Files.folder w.build_job-status.new.files) reader (g.W.Sink.stream w.build_job-status.new.output) (g.E.Sink.stream w.build_job-status.new.errors)) w.build_job-status.result) w.deref-in-Build.ensures.value (w.build_job-status.ensures reader))
       | in-Check w ↦ rw (w.in-Check.is, w.host-is, w.status-is) (ended w.check_files-end.result, w.check_files-end.ensures, w.report_any-status-in-Check.ensures.status, w.report_any-status-in-Check.ensures.told, refl)
+      | in-Dis w ↦ rw (w.in-Dis.is, w.host-is, w.status-is)
+          (ended w.dis_file-end.result, subst (λ words. DisEnds w.in-Dis.labels (map (λ word. word.now) words) w.in-Dis.program.now (effect_of old (g.F.Files.folder w.dis_file-end.new.files) before (g.W.Sink.stream w.dis_file-end.new.output)) (ended w.dis_file-end.result)) w.deref-in-Dis.ensures.value w.dis_file-end.ensures, w.report_any-status-in-Dis.ensures.status, w.report_any-status-in-Dis.ensures.told, refl)
       | in-Dir w ↦ rw (w.in-Dir.is, w.host-is, w.status-is)
-          (reported (DirEnds w.in-Dir.image.now w.in-Dir.user w.in-Dir.long w.in-Dir.name) old (g.F.Files.folder w.dir_image-ended.new.files) reader before (g.W.Sink.stream w.dir_image-ended.new.output) errors (g.E.Sink.stream w.report_line-status-in-Dir.new.errors) w.dir_image-ended.result w.report_line-status-in-Dir.result w.dir_image-ended.ensures w.report_line-status-in-Dir.ensures.status w.report_line-status-in-Dir.ensures.told)
+          (reported (DirEnds w.in-Dir.image.now w.in-Dir.user w.in-Dir.long w.in-Dir.name) old (g.F.Files.folder w.dir_image-ended.new.files) reader before (g.W.Sink.stream w.dir_image-ended.new.output) errors (g.E.Sink.stream w.report_line-status.new.errors) w.dir_image-ended.result w.report_line-status.result w.dir_image-ended.ensures w.report_line-status.ensures.status w.report_line-status.ensures.told)
       | in-Put w ↦ rw (w.in-Put.is, w.host-is, w.status-is)
           (reported (PutEnds w.in-Put.target w.in-Put.manner w.in-Put.file.now w.in-Put.name.now) old (g.F.Files.folder w.put_file-ended.new.files) reader before before errors (g.E.Sink.stream w.report_line-status-in-Put.new.errors) w.put_file-ended.result w.report_line-status-in-Put.result (w.put_file-ended.ensures before) w.report_line-status-in-Put.ensures.status w.report_line-status-in-Put.ensures.told)
       | in-PutAll w ↦ rw (w.in-PutAll.is, w.host-is, w.status-is)

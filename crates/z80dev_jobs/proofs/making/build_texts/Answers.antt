@@ -1,42 +1,40 @@
-use Rattle.std.proofs.Common.{inl, inr, map, refl, subst, sym}
-use Rattle.std.proofs.lemmas.Result.{err_from_is_err_and}
+use Rattle.std.proofs.Common.{ap, inl, map, refl, subst, sym}
 use Rattle.z80dev_finish.specs.Answers.{answer_by}
 use Rattle.z80dev_make.specs.Answers.{told_text}
 use Rattle.z80dev_make.specs.Build.{IsMade}
+use Rattle.z80dev_make.specs.declared.front.Front.{Front}
 use Rattle.z80dev_jobs.specs.Making.{IsCarriedOut, LineAt, effect_of}
 use Rattle.z80dev_jobs.specs.Private.Steps.{BuildsTexts, end_in, line_in}
 use Rattle.z80dev_jobs.proofs.Carried.{carried}
+use Rattle.z80dev_jobs.proofs.Clear.{are_files}
 use Rattle.z80dev_jobs.proofs.Images.{ends, with_line}
 use Rattle.z80dev_jobs.proofs.making.build_texts.Goals as goal
-
-pub returns-in_err-sources : goal.returns-in_err-sources
-returns-in_err-sources g c =
-    let left = err_from_is_err_and c.from_residual.result c.from_residual.ensures.1 in
-    rw (left.1, left.2) (inr (refl, refl, refl))
-
-pub returns-in_err-line : goal.returns-in_err-line
-returns-in_err-line g c =
-    let left = err_from_is_err_and c.from_residual-in_err-line.result c.from_residual-in_err-line.ensures.1 in
-    rw (left.1, left.2) (inr (refl, refl, refl))
 
 pub returns : goal.returns
 returns g c =
     let made = c.build-answer.result in
     let answer = answer_by told_text made.answer in
     let w = c.args.wanted in
+    let base = c.args.base.now in
+    let shared = c.args.shared.now in
+    let front : Front = record { defines = c.deref-2.result; files = c.deref-3.result } in
+    let fronts = map (λ text. text.items) c.args.fronts.now in
     let paths = map (λ path. path.now) c.args.paths.now in
     let texts = map (λ text. text.items) c.args.texts.now in
     let x = effect_of (g.F.Files.folder c.args.files.now) (g.F.Files.folder c.finish.new.files) (g.W.Sink.stream c.args.output.now) (g.W.Sink.stream c.finish.new.output) in
     let done = with_line c.finish.result c.in_ok-line.line c.done_with.result c.done_with.ensures in
     let line = subst (LineAt (end_in c.done_with.result) (line_in c.done_with.result)) c.in_ok-line.ensures done.1 in
-    let carries = carried told_text w.out.now made.answer x.old x.old x.new x.before x.after c.finish.result refl c.finish.ensures in
-    ends (BuildsTexts w.out.now w.grow w.list w.verbose paths texts x) c.done_with.result
+    let carries = carried told_text base made.answer x.old x.old x.new x.before x.after c.finish.result refl c.finish.ensures in
+    let are = are_files c.deref.result.now shared.files.items c.args.fronts.now c.args.fronts.now c.in_ok-shared_files.shared_files.items c.deref-3.result.now
+    c.deref.ensures.value refl c.deref-3.ensures.value c.in_ok-shared_files.ensures in
+    let right = subst (λ files. IsMade front files w.grow w.list answer made.jumps) c.deref-4.ensures.value c.build-answer.ensures in
+    ends (BuildsTexts base w.grow w.list w.verbose shared fronts paths texts x) c.done_with.result
     (inl (
       made.jumps,
       line,
       (
         answer,
-        (c.in_ok-sources.sources.items, c.in_ok-sources.ensures, subst (λ files. IsMade files w.grow w.list answer made.jumps) c.deref.ensures.value c.build-answer.ensures),
-        subst (IsCarriedOut w.out.now answer x) (sym done.0) carries,
+        (front, c.in_ok-sources.sources.items, (ap (map (λ word. word.now)) c.deref-2.ensures.value, are), c.in_ok-sources.ensures, right),
+        subst (IsCarriedOut base answer x) (sym done.0) carries,
       ),
     ))

@@ -1,6 +1,9 @@
-use Rattle.std.proofs.Common.{inl, map, subst}
+use Rattle.std.proofs.Common.{◌≡◌, None, inl, map, subst}
 use Rattle.z80dev_finish.specs.Answers.{MemoryAside, answer_by}
+use Rattle.z80dev_jobs.specs.Making.{effect_of}
+use Rattle.z80dev_jobs.specs.Outputs.{clash}
 use Rattle.z80dev_jobs.proofs.Carried.{carried}
+use Rattle.z80dev_jobs.proofs.Clear.{clear}
 use Rattle.z80dev_make.specs.Link.{IsLink}
 use Rattle.z80dev_make.specs.Answers.{told_text}
 use Rattle.z80dev_jobs.proofs.making.link_files.Goals as goal
@@ -9,12 +12,15 @@ pub returns : goal.returns
 returns g c =
     let read = c.in_ok-objects.ensures in
     let answer = answer_by told_text c.link.result in
-    inl (
+    let paths = map (λ path. path.now) c.args.paths.now in
+    let x = effect_of (g.F.Files.folder c.args.files.now) (g.F.Files.folder c.finish.new.files) (g.W.Sink.stream c.args.output.now) (g.W.Sink.stream c.finish.new.output) in
+    clear _ _ x c.finish.result (subst (λ kinds. clash c.args.out.now kinds paths ≡ None) c.program_kinds.ensures c.in_ok-refuse_clash.ensures)
+    (inl (
       map (λ text. text.items) c.in_ok-objects.objects.items,
       read.1,
       (
         answer,
         subst (λ texts. MemoryAside (IsLink (map (λ text. text.items) texts)) answer) c.deref.ensures.value c.link.ensures,
-        carried told_text c.args.out.now c.link.result (g.F.Files.folder c.args.files.now) (g.F.Files.folder c.read_all.new.files) (g.F.Files.folder c.finish.new.files) (g.W.Sink.stream c.args.output.now) (g.W.Sink.stream c.finish.new.output) c.finish.result read.0 c.finish.ensures,
+        carried told_text c.args.out.now c.link.result x.old (g.F.Files.folder c.read_all.new.files) x.new x.before x.after c.finish.result read.0 c.finish.ensures,
       ),
-    )
+    ))

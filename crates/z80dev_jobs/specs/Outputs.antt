@@ -1,0 +1,41 @@
+-- Which files a command writes, and why it may not write them.
+use Rattle.std.specs.Prelude.{ℕ, ◌==◌, Bool, true, false, List, [], ◌∷◌, ◌++◌, Option, None, Some, codes, drop, find, if◌then◌else◌, length, map, option_map, take}
+use Rattle.std.specs.Borrow.{Bor}
+use Rattle.std.specs.List.{list_any}
+use Rattle.std.specs.Path.{dot, rfind_below, slash}
+use Rattle.std.specs.Str.{bytes_eq}
+use Rattle.z80dev_finish.specs.Finishing.{path_of}
+use Rattle.z80dev_finish.specs.declared.answer.Kind.{Kind}
+use Rattle.z80dev_finish.specs.declared.answer.Kind.TheVariants as kind
+
+-- the text of the error that this path is read and would be written
+abbrev pub over_text : List ℕ → List ℕ
+over_text path = codes "Overwrites(" ++ path ++ codes ")"
+
+-- the first of the paths with this base that is one of those that are read
+abbrev pub overwritten : List ℕ → List Kind → List (List ℕ) → Option (List ℕ)
+overwritten base kinds read = find (λ path. list_any (bytes_eq path) read) (map (path_of base) kinds)
+
+-- Why a command may not write files of these kinds with this base: the base is empty, or the path of one of them is read.
+abbrev pub clash : List ℕ → List Kind → List (List ℕ) → Option (List ℕ)
+clash [] kinds read = Some (codes "NoBase")
+clash (byte ∷ more) kinds read = option_map over_text (overwritten (byte ∷ more) kinds read)
+
+-- the files that make a program, and with `list` its listing and its symbols
+abbrev pub program_kinds : Bool → List Kind
+program_kinds false = kind.Sizes ∷ kind.Certificate ∷ kind.Com ∷ []
+program_kinds true = kind.Sizes ∷ kind.Certificate ∷ kind.Com ∷ kind.Listing ∷ kind.Symbols ∷ []
+
+-- A path without its ending: what comes before its last point, unless a slash comes after that.
+abbrev pub before_point : List ℕ → Option ℕ → List ℕ
+before_point path None = path
+before_point path (Some point) = if list_any (λ byte. byte == slash) (drop point path) then path else take point path
+
+abbrev pub without_ending : List ℕ → List ℕ
+without_ending path = before_point path (rfind_below dot path (length path))
+
+-- the base that is given; otherwise the path of the first source without its ending
+abbrev pub base_of : Option (Bor (List ℕ)) → List (List ℕ) → List ℕ
+base_of (Some out) sources = out.now
+base_of None (first ∷ others) = without_ending first
+base_of None [] = []

@@ -1,0 +1,61 @@
+//! The command `dis`.
+
+ghost use Rattle.std.specs.Prelude.{◌≡◌, map, option_map};
+ghost use Rattle.z80dev_jobs.specs.Making.{DisEnds, effect_of, ended};
+ghost use Rattle.z80dev_jobs.specs.Private.Steps.{Disassembles, ReadsIfGiven};
+
+use crate::reading::read;
+use disassembler::{DisassemblyFault, disassemble, fault_text};
+use std::alloc::Global;
+use streams::print;
+use z80dev::{End, Files, Sink};
+
+/// The bytes of a file, if its path is given.
+fn read_if_given<'a, F: Files>(
+    alloc: Global,
+    path: Option<&'a str>,
+    files: &mut F,
+) -> Result<Option<Vec<u8>>, End<'a>>
+    ensures { ReadsIfGiven path.entry (F.folder files.old) (F.folder files.new) result }
+{
+    match path {
+        Some(path) => Ok(Some(read(alloc, path, files)?)),
+        None => Ok(None),
+    }
+}
+
+/// A source that builds to a program, or how the command ends because there is none.
+fn source_of(
+    alloc: Global,
+    program: &[u8],
+    labels: Option<&[u8]>,
+    entries: &[&str],
+) -> Result<Vec<u8>, End<'static>>
+    ensures { Disassembles program.now (option_map (λ text. text.now) labels.entry) (map (λ word. word.now) entries.now) result }
+{
+    match disassemble(alloc, program, labels, entries) {
+        Ok(text) => Ok(text),
+        Err(DisassemblyFault::NoMemory) => Err(End::NoMemory),
+        Err(why) => Err(End::Refused(fault_text(alloc, why)?)),
+    }
+}
+
+/// Prints a source that builds to a program.
+pub(crate) fn dis_file<'a, F: Files, W: Sink>(
+    alloc: Global,
+    labels: Option<&'a str>,
+    entries: &[&str],
+    program: &'a str,
+    files: &mut F,
+    output: &mut W,
+) -> Result<End<'a>, End<'a>>
+    ensures { DisEnds labels.entry (map (λ word. word.now) entries.now) program.now (effect_of (F.folder files.old) (F.folder files.new) (W.stream output.old) (W.stream output.new)) (ended result) }
+{
+    let bytes = read(alloc, program, files)?;
+    let labels = read_if_given(alloc, labels, files)?;
+    let source = source_of(alloc, &bytes, labels.as_deref(), entries)?;
+    match print(output, &source) {
+        Ok(()) => Ok(End::Done),
+        Err(_) => Ok(End::Stream),
+    }
+}

@@ -1,0 +1,109 @@
+//! Which files a command writes, and why it may not write them.
+
+ghost use Rattle.std.specs.Prelude.{◌≡◌, ◌++◌, ◌==◌, IfOk, map, option_map, string_bytes};
+ghost use Rattle.std.specs.List.{list_any};
+ghost use Rattle.std.specs.Path.{slash};
+ghost use Rattle.std.specs.Str.{bytes_eq};
+ghost use Rattle.z80dev_jobs.specs.Outputs.{base_of, clash, overwritten, program_kinds, without_ending};
+ghost use Rattle.z80dev_jobs.specs.Private.Steps.{IsClear};
+
+use std::alloc::{AllocError, Global};
+use z80dev::{End, Kind};
+
+/// Whether there is a slash in a path.
+fn has_slash(path: &str) -> bool
+    ensures { result ≡ list_any (λ byte. byte == slash) path.now }
+{
+    path.as_bytes().iter().any(|byte| *byte == b'/')
+}
+
+/// A path without its ending.
+fn without_ending(path: &str) -> &str
+    ensures { result.now ≡ without_ending path.now }
+{
+    match path.rfind('.') {
+        Some(point) if !has_slash(&path[point..]) => &path[..point],
+        _ => path,
+    }
+}
+
+/// The path of the files of `build`, without their endings: the one that was given, or that of the first source.
+pub(crate) fn base_of<'a>(out: Option<&'a str>, sources: &[&'a str]) -> &'a str
+    ensures { result.now ≡ base_of out.entry (map (λ path. path.now) sources.now) }
+{
+    match (out, sources) {
+        (Some(out), _) => out,
+        (None, [first, ..]) => without_ending(first),
+        (None, []) => "",
+    }
+}
+
+/// The files that make a program, and with `list` its listing and its symbols.
+pub(crate) fn program_kinds(list: bool) -> &'static [Kind]
+    ensures { result.now ≡ program_kinds list }
+{
+    if list {
+        &[
+            Kind::Sizes,
+            Kind::Certificate,
+            Kind::Com,
+            Kind::Listing,
+            Kind::Symbols,
+        ]
+    } else {
+        &[Kind::Sizes, Kind::Certificate, Kind::Com]
+    }
+}
+
+/// Whether a path is one of these.
+fn is_among(path: &str, paths: &[&str]) -> bool
+    ensures { result ≡ list_any (λ other. bytes_eq path.now other.now) paths.now }
+{
+    paths.iter().any(|other| path == *other)
+}
+
+/// Whether a path is one of the shared files or of the sources.
+fn is_read(path: &str, shared: &[&str], sources: &[&str]) -> bool
+    ensures { result ≡ list_any (bytes_eq path.now) (map (λ other. other.now) shared.now ++ map (λ other. other.now) sources.now) }
+{
+    is_among(path, shared) || is_among(path, sources)
+}
+
+/// The first path of the files to write that is one of those that are read.
+fn overwritten(
+    alloc: Global,
+    base: &str,
+    kinds: &[Kind],
+    shared: &[&str],
+    sources: &[&str],
+) -> Result<Option<String>, AllocError>
+    ensures { IfOk result (λ path. option_map string_bytes path ≡ overwritten base.now kinds.now (map (λ path. path.now) shared.now ++ map (λ path. path.now) sources.now)) }
+{
+    for kind in kinds {
+        let ending = kind.ending();
+        let path = format!(in alloc; "{base}{ending}")?;
+        if is_read(&path, shared, sources) {
+            return Ok(Some(path));
+        }
+    }
+    Ok(None)
+}
+
+/// Refuses a command that has no path for its files, or would write over one that it reads.
+pub(crate) fn refuse_clash(
+    alloc: Global,
+    base: &str,
+    kinds: &[Kind],
+    shared: &[&str],
+    sources: &[&str],
+) -> Result<(), End<'static>>
+    ensures { IsClear (clash base.now kinds.now (map (λ path. path.now) shared.now ++ map (λ path. path.now) sources.now)) result }
+{
+    if base.is_empty() {
+        return Err(End::Refused(String::from_str(alloc, "NoBase")?));
+    }
+    match overwritten(alloc, base, kinds, shared, sources)? {
+        Some(path) => Err(End::Refused(format!(in alloc; "Overwrites({path})")?)),
+        None => Ok(()),
+    }
+}
