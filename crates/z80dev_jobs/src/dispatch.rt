@@ -20,6 +20,7 @@ use crate::disks::{
 use crate::host::{Ended, Host};
 use crate::making::{Wanted, asm_file, build_files, check_files, link_files};
 use crate::running::{STEPS, end_run, inputs_of, ready_of};
+use crate::tips::tip;
 use crate::words::{WordsFault, texts_of};
 use clap::Error;
 use clap::error::ErrorKind;
@@ -58,13 +59,15 @@ fn refuse_fault<E: Sink>(alloc: Global, fault: WordsFault, errors: &mut E) -> u8
 /// Prints the help or the version that the words ask for, or writes what is wrong with them on standard error, and gives the exit status.
 fn refuse_words<W: Sink, E: Sink>(
     alloc: Global,
+    words: &[String],
     error: &Error,
     output: &mut W,
     errors: &mut E,
 ) -> u8
     ensures { RefusesError (kind_of error.now) (W.stream output.old) (W.stream output.new) (E.stream errors.old) (E.stream errors.new) result }
 {
-    let Ok(text) = format!(in alloc; "{error}") else {
+    let tip = tip(error.kind(), words);
+    let Ok(text) = format!(in alloc; "{error}{tip}") else {
         return report(&End::NoMemory, errors);
     };
     match error.kind() {
@@ -418,7 +421,7 @@ pub fn command<F: Files, I: Input, W: Sink + Drop, E: Sink>(
     match commands(alloc, &texts) {
         Ok(job) => work(alloc, job, host),
         Err(error) => {
-            let status = refuse_words(alloc, &error, &mut host.output, &mut host.errors);
+            let status = refuse_words(alloc, &texts, &error, &mut host.output, &mut host.errors);
             Ended { status, host }
         }
     }
