@@ -12,14 +12,14 @@ is_space byte = byte == 0x20
 abbrev pub is_upper_digit : ℕ → Bool
 is_upper_digit byte = is_digit byte 16 && not (is_ascii_lowercase byte)
 
-abbrev pub is_one_name : List ℕ → Bool
-is_one_name [] = false
-is_one_name (b ∷ more) = begins_name b && list_all continues_name more
+abbrev pub is_whole_name : List ℕ → Bool
+is_whole_name [] = false
+is_whole_name (b ∷ more) = begins_name b && list_all continues_name more
 
 -- PATH NAME: what comes after the last space is a name. The path may have spaces too.
 abbrev pub is_path_and_name : List ℕ → Bool
 is_path_and_name [] = false
-is_path_and_name (first ∷ more) = list_any is_space more && is_one_name (after_last is_space more)
+is_path_and_name (first ∷ more) = list_any is_space more && is_whole_name (after_last is_space more)
 
 -- AAAA PATH NAME
 abbrev pub is_label_line : List ℕ → Bool

@@ -1,7 +1,7 @@
 //! Why there is no source text for a program.
 
 ghost use Rattle.std.specs.Prelude.{◌≡◌, IfOk, string_bytes};
-ghost use Rattle.disassembler.specs.Faults.{fault_text};
+ghost use Rattle.disassembler.specs.Faults.{disassembly_fault_text};
 ghost use Rattle.disassembler.specs.declared.fault.DisassemblyFault.TheVariants.{NoMemory};
 
 use std::alloc::{AllocError, AllocFailed, Global};
@@ -45,7 +45,7 @@ impl<T: Drop> From<AllocFailed<T>> for DisassemblyFault<'_> {
 
 /// Answers a fault as it is printed after `error: `: its name, with the word or the line in parentheses.
 pub fn fault_text(alloc: Global, fault: DisassemblyFault<'_>) -> Result<String, AllocError>
-    ensures { IfOk result (λ text. string_bytes text ≡ fault_text fault.entry) }
+    ensures { IfOk result (λ text. string_bytes text ≡ disassembly_fault_text fault.entry) }
 {
     match fault {
         DisassemblyFault::TooLong => String::from_str(alloc, "TooLong"),

@@ -4,7 +4,7 @@ ghost use Rattle.std.specs.Prelude.{◌≡◌, is_some};
 ghost use Rattle.std.specs.List.{after_last, list_all, list_any};
 ghost use Rattle.asm_scan.specs.Classes.{continues_name};
 ghost use Rattle.std.specs.Option.{option_map};
-ghost use Rattle.disassembler.specs.Labels.{first_bad_label, first_bad_line, is_label_line, is_one_name, is_path_and_name, is_space, is_upper_digit};
+ghost use Rattle.disassembler.specs.Labels.{first_bad_label, first_bad_line, is_label_line, is_path_and_name, is_space, is_upper_digit, is_whole_name};
 
 use asm_macro::source_part;
 use asm_scan::{begins_name, continues_name};
@@ -35,7 +35,7 @@ fn continues(bytes: &[u8]) -> bool
 
 /// Whether all bytes are one name.
 fn is_one_name(bytes: &[u8]) -> bool
-    ensures { result ≡ is_one_name bytes.now }
+    ensures { result ≡ is_whole_name bytes.now }
 {
     match bytes {
         [first, more @ ..] => begins_name(*first) && continues(more),

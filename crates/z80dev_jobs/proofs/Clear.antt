@@ -10,21 +10,21 @@ use Rattle.z80dev_finish.specs.Files.{Folder}
 use Rattle.z80dev_finish.specs.declared.answer.Kind.{Kind}
 use Rattle.z80dev_finish.specs.declared.end.End.{End}
 use Rattle.z80dev_finish.specs.declared.end.End.TheVariants as end
-use Rattle.z80dev_jobs.specs.Making.{AreFiles, BuildsWith, Effect, NothingDone, Unless, WithAll, effect_of, files_of}
+use Rattle.z80dev_jobs.specs.Making.{AreFiles, BuildsWith, Effect, NothingDone, UnlessRefused, WithAll, effect_of, shared_paths}
 use Rattle.z80dev_jobs.specs.Outputs.{clash, program_kinds}
 use Rattle.z80dev_jobs.specs.Private.Steps.{BuildsTexts, EndsWith, IsClear}
 use Rattle.z80dev_jobs.specs.Reading.{IsRead}
 use Rattle.z80dev_make.specs.declared.answer.SourceFile.{SourceFile}
 use Rattle.z80dev_jobs.proofs.Images.{refuses}
 
-pub clear : (why : Option (List ℕ)) (Does : Type 0) (x : Effect) (e : End) → why ≡ None → Does → Unless why Does x e
-clear why Does x e none does = subst (λ w. Unless w Does x e) (sym none) does
+pub clear : (why : Option (List ℕ)) (Does : Type 0) (x : Effect) (e : End) → why ≡ None → Does → UnlessRefused why Does x e
+clear why Does x e none does = subst (λ w. UnlessRefused w Does x e) (sym none) does
 
 -- memory ran out before a file was read
 pub lacking : (paths : List (List ℕ)) (Does : List (List ℕ) → Type 0) (x : Effect) (e : End) → e ≡ end.NoMemory → NothingDone x → WithAll paths Does x e
 lacking paths Does x e out nothing = inr (inr (out, nothing.0), nothing.1)
 
-pub clashes : (why : Option (List ℕ)) (paths : List (List ℕ)) (Does : List (List ℕ) → Type 0) (x : Effect) (e : End) → IsClear why (Err e) → NothingDone x → Unless why (WithAll paths Does x e) x e
+pub clashes : (why : Option (List ℕ)) (paths : List (List ℕ)) (Does : List (List ℕ) → Type 0) (x : Effect) (e : End) → IsClear why (Err e) → NothingDone x → UnlessRefused why (WithAll paths Does x e) x e
 clashes None paths Does x e out nothing = lacking paths Does x e out nothing
 clashes (Some why) paths Does x e says nothing = refuses why x e says nothing
 
@@ -44,12 +44,12 @@ are_files a b s t made given same_paths same_texts same are =
 
 -- A program that was built of what was read is what `build` makes.
 pub builds : (base : List ℕ) (grow list verbose : Bool) (shared : Shared) (paths fronts texts : List (List ℕ)) (x : Effect)
-    → AllZip (IsRead x.old) (files_of shared) fronts → AllZip (IsRead x.old) paths texts → clash base (program_kinds list) (files_of shared ++ paths) ≡ None → (line : Option (List ℕ)) (e : End)
+    → AllZip (IsRead x.old) (shared_paths shared) fronts → AllZip (IsRead x.old) paths texts → clash base (program_kinds list) (shared_paths shared ++ paths) ≡ None → (line : Option (List ℕ)) (e : End)
     → BuildsTexts base grow list verbose shared fronts paths texts x line e → BuildsWith base grow list verbose shared paths x line e
 builds base grow list verbose shared paths fronts texts x read_fronts read none line e (inl is) =
-    clear (clash base (program_kinds list) (files_of shared ++ paths)) _ x e none (inl (fronts, read_fronts, inl (texts, read, is)))
+    clear (clash base (program_kinds list) (shared_paths shared ++ paths)) _ x e none (inl (fronts, read_fronts, inl (texts, read, is)))
 builds base grow list verbose shared paths fronts texts x read_fronts read none line e (inr (out, nothing)) =
-    clear (clash base (program_kinds list) (files_of shared ++ paths)) _ x e none (lacking (files_of shared) _ x e out nothing)
+    clear (clash base (program_kinds list) (shared_paths shared ++ paths)) _ x e none (lacking (shared_paths shared) _ x e out nothing)
 
 -- The same base, kinds and files, by other names.
 pub clear_of : (base given : List ℕ) (kinds meant : List Kind) (a b : List (Bor (List ℕ))) (paths : List (List ℕ)) → base ≡ given → kinds ≡ meant → a ≡ b

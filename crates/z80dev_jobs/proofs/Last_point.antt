@@ -7,7 +7,7 @@ use Rattle.std.specs.Path.{dot, rfind_below, slash}
 use Rattle.std.specs.Prelude.{◌==◌}
 use Rattle.std.specs.Str.{IsCharBoundary}
 use Rattle.std.specs.Str.Pattern.{RFindsChar}
-use Rattle.z80dev_jobs.specs.Outputs.{before_point}
+use Rattle.z80dev_jobs.specs.Outputs.{before_last_point}
 
 none_below : (c : ℕ) (text : List ℕ) (n : ℕ) → ((i : ℕ) → i < n → get_or text i 0 ≢ c) → rfind_below c text n ≡ None
 none_below c text zero lacks = refl
@@ -31,5 +31,5 @@ last_point text (Some k) finds =
 
 -- what comes before a point, if a slash comes after it, and if none does
 pub front : (path : List ℕ) (point : ℕ) (ending : List ℕ) (b : Bool) → ending ≡ drop point path → b ≡ list_any (λ byte. byte == slash) ending
-    → before_point path (Some point) ≡ cond b path (take point path)
+    → before_last_point path (Some point) ≡ cond b path (take point path)
 front path point ending b is slashed = ap (λ rest. cond (list_any (λ byte. byte == slash) rest) path (take point path)) (sym is) ∙ ap (λ x. cond x path (take point path)) (sym slashed)

@@ -4,7 +4,7 @@ use Rattle.std.specs.Borrow.{Bor}
 use Rattle.std.specs.Global.{Global}
 use Rattle.std.specs.List.{AllZip}
 use Rattle.disassembler.specs.Disassembly.{IsDisassembly}
-use Rattle.disassembler.specs.Faults.{fault_text}
+use Rattle.disassembler.specs.Faults.{disassembly_fault_text}
 use Rattle.disassembler.specs.declared.fault.DisassemblyFault.{DisassemblyFault}
 use Rattle.disassembler.specs.declared.fault.DisassemblyFault.TheVariants as fault
 use Rattle.streams.specs.Stream.{Stream}
@@ -80,9 +80,9 @@ abbrev pub WithAll : List (List ℕ) → (List (List ℕ) → Type 0) → Effect
 WithAll paths Does x e = ((texts : List (List ℕ)) × AllZip (IsRead x.old) paths texts × Does texts) ⊎ (IsOneNotRead x.old x.new paths e × (x.after ≡ x.before))
 
 -- If there is a reason why it may not write its files, the command refuses with it before it reads a file. Otherwise it continues.
-abbrev pub Unless : Option (List ℕ) → Type 0 → Effect → End → Type 0
-Unless None Does x e = Does
-Unless (Some why) Does x e = Refuses why x e
+abbrev pub UnlessRefused : Option (List ℕ) → Type 0 → Effect → End → Type 0
+UnlessRefused None Does x e = Does
+UnlessRefused (Some why) Does x e = Refuses why x e
 
 -- ---- the commands
 
@@ -93,26 +93,26 @@ AreFiles paths texts files = (map (λ file. file.path.now) files ≡ paths) × (
 abbrev pub defines_of : Shared → List (List ℕ)
 defines_of shared = map (λ word. word.now) shared.defines.items
 
-abbrev pub files_of : Shared → List (List ℕ)
-files_of shared = map (λ path. path.now) shared.files.items
+abbrev pub shared_paths : Shared → List (List ℕ)
+shared_paths shared = map (λ path. path.now) shared.files.items
 
 -- these definitions, and these files with their texts
 abbrev pub IsFront : Shared → List (List ℕ) → Front → Type 0
-IsFront shared texts front = (map (λ word. word.now) front.defines.now ≡ defines_of shared) × AreFiles (files_of shared) texts front.files.now
+IsFront shared texts front = (map (λ word. word.now) front.defines.now ≡ defines_of shared) × AreFiles (shared_paths shared) texts front.files.now
 
--- the object of a source that was read, behind a front of which the files were read
+-- the object of a source that was read, with definitions and shared files, which were read too, before its first line
 abbrev pub IsAsmOf : Shared → List (List ℕ) → List ℕ → List ℕ → Bool → Answer → Type 0
 IsAsmOf shared fronts path text grow a =
     (front : Front) × (file : SourceFile) × IsFront shared fronts front × (file.path.now ≡ path) × (file.text.now ≡ text) × IsAsm front file grow a
 
 -- `asm`: the shared files and then the source are read, and its object is written.
 abbrev pub AsmEnds : List ℕ → Bool → Shared → List ℕ → Effect → End → Type 0
-AsmEnds out grow shared path x e = Unless (clash out (kind.Object ∷ []) (files_of shared ++ path ∷ []))
-    (WithAll (files_of shared) (λ fronts. With path (λ text. CarriesOut out (MemoryAside (IsAsmOf shared fronts path text grow)) x e) x e) x e) x e
+AsmEnds out grow shared path x e = UnlessRefused (clash out (kind.Object ∷ []) (shared_paths shared ++ path ∷ []))
+    (WithAll (shared_paths shared) (λ fronts. With path (λ text. CarriesOut out (MemoryAside (IsAsmOf shared fronts path text grow)) x e) x e) x e) x e
 
 -- `link`: the objects are read, and their program is written.
 abbrev pub LinkEnds : List ℕ → List (List ℕ) → Effect → End → Type 0
-LinkEnds out paths x e = Unless (clash out (program_kinds false) paths) (WithAll paths (λ objects. CarriesOut out (MemoryAside (IsLink objects)) x e) x e) x e
+LinkEnds out paths x e = UnlessRefused (clash out (program_kinds false) paths) (WithAll paths (λ objects. CarriesOut out (MemoryAside (IsLink objects)) x e) x e) x e
 
 -- how many jumps are short and long, where this is wanted and there is a program
 abbrev pub told : Bool → Option Jumps → Option (List ℕ)
@@ -125,15 +125,16 @@ abbrev pub LineAt : End → Option (List ℕ) → Option (List ℕ) → Type 0
 LineAt end.Done line wanted = line ≡ wanted
 LineAt other line wanted = line ≡ None
 
--- The program of sources that were read, behind a front of which the files were read, is written, and its jumps are counted.
+-- The program of sources that were read, with definitions and shared files, which were read too, before each of them, is written, and its jumps
+-- are counted.
 abbrev pub IsBuiltOf : List ℕ → Bool → Bool → Bool → Shared → List (List ℕ) → List (List ℕ) → List (List ℕ) → Effect → Option (List ℕ) → End → Type 0
 IsBuiltOf base grow list verbose shared fronts paths texts x line e = (jumps : Option Jumps) × LineAt e line (told verbose jumps)
     × CarriesOut base (λ a. (front : Front) × (files : List SourceFile) × IsFront shared fronts front × AreFiles paths texts files × IsMade front files grow list a jumps) x e
 
 -- `build`: the shared files and then the sources are read, and their program is written.
 abbrev pub BuildsWith : List ℕ → Bool → Bool → Bool → Shared → List (List ℕ) → Effect → Option (List ℕ) → End → Type 0
-BuildsWith base grow list verbose shared paths x line e = Unless (clash base (program_kinds list) (files_of shared ++ paths))
-    (WithAll (files_of shared) (λ fronts. WithAll paths (λ texts. IsBuiltOf base grow list verbose shared fronts paths texts x line e) x e) x e) x e
+BuildsWith base grow list verbose shared paths x line e = UnlessRefused (clash base (program_kinds list) (shared_paths shared ++ paths))
+    (WithAll (shared_paths shared) (λ fronts. WithAll paths (λ texts. IsBuiltOf base grow list verbose shared fronts paths texts x line e) x e) x e) x e
 
 abbrev pub BuildEnds : Option (Bor (List ℕ)) → Bool → Bool → Bool → Shared → List (List ℕ) → Effect → Option (List ℕ) → End → Type 0
 BuildEnds out grow list verbose shared paths x line e = BuildsWith (base_of out paths) grow list verbose shared paths x line e
@@ -146,7 +147,7 @@ CheckEnds sizes cert x e = With sizes (λ s. With cert (λ c. (x.new ≡ x.old) 
 abbrev pub PrintsSource : List ℕ → Option (List ℕ) → List (List ℕ) → Effect → End → Type 0
 PrintsSource program labels entries x end.Done = (text : Vec ℕ Global) × IsDisassembly program labels entries (Ok text) × PutsAll x.before x.after text.items
 PrintsSource program labels entries x (end.Refused said) =
-    (why : DisassemblyFault) × (why ≢ fault.NoMemory) × IsDisassembly program labels entries (Err why) × (string_bytes said ≡ fault_text why) × (x.after ≡ x.before)
+    (why : DisassemblyFault) × (why ≢ fault.NoMemory) × IsDisassembly program labels entries (Err why) × (string_bytes said ≡ disassembly_fault_text why) × (x.after ≡ x.before)
 PrintsSource program labels entries x (end.File path last) = ⊥
 PrintsSource program labels entries x (end.Path path) = ⊥
 PrintsSource program labels entries x end.Stream = (text : Vec ℕ Global) × IsDisassembly program labels entries (Ok text) × PutsFront x.before x.after text.items

@@ -27,12 +27,12 @@ program_kinds false = kind.Sizes ∷ kind.Certificate ∷ kind.Com ∷ []
 program_kinds true = kind.Sizes ∷ kind.Certificate ∷ kind.Com ∷ kind.Listing ∷ kind.Symbols ∷ []
 
 -- A path without its ending: what comes before its last point, unless a slash comes after that.
-abbrev pub before_point : List ℕ → Option ℕ → List ℕ
-before_point path None = path
-before_point path (Some point) = if list_any (λ byte. byte == slash) (drop point path) then path else take point path
+abbrev pub before_last_point : List ℕ → Option ℕ → List ℕ
+before_last_point path None = path
+before_last_point path (Some point) = if list_any (λ byte. byte == slash) (drop point path) then path else take point path
 
 abbrev pub without_ending : List ℕ → List ℕ
-without_ending path = before_point path (rfind_below dot path (length path))
+without_ending path = before_last_point path (rfind_below dot path (length path))
 
 -- the base that is given; otherwise the path of the first source without its ending
 abbrev pub base_of : Option (Bor (List ℕ)) → List (List ℕ) → List ℕ

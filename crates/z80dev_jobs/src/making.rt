@@ -88,7 +88,7 @@ fn line_of(alloc: Global, verbose: bool, jumps: Option<Jumps>) -> Result<Option<
     }
 }
 
-/// Builds the program of sources that were read, behind a front of which the files were read.
+/// Builds the program of sources that were read, with definitions and shared files before each of them.
 fn build_texts<'a, 's, F: Files, W: Sink>(
     alloc: Global,
     base: &'a str,

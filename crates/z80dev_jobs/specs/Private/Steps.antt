@@ -10,7 +10,7 @@ use Rattle.z80dev_commands.specs.declared.Job.TheVariants.{Erase, Get, GetAll, P
 use Rattle.z80dev_finish.specs.declared.end.End.{End}
 use Rattle.z80dev_finish.specs.declared.end.End.TheVariants as end
 use Rattle.disassembler.specs.Disassembly.{IsDisassembly}
-use Rattle.disassembler.specs.Faults.{fault_text}
+use Rattle.disassembler.specs.Faults.{disassembly_fault_text}
 use Rattle.disassembler.specs.declared.fault.DisassemblyFault.{DisassemblyFault}
 use Rattle.disassembler.specs.declared.fault.DisassemblyFault.TheVariants as dis
 use Rattle.z80dev_finish.specs.Files.{Folder}
@@ -77,7 +77,7 @@ ReadsIfGiven (Some path) old new (Err e) = IsNotRead old new path.now e
 -- a source of a program, or how the command ends because there is none
 abbrev pub RefusesProgram : List ℕ → Option (List ℕ) → List (List ℕ) → End → Type 0
 RefusesProgram program labels entries (end.Refused said) =
-    (why : DisassemblyFault) × (why ≢ dis.NoMemory) × IsDisassembly program labels entries (Err why) × (string_bytes said ≡ fault_text why)
+    (why : DisassemblyFault) × (why ≢ dis.NoMemory) × IsDisassembly program labels entries (Err why) × (string_bytes said ≡ disassembly_fault_text why)
 RefusesProgram program labels entries end.NoMemory = Unit {0}
 RefusesProgram program labels entries _ = ⊥
 

@@ -5,7 +5,7 @@ use Rattle.z80dev_finish.specs.Answers.{answer_by}
 use Rattle.z80dev_finish.specs.declared.answer.Kind.TheVariants as kind
 use Rattle.z80dev_jobs.proofs.Carried.{aside, carried}
 use Rattle.z80dev_jobs.proofs.Clear.{are_files, as_many, clear}
-use Rattle.z80dev_jobs.specs.Making.{IsAsmOf, effect_of, files_of}
+use Rattle.z80dev_jobs.specs.Making.{IsAsmOf, effect_of, shared_paths}
 use Rattle.z80dev_jobs.specs.Outputs.{clash}
 use Rattle.z80dev_jobs.specs.Reading.{IsOneNotRead, IsRead}
 use Rattle.z80dev_make.specs.Asm.{IsAsm}
@@ -48,4 +48,4 @@ returns g c =
     let made = aside (IsAsm front source c.args.grow) (IsAsmOf shared fronts path text c.args.grow) answer
     (λ a is. (front, source, (ap (map (λ word. word.now)) c.deref-5.ensures.value, are), refl, c.deref-7.ensures.value, is)) c.asm.ensures in
     let carries = carried told_text c.args.out.now c.asm.result x.old (g.F.Files.folder c.read.new.files) x.new x.before x.after c.finish.result (c.in_ok-text.ensures.0 ∙ c.in_ok-fronts.ensures.0) c.finish.ensures in
-    clear (clash c.args.out.now (kind.Object ∷ []) (files_of shared ++ path ∷ [])) _ x c.finish.result none (inl (fronts, read_fronts, inl (text, read, (answer, made, carries))))
+    clear (clash c.args.out.now (kind.Object ∷ []) (shared_paths shared ++ path ∷ [])) _ x c.finish.result none (inl (fronts, read_fronts, inl (text, read, (answer, made, carries))))

@@ -1,6 +1,6 @@
 use Rattle.std.proofs.Common.{◌∙◌, ◌++◌, ap, inl, inr, length, map, refl, subst, sym}
 use Rattle.std.specs.List.{AllZip}
-use Rattle.z80dev_jobs.specs.Making.{BuildEnds, effect_of, files_of}
+use Rattle.z80dev_jobs.specs.Making.{BuildEnds, effect_of, shared_paths}
 use Rattle.z80dev_jobs.specs.Outputs.{base_of, clash, program_kinds}
 use Rattle.z80dev_jobs.specs.Private.Steps.{BuildsTexts}
 use Rattle.z80dev_jobs.specs.Reading.{IsOneNotRead, IsRead}
@@ -23,7 +23,7 @@ returns-in_err-texts g c =
     let read_fronts = subst (λ files. AllZip (IsRead x.old) (map (λ path. path.now) files) fronts) c.deref-2.ensures.value c.in_ok-fronts.ensures.1 in
     let unread = subst (λ f. IsOneNotRead f new paths e) c.in_ok-fronts.ensures.0 c.in_err-texts.ensures in
     passed_on (BuildEnds w.out w.grow w.list w.verbose shared paths x) e c.from_residual-in_err-texts.result c.from_residual-in_err-texts.ensures.1
-    (clear (clash base (program_kinds w.list) (files_of shared ++ paths)) _ x e none (inl (fronts, read_fronts, inr (unread, refl))))
+    (clear (clash base (program_kinds w.list) (shared_paths shared ++ paths)) _ x e none (inl (fronts, read_fronts, inr (unread, refl))))
 
 pub build_texts-requires-clause-fronts : goal.build_texts-requires-clause-fronts
 build_texts-requires-clause-fronts g c =
