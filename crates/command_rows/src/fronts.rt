@@ -41,30 +41,44 @@ fn shared_of<'a>(row: &mut Row, part: &'a str) -> Result<Sources<'a>, AllocError
 }
 
 /// Prints what `build` makes of sources after a front.
-fn show_behind(row: &mut Row, front: Front, sources: &[SourceFile], list: bool) {
+fn show_behind<'a>(
+    row: &mut Row,
+    list: bool,
+    defines: &'a [&'a str],
+    files: &'a [SourceFile<'a>],
+    sources: &'a [SourceFile<'a>],
+) {
+    let front = Front { defines, files };
     let made = build(row.alloc(), front, sources, true, list);
     show_made(row, made, 9)
 }
 
-/// Prints what `build` makes of sources after a front, given as words, shared files and sources.
-fn answer_behind(
+/// Prints what `build` makes of sources after a front.
+fn lend_behind<'a>(
     row: &mut Row,
     list: bool,
-    words: &str,
-    shared: &str,
-    sources: &str,
+    words: &'a [&'a str],
+    shared: &'a Sources<'a>,
+    sources: &'a Sources<'a>,
+) -> Result<(), AllocError> {
+    let shared_files = lent(row.alloc(), shared)?;
+    let source_files = lent(row.alloc(), sources)?;
+    show_behind(row, list, words, &shared_files, &source_files);
+    Ok(())
+}
+
+/// Prints what `build` makes of sources after a front, given as words, shared files and sources.
+fn answer_behind<'a>(
+    row: &mut Row,
+    list: bool,
+    words: &'a str,
+    shared: &'a str,
+    sources: &'a str,
 ) -> Result<(), AllocError> {
     let words = words_of(row.alloc(), words)?;
     let shared = shared_of(row, shared)?;
     let sources = sources_of(row, sources)?;
-    let shared_files = lent(row.alloc(), &shared)?;
-    let source_files = lent(row.alloc(), &sources)?;
-    let front = Front {
-        defines: &words,
-        files: &shared_files,
-    };
-    show_behind(row, front, &source_files, list);
-    Ok(())
+    lend_behind(row, list, &words, &shared, &sources)
 }
 
 /// Prints what `build` makes of sources after a front.

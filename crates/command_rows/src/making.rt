@@ -52,13 +52,18 @@ fn show_finished(row: &mut Row, finished: &Outcome) {
     }
 }
 
+/// What `asm` makes of a source.
+fn assembled<'a>(alloc: Global, path: &'a str, text: &'a [u8]) -> Answer<Told<'a>> {
+    let source = SourceFile { path, text };
+    asm(alloc, NO_FRONT, source, false)
+}
+
 /// Prints what `asm` makes of a source.
 pub(crate) fn answer_asm(row: &mut Row) {
     let path = row.until('=');
     let text = row.rest();
     let text = row.lines_of(text);
-    let source = SourceFile { path, text: &text };
-    let answer = asm(row.alloc(), NO_FRONT, source, false);
+    let answer = assembled(row.alloc(), path, &text);
     let ended = finished(row.alloc(), &answer, 9);
     show_finished(row, &ended)
 }
@@ -152,15 +157,29 @@ fn show_built(row: &mut Row, sources: &[SourceFile], grow: bool, room: u64) {
 }
 
 /// Prints what `build` makes of sources.
+fn show_lent<'a>(
+    row: &mut Row,
+    sources: &'a Sources<'a>,
+    grow: bool,
+    room: u64,
+) -> Result<(), AllocError> {
+    let files = lent(row.alloc(), sources)?;
+    show_built(row, &files, grow, room);
+    Ok(())
+}
+
+/// Prints what `build` makes of the sources of a part of a row.
+fn build_part(row: &mut Row, part: &str, grow: bool, room: u64) -> Result<(), AllocError> {
+    let sources = sources_of(row, part)?;
+    show_lent(row, &sources, grow, room)
+}
+
+/// Prints what `build` makes of sources.
 pub(crate) fn answer_build(row: &mut Row) {
     let grow = row.word() == "grow";
     let room = u64::from(row.decimal());
     let part = row.rest();
-    let Ok(sources) = sources_of(row, part) else {
-        return row.refuse("no memory");
-    };
-    match lent(row.alloc(), &sources) {
-        Ok(files) => show_built(row, &files, grow, room),
-        Err(_) => row.refuse("no memory"),
+    if build_part(row, part, grow, room).is_err() {
+        row.refuse("no memory");
     }
 }
