@@ -30,7 +30,7 @@ pub(crate) fn answer_define(row: &mut Row) {
 }
 
 /// Takes a part of a row as shared files; `-` is no file.
-fn shared_of<'a>(row: &mut Row, part: &'a str) -> Result<Sources<'a>, AllocError> {
+fn shared_of<'a>(row: &mut Row<'a>, part: &'a str) -> Result<Sources<'a>, AllocError> {
     if part == "-" {
         return Ok(Sources {
             paths: Vec::new(row.alloc()),
@@ -69,7 +69,7 @@ fn lend_behind<'a>(
 
 /// Prints what `build` makes of sources after a front, given as words, shared files and sources.
 fn answer_behind<'a>(
-    row: &mut Row,
+    row: &mut Row<'a>,
     list: bool,
     words: &'a str,
     shared: &'a str,

@@ -115,7 +115,7 @@ pub(crate) struct Sources<'a> {
 }
 
 /// Takes a part of a row as sources, with ` & ` between them.
-pub(crate) fn sources_of<'a>(row: &mut Row, part: &'a str) -> Result<Sources<'a>, AllocError> {
+pub(crate) fn sources_of<'a>(row: &mut Row<'a>, part: &'a str) -> Result<Sources<'a>, AllocError> {
     let (mut paths, mut texts) = (Vec::new(row.alloc()), Vec::new(row.alloc()));
     for part in part.split(" & ") {
         match part.split_once('=') {
@@ -157,29 +157,15 @@ fn show_built(row: &mut Row, sources: &[SourceFile], grow: bool, room: u64) {
 }
 
 /// Prints what `build` makes of sources.
-fn show_lent<'a>(
-    row: &mut Row,
-    sources: &'a Sources<'a>,
-    grow: bool,
-    room: u64,
-) -> Result<(), AllocError> {
-    let files = lent(row.alloc(), sources)?;
-    show_built(row, &files, grow, room);
-    Ok(())
-}
-
-/// Prints what `build` makes of the sources of a part of a row.
-fn build_part(row: &mut Row, part: &str, grow: bool, room: u64) -> Result<(), AllocError> {
-    let sources = sources_of(row, part)?;
-    show_lent(row, &sources, grow, room)
-}
-
-/// Prints what `build` makes of sources.
 pub(crate) fn answer_build(row: &mut Row) {
     let grow = row.word() == "grow";
     let room = u64::from(row.decimal());
     let part = row.rest();
-    if build_part(row, part, grow, room).is_err() {
-        row.refuse("no memory");
+    let Ok(sources) = sources_of(row, part) else {
+        return row.refuse("no memory");
+    };
+    match lent(row.alloc(), &sources) {
+        Ok(files) => show_built(row, &files, grow, room),
+        Err(_) => row.refuse("no memory"),
     }
 }
