@@ -10,7 +10,7 @@ pub const BDOS: u16 = 0xFE06;
 pub const BIOS: u16 = 0xFF00;
 
 /// Whether a program with this PC has finished: it is at the cold or the warm start of the BIOS.
-pub(crate) fn is_finished(pc: u16) -> bool
+pub fn is_finished(pc: u16) -> bool
     ensures { result ≡ is_finished pc }
 {
     pc == BIOS || pc == BIOS + 3

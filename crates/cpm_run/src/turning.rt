@@ -64,8 +64,9 @@ fn stepped(cpu: &mut Cpu, memory: &mut Memory) -> Option<Why>
     }
 }
 
-/// Makes one step of a run, and answers why the run ends, if it does.
-pub(crate) fn turn<S: Sectors, C: Console>(
+/// Makes one step of a run: a system call if PC is at the BDOS or at an entry of the BIOS, or else a step of the machine. Answers why the
+/// run ends, if it does. Whether the program has finished, [`crate::is_finished`], is to be asked before.
+pub fn turn<S: Sectors, C: Console>(
     cpu: &mut Cpu,
     memory: &mut Memory,
     bdos: &mut Bdos<S, C>,
