@@ -16,6 +16,7 @@ fn made(alloc: Global, com: Vec<u8>) -> Built {
         statements: Vec::new(alloc),
         last: Vec::new(alloc),
         grown: Vec::new(alloc),
+        modules: Vec::new(alloc),
     }
 }
 

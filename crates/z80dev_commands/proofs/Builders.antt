@@ -6,7 +6,7 @@ use Rattle.clap.specs.Words.{AddsArg, AddsSubcommand, App, Rule, Shape, app_of, 
 use Rattle.clap.specs.declared.builder.arg.Arg.{Arg}
 use Rattle.clap.specs.declared.builder.command.Command.{Command}
 use Rattle.clap.specs.declared.builder.command.Command.TheViews.{out-Command}
-use Rattle.z80dev_commands.specs.Private.{alone, with_target}
+use Rattle.z80dev_commands.specs.Private.{alone, with_target, with_telling}
 
 -- the command has these rules, and no global argument
 abbrev pub IsMade : Command → App → Type 0
@@ -18,6 +18,10 @@ with_argument old new arg a r adds is local made = (adds.shape local ∙ ap₂ w
 -- the same after the arguments of the image that it changes are added
 pub with_image : (old new : Command) (a : App) → app_of new ≡ with_target (app_of old) → (out-Command new).has_globals ≡ false → IsMade old a → IsMade new (with_target a)
 with_image old new a is local made = (is ∙ ap with_target made.0, local)
+
+-- the same after the options of what `run` tells are added
+pub with_told : (old new : Command) (a : App) → app_of new ≡ with_telling (app_of old) → (out-Command new).has_globals ≡ false → IsMade old a → IsMade new (with_telling a)
+with_told old new a is local made = (is ∙ ap with_telling made.0, local)
 
 pub with_command : (old sub new : Command) (a : App) (s : Shape) → AddsSubcommand old sub new → (out-Command sub).has_globals ≡ false → app_of old ≡ a → app_of sub ≡ alone s
     → app_of new ≡ with_subcommand a s

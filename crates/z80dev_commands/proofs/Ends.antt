@@ -4,7 +4,7 @@ use Rattle.std.specs.Prelude.{Err, IfErr, IfOk, MatchResult, Ok, Result}
 use Rattle.clap.specs.Words.{HasKind, Row, Text, fault_of, kind_of, takes}
 use Rattle.clap.specs.declared.error.Error.{Error}
 use Rattle.clap.specs.declared.error.kind.ErrorKind.TheVariants.{OutOfMemory}
-use Rattle.z80dev_commands.specs.declared.Job.{Job}
+use Rattle.z80dev_commands.specs.declared.job.Job.{Job}
 use Rattle.z80dev_commands.specs.Commands.{HasRightCount, IsJob, IsJobOf, IsMiscounted, IsMiscountedOf, z80dev}
 use Rattle.z80dev_commands.specs.Private.{IsRefused}
 use Rattle.z80dev_commands.proofs.Rows.{IsMet}

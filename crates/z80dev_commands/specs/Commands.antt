@@ -1,5 +1,5 @@
 -- Which words the command accepts, and which job they ask for.
-use Rattle.std.specs.Prelude.{◌≡◌, ◌<◌, ◌^◌, ◌⊎◌, ℕ, Bool, true, false, not, if◌then◌else◌, IfSome, List, [], ◌∷◌, ◌++◌, Option, None, Some, codes, length, map, option_map, unwrap_or}
+use Rattle.std.specs.Prelude.{◌≡◌, ◌<◌, ◌≤◌, ◌^◌, ◌⊎◌, ℕ, Bool, true, false, not, if◌then◌else◌, IfSome, List, [], ◌∷◌, ◌++◌, Option, None, Some, codes, length, map, option_map, unwrap_or}
 use Rattle.std.specs.Borrow.{Bor}
 use Rattle.std.specs.Option.{option_map_or}
 use Rattle.std.specs.Str.{bytes_eq}
@@ -11,13 +11,16 @@ use Rattle.clap.specs.declared.builder.action.ArgAction.TheVariants.{Append, Set
 use Rattle.clap.specs.declared.builder.value_parser.ValueParser.TheVariants.{Unsigned}
 use Rattle.clap.specs.declared.error.kind.ErrorKind.{ErrorKind}
 use Rattle.clap.specs.declared.error.kind.ErrorKind.TheVariants.{MissingRequiredArgument, TooManyValues}
-use Rattle.z80dev_commands.specs.declared.Attribute.{Attribute}
-use Rattle.z80dev_commands.specs.declared.Attribute.TheVariants.{ReadOnly, System}
-use Rattle.z80dev_commands.specs.declared.Job.{Job}
-use Rattle.z80dev_commands.specs.declared.Job.TheVariants.{Pipe, Asm, Link, Build, Check, Dis, Dir, Put, PutAll, Get, GetAll, Erase, Rename, Protect, CheckDisk, Blank, Run}
-use Rattle.z80dev_commands.specs.declared.Manner.{Manner}
-use Rattle.z80dev_commands.specs.declared.Shared.{Shared}
-use Rattle.z80dev_commands.specs.declared.Target.{Target}
+use Rattle.z80dev_commands.specs.declared.job.Attribute.{Attribute}
+use Rattle.z80dev_commands.specs.declared.job.Attribute.TheVariants.{ReadOnly, System}
+use Rattle.z80dev_commands.specs.declared.job.DiskJob.{DiskJob}
+use Rattle.z80dev_commands.specs.declared.job.DiskJob.TheVariants as on
+use Rattle.z80dev_commands.specs.declared.job.Job.{Job}
+use Rattle.z80dev_commands.specs.declared.job.Job.TheVariants.{Pipe, Asm, Link, Build, Check, Dis, Disk, Run}
+use Rattle.z80dev_commands.specs.declared.job.Manner.{Manner}
+use Rattle.z80dev_commands.specs.declared.job.Shared.{Shared}
+use Rattle.z80dev_commands.specs.declared.job.Target.{Target}
+use Rattle.z80dev_commands.specs.declared.job.Telling.{Telling}
 
 -- ---- arguments
 
@@ -53,6 +56,10 @@ base_rule = record out_rule { required = false }
 abbrev pub option_rule : Text → Text → Rule
 option_rule name id = record (new_rule id) { long = Some name; action = Some Set }
 
+-- `--labels SYM`
+abbrev pub labels_rule : Rule
+labels_rule = option_rule (codes "labels") (codes "SYM")
+
 -- `--NAME ID`, which may be given any number of times
 abbrev pub list_rule : Text → Text → Rule
 list_rule name id = record (option_rule name id) { action = Some Append }
@@ -76,6 +83,10 @@ steps_rule = number_rule (codes "steps") (codes "N") 18446744073709551615
 abbrev pub user_rule : Rule
 user_rule = number_rule (codes "user") (codes "N") 31
 
+-- `--last COUNT`, with a number from 0 to 1,000,000
+abbrev pub last_rule : Rule
+last_rule = number_rule (codes "last") (codes "COUNT") 1000000
+
 -- the flag `--NAME`
 abbrev pub flag_rule : Text → Rule
 flag_rule name = record (new_rule name) { long = Some name; action = Some SetTrue }
@@ -94,18 +105,18 @@ target_rules = user_rule ∷ flag_rule (codes "no-lock") ∷ path_rule (codes "I
 abbrev pub with_rules : Text → List Rule → Shape
 with_rules name rules = record (new_shape name) { rules = rules }
 
--- `asm --out BASE [--grow] [--define NAME=VALUE].. [--with FILE].. SRC`
+-- `asm --out BASE [--grow] [--no-warn] [--define NAME=VALUE].. [--with FILE].. SRC`
 abbrev pub asm_shape : Shape
-asm_shape = with_rules (codes "asm") (out_rule ∷ flag_rule (codes "grow") ∷ define_rule ∷ with_file_rule ∷ path_rule (codes "SRC") ∷ [])
+asm_shape = with_rules (codes "asm") (out_rule ∷ flag_rule (codes "grow") ∷ flag_rule (codes "no-warn") ∷ define_rule ∷ with_file_rule ∷ path_rule (codes "SRC") ∷ [])
 
 -- `link --out BASE OBJ..`
 abbrev pub link_shape : Shape
 link_shape = with_rules (codes "link") (out_rule ∷ paths_rule (codes "OBJ") ∷ [])
 
--- `build [--out BASE] [--grow] [--list] [--verbose] [--define NAME=VALUE].. [--with FILE].. SRC..`
+-- `build [--out BASE] [--grow] [--list] [--verbose] [--no-warn] [--define NAME=VALUE].. [--with FILE].. SRC..`
 abbrev pub build_shape : Shape
 build_shape = with_rules (codes "build")
-    (base_rule ∷ flag_rule (codes "grow") ∷ flag_rule (codes "list") ∷ verbose_rule ∷ define_rule ∷ with_file_rule ∷ paths_rule (codes "SRC") ∷ [])
+    (base_rule ∷ flag_rule (codes "grow") ∷ flag_rule (codes "list") ∷ verbose_rule ∷ flag_rule (codes "no-warn") ∷ define_rule ∷ with_file_rule ∷ paths_rule (codes "SRC") ∷ [])
 
 -- `check SIZES CERT`
 abbrev pub check_shape : Shape
@@ -113,7 +124,7 @@ check_shape = with_rules (codes "check") (path_rule (codes "SIZES") ∷ path_rul
 
 -- `dis [--labels SYM] [--entry ADDR].. COM`
 abbrev pub dis_shape : Shape
-dis_shape = with_rules (codes "dis") (option_rule (codes "labels") (codes "SYM") ∷ list_rule (codes "entry") (codes "ADDR") ∷ path_rule (codes "COM") ∷ [])
+dis_shape = with_rules (codes "dis") (labels_rule ∷ list_rule (codes "entry") (codes "ADDR") ∷ path_rule (codes "COM") ∷ [])
 
 -- `dir [--user N] [--long] IMG [NAME]`
 abbrev pub dir_shape : Shape
@@ -149,10 +160,15 @@ check_disk_shape = with_rules (codes "check-disk") (path_rule (codes "IMG") ∷ 
 abbrev pub blank_shape : Shape
 blank_shape = with_rules (codes "blank") (flag_rule (codes "mega") ∷ flag_rule (codes "keep") ∷ flag_rule (codes "no-lock") ∷ path_rule (codes "IMG") ∷ [])
 
--- `run [--disk IMG] [--no-lock] [--steps N] COM [WORD..]`
+-- `[--labels SYM] [--regs] [--last COUNT] [--trace TRC] [--profile PRF]`, what `run` tells about a run
+abbrev pub telling_rules : List Rule
+telling_rules = labels_rule ∷ flag_rule (codes "regs") ∷ last_rule ∷ option_rule (codes "trace") (codes "TRC")
+    ∷ option_rule (codes "profile") (codes "PRF") ∷ []
+
+-- `run [--disk IMG] [--no-lock] [--steps N]`, then those, then `COM [WORD..]`
 abbrev pub run_shape : Shape
 run_shape = with_rules (codes "run")
-    (option_rule (codes "disk") (codes "IMG") ∷ flag_rule (codes "no-lock") ∷ steps_rule ∷ path_rule (codes "COM") ∷ words_rule (codes "WORD") ∷ [])
+    (option_rule (codes "disk") (codes "IMG") ∷ flag_rule (codes "no-lock") ∷ steps_rule ∷ (telling_rules ++ (path_rule (codes "COM") ∷ words_rule (codes "WORD") ∷ [])))
 
 -- the command `z80dev` without its commands: its help and its version
 abbrev pub bare : App
@@ -234,6 +250,15 @@ FindsUserOrZero user rows = (user < 32) × (given : Option ℕ) × FindsNumber (
 abbrev pub FindsLock : Bool → List Row → Type 0
 FindsLock lock rows = is_on (codes "no-lock") rows ≡ not lock
 
+-- `--last` gives this number of steps, at most 1,000,000, or it is not given and there is no number
+abbrev pub FindsLast : Option ℕ → List Row → Type 0
+FindsLast last rows = FindsNumber (codes "COUNT") last rows × IfSome last (λ n. n ≤ 1000000)
+
+-- what `run` tells about a run
+abbrev pub FindsTelling : Telling → List Row → Type 0
+FindsTelling telling rows = FindsIfGiven (codes "SYM") telling.labels rows × (is_on (codes "regs") rows ≡ telling.registers)
+    × FindsLast telling.last rows × FindsIfGiven (codes "TRC") telling.trace rows × FindsIfGiven (codes "PRF") telling.profile rows
+
 -- the image that a command changes, with the user and whether it is locked
 abbrev pub FindsTarget : Target → List Row → Type 0
 FindsTarget target rows = HasValue (codes "IMG") target.image rows × FindsUserOrZero target.user rows × FindsLock target.lock rows
@@ -255,37 +280,44 @@ is_system_attribute System = true
 abbrev pub Meets : Option (Text × List Row) → Text → (List Row → Type 0) → Type 0
 Meets met name Holds = (rows : List Row) × (met ≡ Some (name, rows)) × Holds rows
 
+-- The job on a disk of the command that a parse found, with the values of its arguments.
+abbrev pub IsDiskJobOf : Option (Text × List Row) → DiskJob → Type 0
+IsDiskJobOf met (on.Dir dir) = Meets met (codes "dir") (λ rows. HasValue (codes "IMG") dir.image rows
+    × FindsUser dir.user rows × (is_on (codes "long") rows ≡ dir.long) × FindsIfGiven (codes "NAME") dir.name rows)
+IsDiskJobOf met (on.Put put) = Meets met (codes "put") (λ rows. (is_on (codes "to") rows ≡ false)
+    × FindsTarget put.target rows × FindsManner put.manner rows × HasValue (codes "FILE") put.file rows × FindsOnly (codes "NAME") put.name rows)
+IsDiskJobOf met (on.PutAll put) = Meets met (codes "put") (λ rows. (is_on (codes "to") rows ≡ true)
+    × FindsTarget put.target rows × FindsManner put.manner rows × FindsJoined (codes "FILE") (codes "NAME") put.files.items rows)
+IsDiskJobOf met (on.Get get) = Meets met (codes "get") (λ rows. (is_on (codes "all") rows ≡ false)
+    × HasValue (codes "IMG") get.image rows × FindsUserOrZero get.user rows × (is_on (codes "text") rows ≡ get.text)
+    × HasValue (codes "NAME") get.name rows × FindsOnly (codes "FILE") get.file rows)
+IsDiskJobOf met (on.GetAll get) = Meets met (codes "get") (λ rows. (is_on (codes "all") rows ≡ true)
+    × HasValue (codes "IMG") get.image rows × FindsUserOrZero get.user rows × (is_on (codes "text") rows ≡ get.text)
+    × HasValue (codes "NAME") get.folder rows × FindsAny (codes "FILE") [] rows)
+IsDiskJobOf met (on.Erase erase) = Meets met (codes "erase") (λ rows. FindsTarget erase.target rows × FindsAll (codes "NAME") erase.names.items rows)
+IsDiskJobOf met (on.Rename rename) = Meets met (codes "rename") (λ rows. FindsTarget rename.target rows
+    × HasValue (codes "OLD") rename.old rows × HasValue (codes "NEW") rename.new rows)
+IsDiskJobOf met (on.Protect protect) = Meets met (protect_name protect.on) (λ rows. FindsTarget protect.target rows
+    × (is_on (codes "system") rows ≡ is_system_attribute protect.attribute) × FindsAll (codes "NAME") protect.names.items rows)
+IsDiskJobOf met (on.Check image) = Meets met (codes "check-disk") (λ rows. HasValue (codes "IMG") image rows)
+IsDiskJobOf met (on.Blank blank) = Meets met (codes "blank") (λ rows. (is_on (codes "mega") rows ≡ blank.mega)
+    × (is_on (codes "keep") rows ≡ blank.keep) × FindsLock blank.lock rows × HasValue (codes "IMG") blank.image rows)
+
 -- The job of the command that a parse found, with the values of its arguments.
 abbrev pub IsJobOf : Option (Text × List Row) → Job → Type 0
 IsJobOf met Pipe = met ≡ None
-IsJobOf met (Asm out grow shared source) = Meets met (codes "asm") (λ rows. HasValue (codes "BASE") out rows
-    × (is_on (codes "grow") rows ≡ grow) × FindsShared shared rows × HasValue (codes "SRC") source rows)
-IsJobOf met (Link out objects) = Meets met (codes "link") (λ rows. HasValue (codes "BASE") out rows × FindsAll (codes "OBJ") objects.items rows)
-IsJobOf met (Build out grow list verbose shared sources) = Meets met (codes "build") (λ rows. FindsIfGiven (codes "BASE") out rows
-    × (is_on (codes "grow") rows ≡ grow) × (is_on (codes "list") rows ≡ list) × (is_on (codes "verbose") rows ≡ verbose) × FindsShared shared rows
-    × FindsAll (codes "SRC") sources.items rows)
-IsJobOf met (Check sizes cert) = Meets met (codes "check") (λ rows. HasValue (codes "SIZES") sizes rows × HasValue (codes "CERT") cert rows)
-IsJobOf met (Dis labels entries program) = Meets met (codes "dis") (λ rows. FindsIfGiven (codes "SYM") labels rows
-    × FindsAny (codes "ADDR") entries.items rows × HasValue (codes "COM") program rows)
-IsJobOf met (Dir image user long name) = Meets met (codes "dir") (λ rows. HasValue (codes "IMG") image rows
-    × FindsUser user rows × (is_on (codes "long") rows ≡ long) × FindsIfGiven (codes "NAME") name rows)
-IsJobOf met (Put target manner file name) = Meets met (codes "put") (λ rows. (is_on (codes "to") rows ≡ false)
-    × FindsTarget target rows × FindsManner manner rows × HasValue (codes "FILE") file rows × FindsOnly (codes "NAME") name rows)
-IsJobOf met (PutAll target manner files) = Meets met (codes "put") (λ rows. (is_on (codes "to") rows ≡ true)
-    × FindsTarget target rows × FindsManner manner rows × FindsJoined (codes "FILE") (codes "NAME") files.items rows)
-IsJobOf met (Get image user text name file) = Meets met (codes "get") (λ rows. (is_on (codes "all") rows ≡ false)
-    × HasValue (codes "IMG") image rows × FindsUserOrZero user rows × (is_on (codes "text") rows ≡ text) × HasValue (codes "NAME") name rows × FindsOnly (codes "FILE") file rows)
-IsJobOf met (GetAll image user text folder) = Meets met (codes "get") (λ rows. (is_on (codes "all") rows ≡ true)
-    × HasValue (codes "IMG") image rows × FindsUserOrZero user rows × (is_on (codes "text") rows ≡ text) × HasValue (codes "NAME") folder rows × FindsAny (codes "FILE") [] rows)
-IsJobOf met (Erase target names) = Meets met (codes "erase") (λ rows. FindsTarget target rows × FindsAll (codes "NAME") names.items rows)
-IsJobOf met (Rename target old new) = Meets met (codes "rename") (λ rows. FindsTarget target rows × HasValue (codes "OLD") old rows × HasValue (codes "NEW") new rows)
-IsJobOf met (Protect target attribute on names) = Meets met (protect_name on) (λ rows. FindsTarget target rows
-    × (is_on (codes "system") rows ≡ is_system_attribute attribute) × FindsAll (codes "NAME") names.items rows)
-IsJobOf met (CheckDisk image) = Meets met (codes "check-disk") (λ rows. HasValue (codes "IMG") image rows)
-IsJobOf met (Blank mega keep lock image) = Meets met (codes "blank") (λ rows. (is_on (codes "mega") rows ≡ mega)
-    × (is_on (codes "keep") rows ≡ keep) × FindsLock lock rows × HasValue (codes "IMG") image rows)
-IsJobOf met (Run disk lock steps program words) = Meets met (codes "run") (λ rows. FindsIfGiven (codes "IMG") disk rows
-    × FindsLock lock rows × FindsNumber (codes "N") steps rows × HasValue (codes "COM") program rows × FindsAny (codes "WORD") words.items rows)
+IsJobOf met (Asm asm) = Meets met (codes "asm") (λ rows. HasValue (codes "BASE") asm.out rows
+    × (is_on (codes "grow") rows ≡ asm.grow) × (is_on (codes "no-warn") rows ≡ not asm.warn) × FindsShared asm.shared rows × HasValue (codes "SRC") asm.source rows)
+IsJobOf met (Link link) = Meets met (codes "link") (λ rows. HasValue (codes "BASE") link.out rows × FindsAll (codes "OBJ") link.objects.items rows)
+IsJobOf met (Build build) = Meets met (codes "build") (λ rows. FindsIfGiven (codes "BASE") build.out rows
+    × (is_on (codes "grow") rows ≡ build.grow) × (is_on (codes "list") rows ≡ build.list) × (is_on (codes "verbose") rows ≡ build.verbose)
+    × (is_on (codes "no-warn") rows ≡ not build.warn) × FindsShared build.shared rows × FindsAll (codes "SRC") build.sources.items rows)
+IsJobOf met (Check check) = Meets met (codes "check") (λ rows. HasValue (codes "SIZES") check.sizes rows × HasValue (codes "CERT") check.cert rows)
+IsJobOf met (Dis dis) = Meets met (codes "dis") (λ rows. FindsIfGiven (codes "SYM") dis.labels rows
+    × FindsAny (codes "ADDR") dis.entries.items rows × HasValue (codes "COM") dis.program rows)
+IsJobOf met (Disk job) = IsDiskJobOf met job
+IsJobOf met (Run run) = Meets met (codes "run") (λ rows. FindsIfGiven (codes "IMG") run.disk rows
+    × FindsLock run.lock rows × FindsNumber (codes "N") run.steps rows × FindsTelling run.telling rows × HasValue (codes "COM") run.program rows × FindsAny (codes "WORD") run.words.items rows)
 
 -- The words are parsed without an error, and the job is that of the command that they name, with the values that the parse found.
 abbrev pub IsJob : List Text → Job → Type 0

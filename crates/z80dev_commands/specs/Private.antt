@@ -3,7 +3,7 @@ use Rattle.std.specs.Prelude.{◌≡◌, ◌⊎◌, ◌≤◌, ℕ, true, IfSome
 use Rattle.clap.specs.Words.{App, Row, Shape, Text, first_of, kind_of, one_of, subcommand_of, with_rule}
 use Rattle.clap.specs.declared.error.Error.{Error}
 use Rattle.clap.specs.declared.error.kind.ErrorKind.TheVariants.{OutOfMemory}
-use Rattle.z80dev_commands.specs.Commands.{IsMiscountedOf, AreParsed, ReadsAs, flag_rule, path_rule, user_rule, z80dev}
+use Rattle.z80dev_commands.specs.Commands.{IsMiscountedOf, AreParsed, ReadsAs, flag_rule, labels_rule, last_rule, option_rule, path_rule, user_rule, z80dev}
 
 -- a command by itself
 abbrev pub alone : Shape → App
@@ -12,6 +12,11 @@ alone s = record { top = s; subs = [] }
 -- a command with the arguments of an image that it changes
 abbrev pub with_target : App → App
 with_target a = with_rule (with_rule (with_rule a user_rule) (flag_rule (codes "no-lock"))) (path_rule (codes "IMG"))
+
+-- a command with the options of what `run` tells
+abbrev pub with_telling : App → App
+with_telling a = with_rule (with_rule (with_rule (with_rule (with_rule a labels_rule) (flag_rule (codes "regs"))) last_rule)
+    (option_rule (codes "trace") (codes "TRC"))) (option_rule (codes "profile") (codes "PRF"))
 
 -- a parse without an error found these rows for the command with this name
 abbrev pub AreFound : Text → List Row → Type 0

@@ -19,7 +19,7 @@ pub(crate) const ASM: &str =
 nothing. If SRC or a FILE has the path BASE.zmo, nothing is written, and there
 is a line `error: Overwrites(PATH)`.
 
-`z80dev build --help` explains --define and --with.
+`z80dev build --help` explains --define, --with and --no-warn.
 
 Example: z80dev asm -o main main.asm
 writes main.zmo.";
@@ -57,6 +57,10 @@ A file that it writes replaces one of the same name without a warning, even one
 that is write-protected. But if a SRC or a FILE has the path of one of them,
 nothing is written, and there is a line `error: Overwrites(PATH)`.
 
+A line such as `warning: game.asm(12): ..` tells of code that relies on the length
+of a jump that may be short or long. The files are written all the same, and the
+status is 0. --no-warn leaves these lines out.
+
 Example: z80dev build --list -o game main.asm print.asm
 writes game.siz, game.crt, game.com, game.lst and game.sym.
 
@@ -76,8 +80,8 @@ Example: z80dev check game.siz game.crt
 prints a line such as best 260.";
 
 pub(crate) const DIS: &str =
-    r"Reads COM, a program that CP/M loads at 0100H, and prints a source file of which
-`z80dev build` makes the same bytes. Writes nothing.
+    r"Reads COM, a program that CP/M loads at 0100H, and prints a source file from
+which `z80dev build` makes the same bytes. Writes nothing.
 
 What the program reaches from 0100H by jumps and calls is printed as
 instructions, and the rest as data. If it also jumps to an address that it
@@ -87,8 +91,8 @@ given several times. ADDR is a number as in a source, such as 0150H or 336.
 With --labels, the labels have the names of SYM, which `z80dev build --list`
 writes. Without, a label is L and its address, such as L0150.
 
-Example: z80dev dis game.com >game.asm
-writes game.asm.
+Example: z80dev dis game.com >again.asm
+writes again.asm.
 
 Example: z80dev dis --labels game.sym --entry 0150H game.com
 prints the source with the names of game.sym.";
@@ -237,6 +241,14 @@ it was.
 IMG is locked from before it is read until the end of the run, and replaced as
 `z80dev put --help` explains, so no other command changes it meanwhile. With
 --no-lock, what another command writes to IMG during the run may be lost.
+
+--regs prints the registers and the stack on standard error when the run has
+ended. If it is stopped, --last prints its last COUNT steps there, each as a line
+of the trace. --trace writes such a line for each step to TRC: its number, the
+address, the label, the instruction's bytes and text, and the registers that it
+changed. --profile writes to PRF how often the instruction at each address ran,
+most often first. With --labels, each address has the label of SYM before it and
+how many bytes after it.
 
 The status is 0 if the program ends by itself, and 1 if something stops it or it
 is too long to be loaded; then standard error has a line `stopped: WHY at PPPP`.

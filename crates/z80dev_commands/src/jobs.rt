@@ -1,11 +1,15 @@
 //! Makes the job of a parsed command from the values that the parse found.
 
-ghost use Rattle.std.specs.Prelude.{◌≡◌, ◌∷◌, [], true, IfOk, MatchResult, Some, codes, is_some, length, map};
+ghost use Rattle.std.specs.Prelude.{◌≡◌, ◌∷◌, [], true, IfOk, MatchResult, Some, codes, is_some, length, map, not};
 ghost use Rattle.clap.specs.Words.{all_of, first_of, found_of, kind_of, rows_of};
-ghost use Rattle.z80dev_commands.specs.Commands.{HasValue, FindsAll, FindsAny, FindsIfGiven, FindsLock, FindsManner, FindsNumber, FindsShared, FindsTarget, FindsUser, FindsUserOrZero, IsJobOf, Miscounts, is_on, is_system_attribute, protect_name};
+ghost use Rattle.z80dev_commands.specs.Commands.{HasValue, FindsAll, FindsAny, FindsIfGiven, FindsLock, FindsManner, FindsNumber, FindsShared, FindsTarget, FindsUser, FindsUserOrZero, IsJobOf, Miscounts, FindsLast, FindsTelling, is_on, is_system_attribute, protect_name};
 ghost use Rattle.z80dev_commands.specs.Private.{AreFound, HasTarget, IsFlag, IsNumber, IsRefused};
 
-use crate::{Attribute, Job, Manner, Shared, Target, usage};
+use crate::job::{
+    Asm, Attribute, Blank, Build, Check, Dir, Dis, DiskJob, Erase, Get, GetAll, Job, Link, Manner,
+    Protect, Put, PutAll, Rename, Run, Shared, Target, Telling,
+};
+use crate::usage;
 use clap::error::ErrorKind;
 use clap::{ArgMatches, Command, Error};
 use std::alloc::{AllocError, Global};
@@ -96,6 +100,14 @@ fn lock(found: &ArgMatches) -> bool
     !flag(found, "no-lock")
 }
 
+/// Whether the command warns: it does without `--no-warn`.
+fn warn(found: &ArgMatches) -> bool
+    requires { IsFlag (codes "no-warn") (rows_of (found_of found.now)) }
+    ensures { is_on (codes "no-warn") (rows_of (found_of found.now)) ≡ not result }
+{
+    !flag(found, "no-warn")
+}
+
 /// The image that a command changes, with the user and whether it is locked.
 fn target<'a>(found: &ArgMatches<'a>) -> Target<'a>
     requires { HasTarget (rows_of (found_of found.now)) }
@@ -149,69 +161,71 @@ fn asm<'a>(alloc: Global, found: &ArgMatches<'a>) -> Result<Job<'a>, AllocError>
     requires { AreFound (codes "asm") (rows_of (found_of found.now)) }
     ensures { IfOk result (IsJobOf (Some (codes "asm", rows_of (found_of found.now)))) }
 {
-    Ok(Job::Asm {
+    Ok(Job::Asm(Asm {
         out: text(found, "BASE"),
         grow: flag(found, "grow"),
+        warn: warn(found),
         shared: shared(alloc, found)?,
         source: text(found, "SRC"),
-    })
+    }))
 }
 
 fn link<'a>(alloc: Global, found: &ArgMatches<'a>) -> Result<Job<'a>, AllocError>
     requires { AreFound (codes "link") (rows_of (found_of found.now)) }
     ensures { IfOk result (IsJobOf (Some (codes "link", rows_of (found_of found.now)))) }
 {
-    Ok(Job::Link {
+    Ok(Job::Link(Link {
         out: text(found, "BASE"),
         objects: texts(alloc, found, "OBJ")?,
-    })
+    }))
 }
 
 fn build<'a>(alloc: Global, found: &ArgMatches<'a>) -> Result<Job<'a>, AllocError>
     requires { AreFound (codes "build") (rows_of (found_of found.now)) }
     ensures { IfOk result (IsJobOf (Some (codes "build", rows_of (found_of found.now)))) }
 {
-    Ok(Job::Build {
+    Ok(Job::Build(Build {
         out: text_if_given(found, "BASE"),
         grow: flag(found, "grow"),
         list: flag(found, "list"),
         verbose: flag(found, "verbose"),
+        warn: warn(found),
         shared: shared(alloc, found)?,
         sources: texts(alloc, found, "SRC")?,
-    })
+    }))
 }
 
 fn check<'a>(found: &ArgMatches<'a>) -> Job<'a>
     requires { AreFound (codes "check") (rows_of (found_of found.now)) }
     ensures { IsJobOf (Some (codes "check", rows_of (found_of found.now))) result }
 {
-    Job::Check {
+    Job::Check(Check {
         sizes: text(found, "SIZES"),
         cert: text(found, "CERT"),
-    }
+    })
 }
 
 fn dis<'a>(alloc: Global, found: &ArgMatches<'a>) -> Result<Job<'a>, AllocError>
     requires { AreFound (codes "dis") (rows_of (found_of found.now)) }
     ensures { IfOk result (IsJobOf (Some (codes "dis", rows_of (found_of found.now)))) }
 {
-    Ok(Job::Dis {
+    Ok(Job::Dis(Dis {
         labels: text_if_given(found, "SYM"),
         entries: texts_if_given(alloc, found, "ADDR")?,
         program: text(found, "COM"),
-    })
+    }))
 }
 
 fn dir<'a>(found: &ArgMatches<'a>) -> Job<'a>
     requires { AreFound (codes "dir") (rows_of (found_of found.now)) }
     ensures { IsJobOf (Some (codes "dir", rows_of (found_of found.now))) result }
 {
-    Job::Dir {
+    Job::Disk(DiskJob::Dir(Dir {
         image: text(found, "IMG"),
         user: user(found),
         long: flag(found, "long"),
         name: text_if_given(found, "NAME"),
-    }
+    }))
 }
 
 /// Whether `put` replaces files, and whether it puts them as texts.
@@ -235,19 +249,19 @@ fn put<'a>(alloc: Global, found: &ArgMatches<'a>) -> Result<Job<'a>, Error>
     let mut names = texts_if_given(alloc, found, "NAME")?;
     if flag(found, "to") {
         names.insert(0, file)?;
-        return Ok(Job::PutAll {
+        return Ok(Job::Disk(DiskJob::PutAll(PutAll {
             target,
             manner,
             files: names,
-        });
+        })));
     }
     match only(&names) {
-        Ok(name) => Ok(Job::Put {
+        Ok(name) => Ok(Job::Disk(DiskJob::Put(Put {
             target,
             manner,
             file,
             name,
-        }),
+        }))),
         Err(kind) => Err(miscounted(usage::put(alloc), kind, ONE_NAME)?),
     }
 }
@@ -260,12 +274,12 @@ fn get_all<'a>(alloc: Global, found: &ArgMatches<'a>, files: &[&'a str]) -> Resu
     ensures { MatchResult result (IsJobOf (Some (codes "get", rows_of (found_of found.now)))) (IsRefused (Some (codes "get", rows_of (found_of found.now)))) }
 {
     if files.is_empty() {
-        Ok(Job::GetAll {
+        Ok(Job::Disk(DiskJob::GetAll(GetAll {
             image: text(found, "IMG"),
             user: user_or_zero(found),
             text: flag(found, "text"),
             folder: text(found, "NAME"),
-        })
+        })))
     } else {
         Err(miscounted(usage::get(alloc), ErrorKind::TooManyValues, NO_FILE)?)
     }
@@ -280,13 +294,13 @@ fn get<'a>(alloc: Global, found: &ArgMatches<'a>) -> Result<Job<'a>, Error>
         return get_all(alloc, found, &files);
     }
     match only(&files) {
-        Ok(file) => Ok(Job::Get {
+        Ok(file) => Ok(Job::Disk(DiskJob::Get(Get {
             image: text(found, "IMG"),
             user: user_or_zero(found),
             text: flag(found, "text"),
             name: text(found, "NAME"),
             file,
-        }),
+        }))),
         Err(kind) => Err(miscounted(usage::get(alloc), kind, ONE_FILE)?),
     }
 }
@@ -295,21 +309,21 @@ fn erase<'a>(alloc: Global, found: &ArgMatches<'a>) -> Result<Job<'a>, AllocErro
     requires { AreFound (codes "erase") (rows_of (found_of found.now)) }
     ensures { IfOk result (IsJobOf (Some (codes "erase", rows_of (found_of found.now)))) }
 {
-    Ok(Job::Erase {
+    Ok(Job::Disk(DiskJob::Erase(Erase {
         target: target(found),
         names: texts(alloc, found, "NAME")?,
-    })
+    })))
 }
 
 fn rename<'a>(found: &ArgMatches<'a>) -> Job<'a>
     requires { AreFound (codes "rename") (rows_of (found_of found.now)) }
     ensures { IsJobOf (Some (codes "rename", rows_of (found_of found.now))) result }
 {
-    Job::Rename {
+    Job::Disk(DiskJob::Rename(Rename {
         target: target(found),
         old: text(found, "OLD"),
         new: text(found, "NEW"),
-    }
+    }))
 }
 
 /// The attribute that `protect` sets and `unprotect` clears.
@@ -329,32 +343,52 @@ fn protect<'a>(alloc: Global, on: bool, found: &ArgMatches<'a>) -> Result<Job<'a
     requires { AreFound (protect_name on) (rows_of (found_of found.now)) }
     ensures { IfOk result (IsJobOf (Some (protect_name on, rows_of (found_of found.now)))) }
 {
-    Ok(Job::Protect {
+    Ok(Job::Disk(DiskJob::Protect(Protect {
         target: target(found),
         attribute: attribute(found),
         on,
         names: texts(alloc, found, "NAME")?,
-    })
+    })))
 }
 
 fn check_disk<'a>(found: &ArgMatches<'a>) -> Job<'a>
     requires { AreFound (codes "check-disk") (rows_of (found_of found.now)) }
     ensures { IsJobOf (Some (codes "check-disk", rows_of (found_of found.now))) result }
 {
-    Job::CheckDisk {
-        image: text(found, "IMG"),
-    }
+    Job::Disk(DiskJob::Check(text(found, "IMG")))
 }
 
 fn blank<'a>(found: &ArgMatches<'a>) -> Job<'a>
     requires { AreFound (codes "blank") (rows_of (found_of found.now)) }
     ensures { IsJobOf (Some (codes "blank", rows_of (found_of found.now))) result }
 {
-    Job::Blank {
+    Job::Disk(DiskJob::Blank(Blank {
         mega: flag(found, "mega"),
         keep: flag(found, "keep"),
         lock: lock(found),
         image: text(found, "IMG"),
+    }))
+}
+
+/// How many of the last steps are printed, if `--last` is given.
+fn last(found: &ArgMatches) -> Option<u32>
+    requires { IsNumber (codes "COUNT") 1000000 (rows_of (found_of found.now)) }
+    ensures { FindsLast result (rows_of (found_of found.now)) }
+{
+    found.get_one("COUNT")
+}
+
+/// What `run` tells about a run.
+fn telling<'a>(found: &ArgMatches<'a>) -> Telling<'a>
+    requires { AreFound (codes "run") (rows_of (found_of found.now)) }
+    ensures { FindsTelling result (rows_of (found_of found.now)) }
+{
+    Telling {
+        labels: text_if_given(found, "SYM"),
+        registers: flag(found, "regs"),
+        last: last(found),
+        trace: text_if_given(found, "TRC"),
+        profile: text_if_given(found, "PRF"),
     }
 }
 
@@ -362,13 +396,14 @@ fn run<'a>(alloc: Global, found: &ArgMatches<'a>) -> Result<Job<'a>, AllocError>
     requires { AreFound (codes "run") (rows_of (found_of found.now)) }
     ensures { IfOk result (IsJobOf (Some (codes "run", rows_of (found_of found.now)))) }
 {
-    Ok(Job::Run {
+    Ok(Job::Run(Run {
         disk: text_if_given(found, "IMG"),
         lock: lock(found),
         steps: number(found, "N"),
+        telling: telling(found),
         program: text(found, "COM"),
         words: texts_if_given(alloc, found, "WORD")?,
-    })
+    }))
 }
 
 /// The job of the command with this name.

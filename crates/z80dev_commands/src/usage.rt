@@ -10,8 +10,9 @@ ghost use Rattle.z80dev_commands.specs.Private.{alone};
 
 use crate::help;
 use arguments::{
-    base, define, flag, grow, image, list, name_if_given, names, no_lock, option, out_given, path,
-    paths, steps, user, user_or_zero, verbose, with_file, with_target, words,
+    base, define, flag, grow, image, labels, list, name_if_given, names, no_lock, no_warn, option,
+    out_given, path, paths, steps, user, user_or_zero, verbose, with_file, with_target,
+    with_telling, words,
 };
 use clap::Command;
 use std::alloc::{AllocError, Global};
@@ -39,6 +40,7 @@ fn asm<'a>(alloc: Global) -> Result<Command<'a>, AllocError>
     )
     .arg(out_given(alloc))?
     .arg(grow(alloc))?
+    .arg(no_warn(alloc))?
     .arg(define(alloc))?
     .arg(with_file(alloc))?
     .arg(path(alloc, "SRC", "The source file"))
@@ -75,6 +77,7 @@ fn build<'a>(alloc: Global) -> Result<Command<'a>, AllocError>
         "Also writes the listing BASE.lst and the labels BASE.sym",
     ))?
     .arg(verbose(alloc))?
+    .arg(no_warn(alloc))?
     .arg(define(alloc))?
     .arg(with_file(alloc))?
     .arg(paths(
@@ -112,12 +115,7 @@ fn dis<'a>(alloc: Global) -> Result<Command<'a>, AllocError>
         "Prints a source file that builds to a program",
         help::DIS,
     )
-    .arg(option(
-        alloc,
-        "labels",
-        "SYM",
-        "A file of labels, as `build --list` writes it",
-    ))?
+    .arg(labels(alloc))?
     .arg(list(
         alloc,
         "entry",
@@ -324,7 +322,7 @@ fn run<'a>(alloc: Global) -> Result<Command<'a>, AllocError>
     ensures app { IfOk result (λ c. app_of c ≡ alone run_shape) }
     ensures local { IfOk result (λ c. (out-Command c).has_globals ≡ false) }
 {
-    titled(alloc, "run", "Runs a CP/M program", help::RUN)
+    let command = titled(alloc, "run", "Runs a CP/M program", help::RUN)
         .arg(option(
             alloc,
             "disk",
@@ -332,7 +330,8 @@ fn run<'a>(alloc: Global) -> Result<Command<'a>, AllocError>
             "The path of the image of drive A [default: a blank disk, which is not kept]",
         ))?
         .arg(no_lock(alloc))?
-        .arg(steps(alloc))?
+        .arg(steps(alloc))?;
+    with_telling(alloc, command)?
         .arg(path(alloc, "COM", "The path of the program"))?
         .arg(words(alloc, "WORD", "The words of its command line"))
 }

@@ -4,14 +4,14 @@ use Rattle.std.proofs.lemmas.List.{length-map}
 use Rattle.std.proofs.lemmas.List.Elements.{length_all_zip}
 use Rattle.std.specs.Global.{Global}
 use Rattle.std.specs.List.{AllZip}
-use Rattle.z80dev_commands.specs.declared.Shared.{Shared}
+use Rattle.z80dev_commands.specs.declared.job.Build.{Build}
 use Rattle.streams.specs.Stream.{Stream}
 use Rattle.z80dev_finish.specs.Files.{Folder}
 use Rattle.z80dev_finish.specs.declared.answer.Kind.{Kind}
 use Rattle.z80dev_finish.specs.declared.end.End.{End}
 use Rattle.z80dev_finish.specs.declared.end.End.TheVariants as end
-use Rattle.z80dev_jobs.specs.Making.{AreFiles, BuildsWith, Effect, NothingDone, UnlessRefused, WithAll, effect_of, shared_paths}
-use Rattle.z80dev_jobs.specs.Outputs.{clash, program_kinds}
+use Rattle.z80dev_jobs.specs.Making.{AreFiles, BuildsWith, Effect, NothingDone, UnlessRefused, WithAll, effect_of, shared_paths, source_paths}
+use Rattle.z80dev_jobs.specs.Outputs.{program_kinds, why_not_written}
 use Rattle.z80dev_jobs.specs.Private.Steps.{BuildsTexts, EndsWith, IsClear}
 use Rattle.z80dev_jobs.specs.Reading.{IsRead}
 use Rattle.z80dev_make.specs.declared.answer.SourceFile.{SourceFile}
@@ -24,9 +24,9 @@ clear why Does x e none does = subst (λ w. UnlessRefused w Does x e) (sym none)
 pub lacking : (paths : List (List ℕ)) (Does : List (List ℕ) → Type 0) (x : Effect) (e : End) → e ≡ end.NoMemory → NothingDone x → WithAll paths Does x e
 lacking paths Does x e out nothing = inr (inr (out, nothing.0), nothing.1)
 
-pub clashes : (why : Option (List ℕ)) (paths : List (List ℕ)) (Does : List (List ℕ) → Type 0) (x : Effect) (e : End) → IsClear why (Err e) → NothingDone x → UnlessRefused why (WithAll paths Does x e) x e
-clashes None paths Does x e out nothing = lacking paths Does x e out nothing
-clashes (Some why) paths Does x e says nothing = refuses why x e says nothing
+pub refuses_or_lacks : (why : Option (List ℕ)) (paths : List (List ℕ)) (Does : List (List ℕ) → Type 0) (x : Effect) (e : End) → IsClear why (Err e) → NothingDone x → UnlessRefused why (WithAll paths Does x e) x e
+refuses_or_lacks None paths Does x e out nothing = lacking paths Does x e out nothing
+refuses_or_lacks (Some why) paths Does x e says nothing = refuses why x e says nothing
 
 -- ---- what was read
 
@@ -43,28 +43,31 @@ are_files a b s t made given same_paths same_texts same are =
     (subst (λ paths. AreFiles (map (λ path. path.now) paths) (map (λ text. text.items) s) made) same_paths are))
 
 -- A program that was built of what was read is what `build` makes.
-pub builds : (base : List ℕ) (grow list verbose : Bool) (shared : Shared) (paths fronts texts : List (List ℕ)) (x : Effect)
-    → AllZip (IsRead x.old) (shared_paths shared) fronts → AllZip (IsRead x.old) paths texts → clash base (program_kinds list) (shared_paths shared ++ paths) ≡ None → (line : Option (List ℕ)) (e : End)
-    → BuildsTexts base grow list verbose shared fronts paths texts x line e → BuildsWith base grow list verbose shared paths x line e
-builds base grow list verbose shared paths fronts texts x read_fronts read none line e (inl is) =
-    clear (clash base (program_kinds list) (shared_paths shared ++ paths)) _ x e none (inl (fronts, read_fronts, inl (texts, read, is)))
-builds base grow list verbose shared paths fronts texts x read_fronts read none line e (inr (out, nothing)) =
-    clear (clash base (program_kinds list) (shared_paths shared ++ paths)) _ x e none (lacking (shared_paths shared) _ x e out nothing)
+pub builds : (base : List ℕ) (build : Build) (fronts texts : List (List ℕ)) (x : Effect)
+    → AllZip (IsRead x.old) (shared_paths build.shared) fronts → AllZip (IsRead x.old) (source_paths build) texts
+    → why_not_written base (program_kinds build.list) (shared_paths build.shared ++ source_paths build) ≡ None → (line : Option (List ℕ)) (e : End)
+    → BuildsTexts base build fronts texts x line e → BuildsWith base build x line e
+builds base build fronts texts x read_fronts read none line e (inl is) =
+    clear (why_not_written base (program_kinds build.list) (shared_paths build.shared ++ source_paths build)) _ x e none (inl (fronts, read_fronts, inl (texts, read, is)))
+builds base build fronts texts x read_fronts read none line e (inr (out, nothing)) =
+    clear (why_not_written base (program_kinds build.list) (shared_paths build.shared ++ source_paths build)) _ x e none (lacking (shared_paths build.shared) _ x e out nothing)
 
 -- The same base, kinds and files, by other names.
-pub clear_of : (base given : List ℕ) (kinds meant : List Kind) (a b : List (Bor (List ℕ))) (paths : List (List ℕ)) → base ≡ given → kinds ≡ meant → a ≡ b
-    → clash base kinds (map (λ path. path.now) a ++ paths) ≡ None → clash given meant (map (λ path. path.now) b ++ paths) ≡ None
-clear_of base given kinds meant a b paths same_base same_kinds same is =
-    subst (λ files. clash given meant (map (λ path. path.now) files ++ paths) ≡ None) same
-    (subst (λ ks. clash given ks (map (λ path. path.now) a ++ paths) ≡ None) same_kinds
-    (subst (λ text. clash text kinds (map (λ path. path.now) a ++ paths) ≡ None) same_base is))
+pub clear_of : (base given : List ℕ) (kinds meant : List Kind) (a b c d : List (Bor (List ℕ))) → base ≡ given → kinds ≡ meant → a ≡ b → c ≡ d
+    → why_not_written base kinds (map (λ path. path.now) a ++ map (λ path. path.now) c) ≡ None
+    → why_not_written given meant (map (λ path. path.now) b ++ map (λ path. path.now) d) ≡ None
+clear_of base given kinds meant a b c d same_base same_kinds same same_sources is =
+    subst (λ files. why_not_written given meant (map (λ path. path.now) b ++ map (λ path. path.now) files) ≡ None) same_sources
+    (subst (λ files. why_not_written given meant (map (λ path. path.now) files ++ map (λ path. path.now) c) ≡ None) same
+    (subst (λ ks. why_not_written given ks (map (λ path. path.now) a ++ map (λ path. path.now) c) ≡ None) same_kinds
+    (subst (λ text. why_not_written text kinds (map (λ path. path.now) a ++ map (λ path. path.now) c) ≡ None) same_base is)))
 
-pub builds_so : (base given : List ℕ) (grow list verbose : Bool) (shared : Shared) (s t u v : List (Vec ℕ Global)) (paths : List (List ℕ)) (old mid new : Folder) (before after : Stream)
+pub builds_so : (base given : List ℕ) (build : Build) (s t u v : List (Vec ℕ Global)) (old mid new : Folder) (before after : Stream)
     (result : Result (Option (String Global)) End) → base ≡ given → s ≡ t → u ≡ v → mid ≡ old
-    → EndsWith (BuildsTexts base grow list verbose shared (map (λ text. text.items) s) paths (map (λ text. text.items) u) (effect_of mid new before after)) result
-    → EndsWith (BuildsTexts given grow list verbose shared (map (λ text. text.items) t) paths (map (λ text. text.items) v) (effect_of old new before after)) result
-builds_so base given grow list verbose shared s t u v paths old mid new before after result same_base same_fronts same_texts same is =
-    subst (λ f. EndsWith (BuildsTexts given grow list verbose shared (map (λ text. text.items) t) paths (map (λ text. text.items) v) (effect_of f new before after)) result) same
-    (subst (λ texts. EndsWith (BuildsTexts given grow list verbose shared (map (λ text. text.items) t) paths (map (λ text. text.items) texts) (effect_of mid new before after)) result) same_texts
-    (subst (λ fronts. EndsWith (BuildsTexts given grow list verbose shared (map (λ text. text.items) fronts) paths (map (λ text. text.items) u) (effect_of mid new before after)) result) same_fronts
-    (subst (λ text. EndsWith (BuildsTexts text grow list verbose shared (map (λ text. text.items) s) paths (map (λ text. text.items) u) (effect_of mid new before after)) result) same_base is)))
+    → EndsWith (BuildsTexts base build (map (λ text. text.items) s) (map (λ text. text.items) u) (effect_of mid new before after)) result
+    → EndsWith (BuildsTexts given build (map (λ text. text.items) t) (map (λ text. text.items) v) (effect_of old new before after)) result
+builds_so base given build s t u v old mid new before after result same_base same_fronts same_texts same is =
+    subst (λ f. EndsWith (BuildsTexts given build (map (λ text. text.items) t) (map (λ text. text.items) v) (effect_of f new before after)) result) same
+    (subst (λ texts. EndsWith (BuildsTexts given build (map (λ text. text.items) t) (map (λ text. text.items) texts) (effect_of mid new before after)) result) same_texts
+    (subst (λ fronts. EndsWith (BuildsTexts given build (map (λ text. text.items) fronts) (map (λ text. text.items) u) (effect_of mid new before after)) result) same_fronts
+    (subst (λ text. EndsWith (BuildsTexts text build (map (λ text. text.items) s) (map (λ text. text.items) u) (effect_of mid new before after)) result) same_base is)))

@@ -4,7 +4,7 @@ use Rattle.std.specs.Global.{Global}
 use Rattle.std.specs.Option.{option_map}
 use Rattle.std.specs.Result.{IsErrAnd}
 use Rattle.streams.specs.Stream.{Stream}
-use Rattle.z80dev_commands.specs.declared.Target.{Target}
+use Rattle.z80dev_commands.specs.declared.job.Target.{Target}
 use Rattle.z80dev_disk.specs.Refusals.{refusal_text}
 use Rattle.z80dev_disk.specs.declared.refusal.Refusal.{Refusal}
 use Rattle.std.specs.List.{AllZip, concat}
@@ -22,7 +22,7 @@ use Rattle.z80dev_finish.specs.declared.end.End.{End}
 use Rattle.z80dev_finish.specs.declared.end.End.TheVariants as end
 use Rattle.z80dev_disk.specs.Put.{IsPutImage as IsPutOn}
 use Rattle.z80dev_disk.specs.Words.{file_name_of, own_name, pattern_of}
-use Rattle.z80dev_commands.specs.declared.Manner.{Manner}
+use Rattle.z80dev_commands.specs.declared.job.Manner.{Manner}
 use Rattle.z80dev_jobs.specs.Disks.{BlankEnds, Changes, ChangesImage, Claiming, IsChanged, IsNotLocked, Named, NamedAll, PutEnds, Warns, GetsMatching, IsWrittenInto, NamedIfGiven, PutAllEnds, ReadsImage, WritesInto, as_put, bad_name, path_in, warnings, without_name, BlankIsMade, GivesUp, kind_of}
 use Rattle.z80dev_jobs.specs.Reading.{IsNotRead, IsOneNotRead, IsRead}
 use Rattle.z80dev_finish.specs.Answers.{Answer, answer_by}

@@ -1,15 +1,17 @@
 -- Words that ask for no job.
 use Rattle.std.proofs.Common.{◌≡◌, ◌≢◌, Bool, true, false, ℕ, List, [], ◌∷◌, ap, inl, inr, sym, ◌∙◌}
-use Rattle.std.specs.Prelude.{◌⊎◌}
+use Rattle.std.specs.Prelude.{◌⊎◌, Option}
 use Rattle.std.proofs.lemmas.Bool.{false≢true}
-use Rattle.clap.specs.Words.{IsAmong, fault_of, takes}
+use Rattle.clap.specs.Words.{IsAmong, Row, fault_of, subcommand_of, takes}
 use Rattle.clap.specs.declared.error.kind.ErrorKind.{ErrorKind}
 use Rattle.clap.specs.declared.error.kind.ErrorKind.TheVariants as kind
-use Rattle.z80dev_commands.specs.Commands.{HasRightCount, IsJob, IsMiscounted, z80dev}
-use Rattle.z80dev_commands.specs.declared.Job.{Job}
-use Rattle.z80dev_commands.specs.declared.Job.TheVariants.{Pipe, Asm, Link, Build, Check, Dis, Dir, Put, PutAll, Get, GetAll, Erase, Rename, Protect, CheckDisk, Blank, Run}
+use Rattle.z80dev_commands.specs.Commands.{HasRightCount, IsDiskJobOf, IsJob, IsMiscounted, z80dev}
+use Rattle.z80dev_commands.specs.declared.job.DiskJob.{DiskJob}
+use Rattle.z80dev_commands.specs.declared.job.DiskJob.TheVariants as on
+use Rattle.z80dev_commands.specs.declared.job.Job.{Job}
+use Rattle.z80dev_commands.specs.declared.job.Job.TheVariants.{Pipe, Asm, Link, Build, Check, Dis, Disk, Run}
 use Rattle.z80dev_jobs.specs.Command.{AsksToShow, CommandEnds, IsUsageFault, Untouched}
-use Rattle.z80dev_jobs.specs.Private.Steps.{HasUser, RefusesError}
+use Rattle.z80dev_jobs.specs.Private.Steps.{HasJobUser, HasUser, RefusesError}
 use Rattle.z80dev_jobs.specs.Words.{AreTexts}
 use Rattle.z80dev_jobs.specs.World.{World}
 
@@ -48,21 +50,24 @@ refused words texts k old new status are same kinds taken (inl (inr used)) =
 refused words texts k old new status are same kinds taken (inr lacks) = inr (same, inr (inr lacks))
 
 -- a job that the words ask for is about a user that has files
-pub has_user : (texts : List (List ℕ)) (job : Job) → IsJob texts job → HasUser job
-has_user texts (Put target manner file name) is = is.1.2.1.1.0
-has_user texts (PutAll target manner files) is = is.1.2.1.1.0
-has_user texts (Get image user text name file) is = is.1.2.2.0
-has_user texts (GetAll image user text folder) is = is.1.2.2.0
-has_user texts (Erase target names) is = is.1.2.0.1.0
-has_user texts (Rename target old new) is = is.1.2.0.1.0
-has_user texts (Protect target attribute on names) is = is.1.2.0.1.0
+has_disk_user : (met : Option (List ℕ × List Row)) (job : DiskJob) → IsDiskJobOf met job → HasUser job
+has_disk_user met (on.Put put) is = is.2.1.1.0
+has_disk_user met (on.PutAll put) is = is.2.1.1.0
+has_disk_user met (on.Get get) is = is.2.2.0
+has_disk_user met (on.GetAll get) is = is.2.2.0
+has_disk_user met (on.Erase erase) is = is.2.0.1.0
+has_disk_user met (on.Rename rename) is = is.2.0.1.0
+has_disk_user met (on.Protect protect) is = is.2.0.1.0
+has_disk_user met (on.Dir dir) is = tt
+has_disk_user met (on.Check image) is = tt
+has_disk_user met (on.Blank blank) is = tt
+
+pub has_user : (texts : List (List ℕ)) (job : Job) → IsJob texts job → HasJobUser job
+has_user texts (Disk job) is = has_disk_user (subcommand_of z80dev texts) job is.1
 has_user texts Pipe is = tt
-has_user texts (Asm out grow shared source) is = tt
-has_user texts (Link out objects) is = tt
-has_user texts (Build out grow list verbose shared sources) is = tt
-has_user texts (Check sizes cert) is = tt
-has_user texts (Dis labels entries program) is = tt
-has_user texts (Dir image user long name) is = tt
-has_user texts (CheckDisk image) is = tt
-has_user texts (Blank mega keep lock image) is = tt
-has_user texts (Run disk lock steps program words) is = tt
+has_user texts (Asm asm) is = tt
+has_user texts (Link link) is = tt
+has_user texts (Build build) is = tt
+has_user texts (Check check) is = tt
+has_user texts (Dis dis) is = tt
+has_user texts (Run run) is = tt

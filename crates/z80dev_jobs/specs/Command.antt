@@ -1,5 +1,5 @@
 -- What the command `z80dev` does, whatever its words.
-use Rattle.std.specs.Prelude.{◌≡◌, ◌≢◌, ◌⊎◌, ℕ, true, List, ◌++◌, Option, None, Some, Result, codes, decimal, map, unwrap_or}
+use Rattle.std.specs.Prelude.{◌≡◌, ◌≢◌, ◌⊎◌, ℕ, true, List, ◌++◌, Option, None, Some, Result, codes, decimal}
 use Rattle.clap.specs.Words.{IsAmong, fault_of, takes}
 use Rattle.clap.specs.declared.error.kind.ErrorKind.{ErrorKind}
 use Rattle.clap.specs.declared.error.kind.ErrorKind.TheVariants as kind
@@ -9,12 +9,12 @@ use Rattle.z80dev.specs.Pipe.{PrintingEnds, said_at, status_at}
 use Rattle.z80dev.specs.Reading.{IsCutShort, OfText}
 use Rattle.z80dev.specs.declared.fault.Fault.{Fault}
 use Rattle.z80dev_commands.specs.Commands.{IsJob, IsMiscounted, z80dev}
-use Rattle.z80dev_commands.specs.declared.Job.{Job}
-use Rattle.z80dev_commands.specs.declared.Job.TheVariants.{Pipe, Asm, Link, Build, Check, Dis, Dir, Put, PutAll, Get, GetAll, Erase, Rename, Protect, CheckDisk, Blank, Run}
+use Rattle.z80dev_commands.specs.declared.job.Job.{Job}
+use Rattle.z80dev_commands.specs.declared.job.Job.TheVariants.{Pipe, Asm, Link, Build, Check, Dis, Disk, Run}
 use Rattle.z80dev_finish.specs.End.{IsPut, Tells, TellsOf, end_status}
 use Rattle.z80dev_finish.specs.declared.end.End.{End}
 use Rattle.z80dev_finish.specs.declared.end.End.TheVariants as end
-use Rattle.z80dev_jobs.specs.Disks.{BlankEnds, CheckDiskEnds, DirEnds, EraseEnds, GetAllEnds, GetEnds, ProtectEnds, PutAllEnds, PutEnds, RenameEnds, TellsLine}
+use Rattle.z80dev_jobs.specs.Disks.{DiskJobEnds, TellsLine}
 use Rattle.z80dev_jobs.specs.Making.{AsmEnds, BuildEnds, CheckEnds, DisEnds, Effect, LinkEnds, defines_of, effect_of}
 use Rattle.z80dev_jobs.specs.Running.{RunEnds}
 use Rattle.z80dev_jobs.specs.Words.{AreTexts, IsNotText}
@@ -64,30 +64,16 @@ abbrev pub PipeEnds : World → World → ℕ → Type 0
 PipeEnds old new status = (new.folder ≡ old.folder) × OfText old.input.left (λ text. (e : Result Unit Fault) × (status ≡ status_at e)
     × PrintingEnds text (IsCutShort new.input.failed new.input.reads new.input.interruptions) old.output new.output e × TellsOf (said_at e) old.errors new.errors)
 
--- how many turns a run may take if the command names no number
-abbrev pub default_steps : ℕ
-default_steps = 100000000
-
 -- What each job does.
 abbrev pub JobEnds : Job → World → World → ℕ → Type 0
 JobEnds Pipe old new status = PipeEnds old new status
-JobEnds (Asm out grow shared source) old new status = Defining (defines_of shared) (Reports (AsmEnds out.now grow shared source.now)) old new status
-JobEnds (Link out objects) old new status = Reports (LinkEnds out.now (map (λ path. path.now) objects.items)) old new status
-JobEnds (Build out grow list verbose shared sources) old new status =
-    Defining (defines_of shared) (ReportsLine (BuildEnds out grow list verbose shared (map (λ path. path.now) sources.items))) old new status
-JobEnds (Check sizes cert) old new status = Reports (CheckEnds sizes.now cert.now) old new status
-JobEnds (Dis labels entries program) old new status = Reports (DisEnds labels (map (λ word. word.now) entries.items) program.now) old new status
-JobEnds (Dir image user long name) old new status = ReportsLine (DirEnds image.now user long name) old new status
-JobEnds (Put target manner file name) old new status = ReportsLine (PutEnds target manner file.now name.now) old new status
-JobEnds (PutAll target manner files) old new status = ReportsLine (PutAllEnds target manner (map (λ path. path.now) files.items)) old new status
-JobEnds (Get image user text name file) old new status = ReportsLine (GetEnds image.now user text name.now file.now) old new status
-JobEnds (GetAll image user text folder) old new status = ReportsLine (GetAllEnds image.now user text folder.now) old new status
-JobEnds (Erase target names) old new status = ReportsLine (EraseEnds target (map (λ word. word.now) names.items)) old new status
-JobEnds (Rename target from to) old new status = ReportsLine (RenameEnds target from.now to.now) old new status
-JobEnds (Protect target attribute on names) old new status = ReportsLine (ProtectEnds target attribute on (map (λ word. word.now) names.items)) old new status
-JobEnds (CheckDisk image) old new status = ReportsLine (CheckDiskEnds image.now) old new status
-JobEnds (Blank mega keep lock image) old new status = ReportsLine (BlankEnds mega keep lock image.now) old new status
-JobEnds (Run disk lock steps program words) old new status = RunEnds disk lock (unwrap_or steps default_steps) program.now (map (λ word. word.now) words.items) old new status
+JobEnds (Asm asm) old new status = Defining (defines_of asm.shared) (Reports (AsmEnds asm)) old new status
+JobEnds (Link link) old new status = Reports (LinkEnds link) old new status
+JobEnds (Build build) old new status = Defining (defines_of build.shared) (ReportsLine (BuildEnds build)) old new status
+JobEnds (Check check) old new status = Reports (CheckEnds check.sizes.now check.cert.now) old new status
+JobEnds (Dis dis) old new status = Reports (DisEnds dis) old new status
+JobEnds (Disk job) old new status = ReportsLine (DiskJobEnds job) old new status
+JobEnds (Run run) old new status = RunEnds run old new status
 
 -- A word is not UTF-8.
 abbrev pub RefusesWord : ℕ → Stream → Stream → Stream → Stream → ℕ → Type 0

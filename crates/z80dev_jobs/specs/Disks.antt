@@ -8,10 +8,13 @@ use Rattle.cpm_directory.specs.declared.attribute.Attribute.{Attribute}
 use Rattle.cpm_image.specs.Image.{blank_image, byte_count}
 use Rattle.cpm_image.specs.declared.kind.DiskKind.{DiskKind}
 use Rattle.cpm_image.specs.declared.kind.DiskKind.TheVariants.{EightInch, Megabyte}
-use Rattle.z80dev_commands.specs.declared.Attribute as word
-use Rattle.z80dev_commands.specs.declared.Attribute.TheVariants as words
-use Rattle.z80dev_commands.specs.declared.Manner.{Manner}
-use Rattle.z80dev_commands.specs.declared.Target.{Target}
+use Rattle.z80dev_commands.specs.declared.job.Attribute as word
+use Rattle.z80dev_commands.specs.declared.job.Attribute.TheVariants as words
+use Rattle.z80dev_commands.specs.declared.job.Manner.{Manner}
+use Rattle.z80dev_commands.specs.declared.job.DiskJob.{DiskJob}
+use Rattle.z80dev_commands.specs.declared.job.DiskJob.TheVariants as on
+use Rattle.z80dev_commands.specs.declared.job.Get.{Get}
+use Rattle.z80dev_commands.specs.declared.job.Target.{Target}
 use Rattle.z80dev_disk.specs.Changes.{IsErasedImage, IsMarkedImage, IsRenamedImage}
 use Rattle.z80dev_disk.specs.Check.{IsCheck}
 use Rattle.z80dev_disk.specs.Dir.{IsDir}
@@ -221,8 +224,9 @@ abbrev pub GetsNamed : Option (List ℕ) → List ℕ → ℕ → Bool → List 
 GetsNamed (Some name) image user text word path x wanted e = ReadsImage image (λ bytes. CarriesOut path (MemoryAside (IsGet bytes user name text)) x e) x wanted e
 GetsNamed None image user text word path x wanted e = Named (pattern_of word) (λ pattern. GetsInto image user text pattern path x wanted e) x e
 
-abbrev pub GetEnds : List ℕ → ℕ → Bool → List ℕ → List ℕ → Effect → Option (List ℕ) → End → Type 0
-GetEnds image user text word path x line e = Warns (λ wanted e. GetsNamed (file_name_of word) image user text word path x wanted e) line e
+abbrev pub GetEnds : Get → Effect → Option (List ℕ) → End → Type 0
+GetEnds get x line e =
+    Warns (λ wanted e. GetsNamed (file_name_of get.name.now) get.image.now get.user get.text get.name.now get.file.now x wanted e) line e
 
 abbrev pub kind_of : Bool → DiskKind
 kind_of true = Megabyte
@@ -257,3 +261,16 @@ Locking path wanted Does x e =
 abbrev pub BlankEnds : Bool → Bool → Bool → List ℕ → Effect → Option (List ℕ) → End → Type 0
 BlankEnds mega keep lock image x line e = Warns (λ wanted e. Locking image lock (λ is_held y. (wanted ≡ warnings image 0 (lock && not is_held))
     × BlankIsMade image keep (concat (blank_image (kind_of mega))) y e) x e) line e
+
+-- what each job on a disk does
+abbrev pub DiskJobEnds : DiskJob → Effect → Option (List ℕ) → End → Type 0
+DiskJobEnds (on.Dir dir) x line e = DirEnds dir.image.now dir.user dir.long dir.name x line e
+DiskJobEnds (on.Put put) x line e = PutEnds put.target put.manner put.file.now put.name.now x line e
+DiskJobEnds (on.PutAll put) x line e = PutAllEnds put.target put.manner (map (λ path. path.now) put.files.items) x line e
+DiskJobEnds (on.Get get) x line e = GetEnds get x line e
+DiskJobEnds (on.GetAll get) x line e = GetAllEnds get.image.now get.user get.text get.folder.now x line e
+DiskJobEnds (on.Erase erase) x line e = EraseEnds erase.target (map (λ word. word.now) erase.names.items) x line e
+DiskJobEnds (on.Rename rename) x line e = RenameEnds rename.target rename.old.now rename.new.now x line e
+DiskJobEnds (on.Protect protect) x line e = ProtectEnds protect.target protect.attribute protect.on (map (λ word. word.now) protect.names.items) x line e
+DiskJobEnds (on.Check image) x line e = CheckDiskEnds image.now x line e
+DiskJobEnds (on.Blank blank) x line e = BlankEnds blank.mega blank.keep blank.lock blank.image.now x line e

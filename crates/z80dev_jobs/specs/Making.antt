@@ -10,14 +10,18 @@ use Rattle.disassembler.specs.declared.fault.DisassemblyFault.TheVariants as fau
 use Rattle.streams.specs.Stream.{Stream}
 use Rattle.streams.specs.Writing.{PutsAll, PutsFront}
 use Rattle.z80dev.specs.Verdict.{VerdictEnds}
-use Rattle.z80dev_commands.specs.declared.Shared.{Shared}
+use Rattle.z80dev_commands.specs.declared.job.Asm.{Asm}
+use Rattle.z80dev_commands.specs.declared.job.Build.{Build}
+use Rattle.z80dev_commands.specs.declared.job.Dis.{Dis}
+use Rattle.z80dev_commands.specs.declared.job.Link.{Link}
+use Rattle.z80dev_commands.specs.declared.job.Shared.{Shared}
 use Rattle.z80dev_finish.specs.Answers.{Answer, MemoryAside}
 use Rattle.z80dev_finish.specs.Files.{Folder}
 use Rattle.z80dev_finish.specs.Finishing.{AllWritten, IsBrokenOff, IsUnwritten}
 use Rattle.z80dev_finish.specs.declared.answer.Kind.TheVariants as kind
 use Rattle.z80dev_finish.specs.declared.end.End.{End}
 use Rattle.z80dev_finish.specs.declared.end.End.TheVariants as end
-use Rattle.z80dev_jobs.specs.Outputs.{base_of, clash, program_kinds}
+use Rattle.z80dev_jobs.specs.Outputs.{base_of, program_kinds, why_not_written}
 use Rattle.z80dev_jobs.specs.Reading.{IsNotRead, IsOneNotRead, IsRead}
 use Rattle.z80dev_make.specs.Asm.{IsAsm}
 use Rattle.z80dev_make.specs.Build.{IsMade}
@@ -101,24 +105,28 @@ abbrev pub IsFront : Shared → List (List ℕ) → Front → Type 0
 IsFront shared texts front = (map (λ word. word.now) front.defines.now ≡ defines_of shared) × AreFiles (shared_paths shared) texts front.files.now
 
 -- the object of a source that was read, with definitions and shared files, which were read too, before its first line
-abbrev pub IsAsmOf : Shared → List (List ℕ) → List ℕ → List ℕ → Bool → Answer → Type 0
-IsAsmOf shared fronts path text grow a =
-    (front : Front) × (file : SourceFile) × IsFront shared fronts front × (file.path.now ≡ path) × (file.text.now ≡ text) × IsAsm front file grow a
+abbrev pub IsAsmOf : Asm → List (List ℕ) → List ℕ → Answer → Type 0
+IsAsmOf asm fronts text a =
+    (front : Front) × (file : SourceFile) × IsFront asm.shared fronts front × (file.path.now ≡ asm.source.now) × (file.text.now ≡ text) × IsAsm front file asm.grow a
 
 -- `asm`: the shared files and then the source are read, and its object is written.
-abbrev pub AsmEnds : List ℕ → Bool → Shared → List ℕ → Effect → End → Type 0
-AsmEnds out grow shared path x e = UnlessRefused (clash out (kind.Object ∷ []) (shared_paths shared ++ path ∷ []))
-    (WithAll (shared_paths shared) (λ fronts. With path (λ text. CarriesOut out (MemoryAside (IsAsmOf shared fronts path text grow)) x e) x e) x e) x e
+abbrev pub AsmEnds : Asm → Effect → End → Type 0
+AsmEnds asm x e = UnlessRefused (why_not_written asm.out.now (kind.Object ∷ []) (shared_paths asm.shared ++ asm.source.now ∷ []))
+    (WithAll (shared_paths asm.shared) (λ fronts. With asm.source.now (λ text. CarriesOut asm.out.now (MemoryAside (IsAsmOf asm fronts text)) x e) x e) x e) x e
 
 -- `link`: the objects are read, and their program is written.
-abbrev pub LinkEnds : List ℕ → List (List ℕ) → Effect → End → Type 0
-LinkEnds out paths x e = UnlessRefused (clash out (program_kinds false) paths) (WithAll paths (λ objects. CarriesOut out (MemoryAside (IsLink objects)) x e) x e) x e
+abbrev pub object_paths : Link → List (List ℕ)
+object_paths link = map (λ path. path.now) link.objects.items
+
+abbrev pub LinkEnds : Link → Effect → End → Type 0
+LinkEnds link x e = UnlessRefused (why_not_written link.out.now (program_kinds false) (object_paths link))
+    (WithAll (object_paths link) (λ objects. CarriesOut link.out.now (MemoryAside (IsLink objects)) x e) x e) x e
 
 -- how many jumps are short and long, where this is wanted and there is a program
-abbrev pub told : Bool → Option Jumps → Option (List ℕ)
-told false jumps = None
-told true None = None
-told true (Some j) = Some (jumps_text j ++ 10 ∷ [])
+abbrev pub jumps_line : Bool → Option Jumps → Option (List ℕ)
+jumps_line false jumps = None
+jumps_line true None = None
+jumps_line true (Some j) = Some (jumps_text j ++ 10 ∷ [])
 
 -- The line goes with the end at which all is done.
 abbrev pub LineAt : End → Option (List ℕ) → Option (List ℕ) → Type 0
@@ -127,17 +135,23 @@ LineAt other line wanted = line ≡ None
 
 -- The program of sources that were read, with definitions and shared files, which were read too, before each of them, is written, and its jumps
 -- are counted.
-abbrev pub IsBuiltOf : List ℕ → Bool → Bool → Bool → Shared → List (List ℕ) → List (List ℕ) → List (List ℕ) → Effect → Option (List ℕ) → End → Type 0
-IsBuiltOf base grow list verbose shared fronts paths texts x line e = (jumps : Option Jumps) × LineAt e line (told verbose jumps)
-    × CarriesOut base (λ a. (front : Front) × (files : List SourceFile) × IsFront shared fronts front × AreFiles paths texts files × IsMade front files grow list a jumps) x e
+abbrev pub source_paths : Build → List (List ℕ)
+source_paths build = map (λ path. path.now) build.sources.items
+
+abbrev pub IsBuiltOf : Build → List (List ℕ) → List (List ℕ) → Option Jumps → Answer → Type 0
+IsBuiltOf build fronts texts jumps a = (front : Front) × (files : List SourceFile) × IsFront build.shared fronts front × AreFiles (source_paths build) texts files
+    × IsMade front files build.grow build.list a jumps
+
+abbrev pub WritesBuilt : List ℕ → Build → List (List ℕ) → List (List ℕ) → Effect → Option (List ℕ) → End → Type 0
+WritesBuilt base build fronts texts x line e = (jumps : Option Jumps) × LineAt e line (jumps_line build.verbose jumps) × CarriesOut base (IsBuiltOf build fronts texts jumps) x e
 
 -- `build`: the shared files and then the sources are read, and their program is written.
-abbrev pub BuildsWith : List ℕ → Bool → Bool → Bool → Shared → List (List ℕ) → Effect → Option (List ℕ) → End → Type 0
-BuildsWith base grow list verbose shared paths x line e = UnlessRefused (clash base (program_kinds list) (shared_paths shared ++ paths))
-    (WithAll (shared_paths shared) (λ fronts. WithAll paths (λ texts. IsBuiltOf base grow list verbose shared fronts paths texts x line e) x e) x e) x e
+abbrev pub BuildsWith : List ℕ → Build → Effect → Option (List ℕ) → End → Type 0
+BuildsWith base build x line e = UnlessRefused (why_not_written base (program_kinds build.list) (shared_paths build.shared ++ source_paths build))
+    (WithAll (shared_paths build.shared) (λ fronts. WithAll (source_paths build) (λ texts. WritesBuilt base build fronts texts x line e) x e) x e) x e
 
-abbrev pub BuildEnds : Option (Bor (List ℕ)) → Bool → Bool → Bool → Shared → List (List ℕ) → Effect → Option (List ℕ) → End → Type 0
-BuildEnds out grow list verbose shared paths x line e = BuildsWith (base_of out paths) grow list verbose shared paths x line e
+abbrev pub BuildEnds : Build → Effect → Option (List ℕ) → End → Type 0
+BuildEnds build x line e = BuildsWith (base_of build.out (source_paths build)) build x line e
 
 -- `check`: the sizes and the certificate are read, and the checker's verdict is printed. No file is written.
 abbrev pub CheckEnds : List ℕ → List ℕ → Effect → End → Type 0
@@ -159,5 +173,6 @@ WithIfGiven None Does x e = Does None
 WithIfGiven (Some path) Does x e = With path.now (λ bytes. Does (Some bytes)) x e
 
 -- `dis`: the program and its labels are read, and a source that builds to the program is printed. No file is written.
-abbrev pub DisEnds : Option (Bor (List ℕ)) → List (List ℕ) → List ℕ → Effect → End → Type 0
-DisEnds labels entries path x e = With path (λ program. WithIfGiven labels (λ names. (x.new ≡ x.old) × PrintsSource program names entries x e) x e) x e
+abbrev pub DisEnds : Dis → Effect → End → Type 0
+DisEnds dis x e = With dis.program.now (λ program. WithIfGiven dis.labels
+    (λ names. (x.new ≡ x.old) × PrintsSource program names (map (λ word. word.now) dis.entries.items) x e) x e) x e

@@ -1,7 +1,8 @@
 -- Which files a command writes, and why it may not write them.
-use Rattle.std.specs.Prelude.{ℕ, ◌==◌, Bool, true, false, List, [], ◌∷◌, ◌++◌, Option, None, Some, codes, drop, find, if◌then◌else◌, length, map, option_map, take}
+use Rattle.std.specs.Prelude.{ℕ, ◌-◌, ◌==◌, ◌||◌, Bool, true, false, List, [], ◌∷◌, ◌++◌, Option, None, Some, codes, drop, find, if◌then◌else◌, length, map, option_map, slice_get, take}
 use Rattle.std.specs.Borrow.{Bor}
 use Rattle.std.specs.List.{list_any}
+use Rattle.std.specs.Option.{option_map_or}
 use Rattle.std.specs.Path.{dot, rfind_below, slash}
 use Rattle.std.specs.Str.{bytes_eq}
 use Rattle.z80dev_finish.specs.Finishing.{path_of}
@@ -17,19 +18,24 @@ abbrev pub overwritten : List ℕ → List Kind → List (List ℕ) → Option (
 overwritten base kinds read = find (λ path. list_any (bytes_eq path) read) (map (path_of base) kinds)
 
 -- Why a command may not write files of these kinds with this base: the base is empty, or the path of one of them is read.
-abbrev pub clash : List ℕ → List Kind → List (List ℕ) → Option (List ℕ)
-clash [] kinds read = Some (codes "NoBase")
-clash (byte ∷ more) kinds read = option_map over_text (overwritten (byte ∷ more) kinds read)
+abbrev pub why_not_written : List ℕ → List Kind → List (List ℕ) → Option (List ℕ)
+why_not_written [] kinds read = Some (codes "NoBase")
+why_not_written (byte ∷ more) kinds read = option_map over_text (overwritten (byte ∷ more) kinds read)
 
 -- the files that make a program, and with `list` its listing and its symbols
 abbrev pub program_kinds : Bool → List Kind
 program_kinds false = kind.Sizes ∷ kind.Certificate ∷ kind.Com ∷ []
 program_kinds true = kind.Sizes ∷ kind.Certificate ∷ kind.Com ∷ kind.Listing ∷ kind.Symbols ∷ []
 
--- A path without its ending: what comes before its last point, unless a slash comes after that.
+-- a path ends where the name of a file begins: it is empty, or its last byte is a slash
+abbrev pub ends_before_name : List ℕ → Bool
+ends_before_name path = option_map_or (λ byte. byte == slash) (slice_get path (length path - 1)) true
+
+-- A path without its ending: what comes before its last point. It has no ending if a slash comes after that point, or if the name of the file
+-- begins with it.
 abbrev pub before_last_point : List ℕ → Option ℕ → List ℕ
 before_last_point path None = path
-before_last_point path (Some point) = if list_any (λ byte. byte == slash) (drop point path) then path else take point path
+before_last_point path (Some point) = if list_any (λ byte. byte == slash) (drop point path) || ends_before_name (take point path) then path else take point path
 
 abbrev pub without_ending : List ℕ → List ℕ
 without_ending path = before_last_point path (rfind_below dot path (length path))

@@ -1,5 +1,5 @@
 -- How the command `run` ends.
-use Rattle.std.specs.Prelude.{◌≡◌, ◌≢◌, ◌⊎◌, ℕ, Bool, ◌&&◌, not, List, [], Option, None, Some, Result, Ok, Err, length, option_map, string_bytes}
+use Rattle.std.specs.Prelude.{◌≡◌, ◌≢◌, ◌⊎◌, ℕ, Bool, ◌&&◌, not, List, [], Option, None, Some, Result, Ok, Err, length, map, option_map, string_bytes, unwrap_or}
 use Rattle.std.specs.Borrow.{Bor}
 use Rattle.cpm_fcb.specs.declared.stop.Stop.TheVariants as stop
 use Rattle.cpm_run.specs.declared.ending.Why.{Why}
@@ -10,6 +10,7 @@ use Rattle.streams.specs.declared.writing.WriteFailed.{WriteFailed}
 use Rattle.z80dev_disk.specs.Disks.{IsMounted}
 use Rattle.z80dev_disk.specs.Refusals.{refusal_text}
 use Rattle.z80dev_disk.specs.declared.refusal.Refusal.{Refusal}
+use Rattle.z80dev_commands.specs.declared.job.Run.{Run}
 use Rattle.z80dev_finish.specs.End.{Tells, end_status}
 use Rattle.z80dev_finish.specs.Files.{Folder}
 use Rattle.z80dev_finish.specs.declared.end.End.{End}
@@ -83,9 +84,14 @@ Runs disk steps words inputs claimed old new status = (end : Why) × (turns pc :
 abbrev pub EndsBefore : End → World → World → ℕ → Type 0
 EndsBefore e old new status = (new.output ≡ old.output) × (status ≡ end_status e) × Tells e old.errors new.errors
 
+-- how many steps a run may take if the command names no number
+abbrev pub default_steps : ℕ
+default_steps = 100000000
+
 -- `run`: the image is claimed, the program and standard input are read, and the program is run.
-abbrev pub RunEnds : Option (Bor (List ℕ)) → Bool → ℕ → List ℕ → List (List ℕ) → World → World → ℕ → Type 0
-RunEnds disk lock steps path words old new status =
-    ((e : End) × ReadsInputs disk lock path old.folder new.folder old.input new.input (Err e) × EndsBefore e old new status)
-    ⊎ ((inputs : Inputs) × (claimed : Folder) × ReadsInputs disk lock path old.folder claimed old.input new.input (Ok inputs)
-    × (((e : End) × IsNoDisk inputs.image.items e × (new.folder ≡ claimed) × EndsBefore e old new status) ⊎ Runs disk steps words inputs claimed old new status))
+abbrev pub RunEnds : Run → World → World → ℕ → Type 0
+RunEnds run old new status =
+    ((e : End) × ReadsInputs run.disk run.lock run.program.now old.folder new.folder old.input new.input (Err e) × EndsBefore e old new status)
+    ⊎ ((inputs : Inputs) × (claimed : Folder) × ReadsInputs run.disk run.lock run.program.now old.folder claimed old.input new.input (Ok inputs)
+    × (((e : End) × IsNoDisk inputs.image.items e × (new.folder ≡ claimed) × EndsBefore e old new status)
+    ⊎ Runs run.disk (unwrap_or run.steps default_steps) (map (λ word. word.now) run.words.items) inputs claimed old new status))

@@ -9,6 +9,7 @@ use disassembler::{DisassemblyFault, disassemble, fault_text};
 use std::alloc::Global;
 use streams::print;
 use z80dev::{End, Files, Sink};
+use z80dev_commands::Dis;
 
 /// The bytes of a file, if its path is given.
 fn read_if_given<'a, F: Files>(
@@ -43,17 +44,15 @@ fn source_of(
 /// Prints a source that builds to a program.
 pub(crate) fn dis_file<'a, F: Files, W: Sink>(
     alloc: Global,
-    labels: Option<&'a str>,
-    entries: &[&str],
-    program: &'a str,
+    dis: &Dis<'a>,
     files: &mut F,
     output: &mut W,
 ) -> Result<End<'a>, End<'a>>
-    ensures { DisEnds labels.entry (map (λ word. word.now) entries.now) program.now (effect_of (F.folder files.old) (F.folder files.new) (W.stream output.old) (W.stream output.new)) (ended result) }
+    ensures { DisEnds dis.now (effect_of (F.folder files.old) (F.folder files.new) (W.stream output.old) (W.stream output.new)) (ended result) }
 {
-    let bytes = read(alloc, program, files)?;
-    let labels = read_if_given(alloc, labels, files)?;
-    let source = source_of(alloc, &bytes, labels.as_deref(), entries)?;
+    let bytes = read(alloc, dis.program, files)?;
+    let labels = read_if_given(alloc, dis.labels, files)?;
+    let source = source_of(alloc, &bytes, labels.as_deref(), &dis.entries)?;
     match print(output, &source) {
         Ok(()) => Ok(End::Done),
         Err(_) => Ok(End::Stream),

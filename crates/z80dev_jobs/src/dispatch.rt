@@ -7,18 +7,15 @@ ghost use Rattle.z80dev_finish.specs.End.{Tells, end_status};
 ghost use Rattle.z80dev_make.specs.Defines.{first_bad};
 ghost use Rattle.z80dev_jobs.specs.Command.{CommandEnds, Defining, JobEnds, Reports, ReportsLine, TellsWith};
 ghost use Rattle.z80dev_jobs.specs.Making.{AsmEnds, BuildEnds, defines_of, ended};
-ghost use Rattle.z80dev_jobs.specs.Private.Steps.{HasUser, JudgesDefines, RefusesError, RefusesFault, end_in, line_in};
+ghost use Rattle.z80dev_jobs.specs.Private.Steps.{HasJobUser, JudgesDefines, RefusesError, RefusesFault, end_in, line_in};
 ghost use Rattle.z80dev_jobs.specs.Running.{RunEnds};
 ghost use Rattle.z80dev_jobs.specs.Reading.{Reader, reader_of};
 ghost use Rattle.z80dev_jobs.specs.World.{world_of};
 
 use crate::disassembling::dis_file;
-use crate::disks::{
-    blank_image, check_image, dir_image, erase_files, get_every, get_file, protect_files, put_file,
-    put_files, rename_file,
-};
+use crate::disks::do_on_disk;
 use crate::host::{Ended, Host};
-use crate::making::{Wanted, asm_file, build_files, check_files, link_files};
+use crate::making::{asm_file, build_files, check_files, link_files};
 use crate::running::{STEPS, end_run, inputs_of, ready_of};
 use crate::tips::tip;
 use crate::words::{WordsFault, texts_of};
@@ -27,7 +24,7 @@ use clap::error::ErrorKind;
 use std::alloc::Global;
 use streams::{print, put, tell};
 use z80dev::{DONE, End, Files, Input, Job, Sink, USAGE, bad_define, commands, pipe, report};
-use z80dev_commands::Shared;
+use z80dev_commands::{Asm, Build, Run};
 use z80dev_run::Ran;
 
 /// Reports an end, however a function passed it on, and gives the exit status.
@@ -120,66 +117,55 @@ fn refuse_define<E: Sink>(alloc: Global, defines: &[&str], errors: &mut E) -> Op
 /// Assembles a source, unless a definition is refused, and gives the exit status.
 fn asm_job<F: Files, W: Sink, E: Sink>(
     alloc: Global,
-    out: &str,
-    grow: bool,
-    shared: &Shared<'_>,
-    source: &str,
+    job: &Asm<'_>,
     files: &mut F,
     output: &mut W,
     errors: &mut E,
 ) -> u8
-    ensures { (input : Reader) → Defining (defines_of shared.now) (Reports (AsmEnds out.now grow shared.now source.now)) (world_of (F.folder files.old) input (W.stream output.old) (E.stream errors.old)) (world_of (F.folder files.new) input (W.stream output.new) (E.stream errors.new)) result }
+    ensures { (input : Reader) → Defining (defines_of job.now.shared) (Reports (AsmEnds job.now)) (world_of (F.folder files.old) input (W.stream output.old) (E.stream errors.old)) (world_of (F.folder files.new) input (W.stream output.new) (E.stream errors.new)) result }
 {
-    if let Some(status) = refuse_define(alloc, &shared.defines, errors) {
+    if let Some(status) = refuse_define(alloc, &job.shared.defines, errors) {
         return status;
     }
-    let end = asm_file(alloc, out, grow, shared, source, files, output);
-    report_any(end, errors)
+    report_any(asm_file(alloc, job, files, output), errors)
 }
 
 /// Builds a program, unless a definition is refused, and gives the exit status.
 fn build_job<F: Files, W: Sink, E: Sink>(
     alloc: Global,
-    wanted: Wanted<'_>,
-    shared: &Shared<'_>,
-    sources: &[&str],
+    job: &Build<'_>,
     files: &mut F,
     output: &mut W,
     errors: &mut E,
 ) -> u8
-    ensures { (input : Reader) → Defining (defines_of shared.now) (ReportsLine (BuildEnds wanted.entry.out wanted.entry.grow wanted.entry.list wanted.entry.verbose shared.now (map (λ path. path.now) sources.now))) (world_of (F.folder files.old) input (W.stream output.old) (E.stream errors.old)) (world_of (F.folder files.new) input (W.stream output.new) (E.stream errors.new)) result }
+    ensures { (input : Reader) → Defining (defines_of job.now.shared) (ReportsLine (BuildEnds job.now)) (world_of (F.folder files.old) input (W.stream output.old) (E.stream errors.old)) (world_of (F.folder files.new) input (W.stream output.new) (E.stream errors.new)) result }
 {
-    if let Some(status) = refuse_define(alloc, &shared.defines, errors) {
+    if let Some(status) = refuse_define(alloc, &job.shared.defines, errors) {
         return status;
     }
-    let ended = build_files(alloc, wanted, shared, sources, files, output);
-    report_line(ended, errors)
+    report_line(build_files(alloc, job, files, output), errors)
 }
 
 /// Runs a program, and gives the exit status with what the command worked on.
-fn run_job<'a, F: Files, I: Input, W: Sink + Drop, E: Sink>(
+fn run_job<F: Files, I: Input, W: Sink + Drop, E: Sink>(
     alloc: Global,
-    disk: Option<&'a str>,
-    lock: bool,
-    steps: u64,
-    path: &'a str,
-    words: &[&'a str],
+    job: &Run<'_>,
     mut host: Host<F, I, W, E>,
 ) -> Ended<F, I, W, E>
     requires sound { I.failed host.input ≡ false }
     requires unread { I.reads host.input ≡ 0 }
     requires calm { I.interruptions host.input ≡ 0 }
-    ensures ends { RunEnds disk.entry lock steps path.now (map (λ word. word.now) words.now) (world_of (F.folder host.files) (reader_of (I.remaining host.input) (I.failed host.input) (I.reads host.input) (I.interruptions host.input)) (W.stream host.output) (E.stream host.errors)) (world_of (F.folder result.host.files) (reader_of (I.remaining result.host.input) (I.failed result.host.input) (I.reads result.host.input) (I.interruptions result.host.input)) (W.stream result.host.output) (E.stream result.host.errors)) result.status }
+    ensures ends { RunEnds job.now (world_of (F.folder host.files) (reader_of (I.remaining host.input) (I.failed host.input) (I.reads host.input) (I.interruptions host.input)) (W.stream host.output) (E.stream host.errors)) (world_of (F.folder result.host.files) (reader_of (I.remaining result.host.input) (I.failed result.host.input) (I.reads result.host.input) (I.interruptions result.host.input)) (W.stream result.host.output) (E.stream result.host.errors)) result.status }
     ensures reads { I.reads result.host.input ≤ MOST_READS }
 {
-    let inputs = match inputs_of(alloc, disk, lock, path, &mut host.files, &mut host.input) {
+    let inputs = match inputs_of(alloc, job, &mut host.files, &mut host.input) {
         Ok(inputs) => inputs,
         Err(end) => {
             let status = report(&end, &mut host.errors);
             return Ended { status, host };
         }
     };
-    let ready = match ready_of(alloc, &inputs, words) {
+    let ready = match ready_of(alloc, &inputs, &job.words) {
         Ok(ready) => ready,
         Err(end) => {
             let status = report(&end, &mut host.errors);
@@ -192,8 +178,8 @@ fn run_job<'a, F: Files, I: Input, W: Sink + Drop, E: Sink>(
         output,
         mut errors,
     } = host;
-    let mut ran = ready.run(alloc, output, steps);
-    let status = end_run(alloc, disk, &inputs, &mut ran, &mut files, &mut errors);
+    let mut ran = ready.run(alloc, output, job.steps.unwrap_or(STEPS));
+    let status = end_run(alloc, job.disk, &inputs, &mut ran, &mut files, &mut errors);
     let Ran { output, .. } = ran;
     let host = Host {
         files,
@@ -213,183 +199,49 @@ fn work<F: Files, I: Input, W: Sink + Drop, E: Sink>(
     requires sound { I.failed host.input ≡ false }
     requires unread { I.reads host.input ≡ 0 }
     requires calm { I.interruptions host.input ≡ 0 }
-    requires user { HasUser job }
+    requires user { HasJobUser job }
     ensures ends { JobEnds job.entry (world_of (F.folder host.files) (reader_of (I.remaining host.input) (I.failed host.input) (I.reads host.input) (I.interruptions host.input)) (W.stream host.output) (E.stream host.errors)) (world_of (F.folder result.host.files) (reader_of (I.remaining result.host.input) (I.failed result.host.input) (I.reads result.host.input) (I.interruptions result.host.input)) (W.stream result.host.output) (E.stream result.host.errors)) result.status }
     ensures reads { I.reads result.host.input ≤ MOST_READS }
 {
     let status = match job {
         Job::Pipe => pipe(alloc, &mut host.input, &mut host.output, &mut host.errors),
-        Job::Asm {
-            out,
-            grow,
-            shared,
-            source,
-        } => asm_job(
+        Job::Asm(asm) => asm_job(
             alloc,
-            out,
-            grow,
-            &shared,
-            source,
+            &asm,
             &mut host.files,
             &mut host.output,
             &mut host.errors,
         ),
-        Job::Link { out, objects } => {
-            let end = link_files(alloc, out, &objects, &mut host.files, &mut host.output);
+        Job::Link(link) => {
+            let end = link_files(alloc, &link, &mut host.files, &mut host.output);
             report_any(end, &mut host.errors)
         }
-        Job::Build {
-            out,
-            grow,
-            list,
-            verbose,
-            shared,
-            sources,
-        } => {
-            let wanted = Wanted {
-                out,
-                grow,
-                list,
-                verbose,
-            };
-            build_job(
+        Job::Build(build) => build_job(
+            alloc,
+            &build,
+            &mut host.files,
+            &mut host.output,
+            &mut host.errors,
+        ),
+        Job::Check(check) => {
+            let end = check_files(
                 alloc,
-                wanted,
-                &shared,
-                &sources,
-                &mut host.files,
-                &mut host.output,
-                &mut host.errors,
-            )
-        }
-        Job::Check { sizes, cert } => {
-            let end = check_files(alloc, sizes, cert, &mut host.files, &mut host.output);
-            report_any(end, &mut host.errors)
-        }
-        Job::Dis {
-            labels,
-            entries,
-            program,
-        } => {
-            let end = dis_file(
-                alloc,
-                labels,
-                &entries,
-                program,
+                check.sizes,
+                check.cert,
                 &mut host.files,
                 &mut host.output,
             );
             report_any(end, &mut host.errors)
         }
-        Job::Dir {
-            image,
-            user,
-            long,
-            name,
-        } => {
-            let ended = dir_image(
-                alloc,
-                image,
-                user,
-                long,
-                name,
-                &mut host.files,
-                &mut host.output,
-            );
+        Job::Dis(dis) => {
+            let end = dis_file(alloc, &dis, &mut host.files, &mut host.output);
+            report_any(end, &mut host.errors)
+        }
+        Job::Disk(job) => {
+            let ended = do_on_disk(alloc, job, &mut host.files, &mut host.output);
             report_line(ended, &mut host.errors)
         }
-        Job::Put {
-            target,
-            manner,
-            file,
-            name,
-        } => {
-            let ended = put_file(alloc, target, manner, file, name, &mut host.files);
-            report_line(ended, &mut host.errors)
-        }
-        Job::PutAll {
-            target,
-            manner,
-            files,
-        } => {
-            let ended = put_files(alloc, target, manner, &files, &mut host.files);
-            report_line(ended, &mut host.errors)
-        }
-        Job::Get {
-            image,
-            user,
-            text,
-            name,
-            file,
-        } => {
-            let ended = get_file(
-                alloc,
-                image,
-                user,
-                text,
-                name,
-                file,
-                &mut host.files,
-                &mut host.output,
-            );
-            report_line(ended, &mut host.errors)
-        }
-        Job::GetAll {
-            image,
-            user,
-            text,
-            folder,
-        } => {
-            let ended = get_every(alloc, image, user, text, folder, &mut host.files);
-            report_line(ended, &mut host.errors)
-        }
-        Job::Erase { target, names } => {
-            let ended = erase_files(alloc, target, &names, &mut host.files);
-            report_line(ended, &mut host.errors)
-        }
-        Job::Rename { target, old, new } => {
-            let ended = rename_file(alloc, target, old, new, &mut host.files);
-            report_line(ended, &mut host.errors)
-        }
-        Job::Protect {
-            target,
-            attribute,
-            on,
-            names,
-        } => {
-            let ended = protect_files(alloc, target, attribute, on, &names, &mut host.files);
-            report_line(ended, &mut host.errors)
-        }
-        Job::CheckDisk { image } => {
-            let ended = check_image(alloc, image, &mut host.files, &mut host.output);
-            report_line(ended, &mut host.errors)
-        }
-        Job::Blank {
-            mega,
-            keep,
-            lock,
-            image,
-        } => {
-            let ended = blank_image(alloc, mega, keep, lock, image, &mut host.files);
-            report_line(ended, &mut host.errors)
-        }
-        Job::Run {
-            disk,
-            lock,
-            steps,
-            program,
-            words,
-        } => {
-            return run_job(
-                alloc,
-                disk,
-                lock,
-                steps.unwrap_or(STEPS),
-                program,
-                &words,
-                host,
-            );
-        }
+        Job::Run(run) => return run_job(alloc, &run, host),
     };
     Ended { status, host }
 }

@@ -4,7 +4,7 @@ ghost use Rattle.std.specs.Prelude.{◌≡◌, ◌++◌, ◌==◌, IfOk, map, op
 ghost use Rattle.std.specs.List.{list_any};
 ghost use Rattle.std.specs.Path.{slash};
 ghost use Rattle.std.specs.Str.{bytes_eq};
-ghost use Rattle.z80dev_jobs.specs.Outputs.{base_of, clash, overwritten, program_kinds, without_ending};
+ghost use Rattle.z80dev_jobs.specs.Outputs.{base_of, ends_before_name, overwritten, program_kinds, why_not_written, without_ending};
 ghost use Rattle.z80dev_jobs.specs.Private.Steps.{IsClear};
 
 use std::alloc::{AllocError, Global};
@@ -17,13 +17,24 @@ fn has_slash(path: &str) -> bool
     path.as_bytes().iter().any(|byte| *byte == b'/')
 }
 
-/// A path without its ending.
+/// Whether a path ends where the name of a file begins.
+fn ends_before_name(path: &str) -> bool
+    ensures { result ≡ ends_before_name path.now }
+{
+    match path.as_bytes().last() {
+        Some(byte) => *byte == b'/',
+        None => true,
+    }
+}
+
+/// A path without its ending. A point that begins the name of a file, as in `.game`, begins no ending.
 fn without_ending(path: &str) -> &str
     ensures { result.now ≡ without_ending path.now }
 {
     match path.rfind('.') {
-        Some(point) if !has_slash(&path[point..]) => &path[..point],
-        _ => path,
+        Some(point) if has_slash(&path[point..]) || ends_before_name(&path[..point]) => path,
+        Some(point) => &path[..point],
+        None => path,
     }
 }
 
@@ -90,14 +101,14 @@ fn overwritten(
 }
 
 /// Refuses a command that has no path for its files, or would write over one that it reads.
-pub(crate) fn refuse_clash(
+pub(crate) fn refuse_overwriting(
     alloc: Global,
     base: &str,
     kinds: &[Kind],
     shared: &[&str],
     sources: &[&str],
 ) -> Result<(), End<'static>>
-    ensures { IsClear (clash base.now kinds.now (map (λ path. path.now) shared.now ++ map (λ path. path.now) sources.now)) result }
+    ensures { IsClear (why_not_written base.now kinds.now (map (λ path. path.now) shared.now ++ map (λ path. path.now) sources.now)) result }
 {
     if base.is_empty() {
         return Err(End::Refused(String::from_str(alloc, "NoBase")?));

@@ -13,10 +13,11 @@ use crate::reading::{read, read_input};
 use std::alloc::Global;
 use streams::{WriteFailed, flush, put};
 use z80dev::{DONE, End, Files, Input, Sink, report};
+use z80dev_commands::Run;
 use z80dev_disk::Refusal;
 use z80dev_run::{Ran, Ready, Stop, Why, conclude, ready};
 
-/// The turns of a run whose command names no number.
+/// The most steps of a run whose command names no number.
 pub(crate) const STEPS: u64 = 100_000_000;
 
 /// What `run` reads: the image of the disk, nothing if no disk is named, and the lines that warn of it; the program; and standard input.
@@ -49,20 +50,18 @@ fn claim_disk<'a, F: Files>(
 /// Claims the image and reads what else `run` needs, in this order.
 pub(crate) fn inputs_of<'a, F: Files, I: Input>(
     alloc: Global,
-    disk: Option<&'a str>,
-    lock: bool,
-    path: &'a str,
+    job: &Run<'a>,
     files: &mut F,
     input: &mut I,
 ) -> Result<Inputs, End<'a>>
     requires sound { I.failed input.old ≡ false }
     requires unread { I.reads input.old ≡ 0 }
     requires calm { I.interruptions input.old ≡ 0 }
-    ensures inputs { ReadsInputs disk.entry lock path.now (F.folder files.old) (F.folder files.new) (reader_of (I.remaining input.old) (I.failed input.old) (I.reads input.old) (I.interruptions input.old)) (reader_of (I.remaining input.new) (I.failed input.new) (I.reads input.new) (I.interruptions input.new)) result }
+    ensures inputs { ReadsInputs job.now.disk job.now.lock job.now.program.now (F.folder files.old) (F.folder files.new) (reader_of (I.remaining input.old) (I.failed input.old) (I.reads input.old) (I.interruptions input.old)) (reader_of (I.remaining input.new) (I.failed input.new) (I.reads input.new) (I.interruptions input.new)) result }
     ensures reads { I.reads input.new ≤ MOST_READS }
 {
-    let Image { bytes, warnings } = claim_disk(alloc, disk, lock, files)?;
-    let program = read(alloc, path, files)?;
+    let Image { bytes, warnings } = claim_disk(alloc, job.disk, job.lock, files)?;
+    let program = read(alloc, job.program, files)?;
     let typed = read_input(alloc, input)?;
     Ok(Inputs {
         image: bytes,

@@ -101,6 +101,7 @@ pub(crate) fn with_own_lines(built: Built, front: Front<'_>) -> Built
         mut statements,
         mut last,
         grown,
+        modules,
     } = built;
     number_origins(&mut statements, lines);
     number_lines(&mut last, lines);
@@ -112,5 +113,6 @@ pub(crate) fn with_own_lines(built: Built, front: Front<'_>) -> Built
         statements,
         last,
         grown,
+        modules,
     }
 }

@@ -15,6 +15,7 @@ use Rattle.zlink.specs.declared.building.Built as built
 use Rattle.zlink.specs.declared.origins.Origin as origin
 use Rattle.zlink.specs.declared.source.Source.{Source}
 use Rattle.zlink.specs.Judged.{IsBestAfter, IsUnfit}
+use Rattle.zmo_module.specs.Modules.{module_of}
 use Rattle.zlink.specs.Linked.{IsOutput, Output, link_fault, symbol_of}
 use Rattle.zlink.specs.Reads.{Reads, shape}
 use Rattle.zlink.specs.Sources.{Assembly, AreAssembled, IsFirstFaulty, modules_of, program_of}
@@ -50,6 +51,7 @@ pub record IsBuiltFile (assemblies : List Assembly) (order : List ℕ) (b : buil
   pub each : length (lines_of_statements assemblies) ≡ length (program_of assemblies)
   pub statements : map origin_of b.statements.items ≡ origins_by (place (after order) (shape (program_of assemblies))) (lines_of_statements assemblies)
   pub last : b.last.items ≡ map (λ a. a.assembled.last) assemblies
+  pub modules : map module_of b.modules.items ≡ modules_of assemblies
 
 -- The sources can be assembled, their modules have no error together, their modules and their program have the same sizes and targets, and
 -- P holds of their assemblies.

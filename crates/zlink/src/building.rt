@@ -10,11 +10,11 @@ use crate::linking::{Linked, link};
 use crate::origins::{Origin, origins_of};
 use crate::source::Source;
 use crate::symbol::Symbol;
-use asm_module::Lines;
+use asm_module::{Lines, Module};
 use std::alloc::{AllocError, Global};
 
 /// What building sources gives.
-#[derive(Debug, Drop, PartialEq, Eq)]
+#[derive(Debug, Drop)]
 pub struct Built {
     /// The .COM file, which is loaded at 0100H.
     pub com: Vec<u8>,
@@ -30,6 +30,8 @@ pub struct Built {
     pub last: Vec<u32>,
     /// The numbers of the jumps that were written as `JR` and became `JP`, ascending.
     pub grown: Vec<u32>,
+    /// The modules of the sources.
+    pub modules: Vec<Module>,
 }
 
 /// Does nothing. Its contract says that each byte of a list is below 256, which the proof needs about the file.
@@ -63,14 +65,17 @@ fn build_sources(alloc: Global, sources: &[Source<'_>], grow: bool) -> Result<Bu
         grown,
     } = link(alloc, &modules)?;
     are_bytes(&com);
+    let statements = origins_of(alloc, &lines, &places)?;
+    let last = last_lines(alloc, &lines)?;
     Ok(Built {
         com,
         sizes,
         cert,
         symbols,
-        statements: origins_of(alloc, &lines, &places)?,
-        last: last_lines(alloc, &lines)?,
+        statements,
+        last,
         grown,
+        modules,
     })
 }
 

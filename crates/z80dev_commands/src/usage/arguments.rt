@@ -3,8 +3,8 @@
 ghost use Rattle.std.specs.Prelude.{◌≡◌, IfOk, false, codes};
 ghost use Rattle.clap.specs.Words.{app_of, rule_of};
 ghost use Rattle.clap.specs.declared.builder.command.Command.TheViews.{out-Command};
-ghost use Rattle.z80dev_commands.specs.Commands.{base_rule, define_rule, flag_rule, list_rule, name_rule, option_rule, out_rule, path_rule, paths_rule, steps_rule, user_rule, verbose_rule, with_file_rule, words_rule};
-ghost use Rattle.z80dev_commands.specs.Private.{with_target};
+ghost use Rattle.z80dev_commands.specs.Commands.{base_rule, define_rule, flag_rule, labels_rule, last_rule, list_rule, name_rule, option_rule, out_rule, path_rule, paths_rule, steps_rule, user_rule, verbose_rule, with_file_rule, words_rule};
+ghost use Rattle.z80dev_commands.specs.Private.{with_target, with_telling};
 
 use clap::builder::ValueParser;
 use clap::{Arg, ArgAction, Command, value_parser};
@@ -67,7 +67,7 @@ pub(super) fn base<'a>(alloc: Global) -> Arg<'a>
 {
     out(
         alloc,
-        "The path of the files to write, without their endings [default: that of the first SRC]",
+        "The path of the files to write, without their endings [default: the first SRC without its ending]",
     )
     .required(false)
 }
@@ -129,6 +129,76 @@ pub(super) fn steps<'a>(alloc: Global) -> Arg<'a>
         "The most steps (instructions, repetitions, system calls) [default: 100000000]",
     )
     .value_parser(value_parser!(u64))
+}
+
+/// `--last COUNT`.
+fn last<'a>(alloc: Global) -> Arg<'a>
+    ensures rule { rule_of result ≡ last_rule }
+    ensures local { result.global ≡ false }
+{
+    option(
+        alloc,
+        "last",
+        "COUNT",
+        "Prints the last COUNT steps if the run is stopped, at most 1000000",
+    )
+    .value_parser(ValueParser::unsigned(0, 1_000_000))
+}
+
+/// `--labels SYM`.
+pub(super) fn labels<'a>(alloc: Global) -> Arg<'a>
+    ensures rule { rule_of result ≡ labels_rule }
+    ensures local { result.global ≡ false }
+{
+    option(
+        alloc,
+        "labels",
+        "SYM",
+        "A file of labels, as `build --list` writes it",
+    )
+}
+
+/// Adds the options of what `run` tells about a run.
+pub(super) fn with_telling<'a>(
+    alloc: Global,
+    command: Command<'a>,
+) -> Result<Command<'a>, AllocError>
+    requires { (out-Command command).has_globals ≡ false }
+    ensures app { IfOk result (λ c. app_of c ≡ with_telling (app_of command.entry)) }
+    ensures local { IfOk result (λ c. (out-Command c).has_globals ≡ false) }
+{
+    command
+        .arg(labels(alloc))?
+        .arg(flag(
+            alloc,
+            "regs",
+            "Prints the registers and the stack at the end",
+        ))?
+        .arg(last(alloc))?
+        .arg(option(
+            alloc,
+            "trace",
+            "TRC",
+            "Writes a line to TRC for each of the first 1,000,000 steps",
+        ))?
+        .arg(option(
+            alloc,
+            "profile",
+            "PRF",
+            "Writes to PRF how often each instruction ran",
+        ))
+}
+
+/// `--no-warn`.
+pub(super) fn no_warn<'a>(alloc: Global) -> Arg<'a>
+    ensures rule { rule_of result ≡ flag_rule (codes "no-warn") }
+    ensures local { result.global ≡ false }
+{
+    flag(
+        alloc,
+        "no-warn",
+        "Does not warn of code that relies on the length of a jump",
+    )
 }
 
 /// `--user N`.

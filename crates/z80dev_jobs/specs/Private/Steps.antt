@@ -5,8 +5,10 @@ use Rattle.clap.specs.declared.error.kind.ErrorKind.{ErrorKind}
 use Rattle.streams.specs.Stream.{Stream}
 use Rattle.std.specs.Global.{Global}
 use Rattle.cpm_directory.specs.declared.entry.TheConstants.{USERS}
-use Rattle.z80dev_commands.specs.declared.Job.{Job}
-use Rattle.z80dev_commands.specs.declared.Job.TheVariants.{Erase, Get, GetAll, Protect, Put, PutAll, Rename}
+use Rattle.z80dev_commands.specs.declared.job.Job.{Job}
+use Rattle.z80dev_commands.specs.declared.job.DiskJob.{DiskJob}
+use Rattle.z80dev_commands.specs.declared.job.DiskJob.TheVariants as on
+use Rattle.z80dev_commands.specs.declared.job.Job.TheVariants.{Disk}
 use Rattle.z80dev_finish.specs.declared.end.End.{End}
 use Rattle.z80dev_finish.specs.declared.end.End.TheVariants as end
 use Rattle.disassembler.specs.Disassembly.{IsDisassembly}
@@ -14,10 +16,10 @@ use Rattle.disassembler.specs.Faults.{disassembly_fault_text}
 use Rattle.disassembler.specs.declared.fault.DisassemblyFault.{DisassemblyFault}
 use Rattle.disassembler.specs.declared.fault.DisassemblyFault.TheVariants as dis
 use Rattle.z80dev_finish.specs.Files.{Folder}
-use Rattle.z80dev_commands.specs.declared.Shared.{Shared}
+use Rattle.z80dev_commands.specs.declared.job.Build.{Build}
 use Rattle.z80dev_jobs.specs.Command.{LacksMemory, RefusesDefine, RefusesWord, RefusesWords}
 use Rattle.z80dev_jobs.specs.Disks.{Warns}
-use Rattle.z80dev_jobs.specs.Making.{Effect, IsBuiltOf, NothingDone}
+use Rattle.z80dev_jobs.specs.Making.{Effect, NothingDone, WritesBuilt}
 use Rattle.z80dev_jobs.specs.Private.Names.{Says}
 use Rattle.z80dev_jobs.specs.Reading.{IsNotRead, IsRead}
 use Rattle.z80dev_jobs.specs.Running.{IsNoDisk}
@@ -56,8 +58,8 @@ MakesReady inputs words (Ok made) = IsReadyToRun inputs.program.items words inpu
 MakesReady inputs words (Err e) = IsNoDisk inputs.image.items e
 
 -- the program of sources that were read is written, or memory runs out before
-abbrev pub BuildsTexts : List ℕ → Bool → Bool → Bool → Shared → List (List ℕ) → List (List ℕ) → List (List ℕ) → Effect → Option (List ℕ) → End → Type 0
-BuildsTexts base grow list verbose shared fronts paths texts x line e = IsBuiltOf base grow list verbose shared fronts paths texts x line e ⊎ ((e ≡ end.NoMemory) × NothingDone x)
+abbrev pub BuildsTexts : List ℕ → Build → List (List ℕ) → List (List ℕ) → Effect → Option (List ℕ) → End → Type 0
+BuildsTexts base build fronts texts x line e = WritesBuilt base build fronts texts x line e ⊎ ((e ≡ end.NoMemory) × NothingDone x)
 
 -- a command may write its files, or this is why it may not
 abbrev pub IsClear : Option (List ℕ) → Result Unit End → Type 0
@@ -99,13 +101,18 @@ RefusesFault fault.NoMemory old new status = LacksMemory old old old new status
 abbrev pub RefusesError : ErrorKind → Stream → Stream → Stream → Stream → ℕ → Type 0
 RefusesError k before after old new status = RefusesWords k before after old new status ⊎ LacksMemory before after old new status
 
--- the user whose files a job is about is one that has files
-abbrev pub HasUser : Job → Type 0
-HasUser (Put target manner file name) = target.user < USERS
-HasUser (PutAll target manner files) = target.user < USERS
-HasUser (Get image user text name file) = user < USERS
-HasUser (GetAll image user text folder) = user < USERS
-HasUser (Erase target names) = target.user < USERS
-HasUser (Rename target old new) = target.user < USERS
-HasUser (Protect target attribute on names) = target.user < USERS
+-- the user whose files a job on a disk is about is one that has files
+abbrev pub HasUser : DiskJob → Type 0
+HasUser (on.Put put) = put.target.user < USERS
+HasUser (on.PutAll put) = put.target.user < USERS
+HasUser (on.Get get) = get.user < USERS
+HasUser (on.GetAll get) = get.user < USERS
+HasUser (on.Erase erase) = erase.target.user < USERS
+HasUser (on.Rename rename) = rename.target.user < USERS
+HasUser (on.Protect protect) = protect.target.user < USERS
 HasUser _ = Unit {0}
+
+-- the same of any job
+abbrev pub HasJobUser : Job → Type 0
+HasJobUser (Disk job) = HasUser job
+HasJobUser _ = Unit {0}

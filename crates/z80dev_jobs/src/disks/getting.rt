@@ -13,6 +13,7 @@ use crate::disks::listing::done_with;
 use crate::disks::names::{pattern_of_word, refusal_end};
 use std::alloc::{AllocError, Global};
 use z80dev::{End, Files, Sink, finish};
+use z80dev_commands::Get;
 use z80dev_disk::{Gotten, Name, file_name, get, get_all};
 
 /// The pattern that matches every name.
@@ -133,22 +134,25 @@ fn get_named<'a, F: Files, W: Sink>(
 /// Gets a file of a disk; or into a folder all that match, if the word has `?` or `*`.
 pub(crate) fn get_file<'a, F: Files, W: Sink>(
     alloc: Global,
-    image: &'a str,
-    user: u8,
-    text: bool,
-    word: &str,
-    path: &'a str,
+    get: Get<'a>,
     files: &mut F,
     output: &mut W,
 ) -> Result<Option<String>, End<'a>>
-    requires user { user < USERS }
-    ensures { EndsWith (GetEnds image.now user text word.now path.now (effect_of (F.folder files.old) (F.folder files.new) (W.stream output.old) (W.stream output.new))) result }
+    requires user { get.user < USERS }
+    ensures { EndsWith (GetEnds get (effect_of (F.folder files.old) (F.folder files.new) (W.stream output.old) (W.stream output.new))) result }
 {
-    match file_name(word) {
-        Some(name) => get_named(alloc, image, user, text, &name, path, files, output),
+    let Get {
+        image,
+        user,
+        text,
+        name,
+        file,
+    } = get;
+    match file_name(name) {
+        Some(known) => get_named(alloc, image, user, text, &known, file, files, output),
         None => {
-            let pattern = pattern_of_word(alloc, word)?;
-            get_into(alloc, image, user, text, &pattern, path, files)
+            let pattern = pattern_of_word(alloc, name)?;
+            get_into(alloc, image, user, text, &pattern, file, files)
         }
     }
 }

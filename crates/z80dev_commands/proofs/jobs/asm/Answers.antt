@@ -8,5 +8,8 @@ text-requires c = has_text (codes "asm") (codes "BASE") _ refl c.requires
 pub flag-requires : goal.flag-requires
 flag-requires c = reads_flag (codes "asm") (codes "grow") _ refl c.requires
 
+pub warn-requires : goal.warn-requires
+warn-requires c = reads_flag (codes "asm") (codes "no-warn") _ refl c.requires
+
 pub text-requires-2 : goal.text-requires-2
 text-requires-2 c = has_text (codes "asm") (codes "SRC") _ refl c.requires

@@ -11,5 +11,8 @@ flag-requires-2 c = reads_flag (codes "build") (codes "list") _ refl c.requires
 pub flag-requires-3 : goal.flag-requires-3
 flag-requires-3 c = reads_flag (codes "build") (codes "verbose") _ refl c.requires
 
+pub warn-requires : goal.warn-requires
+warn-requires c = reads_flag (codes "build") (codes "no-warn") _ refl c.requires
+
 pub texts-requires : goal.texts-requires
 texts-requires c = has_texts (codes "build") (codes "SRC") _ refl c.requires

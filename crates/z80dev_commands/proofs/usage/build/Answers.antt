@@ -11,9 +11,10 @@ returns c =
     let two = with_argument _ _ _ _ (flag_rule (codes "grow")) c.in_ok-arg-2.ensures c.grow.ensures.rule c.grow.ensures.local one in
     let three = with_argument _ _ _ _ (flag_rule (codes "list")) c.in_ok-arg-3.ensures c.flag.ensures.rule c.flag.ensures.local two in
     let four = with_argument _ _ _ _ verbose_rule c.in_ok-arg-4.ensures c.verbose.ensures.rule c.verbose.ensures.local three in
-    let five = with_argument _ _ _ _ define_rule c.in_ok-arg-5.ensures c.define.ensures.rule c.define.ensures.local four in
-    let six = with_argument _ _ _ _ with_file_rule c.in_ok-arg-6.ensures c.with_file.ensures.rule c.with_file.ensures.local five in
+    let quiet = with_argument _ _ _ _ (flag_rule (codes "no-warn")) c.in_ok-arg-5.ensures c.no_warn.ensures.rule c.no_warn.ensures.local four in
+    let five = with_argument _ _ _ _ define_rule c.in_ok-arg-6.ensures c.define.ensures.rule c.define.ensures.local quiet in
+    let six = with_argument _ _ _ _ with_file_rule c.in_ok-arg-7.ensures c.with_file.ensures.rule c.with_file.ensures.local five in
     record {
-      app = IfOk-weaker c.arg-7.result _ _ (λ new adds. (with_argument _ new _ _ (paths_rule (codes "SRC")) adds c.paths.ensures.rule c.paths.ensures.local six).0) c.arg-7.ensures;
-      local = IfOk-weaker c.arg-7.result _ _ (λ new adds. (with_argument _ new _ _ (paths_rule (codes "SRC")) adds c.paths.ensures.rule c.paths.ensures.local six).1) c.arg-7.ensures;
+      app = IfOk-weaker c.arg-8.result _ _ (λ new adds. (with_argument _ new _ _ (paths_rule (codes "SRC")) adds c.paths.ensures.rule c.paths.ensures.local six).0) c.arg-8.ensures;
+      local = IfOk-weaker c.arg-8.result _ _ (λ new adds. (with_argument _ new _ _ (paths_rule (codes "SRC")) adds c.paths.ensures.rule c.paths.ensures.local six).1) c.arg-8.ensures;
     }

@@ -10,19 +10,18 @@ use Rattle.z80dev_jobs.proofs.dispatch.build_job.Goals as goal
 
 pub returns : goal.returns
 returns g c = λ input.
-    let w = c.args.wanted in
-    let shared = c.args.shared.now in
+    let shared = c.args.job.now.shared in
     let old = g.F.Files.folder c.args.files.now in
-    let new = g.F.Files.folder c.build_files-ended.new.files in
+    let new = g.F.Files.folder c.build_files.new.files in
     let before = g.W.Sink.stream c.args.output.now in
-    let after = g.W.Sink.stream c.build_files-ended.new.output in
+    let after = g.W.Sink.stream c.build_files.new.output in
     let errors = g.E.Sink.stream c.args.errors.now in
     let mid = g.E.Sink.stream c.refuse_define.new.errors in
     let told = g.E.Sink.stream c.report_line.new.errors in
-    let ended = c.build_files-ended.result in
+    let ended = c.build_files.result in
     let judged = subst (JudgesDefines (first_bad (map (λ word. word.now) c.deref.result.now)) errors mid) c.in_default.is c.refuse_define.ensures in
     let none = subst (λ words. first_bad (map (λ word. word.now) words) ≡ None) c.deref.ensures.value judged.0 in
     let tells = subst (λ s. TellsWith (line_in ended) (end_in ended) s told) judged.1 c.report_line.ensures.told in
-    let Ends = BuildEnds w.out w.grow w.list w.verbose shared (map (λ path. path.now) c.args.sources.now) in
+    let Ends = BuildEnds c.args.job.now in
     goes_on (first_bad (defines_of shared)) (ReportsLine Ends) (world_of old input before errors) (world_of new input after told) c.report_line.result none
-    (reported Ends old new input before after errors told ended c.report_line.result c.build_files-ended.ensures c.report_line.ensures.status tells)
+    (reported Ends old new input before after errors told ended c.report_line.result c.build_files.ensures c.report_line.ensures.status tells)

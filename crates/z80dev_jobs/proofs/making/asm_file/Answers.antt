@@ -6,7 +6,7 @@ use Rattle.z80dev_finish.specs.declared.answer.Kind.TheVariants as kind
 use Rattle.z80dev_jobs.proofs.Carried.{aside, carried}
 use Rattle.z80dev_jobs.proofs.Clear.{are_files, as_many, clear}
 use Rattle.z80dev_jobs.specs.Making.{IsAsmOf, effect_of, shared_paths}
-use Rattle.z80dev_jobs.specs.Outputs.{clash}
+use Rattle.z80dev_jobs.specs.Outputs.{why_not_written}
 use Rattle.z80dev_jobs.specs.Reading.{IsOneNotRead, IsRead}
 use Rattle.z80dev_make.specs.Asm.{IsAsm}
 use Rattle.z80dev_make.specs.Answers.{told_text}
@@ -17,11 +17,11 @@ use Rattle.z80dev_jobs.proofs.making.asm_file.Goals as goal
 pub returns-in_err-fronts : goal.returns-in_err-fronts
 returns-in_err-fronts g c =
     let left = err_from_is_err_and c.from_residual-in_err-fronts.result c.from_residual-in_err-fronts.ensures.1 in
-    let shared = c.args.shared.now in
+    let shared = c.args.job.now.shared in
     let old = g.F.Files.folder c.args.files.now in
     let new = g.F.Files.folder c.read_all.new.files in
     let before = g.W.Sink.stream c.args.output.now in
-    let none = subst (λ files. clash c.args.out.now (kind.Object ∷ []) (map (λ path. path.now) files ++ c.args.path.now ∷ []) ≡ None) c.deref.ensures.value c.in_ok-refuse_clash.ensures in
+    let none = subst (λ files. why_not_written c.args.job.now.out.now (kind.Object ∷ []) (map (λ path. path.now) files ++ c.args.job.now.source.now ∷ []) ≡ None) c.deref.ensures.value c.in_ok-refuse_overwriting.ensures in
     let unread = subst (λ files. IsOneNotRead old new (map (λ path. path.now) files) c.in_err-fronts.field-0.0) c.deref-2.ensures.value c.in_err-fronts.ensures in
     rw (left.1, left.2) (clear _ _ (effect_of old new before before) c.in_err-fronts.field-0.0 none (inr (unread, refl)))
 
@@ -32,20 +32,20 @@ sources_of-requires g c =
 
 pub returns : goal.returns
 returns g c =
-    let shared = c.args.shared.now in
-    let path = c.args.path.now in
+    let shared = c.args.job.now.shared in
+    let path = c.args.job.now.source.now in
     let text = c.in_ok-text.text.items in
     let fronts = map (λ text. text.items) c.in_ok-fronts.fronts.items in
     let x = effect_of (g.F.Files.folder c.args.files.now) (g.F.Files.folder c.finish.new.files) (g.W.Sink.stream c.args.output.now) (g.W.Sink.stream c.finish.new.output) in
     let front : Front = record { defines = c.deref-5.result; files = c.deref-6.result } in
-    let source : SourceFile = record { path = c.args.path; text = c.deref-7.result } in
-    let none = subst (λ files. clash c.args.out.now (kind.Object ∷ []) (map (λ path. path.now) files ++ path ∷ []) ≡ None) c.deref.ensures.value c.in_ok-refuse_clash.ensures in
+    let source : SourceFile = record { path = c.args.job.now.source; text = c.deref-7.result } in
+    let none = subst (λ files. why_not_written c.args.job.now.out.now (kind.Object ∷ []) (map (λ path. path.now) files ++ path ∷ []) ≡ None) c.deref.ensures.value c.in_ok-refuse_overwriting.ensures in
     let read_fronts = subst (λ files. AllZip (IsRead x.old) (map (λ path. path.now) files) fronts) c.deref-2.ensures.value c.in_ok-fronts.ensures.1 in
     let read = subst (λ f. IsRead f path text) c.in_ok-fronts.ensures.0 c.in_ok-text.ensures.1 in
     let are = are_files c.deref-3.result.now shared.files.items c.deref-4.result.now c.in_ok-fronts.fronts.items c.in_ok-shared_files.shared_files.items c.deref-6.result.now
     c.deref-3.ensures.value c.deref-4.ensures.value c.deref-6.ensures.value c.in_ok-shared_files.ensures in
-    let answer = answer_by told_text c.asm.result in
-    let made = aside (IsAsm front source c.args.grow) (IsAsmOf shared fronts path text c.args.grow) answer
-    (λ a is. (front, source, (ap (map (λ word. word.now)) c.deref-5.ensures.value, are), refl, c.deref-7.ensures.value, is)) c.asm.ensures in
-    let carries = carried told_text c.args.out.now c.asm.result x.old (g.F.Files.folder c.read.new.files) x.new x.before x.after c.finish.result (c.in_ok-text.ensures.0 ∙ c.in_ok-fronts.ensures.0) c.finish.ensures in
-    clear (clash c.args.out.now (kind.Object ∷ []) (shared_paths shared ++ path ∷ [])) _ x c.finish.result none (inl (fronts, read_fronts, inl (text, read, (answer, made, carries))))
+    let answer = answer_by told_text c.asm-answer.result in
+    let made = aside (IsAsm front source c.args.job.now.grow) (IsAsmOf c.args.job.now fronts text) answer
+    (λ a is. (front, source, (ap (map (λ word. word.now)) c.deref-5.ensures.value, are), refl, c.deref-7.ensures.value, is)) c.asm-answer.ensures in
+    let carries = carried told_text c.args.job.now.out.now c.asm-answer.result x.old (g.F.Files.folder c.read.new.files) x.new x.before x.after c.finish.result (c.in_ok-text.ensures.0 ∙ c.in_ok-fronts.ensures.0) c.finish.ensures in
+    clear (why_not_written c.args.job.now.out.now (kind.Object ∷ []) (shared_paths shared ++ path ∷ [])) _ x c.finish.result none (inl (fronts, read_fronts, inl (text, read, (answer, made, carries))))

@@ -3,7 +3,7 @@ use Rattle.z80dev_finish.specs.Answers.{answer_by}
 use Rattle.z80dev_make.specs.Answers.{told_text}
 use Rattle.z80dev_make.specs.Build.{IsMade}
 use Rattle.z80dev_make.specs.declared.front.Front.{Front}
-use Rattle.z80dev_jobs.specs.Making.{IsCarriedOut, LineAt, effect_of}
+use Rattle.z80dev_jobs.specs.Making.{AreFiles, IsCarriedOut, LineAt, effect_of, source_paths}
 use Rattle.z80dev_jobs.specs.Private.Steps.{BuildsTexts, end_in, line_in}
 use Rattle.z80dev_jobs.proofs.Carried.{carried}
 use Rattle.z80dev_jobs.proofs.Clear.{are_files}
@@ -14,27 +14,27 @@ pub returns : goal.returns
 returns g c =
     let made = c.build-answer.result in
     let answer = answer_by told_text made.answer in
-    let w = c.args.wanted in
+    let job = c.args.job.now in
     let base = c.args.base.now in
-    let shared = c.args.shared.now in
-    let front : Front = record { defines = c.deref-2.result; files = c.deref-3.result } in
+    let front : Front = record { defines = c.deref-3.result; files = c.deref-4.result } in
     let fronts = map (λ text. text.items) c.args.fronts.now in
-    let paths = map (λ path. path.now) c.args.paths.now in
     let texts = map (λ text. text.items) c.args.texts.now in
     let x = effect_of (g.F.Files.folder c.args.files.now) (g.F.Files.folder c.finish.new.files) (g.W.Sink.stream c.args.output.now) (g.W.Sink.stream c.finish.new.output) in
     let done = with_line c.finish.result c.in_ok-line.line c.done_with.result c.done_with.ensures in
     let line = subst (LineAt (end_in c.done_with.result) (line_in c.done_with.result)) c.in_ok-line.ensures done.1 in
     let carries = carried told_text base made.answer x.old x.old x.new x.before x.after c.finish.result refl c.finish.ensures in
-    let are = are_files c.deref.result.now shared.files.items c.args.fronts.now c.args.fronts.now c.in_ok-shared_files.shared_files.items c.deref-3.result.now
-    c.deref.ensures.value refl c.deref-3.ensures.value c.in_ok-shared_files.ensures in
-    let right = subst (λ files. IsMade front files w.grow w.list answer made.jumps) c.deref-4.ensures.value c.build-answer.ensures in
-    ends (BuildsTexts base w.grow w.list w.verbose shared fronts paths texts x) c.done_with.result
+    let are = are_files c.deref.result.now job.shared.files.items c.args.fronts.now c.args.fronts.now c.in_ok-shared_files.shared_files.items c.deref-4.result.now
+    c.deref.ensures.value refl c.deref-4.ensures.value c.in_ok-shared_files.ensures in
+    let sources = are_files c.deref-2.result.now job.sources.items c.args.texts.now c.args.texts.now c.in_ok-sources.sources.items c.in_ok-sources.sources.items
+    c.deref-2.ensures.value refl refl c.in_ok-sources.ensures in
+    let right = subst (λ files. IsMade front files job.grow job.list answer made.jumps) c.deref-5.ensures.value c.build-answer.ensures in
+    ends (BuildsTexts base job fronts texts x) c.done_with.result
     (inl (
       made.jumps,
       line,
       (
         answer,
-        (front, c.in_ok-sources.sources.items, (ap (map (λ word. word.now)) c.deref-2.ensures.value, are), c.in_ok-sources.ensures, right),
+        (front, c.in_ok-sources.sources.items, (ap (map (λ word. word.now)) c.deref-3.ensures.value, are), sources, right),
         subst (IsCarriedOut base answer x) (sym done.0) carries,
       ),
     ))

@@ -34,14 +34,14 @@ returns c =
     let laid : Laid a.0 = record { there = λ j p e i s e2. c.laid_out.ensures.statements (modules_of a.0) j i p s e e2; kept = a.2.kept } in
     let lines = c.in_ok-modules.field-0.lines.items in
     let linked : IsLinked (modules_of a.0) (Ok l) = subst (λ ms. IsLinked ms (Ok l)) (ap (map module_of) c.deref.ensures.value ∙ a.2.modules_are) c.in_ok-com.ensures.answer in
-    let origins = c.in_ok-origins_of.ensures ∙ ap (λ ps. origins_by (λ k. slice_index ps k) (lines_in c.deref-3.result.now)) c.deref-4.ensures.value ∙ ap (λ ls. origins_by (λ k. slice_index l.places.items k) (lines_in ls)) c.deref-3.ensures.value in (
+    let origins = c.in_ok-statements.ensures ∙ ap (λ ps. origins_by (λ k. slice_index ps k) (lines_in c.deref-3.result.now)) c.deref-4.ensures.value ∙ ap (λ ls. origins_by (λ k. slice_index l.places.items k) (lines_in ls)) c.deref-3.ensures.value in (
       a.0,
       a.1,
       linked.0,
       same_shape a.0 laid,
       (
         linked.1,
-        of_file c.args.grow c.args.sources.now a.0 a.1 laid linked.1 l lines c.in_ok-origins_of.field-0 c.in_ok-last_lines.field-0
-            (c.laid_out.ensures.count (modules_of a.0)) linked.2 linked.3 (subst (All (λ b. b < 256)) c.deref-2.ensures.value c.are_bytes.ensures) a.2.each a.2.last origins (c.in_ok-last_lines.ensures ∙ ap (map (λ x. x.last)) c.deref-5.ensures.value),
+        of_file c.args.grow c.args.sources.now a.0 a.1 laid linked.1 l c.in_ok-modules.field-0.modules lines c.in_ok-statements.statements c.in_ok-last.last
+            (c.laid_out.ensures.count (modules_of a.0)) linked.2 linked.3 (subst (All (λ b. b < 256)) c.deref-2.ensures.value c.are_bytes.ensures) a.2.each a.2.last origins (c.in_ok-last.ensures ∙ ap (map (λ x. x.last)) c.deref-5.ensures.value) a.2.modules_are,
       ),
     )
