@@ -1,3 +1,5 @@
 mod Laid
+mod Recorded
+mod Walked
 mod Going
 pub mod OneRun

@@ -3,3 +3,5 @@ pub mod Start
 pub mod Turns
 pub mod Run
 pub mod Undisturbed
+pub mod Records
+pub mod Walks

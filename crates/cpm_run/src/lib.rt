@@ -1,15 +1,17 @@
 //! Runs a program of CP/M 2.2 on the machine, with a disk and a console.
 //!
 //! [`start`] makes the state in which a program begins: page zero, the command tail, the program at 0100H, and the entries of the BIOS.
-//! [`run`] begins in that state and runs the program to its end.
+//! [`run`] begins in that state and runs the program to its end. [`run_traced`] does the same step by step, and keeps the steps.
 #![tactic(auto)]
 
 mod ending;
 mod fault;
 pub mod laws;
 mod places;
+mod recording;
 mod running;
 mod starting;
+mod tracing;
 mod turning;
 mod words;
 
@@ -17,7 +19,9 @@ pub use cpm_bdos::Stop;
 pub use ending::{RunEnd, Why};
 pub use fault::StartFault;
 pub use places::{BDOS, BIOS, is_finished};
+pub use recording::{ADDRESSES, Record, TraceStep, Wish};
 pub use running::run;
 pub use starting::start;
+pub use tracing::{Traced, run_traced};
 pub use turning::turn;
 pub use words::LONGEST_TAIL;
