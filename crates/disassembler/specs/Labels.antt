@@ -1,5 +1,5 @@
 -- The labels file: a line `AAAA PATH NAME` for each label, as `z80dev build --list` writes it.
-use Rattle.std.specs.Prelude.{ℕ, ◌+◌, ◌==◌, ◌&&◌, not, Bool, false, List, [], ◌∷◌, Option, Some, None, if◌then◌else◌}
+use Rattle.std.specs.Prelude.{ℕ, ◌+◌, ◌*◌, ◌%◌, ◌==◌, ◌&&◌, not, Bool, false, nat_lt, List, [], ◌∷◌, Option, Some, None, if◌then◌else◌, drop}
 use Rattle.std.specs.List.{list_all, list_any, after_last}
 use Rattle.std.specs.Char.{is_ascii_lowercase, is_digit}
 use Rattle.asm_scan.specs.Classes.{begins_name, continues_name}
@@ -26,6 +26,19 @@ abbrev pub is_label_line : List ℕ → Bool
 is_label_line (a ∷ b ∷ c ∷ d ∷ e ∷ rest) =
     is_upper_digit a && is_upper_digit b && is_upper_digit c && is_upper_digit d && is_space e && is_path_and_name rest
 is_label_line line = false
+
+-- the value of a hexadecimal digit in upper case
+abbrev pub digit_value : ℕ → ℕ
+digit_value byte = if nat_lt byte 0x3A then byte % 16 else (byte + 9) % 16
+
+-- the address of a line AAAA PATH NAME
+abbrev pub label_address : List ℕ → ℕ
+label_address (a ∷ b ∷ c ∷ d ∷ rest) = 4096 * digit_value a + 256 * digit_value b + 16 * digit_value c + digit_value d
+label_address line = 0
+
+-- its name; AAAA, a space and the first byte of the path come before the last space
+abbrev pub label_name : List ℕ → List ℕ
+label_name line = after_last is_space (drop 6 line)
 
 -- the number of the first of the lines that is not one of a label, if they are numbered from n on
 abbrev pub first_bad_from : ℕ → List (List ℕ) → Option ℕ

@@ -8,7 +8,7 @@ ghost use Rattle.disassembler.specs.Private.{IsRebuilt};
 use crate::entries::entry_offsets;
 use crate::fault::DisassemblyFault;
 use crate::items::Layout;
-use crate::labels::{first_bad_label, read_labels};
+use crate::labels::{first_bad_label, first_labels};
 use crate::lines::Lines;
 use crate::statements::{put_items, put_last_labels, put_plain};
 use common::LONGEST_PROGRAM;
@@ -63,7 +63,7 @@ fn full_text(
     labels: Option<&[u8]>,
     entries: &[usize],
 ) -> Result<Vec<u8>, AllocError> {
-    let labels = read_labels(alloc, labels, MOST_LABELS)?;
+    let labels = first_labels(alloc, labels, MOST_LABELS)?;
     let layout = Layout::new(alloc, program, &labels, entries)?;
     let mut lines = Lines::new(alloc);
     put_head(alloc, &mut lines, program.len())?;

@@ -1,22 +1,23 @@
 //! Reads the labels file: a line `AAAA PATH NAME` for each label.
 
-ghost use Rattle.std.specs.Prelude.{◌≡◌, is_some};
+ghost use Rattle.std.specs.Prelude.{◌≡◌, is_some, map};
 ghost use Rattle.std.specs.List.{after_last, list_all, list_any};
 ghost use Rattle.asm_scan.specs.Classes.{continues_name};
 ghost use Rattle.std.specs.Option.{option_map};
-ghost use Rattle.disassembler.specs.Labels.{first_bad_label, first_bad_line, is_label_line, is_path_and_name, is_space, is_upper_digit, is_whole_name};
+ghost use Rattle.disassembler.specs.Labels.{digit_value, first_bad_label, first_bad_line, is_label_line, is_path_and_name, is_space, is_upper_digit, is_whole_name, label_address, label_name};
+ghost use Rattle.disassembler.specs.Reading.{AreLabels};
 
+use crate::fault::DisassemblyFault;
 use asm_macro::source_part;
 use asm_scan::{begins_name, continues_name};
 use bstr::ByteSlice;
 use std::alloc::{AllocError, Global};
-use std::str;
 
 /// A label of a labels file.
 #[derive(Clone, Copy)]
-pub(crate) struct Label<'a> {
-    pub(crate) address: u16,
-    pub(crate) name: &'a [u8],
+pub struct Label<'a> {
+    pub address: u16,
+    pub name: &'a [u8],
 }
 
 /// Whether a byte is a hexadecimal digit in upper case.
@@ -97,17 +98,46 @@ fn name_of_line(line: &[u8]) -> Option<&[u8]>
     }
 }
 
-/// Answers the number that a line begins with.
-fn address_of_line(line: &[u8]) -> Option<u16> {
-    let digits = str::from_utf8(line.get(..4)?).ok()?;
-    u16::from_str_radix(digits, 16).ok()
+/// The value of a hexadecimal digit in upper case.
+fn digit_value(byte: u8) -> u16
+    ensures { result ≡ digit_value byte }
+{
+    let code = u16::from(byte);
+    if code < 0x3A {
+        code % 16
+    } else {
+        (code + 9) % 16
+    }
 }
 
-/// Answers the label of a line.
-fn label_of_line(line: &[u8]) -> Option<Label<'_>> {
-    let name = name_of_line(line)?;
-    let address = address_of_line(line)?;
-    Some(Label { address, name })
+/// Answers the number that a line `AAAA PATH NAME` begins with.
+fn label_address(line: &[u8]) -> u16
+    ensures { result ≡ label_address line.now }
+{
+    match line {
+        [a, b, c, d, ..] => {
+            4096 * digit_value(*a) + 256 * digit_value(*b) + 16 * digit_value(*c) + digit_value(*d)
+        }
+        _ => 0,
+    }
+}
+
+/// Answers the name that a line `AAAA PATH NAME` ends with.
+fn label_name(line: &[u8]) -> &[u8]
+    ensures { result.now ≡ label_name line.now }
+{
+    after_last_space(line.get(6..).unwrap_or(&[]))
+}
+
+/// Answers the label of a line `AAAA PATH NAME`.
+fn label_of(line: &[u8]) -> Label<'_>
+    ensures address { result.address ≡ label_address line.now }
+    ensures name { result.name.now ≡ label_name line.now }
+{
+    Label {
+        address: label_address(line),
+        name: label_name(line),
+    }
 }
 
 /// Answers the first line that is not one of a label, counted from 1.
@@ -131,8 +161,8 @@ pub(crate) fn first_bad_label(text: Option<&[u8]>) -> Option<usize>
     first_bad_line(text?)
 }
 
-/// Answers the labels of a labels file, at most `most` of them.
-pub(crate) fn read_labels(
+/// Answers the labels of a labels file without a bad line, at most `most` of them.
+pub(crate) fn first_labels(
     alloc: Global,
     text: Option<&[u8]>,
     most: usize,
@@ -145,9 +175,25 @@ pub(crate) fn read_labels(
         if labels.len() == most {
             return Ok(labels);
         }
-        if let Some(label) = label_of_line(line) {
-            labels.push(label)?;
-        }
+        labels.push(label_of(line))?;
+    }
+    Ok(labels)
+}
+
+/// Answers the labels of a labels file, in the order of its lines.
+///
+/// # Errors
+///
+/// [`DisassemblyFault::BadLabels`] with the first line, counted from 1, that is not one of a label; [`DisassemblyFault::NoMemory`].
+pub fn read_labels(alloc: Global, text: &[u8]) -> Result<Vec<Label<'_>>, DisassemblyFault<'_>>
+    ensures { AreLabels text.now result }
+{
+    if let Some(line) = first_bad_line(text) {
+        return Err(DisassemblyFault::BadLabels(line));
+    }
+    let mut labels = Vec::new(alloc);
+    for line in source_part(text).lines() {
+        labels.push(label_of(line))?;
     }
     Ok(labels)
 }

@@ -18,3 +18,4 @@ mod statements;
 
 pub use disassembly::disassemble;
 pub use fault::{DisassemblyFault, fault_text};
+pub use labels::{Label, read_labels};
