@@ -1,5 +1,9 @@
 -- A run of what the command has read.
-use Rattle.std.proofs.Common.{◌≡◌, ℕ, List, subst}
+use Rattle.std.proofs.Common.{◌≡◌, ℕ, List, Option, subst}
+use Rattle.z80_cpu.specs.declared.registers.Cpu.{Cpu}
+use Rattle.cpm_run.specs.Walks.{IsTraced}
+use Rattle.cpm_run.specs.declared.recording.Record.{Record}
+use Rattle.cpm_run.specs.declared.recording.Wish.{Wish}
 use Rattle.cpm_console.specs.Dialog.{Dialog}
 use Rattle.cpm_disk.specs.Calls.{Mounted}
 use Rattle.cpm_disk.specs.Image.{Image}
@@ -13,3 +17,11 @@ module _ (faults : Image → ℕ) (disk : Mounted Image) (steps : ℕ) (end : Wh
   -- the same run, for an equal program, equal words and an equal console
   pub as_read : (file program : List ℕ) (words meant : List (List ℕ)) (console given : Dialog) → file ≡ program → words ≡ meant → console ≡ given → Run file words console → Run program meant given
   as_read file program words meant console given d e f run = subst (λ c. Run program meant c) f (subst (λ w. Run program w console) e (subst (λ p. Run p words console) d run))
+
+module _ (faults : Image → ℕ) (disk : Mounted Image) (steps : ℕ) (wish : Wish) (end : Why) (turns : ℕ) (state : Option (Cpu × List ℕ)) (kept : Option Record) where
+  abbrev Traced : List ℕ → List (List ℕ) → Dialog → Type 0
+  Traced file words console = IsTraced (λ sectors. sectors) faults (λ dialog. dialog) file words disk console steps wish end turns state kept
+
+  -- the same for a traced run
+  pub traced_as_read : (file program : List ℕ) (words meant : List (List ℕ)) (console given : Dialog) → file ≡ program → words ≡ meant → console ≡ given → Traced file words console → Traced program meant given
+  traced_as_read file program words meant console given d e f run = subst (λ c. Traced program meant c) f (subst (λ w. Traced program w console) e (subst (λ p. Traced p words console) d run))

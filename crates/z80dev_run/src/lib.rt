@@ -7,9 +7,9 @@ mod preparing;
 mod running;
 mod stopped;
 
-pub use cpm_run::{Stop, Why};
+pub use cpm_run::{Record, Stop, TraceStep, Why, Wish};
 pub use ending::conclude;
 pub use preparing::ready;
-pub use running::{Ran, Ready};
+pub use running::{Ran, Ready, TracedRan};
 pub use stopped::stopped_line;
 pub use z80dev_disk::Refusal;

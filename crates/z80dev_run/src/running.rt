@@ -2,14 +2,15 @@
 
 ghost use Rattle.std.specs.Prelude.{◌≡◌, ℕ, List};
 ghost use Rattle.std.specs.List.{concat};
-ghost use Rattle.z80dev_run.specs.Program.{IsRan, IsReadyToRun};
+ghost use Rattle.z80dev_run.specs.Program.{IsRan, IsReadyToRun, IsTracedRan};
 
 use cpm_console::StreamConsole;
 use cpm_disk::Disk;
 use cpm_image::MemoryImage;
-use cpm_run::Why;
+use cpm_run::{Record, Why, Wish};
 use std::alloc::Global;
 use streams::Sink;
+use z80_cpu::{Cpu, Memory};
 
 /// How a run ended, and what it leaves.
 #[derive(Drop)]
@@ -33,6 +34,16 @@ impl<S> Ran<S> {
     {
         self.image.sectors().as_flattened()
     }
+}
+
+/// How a traced run ended, what it leaves, and what was kept of its steps.
+#[derive(Drop)]
+pub struct TracedRan<S> {
+    pub ran: Ran<S>,
+    /// The registers and the memory at the end; `None` if the program was not started.
+    pub state: Option<(Cpu, Memory)>,
+    /// What was kept of the steps; `None` if the program was not started, or if memory ran out for it.
+    pub kept: Option<Record>,
 }
 
 /// A program that is ready to run: its disk is mounted, and all its input is known.
@@ -64,6 +75,42 @@ impl Ready<'_, '_> {
             pc: end.pc,
             image: end.disk.unmount(),
             output: end.console.into_writer(),
+        }
+    }
+    /// Runs the program as [`Ready::run`] does, step by step, and keeps what `wish` asks for. If memory runs out for that, the run goes
+    /// on without it.
+    pub fn run_traced<S: Sink + Drop>(
+        self,
+        alloc: Global,
+        output: S,
+        steps: u64,
+        wish: Wish,
+    ) -> TracedRan<S>
+        ensures ran { (program : List ℕ) (words : List (List ℕ)) (image input : List ℕ) → IsReadyToRun program words image input self.entry
+            → IsRan program words image input (S.stream output) steps result.ran.why result.ran.turns result.ran.pc (concat result.ran.image) (S.stream result.ran.output) }
+        ensures traced { (program : List ℕ) (words : List (List ℕ)) (image input : List ℕ) → IsReadyToRun program words image input self.entry
+            → IsTracedRan program words image input (S.stream output) steps wish result.ran.why result.ran.turns result.state result.kept }
+    {
+        let Ready {
+            program,
+            words,
+            disk,
+            typed,
+        } = self;
+        let console = StreamConsole::new(typed, output);
+        let traced = cpm_run::run_traced(alloc, program, &words, disk, console, steps, wish);
+        let end = traced.end;
+        let ran = Ran {
+            why: end.why,
+            turns: end.turns,
+            pc: end.pc,
+            image: end.disk.unmount(),
+            output: end.console.into_writer(),
+        };
+        TracedRan {
+            ran,
+            state: traced.state,
+            kept: traced.kept,
         }
     }
 }
