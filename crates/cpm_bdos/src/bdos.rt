@@ -9,10 +9,11 @@ use crate::outcome::After;
 use crate::records::{read_at, read_next, set_random, size, write_at, write_next};
 use crate::registers::{answered, byte_answered, nothing_answered, put_value};
 use crate::setting::{FIRST_DMA, set_by};
-use cpm_console::{Console, Terminal};
+use cpm_console::{Console, MemoryConsole, Terminal};
 use cpm_disk::Disk;
 use cpm_fcb::Stop;
-use cpm_image::Sectors;
+use cpm_image::{MemoryImage, Sectors};
+use std::alloc::{AllocError, Global};
 use std::marker::Model;
 use z80_cpu::{Cpu, Memory};
 
@@ -64,6 +65,18 @@ impl<S: Sectors, C: Console> Bdos<S, C> {
         ensures console { result.1 ≡ self.terminal.console }
     {
         (self.disk, self.terminal.console)
+    }
+
+    pub fn disk(&self) -> &Disk<S>
+        ensures { result.now ≡ self.now.disk }
+    {
+        &self.disk
+    }
+
+    pub fn console(&self) -> &C
+        ensures { result.now ≡ self.now.terminal.console }
+    {
+        &self.terminal.console
     }
 
     /// Makes the system call of the function in C with its argument in DE. The value goes to HL, and L to A and H to B. Other
@@ -221,5 +234,29 @@ impl<S: Sectors, C: Console> Bdos<S, C> {
             RecordCall::FileSize => size(&self.disk, user, memory, argument),
             RecordCall::SetRandom => set_random(self.disk.kind(), memory, argument),
         }
+    }
+}
+
+impl Bdos<MemoryImage, MemoryConsole> {
+    ghost use Rattle.std.specs.Prelude.{◌≡◌, IfOk};
+
+    /// A second system in the same state, with copies of the disk and of the console.
+    ///
+    /// # Errors
+    ///
+    /// [`AllocError`] if memory runs out.
+    pub fn copied(&self, alloc: Global) -> Result<Bdos<MemoryImage, MemoryConsole>, AllocError>
+        ensures { IfOk result (λ copy. copy ≡ self.now) }
+    {
+        Ok(Bdos {
+            disk: self.disk.copied(alloc)?,
+            terminal: Terminal {
+                console: self.terminal.console.copied()?,
+                column: self.terminal.column,
+            },
+            dma: self.dma,
+            user: self.user,
+            search: self.search,
+        })
     }
 }

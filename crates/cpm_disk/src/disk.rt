@@ -7,6 +7,7 @@ ghost use Rattle.cpm_disk.specs.Calls.{Mounted};
 
 use crate::block::write_all;
 use crate::change::{Change, change_all};
+use crate::copying::image_copied;
 use crate::reader::read_entries;
 use crate::records::{read_record, store};
 use crate::writable::{Writable, is_known};
@@ -15,9 +16,9 @@ use cpm_directory::{
     Attribute, DiskFault, ENTRY_BYTES, Entry, Listed, Name, Pattern, Space, Usage, find, judge,
     list, position_of, size, space_of, usage_of,
 };
-use cpm_image::{BLANK, DiskKind, RECORD_BYTES, Sectors};
+use cpm_image::{BLANK, DiskKind, MemoryImage, RECORD_BYTES, Sectors};
 use cpm_operations::{creation, erasure, extent_near, marking, reading_at, renaming, writing_at};
-use std::alloc::Global;
+use std::alloc::{AllocError, Global};
 use std::marker::Model;
 
 /// A mounted disk. An eight inch disk has 64 directory entries, and blocks 2 to 242 for files; a Megabyte disk has 256 entries, and
@@ -434,5 +435,27 @@ impl<S: Sectors> Disk<S> {
             return Err(DiskFault::Failed);
         }
         list(alloc, &self.entries)
+    }
+}
+
+impl Disk<MemoryImage> {
+    ghost use Rattle.std.specs.Prelude.{◌≡◌, IfOk};
+
+    /// A second disk with a copy of the image.
+    ///
+    /// # Errors
+    ///
+    /// [`AllocError`] if memory runs out.
+    pub fn copied(&self, alloc: Global) -> Result<Disk<MemoryImage>, AllocError>
+        ensures { IfOk result (λ copy. copy ≡ self.now) }
+    {
+        Ok(Disk {
+            device: image_copied(alloc, self.kind, &self.device)?,
+            kind: self.kind,
+            entries: self.entries.clone()?,
+            failed: self.failed,
+            near: self.near,
+            writable: self.writable,
+        })
     }
 }

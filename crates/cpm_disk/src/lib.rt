@@ -3,6 +3,7 @@
 
 mod block;
 mod change;
+mod copying;
 mod disk;
 mod faults;
 mod reader;
