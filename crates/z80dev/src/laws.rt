@@ -18,7 +18,7 @@ ghost use Rattle.zlink.specs.Certified.{told_verdict};
 ghost use Rattle.zlink.specs.Judged.{verdict_of};
 ghost use Rattle.zlink.specs.Linked.{IsLinked};
 
-pub use z80dev_laws::laws::{jump_step, walk};
+pub use program_laws::laws::{jump_step, walk};
 
 /// The checker confirms the sizes file and certificate of a built program with `best` and the program's length, and
 /// those of a refusal with its reason. Unless memory runs out, it answers nothing else. The same holds for what is

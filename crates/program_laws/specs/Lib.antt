@@ -1,0 +1,3 @@
+pub mod Causes
+pub mod Grown
+pub mod Turns

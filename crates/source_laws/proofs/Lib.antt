@@ -1,8 +1,0 @@
-mod Total
-mod Reach
-mod Faults
-mod Causes
-mod Statements
-mod Answered
-mod Sources
-mod Grown
