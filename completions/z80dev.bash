@@ -99,7 +99,7 @@ _z80dev() {
                 [[ "$option" != --user ]] || user=$each
                 option=''
             fi
-        elif [[ "$each" =~ ^(--(out|define|with|labels|entry|disk|steps|user)|-o)$ ]]; then
+        elif [[ "$each" =~ ^(--(out|define|with|labels|entry|disk|steps|last|trace|profile|user)|-o)$ ]]; then
             option=$each
         elif [[ "$each" == --to || "$each" == --all ]]; then
             several=$each
@@ -115,7 +115,7 @@ _z80dev() {
 
     case $option in
     --out | -o) _z80dev_bases ;;
-    --with) _z80dev_any_file ;;
+    --with | --trace | --profile) _z80dev_any_file ;;
     --labels) _z80dev_files sym ;;
     --disk) _z80dev_files img dsk cpm ;;
     esac
@@ -123,9 +123,9 @@ _z80dev() {
 
     case $command in
     '') options='asm link build check dis dir put get erase rename protect unprotect check-disk blank run -h --help -V --version' ;;
-    asm) options='-o --out --grow --define --with -h --help' ;;
+    asm) options='-o --out --grow --no-warn --define --with -h --help' ;;
     link) options='-o --out -h --help' ;;
-    build) options='-o --out --grow --list -v --verbose --define --with -h --help' ;;
+    build) options='-o --out --grow --list -v --verbose --no-warn --define --with -h --help' ;;
     check | check-disk) options='-h --help' ;;
     dis) options='--labels --entry -h --help' ;;
     dir) options='--user --long -h --help' ;;
@@ -134,7 +134,7 @@ _z80dev() {
     erase | rename) options='--user --no-lock -h --help' ;;
     protect | unprotect) options='--system --user --no-lock -h --help' ;;
     blank) options='--mega --keep --no-lock -h --help' ;;
-    run) options='--disk --no-lock --steps -h --help' ;;
+    run) options='--disk --no-lock --steps --labels --regs --last --trace --profile -h --help' ;;
     esac
     if [[ "$word" == -* || -z "$command" ]]; then
         mapfile -t COMPREPLY < <(compgen -W "$options" -- "$word")

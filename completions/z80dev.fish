@@ -15,7 +15,7 @@ function __z80dev_operands
     for word in (commandline -opc)[3..]
         if test $is_value = yes
             set is_value no
-        else if contains -- $word --out -o --define --with --labels --entry --disk --steps --user
+        else if contains -- $word --out -o --define --with --labels --entry --disk --steps --last --trace --profile --user
             set is_value yes
         else if not string match -q -- '-*' $word
             echo $word
@@ -84,6 +84,7 @@ complete -c z80dev -n __fish_use_subcommand -a run -d 'Run a CP/M program'
 complete -c z80dev -n '__z80dev_at asm' -s h -l help -d 'Print help'
 complete -c z80dev -n '__z80dev_at asm' -s o -l out -x -a '(__z80dev_bases)' -d 'Path of the object, without its ending'
 complete -c z80dev -n '__z80dev_at asm' -l grow -d 'Let a JR out of reach become a JP'
+complete -c z80dev -n '__z80dev_at asm' -l no-warn -d 'Do not warn of code that relies on the length of a jump'
 complete -c z80dev -n '__z80dev_at asm' -l define -x -d 'Define a name as a number'
 complete -c z80dev -n '__z80dev_at asm' -l with -r -F -d 'File of definitions and macros'
 complete -c z80dev -n '__z80dev_at asm 0' -a '(__z80dev_files asm mac z80)' -d 'Source file'
@@ -97,6 +98,7 @@ complete -c z80dev -n '__z80dev_at build' -s o -l out -x -a '(__z80dev_bases)' -
 complete -c z80dev -n '__z80dev_at build' -l grow -d 'Let a JR out of reach become a JP'
 complete -c z80dev -n '__z80dev_at build' -l list -d 'Write a listing and the labels too'
 complete -c z80dev -n '__z80dev_at build' -s v -l verbose -d 'Print how many jumps are short and long'
+complete -c z80dev -n '__z80dev_at build' -l no-warn -d 'Do not warn of code that relies on the length of a jump'
 complete -c z80dev -n '__z80dev_at build' -l define -x -d 'Define a name as a number'
 complete -c z80dev -n '__z80dev_at build' -l with -r -F -d 'File of definitions and macros'
 complete -c z80dev -n '__z80dev_at build' -a '(__z80dev_files asm mac z80)' -d 'Source file'
@@ -175,5 +177,10 @@ complete -c z80dev -n '__z80dev_at run' -s h -l help -d 'Print help'
 complete -c z80dev -n '__z80dev_at run' -l disk -x -a '(__z80dev_files img dsk cpm)' -d 'Image of drive A'
 complete -c z80dev -n '__z80dev_at run' -l no-lock -d 'Do not lock the image'
 complete -c z80dev -n '__z80dev_at run' -l steps -x -d 'The most steps that are run'
+complete -c z80dev -n '__z80dev_at run' -l labels -x -a '(__z80dev_files sym)' -d 'File of labels'
+complete -c z80dev -n '__z80dev_at run' -l regs -d 'Print the registers and the stack at the end'
+complete -c z80dev -n '__z80dev_at run' -l last -x -d 'How many of the last steps to print if the run is stopped'
+complete -c z80dev -n '__z80dev_at run' -l trace -r -F -d 'File to write with a line for each step'
+complete -c z80dev -n '__z80dev_at run' -l profile -r -F -d 'File to write with how often each instruction ran'
 complete -c z80dev -n '__z80dev_at run 0' -a '(__z80dev_files com)' -d 'Program'
 complete -c z80dev -n '__z80dev_at run; and not __z80dev_at run 0' -a '(set -l disk (__z80dev_disk); and __z80dev_names $disk[-1])' -d 'Name on the disk'
