@@ -17,6 +17,7 @@ fn made(alloc: Global, com: Vec<u8>) -> Built {
         last: Vec::new(alloc),
         grown: Vec::new(alloc),
         modules: Vec::new(alloc),
+        lines: Vec::new(alloc),
     }
 }
 

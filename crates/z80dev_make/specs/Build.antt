@@ -63,6 +63,7 @@ pub record HasOwnLines (front : Front) (b own : Built) : Type 0 where
   pub symbols : own.symbols ≡ b.symbols
   pub grown : own.grown ≡ b.grown
   pub modules : own.modules ≡ b.modules
+  pub lines : own.lines ≡ b.lines
   pub statements : own.statements.items ≡ map (earlier_origin (front_lines front)) b.statements.items
   pub last : own.last.items ≡ map (earlier (front_lines front)) b.last.items
 

@@ -89,30 +89,11 @@ fn number_lines(numbers: &mut [u32], lines: usize)
 }
 
 /// Answers the program with the lines of sources by their own numbers.
-pub(crate) fn with_own_lines(built: Built, front: Front<'_>) -> Built
-    ensures { HasOwnLines front.entry built result }
+pub(crate) fn with_own_lines(mut built: Built, front: Front<'_>) -> Built
+    ensures { HasOwnLines front.entry built.entry result }
 {
     let lines = front_lines(front);
-    let Built {
-        com,
-        sizes,
-        cert,
-        symbols,
-        mut statements,
-        mut last,
-        grown,
-        modules,
-    } = built;
-    number_origins(&mut statements, lines);
-    number_lines(&mut last, lines);
-    Built {
-        com,
-        sizes,
-        cert,
-        symbols,
-        statements,
-        last,
-        grown,
-        modules,
-    }
+    number_origins(&mut built.statements, lines);
+    number_lines(&mut built.last, lines);
+    built
 }

@@ -74,17 +74,18 @@ module _ (grow : Bool) (sources : List Source) (these : List Assembly) (are : Ar
       ∙ ap (λ s. origins_by (place (after order) s) (lines_of_statements these)) (same_shape these laid)
 
   -- The file of the modules is the file of the sources.
-  pub of_file : (order : List ℕ) (l : Linked) (whole : Vec made.Module Global) (lines : List listing.Lines) (from : Vec origin.Origin Global) (last : Vec ℕ Global) → (length (object.program (modules_of these)) ≡ statement_count (modules_of these))
+  pub of_file : (order : List ℕ) (l : Linked) (whole : Vec made.Module Global) (lines : Vec listing.Lines Global) (from : Vec origin.Origin Global) (last : Vec ℕ Global) → (length (object.program (modules_of these)) ≡ statement_count (modules_of these))
       → IsOutput (modules_of these) order (linked_output l) → ArePlaces (after order) (file.placed_shape (object.program (modules_of these))) l.places.items
-      → All (λ b. b < 256) l.com.items → map (λ x. x.each.items) lines ≡ map (λ a. a.assembled.each) these → map (λ x. x.last) lines ≡ map (λ a. a.assembled.last) these
-      → map origin_of from.items ≡ origins_by (λ k. slice_index l.places.items k) (lines_in lines) → last.items ≡ map (λ x. x.last) lines → map module_of whole.items ≡ modules_of these
-      → built.IsBuiltFile these order (record { «com» = l.com; sizes = l.sizes; cert = l.cert; symbols = l.symbols; statements = from; last = last; grown = l.grown; modules = whole })
+      → All (λ b. b < 256) l.com.items → map (λ x. x.each.items) lines.items ≡ map (λ a. a.assembled.each) these → map (λ x. x.last) lines.items ≡ map (λ a. a.assembled.last) these
+      → map origin_of from.items ≡ origins_by (λ k. slice_index l.places.items k) (lines_in lines.items) → last.items ≡ map (λ x. x.last) lines.items → map module_of whole.items ≡ modules_of these
+      → built.IsBuiltFile these order (record { «com» = l.com; sizes = l.sizes; cert = l.cert; symbols = l.symbols; statements = from; last = last; grown = l.grown; modules = whole; lines = lines })
   of_file order l whole lines from last count f places small each lasts origins last_are modules_are = record {
     judged = subst (λ s. IsBestAfter s order l.sizes.items l.cert.items) (same_shape these laid) f.judged;
     reads = carried these l.com.items (after order) laid small f.reads;
     linked = f;
     each = as_many count;
-    statements = origins ∙ ap (origins_by (λ k. slice_index l.places.items k)) (same_lines lines these each) ∙ placed order l count places;
+    statements = origins ∙ ap (origins_by (λ k. slice_index l.places.items k)) (same_lines lines.items these each) ∙ placed order l count places;
     last = last_are ∙ lasts;
     modules = modules_are;
+    lines = each;
   }

@@ -52,6 +52,7 @@ pub record IsBuiltFile (assemblies : List Assembly) (order : List ℕ) (b : buil
   pub statements : map origin_of b.statements.items ≡ origins_by (place (after order) (shape (program_of assemblies))) (lines_of_statements assemblies)
   pub last : b.last.items ≡ map (λ a. a.assembled.last) assemblies
   pub modules : map module_of b.modules.items ≡ modules_of assemblies
+  pub lines : map (λ l. l.each.items) b.lines.items ≡ map (λ a. a.assembled.each) assemblies
 
 -- The sources can be assembled, their modules have no error together, their modules and their program have the same sizes and targets, and
 -- P holds of their assemblies.

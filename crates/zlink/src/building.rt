@@ -32,6 +32,8 @@ pub struct Built {
     pub grown: Vec<u32>,
     /// The modules of the sources.
     pub modules: Vec<Module>,
+    /// For each source the lines of the statements of its module.
+    pub lines: Vec<Lines>,
 }
 
 /// Does nothing. Its contract says that each byte of a list is below 256, which the proof needs about the file.
@@ -76,6 +78,7 @@ fn build_sources(alloc: Global, sources: &[Source<'_>], grow: bool) -> Result<Bu
         last,
         grown,
         modules,
+        lines,
     })
 }
 

@@ -15,6 +15,8 @@ returns c =
       cert = refl;
       symbols = refl;
       grown = refl;
+    modules = refl;
+      lines = refl;
       statements =
           with_items_is c.args.built.statements c.number_origins.new.origins (ap length origins ∙ length-map c.deref_mut.result.now (earlier_origin all) ∙ c.deref_mut.ensures.len)
           ∙ origins ∙ ap (map (earlier_origin all)) c.deref_mut.ensures.value;

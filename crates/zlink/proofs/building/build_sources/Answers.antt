@@ -32,7 +32,7 @@ returns c =
     let a = c.in_ok-modules.ensures in
     let l = c.in_ok-com.field-0 in
     let laid : Laid a.0 = record { there = λ j p e i s e2. c.laid_out.ensures.statements (modules_of a.0) j i p s e e2; kept = a.2.kept } in
-    let lines = c.in_ok-modules.field-0.lines.items in
+    let lines = c.in_ok-modules.field-0.lines in
     let linked : IsLinked (modules_of a.0) (Ok l) = subst (λ ms. IsLinked ms (Ok l)) (ap (map module_of) c.deref.ensures.value ∙ a.2.modules_are) c.in_ok-com.ensures.answer in
     let origins = c.in_ok-statements.ensures ∙ ap (λ ps. origins_by (λ k. slice_index ps k) (lines_in c.deref-3.result.now)) c.deref-4.ensures.value ∙ ap (λ ls. origins_by (λ k. slice_index l.places.items k) (lines_in ls)) c.deref-3.ensures.value in (
       a.0,
