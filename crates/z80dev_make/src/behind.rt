@@ -90,7 +90,7 @@ fn number_lines(numbers: &mut [u32], lines: usize)
 
 /// Answers the program with the lines of sources by their own numbers.
 pub(crate) fn with_own_lines(mut built: Built, front: Front<'_>) -> Built
-    ensures { HasOwnLines front.entry built.entry result }
+    ensures { HasOwnLines front.entry built result }
 {
     let lines = front_lines(front);
     number_origins(&mut built.statements, lines);
