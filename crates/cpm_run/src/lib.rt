@@ -18,7 +18,7 @@ mod words;
 pub use cpm_bdos::Stop;
 pub use ending::{RunEnd, Why};
 pub use fault::StartFault;
-pub use places::{BDOS, BIOS, is_finished};
+pub use places::{BDOS, BIOS, bios_entry, is_finished};
 pub use recording::{ADDRESSES, Record, TraceStep, Wish};
 pub use running::run;
 pub use starting::start;

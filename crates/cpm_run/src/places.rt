@@ -17,7 +17,7 @@ pub fn is_finished(pc: u16) -> bool
 }
 
 /// The number of the BIOS entry at this address, from 2 to 16; `None` if there is none.
-pub(crate) fn bios_entry(pc: u16) -> Option<u8>
+pub fn bios_entry(pc: u16) -> Option<u8>
     ensures { result ≡ bios_entry pc }
 {
     if pc >= BIOS + 6 && pc <= BIOS + 48 && (pc - BIOS) % 3 == 0 {

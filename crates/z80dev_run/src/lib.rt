@@ -3,12 +3,17 @@
 
 mod ending;
 mod input;
+mod labels;
+mod lines;
 mod preparing;
 mod running;
 mod stopped;
+mod text;
 
 pub use cpm_run::{Record, Stop, TraceStep, Why, Wish};
 pub use ending::conclude;
+pub use labels::Labels;
+pub use lines::trace_lines;
 pub use preparing::ready;
 pub use running::{Ran, Ready, TracedRan};
 pub use stopped::stopped_line;
