@@ -5,3 +5,5 @@ pub mod Ending
 pub mod Labelled
 pub mod Text
 pub mod Lines
+pub mod Registers
+pub mod Reports

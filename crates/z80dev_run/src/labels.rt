@@ -97,7 +97,8 @@ impl Labels {
         })
     }
 
-    fn has(&self, address: u16) -> bool
+    /// Whether an address is that of a byte of the program.
+    pub fn has(&self, address: u16) -> bool
         ensures { result ≡ is_in_program self.now.size address }
     {
         let address = address as usize;

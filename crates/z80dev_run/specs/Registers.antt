@@ -1,0 +1,114 @@
+-- What is printed of the machine at the end of a run.
+use Rattle.std.specs.Prelude.{ℕ, ◌+◌, ◌-◌, ◌%◌, ◌==◌, ◌&&◌, Bool, true, false, nat_le, nat_lt, List, [], ◌∷◌, ◌++◌, Option, Some, None, codes, drop, if◌then◌else◌, length, map, slice_get, take}
+use Rattle.z80_cpu.specs.Types.{Flags}
+use Rattle.z80_cpu.specs.State.{af, bc, de, hl, up_by, word_at}
+use Rattle.z80_cpu.specs.declared.registers.Cpu.{Cpu}
+use Rattle.cpm_fcb.specs.Fcbs.{fcb_at, name_of}
+use Rattle.cpm_bdos.specs.Functions.{function_of}
+use Rattle.cpm_bdos.specs.declared.function.Function.{Function}
+use Rattle.cpm_bdos.specs.declared.function.Function.TheVariants as function
+use Rattle.cpm_bdos.specs.declared.function.SearchCall.TheVariants as searching
+use Rattle.cpm_run.specs.Turns.{Call, Entry, Place, Program, is_finished, place_at_pc}
+use Rattle.cpm_run.specs.declared.recording.TraceStep.{TraceStep}
+use Rattle.z80dev_run.specs.Labelled.{Known, is_in_program, label_at, label_text}
+use Rattle.z80dev_run.specs.Text.{blanks, word_text}
+
+-- a register and its value, as in BC=0009
+abbrev pub value_text : List ℕ → ℕ → List ℕ
+value_text name value = name ++ codes "=" ++ word_text value
+
+-- the same with a blank after it
+abbrev pub value_column : List ℕ → ℕ → List ℕ
+value_column name value = value_text name value ++ blanks 1
+
+abbrev pub flag_letter : Bool → ℕ → ℕ
+flag_letter is_set letter = if is_set then letter else 0x2D
+
+-- the flags as letters: S, Z, H, P, N and C in the places of their bits, and `-` for a flag that is not set
+abbrev pub flags_text : Flags → List ℕ
+flags_text f =
+    flag_letter f.sign 0x53 ∷ flag_letter f.zero 0x5A ∷ 0x2D ∷ flag_letter f.half_carry 0x48 ∷ 0x2D ∷ flag_letter f.parity_overflow 0x50
+    ∷ flag_letter f.subtract 0x4E ∷ flag_letter f.carry 0x43 ∷ []
+
+-- four pairs of registers
+abbrev pub pairs_text : ℕ → ℕ → ℕ → ℕ → List ℕ
+pairs_text a b d h = value_column (codes "AF") a ++ value_column (codes "BC") b ++ value_column (codes "DE") d ++ value_column (codes "HL") h
+
+abbrev pub shadow_pairs_text : ℕ → ℕ → ℕ → ℕ → List ℕ
+shadow_pairs_text a b d h = value_column (codes "AF'") a ++ value_column (codes "BC'") b ++ value_column (codes "DE'") d ++ value_column (codes "HL'") h
+
+abbrev pub index_text : Cpu → List ℕ
+index_text cpu = value_column (codes "IX") cpu.ix ++ value_column (codes "IY") cpu.iy ++ value_column (codes "SP") cpu.sp ++ value_column (codes "PC") cpu.pc
+
+-- the first line: the registers and the flags
+abbrev pub main_line : Cpu → List ℕ
+main_line cpu = pairs_text (af cpu.main) (bc cpu.main) (de cpu.main) (hl cpu.main) ++ index_text cpu ++ flags_text cpu.main.flags ++ codes "\n"
+
+-- the second line: the other set of registers, I and R
+abbrev pub shadow_line : Cpu → List ℕ
+shadow_line cpu =
+    shadow_pairs_text (af cpu.shadow) (bc cpu.shadow) (de cpu.shadow) (hl cpu.shadow) ++ value_column (codes "I") cpu.i ++ value_text (codes "R") cpu.r ++ codes "\n"
+
+-- a word in memory, and four of them
+abbrev pub word_there : List ℕ → ℕ → List ℕ
+word_there memory address = blanks 1 ++ word_text (word_at address memory)
+
+abbrev pub four_words : List ℕ → ℕ → List ℕ
+four_words memory address = word_there memory address ++ word_there memory (up_by 2 address) ++ word_there memory (up_by 4 address) ++ word_there memory (up_by 6 address)
+
+-- the third line: the eight words from SP on
+abbrev pub stack_line : Cpu → List ℕ → List ℕ
+stack_line cpu memory = codes "stack at " ++ word_text cpu.sp ++ codes ":" ++ four_words memory cpu.sp ++ four_words memory (up_by 8 cpu.sp) ++ codes "\n"
+
+-- where a call of the system returns to, with the label there
+abbrev pub return_text : Known → ℕ → List ℕ
+return_text known address = codes "returns to " ++ word_text address ++ blanks 1 ++ label_text (label_at known address) ++ codes "\n"
+
+-- the line for a call of the system
+abbrev pub return_line : Place → Known → ℕ → List ℕ
+return_line Program known address = []
+return_line Call known address = return_text known address
+return_line (Entry n) known address = return_text known address
+
+-- whether DE is the address of a file control block in a call of this function
+abbrev pub takes_fcb : Option Function → Bool
+takes_fcb (Some (function.File call)) = true
+takes_fcb (Some (function.Record call)) = true
+takes_fcb (Some (function.Search searching.First)) = true
+takes_fcb other = false
+
+-- a byte of a name without its attribute, or `?` if it cannot be printed
+abbrev pub name_byte : ℕ → ℕ
+name_byte byte = if nat_le 0x20 (byte % 128) && nat_lt (byte % 128) 0x7F then byte % 128 else 0x3F
+
+-- the name in a file control block
+abbrev pub name_text : List ℕ → List ℕ
+name_text name = map name_byte (take 8 name) ++ codes "." ++ map name_byte (drop 8 name)
+
+-- the line for a call of the BDOS that has a file control block
+abbrev pub fcb_line : Cpu → List ℕ → List ℕ
+fcb_line cpu memory =
+    if (cpu.pc == 0xFE06) && takes_fcb (function_of cpu.main.c) then codes "FCB at " ++ word_text (de cpu.main) ++ codes ": " ++ name_text (name_of (fcb_at (de cpu.main) memory)) ++ codes "\n" else []
+
+-- the step at this distance from the last
+abbrev pub step_from_end : ℕ → List TraceStep → Option TraceStep
+step_from_end k steps = if nat_lt k (length steps) then slice_get steps (length steps - k - 1) else None
+
+-- The address from which the program came to its end: that of the last step, or of the one before it if the last is the jump at address 0.
+abbrev pub came_from : Option TraceStep → Option TraceStep → Option ℕ
+came_from None before = None
+came_from (Some last) None = Some last.before.pc
+came_from (Some last) (Some before) = Some (if last.before.pc == 0 then before.before.pc else last.before.pc)
+
+abbrev pub outside_text : Known → Option ℕ → List ℕ
+outside_text known None = []
+outside_text known (Some address) = if is_in_program known.size address then [] else codes "ended by a jump from " ++ word_text address ++ codes ", outside the program\n"
+
+-- the line for a program that has finished by a jump from outside of its bytes
+abbrev pub end_line : Known → Cpu → List TraceStep → List ℕ
+end_line known cpu steps = if is_finished cpu.pc then outside_text known (came_from (step_from_end 0 steps) (step_from_end 1 steps)) else []
+
+-- The machine at the end of a run whose last steps are known.
+abbrev pub machine_text : Known → Cpu → List ℕ → List TraceStep → List ℕ
+machine_text known cpu memory steps =
+    main_line cpu ++ shadow_line cpu ++ stack_line cpu memory ++ return_line (place_at_pc cpu.pc) known (word_at cpu.sp memory) ++ fcb_line cpu memory ++ end_line known cpu steps

@@ -1,0 +1,329 @@
+//! Prints the machine at the end of a run.
+
+ghost use Rattle.std.specs.Prelude.{◌≡◌, ◌++◌, IfOk, OnOk, map, option_copied};
+ghost use Rattle.cpm_run.specs.Turns.{place_at_pc};
+ghost use Rattle.z80_cpu.specs.State.{af, bc, de, hl, word_at};
+ghost use Rattle.z80dev_run.specs.Registers.{came_from, end_line, fcb_line, flag_letter, flags_text, four_words, index_text, machine_text, main_line, name_byte, name_text, outside_text, pairs_text, return_line, return_text, shadow_line, shadow_pairs_text, stack_line, takes_fcb, value_column, value_text, word_there};
+
+use crate::labels::Labels;
+use crate::lines::label_of;
+use crate::text::{put_blanks, put_word};
+use circular_buffer::HeapCircularBuffer;
+use cpm_bdos::{Function, SearchCall};
+use cpm_fcb::Fcb;
+use cpm_run::{BDOS, TraceStep, bios_entry, is_finished};
+use std::alloc::{AllocError, Global};
+use z80_cpu::{Cpu, Flags, Memory};
+
+/// Appends a register and its value, as in `BC=0009`.
+fn put_value(alloc: Global, out: &mut Vec<u8>, name: &[u8], value: u16) -> Result<(), AllocError>
+    ensures { OnOk result (out.new.items ≡ out.old.items ++ value_text name.now value) }
+{
+    out.extend_from_slice(name)?;
+    out.push(b'=')?;
+    put_word(alloc, out, value)
+}
+
+/// Appends the same with a blank after it.
+fn put_value_column(
+    alloc: Global,
+    out: &mut Vec<u8>,
+    name: &[u8],
+    value: u16,
+) -> Result<(), AllocError>
+    ensures { OnOk result (out.new.items ≡ out.old.items ++ value_column name.now value) }
+{
+    put_value(alloc, out, name, value)?;
+    put_blanks(out, 1)
+}
+
+/// A letter, or `-` if the flag is not set.
+fn flag_letter(is_set: bool, letter: u8) -> u8
+    ensures { result ≡ flag_letter is_set letter }
+{
+    if is_set { letter } else { b'-' }
+}
+
+/// The flags as letters.
+fn flags_text(flags: Flags) -> [u8; 8]
+    ensures { result ≡ flags_text flags }
+{
+    [
+        flag_letter(flags.sign, b'S'),
+        flag_letter(flags.zero, b'Z'),
+        b'-',
+        flag_letter(flags.half_carry, b'H'),
+        b'-',
+        flag_letter(flags.parity_overflow, b'P'),
+        flag_letter(flags.subtract, b'N'),
+        flag_letter(flags.carry, b'C'),
+    ]
+}
+
+fn put_pairs(alloc: Global, out: &mut Vec<u8>, cpu: &Cpu) -> Result<(), AllocError>
+    ensures { OnOk result (out.new.items ≡ out.old.items ++ pairs_text (af cpu.now.main) (bc cpu.now.main) (de cpu.now.main) (hl cpu.now.main)) }
+{
+    put_value_column(alloc, out, b"AF", cpu.main.af())?;
+    put_value_column(alloc, out, b"BC", cpu.main.bc())?;
+    put_value_column(alloc, out, b"DE", cpu.main.de())?;
+    put_value_column(alloc, out, b"HL", cpu.main.hl())
+}
+
+fn put_shadow_pairs(alloc: Global, out: &mut Vec<u8>, cpu: &Cpu) -> Result<(), AllocError>
+    ensures { OnOk result (out.new.items ≡ out.old.items ++ shadow_pairs_text (af cpu.now.shadow) (bc cpu.now.shadow) (de cpu.now.shadow) (hl cpu.now.shadow)) }
+{
+    put_value_column(alloc, out, b"AF'", cpu.shadow.af())?;
+    put_value_column(alloc, out, b"BC'", cpu.shadow.bc())?;
+    put_value_column(alloc, out, b"DE'", cpu.shadow.de())?;
+    put_value_column(alloc, out, b"HL'", cpu.shadow.hl())
+}
+
+fn put_index(alloc: Global, out: &mut Vec<u8>, cpu: &Cpu) -> Result<(), AllocError>
+    ensures { OnOk result (out.new.items ≡ out.old.items ++ index_text cpu.now) }
+{
+    put_value_column(alloc, out, b"IX", cpu.ix)?;
+    put_value_column(alloc, out, b"IY", cpu.iy)?;
+    put_value_column(alloc, out, b"SP", cpu.sp)?;
+    put_value_column(alloc, out, b"PC", cpu.pc)
+}
+
+/// Appends the line of the registers and the flags.
+fn put_main_line(alloc: Global, out: &mut Vec<u8>, cpu: &Cpu) -> Result<(), AllocError>
+    ensures { OnOk result (out.new.items ≡ out.old.items ++ main_line cpu.now) }
+{
+    put_pairs(alloc, out, cpu)?;
+    put_index(alloc, out, cpu)?;
+    out.extend_from_slice(&flags_text(cpu.main.flags))?;
+    out.extend_from_slice(b"\n")
+}
+
+/// Appends the line of the other set of registers, I and R.
+fn put_shadow_line(alloc: Global, out: &mut Vec<u8>, cpu: &Cpu) -> Result<(), AllocError>
+    ensures { OnOk result (out.new.items ≡ out.old.items ++ shadow_line cpu.now) }
+{
+    put_shadow_pairs(alloc, out, cpu)?;
+    put_value_column(alloc, out, b"I", u16::from(cpu.i))?;
+    put_value(alloc, out, b"R", u16::from(cpu.r))?;
+    out.extend_from_slice(b"\n")
+}
+
+/// Appends a word in memory.
+fn put_word_there(
+    alloc: Global,
+    out: &mut Vec<u8>,
+    memory: &Memory,
+    address: u16,
+) -> Result<(), AllocError>
+    ensures { OnOk result (out.new.items ≡ out.old.items ++ word_there memory.now address) }
+{
+    put_blanks(out, 1)?;
+    put_word(alloc, out, memory.word(address))
+}
+
+fn put_four_words(
+    alloc: Global,
+    out: &mut Vec<u8>,
+    memory: &Memory,
+    address: u16,
+) -> Result<(), AllocError>
+    ensures { OnOk result (out.new.items ≡ out.old.items ++ four_words memory.now address) }
+{
+    put_word_there(alloc, out, memory, address)?;
+    put_word_there(alloc, out, memory, address.wrapping_add(2))?;
+    put_word_there(alloc, out, memory, address.wrapping_add(4))?;
+    put_word_there(alloc, out, memory, address.wrapping_add(6))
+}
+
+/// Appends the line of the stack's top eight words.
+fn put_stack_line(
+    alloc: Global,
+    out: &mut Vec<u8>,
+    cpu: &Cpu,
+    memory: &Memory,
+) -> Result<(), AllocError>
+    ensures { OnOk result (out.new.items ≡ out.old.items ++ stack_line cpu.now memory.now) }
+{
+    out.extend_from_slice(b"stack at ")?;
+    put_word(alloc, out, cpu.sp)?;
+    out.push(b':')?;
+    put_four_words(alloc, out, memory, cpu.sp)?;
+    put_four_words(alloc, out, memory, cpu.sp.wrapping_add(8))?;
+    out.extend_from_slice(b"\n")
+}
+
+/// Appends where a call of the system returns to.
+fn put_return(
+    alloc: Global,
+    out: &mut Vec<u8>,
+    labels: &Labels,
+    address: u16,
+) -> Result<(), AllocError>
+    ensures { OnOk result (out.new.items ≡ out.old.items ++ return_text labels.now address) }
+{
+    let label = label_of(alloc, labels, address)?;
+    out.extend_from_slice(b"returns to ")?;
+    put_word(alloc, out, address)?;
+    put_blanks(out, 1)?;
+    out.extend_from_slice(&label)?;
+    out.extend_from_slice(b"\n")
+}
+
+/// Appends where the call of the system at PC returns to, if one is there.
+fn put_return_line(
+    alloc: Global,
+    out: &mut Vec<u8>,
+    cpu: &Cpu,
+    memory: &Memory,
+    labels: &Labels,
+) -> Result<(), AllocError>
+    ensures { OnOk result (out.new.items ≡ out.old.items ++ return_line (place_at_pc cpu.now.pc) labels.now (word_at cpu.now.sp memory.now)) }
+{
+    let address = memory.word(cpu.sp);
+    if cpu.pc == BDOS {
+        return put_return(alloc, out, labels, address);
+    }
+    match bios_entry(cpu.pc) {
+        Some(_) => put_return(alloc, out, labels, address),
+        None => Ok(()),
+    }
+}
+
+/// Whether DE is the address of a file control block in a call of this function.
+fn takes_fcb(function: Option<Function>) -> bool
+    ensures { result ≡ takes_fcb function }
+{
+    match function {
+        Some(Function::File(_)) => true,
+        Some(Function::Record(_)) => true,
+        Some(Function::Search(SearchCall::First)) => true,
+        _ => false,
+    }
+}
+
+/// A byte of a name without its attribute, or `?` if it cannot be printed.
+fn name_byte(byte: u8) -> u8
+    ensures { result ≡ name_byte byte }
+{
+    let letter = byte % 128;
+    if letter >= 0x20 && letter < 0x7F {
+        letter
+    } else {
+        b'?'
+    }
+}
+
+/// Bytes of a name, as they are printed.
+fn printable(alloc: Global, bytes: &[u8]) -> Result<Vec<u8>, AllocError>
+    ensures { IfOk result (λ text. text.items ≡ map name_byte bytes.now) }
+{
+    bytes.iter().map(|byte| name_byte(*byte)).collect(alloc)
+}
+
+/// The name in a file control block, as it is printed.
+fn name_text(alloc: Global, name: [u8; 11]) -> Result<Vec<u8>, AllocError>
+    ensures { IfOk result (λ text. text.items ≡ name_text name) }
+{
+    let (stem, kind) = name[..].split_at(8);
+    let mut text = printable(alloc, stem)?;
+    let ending = printable(alloc, kind)?;
+    text.push(b'.')?;
+    text.extend_from_slice(&ending)?;
+    Ok(text)
+}
+
+/// Appends the file control block of the call at PC, if it has one.
+fn put_fcb_line(
+    alloc: Global,
+    out: &mut Vec<u8>,
+    cpu: &Cpu,
+    memory: &Memory,
+) -> Result<(), AllocError>
+    ensures { OnOk result (out.new.items ≡ out.old.items ++ fcb_line cpu.now memory.now) }
+{
+    if cpu.pc != BDOS || !takes_fcb(Function::of(cpu.main.c)) {
+        return Ok(());
+    }
+    let address = cpu.main.de();
+    let name = name_text(alloc, Fcb::at(memory, address).name())?;
+    out.extend_from_slice(b"FCB at ")?;
+    put_word(alloc, out, address)?;
+    out.extend_from_slice(b": ")?;
+    out.extend_from_slice(&name)?;
+    out.extend_from_slice(b"\n")
+}
+
+/// The address from which a program came to its end: that of its last step, or of the one before it if the last is the jump at address 0.
+fn came_from(last: Option<&TraceStep>, before: Option<&TraceStep>) -> Option<u16>
+    ensures { result ≡ came_from (option_copied last.entry) (option_copied before.entry) }
+{
+    let last = last?.before.pc;
+    match before {
+        Some(step) => {
+            if last == 0 {
+                Some(step.before.pc)
+            } else {
+                Some(last)
+            }
+        }
+        None => Some(last),
+    }
+}
+
+/// Appends the address from which a program came to its end, if it is outside of the program.
+fn put_outside(
+    alloc: Global,
+    out: &mut Vec<u8>,
+    labels: &Labels,
+    address: Option<u16>,
+) -> Result<(), AllocError>
+    ensures { OnOk result (out.new.items ≡ out.old.items ++ outside_text labels.now address) }
+{
+    let Some(address) = address else {
+        return Ok(());
+    };
+    if labels.has(address) {
+        return Ok(());
+    }
+    out.extend_from_slice(b"ended by a jump from ")?;
+    put_word(alloc, out, address)?;
+    out.extend_from_slice(b", outside the program\n")
+}
+
+/// Appends a line for a program that has finished by a jump from outside of its bytes.
+fn put_end_line(
+    alloc: Global,
+    out: &mut Vec<u8>,
+    cpu: &Cpu,
+    last: &HeapCircularBuffer<TraceStep>,
+    labels: &Labels,
+) -> Result<(), AllocError>
+    ensures { OnOk result (out.new.items ≡ out.old.items ++ end_line labels.now cpu.now last.now.items) }
+{
+    if !is_finished(cpu.pc) {
+        return Ok(());
+    }
+    let from = came_from(last.nth_back(0), last.nth_back(1));
+    put_outside(alloc, out, labels, from)
+}
+
+/// Prints the machine at the end of a run: the registers and the flags, the stack's top eight words, and the call of the system at PC: where
+/// it returns to, and its file control block. `last` has the last two steps at least; a program that has finished by a jump from outside of
+/// its bytes has a line that says so.
+pub fn machine_text(
+    alloc: Global,
+    cpu: &Cpu,
+    memory: &Memory,
+    last: &HeapCircularBuffer<TraceStep>,
+    labels: &Labels,
+) -> Result<Vec<u8>, AllocError>
+    ensures { IfOk result (λ text. text.items ≡ machine_text labels.now cpu.now memory.now last.now.items) }
+{
+    let mut out = Vec::new(alloc);
+    put_main_line(alloc, &mut out, cpu)?;
+    put_shadow_line(alloc, &mut out, cpu)?;
+    put_stack_line(alloc, &mut out, cpu, memory)?;
+    put_return_line(alloc, &mut out, cpu, memory, labels)?;
+    put_fcb_line(alloc, &mut out, cpu, memory)?;
+    put_end_line(alloc, &mut out, cpu, last, labels)?;
+    Ok(out)
+}

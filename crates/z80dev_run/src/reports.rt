@@ -1,0 +1,46 @@
+//! Prints what a run has kept of its steps.
+
+ghost use Rattle.std.specs.Prelude.{◌≡◌, IfOk};
+ghost use Rattle.circular_buffer.specs.Buffer.{keep_last};
+ghost use Rattle.z80dev_run.specs.Lines.{IsTrace};
+ghost use Rattle.z80dev_run.specs.Reports.{IsTraceFile};
+
+use crate::labels::Labels;
+use crate::lines::trace_lines;
+use cpm_run::Record;
+use std::alloc::{AllocError, Global};
+
+/// How many of the first steps of a run a trace file has.
+pub const TRACE_STEPS: usize = 1_000_000;
+
+/// Answers the bytes of a trace file: a line for each of the first steps that were kept, and if there were more, how many.
+pub fn trace_file(
+    alloc: Global,
+    kept: &Record,
+    turns: u64,
+    labels: &Labels,
+) -> Result<Vec<u8>, AllocError>
+    ensures { IfOk result (λ text. IsTraceFile labels.now kept.now.first.items turns text.items) }
+{
+    let mut text = trace_lines(alloc, &kept.first, labels)?;
+    let left = turns.saturating_sub(kept.first.len() as u64);
+    if left != 0 {
+        let more = format!(in alloc; "{left} more steps\n")?;
+        text.extend_from_slice(more.as_bytes())?;
+    }
+    Ok(text)
+}
+
+/// Answers the lines of the last steps, at most `most` of them.
+pub fn last_lines(
+    alloc: Global,
+    kept: &Record,
+    most: usize,
+    labels: &Labels,
+) -> Result<Vec<u8>, AllocError>
+    ensures { IfOk result (λ text. IsTrace labels.now (keep_last most kept.now.last.items) text.items) }
+{
+    let steps = kept.last.to_vec(alloc)?;
+    let from = steps.len().saturating_sub(most);
+    trace_lines(alloc, &steps[from..], labels)
+}
