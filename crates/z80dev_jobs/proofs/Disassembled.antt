@@ -5,22 +5,21 @@ use Rattle.z80dev_finish.specs.Files.{Folder}
 use Rattle.z80dev_finish.specs.declared.end.End.{End}
 use Rattle.z80dev_finish.specs.declared.end.End.TheVariants as end
 use Rattle.z80dev_jobs.specs.Making.{Effect, PrintsSource, WithIfGiven}
-use Rattle.z80dev_jobs.specs.Private.Steps.{ReadsIfGiven, RefusesProgram, bytes_in}
-use Rattle.z80dev_jobs.specs.Reading.{IsNotRead, IsRead}
+use Rattle.z80dev_jobs.specs.Private.Steps.{ReadsIfGiven, RefusesProgram}
+use Rattle.z80dev_jobs.specs.Reading.{IsNotRead, IsRead, bytes_in}
 
 -- reading changes no file
 pub same_folder : (path : Option (Bor (List ℕ))) (old new : Folder) (found : Option (Vec ℕ Global)) → ReadsIfGiven path old new (Ok found) → new ≡ old
-same_folder None old new found is = is.1
-same_folder (Some path) old new found is = is.2
+same_folder path old new found is = is.0
 
 pub found_if_given : (path : Option (Bor (List ℕ))) (Does : Option (List ℕ) → Type 0) (x : Effect) (mid new : Folder) (found : Option (Vec ℕ Global)) (e : End) → mid ≡ x.old
     → ReadsIfGiven path mid new (Ok found) → Does (bytes_in found) → WithIfGiven path Does x e
-found_if_given None Does x mid new found e same is does = let none : found ≡ None = cc is.0 in subst (λ f. Does (bytes_in f)) none does
-found_if_given (Some path) Does x mid new found e same (bytes, at, unchanged, read) does = inl (bytes.items, subst (λ f. IsRead f path.now bytes.items) same read, subst (λ f. Does (bytes_in f)) at does)
+found_if_given None Does x mid new found e same is does = subst (λ f. Does (bytes_in f)) is.1 does
+found_if_given (Some path) Does x mid new found e same (unchanged, bytes, at, read) does = inl (bytes.items, subst (λ f. IsRead f path.now bytes.items) same read, subst (λ f. Does (bytes_in f)) at does)
 
 pub unread_if_given : (path : Option (Bor (List ℕ))) (Does : Option (List ℕ) → Type 0) (x : Effect) (mid : Folder) (e : End) → mid ≡ x.old → ReadsIfGiven path mid x.new (Err e) → x.after ≡ x.before
     → WithIfGiven path Does x e
-unread_if_given None Does x mid e same is quiet = absurd (cc is.0)
+unread_if_given None Does x mid e same is quiet = absurd is
 unread_if_given (Some path) Does x mid e same is quiet = inr (subst (λ f. IsNotRead f x.new path.now e) same is, quiet)
 
 pub prints_nothing : (program : List ℕ) (labels : Option (List ℕ)) (entries : List (List ℕ)) (x : Effect) (e : End) → RefusesProgram program labels entries e → x.after ≡ x.before

@@ -3,6 +3,7 @@ pub mod World
 pub mod Outputs
 pub mod Making
 pub mod Disks
+pub mod Telling
 pub mod Running
 pub mod Words
 pub mod Command

@@ -1,5 +1,6 @@
 -- What a command reads: files by their paths, and standard input.
-use Rattle.std.specs.Prelude.{◌≡◌, ◌⊎◌, ℕ, ◌<◌, ◌≤◌, Bool, false, true, IfSome, List, [], Option, Some, Result, Ok, Err, Vec, length, map, slice_get, take}
+use Rattle.std.specs.Prelude.{◌≡◌, ◌⊎◌, ℕ, ◌<◌, ◌≤◌, Bool, false, true, IfSome, List, [], Option, None, Some, Result, Ok, Err, Vec, length, map, option_map, slice_get, take}
+use Rattle.std.specs.Borrow.{Bor}
 use Rattle.std.specs.Global.{Global}
 use Rattle.std.specs.List.{AllZip}
 use Rattle.common.specs.declared.limits.TheConstants.{LONGEST_TEXT}
@@ -22,6 +23,18 @@ IsNotRead old new path _ = ⊥
 abbrev pub ReadsFile : Folder → Folder → List ℕ → Result (Vec ℕ Global) End → Type 0
 ReadsFile old new path (Ok bytes) = (new ≡ old) × IsRead old path bytes.items
 ReadsFile old new path (Err e) = IsNotRead old new path e
+
+abbrev pub bytes_in : Option (Vec ℕ Global) → Option (List ℕ)
+bytes_in = option_map (λ bytes. bytes.items)
+
+-- a file has these bytes, if its path is given
+abbrev pub IsReadIfGiven : Folder → Option (Bor (List ℕ)) → Option (Vec ℕ Global) → Type 0
+IsReadIfGiven folder None bytes = bytes ≡ None
+IsReadIfGiven folder (Some path) bytes = (found : Vec ℕ Global) × (bytes ≡ Some found) × IsRead folder path.now found.items
+
+abbrev pub IsNotReadIfGiven : Folder → Folder → Option (Bor (List ℕ)) → End → Type 0
+IsNotReadIfGiven old new None e = ⊥
+IsNotReadIfGiven old new (Some path) e = IsNotRead old new path.now e
 
 -- One of the files is not read, and those before it are; or memory ran out.
 abbrev pub IsOneNotRead : Folder → Folder → List (List ℕ) → End → Type 0

@@ -1,6 +1,7 @@
 -- How the command `run` ends.
-use Rattle.std.specs.Prelude.{◌≡◌, ◌≢◌, ◌⊎◌, ℕ, Bool, ◌&&◌, not, List, [], Option, None, Some, Result, Ok, Err, length, map, option_map, string_bytes, unwrap_or}
+use Rattle.std.specs.Prelude.{◌≡◌, ◌≢◌, ◌⊎◌, ℕ, Bool, ◌&&◌, not, IfSome, List, [], ◌∷◌, Option, None, Some, Result, Ok, Err, Vec, length, map, option_map, string_bytes, unwrap_or}
 use Rattle.std.specs.Borrow.{Bor}
+use Rattle.std.specs.Global.{Global}
 use Rattle.cpm_fcb.specs.declared.stop.Stop.TheVariants as stop
 use Rattle.cpm_run.specs.declared.ending.Why.{Why}
 use Rattle.cpm_run.specs.declared.ending.Why.TheVariants as why
@@ -11,15 +12,19 @@ use Rattle.z80dev_disk.specs.Disks.{IsMounted}
 use Rattle.z80dev_disk.specs.Refusals.{refusal_text}
 use Rattle.z80dev_disk.specs.declared.refusal.Refusal.{Refusal}
 use Rattle.z80dev_commands.specs.declared.job.Run.{Run}
-use Rattle.z80dev_finish.specs.End.{Tells, end_status}
+use Rattle.z80dev_commands.specs.declared.job.Telling.{Telling}
+use Rattle.z80dev_finish.specs.End.{IsPut, Tells, end_status}
 use Rattle.z80dev_finish.specs.Files.{Folder}
 use Rattle.z80dev_finish.specs.declared.end.End.{End}
 use Rattle.z80dev_finish.specs.declared.end.End.TheVariants as end
 use Rattle.z80dev_jobs.specs.Disks.{HasClaimed, IsNotClaimed, KeepsFile, TellsLine, warnings}
-use Rattle.z80dev_jobs.specs.Reading.{IsInputUnread, IsNotRead, IsRead, Reader, ReadsInput}
+use Rattle.z80dev_jobs.specs.Reading.{IsInputUnread, IsNotRead, IsNotReadIfGiven, IsRead, IsReadIfGiven, Reader, ReadsInput, bytes_in}
+use Rattle.z80dev_jobs.specs.Telling.{AreKnown, AreNotKnown, IsToldRun, WritesTold, why_not_told}
 use Rattle.z80dev_jobs.specs.World.{World}
 use Rattle.z80dev_jobs.specs.declared.running.Inputs.{Inputs}
+use Rattle.z80dev_jobs.specs.declared.telling.Told.{Told}
 use Rattle.z80dev_run.specs.Ending.{Concludes}
+use Rattle.z80dev_run.specs.Labelled.{Known}
 use Rattle.z80dev_run.specs.Program.{IsRan}
 
 -- The image of the disk is claimed, if there is one: these are its bytes and the lines that warn of it. No image is no bytes.
@@ -34,13 +39,16 @@ IsDiskNotClaimed (Some path) old new e = IsNotClaimed old new path.now e
 abbrev pub lines_in : Inputs → Option (List ℕ)
 lines_in inputs = option_map string_bytes inputs.warnings
 
--- The image of the disk is claimed, if there is one; then the program is read, then standard input. The first that is not read is the end.
-abbrev pub ReadsInputs : Option (Bor (List ℕ)) → Bool → List ℕ → Folder → Folder → Reader → Reader → Result Inputs End → Type 0
-ReadsInputs disk lock path old new before after (Ok inputs) =
-    ClaimsDisk disk lock old new inputs.image.items (lines_in inputs) × IsRead old path inputs.program.items × ReadsInput before after (Ok inputs.typed)
-ReadsInputs disk lock path old new before after (Err e) = (IsDiskNotClaimed disk old new e × (after ≡ before))
-    ⊎ ((mid : Folder) × (image : List ℕ) × (lines : Option (List ℕ)) × ClaimsDisk disk lock old mid image lines
-    × ((IsNotRead mid new path e × (after ≡ before)) ⊎ ((program : List ℕ) × IsRead old path program × (new ≡ mid) × IsInputUnread before after e)))
+-- The image of the disk is claimed, if there is one; then the program is read, then the labels, if their path is given, then standard input. The
+-- first that is not read is the end.
+abbrev pub ReadsInputs : Run → Folder → Folder → Reader → Reader → Result Inputs End → Type 0
+ReadsInputs run old new before after (Ok inputs) = ClaimsDisk run.disk run.lock old new inputs.image.items (lines_in inputs)
+    × IsRead old run.program.now inputs.program.items × IsReadIfGiven old run.telling.labels inputs.labels × ReadsInput before after (Ok inputs.typed)
+ReadsInputs run old new before after (Err e) = (IsDiskNotClaimed run.disk old new e × (after ≡ before))
+    ⊎ ((mid : Folder) × (image : List ℕ) × (lines : Option (List ℕ)) × ClaimsDisk run.disk run.lock old mid image lines
+    × ((IsNotRead mid new run.program.now e × (after ≡ before)) ⊎ ((program : List ℕ) × IsRead old run.program.now program
+    × ((IsNotReadIfGiven mid new run.telling.labels e × (after ≡ before))
+    ⊎ ((labels : Option (Vec ℕ Global)) × IsReadIfGiven old run.telling.labels labels × (new ≡ mid) × IsInputUnread before after e)))))
 
 -- The bytes are no disk, which is the end; or memory ran out.
 abbrev pub IsNoDisk : List ℕ → End → Type 0
@@ -63,35 +71,90 @@ why_at end (Err _) = why.Stopped stop.ConsoleFault
 abbrev pub WarnsAfter : Option (List ℕ) → Stream → Stream → ℕ → Type 0
 WarnsAfter lines old new status = (status ≡ 0 → TellsLine lines old new) × (status ≢ 0 → new ≡ old)
 
--- It is reported that the image cannot be written, or why the run ended; warnings follow if the program ended by itself.
-abbrev pub ReportsRun : Option (List ℕ) → Result Unit End → Why → ℕ → Stream → Stream → ℕ → Type 0
-ReportsRun lines (Ok _) end pc old new status = (mid : Stream) × Concludes end pc old mid status × WarnsAfter lines mid new status
-ReportsRun lines (Err e) end pc old new status = (status ≡ end_status e) × Tells e old new
+-- these lines are put, if there are some
+abbrev pub PutsLines : List ℕ → Stream → Stream → Type 0
+PutsLines [] old new = new ≡ old
+PutsLines (byte ∷ more) old new = IsPut old new (byte ∷ more)
 
--- What the program printed is flushed, the image that it leaves is kept, and it is reported why it stopped, or that the image could not be
--- written. Which of the first two comes first, this does not say.
-abbrev pub EndsRun : Option (Bor (List ℕ)) → List ℕ → Option (List ℕ) → Why → ℕ → List ℕ → Stream → Stream → Folder → Folder → Stream → Stream → ℕ → Type 0
-EndsRun disk bytes lines end pc image printed output old new before after status =
-    (flushed : Result Unit WriteFailed) × (kept : Result Unit End) × Hands_on printed output flushed × IsKept disk bytes image old new kept × ReportsRun lines kept (why_at end flushed) pc before after status
+-- the lines that a run tells; None if memory ran out for what it tells
+abbrev pub told_lines : Option Told → List ℕ
+told_lines None = []
+told_lines (Some told) = told.lines.items
 
--- The program is run with its words on the disk, with the text of standard input typed; then the run ends.
-abbrev pub Runs : Option (Bor (List ℕ)) → ℕ → List (List ℕ) → Inputs → Folder → World → World → ℕ → Type 0
-Runs disk steps words inputs claimed old new status = (end : Why) × (turns pc : ℕ) × (image : List ℕ) × (printed : Stream)
-    × IsRan inputs.program.items words inputs.image.items inputs.typed.items old.output steps end turns pc image printed
-    × EndsRun disk inputs.image.items (lines_in inputs) end pc image printed new.output claimed new.folder old.errors new.errors status
+-- It is reported that a file cannot be written, or why the run ended. In the second case the run then tells its last steps and its registers, and
+-- warnings follow if the program ended by itself.
+abbrev pub ReportsRun : Option (List ℕ) → List ℕ → Result Unit End → Why → ℕ → Stream → Stream → ℕ → Type 0
+ReportsRun lines told (Ok _) end pc old new status =
+    (concluded : Stream) × (then : Stream) × Concludes end pc old concluded status × PutsLines told concluded then × WarnsAfter lines then new status
+ReportsRun lines told (Err e) end pc old new status = (status ≡ end_status e) × Tells e old new
 
--- an end before the run, which changes no file and prints nothing
-abbrev pub EndsBefore : End → World → World → ℕ → Type 0
-EndsBefore e old new status = (new.output ≡ old.output) × (status ≡ end_status e) × Tells e old.errors new.errors
+-- What a run tells is written, or memory has run out for it.
+abbrev pub WritesIfTold : Telling → Option Told → Folder → Folder → Result Unit End → Type 0
+WritesIfTold telling (Some told) old new result = WritesTold telling told old new result
+WritesIfTold telling None old new (Ok _) = ⊥
+WritesIfTold telling None old new (Err e) = (e ≡ end.NoMemory) × (new ≡ old)
+
+-- this is done if the image was kept; otherwise that is the end
+abbrev pub IfKept : Result Unit End → (Folder → Folder → Result Unit End → Type 0) → Folder → Folder → Result Unit End → Type 0
+IfKept (Ok _) Does old new result = Does old new result
+IfKept (Err e) Does old new result = (result ≡ Err e) × (new ≡ old)
+
+-- The image that a run leaves is kept; then what the run tells is written.
+abbrev pub KeepsAll : Run → List ℕ → List ℕ → Option Told → Folder → Folder → Result Unit End → Type 0
+KeepsAll run bytes image told old new result = (kept : Result Unit End) × (mid : Folder) × IsKept run.disk bytes image old mid kept × IfKept kept (WritesIfTold run.telling told) mid new result
+
+-- What the program printed is flushed, the image that it leaves is kept, what the run tells is written, and it is reported why it stopped, or that
+-- a file could not be written. Whether the image is kept before what was printed is flushed, this does not say.
+abbrev pub EndsRun : Run → Inputs → Why → ℕ → List ℕ → Option Told → Stream → Stream → Folder → Folder → Stream → Stream → ℕ → Type 0
+EndsRun run inputs end pc image told printed output old new before after status =
+    (flushed : Result Unit WriteFailed) × (kept : Result Unit End) × Hands_on printed output flushed × KeepsAll run inputs.image.items image told old new kept
+    × ReportsRun (lines_in inputs) (told_lines told) kept (why_at end flushed) pc before after status
 
 -- how many steps a run may take if the command names no number
 abbrev pub default_steps : ℕ
 default_steps = 100000000
 
--- `run`: the image is claimed, the program and standard input are read, and the program is run.
+-- The program is run with its words on the disk, with the text of standard input typed; then the run ends.
+abbrev pub Runs : Run → Known → Inputs → Folder → World → World → ℕ → Type 0
+Runs run known inputs claimed old new status =
+    (end : Why) × (turns pc : ℕ) × (image : List ℕ) × (printed : Stream) × (told : Option Told)
+    × IsRan inputs.program.items (words_of run) inputs.image.items inputs.typed.items old.output (steps_of run) end turns pc image printed
+    × IfSome told (IsToldRun run.telling known inputs.program.items (words_of run) inputs.image.items inputs.typed.items old.output (steps_of run) end turns)
+    × EndsRun run inputs end pc image told printed new.output claimed new.folder old.errors new.errors status
+  where
+    words_of : Run → List (List ℕ)
+    words_of run = map (λ word. word.now) run.words.items
+
+    steps_of : Run → ℕ
+    steps_of run = unwrap_or run.steps default_steps
+
+-- an end before the run, which changes no file and prints nothing
+abbrev pub EndsBefore : End → World → World → ℕ → Type 0
+EndsBefore e old new status = (new.output ≡ old.output) × (status ≡ end_status e) × Tells e old.errors new.errors
+
+-- The image is no disk, or the labels are refused.
+abbrev pub IsNotReady : Inputs → End → Type 0
+IsNotReady inputs e = IsNoDisk inputs.image.items e ⊎ AreNotKnown (bytes_in inputs.labels) e
+
+-- The inputs are read, and the program is run.
+abbrev pub RunEndsWith : Run → World → World → ℕ → Type 0
+RunEndsWith run old new status =
+    ((e : End) × ReadsInputs run old.folder new.folder old.input new.input (Err e) × EndsBefore e old new status)
+    ⊎ ((inputs : Inputs) × (claimed : Folder) × ReadsInputs run old.folder claimed old.input new.input (Ok inputs)
+    × (((e : End) × IsNotReady inputs e × (new.folder ≡ claimed) × EndsBefore e old new status)
+    ⊎ ((known : Known) × AreKnown (bytes_in inputs.labels) (length inputs.program.items) known × Runs run known inputs claimed old new status)))
+
+-- this text is the refusal, or memory ran out for it
+abbrev pub IsRefusedAs : List ℕ → End → Type 0
+IsRefusedAs why (end.Refused said) = string_bytes said ≡ why
+IsRefusedAs why end.NoMemory = Unit {0}
+IsRefusedAs why _ = ⊥
+
+-- `run`: if it may not write what it is to tell, it refuses that before it reads a file. Otherwise the image is claimed, the program, the labels
+-- and standard input are read, and the program is run.
+abbrev pub RunEndsUnless : Option (List ℕ) → Run → World → World → ℕ → Type 0
+RunEndsUnless None run old new status = RunEndsWith run old new status
+RunEndsUnless (Some why) run old new status = (e : End) × IsRefusedAs why e × (new.folder ≡ old.folder) × (new.input ≡ old.input) × EndsBefore e old new status
+
 abbrev pub RunEnds : Run → World → World → ℕ → Type 0
-RunEnds run old new status =
-    ((e : End) × ReadsInputs run.disk run.lock run.program.now old.folder new.folder old.input new.input (Err e) × EndsBefore e old new status)
-    ⊎ ((inputs : Inputs) × (claimed : Folder) × ReadsInputs run.disk run.lock run.program.now old.folder claimed old.input new.input (Ok inputs)
-    × (((e : End) × IsNoDisk inputs.image.items e × (new.folder ≡ claimed) × EndsBefore e old new status)
-    ⊎ Runs run.disk (unwrap_or run.steps default_steps) (map (λ word. word.now) run.words.items) inputs claimed old new status))
+RunEnds run old new status = RunEndsUnless (why_not_told run) run old new status

@@ -2,28 +2,14 @@
 
 ghost use Rattle.std.specs.Prelude.{◌≡◌, map, option_map};
 ghost use Rattle.z80dev_jobs.specs.Making.{DisEnds, effect_of, ended};
-ghost use Rattle.z80dev_jobs.specs.Private.Steps.{Disassembles, ReadsIfGiven};
+ghost use Rattle.z80dev_jobs.specs.Private.Steps.{Disassembles};
 
-use crate::reading::read;
+use crate::reading::{read, read_if_given};
 use disassembler::{DisassemblyFault, disassemble, fault_text};
 use std::alloc::Global;
 use streams::print;
 use z80dev::{End, Files, Sink};
 use z80dev_commands::Dis;
-
-/// The bytes of a file, if its path is given.
-fn read_if_given<'a, F: Files>(
-    alloc: Global,
-    path: Option<&'a str>,
-    files: &mut F,
-) -> Result<Option<Vec<u8>>, End<'a>>
-    ensures { ReadsIfGiven path.entry (F.folder files.old) (F.folder files.new) result }
-{
-    match path {
-        Some(path) => Ok(Some(read(alloc, path, files)?)),
-        None => Ok(None),
-    }
-}
 
 /// A source that builds to a program, or how the command ends because there is none.
 fn source_of(

@@ -16,7 +16,8 @@ use crate::disassembling::dis_file;
 use crate::disks::do_on_disk;
 use crate::host::{Ended, Host};
 use crate::making::{asm_file, build_files, check_files, link_files};
-use crate::running::{STEPS, end_run, inputs_of, ready_of};
+use crate::running::{STEPS, end_run, inputs_of, prepare};
+use crate::telling::{refuse_telling, run_telling};
 use crate::tips::tip;
 use crate::words::{WordsFault, texts_of};
 use clap::Error;
@@ -158,6 +159,10 @@ fn run_job<F: Files, I: Input, W: Sink + Drop, E: Sink>(
     ensures ends { RunEnds job.now (world_of (F.folder host.files) (reader_of (I.remaining host.input) (I.failed host.input) (I.reads host.input) (I.interruptions host.input)) (W.stream host.output) (E.stream host.errors)) (world_of (F.folder result.host.files) (reader_of (I.remaining result.host.input) (I.failed result.host.input) (I.reads result.host.input) (I.interruptions result.host.input)) (W.stream result.host.output) (E.stream result.host.errors)) result.status }
     ensures reads { I.reads result.host.input ≤ MOST_READS }
 {
+    if let Err(end) = refuse_telling(alloc, job) {
+        let status = report(&end, &mut host.errors);
+        return Ended { status, host };
+    }
     let inputs = match inputs_of(alloc, job, &mut host.files, &mut host.input) {
         Ok(inputs) => inputs,
         Err(end) => {
@@ -165,8 +170,8 @@ fn run_job<F: Files, I: Input, W: Sink + Drop, E: Sink>(
             return Ended { status, host };
         }
     };
-    let ready = match ready_of(alloc, &inputs, &job.words) {
-        Ok(ready) => ready,
+    let (ready, labels) = match prepare(alloc, &inputs, &job.words) {
+        Ok(prepared) => prepared,
         Err(end) => {
             let status = report(&end, &mut host.errors);
             return Ended { status, host };
@@ -178,8 +183,9 @@ fn run_job<F: Files, I: Input, W: Sink + Drop, E: Sink>(
         output,
         mut errors,
     } = host;
-    let mut ran = ready.run(alloc, output, job.steps.unwrap_or(STEPS));
-    let status = end_run(alloc, job.disk, &inputs, &mut ran, &mut files, &mut errors);
+    let steps = job.steps.unwrap_or(STEPS);
+    let (mut ran, told) = run_telling(alloc, ready, output, steps, job.telling, &labels);
+    let status = end_run(alloc, job, &inputs, &mut ran, &told, &mut files, &mut errors);
     let Ran { output, .. } = ran;
     let host = Host {
         files,

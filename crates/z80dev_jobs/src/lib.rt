@@ -14,6 +14,7 @@ mod memory;
 mod outputs;
 mod reading;
 mod running;
+mod telling;
 mod tips;
 mod words;
 

@@ -2,6 +2,7 @@
 
 ghost use Rattle.std.specs.Prelude.{◌≡◌, ◌≤◌, false, map};
 ghost use Rattle.z80dev.specs.declared.text.TheConstants.{MOST_READS};
+ghost use Rattle.z80dev_jobs.specs.Private.Steps.{ReadsIfGiven};
 ghost use Rattle.z80dev_jobs.specs.Reading.{ReadsAll, ReadsFile, ReadsInput, reader_of};
 
 use std::alloc::Global;
@@ -19,6 +20,20 @@ pub(crate) fn read<'a, F: Files>(
         Ok(bytes) => Ok(bytes),
         Err(Unread::File) => Err(End::File { path, ending: "" }),
         Err(Unread::NoMemory) => Err(End::NoMemory),
+    }
+}
+
+/// The bytes of a file, if its path is given.
+pub(crate) fn read_if_given<'a, F: Files>(
+    alloc: Global,
+    path: Option<&'a str>,
+    files: &mut F,
+) -> Result<Option<Vec<u8>>, End<'a>>
+    ensures { ReadsIfGiven path.entry (F.folder files.old) (F.folder files.new) result }
+{
+    match path {
+        Some(path) => Ok(Some(read(alloc, path, files)?)),
+        None => Ok(None),
     }
 }
 

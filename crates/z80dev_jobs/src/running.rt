@@ -3,29 +3,32 @@
 ghost use Rattle.std.specs.Prelude.{◌≡◌, ◌≤◌, false, map, option_map, string_bytes};
 ghost use Rattle.std.specs.List.{concat};
 ghost use Rattle.z80dev.specs.declared.text.TheConstants.{MOST_READS};
-ghost use Rattle.z80dev_jobs.specs.Private.Steps.{MakesReady};
+ghost use Rattle.z80dev_jobs.specs.Private.Steps.{MakesReady, Prepares};
 ghost use Rattle.z80dev_jobs.specs.Reading.{reader_of};
 ghost use Rattle.z80dev_jobs.specs.Private.Images.{ClaimsDiskImage, IsFreeOf};
-ghost use Rattle.z80dev_jobs.specs.Running.{EndsRun, IsKept, ReadsInputs, ReportsRun, WarnsAfter, lines_in, why_at};
+ghost use Rattle.z80dev_jobs.specs.Running.{EndsRun, IsKept, KeepsAll, PutsLines, ReadsInputs, ReportsRun, WarnsAfter, told_lines, why_at};
 
 use crate::disks::{Image, claim, keep};
-use crate::reading::{read, read_input};
+use crate::reading::{read, read_if_given, read_input};
+use crate::telling::{Told, labels_of, write_told};
 use std::alloc::Global;
 use streams::{WriteFailed, flush, put};
 use z80dev::{DONE, End, Files, Input, Sink, report};
 use z80dev_commands::Run;
 use z80dev_disk::Refusal;
-use z80dev_run::{Ran, Ready, Stop, Why, conclude, ready};
+use z80dev_run::{Labels, Ran, Ready, Stop, Why, conclude, ready};
 
 /// The most steps of a run whose command names no number.
 pub(crate) const STEPS: u64 = 100_000_000;
 
-/// What `run` reads: the image of the disk, nothing if no disk is named, and the lines that warn of it; the program; and standard input.
+/// What `run` reads: the image of the disk, nothing if no disk is named, and the lines that warn of it; the program; the file of its labels,
+/// if one is named; and standard input.
 #[derive(Drop)]
 pub(crate) struct Inputs {
     pub(crate) image: Vec<u8>,
     pub(crate) warnings: Option<String>,
     pub(crate) program: Vec<u8>,
+    pub(crate) labels: Option<Vec<u8>>,
     pub(crate) typed: Vec<u8>,
 }
 
@@ -57,22 +60,24 @@ pub(crate) fn inputs_of<'a, F: Files, I: Input>(
     requires sound { I.failed input.old ≡ false }
     requires unread { I.reads input.old ≡ 0 }
     requires calm { I.interruptions input.old ≡ 0 }
-    ensures inputs { ReadsInputs job.now.disk job.now.lock job.now.program.now (F.folder files.old) (F.folder files.new) (reader_of (I.remaining input.old) (I.failed input.old) (I.reads input.old) (I.interruptions input.old)) (reader_of (I.remaining input.new) (I.failed input.new) (I.reads input.new) (I.interruptions input.new)) result }
+    ensures inputs { ReadsInputs job.now (F.folder files.old) (F.folder files.new) (reader_of (I.remaining input.old) (I.failed input.old) (I.reads input.old) (I.interruptions input.old)) (reader_of (I.remaining input.new) (I.failed input.new) (I.reads input.new) (I.interruptions input.new)) result }
     ensures reads { I.reads input.new ≤ MOST_READS }
 {
     let Image { bytes, warnings } = claim_disk(alloc, job.disk, job.lock, files)?;
     let program = read(alloc, job.program, files)?;
+    let labels = read_if_given(alloc, job.telling.labels, files)?;
     let typed = read_input(alloc, input)?;
     Ok(Inputs {
         image: bytes,
         warnings,
         program,
+        labels,
         typed,
     })
 }
 
 /// A program that is ready to run, or how the command ends because it is refused.
-pub(crate) fn ready_of<'p, 'w>(
+fn ready_of<'p, 'w>(
     alloc: Global,
     inputs: &'p Inputs,
     words: &[&'w str],
@@ -84,6 +89,19 @@ pub(crate) fn ready_of<'p, 'w>(
         Err(Refusal::NoMemory) => Err(End::NoMemory),
         Err(refusal) => Err(End::Refused(format!(in alloc; "{refusal}")?)),
     }
+}
+
+/// A program that is ready to run, with its labels, or how the command ends because it or its labels are refused.
+pub(crate) fn prepare<'p, 'w>(
+    alloc: Global,
+    inputs: &'p Inputs,
+    words: &[&'w str],
+) -> Result<(Ready<'p, 'w>, Labels), End<'static>>
+    ensures { Prepares inputs.now (map (λ word. word.now) words.now) result }
+{
+    let ready = ready_of(alloc, inputs, words)?;
+    let labels = labels_of(alloc, inputs.labels.as_deref(), inputs.program.len())?;
+    Ok((ready, labels))
 }
 
 /// Keeps the image that a run leaves, if it has a disk of its own. This needs no memory, so that no change of the disk is lost for want of it.
@@ -124,20 +142,52 @@ fn warn_after<E: Sink>(lines: &Option<String>, status: u8, errors: &mut E)
     }
 }
 
-/// Reports that the image could not be written, or why the run ended, and gives the exit status.
+/// Keeps the image that a run leaves, then writes what the run tells.
+fn keep_all<'a, F: Files, W>(
+    job: &Run<'a>,
+    bytes: &[u8],
+    ran: &Ran<W>,
+    told: &Option<Told>,
+    files: &mut F,
+) -> Result<(), End<'a>>
+    requires free { IsFreeOf job.now.disk (F.folder files.old) }
+    ensures { KeepsAll job.now bytes.now (concat ran.now.image) told.now (F.folder files.old) (F.folder files.new) result }
+{
+    keep_disk(job.disk, bytes, ran, files)?;
+    match told {
+        Some(told) => write_told(job.telling, told, files),
+        None => Err(End::NoMemory),
+    }
+}
+
+/// Puts the lines that a run tells, if there are some.
+fn put_told<E: Sink>(told: &Option<Told>, errors: &mut E)
+    ensures { PutsLines (told_lines told.now) (E.stream errors.old) (E.stream errors.new) }
+{
+    match told {
+        Some(told) if !told.lines.is_empty() => {
+            let _ = put(errors, &told.lines);
+        }
+        _ => {}
+    }
+}
+
+/// Reports that a file could not be written, or why the run ended, with what it tells, and gives the exit status.
 fn report_run<E: Sink>(
     alloc: Global,
     lines: &Option<String>,
+    told: &Option<Told>,
     kept: Result<(), End<'_>>,
     why: Why,
     pc: u16,
     errors: &mut E,
 ) -> u8
-    ensures { ReportsRun (option_map string_bytes lines.now) kept.entry why pc (E.stream errors.old) (E.stream errors.new) result }
+    ensures { ReportsRun (option_map string_bytes lines.now) (told_lines told.now) kept.entry why pc (E.stream errors.old) (E.stream errors.new) result }
 {
     match kept {
         Ok(()) => {
             let status = conclude(alloc, why, pc, errors);
+            put_told(told, errors);
             warn_after(lines, status, errors);
             status
         }
@@ -145,20 +195,21 @@ fn report_run<E: Sink>(
     }
 }
 
-/// Hands on what the program printed, keeps the image, reports why the run ended, and gives the exit status.
+/// Hands on what the program printed, keeps the image, writes what the run tells, reports why it ended, and gives the exit status.
 pub(crate) fn end_run<F: Files, W: Sink, E: Sink>(
     alloc: Global,
-    disk: Option<&str>,
+    job: &Run<'_>,
     inputs: &Inputs,
     ran: &mut Ran<W>,
+    told: &Option<Told>,
     files: &mut F,
     errors: &mut E,
 ) -> u8
-    requires free { IsFreeOf disk (F.folder files.old) }
-    ensures { EndsRun disk.entry inputs.now.image.items (lines_in inputs.now) ran.old.why ran.old.pc (concat ran.old.image) (W.stream ran.old.output) (W.stream ran.new.output) (F.folder files.old) (F.folder files.new) (E.stream errors.old) (E.stream errors.new) result }
+    requires free { IsFreeOf job.now.disk (F.folder files.old) }
+    ensures { EndsRun job.now inputs.now ran.old.why ran.old.pc (concat ran.old.image) told.now (W.stream ran.old.output) (W.stream ran.new.output) (F.folder files.old) (F.folder files.new) (E.stream errors.old) (E.stream errors.new) result }
 {
     let flushed = flush(&mut ran.output);
-    let kept = keep_disk(disk, &inputs.image, ran, files);
+    let kept = keep_all(job, &inputs.image, ran, told, files);
     let why = why_at(ran.why, flushed);
-    report_run(alloc, &inputs.warnings, kept, why, ran.pc, errors)
+    report_run(alloc, &inputs.warnings, told, kept, why, ran.pc, errors)
 }

@@ -1,5 +1,5 @@
 -- How the steps of commands end.
-use Rattle.std.specs.Prelude.{◌≡◌, ◌≢◌, ◌⊎◌, ℕ, ◌<◌, Bool, List, Option, None, Some, Result, Ok, Err, String, Vec, option_map, string_bytes}
+use Rattle.std.specs.Prelude.{◌≡◌, ◌≢◌, ◌⊎◌, ℕ, ◌<◌, Bool, List, Option, None, Some, Result, Ok, Err, String, Vec, is_ok, length, option_map, string_bytes, true}
 use Rattle.std.specs.Borrow.{Bor}
 use Rattle.clap.specs.declared.error.kind.ErrorKind.{ErrorKind}
 use Rattle.streams.specs.Stream.{Stream}
@@ -21,8 +21,10 @@ use Rattle.z80dev_jobs.specs.Command.{LacksMemory, RefusesDefine, RefusesWord, R
 use Rattle.z80dev_jobs.specs.Disks.{Warns}
 use Rattle.z80dev_jobs.specs.Making.{Effect, NothingDone, WritesBuilt}
 use Rattle.z80dev_jobs.specs.Private.Names.{Says}
-use Rattle.z80dev_jobs.specs.Reading.{IsNotRead, IsRead}
-use Rattle.z80dev_jobs.specs.Running.{IsNoDisk}
+use Rattle.z80dev_jobs.specs.Reading.{IsNotReadIfGiven, IsReadIfGiven, bytes_in}
+use Rattle.z80dev_jobs.specs.Running.{IsNoDisk, IsNotReady, IsRefusedAs}
+use Rattle.z80dev_jobs.specs.Telling.{AreKnown}
+use Rattle.z80dev_run.specs.Labelled.{Known}
 use Rattle.z80dev_jobs.specs.declared.running.Inputs.{Inputs}
 use Rattle.z80dev_jobs.specs.declared.words.WordsFault.{WordsFault}
 use Rattle.z80dev_jobs.specs.declared.words.WordsFault.TheVariants as fault
@@ -57,6 +59,17 @@ abbrev pub MakesReady : Inputs → List (List ℕ) → Result Ready End → Type
 MakesReady inputs words (Ok made) = IsReadyToRun inputs.program.items words inputs.image.items inputs.typed.items made
 MakesReady inputs words (Err e) = IsNoDisk inputs.image.items e
 
+-- the same with its labels
+abbrev pub Prepares : Inputs → List (List ℕ) → Result (Ready × Known) End → Type 0
+Prepares inputs words (Ok (made, known)) = MakesReady inputs words (Ok made) × AreKnown (bytes_in inputs.labels) (length inputs.program.items) known
+Prepares inputs words (Err e) = IsNotReady inputs e
+
+-- a run may write what it is to tell, or this is why it may not
+abbrev pub MayTell : Option (List ℕ) → Result Unit End → Type 0
+MayTell None result = is_ok result ≡ true
+MayTell (Some why) (Ok _) = ⊥
+MayTell (Some why) (Err e) = IsRefusedAs why e
+
 -- the program of sources that were read is written, or memory runs out before
 abbrev pub BuildsTexts : List ℕ → Build → List (List ℕ) → List (List ℕ) → Effect → Option (List ℕ) → End → Type 0
 BuildsTexts base build fronts texts x line e = WritesBuilt base build fronts texts x line e ⊎ ((e ≡ end.NoMemory) × NothingDone x)
@@ -68,13 +81,9 @@ IsClear None (Err e) = e ≡ end.NoMemory
 IsClear (Some why) (Err e) = Says why e
 
 -- a file is read if its path is given
-abbrev pub bytes_in : Option (Vec ℕ Global) → Option (List ℕ)
-bytes_in = option_map (λ bytes. bytes.items)
-
 abbrev pub ReadsIfGiven : Option (Bor (List ℕ)) → Folder → Folder → Result (Option (Vec ℕ Global)) End → Type 0
-ReadsIfGiven None old new result = (result ≡ Ok None) × (new ≡ old)
-ReadsIfGiven (Some path) old new (Ok bytes) = (found : Vec ℕ Global) × (bytes ≡ Some found) × (new ≡ old) × IsRead old path.now found.items
-ReadsIfGiven (Some path) old new (Err e) = IsNotRead old new path.now e
+ReadsIfGiven path old new (Ok bytes) = (new ≡ old) × IsReadIfGiven old path bytes
+ReadsIfGiven path old new (Err e) = IsNotReadIfGiven old new path e
 
 -- a source of a program, or how the command ends because there is none
 abbrev pub RefusesProgram : List ℕ → Option (List ℕ) → List (List ℕ) → End → Type 0
