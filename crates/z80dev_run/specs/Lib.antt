@@ -7,3 +7,4 @@ pub mod Text
 pub mod Lines
 pub mod Registers
 pub mod Reports
+pub mod Profile
