@@ -41,14 +41,14 @@ impl Told {
 
 /// How many of the last steps are printed if the run is stopped.
 fn last_count(telling: Telling<'_>) -> u32
-    ensures { result ≡ last_count telling }
+    ensures { result ≡ last_count telling.entry }
 {
     telling.last.unwrap_or(0)
 }
 
 /// Whether nothing is to be told.
 fn is_silent(telling: Telling<'_>) -> bool
-    ensures { result ≡ is_silent telling }
+    ensures { result ≡ is_silent telling.entry }
 {
     !telling.registers
         && last_count(telling) == 0
@@ -58,7 +58,7 @@ fn is_silent(telling: Telling<'_>) -> bool
 
 /// What a run is to keep of its steps.
 fn wish_of(telling: Telling<'_>) -> Wish
-    ensures { result ≡ wish_of telling }
+    ensures { result ≡ wish_of telling.entry }
 {
     let last = last_count(telling) as usize;
     Wish {
@@ -143,7 +143,7 @@ fn trace_of(
     turns: u64,
     labels: &Labels,
 ) -> Result<Option<Vec<u8>>, AllocError>
-    ensures { IfOk result (IsFileIfGiven (IsTraceFile labels.now kept.now.first.items turns) telling.trace) }
+    ensures { IfOk result (IsFileIfGiven (IsTraceFile labels.now kept.now.first.items turns) telling.entry.trace) }
 {
     match telling.trace {
         Some(_) => Ok(Some(trace_file(alloc, kept, turns, labels)?)),
@@ -159,7 +159,7 @@ fn profile_of(
     turns: u64,
     labels: &Labels,
 ) -> Result<Option<Vec<u8>>, AllocError>
-    ensures { IfOk result (IsFileIfGiven (IsProfile labels.now kept.now.counts.items turns) telling.profile) }
+    ensures { IfOk result (IsFileIfGiven (IsProfile labels.now kept.now.counts.items turns) telling.entry.profile) }
 {
     match telling.profile {
         Some(_) => Ok(Some(profile_file(alloc, kept, turns, labels)?)),
@@ -175,7 +175,7 @@ fn last_of(
     kept: &Record,
     labels: &Labels,
 ) -> Result<Vec<u8>, AllocError>
-    ensures { IfOk result (λ lines. AreLastLines telling labels.now why kept.now lines.items) }
+    ensures { IfOk result (λ lines. AreLastLines telling.entry labels.now why kept.now lines.items) }
 {
     match why {
         Why::Finished => Ok(Vec::new(alloc)),
@@ -192,7 +192,7 @@ fn registers_of(
     kept: &Record,
     labels: &Labels,
 ) -> Result<Vec<u8>, AllocError>
-    ensures { IfOk result (λ lines. lines.items ≡ registers_lines telling labels.now cpu.now memory.now kept.now) }
+    ensures { IfOk result (λ lines. lines.items ≡ registers_lines telling.entry labels.now cpu.now memory.now kept.now) }
 {
     if telling.registers {
         machine_text(alloc, cpu, memory, &kept.last, labels)
@@ -208,7 +208,7 @@ fn told_of<S>(
     labels: &Labels,
     traced: &TracedRan<S>,
 ) -> Result<Told, AllocError>
-    ensures { IfOk result (IsToldOf telling labels.now traced.now.ran.why traced.now.ran.turns traced.now.state traced.now.kept) }
+    ensures { IfOk result (IsToldOf telling.entry labels.now traced.now.ran.why traced.now.ran.turns traced.now.state traced.now.kept) }
 {
     let Some((cpu, memory)) = &traced.state else {
         return Ok(Told::nothing(alloc));
@@ -239,10 +239,10 @@ pub(crate) fn run_telling<S: Sink + Drop>(
     telling: Telling<'_>,
     labels: &Labels,
 ) -> (Ran<S>, Option<Told>)
-    ensures ran { (program : List ℕ) (words : List (List ℕ)) (image input : List ℕ) → IsReadyToRun program words image input ready
+    ensures ran { (program : List ℕ) (words : List (List ℕ)) (image input : List ℕ) → IsReadyToRun program words image input ready.entry
         → IsRan program words image input (S.stream output) steps result.0.why result.0.turns result.0.pc (concat result.0.image) (S.stream result.0.output) }
-    ensures told { (program : List ℕ) (words : List (List ℕ)) (image input : List ℕ) → IsReadyToRun program words image input ready
-        → IfSome result.1 (IsToldRun telling labels.now program words image input (S.stream output) steps result.0.why result.0.turns) }
+    ensures told { (program : List ℕ) (words : List (List ℕ)) (image input : List ℕ) → IsReadyToRun program words image input ready.entry
+        → IfSome result.1 (IsToldRun telling.entry labels.now program words image input (S.stream output) steps result.0.why result.0.turns) }
 {
     if is_silent(telling) {
         return (
@@ -278,7 +278,7 @@ pub(crate) fn write_told<'a, F: Files>(
     told: &Told,
     files: &mut F,
 ) -> Result<(), End<'a>>
-    ensures { WritesTold telling told.now (F.folder files.old) (F.folder files.new) result }
+    ensures { WritesTold telling.entry told.now (F.folder files.old) (F.folder files.new) result }
 {
     write_file(telling.trace, &told.trace, files)?;
     write_file(telling.profile, &told.profile, files)

@@ -139,7 +139,7 @@ pub(crate) fn get_file<'a, F: Files, W: Sink>(
     output: &mut W,
 ) -> Result<Option<String>, End<'a>>
     requires user { get.user < USERS }
-    ensures { EndsWith (GetEnds get (effect_of (F.folder files.old) (F.folder files.new) (W.stream output.old) (W.stream output.new))) result }
+    ensures { EndsWith (GetEnds get.entry (effect_of (F.folder files.old) (F.folder files.new) (W.stream output.old) (W.stream output.new))) result }
 {
     let Get {
         image,
