@@ -1,0 +1,5 @@
+pub mod Offsets
+pub mod Parts
+pub mod Jumps
+pub mod Warnings
+pub mod Private
