@@ -5,3 +5,4 @@ pub mod In_order
 pub mod Numbers
 pub mod Refused
 pub mod Written
+pub mod Held

@@ -7,4 +7,5 @@ pub mod Asm
 pub mod Link
 pub mod Jumps
 pub mod Build
+pub mod Warned
 pub mod Private

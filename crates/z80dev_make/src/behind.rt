@@ -80,7 +80,7 @@ fn number_origins(origins: &mut [Origin], lines: usize)
 }
 
 /// Gives lines the numbers that they have in their own sources.
-fn number_lines(numbers: &mut [u32], lines: usize)
+pub(crate) fn number_lines(numbers: &mut [u32], lines: usize)
     ensures { (all : ℕ) → Counts lines all → numbers.new ≡ map (earlier all) numbers.old }
 {
     for number in numbers.iter_mut() {

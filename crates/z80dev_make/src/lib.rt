@@ -16,6 +16,8 @@ pub mod laws;
 mod linking;
 mod locating;
 mod sharing;
+mod warned;
+mod warning;
 
 pub use answer::SourceFile;
 pub use assembling::asm;
@@ -25,4 +27,5 @@ pub use faults::{Refusal, Told};
 pub use front::Front;
 pub use jumps::Jumps;
 pub use linking::link;
+pub use warning::{warn_asm, warn_build};
 pub use z80dev_finish::{Answer, Kind, NewFile};

@@ -1,0 +1,73 @@
+-- Sources that are assembled for their warnings, one by one.
+use Rattle.std.proofs.Common.{◌≡◌, ◌⊎◌, inl, inr, ◌+◌, ◌<◌, ℕ, Bool, List, [], ◌∷◌, ◌++◌, All, Vec, length, map, get_or, take, refl, sym, ap, subst, ◌∙◌}
+use Rattle.std.specs.Global.{Global}
+use Rattle.std.specs.List.{AllZip, zip}
+use Rattle.std.proofs.lemmas.List.{map-append}
+use Rattle.std.proofs.lemmas.List.Elements.{All-append, All-cons, All-nil}
+use Rattle.zmo_module.specs.Modules.{module_of, statement_of}
+use Rattle.zmo_module.specs.Rules.{IsModule}
+use Rattle.zmo_module.specs.declared.module.Module as held
+use Rattle.zlink.specs.Program.Parts.{Publics, parts_from}
+use Rattle.zlink.specs.Program.Whole.{IsLinks, public_statement}
+use Rattle.zlink.specs.declared.program.joining.Links.{Links}
+use Rattle.asm_module.specs.Assembled.{Assembled}
+use Rattle.z80dev_make.specs.declared.answer.SourceFile.{SourceFile}
+use Rattle.z80dev_make.specs.declared.front.Front.{Front}
+use Rattle.z80dev_make.specs.Build.{earlier}
+use Rattle.z80dev_make.specs.Front.{front_lines}
+use Rattle.z80dev_make.specs.Warned.{IsAssembledBehind, shown}
+use Rattle.z80dev_make.specs.Private.Shown.{AreHeld, IsHeld, member_with, shown_in}
+use Rattle.z80dev_make.proofs.In_order.{one_more}
+
+pub none_held : (front : Front) (grow : Bool) → AreHeld front [] grow [] []
+none_held front grow = record { all = []; assembled = tt; modules_are = refl; lines_are = refl; kept = All-nil IsModule }
+
+pub next_held : (front : Front) (files : List SourceFile) (grow : Bool) (i : ℕ) (d : SourceFile) (modules : List held.Module) (lines : List (Vec ℕ Global)) (m : held.Module) (own : Vec ℕ Global) → i < length files
+    → AreHeld front (take i files) grow modules lines → IsHeld front grow (get_or files i d) m own.items → AreHeld front (take (i + 1) files) grow (modules ++ m ∷ []) (lines ++ own ∷ [])
+next_held front files grow i d modules lines m own lt before this = record {
+  all = before.all ++ this.all ∷ [];
+  assembled = one_more (IsAssembledBehind front grow) files i d before.all _ this.all lt before.assembled this.assembled refl;
+  modules_are = map-append module_of modules (m ∷ []) ∙ ap (λ ms. ms ++ module_of m ∷ []) before.modules_are ∙ ap (λ h. map (λ a. a.holds) before.all ++ h ∷ []) this.module_is ∙ sym (map-append (λ a. a.holds) before.all (this.all ∷ []));
+  lines_are = map-append (λ l. l.items) lines (own ∷ []) ∙ ap (λ ls. ls ++ own.items ∷ []) before.lines_are ∙ ap (λ l. map (λ a. map (earlier (front_lines front)) a.each) before.all ++ l ∷ []) this.lines_are
+      ∙ sym (map-append (λ a. map (earlier (front_lines front)) a.each) before.all (this.all ∷ []));
+  kept = subst (All IsModule) (sym (map-append module_of modules (m ∷ []))) (All-append IsModule (map module_of modules) (module_of m ∷ []) before.kept (All-cons IsModule (module_of m) [] this.kept (All-nil IsModule)));
+}
+
+-- the links of modules say what their externals stand for
+pub members : (publics : Publics) (number base : ℕ) (modules : List held.Module) (links : List Links) → AllZip (IsLinks publics) (parts_from number base (map module_of modules)) links
+    → map member_with (zip modules links) ≡ map (λ p. record { holds = p.holds; externals = map (public_statement publics) p.holds.externals }) (parts_from number base (map module_of modules))
+members publics number base [] links all = refl
+members publics number base (m ∷ modules) [] all = absurd all
+members publics number base (m ∷ modules) (l ∷ links) all =
+    ap (λ e. record { holds = module_of m; externals = e } ∷ map member_with (zip modules links)) all.0.externals
+    ∙ ap (λ t. record { holds = module_of m; externals = map (public_statement publics) (map (λ name. name.items) m.externals.items) } ∷ t)
+    (members publics (number + 1) (base + length (map statement_of m.statements.items)) modules links all.1)
+
+-- the sources as warnings show them, from the modules and lines of the code
+pub all_shown : (front : Front) (files : List SourceFile) (modules : List held.Module) (lines : List (Vec ℕ Global)) (all : List Assembled) → map module_of modules ≡ map (λ a. a.holds) all
+    → map (λ l. l.items) lines ≡ map (λ a. map (earlier (front_lines front)) a.each) all → map shown_in (zip files (zip lines modules)) ≡ map (shown front) (zip files all)
+all_shown front [] modules lines all ms ls = refl
+all_shown front (f ∷ files) [] [] [] ms ls = refl
+all_shown front (f ∷ files) [] [] (a ∷ all) ms ls = cc
+all_shown front (f ∷ files) [] (l ∷ lines) [] ms ls = cc
+all_shown front (f ∷ files) [] (l ∷ lines) (a ∷ all) ms ls = cc
+all_shown front (f ∷ files) (m ∷ modules) [] [] ms ls = cc
+all_shown front (f ∷ files) (m ∷ modules) [] (a ∷ all) ms ls = cc
+all_shown front (f ∷ files) (m ∷ modules) (l ∷ lines) [] ms ls = cc
+all_shown front (f ∷ files) (m ∷ modules) (l ∷ lines) (a ∷ all) ms ls =
+    let m0 : module_of m ≡ a.holds = cc in
+    let l0 : l.items ≡ map (earlier (front_lines front)) a.each = cc in
+    let more : map module_of modules ≡ map (λ x. x.holds) all = cc in
+    let rest : map (λ x. x.items) lines ≡ map (λ x. map (earlier (front_lines front)) x.each) all = cc in
+    ap (λ h. record { path = f.path.now; lines = l.items; holds = h } ∷ map shown_in (zip files (zip lines modules))) m0
+    ∙ ap (λ n. record { path = f.path.now; lines = n; holds = a.holds } ∷ map shown_in (zip files (zip lines modules))) l0
+    ∙ ap (λ t. shown front (f, a) ∷ t) (all_shown front files modules lines all more rest)
+
+zip_nothing : {A B : Type 0} (xs : List A) → zip {K = A} {X = B} xs [] ≡ []
+zip_nothing [] = refl
+zip_nothing (x ∷ xs) = refl
+
+-- no lines or no modules are left
+pub none_left : (files : List SourceFile) (lines : List (Vec ℕ Global)) (modules : List held.Module) → (lines ≡ []) ⊎ (modules ≡ []) → map shown_in (zip files (zip lines modules)) ≡ []
+none_left files lines modules (inl none) = ap (λ ls. map shown_in (zip files (zip ls modules))) none ∙ ap (map shown_in) (zip_nothing files)
+none_left files lines modules (inr none) = ap (λ ms. map shown_in (zip files (zip lines ms))) none ∙ ap (λ both. map shown_in (zip files both)) (zip_nothing lines) ∙ ap (map shown_in) (zip_nothing files)

@@ -1,0 +1,32 @@
+use Rattle.std.proofs.Common.{◌≡◌, ◌∙◌, None, ap, map, subst, sym}
+use Rattle.std.specs.List.{zip}
+use Rattle.std.proofs.lemmas.Result.{IfOk-weaker}
+use Rattle.zmo_module.specs.Modules.{module_of}
+use Rattle.zlink.specs.Program.Faults.{first_fault}
+use Rattle.zlink.specs.Program.Parts.{all_publics, parts}
+use Rattle.zlink.specs.Program.Whole.{AreLinks}
+use Rattle.jump_warnings.specs.Parts.{member_of}
+use Rattle.jump_warnings.specs.Warnings.{warnings}
+use Rattle.z80dev_make.specs.Private.Shown.{member_with, shown_in, shown_of}
+use Rattle.z80dev_make.specs.Warned.{joined, lines_unless, warning_lines}
+use Rattle.z80dev_make.proofs.Held.{members}
+use Rattle.z80dev_make.proofs.warning.lines_joined.Goals as goal
+
+pub returns : goal.returns
+returns c =
+    let modules = c.args.all.now.modules.items in
+    let lines = c.args.all.now.lines.items in
+    let files = c.args.files.now in
+    let links = c.in-Ok.links.items in
+    let ms = map module_of modules in
+    let j : (first_fault ms ≡ None) × AreLinks ms links = subst (λ xs. (first_fault (map module_of xs) ≡ None) × AreLinks (map module_of xs) links) c.deref.ensures.value c.in-Ok.ensures in
+    let parts_are = c.in_ok-parts.ensures ∙ ap (λ xs. map member_with (zip xs c.deref-3.result.now)) c.deref-2.ensures.value ∙ ap (λ ls. map member_with (zip modules ls)) c.deref-3.ensures.value
+    ∙ members (all_publics (parts ms)) 0 0 modules links j.1 in
+    let found = c.in_ok-found.ensures ∙ ap (λ ps. warnings (map member_of ps)) c.deref-4.ensures.value ∙ ap warnings parts_are in
+    let sources = c.in_ok-sources.ensures ∙ ap (λ ls. map shown_in (zip files (zip ls c.deref-6.result.now))) c.deref-5.ensures.value ∙ ap (λ xs. map shown_in (zip files (zip lines xs))) c.deref-6.ensures.value in
+    let all = map shown_in (zip files (zip lines modules)) in
+    IfOk-weaker c.warning_lines.result _ _
+    (λ out is.
+    is ∙ ap (λ ss. warning_lines (map shown_of ss) c.deref-8.result.now) c.deref-7.ensures.value ∙ ap (λ ss. warning_lines ss c.deref-8.result.now) sources
+    ∙ ap (warning_lines all) (c.deref-8.ensures.value ∙ found) ∙ sym (ap (λ o. lines_unless o (warning_lines all (warnings (joined ms)))) j.0))
+    c.warning_lines.ensures

@@ -1,0 +1,157 @@
+-- The warnings about jumps that `asm` and `build` print.
+use Rattle.std.specs.Prelude.{◌≡◌, ◌≢◌, ◌⊎◌, ℕ, ◌+◌, ◌-◌, ◌==◌, Bool, List, [], ◌∷◌, ◌++◌, Option, Some, None, Result, Ok, Err, codes, decimal, find, if◌then◌else◌, length, map, nat_le, nat_lt, slice_get, slice_index, take}
+use Rattle.std.specs.List.{AllZip, flat_map, zip}
+use Rattle.std.specs.Option.{option_map_or}
+use Rattle.asm_module.specs.declared.fault.AsmFault.{AsmFault}
+use Rattle.asm_module.specs.declared.fault.Why.{Why}
+use Rattle.asm_module.specs.Assembled.{Assembled, Assembles, HasCause}
+use Rattle.jump_warnings.specs.declared.offsets.Offset.{Offset}
+use Rattle.jump_warnings.specs.declared.part.Site.{Site}
+use Rattle.jump_warnings.specs.declared.warnings.Warning.{Warning}
+use Rattle.jump_warnings.specs.declared.warnings.Warning.TheVariants as warning
+use Rattle.jump_warnings.specs.Parts.{Member}
+use Rattle.jump_warnings.specs.Warnings.{warnings}
+use Rattle.z80_instr.specs.declared.ShortCond.{ShortCond}
+use Rattle.zmo_module.specs.Modules as object
+use Rattle.zmo_module.specs.Modules.{Module, ModuleStatement}
+use Rattle.zlink.specs.declared.program.fault.JoinFault.{JoinFault}
+use Rattle.zlink.specs.Program.Faults.{first_fault}
+use Rattle.zlink.specs.Program.Parts.{all_publics, parts}
+use Rattle.zlink.specs.Program.Whole.{public_statement}
+use Rattle.z80dev_make.specs.Build.{earlier}
+use Rattle.z80dev_make.specs.Front.{front_lines, front_text}
+use Rattle.z80dev_make.specs.declared.answer.SourceFile.{SourceFile}
+use Rattle.z80dev_make.specs.declared.front.Front.{Front}
+
+-- A source as warnings show it: its path, the line of each statement, and its module.
+pub record Shown : Type 0 where
+  pub path : List ℕ
+  pub lines : List ℕ
+  pub holds : Module
+
+abbrev pub shown : Front → SourceFile × Assembled → Shown
+shown front (file, a) = record { path = file.path.now; lines = map (earlier (front_lines front)) a.each; holds = a.holds }
+
+-- the line of a statement, as PATH(LINE)
+abbrev pub place_in : ℕ → Option Shown → List ℕ
+place_in statement None = []
+place_in statement (Some s) = s.path ++ codes "(" ++ decimal (slice_index s.lines statement) ++ codes ")"
+
+abbrev pub place_text : List Shown → Site → List ℕ
+place_text sources at = place_in at.statement (slice_get sources at.«module»)
+
+abbrev pub here : List ℕ
+here = codes "$"
+
+-- the name of the first label at a statement; an address without a label is `$` in the line of an EQU
+abbrev pub label_name : Module → ℕ → List ℕ
+label_name m statement = option_map_or (λ l. l.name) (find (λ l. l.statement == statement) m.labels) here
+
+abbrev pub external_name : Module → ℕ → List ℕ
+external_name m number = option_map_or (λ name. name) (slice_get m.externals number) here
+
+-- The name of a ref in a statement: `$` if it is the statement's own address; otherwise that of a label or of an external.
+abbrev pub reference_name : Module → ℕ → ℕ → List ℕ
+reference_name m statement ref =
+    if ref == statement then here
+    else if nat_le ref (length m.statements) then label_name m ref
+    else external_name m (ref - (length m.statements + 1))
+
+abbrev pub condition_text : Option ShortCond → List ℕ
+condition_text None = []
+condition_text (Some ShortCond.NotZero) = codes "NZ,"
+condition_text (Some ShortCond.Zero) = codes "Z,"
+condition_text (Some ShortCond.NotCarry) = codes "NC,"
+condition_text (Some ShortCond.Carry) = codes "C,"
+
+-- what to write in place of a jump, so that it always has three bytes
+abbrev pub fixed_jump : Module → ℕ → ModuleStatement → List ℕ
+fixed_jump m statement (object.Jump marked condition target) = codes "JP " ++ condition_text condition ++ reference_name m statement target ++ codes "+0"
+fixed_jump m statement _ = []
+
+abbrev pub fixed_in : ℕ → Option Shown → List ℕ
+fixed_in statement None = []
+fixed_in statement (Some s) = option_map_or (fixed_jump s.holds statement) (slice_get s.holds.statements statement) []
+
+abbrev pub fixed_text : List Shown → Site → List ℕ
+fixed_text sources at = fixed_in at.statement (slice_get sources at.«module»)
+
+abbrev pub name_in : ℕ → ℕ → Option Shown → List ℕ
+name_in statement ref None = []
+name_in statement ref (Some s) = reference_name s.holds statement ref
+
+-- the number that is added, with its sign
+abbrev pub signed_text : ℕ → List ℕ
+signed_text bytes = if nat_lt bytes 32768 then codes "+" ++ decimal bytes else codes "-" ++ decimal (65536 - bytes)
+
+abbrev pub offset_text : List Shown → Site → Offset → List ℕ
+offset_text sources at offset = name_in at.statement offset.reference (slice_get sources at.«module») ++ signed_text offset.bytes
+
+-- what the line of a warning about an offset says of the jump
+abbrev pub over_text : List Shown → Site → List ℕ
+over_text sources jump = codes " depends on the length of a jump at " ++ place_text sources jump ++ codes ": write " ++ fixed_text sources jump ++ codes " there to keep 3 bytes\n"
+
+abbrev pub warning_text : List Shown → Warning → List ℕ
+warning_text sources (warning.Over at offset jump) = codes "warning: " ++ place_text sources at ++ codes ": " ++ offset_text sources at offset ++ over_text sources jump
+warning_text sources (warning.Entry at) =
+    codes "warning: " ++ place_text sources at ++ codes ": only a computed jump reaches this jump, whose length may change: write " ++ fixed_text sources at ++ codes " to keep 3 bytes\n"
+
+abbrev pub most_warnings : ℕ
+most_warnings = 10
+
+-- how many warnings are not shown
+abbrev pub more_text : ℕ → List ℕ
+more_text count = if nat_lt most_warnings count then codes "warning: " ++ decimal (count - most_warnings) ++ codes " more\n" else []
+
+-- a line for each of the first ten warnings, and one with the number of the others
+abbrev pub warning_lines : List Shown → List Warning → List ℕ
+warning_lines sources found = flat_map (warning_text sources) (take most_warnings found) ++ more_text (length found)
+
+-- the modules of a program, with what their externals stand for
+abbrev pub joined : List Module → List Member
+joined modules = map (λ p. record { holds = p.holds; externals = map (public_statement (all_publics (parts modules))) p.holds.externals }) (parts modules)
+
+-- the lines for a source; none if it has an error. What an external stands for is not known.
+abbrev pub asm_warnings : Front → SourceFile → Result Assembled AsmFault → List ℕ
+asm_warnings front file (Ok a) = warning_lines (shown front (file, a) ∷ []) (warnings (record { holds = a.holds; externals = [] } ∷ []))
+asm_warnings front file (Err fault) = []
+
+-- These are the warnings of the source, assembled after the text of the front.
+abbrev pub IsWarnedAsm : Front → SourceFile → Bool → List ℕ → Type 0
+IsWarnedAsm front file grow lines = (result : Result Assembled AsmFault) × HasCause result
+    × Assembles file.path.now (front_text front ++ file.text.now) grow result × (lines ≡ asm_warnings front file result)
+
+-- the source is assembled to this after the text of the front
+abbrev pub IsAssembledBehind : Front → Bool → SourceFile → Assembled → Type 0
+IsAssembledBehind front grow file a = Assembles file.path.now (front_text front ++ file.text.now) grow (Ok a)
+
+abbrev pub lines_unless : Option JoinFault → List ℕ → List ℕ
+lines_unless None lines = lines
+lines_unless (Some fault) lines = []
+
+-- the lines for sources; none if their modules have an error together
+abbrev pub build_warnings : Front → List SourceFile → List Assembled → List ℕ
+build_warnings front files all =
+    let modules = map (λ a. a.holds) all in
+    lines_unless (first_fault modules) (warning_lines (map (shown front) (zip files all)) (warnings (joined modules)))
+
+-- All sources can be assembled after the text of the front, and these are their warnings.
+abbrev pub IsWarnedProgram : Front → List SourceFile → Bool → List ℕ → Type 0
+IsWarnedProgram front files grow lines = (all : List Assembled) × AllZip (IsAssembledBehind front grow) files all × (lines ≡ build_warnings front files all)
+
+-- the source has this error after the text of the front
+pub record HasFault (front : Front) (grow : Bool) (file : SourceFile) : Type 0 where
+  pub fault : AsmFault
+  pub caused : fault.why ≢ Why.NoMemory
+  pub faulty : Assembles file.path.now (front_text front ++ file.text.now) grow (Err fault)
+
+-- one of the sources has an error
+pub record HasError (front : Front) (files : List SourceFile) (grow : Bool) : Type 0 where
+  pub number : ℕ
+  pub file : SourceFile
+  pub there : slice_get files number ≡ Some file
+  pub fault : HasFault front grow file
+
+-- These are the warnings of the program of the sources; none if there is no program.
+abbrev pub IsWarnedBuild : Front → List SourceFile → Bool → List ℕ → Type 0
+IsWarnedBuild front files grow lines = IsWarnedProgram front files grow lines ⊎ (HasError front files grow × (lines ≡ []))
