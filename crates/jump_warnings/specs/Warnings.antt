@@ -11,7 +11,7 @@ use Rattle.jump_warnings.specs.declared.part.Site.{Site}
 use Rattle.jump_warnings.specs.declared.warnings.Warning.{Warning}
 use Rattle.jump_warnings.specs.declared.warnings.Warning.TheVariants as warning
 use Rattle.jump_warnings.specs.Jumps.{Sizes, fixed_size, jump_over, sizes_of}
-use Rattle.jump_warnings.specs.Offsets.{offsets}
+use Rattle.jump_warnings.specs.Offsets.{if_any, offsets, relative}
 use Rattle.jump_warnings.specs.Parts.{Member, Placed, placed, program, sited, stands}
 
 -- An offset over a jump that may change its length.
@@ -24,9 +24,14 @@ abbrev pub holes_of : ModuleStatement → List Hole
 holes_of (object.Bytes bytes holes) = holes
 holes_of _ = []
 
--- the warnings about the offsets in the fix-ups of a statement
+abbrev pub bytes_of : ModuleStatement → List ℕ
+bytes_of (object.Bytes bytes holes) = bytes
+bytes_of _ = []
+
+-- the warnings about a statement: about the offsets in its fix-ups, and about its target if its bytes are those of JR or DJNZ
 abbrev pub statement_overs : Sizes → Placed → Site × ModuleStatement → List Warning
-statement_overs sizes p (at, s) = flat_map (λ h. filter_map (over sizes p at) (offsets h.value)) (holes_of s)
+statement_overs sizes p (at, s) =
+    flat_map (λ h. filter_map (over sizes p at) (offsets h.value)) (holes_of s) ++ filter_map (over sizes p at) (if_any (relative at.statement (bytes_of s)))
 
 -- the warnings about the offsets in a module, in the order of its statements
 abbrev pub overs_in : Sizes → Placed → List Warning

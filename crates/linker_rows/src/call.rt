@@ -29,6 +29,8 @@ pub(crate) enum OnSources {
     NoMemory,
     Object,
     ModuleName,
+    Warnings,
+    AsmWarnings,
 }
 
 /// Calls that print what comes with a file.
@@ -48,7 +50,7 @@ pub(crate) enum OnMade {
 }
 
 /// The names of all calls.
-const CALLS: [(&str, Call); 18] = [
+const CALLS: [(&str, Call); 20] = [
     ("program", Call::Files(OnFiles::Program)),
     ("at", Call::Files(OnFiles::At)),
     ("listing", Call::Files(OnFiles::Listing)),
@@ -61,6 +63,8 @@ const CALLS: [(&str, Call); 18] = [
     ("no-memory", Call::Sources(OnSources::NoMemory)),
     ("object", Call::Sources(OnSources::Object)),
     ("module-name", Call::Sources(OnSources::ModuleName)),
+    ("warnings", Call::Sources(OnSources::Warnings)),
+    ("asm-warnings", Call::Sources(OnSources::AsmWarnings)),
     ("statements", Call::Built(OnBuilt::Statements)),
     ("symbols", Call::Built(OnBuilt::Symbols)),
     ("last", Call::Built(OnBuilt::Last)),

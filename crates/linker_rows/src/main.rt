@@ -11,6 +11,7 @@ mod linking;
 mod made;
 mod shown;
 mod sources;
+mod warned;
 
 use call::{Call, OnFiles, OnMade, OnSources};
 use files::Program;
@@ -38,6 +39,8 @@ fn answer_sources(row: &mut Row, call: OnSources) {
         OnSources::NoMemory => building::answer_no_memory(row),
         OnSources::Object => linking::answer_object(row),
         OnSources::ModuleName => beside::answer_module_name(row),
+        OnSources::Warnings => warned::answer_build(row),
+        OnSources::AsmWarnings => warned::answer_asm(row),
     }
 }
 

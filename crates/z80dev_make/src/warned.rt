@@ -85,11 +85,11 @@ fn put_place(
 }
 
 /// Answers the name of the first label at a statement.
-fn label_at(module: &Module, reference: u16) -> &[u8]
+fn label_at(module: &Module, reference: usize) -> &[u8]
     ensures { result.now ≡ label_name (module_of «module».now) reference }
 {
     for label in &module.labels {
-        if label.statement == reference {
+        if usize::from(label.statement) == reference {
             return &label.name;
         }
     }
@@ -107,18 +107,17 @@ fn external_at(module: &Module, number: usize) -> &[u8]
 }
 
 /// Answers the name of a ref in a statement.
-fn reference_name(module: &Module, statement: usize, reference: u16) -> &[u8]
+fn reference_name(module: &Module, statement: usize, reference: usize) -> &[u8]
     ensures { result.now ≡ reference_name (module_of «module».now) statement reference }
 {
     let count = module.statements.len();
-    let at = usize::from(reference);
-    if at == statement {
+    if reference == statement {
         return b"$";
     }
-    if at <= count {
+    if reference <= count {
         return label_at(module, reference);
     }
-    external_at(module, at - (count + 1))
+    external_at(module, reference - (count + 1))
 }
 
 /// Answers a condition as a jump has it before its target.
@@ -151,7 +150,7 @@ fn put_jump(
         } => {
             put(out, "JP ")?;
             put(out, condition_text(*condition))?;
-            out.extend_from_slice(reference_name(module, number, *target))?;
+            out.extend_from_slice(reference_name(module, number, usize::from(*target)))?;
             put(out, "+0")
         }
         _ => Ok(()),
@@ -196,7 +195,7 @@ fn put_name(
     out: &mut Vec<u8>,
     sources: &[Shown<'_>],
     site: Site,
-    reference: u16,
+    reference: usize,
 ) -> Result<(), AllocError>
     ensures { OnOk result (out.new.items ≡ out.old.items ++ name_in site.statement reference (slice_get (map shown_of sources.now) site.«module»)) }
 {

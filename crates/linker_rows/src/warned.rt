@@ -1,0 +1,69 @@
+//! Prints the warnings about the jumps of sources.
+
+use crate::sources::{grow_of, texts_of};
+use row_text::Row;
+use std::alloc::AllocError;
+use z80dev_make::{Front, SourceFile, warn_asm, warn_build};
+
+/// The paths of the sources of a row, which has eight at most.
+const PATHS: [&str; 8] = ["A", "B", "C", "D", "E", "F", "G", "H"];
+
+/// Prints lines, each with `|` as its end.
+fn show_lines(row: &mut Row, lines: &[u8]) {
+    if lines.is_empty() {
+        return write!(row, " none");
+    }
+    write!(row, " ");
+    for byte in lines {
+        let shown = if *byte == b'\n' { b'|' } else { *byte };
+        row.write_text(&[shown]);
+    }
+}
+
+/// Answers files with these texts, whose paths are A, B and so on.
+fn files_of<'t>(row: &mut Row, texts: &'t [Vec<u8>]) -> Vec<SourceFile<'t>> {
+    let mut files = Vec::new(row.alloc());
+    for (text, path) in texts.iter().zip(&PATHS) {
+        if files.push(SourceFile { path: *path, text }).is_err() {
+            row.refuse("no memory");
+        }
+    }
+    files
+}
+
+/// Prints what a call answered.
+fn show_answer(row: &mut Row, answer: Result<Vec<u8>, AllocError>) {
+    match answer {
+        Ok(lines) => show_lines(row, &lines),
+        Err(_) => row.refuse("no memory"),
+    }
+}
+
+/// Prints the warnings of the program of a row's sources.
+pub(crate) fn answer_build(row: &mut Row) {
+    let grow = grow_of(row);
+    let texts = texts_of(row);
+    let files = files_of(row, &texts);
+    let front = Front {
+        defines: &[],
+        files: &[],
+    };
+    let answer = warn_build(row.alloc(), front, &files, grow);
+    show_answer(row, answer)
+}
+
+/// Prints the warnings of a row's source by itself; the first of its texts is a shared file.
+pub(crate) fn answer_asm(row: &mut Row) {
+    let grow = grow_of(row);
+    let texts = texts_of(row);
+    let files = files_of(row, &texts);
+    let [shared, file, ..] = files.as_slice() else {
+        return row.refuse("no source");
+    };
+    let front = Front {
+        defines: &["SIZE=2"],
+        files: &[*shared],
+    };
+    let answer = warn_asm(row.alloc(), front, *file, grow);
+    show_answer(row, answer)
+}
