@@ -3,7 +3,7 @@
 use crate::making::{Sources, lent, show_made, sources_of};
 use row_text::Row;
 use std::alloc::{AllocError, Global};
-use z80dev::{Front, SourceFile, bad_define, build};
+use z80dev::{Front, SourceFile, Wanted, bad_define, build};
 
 /// Takes a part of a row as words with commas between them; `-` is no word.
 fn words_of<'a>(alloc: Global, part: &'a str) -> Result<Vec<&'a str>, AllocError> {
@@ -49,7 +49,12 @@ fn show_behind<'a>(
     sources: &'a [SourceFile<'a>],
 ) {
     let front = Front { defines, files };
-    let made = build(row.alloc(), front, sources, true, list);
+    let wanted = Wanted {
+        grow: true,
+        list,
+        warn: false,
+    };
+    let made = build(row.alloc(), front, sources, wanted);
     show_made(row, made, 9)
 }
 

@@ -2,7 +2,9 @@
 
 use row_text::Row;
 use std::alloc::{AllocError, Global};
-use z80dev::{Answer, Front, Made, MemorySink, SourceFile, Told, asm, build, finish, link, report};
+use z80dev::{
+    Answer, Front, Made, MemorySink, SourceFile, Told, Wanted, asm, build, finish, link, report,
+};
 use z80dev_jobs::{FailingFiles, Failure, MemoryFiles};
 
 /// Nothing before a source.
@@ -55,7 +57,7 @@ fn show_finished(row: &mut Row, finished: &Outcome) {
 /// What `asm` makes of a source.
 fn assembled<'a>(alloc: Global, path: &'a str, text: &'a [u8]) -> Answer<Told<'a>> {
     let source = SourceFile { path, text };
-    asm(alloc, NO_FRONT, source, false)
+    asm(alloc, NO_FRONT, source, false, false).answer
 }
 
 /// Prints what `asm` makes of a source.
@@ -78,7 +80,7 @@ fn object_of(row: &mut Row, part: &str) -> Vec<u8> {
         path: "A",
         text: &text,
     };
-    let mut answer = asm(row.alloc(), NO_FRONT, source, false);
+    let mut answer = asm(row.alloc(), NO_FRONT, source, false, false).answer;
     match answer.files.pop() {
         Some(file) => file.bytes,
         None => {
@@ -152,7 +154,12 @@ pub(crate) fn show_made(row: &mut Row, made: Made, room: u64) {
 
 /// Prints what `build` makes of sources, and what it reports about their jumps.
 fn show_built(row: &mut Row, sources: &[SourceFile], grow: bool, room: u64) {
-    let made = build(row.alloc(), NO_FRONT, sources, grow, false);
+    let wanted = Wanted {
+        grow,
+        list: false,
+        warn: false,
+    };
+    let made = build(row.alloc(), NO_FRONT, sources, wanted);
     show_made(row, made, room)
 }
 

@@ -2,8 +2,7 @@
 
 use crate::sources::{grow_of, texts_of};
 use row_text::Row;
-use std::alloc::AllocError;
-use z80dev_make::{Front, SourceFile, warn_asm, warn_build};
+use z80dev_make::{Front, SourceFile, Wanted, asm, build};
 
 /// The paths of the sources of a row, which has eight at most.
 const PATHS: [&str; 8] = ["A", "B", "C", "D", "E", "F", "G", "H"];
@@ -31,14 +30,6 @@ fn files_of<'t>(row: &mut Row, texts: &'t [Vec<u8>]) -> Vec<SourceFile<'t>> {
     files
 }
 
-/// Prints what a call answered.
-fn show_answer(row: &mut Row, answer: Result<Vec<u8>, AllocError>) {
-    match answer {
-        Ok(lines) => show_lines(row, &lines),
-        Err(_) => row.refuse("no memory"),
-    }
-}
-
 /// Prints the warnings of the program of a row's sources.
 pub(crate) fn answer_build(row: &mut Row) {
     let grow = grow_of(row);
@@ -48,8 +39,13 @@ pub(crate) fn answer_build(row: &mut Row) {
         defines: &[],
         files: &[],
     };
-    let answer = warn_build(row.alloc(), front, &files, grow);
-    show_answer(row, answer)
+    let wanted = Wanted {
+        grow,
+        list: false,
+        warn: true,
+    };
+    let made = build(row.alloc(), front, &files, wanted);
+    show_lines(row, &made.warnings);
 }
 
 /// Prints the warnings of a row's source by itself; the first of its texts is a shared file.
@@ -64,6 +60,6 @@ pub(crate) fn answer_asm(row: &mut Row) {
         defines: &["SIZE=2"],
         files: &[*shared],
     };
-    let answer = warn_asm(row.alloc(), front, *file, grow);
-    show_answer(row, answer)
+    let object = asm(row.alloc(), front, *file, grow, true);
+    show_lines(row, &object.warnings);
 }

@@ -21,5 +21,5 @@ pub use z80dev_finish::{
     Answer, DONE, End, FILE_FAULT, Files, Kind, NewFile, REFUSED, USAGE, Unread, finish, report,
 };
 pub use z80dev_make::{
-    Front, Jumps, Made, Refusal, SourceFile, Told, asm, bad_define, build, link,
+    Front, Jumps, Made, Object, Refusal, SourceFile, Told, Wanted, asm, bad_define, build, link,
 };

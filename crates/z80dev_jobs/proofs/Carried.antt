@@ -34,9 +34,9 @@ pub carried : {R : Type 0} (text : R → List ℕ) (base : List ℕ) (a : made.A
 carried text base a old mid new before after e same does =
     subst (λ f. IsCarriedOut base (answer_by text a) (effect_of f new before after) e) same (finished text base a mid new before after e does)
 
-pub aside : (Is Other : Answer → Type 0) (a : Answer) → ((b : Answer) → Is b → Other b) → MemoryAside Is a → MemoryAside Other a
+pub aside : (Is Other : Answer → Type 0) (a : Answer) → (Is a → Other a) → MemoryAside Is a → MemoryAside Other a
 aside Is Other a more (inl out) = inl out
-aside Is Other a more (inr is) = inr (more a is)
+aside Is Other a more (inr is) = inr (more is)
 
 -- a line is put, whatever comes of it
 pub put_so : (old new : Stream) (line : List ℕ) (result : Result Unit WriteFailed) → Puts old new line result → IsPut old new line

@@ -12,7 +12,7 @@ use Rattle.z80dev_finish.specs.declared.end.End.{End}
 use Rattle.z80dev_finish.specs.declared.end.End.TheVariants as end
 use Rattle.z80dev_jobs.specs.Making.{AreFiles, BuildsWith, Effect, NothingDone, UnlessRefused, WithAll, effect_of, shared_paths, source_paths}
 use Rattle.z80dev_jobs.specs.Outputs.{program_kinds, why_not_written}
-use Rattle.z80dev_jobs.specs.Private.Steps.{BuildsTexts, EndsWith, IsClear}
+use Rattle.z80dev_jobs.specs.Private.Steps.{BuildsTexts, EndsWithLines, IsClear}
 use Rattle.z80dev_jobs.specs.Reading.{IsRead}
 use Rattle.z80dev_make.specs.declared.answer.SourceFile.{SourceFile}
 use Rattle.z80dev_jobs.proofs.Images.{refuses}
@@ -45,11 +45,11 @@ are_files a b s t made given same_paths same_texts same are =
 -- A program that was built of what was read is what `build` makes.
 pub builds : (base : List ℕ) (build : Build) (fronts texts : List (List ℕ)) (x : Effect)
     → AllZip (IsRead x.old) (shared_paths build.shared) fronts → AllZip (IsRead x.old) (source_paths build) texts
-    → why_not_written base (program_kinds build.list) (shared_paths build.shared ++ source_paths build) ≡ None → (line : Option (List ℕ)) (e : End)
-    → BuildsTexts base build fronts texts x line e → BuildsWith base build x line e
-builds base build fronts texts x read_fronts read none line e (inl is) =
+    → why_not_written base (program_kinds build.list) (shared_paths build.shared ++ source_paths build) ≡ None → (lines : List ℕ) (e : End)
+    → BuildsTexts base build fronts texts x lines e → BuildsWith base build x lines e
+builds base build fronts texts x read_fronts read none lines e (inl is) =
     clear (why_not_written base (program_kinds build.list) (shared_paths build.shared ++ source_paths build)) _ x e none (inl (fronts, read_fronts, inl (texts, read, is)))
-builds base build fronts texts x read_fronts read none line e (inr (out, nothing)) =
+builds base build fronts texts x read_fronts read none lines e (inr (out, nothing)) =
     clear (why_not_written base (program_kinds build.list) (shared_paths build.shared ++ source_paths build)) _ x e none (lacking (shared_paths build.shared) _ x e out nothing)
 
 -- The same base, kinds and files, by other names.
@@ -63,11 +63,11 @@ clear_of base given kinds meant a b c d same_base same_kinds same same_sources i
     (subst (λ text. why_not_written text kinds (map (λ path. path.now) a ++ map (λ path. path.now) c) ≡ None) same_base is)))
 
 pub builds_so : (base given : List ℕ) (build : Build) (s t u v : List (Vec ℕ Global)) (old mid new : Folder) (before after : Stream)
-    (result : Result (Option (String Global)) End) → base ≡ given → s ≡ t → u ≡ v → mid ≡ old
-    → EndsWith (BuildsTexts base build (map (λ text. text.items) s) (map (λ text. text.items) u) (effect_of mid new before after)) result
-    → EndsWith (BuildsTexts given build (map (λ text. text.items) t) (map (λ text. text.items) v) (effect_of old new before after)) result
+    (result : Result (Vec ℕ Global) End) → base ≡ given → s ≡ t → u ≡ v → mid ≡ old
+    → EndsWithLines (BuildsTexts base build (map (λ text. text.items) s) (map (λ text. text.items) u) (effect_of mid new before after)) result
+    → EndsWithLines (BuildsTexts given build (map (λ text. text.items) t) (map (λ text. text.items) v) (effect_of old new before after)) result
 builds_so base given build s t u v old mid new before after result same_base same_fronts same_texts same is =
-    subst (λ f. EndsWith (BuildsTexts given build (map (λ text. text.items) t) (map (λ text. text.items) v) (effect_of f new before after)) result) same
-    (subst (λ texts. EndsWith (BuildsTexts given build (map (λ text. text.items) t) (map (λ text. text.items) texts) (effect_of mid new before after)) result) same_texts
-    (subst (λ fronts. EndsWith (BuildsTexts given build (map (λ text. text.items) fronts) (map (λ text. text.items) u) (effect_of mid new before after)) result) same_fronts
-    (subst (λ text. EndsWith (BuildsTexts text build (map (λ text. text.items) s) (map (λ text. text.items) u) (effect_of mid new before after)) result) same_base is)))
+    subst (λ f. EndsWithLines (BuildsTexts given build (map (λ text. text.items) t) (map (λ text. text.items) v) (effect_of f new before after)) result) same
+    (subst (λ texts. EndsWithLines (BuildsTexts given build (map (λ text. text.items) t) (map (λ text. text.items) texts) (effect_of mid new before after)) result) same_texts
+    (subst (λ fronts. EndsWithLines (BuildsTexts given build (map (λ text. text.items) fronts) (map (λ text. text.items) u) (effect_of mid new before after)) result) same_fronts
+    (subst (λ text. EndsWithLines (BuildsTexts text build (map (λ text. text.items) s) (map (λ text. text.items) u) (effect_of mid new before after)) result) same_base is)))

@@ -9,5 +9,6 @@ pub mod One_word
 pub mod Overwritten
 pub mod Refused
 pub mod Images
+pub mod Lined
 pub mod Reported
 pub mod Stored

@@ -15,7 +15,7 @@ use Rattle.z80dev_finish.specs.End.{IsPut, Tells, TellsOf, end_status}
 use Rattle.z80dev_finish.specs.declared.end.End.{End}
 use Rattle.z80dev_finish.specs.declared.end.End.TheVariants as end
 use Rattle.z80dev_jobs.specs.Disks.{DiskJobEnds, TellsLine}
-use Rattle.z80dev_jobs.specs.Making.{AsmEnds, BuildEnds, CheckEnds, DisEnds, Effect, LinkEnds, defines_of, effect_of}
+use Rattle.z80dev_jobs.specs.Making.{AsmEnds, BuildEnds, CheckEnds, DisEnds, Effect, LinkEnds, PutsLines, defines_of, effect_of}
 use Rattle.z80dev_jobs.specs.Running.{RunEnds}
 use Rattle.z80dev_jobs.specs.Words.{AreTexts, IsNotText}
 use Rattle.z80dev_jobs.specs.World.{World}
@@ -35,6 +35,15 @@ TellsWith line e old new = Tells e old new
 
 abbrev pub ReportsLine : (Effect → Option (List ℕ) → End → Type 0) → World → World → ℕ → Type 0
 ReportsLine Ends old new status = (line : Option (List ℕ)) × (e : End) × Ends (effect old new) line e × (status ≡ end_status e) × TellsWith line e old.errors new.errors
+    × (new.input ≡ old.input)
+
+-- The lines of a job at which all is done, or its end.
+abbrev pub TellsLines : List ℕ → End → Stream → Stream → Type 0
+TellsLines lines end.Done old new = PutsLines lines old new
+TellsLines lines e old new = Tells e old new
+
+abbrev pub ReportsLines : (Effect → List ℕ → End → Type 0) → World → World → ℕ → Type 0
+ReportsLines Ends old new status = (lines : List ℕ) × (e : End) × Ends (effect old new) lines e × (status ≡ end_status e) × TellsLines lines e old.errors new.errors
     × (new.input ≡ old.input)
 
 -- No file is touched, and standard input is not read
@@ -67,9 +76,9 @@ PipeEnds old new status = (new.folder ≡ old.folder) × OfText old.input.left (
 -- What each job does.
 abbrev pub JobEnds : Job → World → World → ℕ → Type 0
 JobEnds Pipe old new status = PipeEnds old new status
-JobEnds (Asm asm) old new status = Defining (defines_of asm.shared) (Reports (AsmEnds asm)) old new status
+JobEnds (Asm asm) old new status = Defining (defines_of asm.shared) (ReportsLines (AsmEnds asm)) old new status
 JobEnds (Link link) old new status = Reports (LinkEnds link) old new status
-JobEnds (Build build) old new status = Defining (defines_of build.shared) (ReportsLine (BuildEnds build)) old new status
+JobEnds (Build build) old new status = Defining (defines_of build.shared) (ReportsLines (BuildEnds build)) old new status
 JobEnds (Check check) old new status = Reports (CheckEnds check.sizes.now check.cert.now) old new status
 JobEnds (Dis dis) old new status = Reports (DisEnds dis) old new status
 JobEnds (Disk job) old new status = ReportsLine (DiskJobEnds job) old new status

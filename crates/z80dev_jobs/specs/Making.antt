@@ -16,6 +16,7 @@ use Rattle.z80dev_commands.specs.declared.job.Dis.{Dis}
 use Rattle.z80dev_commands.specs.declared.job.Link.{Link}
 use Rattle.z80dev_commands.specs.declared.job.Shared.{Shared}
 use Rattle.z80dev_finish.specs.Answers.{Answer, MemoryAside}
+use Rattle.z80dev_finish.specs.End.{IsPut}
 use Rattle.z80dev_finish.specs.Files.{Folder}
 use Rattle.z80dev_finish.specs.Finishing.{AllWritten, IsBrokenOff, IsUnwritten}
 use Rattle.z80dev_finish.specs.declared.answer.Kind.TheVariants as kind
@@ -27,6 +28,7 @@ use Rattle.z80dev_make.specs.Asm.{IsAsm}
 use Rattle.z80dev_make.specs.Build.{IsMade}
 use Rattle.z80dev_make.specs.Link.{IsLink}
 use Rattle.z80dev_make.specs.Jumps.{jumps_text}
+use Rattle.z80dev_make.specs.Warned.{AreModuleWarnings, AreWarnings}
 use Rattle.z80dev_make.specs.declared.answer.SourceFile.{SourceFile}
 use Rattle.z80dev_make.specs.declared.front.Front.{Front}
 use Rattle.z80dev_make.specs.declared.jumps.Jumps.{Jumps}
@@ -104,15 +106,29 @@ shared_paths shared = map (λ path. path.now) shared.files.items
 abbrev pub IsFront : Shared → List (List ℕ) → Front → Type 0
 IsFront shared texts front = (map (λ word. word.now) front.defines.now ≡ defines_of shared) × AreFiles (shared_paths shared) texts front.files.now
 
--- the object of a source that was read, with definitions and shared files, which were read too, before its first line
-abbrev pub IsAsmOf : Asm → List (List ℕ) → List ℕ → Answer → Type 0
-IsAsmOf asm fronts text a =
-    (front : Front) × (file : SourceFile) × IsFront asm.shared fronts front × (file.path.now ≡ asm.source.now) × (file.text.now ≡ text) × IsAsm front file asm.grow a
+-- these lines are put, if there are some
+abbrev pub PutsLines : List ℕ → Stream → Stream → Type 0
+PutsLines [] old new = new ≡ old
+PutsLines (byte ∷ more) old new = IsPut old new (byte ∷ more)
 
--- `asm`: the shared files and then the source are read, and its object is written.
-abbrev pub AsmEnds : Asm → Effect → End → Type 0
-AsmEnds asm x e = UnlessRefused (why_not_written asm.out.now (kind.Object ∷ []) (shared_paths asm.shared ++ asm.source.now ∷ []))
-    (WithAll (shared_paths asm.shared) (λ fronts. With asm.source.now (λ text. CarriesOut asm.out.now (MemoryAside (IsAsmOf asm fronts text)) x e) x e) x e) x e
+-- The lines go with the end at which all is done.
+abbrev pub LinesAt : End → List ℕ → List ℕ → Type 0
+LinesAt end.Done lines wanted = lines ≡ wanted
+LinesAt other lines wanted = lines ≡ []
+
+-- the object of a source that was read, with definitions and shared files, which were read too, before its first line; and its warnings
+abbrev pub IsAsmOf : Asm → List (List ℕ) → List ℕ → List ℕ → Answer → Type 0
+IsAsmOf asm fronts text warned a =
+    (front : Front) × (file : SourceFile) × IsFront asm.shared fronts front × (file.path.now ≡ asm.source.now) × (file.text.now ≡ text)
+    × IsAsm front file asm.grow a × AreModuleWarnings asm.warn front file asm.grow a.said warned
+
+abbrev pub WritesAsm : Asm → List (List ℕ) → List ℕ → Effect → List ℕ → End → Type 0
+WritesAsm asm fronts text x lines e = (warned : List ℕ) × LinesAt e lines warned × CarriesOut asm.out.now (MemoryAside (IsAsmOf asm fronts text warned)) x e
+
+-- `asm`: the shared files and then the source are read, and its object is written. The lines are its warnings.
+abbrev pub AsmEnds : Asm → Effect → List ℕ → End → Type 0
+AsmEnds asm x lines e = UnlessRefused (why_not_written asm.out.now (kind.Object ∷ []) (shared_paths asm.shared ++ asm.source.now ∷ []))
+    (WithAll (shared_paths asm.shared) (λ fronts. With asm.source.now (λ text. WritesAsm asm fronts text x lines e) x e) x e) x e
 
 -- `link`: the objects are read, and their program is written.
 abbrev pub object_paths : Link → List (List ℕ)
@@ -123,35 +139,35 @@ LinkEnds link x e = UnlessRefused (why_not_written link.out.now (program_kinds f
     (WithAll (object_paths link) (λ objects. CarriesOut link.out.now (MemoryAside (IsLink objects)) x e) x e) x e
 
 -- how many jumps are short and long, where this is wanted and there is a program
-abbrev pub jumps_line : Bool → Option Jumps → Option (List ℕ)
-jumps_line false jumps = None
-jumps_line true None = None
-jumps_line true (Some j) = Some (jumps_text j ++ 10 ∷ [])
+abbrev pub jumps_lines : Bool → Option Jumps → List ℕ
+jumps_lines true (Some j) = jumps_text j ++ 10 ∷ []
+jumps_lines wanted jumps = []
 
 -- The line goes with the end at which all is done.
 abbrev pub LineAt : End → Option (List ℕ) → Option (List ℕ) → Type 0
 LineAt end.Done line wanted = line ≡ wanted
 LineAt other line wanted = line ≡ None
 
--- The program of sources that were read, with definitions and shared files, which were read too, before each of them, is written, and its jumps
--- are counted.
 abbrev pub source_paths : Build → List (List ℕ)
 source_paths build = map (λ path. path.now) build.sources.items
 
-abbrev pub IsBuiltOf : Build → List (List ℕ) → List (List ℕ) → Option Jumps → Answer → Type 0
-IsBuiltOf build fronts texts jumps a = (front : Front) × (files : List SourceFile) × IsFront build.shared fronts front × AreFiles (source_paths build) texts files
-    × IsMade front files build.grow build.list a jumps
+-- the program of sources that were read, with definitions and shared files, which were read too, before each of them; its jumps and its warnings
+abbrev pub IsBuiltOf : Build → List (List ℕ) → List (List ℕ) → Option Jumps → List ℕ → Answer → Type 0
+IsBuiltOf build fronts texts jumps warned a = (front : Front) × (files : List SourceFile) × IsFront build.shared fronts front × AreFiles (source_paths build) texts files
+    × IsMade front files build.grow build.list a jumps × AreWarnings build.warn front files build.grow jumps warned
 
-abbrev pub WritesBuilt : List ℕ → Build → List (List ℕ) → List (List ℕ) → Effect → Option (List ℕ) → End → Type 0
-WritesBuilt base build fronts texts x line e = (jumps : Option Jumps) × LineAt e line (jumps_line build.verbose jumps) × CarriesOut base (IsBuiltOf build fronts texts jumps) x e
+-- It is written. The lines are its warnings, and how many of its jumps are short and long.
+abbrev pub WritesBuilt : List ℕ → Build → List (List ℕ) → List (List ℕ) → Effect → List ℕ → End → Type 0
+WritesBuilt base build fronts texts x lines e = (jumps : Option Jumps) × (warned : List ℕ) × LinesAt e lines (warned ++ jumps_lines build.verbose jumps)
+    × CarriesOut base (IsBuiltOf build fronts texts jumps warned) x e
 
 -- `build`: the shared files and then the sources are read, and their program is written.
-abbrev pub BuildsWith : List ℕ → Build → Effect → Option (List ℕ) → End → Type 0
-BuildsWith base build x line e = UnlessRefused (why_not_written base (program_kinds build.list) (shared_paths build.shared ++ source_paths build))
-    (WithAll (shared_paths build.shared) (λ fronts. WithAll (source_paths build) (λ texts. WritesBuilt base build fronts texts x line e) x e) x e) x e
+abbrev pub BuildsWith : List ℕ → Build → Effect → List ℕ → End → Type 0
+BuildsWith base build x lines e = UnlessRefused (why_not_written base (program_kinds build.list) (shared_paths build.shared ++ source_paths build))
+    (WithAll (shared_paths build.shared) (λ fronts. WithAll (source_paths build) (λ texts. WritesBuilt base build fronts texts x lines e) x e) x e) x e
 
-abbrev pub BuildEnds : Build → Effect → Option (List ℕ) → End → Type 0
-BuildEnds build x line e = BuildsWith (base_of build.out (source_paths build)) build x line e
+abbrev pub BuildEnds : Build → Effect → List ℕ → End → Type 0
+BuildEnds build x lines e = BuildsWith (base_of build.out (source_paths build)) build x lines e
 
 -- `check`: the sizes and the certificate are read, and the checker's verdict is printed. No file is written.
 abbrev pub CheckEnds : List ℕ → List ℕ → Effect → End → Type 0

@@ -1,5 +1,5 @@
 -- How the command `run` ends.
-use Rattle.std.specs.Prelude.{◌≡◌, ◌≢◌, ◌⊎◌, ℕ, Bool, ◌&&◌, not, IfSome, List, [], ◌∷◌, Option, None, Some, Result, Ok, Err, Vec, length, map, option_map, string_bytes, unwrap_or}
+use Rattle.std.specs.Prelude.{◌≡◌, ◌≢◌, ◌⊎◌, ℕ, Bool, ◌&&◌, not, IfSome, List, [], Option, None, Some, Result, Ok, Err, Vec, length, map, option_map, string_bytes, unwrap_or}
 use Rattle.std.specs.Borrow.{Bor}
 use Rattle.std.specs.Global.{Global}
 use Rattle.cpm_fcb.specs.declared.stop.Stop.TheVariants as stop
@@ -13,11 +13,12 @@ use Rattle.z80dev_disk.specs.Refusals.{refusal_text}
 use Rattle.z80dev_disk.specs.declared.refusal.Refusal.{Refusal}
 use Rattle.z80dev_commands.specs.declared.job.Run.{Run}
 use Rattle.z80dev_commands.specs.declared.job.Telling.{Telling}
-use Rattle.z80dev_finish.specs.End.{IsPut, Tells, end_status}
+use Rattle.z80dev_finish.specs.End.{Tells, end_status}
 use Rattle.z80dev_finish.specs.Files.{Folder}
 use Rattle.z80dev_finish.specs.declared.end.End.{End}
 use Rattle.z80dev_finish.specs.declared.end.End.TheVariants as end
 use Rattle.z80dev_jobs.specs.Disks.{HasClaimed, IsNotClaimed, KeepsFile, TellsLine, warnings}
+use Rattle.z80dev_jobs.specs.Making.{PutsLines}
 use Rattle.z80dev_jobs.specs.Reading.{IsInputUnread, IsNotRead, IsNotReadIfGiven, IsRead, IsReadIfGiven, Reader, ReadsInput, bytes_in}
 use Rattle.z80dev_jobs.specs.Telling.{AreKnown, AreNotKnown, IsToldRun, WritesTold, why_not_told}
 use Rattle.z80dev_jobs.specs.World.{World}
@@ -70,11 +71,6 @@ why_at end (Err _) = why.Stopped stop.ConsoleFault
 -- lines that warn are put after a run whose program ended by itself
 abbrev pub WarnsAfter : Option (List ℕ) → Stream → Stream → ℕ → Type 0
 WarnsAfter lines old new status = (status ≡ 0 → TellsLine lines old new) × (status ≢ 0 → new ≡ old)
-
--- these lines are put, if there are some
-abbrev pub PutsLines : List ℕ → Stream → Stream → Type 0
-PutsLines [] old new = new ≡ old
-PutsLines (byte ∷ more) old new = IsPut old new (byte ∷ more)
 
 -- the lines that a run tells; None if memory ran out for what it tells
 abbrev pub told_lines : Option Told → List ℕ

@@ -5,9 +5,9 @@ ghost use Rattle.z80dev.specs.declared.text.TheConstants.{MOST_READS};
 ghost use Rattle.clap.specs.Words.{kind_of};
 ghost use Rattle.z80dev_finish.specs.End.{Tells, end_status};
 ghost use Rattle.z80dev_make.specs.Defines.{first_bad};
-ghost use Rattle.z80dev_jobs.specs.Command.{CommandEnds, Defining, JobEnds, Reports, ReportsLine, TellsWith};
+ghost use Rattle.z80dev_jobs.specs.Command.{CommandEnds, Defining, JobEnds, ReportsLines, TellsLines, TellsWith};
 ghost use Rattle.z80dev_jobs.specs.Making.{AsmEnds, BuildEnds, defines_of, ended};
-ghost use Rattle.z80dev_jobs.specs.Private.Steps.{HasJobUser, JudgesDefines, RefusesError, RefusesFault, end_in, line_in};
+ghost use Rattle.z80dev_jobs.specs.Private.Steps.{HasJobUser, JudgesDefines, RefusesError, RefusesFault, end_after, end_in, line_in, lines_after};
 ghost use Rattle.z80dev_jobs.specs.Running.{RunEnds};
 ghost use Rattle.z80dev_jobs.specs.Reading.{Reader, reader_of};
 ghost use Rattle.z80dev_jobs.specs.World.{world_of};
@@ -16,7 +16,7 @@ use crate::disassembling::dis_file;
 use crate::disks::do_on_disk;
 use crate::host::{Ended, Host};
 use crate::making::{asm_file, build_files, check_files, link_files};
-use crate::running::{STEPS, end_run, inputs_of, prepare};
+use crate::running::{STEPS, end_run, inputs_of, prepare, put_lines};
 use crate::telling::{refuse_telling, run_telling};
 use crate::tips::tip;
 use crate::words::{WordsFault, texts_of};
@@ -98,6 +98,20 @@ fn report_line<E: Sink>(ended: Result<Option<String>, End<'_>>, errors: &mut E) 
     }
 }
 
+/// Reports how a command ended; if all is done, writes its lines on standard error, if there are some. Gives the exit status.
+fn report_lines<E: Sink>(ended: Result<Vec<u8>, End<'_>>, errors: &mut E) -> u8
+    ensures status { result ≡ end_status (end_after ended.entry) }
+    ensures told { TellsLines (lines_after ended.entry) (end_after ended.entry) (E.stream errors.old) (E.stream errors.new) }
+{
+    match ended {
+        Ok(lines) => {
+            put_lines(&lines, errors);
+            DONE
+        }
+        Err(end) => report(&end, errors),
+    }
+}
+
 /// Reports the first definition that is not NAME=VALUE, and gives the exit status; or None if there is no such definition.
 fn refuse_define<E: Sink>(alloc: Global, defines: &[&str], errors: &mut E) -> Option<u8>
     ensures { JudgesDefines (first_bad (map (λ word. word.now) defines.now)) (E.stream errors.old) (E.stream errors.new) result }
@@ -123,12 +137,12 @@ fn asm_job<F: Files, W: Sink, E: Sink>(
     output: &mut W,
     errors: &mut E,
 ) -> u8
-    ensures { (input : Reader) → Defining (defines_of job.now.shared) (Reports (AsmEnds job.now)) (world_of (F.folder files.old) input (W.stream output.old) (E.stream errors.old)) (world_of (F.folder files.new) input (W.stream output.new) (E.stream errors.new)) result }
+    ensures { (input : Reader) → Defining (defines_of job.now.shared) (ReportsLines (AsmEnds job.now)) (world_of (F.folder files.old) input (W.stream output.old) (E.stream errors.old)) (world_of (F.folder files.new) input (W.stream output.new) (E.stream errors.new)) result }
 {
     if let Some(status) = refuse_define(alloc, &job.shared.defines, errors) {
         return status;
     }
-    report_any(asm_file(alloc, job, files, output), errors)
+    report_lines(asm_file(alloc, job, files, output), errors)
 }
 
 /// Builds a program, unless a definition is refused, and gives the exit status.
@@ -139,12 +153,12 @@ fn build_job<F: Files, W: Sink, E: Sink>(
     output: &mut W,
     errors: &mut E,
 ) -> u8
-    ensures { (input : Reader) → Defining (defines_of job.now.shared) (ReportsLine (BuildEnds job.now)) (world_of (F.folder files.old) input (W.stream output.old) (E.stream errors.old)) (world_of (F.folder files.new) input (W.stream output.new) (E.stream errors.new)) result }
+    ensures { (input : Reader) → Defining (defines_of job.now.shared) (ReportsLines (BuildEnds job.now)) (world_of (F.folder files.old) input (W.stream output.old) (E.stream errors.old)) (world_of (F.folder files.new) input (W.stream output.new) (E.stream errors.new)) result }
 {
     if let Some(status) = refuse_define(alloc, &job.shared.defines, errors) {
         return status;
     }
-    report_line(build_files(alloc, job, files, output), errors)
+    report_lines(build_files(alloc, job, files, output), errors)
 }
 
 /// Runs a program, and gives the exit status with what the command worked on.

@@ -1,15 +1,14 @@
 //! The commands that make files of sources and objects, and `check`.
 
-ghost use Rattle.std.specs.Prelude.{◌≡◌, IfOk, length, map, option_map, string_bytes};
-ghost use Rattle.z80dev_jobs.specs.Making.{AreFiles, AsmEnds, BuildEnds, CheckEnds, LinkEnds, effect_of, ended, jumps_line};
-ghost use Rattle.z80dev_jobs.specs.Private.Steps.{BuildsTexts, EndsWith};
+ghost use Rattle.std.specs.Prelude.{◌≡◌, ◌++◌, IfOk, length, map};
+ghost use Rattle.z80dev_jobs.specs.Making.{AreFiles, AsmEnds, BuildEnds, CheckEnds, LinkEnds, effect_of, ended, jumps_lines};
+ghost use Rattle.z80dev_jobs.specs.Private.Steps.{BuildsTexts, DoneWithLines, EndsWithLines};
 
-use crate::disks::done_with;
 use crate::outputs::{base_of, program_kinds, refuse_overwriting};
 use crate::reading::{read, read_all};
 use std::alloc::{AllocError, Global};
 use z80dev::{
-    End, Files, Front, Jumps, Kind, Made, Sink, SourceFile, asm, build, check_texts, finish, link,
+    End, Files, Front, Jumps, Kind, Made, Object, Sink, SourceFile, Wanted, asm, build, check_texts, finish, link,
 };
 use z80dev_commands::{Asm, Build, Link};
 
@@ -30,14 +29,14 @@ fn sources_of<'a>(
     Ok(sources)
 }
 
-/// Assembles a source to an object.
+/// Assembles a source to an object. If all is done, the result is the lines of its warnings.
 pub(crate) fn asm_file<'a, F: Files, W: Sink>(
     alloc: Global,
     job: &Asm<'a>,
     files: &mut F,
     output: &mut W,
-) -> Result<End<'a>, End<'a>>
-    ensures { AsmEnds job.now (effect_of (F.folder files.old) (F.folder files.new) (W.stream output.old) (W.stream output.new)) (ended result) }
+) -> Result<Vec<u8>, End<'a>>
+    ensures { EndsWithLines (AsmEnds job.now (effect_of (F.folder files.old) (F.folder files.new) (W.stream output.old) (W.stream output.new))) result }
 {
     let shared = &job.shared;
     refuse_overwriting(alloc, job.out, &[Kind::Object], &shared.files, &[job.source])?;
@@ -52,8 +51,8 @@ pub(crate) fn asm_file<'a, F: Files, W: Sink>(
         path: job.source,
         text: &text,
     };
-    let answer = asm(alloc, front, source, job.grow);
-    Ok(finish(alloc, job.out, &answer, files, output))
+    let Object { answer, warnings } = asm(alloc, front, source, job.grow, job.warn);
+    done_with_lines(finish(alloc, job.out, &answer, files, output), warnings)
 }
 
 /// Links objects to a program.
@@ -71,13 +70,33 @@ pub(crate) fn link_files<'a, F: Files, W: Sink>(
     Ok(finish(alloc, job.out, &answer, files, output))
 }
 
-/// The line that says how many jumps are short and long, if it is wanted and there is a program.
-fn line_of(alloc: Global, verbose: bool, jumps: Option<Jumps>) -> Result<Option<String>, AllocError>
-    ensures { IfOk result (λ line. option_map string_bytes line ≡ jumps_line verbose jumps) }
+/// Gives the lines with an end at which all is done.
+fn done_with_lines<'a>(end: End<'a>, lines: Vec<u8>) -> Result<Vec<u8>, End<'a>>
+    ensures { DoneWithLines end.entry lines result }
 {
+    match end {
+        End::Done => Ok(lines),
+        end => Err(end),
+    }
+}
+
+/// The lines of a program: its warnings, and how many jumps are short and long, if that is wanted and there is a program.
+fn lines_of(
+    alloc: Global,
+    verbose: bool,
+    jumps: Option<Jumps>,
+    warnings: Vec<u8>,
+) -> Result<Vec<u8>, AllocError>
+    ensures { IfOk result (λ lines. lines.items ≡ warnings.items ++ jumps_lines verbose jumps) }
+{
+    let mut lines = warnings;
     match jumps {
-        Some(jumps) if verbose => Ok(Some(format!(in alloc; "{jumps}\n")?)),
-        _ => Ok(None),
+        Some(jumps) if verbose => {
+            let line = format!(in alloc; "{jumps}\n")?;
+            lines.extend_from_slice(line.as_bytes())?;
+            Ok(lines)
+        }
+        _ => Ok(lines),
     }
 }
 
@@ -90,10 +109,10 @@ fn build_texts<'a, 's, F: Files, W: Sink>(
     texts: &'s [Vec<u8>],
     files: &mut F,
     output: &mut W,
-) -> Result<Option<String>, End<'a>>
+) -> Result<Vec<u8>, End<'a>>
     requires fronts { length job.now.shared.files.items ≡ length fronts.now }
     requires texts { length job.now.sources.items ≡ length texts.now }
-    ensures { EndsWith (BuildsTexts base.now job.now (map (λ text. text.items) fronts.now) (map (λ text. text.items) texts.now) (effect_of (F.folder files.old) (F.folder files.new) (W.stream output.old) (W.stream output.new))) result }
+    ensures { EndsWithLines (BuildsTexts base.now job.now (map (λ text. text.items) fronts.now) (map (λ text. text.items) texts.now) (effect_of (F.folder files.old) (F.folder files.new) (W.stream output.old) (W.stream output.new))) result }
 {
     let shared_files = sources_of(alloc, &job.shared.files, fronts)?;
     let sources = sources_of(alloc, &job.sources, texts)?;
@@ -101,20 +120,29 @@ fn build_texts<'a, 's, F: Files, W: Sink>(
         defines: &job.shared.defines,
         files: &shared_files,
     };
-    let Made { answer, jumps } = build(alloc, front, &sources, job.grow, job.list);
+    let wanted = Wanted {
+        grow: job.grow,
+        list: job.list,
+        warn: job.warn,
+    };
+    let Made {
+        answer,
+        jumps,
+        warnings,
+    } = build(alloc, front, &sources, wanted);
     // Before a file is written, so that a command that runs out of memory for it writes none.
-    let line = line_of(alloc, job.verbose, jumps)?;
-    done_with(finish(alloc, base, &answer, files, output), line)
+    let lines = lines_of(alloc, job.verbose, jumps, warnings)?;
+    done_with_lines(finish(alloc, base, &answer, files, output), lines)
 }
 
-/// Builds the program of sources. If all is done, the result is the line of its jumps, if it is wanted.
+/// Builds the program of sources. If all is done, the result is the lines of its warnings and its jumps.
 pub(crate) fn build_files<'a, F: Files, W: Sink>(
     alloc: Global,
     job: &Build<'a>,
     files: &mut F,
     output: &mut W,
-) -> Result<Option<String>, End<'a>>
-    ensures { EndsWith (BuildEnds job.now (effect_of (F.folder files.old) (F.folder files.new) (W.stream output.old) (W.stream output.new))) result }
+) -> Result<Vec<u8>, End<'a>>
+    ensures { EndsWithLines (BuildEnds job.now (effect_of (F.folder files.old) (F.folder files.new) (W.stream output.old) (W.stream output.new))) result }
 {
     let base = base_of(job.out, &job.sources);
     let kinds = program_kinds(job.list);

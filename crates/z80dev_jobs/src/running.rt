@@ -6,7 +6,8 @@ ghost use Rattle.z80dev.specs.declared.text.TheConstants.{MOST_READS};
 ghost use Rattle.z80dev_jobs.specs.Private.Steps.{MakesReady, Prepares};
 ghost use Rattle.z80dev_jobs.specs.Reading.{reader_of};
 ghost use Rattle.z80dev_jobs.specs.Private.Images.{ClaimsDiskImage, IsFreeOf};
-ghost use Rattle.z80dev_jobs.specs.Running.{EndsRun, IsKept, KeepsAll, PutsLines, ReadsInputs, ReportsRun, WarnsAfter, told_lines, why_at};
+ghost use Rattle.z80dev_jobs.specs.Making.{PutsLines};
+ghost use Rattle.z80dev_jobs.specs.Running.{EndsRun, IsKept, KeepsAll, ReadsInputs, ReportsRun, WarnsAfter, told_lines, why_at};
 
 use crate::disks::{Image, claim, keep};
 use crate::reading::{read, read_if_given, read_input};
@@ -160,15 +161,21 @@ fn keep_all<'a, F: Files, W>(
     }
 }
 
+/// Puts lines, if there are some.
+pub(crate) fn put_lines<E: Sink>(lines: &[u8], errors: &mut E)
+    ensures { PutsLines lines.now (E.stream errors.old) (E.stream errors.new) }
+{
+    if !lines.is_empty() {
+        let _ = put(errors, lines);
+    }
+}
+
 /// Puts the lines that a run tells, if there are some.
 fn put_told<E: Sink>(told: &Option<Told>, errors: &mut E)
     ensures { PutsLines (told_lines told.now) (E.stream errors.old) (E.stream errors.new) }
 {
-    match told {
-        Some(told) if !told.lines.is_empty() => {
-            let _ = put(errors, &told.lines);
-        }
-        _ => {}
+    if let Some(told) = told {
+        put_lines(&told.lines, errors);
     }
 }
 

@@ -1,37 +1,26 @@
--- Sources that are assembled for their warnings, one by one.
+-- The modules and the lines of a program, as its warnings show them.
 use Rattle.std.proofs.Common.{◌≡◌, ◌⊎◌, inl, inr, ◌+◌, ◌<◌, ℕ, Bool, List, [], ◌∷◌, ◌++◌, All, Vec, length, map, get_or, take, refl, sym, ap, subst, ◌∙◌}
 use Rattle.std.specs.Global.{Global}
 use Rattle.std.specs.List.{AllZip, zip}
-use Rattle.std.proofs.lemmas.List.{map-append}
-use Rattle.std.proofs.lemmas.List.Elements.{All-append, All-cons, All-nil}
 use Rattle.zmo_module.specs.Modules.{module_of, statement_of}
-use Rattle.zmo_module.specs.Rules.{IsModule}
 use Rattle.zmo_module.specs.declared.module.Module as held
 use Rattle.zlink.specs.Program.Parts.{Publics, parts_from}
 use Rattle.zlink.specs.Program.Whole.{IsLinks, public_statement}
 use Rattle.zlink.specs.declared.program.joining.Links.{Links}
 use Rattle.asm_module.specs.Assembled.{Assembled}
+use Rattle.asm_module.specs.declared.assembling.Lines as listing
+use mathlib.Core.List.{map-map}
 use Rattle.z80dev_make.specs.declared.answer.SourceFile.{SourceFile}
 use Rattle.z80dev_make.specs.declared.front.Front.{Front}
-use Rattle.z80dev_make.specs.Build.{earlier}
-use Rattle.z80dev_make.specs.Front.{front_lines}
-use Rattle.z80dev_make.specs.Warned.{IsAssembledBehind, shown}
-use Rattle.z80dev_make.specs.Private.Shown.{AreHeld, IsHeld, member_with, shown_in}
-use Rattle.z80dev_make.proofs.In_order.{one_more}
+use Rattle.z80dev_make.specs.Front.{earlier, front_lines}
+use Rattle.z80dev_make.specs.Warned.{shown}
+use Rattle.z80dev_make.specs.Private.Shown.{member_with, shown_in}
 
-pub none_held : (front : Front) (grow : Bool) → AreHeld front [] grow [] []
-none_held front grow = record { all = []; assembled = tt; modules_are = refl; lines_are = refl; kept = All-nil IsModule }
-
-pub next_held : (front : Front) (files : List SourceFile) (grow : Bool) (i : ℕ) (d : SourceFile) (modules : List held.Module) (lines : List (Vec ℕ Global)) (m : held.Module) (own : Vec ℕ Global) → i < length files
-    → AreHeld front (take i files) grow modules lines → IsHeld front grow (get_or files i d) m own.items → AreHeld front (take (i + 1) files) grow (modules ++ m ∷ []) (lines ++ own ∷ [])
-next_held front files grow i d modules lines m own lt before this = record {
-  all = before.all ++ this.all ∷ [];
-  assembled = one_more (IsAssembledBehind front grow) files i d before.all _ this.all lt before.assembled this.assembled refl;
-  modules_are = map-append module_of modules (m ∷ []) ∙ ap (λ ms. ms ++ module_of m ∷ []) before.modules_are ∙ ap (λ h. map (λ a. a.holds) before.all ++ h ∷ []) this.module_is ∙ sym (map-append (λ a. a.holds) before.all (this.all ∷ []));
-  lines_are = map-append (λ l. l.items) lines (own ∷ []) ∙ ap (λ ls. ls ++ own.items ∷ []) before.lines_are ∙ ap (λ l. map (λ a. map (earlier (front_lines front)) a.each) before.all ++ l ∷ []) this.lines_are
-      ∙ sym (map-append (λ a. map (earlier (front_lines front)) a.each) before.all (this.all ∷ []));
-  kept = subst (All IsModule) (sym (map-append module_of modules (m ∷ []))) (All-append IsModule (map module_of modules) (module_of m ∷ []) before.kept (All-cons IsModule (module_of m) [] this.kept (All-nil IsModule)));
-}
+-- The lines of modules by their own numbers are those of the assembled sources.
+pub each_own : (n : ℕ) (lines : List listing.Lines) (all : List Assembled) → map (λ l. l.each.items) lines ≡ map (λ a. a.each) all
+    → map (λ l. map (earlier n) l.each.items) lines ≡ map (λ a. map (earlier n) a.each) all
+each_own n lines all same =
+    sym (map-map (map (earlier n)) (λ l. l.each.items) lines) ∙ ap (map (map (earlier n))) same ∙ map-map (map (earlier n)) (λ a. a.each) all
 
 -- the links of modules say what their externals stand for
 pub members : (publics : Publics) (number base : ℕ) (modules : List held.Module) (links : List Links) → AllZip (IsLinks publics) (parts_from number base (map module_of modules)) links

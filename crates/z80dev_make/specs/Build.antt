@@ -1,5 +1,5 @@
 -- What `build` answers for sources after a front.
-use Rattle.std.specs.Prelude.{◌≡◌, ◌⊎◌, ℕ, ◌-◌, Bool, true, false, List, [], ◌∷◌, ◌++◌, None, Some, Option, Result, Ok, Err, codes, decimal, map, slice_get}
+use Rattle.std.specs.Prelude.{◌≡◌, ◌⊎◌, ℕ, Bool, true, false, List, [], ◌∷◌, ◌++◌, None, Some, Option, Result, Ok, Err, codes, decimal, map, slice_get}
 use Rattle.std.specs.List.{AllZip, flat_map}
 use Rattle.zlink.specs.declared.building.Built.{Built}
 use Rattle.zlink.specs.declared.fault.BuildFault.{BuildFault}
@@ -9,7 +9,7 @@ use Rattle.zlink.specs.declared.source.Source.{Source}
 use Rattle.zlink.specs.Built.{IsBuilt, IsExactBuild}
 use Rattle.zlisting.specs.Listing.{listing}
 use Rattle.zlisting.specs.Symbols.{symbols}
-use Rattle.z80dev_make.specs.Front.{front_lines, front_text, source_fault_text}
+use Rattle.z80dev_make.specs.Front.{earlier, front_lines, front_text, source_fault_text}
 use Rattle.z80dev_make.specs.Shared.{UnlessFaulty}
 use Rattle.z80dev_make.specs.declared.front.Front.{Front}
 use Rattle.z80dev_finish.specs.declared.answer.Kind.{Kind}
@@ -48,10 +48,7 @@ built_files true sources b = program_files b.sizes.items b.cert.items b.com.item
 abbrev pub IsBehind : Front → SourceFile → Source → Type 0
 IsBehind front file source = (source.name.now ≡ file.path.now) × (source.text.now ≡ front_text front ++ file.text.now)
 
--- the number of a line, and the origin of a statement, without this many lines before them
-abbrev pub earlier : ℕ → ℕ → ℕ
-earlier lines line = line - lines
-
+-- the origin of a statement without this many lines before it
 abbrev pub earlier_origin : ℕ → Origin → Origin
 earlier_origin lines from = record from { line = earlier lines from.line }
 

@@ -57,6 +57,10 @@ line_count file = length (source_lines file.text.now)
 abbrev pub front_lines : Front → ℕ
 front_lines front = length front.defines.now + sum_by line_count front.files.now
 
+-- the number of a line without this many lines before it
+abbrev pub earlier : ℕ → ℕ → ℕ
+earlier lines line = line - lines
+
 -- the path and the own number of a line of shared files, one after the other; if they have fewer lines, it is a line of the source with this
 -- path
 abbrev pub line_in : List SourceFile → List ℕ → ℕ → List ℕ × ℕ

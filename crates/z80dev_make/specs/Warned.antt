@@ -1,10 +1,8 @@
 -- The warnings about jumps that `asm` and `build` print.
-use Rattle.std.specs.Prelude.{◌≡◌, ◌≢◌, ◌⊎◌, ℕ, ◌+◌, ◌-◌, ◌==◌, Bool, List, [], ◌∷◌, ◌++◌, Option, Some, None, Result, Ok, Err, codes, decimal, find, if◌then◌else◌, length, map, nat_le, nat_lt, slice_get, slice_index, take}
+use Rattle.std.specs.Prelude.{◌≡◌, ℕ, ◌+◌, ◌-◌, ◌==◌, Bool, List, [], ◌∷◌, ◌++◌, Option, Some, None, true, Ok, codes, decimal, find, if◌then◌else◌, length, map, nat_le, nat_lt, slice_get, slice_index, take}
 use Rattle.std.specs.List.{AllZip, flat_map, zip}
 use Rattle.std.specs.Option.{option_map_or}
-use Rattle.asm_module.specs.declared.fault.AsmFault.{AsmFault}
-use Rattle.asm_module.specs.declared.fault.Why.{Why}
-use Rattle.asm_module.specs.Assembled.{Assembled, Assembles, HasCause}
+use Rattle.asm_module.specs.Assembled.{Assembled, Assembles}
 use Rattle.jump_warnings.specs.declared.offsets.Offset.{Offset}
 use Rattle.jump_warnings.specs.declared.part.Site.{Site}
 use Rattle.jump_warnings.specs.declared.warnings.Warning.{Warning}
@@ -18,10 +16,10 @@ use Rattle.zlink.specs.declared.program.fault.JoinFault.{JoinFault}
 use Rattle.zlink.specs.Program.Faults.{first_fault}
 use Rattle.zlink.specs.Program.Parts.{all_publics, parts}
 use Rattle.zlink.specs.Program.Whole.{public_statement}
-use Rattle.z80dev_make.specs.Build.{earlier}
-use Rattle.z80dev_make.specs.Front.{front_lines, front_text}
+use Rattle.z80dev_make.specs.Front.{earlier, front_lines, front_text}
 use Rattle.z80dev_make.specs.declared.answer.SourceFile.{SourceFile}
 use Rattle.z80dev_make.specs.declared.front.Front.{Front}
+use Rattle.z80dev_make.specs.declared.jumps.Jumps.{Jumps}
 
 -- A source as warnings show it: its path, the line of each statement, and its module.
 pub record Shown : Type 0 where
@@ -111,15 +109,9 @@ warning_lines sources found = flat_map (warning_text sources) (take most_warning
 abbrev pub joined : List Module → List Member
 joined modules = map (λ p. record { holds = p.holds; externals = map (public_statement (all_publics (parts modules))) p.holds.externals }) (parts modules)
 
--- the lines for a source; none if it has an error. What an external stands for is not known.
-abbrev pub asm_warnings : Front → SourceFile → Result Assembled AsmFault → List ℕ
-asm_warnings front file (Ok a) = warning_lines (shown front (file, a) ∷ []) (warnings (record { holds = a.holds; externals = [] } ∷ []))
-asm_warnings front file (Err fault) = []
-
--- These are the warnings of the source, assembled after the text of the front.
-abbrev pub IsWarnedAsm : Front → SourceFile → Bool → List ℕ → Type 0
-IsWarnedAsm front file grow lines = (result : Result Assembled AsmFault) × HasCause result
-    × Assembles file.path.now (front_text front ++ file.text.now) grow result × (lines ≡ asm_warnings front file result)
+-- the lines for the module of a source; what an external stands for is not known
+abbrev pub module_warnings : Front → SourceFile → Assembled → List ℕ
+module_warnings front file a = warning_lines (shown front (file, a) ∷ []) (warnings (record { holds = a.holds; externals = [] } ∷ []))
 
 -- the source is assembled to this after the text of the front
 abbrev pub IsAssembledBehind : Front → Bool → SourceFile → Assembled → Type 0
@@ -139,19 +131,15 @@ build_warnings front files all =
 abbrev pub IsWarnedProgram : Front → List SourceFile → Bool → List ℕ → Type 0
 IsWarnedProgram front files grow lines = (all : List Assembled) × AllZip (IsAssembledBehind front grow) files all × (lines ≡ build_warnings front files all)
 
--- the source has this error after the text of the front
-pub record HasFault (front : Front) (grow : Bool) (file : SourceFile) : Type 0 where
-  pub fault : AsmFault
-  pub caused : fault.why ≢ Why.NoMemory
-  pub faulty : Assembles file.path.now (front_text front ++ file.text.now) grow (Err fault)
+-- The warnings of the program of sources after a front, if they are wanted and there is a program, which then has jumps.
+abbrev pub AreWarnings : Bool → Front → List SourceFile → Bool → Option Jumps → List ℕ → Type 0
+AreWarnings true front files grow (Some jumps) lines = IsWarnedProgram front files grow lines
+AreWarnings wanted front files grow jumps lines = lines ≡ []
 
--- one of the sources has an error
-pub record HasError (front : Front) (files : List SourceFile) (grow : Bool) : Type 0 where
-  pub number : ℕ
-  pub file : SourceFile
-  pub there : slice_get files number ≡ Some file
-  pub fault : HasFault front grow file
+abbrev pub wanted_warnings : Bool → Front → SourceFile → Assembled → List ℕ
+wanted_warnings wanted front file a = if wanted then module_warnings front file a else []
 
--- These are the warnings of the program of the sources; none if there is no program.
-abbrev pub IsWarnedBuild : Front → List SourceFile → Bool → List ℕ → Type 0
-IsWarnedBuild front files grow lines = IsWarnedProgram front files grow lines ⊎ (HasError front files grow × (lines ≡ []))
+-- The warnings of a source after a front, if they are wanted; none if the source is refused.
+abbrev pub AreModuleWarnings : Bool → Front → SourceFile → Bool → Option (List ℕ) → List ℕ → Type 0
+AreModuleWarnings wanted front file grow None lines = (a : Assembled) × IsAssembledBehind front grow file a × (lines ≡ wanted_warnings wanted front file a)
+AreModuleWarnings wanted front file grow (Some said) lines = lines ≡ []

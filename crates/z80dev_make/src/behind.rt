@@ -3,7 +3,8 @@
 ghost use Rattle.std.specs.Prelude.{◌≡◌, ◌++◌, ◌-◌, ℕ, IfOk, length, map};
 ghost use Rattle.std.specs.List.{AllZip};
 ghost use Rattle.z80dev_make.specs.Answers.{IsSource};
-ghost use Rattle.z80dev_make.specs.Build.{HasOwnLines, earlier, earlier_origin};
+ghost use Rattle.z80dev_make.specs.Build.{HasOwnLines, earlier_origin};
+ghost use Rattle.z80dev_make.specs.Front.{earlier};
 ghost use Rattle.z80dev_make.specs.Private.Steps.{AreNamed, Counts};
 
 use crate::answer::SourceFile;

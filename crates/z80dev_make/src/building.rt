@@ -1,11 +1,15 @@
 //! The command `build`: builds a program from sources.
 
-ghost use Rattle.std.specs.Prelude.{◌≡◌, IfOk, false, slice_get, string_bytes, true};
+ghost use Rattle.std.specs.Prelude.{◌≡◌, [], IfOk, List, false, slice_get, string_bytes, true};
 ghost use Rattle.std.specs.List.{AllZip};
 ghost use Rattle.z80dev_make.specs.Answers.{answer_of, told_text};
 ghost use Rattle.z80dev_make.specs.Build.{IsAnswerOf, IsBehind, IsBuild, IsMade, IsRefusal, built_answer, grown_lines, line_from, path_at};
 ghost use Rattle.z80dev_make.specs.Front.{front_text};
+ghost use Rattle.z80dev_make.specs.Jumps.{jumps_of};
 ghost use Rattle.z80dev_make.specs.Shared.{UnlessFaulty};
+ghost use Rattle.z80dev_make.specs.Warned.{AreWarnings};
+ghost use Rattle.zlink.specs.Built.{IsBuilt};
+ghost use Rattle.zlink.specs.declared.source.Source.{Source};
 
 use crate::answer::{SourceFile, no_program, program, refused, without_memory};
 use crate::behind::{sources_behind, sources_of, texts_behind, with_own_lines};
@@ -14,6 +18,7 @@ use crate::front::{Front, front_text};
 use crate::jumps::{Jumps, jumps_of};
 use crate::locating::told_behind;
 use crate::sharing::fault_of_front;
+use crate::warning::warn_built;
 use std::alloc::{AllocError, Global};
 use std::fmt;
 use z80dev_finish::{Answer, Kind, NewFile};
@@ -167,6 +172,17 @@ fn answered<'a>(
     }
 }
 
+/// What is wanted of `build`.
+#[derive(Clone, Copy)]
+pub struct Wanted {
+    /// Whether a written `JR` may become a `JP`.
+    pub grow: bool,
+    /// Whether a listing and the labels are made.
+    pub list: bool,
+    /// Whether warnings are made.
+    pub warn: bool,
+}
+
 /// What `build` answers.
 #[derive(Debug, Drop)]
 pub struct Made<'a> {
@@ -174,6 +190,24 @@ pub struct Made<'a> {
     pub answer: Answer<Told<'a>>,
     /// The jumps of the program, if there is one.
     pub jumps: Option<Jumps>,
+    /// The lines that warn of code that relies on the length of a jump.
+    pub warnings: Vec<u8>,
+}
+
+/// Answers the warnings of a program, if they are wanted and there is one.
+fn warnings_of(
+    alloc: Global,
+    front: Front<'_>,
+    files: &[SourceFile<'_>],
+    building: &Result<Built, BuildFault>,
+    wanted: Wanted,
+) -> Result<Vec<u8>, AllocError>
+    ensures { (behind : List Source) → AllZip (IsBehind front.entry) files.now behind → IsBuilt wanted.grow behind building.now → IfOk result (λ lines. AreWarnings wanted.warn front.entry files.now wanted.grow (jumps_of building.now) lines.items) }
+{
+    match building {
+        Ok(built) if wanted.warn => warn_built(alloc, front, files, built),
+        _ => Ok(Vec::new(alloc)),
+    }
 }
 
 /// Answers the program of sources, or why there is none, given the sources after the front.
@@ -182,17 +216,22 @@ fn built<'a>(
     front: Front<'a>,
     files: &[SourceFile<'a>],
     behind: &[Source<'_>],
-    grow: bool,
-    list: bool,
+    wanted: Wanted,
 ) -> Result<Made<'a>, AllocError>
     requires { AllZip (IsBehind front) files.now behind.now }
-    ensures { IfOk result (λ made. IsBuild front.entry files.now grow list (answer_of made.answer) made.jumps) }
+    ensures built { IfOk result (λ made. IsBuild front.entry files.now wanted.grow wanted.list (answer_of made.answer) made.jumps) }
+    ensures warned { IfOk result (λ made. AreWarnings wanted.warn front.entry files.now wanted.grow made.jumps made.warnings.items) }
 {
     let sources = sources_of(alloc, files)?;
-    let building = build_with(alloc, behind, grow);
+    let building = build_with(alloc, behind, wanted.grow);
     let jumps = jumps_of(&building);
-    let answer = answered(alloc, front, files, &sources, building, list)?;
-    Ok(Made { answer, jumps })
+    let warnings = warnings_of(alloc, front, files, &building, wanted)?;
+    let answer = answered(alloc, front, files, &sources, building, wanted.list)?;
+    Ok(Made {
+        answer,
+        jumps,
+        warnings,
+    })
 }
 
 /// Answers the program of sources after a front that has a text, or why there is none.
@@ -201,24 +240,26 @@ fn built_behind<'a>(
     front: Front<'a>,
     before: &[u8],
     files: &[SourceFile<'a>],
-    grow: bool,
-    list: bool,
+    wanted: Wanted,
 ) -> Result<Made<'a>, AllocError>
     requires { before.now ≡ front_text front }
-    ensures { IfOk result (λ made. IsBuild front.entry files.now grow list (answer_of made.answer) made.jumps) }
+    ensures built { IfOk result (λ made. IsBuild front.entry files.now wanted.grow wanted.list (answer_of made.answer) made.jumps) }
+    ensures warned { IfOk result (λ made. AreWarnings wanted.warn front.entry files.now wanted.grow made.jumps made.warnings.items) }
 {
     let texts = texts_behind(alloc, before, files)?;
     let behind = sources_behind(alloc, files, &texts)?;
-    built(alloc, front, files, &behind, grow, list)
+    built(alloc, front, files, &behind, wanted)
 }
 
 /// Answers the refusal of a front.
 fn front_refused<'a>(alloc: Global, told: Told<'a>) -> Made<'a>
-    ensures { IsRefusal (told_text told.entry) (answer_of result.answer) result.jumps }
+    ensures refused { IsRefusal (told_text told.entry) (answer_of result.answer) result.jumps }
+    ensures warned { result.warnings.items ≡ [] }
 {
     Made {
         answer: refused(alloc, told),
         jumps: None,
+        warnings: Vec::new(alloc),
     }
 }
 
@@ -227,25 +268,25 @@ fn made_behind<'a>(
     alloc: Global,
     front: Front<'a>,
     files: &[SourceFile<'a>],
-    grow: bool,
-    list: bool,
+    wanted: Wanted,
 ) -> Result<Made<'a>, AllocError>
-    ensures { IfOk result (λ made. UnlessFaulty front.entry (λ said. IsRefusal said (answer_of made.answer) made.jumps) (IsBuild front.entry files.now grow list (answer_of made.answer) made.jumps)) }
+    ensures made { IfOk result (λ made. UnlessFaulty front.entry (λ said. IsRefusal said (answer_of made.answer) made.jumps) (IsBuild front.entry files.now wanted.grow wanted.list (answer_of made.answer) made.jumps)) }
+    ensures warned { IfOk result (λ made. AreWarnings wanted.warn front.entry files.now wanted.grow made.jumps made.warnings.items) }
 {
     let before = front_text(alloc, front)?;
     if before.is_empty() {
         let sources = sources_of(alloc, files)?;
-        return built(alloc, front, files, &sources, grow, list);
+        return built(alloc, front, files, &sources, wanted);
     }
     if let Some(told) = fault_of_front(alloc, front, &before)? {
         return Ok(front_refused(alloc, told));
     }
-    built_behind(alloc, front, &before, files, grow, list)
+    built_behind(alloc, front, &before, files, wanted)
 }
 
 /// Builds the program of sources after a front, in the order of the sources, and answers it with its sizes file and certificate; and if
-/// `list` is true, with its listing and its labels. If `grow` is true, a written `JR` may become a `JP`, and a line `grown PATH(LINE)` is
-/// printed for each that did, in their order. [`Made`] also has how many jumps are short and long.
+/// they are wanted, with its listing and its labels. If a written `JR` may become a `JP`, a line `grown PATH(LINE)` is printed for each that
+/// did, in their order. [`Made`] also has how many jumps are short and long, and if they are wanted, the warnings.
 ///
 /// A front that has an error is refused with its first one. The listing shows the sources without the front, and every line is named by
 /// its own file and number.
@@ -256,16 +297,17 @@ pub fn build<'a>(
     alloc: Global,
     front: Front<'a>,
     files: &[SourceFile<'a>],
-    grow: bool,
-    list: bool,
+    wanted: Wanted,
 ) -> Made<'a>
-    ensures { IsMade front.entry files.now grow list (answer_of result.answer) result.jumps }
+    ensures made { IsMade front.entry files.now wanted.grow wanted.list (answer_of result.answer) result.jumps }
+    ensures warned { AreWarnings wanted.warn front.entry files.now wanted.grow result.jumps result.warnings.items }
 {
-    match made_behind(alloc, front, files, grow, list) {
+    match made_behind(alloc, front, files, wanted) {
         Ok(made) => made,
         Err(_) => Made {
             answer: without_memory(alloc),
             jumps: None,
+            warnings: Vec::new(alloc),
         },
     }
 }

@@ -20,12 +20,11 @@ mod warned;
 mod warning;
 
 pub use answer::SourceFile;
-pub use assembling::asm;
-pub use building::{Made, build};
+pub use assembling::{Object, asm};
+pub use building::{Made, Wanted, build};
 pub use defining::bad_define;
 pub use faults::{Refusal, Told};
 pub use front::Front;
 pub use jumps::Jumps;
 pub use linking::link;
-pub use warning::{warn_asm, warn_build};
 pub use z80dev_finish::{Answer, Kind, NewFile};

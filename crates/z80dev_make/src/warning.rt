@@ -1,6 +1,7 @@
 //! Finds and prints the warnings about the jumps of sources.
 
-ghost use Rattle.std.specs.Prelude.{◌≡◌, ◌∷◌, ◌++◌, [], All, IfOk, None, length, map};
+ghost use Rattle.std.specs.Prelude.{◌≡◌, ◌∷◌, [], All, IfOk, List, map};
+ghost use Rattle.asm_module.specs.Assembled.{Assembled};
 ghost use Rattle.std.specs.List.{zip};
 ghost use Rattle.zlink.specs.Program.Faults.{first_fault};
 ghost use Rattle.zlink.specs.Program.Parts.{parts};
@@ -9,19 +10,18 @@ ghost use Rattle.jump_warnings.specs.Parts.{member_of};
 ghost use Rattle.jump_warnings.specs.Warnings.{warnings};
 ghost use Rattle.zmo_module.specs.Modules.{module_of};
 ghost use Rattle.zmo_module.specs.Rules.{IsModule};
-ghost use Rattle.z80dev_make.specs.Build.{earlier};
-ghost use Rattle.z80dev_make.specs.Front.{front_lines, front_text};
-ghost use Rattle.z80dev_make.specs.Private.Shown.{AreAssembled, IsTaken, member_with, shown_in, shown_of};
-ghost use Rattle.z80dev_make.specs.Warned.{IsWarnedAsm, IsWarnedBuild, joined, lines_unless, warning_lines};
+ghost use Rattle.z80dev_make.specs.Front.{earlier, front_lines};
+ghost use Rattle.z80dev_make.specs.Private.Shown.{member_with, shown_in, shown_of};
+ghost use Rattle.z80dev_make.specs.Warned.{build_warnings, joined, lines_unless, warning_lines};
 
 use crate::answer::SourceFile;
 use crate::behind::number_lines;
-use crate::front::{Front, front_lines, front_text, text_behind};
+use crate::front::{Front, front_lines};
 use crate::warned::{Shown, warning_lines};
-use asm_module::{Module, Why, assemble_with};
+use asm_module::{Lines, Module};
 use jump_warnings::{Part, Warning, find_warnings};
 use std::alloc::{AllocError, Global};
-use zlink::{JoinFault, Links, join};
+use zlink::{Built, JoinFault, Links, join};
 
 /// Answers lines of a source after a front by the numbers that they have in the source.
 fn own_lines(front: Front<'_>, lines: Vec<u32>) -> Vec<u32>
@@ -32,25 +32,20 @@ fn own_lines(front: Front<'_>, lines: Vec<u32>) -> Vec<u32>
     lines
 }
 
-/// Answers the module of a source after the text of a front, and the lines of its statements; `None` if it has an error.
-fn assemble_one(
+/// Answers the lines of the modules of sources after a front, by the numbers that they have in each source.
+fn all_own_lines(
     alloc: Global,
     front: Front<'_>,
-    before: &[u8],
-    file: SourceFile<'_>,
-    grow: bool,
-) -> Result<Option<(Module, Vec<u32>)>, AllocError>
-    requires { before.now ≡ front_text front }
-    ensures { IfOk result (λ one. IsTaken front.entry grow file.entry one) }
+    lines: &[Lines],
+) -> Result<Vec<Vec<u32>>, AllocError>
+    ensures { IfOk result (λ all. map (λ own. own.items) all.items ≡ map (λ l. map (earlier (front_lines front.entry)) l.each.items) lines.now) }
 {
-    let text = text_behind(alloc, before, file.text)?;
-    match assemble_with(alloc, file.path.as_bytes(), &text, grow) {
-        Ok((module, lines)) => Ok(Some((module, own_lines(front, lines.each)))),
-        Err(fault) => match fault.why {
-            Why::NoMemory => Err(AllocError),
-            _ => Ok(None),
-        },
+    let mut all = Vec::with_capacity(alloc, lines.len())?;
+    for module in lines {
+        let each = module.each.to_vec(alloc)?;
+        all.push(own_lines(front, each))?;
     }
+    Ok(all)
 }
 
 /// Answers the warnings of a module by itself. What its externals stand for is not known.
@@ -61,79 +56,28 @@ fn found_alone(alloc: Global, module: &Module) -> Result<Vec<Warning>, AllocErro
     find_warnings(alloc, &[Part { module, externals }])
 }
 
-/// Answers the lines for a module by itself.
-fn lines_alone(
+/// Answers the warnings about the jumps of the module of a source after a front, given the lines of its statements, as lines for standard
+/// error: ten at most, and how many there are more.
+pub(crate) fn warn_module(
     alloc: Global,
+    front: Front<'_>,
     path: &str,
     module: &Module,
-    lines: &[u32],
+    lines: Vec<u32>,
 ) -> Result<Vec<u8>, AllocError>
-    ensures { IfOk result (λ out. out.items ≡ warning_lines (record { path = path.now; lines = lines.now; holds = module_of «module».now } ∷ []) (warnings (record { holds = module_of «module».now; externals = [] } ∷ []))) }
+    ensures { IfOk result (λ out. out.items ≡ warning_lines (record { path = path.now; lines = map (earlier (front_lines front.entry)) lines.items; holds = module_of «module».now } ∷ []) (warnings (record { holds = module_of «module».now; externals = [] } ∷ []))) }
 {
     let found = found_alone(alloc, module)?;
+    let lines = own_lines(front, lines);
     warning_lines(
         alloc,
         &[Shown {
             path,
-            lines,
+            lines: &lines,
             module,
         }],
         &found,
     )
-}
-
-/// Answers the warnings about the jumps of a source after a front, as lines for standard error: ten at most, and how many there are more. It
-/// assembles the source; if that has an error, there are no lines.
-///
-/// # Errors
-///
-/// [`AllocError`] if memory ran out.
-pub fn warn_asm(
-    alloc: Global,
-    front: Front<'_>,
-    file: SourceFile<'_>,
-    grow: bool,
-) -> Result<Vec<u8>, AllocError>
-    ensures { IfOk result (λ lines. IsWarnedAsm front.entry file.entry grow lines.items) }
-{
-    let before = front_text(alloc, front)?;
-    match assemble_one(alloc, front, &before, file, grow)? {
-        Some((module, lines)) => lines_alone(alloc, file.path, &module, &lines),
-        None => Ok(Vec::new(alloc)),
-    }
-}
-
-/// The modules of sources, and the lines of their statements.
-#[derive(Drop)]
-pub(crate) struct Assemblies {
-    modules: Vec<Module>,
-    /// For each source the lines of its statements.
-    lines: Vec<Vec<u32>>,
-}
-
-/// Assembles each source after the text of a front; `None` if one of them has an error.
-fn assemble_all(
-    alloc: Global,
-    front: Front<'_>,
-    before: &[u8],
-    files: &[SourceFile<'_>],
-    grow: bool,
-) -> Result<Option<Assemblies>, AllocError>
-    requires { before.now ≡ front_text front }
-    ensures { IfOk result (λ all. AreAssembled front.entry files.now grow all) }
-{
-    let mut modules = Vec::with_capacity(alloc, files.len())?;
-    let mut lines = Vec::with_capacity(alloc, files.len())?;
-    for file in files {
-        match assemble_one(alloc, front, before, *file, grow)? {
-            Some((module, own)) => {
-                modules.push(module)?;
-                lines.push(own)?;
-            }
-            None => return Ok(None),
-        }
-    }
-    Ok(Some(Assemblies { modules, lines }))
 }
 
 /// Answers the modules with what their externals stand for.
@@ -183,43 +127,38 @@ fn shown<'s>(
     Ok(shown)
 }
 
-/// Answers the lines for the program of sources that were assembled.
+/// Answers the lines for the program of modules, given the lines of their statements in their own sources.
 fn lines_joined(
     alloc: Global,
     files: &[SourceFile<'_>],
-    all: &Assemblies,
+    modules: &[Module],
+    own: &[Vec<u32>],
 ) -> Result<Vec<u8>, AllocError>
-    requires { All IsModule (map module_of all.now.modules.items) }
-    ensures { IfOk result (λ lines. lines.items ≡ lines_unless (first_fault (map module_of all.now.modules.items)) (warning_lines (map shown_in (zip files.now (zip all.now.lines.items all.now.modules.items))) (warnings (joined (map module_of all.now.modules.items))))) }
+    requires { All IsModule (map module_of modules.now) }
+    ensures { IfOk result (λ lines. lines.items ≡ lines_unless (first_fault (map module_of modules.now)) (warning_lines (map shown_in (zip files.now (zip own.now modules.now))) (warnings (joined (map module_of modules.now))))) }
 {
-    let links = match join(alloc, &all.modules) {
+    let links = match join(alloc, modules) {
         Ok(links) => links,
         Err(JoinFault::NoMemory) => return Err(AllocError),
         Err(_) => return Ok(Vec::new(alloc)),
     };
-    let parts = joined(alloc, &all.modules, &links)?;
+    let parts = joined(alloc, modules, &links)?;
     let found = find_warnings(alloc, &parts)?;
-    let sources = shown(alloc, files, &all.lines, &all.modules)?;
+    let sources = shown(alloc, files, own, modules)?;
     warning_lines(alloc, &sources, &found)
 }
 
-/// Answers the warnings about the jumps of the program of sources after a front, as lines for standard error: ten at most, and how many
-/// there are more. It assembles the sources; if one has an error, or their modules make no program, there are no lines.
-///
-/// # Errors
-///
-/// [`AllocError`] if memory ran out.
-pub fn warn_build(
+/// Answers the warnings about the jumps of a program that was built of sources after a front, as lines for standard error: ten at most, and
+/// how many there are more.
+pub(crate) fn warn_built(
     alloc: Global,
     front: Front<'_>,
     files: &[SourceFile<'_>],
-    grow: bool,
+    built: &Built,
 ) -> Result<Vec<u8>, AllocError>
-    ensures { IfOk result (λ lines. IsWarnedBuild front.entry files.now grow lines.items) }
+    requires { All IsModule (map module_of built.now.modules.items) }
+    ensures { IfOk result (λ lines. (all : List Assembled) → map module_of built.now.modules.items ≡ map (λ a. a.holds) all → map (λ l. l.each.items) built.now.lines.items ≡ map (λ a. a.each) all → lines.items ≡ build_warnings front.entry files.now all) }
 {
-    let before = front_text(alloc, front)?;
-    match assemble_all(alloc, front, &before, files, grow)? {
-        Some(all) => lines_joined(alloc, files, &all),
-        None => Ok(Vec::new(alloc)),
-    }
+    let own = all_own_lines(alloc, front, &built.lines)?;
+    lines_joined(alloc, files, &built.modules, &own)
 }

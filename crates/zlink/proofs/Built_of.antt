@@ -8,6 +8,7 @@ use Rattle.ruler.specs.Choice.{place}
 use Rattle.relax.specs.Growth.{after}
 use Rattle.asm_module.specs.declared.assembling.Lines as listing
 use Rattle.zmo_module.specs.Modules.{module_of}
+use Rattle.zmo_module.specs.Rules.{IsModule}
 use Rattle.zmo_module.specs.declared.module.Module as made
 use Rattle.zlink.specs.Program.Laws.{statement_count}
 use Rattle.zlink.specs.Program.Whole as object
@@ -77,9 +78,9 @@ module _ (grow : Bool) (sources : List Source) (these : List Assembly) (are : Ar
   pub of_file : (order : List ℕ) (l : Linked) (whole : Vec made.Module Global) (lines : Vec listing.Lines Global) (from : Vec origin.Origin Global) (last : Vec ℕ Global) → (length (object.program (modules_of these)) ≡ statement_count (modules_of these))
       → IsOutput (modules_of these) order (linked_output l) → ArePlaces (after order) (file.placed_shape (object.program (modules_of these))) l.places.items
       → All (λ b. b < 256) l.com.items → map (λ x. x.each.items) lines.items ≡ map (λ a. a.assembled.each) these → map (λ x. x.last) lines.items ≡ map (λ a. a.assembled.last) these
-      → map origin_of from.items ≡ origins_by (λ k. slice_index l.places.items k) (lines_in lines.items) → last.items ≡ map (λ x. x.last) lines.items → map module_of whole.items ≡ modules_of these
+      → map origin_of from.items ≡ origins_by (λ k. slice_index l.places.items k) (lines_in lines.items) → last.items ≡ map (λ x. x.last) lines.items → map module_of whole.items ≡ modules_of these → All IsModule (modules_of these)
       → built.IsBuiltFile these order (record { «com» = l.com; sizes = l.sizes; cert = l.cert; symbols = l.symbols; statements = from; last = last; grown = l.grown; modules = whole; lines = lines })
-  of_file order l whole lines from last count f places small each lasts origins last_are modules_are = record {
+  of_file order l whole lines from last count f places small each lasts origins last_are modules_are kept = record {
     judged = subst (λ s. IsBestAfter s order l.sizes.items l.cert.items) (same_shape these laid) f.judged;
     reads = carried these l.com.items (after order) laid small f.reads;
     linked = f;
@@ -88,4 +89,5 @@ module _ (grow : Bool) (sources : List Source) (these : List Assembly) (are : Ar
     last = last_are ∙ lasts;
     modules = modules_are;
     lines = each;
+    kept = kept;
   }

@@ -1,5 +1,5 @@
 -- What `build_with` answers for sources.
-use Rattle.std.specs.Prelude.{◌≡◌, ◌⊎◌, ℕ, Bool, IsOk, List, Some, None, Result, Ok, Err, length, map}
+use Rattle.std.specs.Prelude.{◌≡◌, ◌⊎◌, ℕ, All, Bool, IsOk, List, Some, None, Result, Ok, Err, length, map}
 use Rattle.std.specs.List.{enumerate_from, flat_map}
 use Rattle.asm_module.specs.declared.fault.AsmFault.{AsmFault}
 use Rattle.ruler.specs.Choice.{Choice, IsValid, place}
@@ -16,6 +16,7 @@ use Rattle.zlink.specs.declared.origins.Origin as origin
 use Rattle.zlink.specs.declared.source.Source.{Source}
 use Rattle.zlink.specs.Judged.{IsBestAfter, IsUnfit}
 use Rattle.zmo_module.specs.Modules.{module_of}
+use Rattle.zmo_module.specs.Rules.{IsModule}
 use Rattle.zlink.specs.Linked.{IsOutput, Output, link_fault, symbol_of}
 use Rattle.zlink.specs.Reads.{Reads, shape}
 use Rattle.zlink.specs.Sources.{Assembly, AreAssembled, IsFirstFaulty, modules_of, program_of}
@@ -53,6 +54,8 @@ pub record IsBuiltFile (assemblies : List Assembly) (order : List ℕ) (b : buil
   pub last : b.last.items ≡ map (λ a. a.assembled.last) assemblies
   pub modules : map module_of b.modules.items ≡ modules_of assemblies
   pub lines : map (λ l. l.each.items) b.lines.items ≡ map (λ a. a.assembled.each) assemblies
+  -- the modules keep the rules of an object file
+  pub kept : All IsModule (modules_of assemblies)
 
 -- The sources can be assembled, their modules have no error together, their modules and their program have the same sizes and targets, and
 -- P holds of their assemblies.

@@ -1,5 +1,5 @@
 -- How the steps of commands end.
-use Rattle.std.specs.Prelude.{◌≡◌, ◌≢◌, ◌⊎◌, ℕ, ◌<◌, Bool, List, Option, None, Some, Result, Ok, Err, String, Vec, is_ok, length, option_map, string_bytes, true}
+use Rattle.std.specs.Prelude.{◌≡◌, ◌≢◌, ◌⊎◌, ℕ, ◌<◌, Bool, List, [], Option, None, Some, Result, Ok, Err, String, Vec, is_ok, length, option_map, string_bytes, true}
 use Rattle.std.specs.Borrow.{Bor}
 use Rattle.clap.specs.declared.error.kind.ErrorKind.{ErrorKind}
 use Rattle.streams.specs.Stream.{Stream}
@@ -49,6 +49,25 @@ abbrev pub line_in : Result (Option (String Global)) End → Option (List ℕ)
 line_in (Ok line) = option_map string_bytes line
 line_in (Err e) = None
 
+-- all is done, with lines; or it ends otherwise, without
+abbrev pub EndsWithLines : (List ℕ → End → Type 0) → Result (Vec ℕ Global) End → Type 0
+EndsWithLines Is (Ok lines) = Is lines.items end.Done
+EndsWithLines Is (Err e) = Is [] e
+
+-- how such a command ends, and its lines
+abbrev pub end_after : Result (Vec ℕ Global) End → End
+end_after (Ok lines) = end.Done
+end_after (Err e) = e
+
+abbrev pub lines_after : Result (Vec ℕ Global) End → List ℕ
+lines_after (Ok lines) = lines.items
+lines_after (Err e) = []
+
+-- lines go with the end at which all is done
+abbrev pub DoneWithLines : End → Vec ℕ Global → Result (Vec ℕ Global) End → Type 0
+DoneWithLines end.Done lines result = result ≡ Ok lines
+DoneWithLines e lines result = result ≡ Err e
+
 -- a line goes with the end at which all is done
 abbrev pub DoneWith : End → Option (String Global) → Result (Option (String Global)) End → Type 0
 DoneWith end.Done line result = result ≡ Ok line
@@ -71,8 +90,8 @@ MayTell (Some why) (Ok _) = ⊥
 MayTell (Some why) (Err e) = IsRefusedAs why e
 
 -- the program of sources that were read is written, or memory runs out before
-abbrev pub BuildsTexts : List ℕ → Build → List (List ℕ) → List (List ℕ) → Effect → Option (List ℕ) → End → Type 0
-BuildsTexts base build fronts texts x line e = WritesBuilt base build fronts texts x line e ⊎ ((e ≡ end.NoMemory) × NothingDone x)
+abbrev pub BuildsTexts : List ℕ → Build → List (List ℕ) → List (List ℕ) → Effect → List ℕ → End → Type 0
+BuildsTexts base build fronts texts x lines e = WritesBuilt base build fronts texts x lines e ⊎ ((e ≡ end.NoMemory) × NothingDone x)
 
 -- a command may write its files, or this is why it may not
 abbrev pub IsClear : Option (List ℕ) → Result Unit End → Type 0

@@ -5,7 +5,7 @@ use Rattle.z80dev_jobs.specs.Outputs.{base_of, program_kinds, why_not_written}
 use Rattle.z80dev_jobs.specs.Private.Steps.{BuildsTexts}
 use Rattle.z80dev_jobs.specs.Reading.{IsOneNotRead, IsRead}
 use Rattle.z80dev_jobs.proofs.Clear.{as_many, builds, builds_so, clear, clear_of}
-use Rattle.z80dev_jobs.proofs.Images.{ends_as, passed_on}
+use Rattle.z80dev_jobs.proofs.Lined.{lined_as, lined_on}
 use Rattle.z80dev_jobs.proofs.making.build_files.Goals as goal
 
 pub returns-in_err-texts : goal.returns-in_err-texts
@@ -25,7 +25,7 @@ returns-in_err-texts g c =
     let read_fronts = subst (λ files. AllZip (IsRead x.old) (map (λ path. path.now) files) fronts) c.deref-4.ensures.value c.in_ok-fronts.ensures.1 in
     let unread = subst (λ files. IsOneNotRead mid new (map (λ path. path.now) files) e) c.deref-5.ensures.value c.in_err-texts.ensures in
     let unread_then = subst (λ f. IsOneNotRead f new (source_paths job) e) c.in_ok-fronts.ensures.0 unread in
-    passed_on (BuildEnds job x) e c.from_residual-in_err-texts.result c.from_residual-in_err-texts.ensures.1
+    lined_on (BuildEnds job x) e c.from_residual-in_err-texts.result c.from_residual-in_err-texts.ensures.1
     (clear (why_not_written base (program_kinds job.list) (shared_paths shared ++ source_paths job)) _ x e none (inl (fronts, read_fronts, inr (unread_then, refl))))
 
 pub build_texts-requires-clause-fronts : goal.build_texts-requires-clause-fronts
@@ -55,4 +55,4 @@ returns g c =
     let read_then = subst (λ f. AllZip (IsRead f) (source_paths job) texts) c.in_ok-fronts.ensures.0 read in
     let so = builds_so c.base_of-base.result.now base job c.deref-6.result.now c.in_ok-fronts.fronts.items c.deref-7.result.now c.in_ok-texts.texts.items x.old (g.F.Files.folder c.read_all-2.new.files) x.new
     x.before x.after c.build_texts.result same_base c.deref-6.ensures.value c.deref-7.ensures.value (c.in_ok-texts.ensures.0 ∙ c.in_ok-fronts.ensures.0) c.build_texts.ensures in
-    ends_as (BuildsTexts base job fronts texts x) (BuildEnds job x) c.build_texts.result (builds base job fronts texts x read_fronts read_then none) so
+    lined_as (BuildsTexts base job fronts texts x) (BuildEnds job x) c.build_texts.result (builds base job fronts texts x read_fronts read_then none) so

@@ -1,5 +1,5 @@
 use Rattle.std.proofs.Common.{arith, ◌∙◌}
-use Rattle.z80dev_make.specs.Build.{earlier}
+use Rattle.z80dev_make.specs.Front.{earlier}
 use Rattle.z80dev_make.proofs.Numbers.{all_changed, next_changed}
 use Rattle.z80dev_make.proofs.behind.number_lines.Goals as goal
 

@@ -1,5 +1,5 @@
 use Rattle.std.proofs.Common.{◌≡◌, ℕ}
-use Rattle.z80dev_make.specs.Build.{earlier}
+use Rattle.z80dev_make.specs.Front.{earlier}
 use Rattle.z80dev_make.specs.Private.Steps.{Counts}
 use Rattle.z80dev_make.proofs.Numbers.{front_changed}
 use Rattle.z80dev_make.proofs.behind.number_lines.Given as goal

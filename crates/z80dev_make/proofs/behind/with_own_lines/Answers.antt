@@ -1,7 +1,7 @@
 use Rattle.std.proofs.Common.{map, length, refl, ap, ◌∙◌}
 use Rattle.std.proofs.lemmas.List.{length-map, with_items_is}
-use Rattle.z80dev_make.specs.Build.{earlier, earlier_origin}
-use Rattle.z80dev_make.specs.Front.{front_lines}
+use Rattle.z80dev_make.specs.Build.{earlier_origin}
+use Rattle.z80dev_make.specs.Front.{earlier, front_lines}
 use Rattle.z80dev_make.proofs.behind.with_own_lines.Goals as goal
 
 pub returns : goal.returns

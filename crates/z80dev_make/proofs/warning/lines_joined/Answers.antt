@@ -1,4 +1,4 @@
-use Rattle.std.proofs.Common.{◌≡◌, ◌∙◌, None, ap, map, subst, sym}
+use Rattle.std.proofs.Common.{◌≡◌, ◌∙◌, None, ap, map, sym}
 use Rattle.std.specs.List.{zip}
 use Rattle.std.proofs.lemmas.Result.{IfOk-weaker}
 use Rattle.zmo_module.specs.Modules.{module_of}
@@ -14,19 +14,15 @@ use Rattle.z80dev_make.proofs.warning.lines_joined.Goals as goal
 
 pub returns : goal.returns
 returns c =
-    let modules = c.args.all.now.modules.items in
-    let lines = c.args.all.now.lines.items in
-    let files = c.args.files.now in
+    let modules = c.args.modules.now in
     let links = c.in-Ok.links.items in
     let ms = map module_of modules in
-    let j : (first_fault ms ≡ None) × AreLinks ms links = subst (λ xs. (first_fault (map module_of xs) ≡ None) × AreLinks (map module_of xs) links) c.deref.ensures.value c.in-Ok.ensures in
-    let parts_are = c.in_ok-parts.ensures ∙ ap (λ xs. map member_with (zip xs c.deref-3.result.now)) c.deref-2.ensures.value ∙ ap (λ ls. map member_with (zip modules ls)) c.deref-3.ensures.value
-    ∙ members (all_publics (parts ms)) 0 0 modules links j.1 in
-    let found = c.in_ok-found.ensures ∙ ap (λ ps. warnings (map member_of ps)) c.deref-4.ensures.value ∙ ap warnings parts_are in
-    let sources = c.in_ok-sources.ensures ∙ ap (λ ls. map shown_in (zip files (zip ls c.deref-6.result.now))) c.deref-5.ensures.value ∙ ap (λ xs. map shown_in (zip files (zip lines xs))) c.deref-6.ensures.value in
-    let all = map shown_in (zip files (zip lines modules)) in
+    let j : (first_fault ms ≡ None) × AreLinks ms links = c.in-Ok.ensures in
+    let parts_are = c.in_ok-parts.ensures ∙ ap (λ ls. map member_with (zip modules ls)) c.deref.ensures.value ∙ members (all_publics (parts ms)) 0 0 modules links j.1 in
+    let found = c.in_ok-found.ensures ∙ ap (λ ps. warnings (map member_of ps)) c.deref-2.ensures.value ∙ ap warnings parts_are in
+    let all = map shown_in (zip c.args.files.now (zip c.args.own.now modules)) in
     IfOk-weaker c.warning_lines.result _ _
     (λ out is.
-    is ∙ ap (λ ss. warning_lines (map shown_of ss) c.deref-8.result.now) c.deref-7.ensures.value ∙ ap (λ ss. warning_lines ss c.deref-8.result.now) sources
-    ∙ ap (warning_lines all) (c.deref-8.ensures.value ∙ found) ∙ sym (ap (λ o. lines_unless o (warning_lines all (warnings (joined ms)))) j.0))
+    is ∙ ap (λ ss. warning_lines (map shown_of ss) c.deref-4.result.now) c.deref-3.ensures.value ∙ ap (λ ss. warning_lines ss c.deref-4.result.now) c.in_ok-sources.ensures
+    ∙ ap (warning_lines all) (c.deref-4.ensures.value ∙ found) ∙ sym (ap (λ o. lines_unless o (warning_lines all (warnings (joined ms)))) j.0))
     c.warning_lines.ensures

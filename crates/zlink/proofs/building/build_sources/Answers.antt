@@ -42,6 +42,6 @@ returns c =
       (
         linked.1,
         of_file c.args.grow c.args.sources.now a.0 a.1 laid linked.1 l c.in_ok-modules.field-0.modules lines c.in_ok-statements.statements c.in_ok-last.last
-            (c.laid_out.ensures.count (modules_of a.0)) linked.2 linked.3 (subst (All (λ b. b < 256)) c.deref-2.ensures.value c.are_bytes.ensures) a.2.each a.2.last origins (c.in_ok-last.ensures ∙ ap (map (λ x. x.last)) c.deref-5.ensures.value) a.2.modules_are,
+            (c.laid_out.ensures.count (modules_of a.0)) linked.2 linked.3 (subst (All (λ b. b < 256)) c.deref-2.ensures.value c.are_bytes.ensures) a.2.each a.2.last origins (c.in_ok-last.ensures ∙ ap (map (λ x. x.last)) c.deref-5.ensures.value) a.2.modules_are (kept_rules a.0 a.2.kept),
       ),
     )

@@ -1,0 +1,33 @@
+use Rattle.std.proofs.Common.{◌∙◌, All, ap, map, subst, sym}
+use Rattle.std.specs.List.{zip}
+use Rattle.std.proofs.lemmas.Result.{IfOk-weaker}
+use Rattle.zmo_module.specs.Modules.{module_of}
+use Rattle.zmo_module.specs.Rules.{IsModule}
+use Rattle.zlink.specs.Program.Faults.{first_fault}
+use Rattle.jump_warnings.specs.Warnings.{warnings}
+use Rattle.z80dev_make.specs.Front.{earlier, front_lines}
+use Rattle.z80dev_make.specs.Private.Shown.{shown_in}
+use Rattle.z80dev_make.specs.Warned.{joined, lines_unless, shown, warning_lines}
+use Rattle.z80dev_make.proofs.Held.{all_shown, each_own}
+use Rattle.z80dev_make.proofs.warning.warn_built.Goals as goal
+
+pub lines_joined-requires : goal.lines_joined-requires
+lines_joined-requires c = subst (λ ms. All IsModule (map module_of ms)) (sym c.deref-2.ensures.value) c.requires
+
+pub returns : goal.returns
+returns c =
+    let front = c.args.front in
+    let files = c.args.files.now in
+    let n = front_lines front in
+    let modules = c.args.built.now.modules.items in
+    let lines = c.args.built.now.lines.items in
+    let own = c.in_ok-own.own.items in
+    let ms = map module_of modules in
+    let own_are = c.in_ok-own.ensures ∙ ap (map (λ l. map (earlier n) l.each.items)) c.deref.ensures.value in
+    IfOk-weaker c.lines_joined.result _ _
+    (λ out is all holds each.
+    is ∙ ap (λ xs. lines_unless (first_fault (map module_of xs)) (warning_lines (map shown_in (zip files (zip c.deref-3.result.now xs))) (warnings (joined (map module_of xs))))) c.deref-2.ensures.value
+    ∙ ap (λ os. lines_unless (first_fault ms) (warning_lines (map shown_in (zip files (zip os modules))) (warnings (joined ms)))) c.deref-3.ensures.value
+    ∙ ap (λ ss. lines_unless (first_fault ms) (warning_lines ss (warnings (joined ms)))) (all_shown front files modules own all holds (own_are ∙ each_own n lines all each))
+    ∙ ap (λ m. lines_unless (first_fault m) (warning_lines (map (shown front) (zip files all)) (warnings (joined m)))) holds)
+    c.lines_joined.ensures
