@@ -8,3 +8,4 @@ pub mod Lines
 pub mod Registers
 pub mod Reports
 pub mod Profile
+pub mod Coverage

@@ -1,6 +1,7 @@
 //! What the command `run` does with the bytes of its files and of standard input.
 #![tactic(auto)]
 
+mod coverage;
 mod ending;
 mod input;
 mod labels;
@@ -13,6 +14,7 @@ mod running;
 mod stopped;
 mod text;
 
+pub use coverage::coverage_file;
 pub use cpm_run::{Record, Stop, TraceStep, Why, Wish};
 pub use ending::conclude;
 pub use labels::Labels;
