@@ -33,7 +33,7 @@ pub(crate) fn input_of(row: &mut Row) -> Option<Input> {
 }
 
 /// Runs a program on a blank disk without input.
-fn traced(alloc: Global, input: &Input, wish: Wish) -> Option<TracedRan<MemorySink>> {
+pub(crate) fn traced(alloc: Global, input: &Input, wish: Wish) -> Option<TracedRan<MemorySink>> {
     let ready = ready(alloc, &input.program, &[], &[], &[]).ok()?;
     Some(ready.run_traced(alloc, MemorySink::new(alloc), input.limit, wish))
 }

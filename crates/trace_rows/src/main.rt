@@ -16,15 +16,17 @@ enum Call {
     Last,
     Regs,
     Profile,
+    Coverage,
     Labels,
 }
 
 /// The names of all calls.
-const CALLS: [(&str, Call); 5] = [
+const CALLS: [(&str, Call); 6] = [
     ("trace", Call::Trace),
     ("last", Call::Last),
     ("regs", Call::Regs),
     ("profile", Call::Profile),
+    ("coverage", Call::Coverage),
     ("labels", Call::Labels),
 ];
 
@@ -44,6 +46,7 @@ fn answer(row: &mut Row, call: Call) {
         Call::Last => shown::answer_last(row),
         Call::Regs => shown::answer_regs(row),
         Call::Profile => shown::answer_profile(row),
+        Call::Coverage => shown::answer_coverage(row),
         Call::Labels => shown::answer_labels(row),
     }
 }

@@ -1,9 +1,9 @@
 //! Answers the calls.
 
-use crate::input::{Run, input_of, run_of};
+use crate::input::{Run, input_of, run_of, traced};
 use disassembler::{fault_text, read_labels};
 use row_text::Row;
-use z80dev_run::{Wish, last_lines, machine_text, profile_file, trace_file};
+use z80dev_run::{Wish, coverage_file, last_lines, machine_text, profile_file, trace_file};
 
 /// Prints a text, with `|` for the end of a line.
 fn show(row: &mut Row, text: &[u8]) {
@@ -94,6 +94,25 @@ fn profile_of(row: &mut Row) -> Option<Vec<u8>> {
 /// Prints the profile of a run.
 pub(crate) fn answer_profile(row: &mut Row) {
     let made = profile_of(row);
+    show_made(row, made);
+}
+
+fn coverage_of(row: &mut Row) -> Option<Vec<u8>> {
+    let input = input_of(row)?;
+    let rest = row.rest();
+    let listing = row.lines_of(rest);
+    let wish = Wish {
+        first: 0,
+        last: 0,
+        counts: true,
+    };
+    let run = traced(row.alloc(), &input, wish)?;
+    coverage_file(row.alloc(), &run.kept?, &listing).ok()
+}
+
+/// Prints a listing with how often each line ran.
+pub(crate) fn answer_coverage(row: &mut Row) {
+    let made = coverage_of(row);
     show_made(row, made);
 }
 

@@ -2,3 +2,4 @@ mod Read
 mod Told
 mod Numbered
 mod Traced
+mod Totals

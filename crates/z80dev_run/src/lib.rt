@@ -5,6 +5,7 @@ mod coverage;
 mod ending;
 mod input;
 mod labels;
+pub mod laws;
 mod lines;
 mod preparing;
 mod profile;
