@@ -99,7 +99,7 @@ _z80dev() {
                 [[ "$option" != --user ]] || user=$each
                 option=''
             fi
-        elif [[ "$each" =~ ^(--(out|define|with|labels|entry|disk|steps|last|trace|profile|user)|-o)$ ]]; then
+        elif [[ "$each" =~ ^(--(out|define|with|labels|entry|disk|steps|last|trace|profile|user)|-o)$ || "$command $each" == "run --list" ]]; then
             option=$each
         elif [[ "$each" == --to || "$each" == --all ]]; then
             several=$each
@@ -117,6 +117,7 @@ _z80dev() {
     --out | -o) _z80dev_bases ;;
     --with | --trace | --profile) _z80dev_any_file ;;
     --labels) _z80dev_files sym ;;
+    --list) _z80dev_files lst ;;
     --disk) _z80dev_files img dsk cpm ;;
     esac
     [[ -z "$option" ]] || return
@@ -134,7 +135,7 @@ _z80dev() {
     erase | rename) options='--user --no-lock -h --help' ;;
     protect | unprotect) options='--system --user --no-lock -h --help' ;;
     blank) options='--mega --keep --no-lock -h --help' ;;
-    run) options='--disk --no-lock --steps --labels --regs --last --trace --profile -h --help' ;;
+    run) options='--disk --no-lock --steps --labels --regs --last --trace --profile --list -h --help' ;;
     esac
     if [[ "$word" == -* || -z "$command" ]]; then
         mapfile -t COMPREPLY < <(compgen -W "$options" -- "$word")

@@ -12,9 +12,12 @@ end
 # The words before the cursor, after the command, that are neither an option nor its value.
 function __z80dev_operands
     set -l is_value no
-    for word in (commandline -opc)[3..]
+    set -l words (commandline -opc)
+    for word in $words[3..]
         if test $is_value = yes
             set is_value no
+        else if test "$words[2] $word" = 'run --list'
+            set is_value yes
         else if contains -- $word --out -o --define --with --labels --entry --disk --steps --last --trace --profile --user
             set is_value yes
         else if not string match -q -- '-*' $word
@@ -182,5 +185,6 @@ complete -c z80dev -n '__z80dev_at run' -l regs -d 'Print the registers and the 
 complete -c z80dev -n '__z80dev_at run' -l last -x -d 'How many of the last steps to print if the run is stopped'
 complete -c z80dev -n '__z80dev_at run' -l trace -r -F -d 'File to write with a line for each step'
 complete -c z80dev -n '__z80dev_at run' -l profile -r -F -d 'File to write with how often each instruction ran'
+complete -c z80dev -n '__z80dev_at run' -l list -x -a '(__z80dev_files lst)' -d 'Listing for the profile'
 complete -c z80dev -n '__z80dev_at run 0' -a '(__z80dev_files com)' -d 'Program'
 complete -c z80dev -n '__z80dev_at run; and not __z80dev_at run 0' -a '(set -l disk (__z80dev_disk); and __z80dev_names $disk[-1])' -d 'Name on the disk'

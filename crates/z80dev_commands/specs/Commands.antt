@@ -160,10 +160,10 @@ check_disk_shape = with_rules (codes "check-disk") (path_rule (codes "IMG") ∷ 
 abbrev pub blank_shape : Shape
 blank_shape = with_rules (codes "blank") (flag_rule (codes "mega") ∷ flag_rule (codes "keep") ∷ flag_rule (codes "no-lock") ∷ path_rule (codes "IMG") ∷ [])
 
--- `[--labels SYM] [--regs] [--last COUNT] [--trace TRC] [--profile PRF]`, what `run` tells about a run
+-- `[--labels SYM] [--regs] [--last COUNT] [--trace TRC] [--profile PRF] [--list LST]`, what `run` tells about a run
 abbrev pub telling_rules : List Rule
 telling_rules = labels_rule ∷ flag_rule (codes "regs") ∷ last_rule ∷ option_rule (codes "trace") (codes "TRC")
-    ∷ option_rule (codes "profile") (codes "PRF") ∷ []
+    ∷ option_rule (codes "profile") (codes "PRF") ∷ option_rule (codes "list") (codes "LST") ∷ []
 
 -- `run [--disk IMG] [--no-lock] [--steps N]`, then those, then `COM [WORD..]`
 abbrev pub run_shape : Shape
@@ -258,6 +258,7 @@ FindsLast last rows = FindsNumber (codes "COUNT") last rows × IfSome last (λ n
 abbrev pub FindsTelling : Telling → List Row → Type 0
 FindsTelling telling rows = FindsIfGiven (codes "SYM") telling.labels rows × (is_on (codes "regs") rows ≡ telling.registers)
     × FindsLast telling.last rows × FindsIfGiven (codes "TRC") telling.trace rows × FindsIfGiven (codes "PRF") telling.profile rows
+    × FindsIfGiven (codes "LST") telling.list rows
 
 -- the image that a command changes, with the user and whether it is locked
 abbrev pub FindsTarget : Target → List Row → Type 0

@@ -15,8 +15,8 @@ with_target a = with_rule (with_rule (with_rule a user_rule) (flag_rule (codes "
 
 -- a command with the options of what `run` tells
 abbrev pub with_telling : App → App
-with_telling a = with_rule (with_rule (with_rule (with_rule (with_rule a labels_rule) (flag_rule (codes "regs"))) last_rule)
-    (option_rule (codes "trace") (codes "TRC"))) (option_rule (codes "profile") (codes "PRF"))
+with_telling a = with_rule (with_rule (with_rule (with_rule (with_rule (with_rule a labels_rule) (flag_rule (codes "regs"))) last_rule)
+    (option_rule (codes "trace") (codes "TRC"))) (option_rule (codes "profile") (codes "PRF"))) (option_rule (codes "list") (codes "LST"))
 
 -- a parse without an error found these rows for the command with this name
 abbrev pub AreFound : Text → List Row → Type 0

@@ -247,8 +247,9 @@ ended. If it is stopped, --last prints its last COUNT steps there, each as a lin
 of the trace. --trace writes such a line for each step to TRC: its number, the
 address, the label, the instruction's bytes and text, and the registers that it
 changed. --profile writes to PRF how often the instruction at each address ran,
-most often first. With --labels, each address has the label of SYM before it and
-how many bytes after it.
+most often first; with --list, it writes the lines of LST instead, each after how
+often its instruction ran. With --labels, each address has the label of SYM
+before it and how many bytes after it.
 
 The status is 0 if the program ends by itself, and 1 if something stops it or it
 is too long to be loaded; then standard error has a line `stopped: WHY at PPPP`.

@@ -231,6 +231,8 @@ pub struct Telling<'a> {
     pub trace: Option<&'a str>,
     /// The path of the file to write with how often each instruction ran.
     pub profile: Option<&'a str>,
+    /// The path of a listing, whose lines the profile then has.
+    pub list: Option<&'a str>,
 }
 
 /// `run`: runs a program.

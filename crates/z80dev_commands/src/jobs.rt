@@ -389,6 +389,7 @@ fn telling<'a>(found: &ArgMatches<'a>) -> Telling<'a>
         last: last(found),
         trace: text_if_given(found, "TRC"),
         profile: text_if_given(found, "PRF"),
+        list: text_if_given(found, "LST"),
     }
 }
 

@@ -40,16 +40,18 @@ IsDiskNotClaimed (Some path) old new e = IsNotClaimed old new path.now e
 abbrev pub lines_in : Inputs → Option (List ℕ)
 lines_in inputs = option_map string_bytes inputs.warnings
 
--- The image of the disk is claimed, if there is one; then the program is read, then the labels, if their path is given, then standard input. The
+-- The image of the disk is claimed, if there is one; then the program is read, then the labels and the listing, if their paths are given, then standard input. The
 -- first that is not read is the end.
 abbrev pub ReadsInputs : Run → Folder → Folder → Reader → Reader → Result Inputs End → Type 0
 ReadsInputs run old new before after (Ok inputs) = ClaimsDisk run.disk run.lock old new inputs.image.items (lines_in inputs)
-    × IsRead old run.program.now inputs.program.items × IsReadIfGiven old run.telling.labels inputs.labels × ReadsInput before after (Ok inputs.typed)
+    × IsRead old run.program.now inputs.program.items × IsReadIfGiven old run.telling.labels inputs.labels × IsReadIfGiven old run.telling.list inputs.list × ReadsInput before after (Ok inputs.typed)
 ReadsInputs run old new before after (Err e) = (IsDiskNotClaimed run.disk old new e × (after ≡ before))
     ⊎ ((mid : Folder) × (image : List ℕ) × (lines : Option (List ℕ)) × ClaimsDisk run.disk run.lock old mid image lines
     × ((IsNotRead mid new run.program.now e × (after ≡ before)) ⊎ ((program : List ℕ) × IsRead old run.program.now program
     × ((IsNotReadIfGiven mid new run.telling.labels e × (after ≡ before))
-    ⊎ ((labels : Option (Vec ℕ Global)) × IsReadIfGiven old run.telling.labels labels × (new ≡ mid) × IsInputUnread before after e)))))
+    ⊎ ((labels : Option (Vec ℕ Global)) × IsReadIfGiven old run.telling.labels labels
+    × ((IsNotReadIfGiven mid new run.telling.list e × (after ≡ before))
+    ⊎ ((list : Option (Vec ℕ Global)) × IsReadIfGiven old run.telling.list list × (new ≡ mid) × IsInputUnread before after e)))))))
 
 -- The bytes are no disk, which is the end; or memory ran out.
 abbrev pub IsNoDisk : List ℕ → End → Type 0
@@ -115,7 +117,7 @@ abbrev pub Runs : Run → Known → Inputs → Folder → World → World → �
 Runs run known inputs claimed old new status =
     (end : Why) × (turns pc : ℕ) × (image : List ℕ) × (printed : Stream) × (told : Option Told)
     × IsRan inputs.program.items (words_of run) inputs.image.items inputs.typed.items old.output (steps_of run) end turns pc image printed
-    × IfSome told (IsToldRun run.telling known inputs.program.items (words_of run) inputs.image.items inputs.typed.items old.output (steps_of run) end turns)
+    × IfSome told (IsToldRun run.telling known (bytes_in inputs.list) inputs.program.items (words_of run) inputs.image.items inputs.typed.items old.output (steps_of run) end turns)
     × EndsRun run inputs end pc image told printed new.output claimed new.folder old.errors new.errors status
   where
     words_of : Run → List (List ℕ)
@@ -146,8 +148,8 @@ IsRefusedAs why (end.Refused said) = string_bytes said ≡ why
 IsRefusedAs why end.NoMemory = Unit {0}
 IsRefusedAs why _ = ⊥
 
--- `run`: if it may not write what it is to tell, it refuses that before it reads a file. Otherwise the image is claimed, the program, the labels
--- and standard input are read, and the program is run.
+-- `run`: if it may not write what it is to tell, it refuses that before it reads a file. Otherwise the image is claimed, the program, the
+-- labels, the listing and standard input are read, and the program is run.
 abbrev pub RunEndsUnless : Option (List ℕ) → Run → World → World → ℕ → Type 0
 RunEndsUnless None run old new status = RunEndsWith run old new status
 RunEndsUnless (Some why) run old new status = (e : End) × IsRefusedAs why e × (new.folder ≡ old.folder) × (new.input ≡ old.input) × EndsBefore e old new status

@@ -2,7 +2,9 @@
 use Rattle.std.specs.Prelude.{◌≡◌, ◌≢◌, ◌⊎◌, ◌==◌, ◌&&◌, ◌||◌, not, ℕ, ◌+◌, Bool, true, false, List, [], ◌∷◌, ◌++◌, Option, None, Some, Result, Ok, Err, Vec, if◌then◌else◌, is_some, length, map, option_map, string_bytes, unwrap_or}
 use Rattle.std.specs.Borrow.{Bor}
 use Rattle.std.specs.Global.{Global}
+use Rattle.std.specs.List.{flat_map}
 use Rattle.std.specs.Option.{option_or}
+use Rattle.asm_macro.specs.Texts.{source_lines}
 use Rattle.std.specs.Str.{bytes_eq}
 use Rattle.circular_buffer.specs.Buffer.{keep_last}
 use Rattle.cpm_run.specs.declared.ending.Why.{Why}
@@ -24,6 +26,7 @@ use Rattle.z80dev_finish.specs.declared.end.End.{End}
 use Rattle.z80dev_finish.specs.declared.end.End.TheVariants as end
 use Rattle.z80dev_jobs.specs.Outputs.{over_text}
 use Rattle.z80dev_jobs.specs.declared.telling.Told.{Told}
+use Rattle.z80dev_run.specs.Coverage.{coverage_line}
 use Rattle.z80dev_run.specs.Labelled.{Known}
 use Rattle.z80dev_run.specs.Lines.{IsTrace}
 use Rattle.z80dev_run.specs.Profile.{IsProfile}
@@ -57,9 +60,9 @@ abbrev pub is_given : List ℕ → Option (Bor (List ℕ)) → Bool
 is_given path None = false
 is_given path (Some other) = bytes_eq path other.now
 
--- the run reads a file of this path: its disk, its program or its labels
+-- the run reads a file of this path: its disk, its program, its labels or its listing
 abbrev pub reads_file : Run → List ℕ → Bool
-reads_file run path = is_given path run.disk || (bytes_eq path run.program.now || is_given path run.telling.labels)
+reads_file run path = is_given path run.disk || (bytes_eq path run.program.now || (is_given path run.telling.labels || is_given path run.telling.list))
 
 abbrev pub if_read : Bool → List ℕ → Option (List ℕ)
 if_read is_read path = if is_read then Some path else None
@@ -105,30 +108,35 @@ AreLastLines telling known end kept lines = IsTrace known (keep_last (last_count
 abbrev pub registers_lines : Telling → Known → Cpu → List ℕ → Record → List ℕ
 registers_lines telling known cpu memory kept = if telling.registers then machine_text known cpu memory kept.last.items else []
 
+-- A profile by addresses; or with a listing by its lines.
+abbrev pub IsProfileOf : Option (List ℕ) → Known → List ℕ → ℕ → List ℕ → Type 0
+IsProfileOf None known counts turns text = IsProfile known counts turns text
+IsProfileOf (Some listing) known counts turns text = text ≡ flat_map (coverage_line counts) (source_lines listing)
+
 pub record IsNothingTold (told : Told) : Type 0 where
   pub trace : told.trace ≡ None
   pub profile : told.profile ≡ None
   pub lines : told.lines.items ≡ []
 
-pub record IsTold (telling : Telling) (known : Known) (end : Why) (turns : ℕ) (cpu : Cpu) (memory : List ℕ) (kept : Record) (told : Told) : Type 0 where
+pub record IsTold (telling : Telling) (known : Known) (listing : Option (List ℕ)) (end : Why) (turns : ℕ) (cpu : Cpu) (memory : List ℕ) (kept : Record) (told : Told) : Type 0 where
   pub trace : IsFileIfGiven (IsTraceFile known kept.first.items turns) telling.trace told.trace
-  pub profile : IsFileIfGiven (IsProfile known kept.counts.items turns) telling.profile told.profile
+  pub profile : IsFileIfGiven (IsProfileOf listing known kept.counts.items turns) telling.profile told.profile
   pub last : List ℕ
   pub last_lines : AreLastLines telling known end kept last
   pub lines : told.lines.items ≡ last ++ registers_lines telling known cpu memory kept
 
 -- What a run tells that ended in this state and has kept this. A program that is not started tells nothing.
-abbrev pub IsToldOf : Telling → Known → Why → ℕ → Option (Cpu × List ℕ) → Option Record → Told → Type 0
-IsToldOf telling known end turns None kept told = IsNothingTold told
-IsToldOf telling known end turns (Some state) None told = ⊥
-IsToldOf telling known end turns (Some (cpu, memory)) (Some kept) told = IsTold telling known end turns cpu memory kept told
+abbrev pub IsToldOf : Telling → Known → Option (List ℕ) → Why → ℕ → Option (Cpu × List ℕ) → Option Record → Told → Type 0
+IsToldOf telling known listing end turns None kept told = IsNothingTold told
+IsToldOf telling known listing end turns (Some state) None told = ⊥
+IsToldOf telling known listing end turns (Some (cpu, memory)) (Some kept) told = IsTold telling known listing end turns cpu memory kept told
 
 -- What a run tells: nothing if it is asked for nothing, otherwise what it has kept of its steps.
-abbrev pub IsToldRun : Telling → Known → List ℕ → List (List ℕ) → List ℕ → List ℕ → Stream → ℕ → Why → ℕ → Told → Type 0
-IsToldRun telling known file words image input before steps end turns told =
+abbrev pub IsToldRun : Telling → Known → Option (List ℕ) → List ℕ → List (List ℕ) → List ℕ → List ℕ → Stream → ℕ → Why → ℕ → Told → Type 0
+IsToldRun telling known listing file words image input before steps end turns told =
     ((is_silent telling ≡ true) × IsNothingTold told)
     ⊎ ((is_silent telling ≡ false) × (state : Option (Cpu × List ℕ)) × (kept : Option Record)
-    × IsTracedRan file words image input before steps (wish_of telling) end turns state kept × IsToldOf telling known end turns state kept told)
+    × IsTracedRan file words image input before steps (wish_of telling) end turns state kept × IsToldOf telling known listing end turns state kept told)
 
 -- ---- the files that are written
 

@@ -198,7 +198,10 @@ fn run_job<F: Files, I: Input, W: Sink + Drop, E: Sink>(
         mut errors,
     } = host;
     let steps = job.steps.unwrap_or(STEPS);
-    let (mut ran, told) = run_telling(alloc, ready, output, steps, job.telling, &labels);
+    let listing = inputs.list.as_deref();
+    let (mut ran, told) = run_telling(
+        alloc, ready, output, steps, job.telling, &labels, listing,
+    );
     let status = end_run(alloc, job, &inputs, &mut ran, &told, &mut files, &mut errors);
     let Ran { output, .. } = ran;
     let host = Host {

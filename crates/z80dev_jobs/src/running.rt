@@ -22,14 +22,15 @@ use z80dev_run::{Labels, Ran, Ready, Stop, Why, conclude, ready};
 /// The most steps of a run whose command names no number.
 pub(crate) const STEPS: u64 = 100_000_000;
 
-/// What `run` reads: the image of the disk, nothing if no disk is named, and the lines that warn of it; the program; the file of its labels,
-/// if one is named; and standard input.
+/// What `run` reads: the image of the disk, nothing if no disk is named, and the lines that warn of it; the program; the file of its labels
+/// and its listing, if they are named; and standard input.
 #[derive(Drop)]
 pub(crate) struct Inputs {
     pub(crate) image: Vec<u8>,
     pub(crate) warnings: Option<String>,
     pub(crate) program: Vec<u8>,
     pub(crate) labels: Option<Vec<u8>>,
+    pub(crate) list: Option<Vec<u8>>,
     pub(crate) typed: Vec<u8>,
 }
 
@@ -67,12 +68,14 @@ pub(crate) fn inputs_of<'a, F: Files, I: Input>(
     let Image { bytes, warnings } = claim_disk(alloc, job.disk, job.lock, files)?;
     let program = read(alloc, job.program, files)?;
     let labels = read_if_given(alloc, job.telling.labels, files)?;
+    let list = read_if_given(alloc, job.telling.list, files)?;
     let typed = read_input(alloc, input)?;
     Ok(Inputs {
         image: bytes,
         warnings,
         program,
         labels,
+        list,
         typed,
     })
 }

@@ -4,8 +4,7 @@ ghost use Rattle.std.specs.Prelude.{◌≡◌, IfOk, IfSome, List, option_map, �
 ghost use Rattle.std.specs.List.{concat};
 ghost use Rattle.z80dev_jobs.specs.Private.Steps.{MayTell};
 ghost use Rattle.z80dev_jobs.specs.Private.Telling.{IsLabelled};
-ghost use Rattle.z80dev_jobs.specs.Telling.{AreLastLines, IsFileIfGiven, IsNothingTold, IsToldOf, IsToldRun, WritesFile, WritesTold, is_given, is_silent, last_count, profile_over, reads_file, registers_lines, trace_over, why_not_told, wish_of};
-ghost use Rattle.z80dev_run.specs.Profile.{IsProfile};
+ghost use Rattle.z80dev_jobs.specs.Telling.{AreLastLines, IsFileIfGiven, IsNothingTold, IsProfileOf, IsToldOf, IsToldRun, WritesFile, WritesTold, is_given, is_silent, last_count, profile_over, reads_file, registers_lines, trace_over, why_not_told, wish_of};
 ghost use Rattle.z80dev_run.specs.Program.{IsRan, IsReadyToRun};
 ghost use Rattle.z80dev_run.specs.Reports.{IsTraceFile};
 
@@ -15,7 +14,7 @@ use z80_cpu::{Cpu, Memory};
 use z80dev::{End, Files, Sink};
 use z80dev_commands::{Run, Telling};
 use z80dev_run::{
-    Labels, Ran, Ready, Record, TRACE_STEPS, TracedRan, Why, Wish, last_lines, machine_text, profile_file, trace_file,
+    Labels, Ran, Ready, Record, TRACE_STEPS, TracedRan, Why, Wish, coverage_file, last_lines, machine_text, profile_file, trace_file,
 };
 
 /// What a run tells: the bytes of the files to write, and lines for standard error.
@@ -83,7 +82,10 @@ fn is_given(path: &str, other: Option<&str>) -> bool
 fn reads_file(run: &Run<'_>, path: &str) -> bool
     ensures { result ≡ reads_file run.now path.now }
 {
-    is_given(path, run.disk) || path == run.program || is_given(path, run.telling.labels)
+    is_given(path, run.disk)
+        || path == run.program
+        || is_given(path, run.telling.labels)
+        || is_given(path, run.telling.list)
 }
 
 /// The path of the trace, if the run reads a file of that path.
@@ -155,15 +157,17 @@ fn trace_of(
 fn profile_of(
     alloc: Global,
     telling: Telling<'_>,
+    listing: Option<&[u8]>,
     kept: &Record,
     turns: u64,
     labels: &Labels,
 ) -> Result<Option<Vec<u8>>, AllocError>
-    ensures { IfOk result (IsFileIfGiven (IsProfile labels.now kept.now.counts.items turns) telling.entry.profile) }
+    ensures { IfOk result (IsFileIfGiven (IsProfileOf (option_map (λ text. text.now) listing.entry) labels.now kept.now.counts.items turns) telling.entry.profile) }
 {
-    match telling.profile {
-        Some(_) => Ok(Some(profile_file(alloc, kept, turns, labels)?)),
-        None => Ok(None),
+    match (telling.profile, listing) {
+        (Some(_), Some(text)) => Ok(Some(coverage_file(alloc, kept, text)?)),
+        (Some(_), None) => Ok(Some(profile_file(alloc, kept, turns, labels)?)),
+        (None, _) => Ok(None),
     }
 }
 
@@ -206,9 +210,10 @@ fn told_of<S>(
     alloc: Global,
     telling: Telling<'_>,
     labels: &Labels,
+    listing: Option<&[u8]>,
     traced: &TracedRan<S>,
 ) -> Result<Told, AllocError>
-    ensures { IfOk result (IsToldOf telling.entry labels.now traced.now.ran.why traced.now.ran.turns traced.now.state traced.now.kept) }
+    ensures { IfOk result (IsToldOf telling.entry labels.now (option_map (λ text. text.now) listing.entry) traced.now.ran.why traced.now.ran.turns traced.now.state traced.now.kept) }
 {
     let Some((cpu, memory)) = &traced.state else {
         return Ok(Told::nothing(alloc));
@@ -218,7 +223,7 @@ fn told_of<S>(
     };
     let Ran { why, turns, .. } = &traced.ran;
     let trace = trace_of(alloc, telling, kept, *turns, labels)?;
-    let profile = profile_of(alloc, telling, kept, *turns, labels)?;
+    let profile = profile_of(alloc, telling, listing, kept, *turns, labels)?;
     let mut lines = last_of(alloc, telling, *why, kept, labels)?;
     let registers = registers_of(alloc, telling, cpu, memory, kept, labels)?;
     lines.extend_from_slice(&registers)?;
@@ -238,11 +243,12 @@ pub(crate) fn run_telling<S: Sink + Drop>(
     steps: u64,
     telling: Telling<'_>,
     labels: &Labels,
+    listing: Option<&[u8]>,
 ) -> (Ran<S>, Option<Told>)
     ensures ran { (program : List ℕ) (words : List (List ℕ)) (image input : List ℕ) → IsReadyToRun program words image input ready.entry
         → IsRan program words image input (S.stream output) steps result.0.why result.0.turns result.0.pc (concat result.0.image) (S.stream result.0.output) }
     ensures told { (program : List ℕ) (words : List (List ℕ)) (image input : List ℕ) → IsReadyToRun program words image input ready.entry
-        → IfSome result.1 (IsToldRun telling.entry labels.now program words image input (S.stream output) steps result.0.why result.0.turns) }
+        → IfSome result.1 (IsToldRun telling.entry labels.now (option_map (λ text. text.now) listing.entry) program words image input (S.stream output) steps result.0.why result.0.turns) }
 {
     if is_silent(telling) {
         return (
@@ -251,7 +257,7 @@ pub(crate) fn run_telling<S: Sink + Drop>(
         );
     }
     let traced = ready.run_traced(alloc, output, steps, wish_of(telling));
-    let told = told_of(alloc, telling, labels, &traced).ok();
+    let told = told_of(alloc, telling, labels, listing, &traced).ok();
     (traced.ran, told)
 }
 

@@ -186,6 +186,12 @@ pub(super) fn with_telling<'a>(
             "profile",
             "PRF",
             "Writes to PRF how often each instruction ran",
+        ))?
+        .arg(option(
+            alloc,
+            "list",
+            "LST",
+            "A listing, as `build --list` writes it, for PRF",
         ))
 }
 

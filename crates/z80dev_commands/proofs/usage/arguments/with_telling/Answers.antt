@@ -11,7 +11,8 @@ returns c =
     let two = with_argument _ _ _ _ (flag_rule (codes "regs")) c.in_ok-arg-2.ensures c.flag.ensures.rule c.flag.ensures.local one in
     let three = with_argument _ _ _ _ last_rule c.in_ok-arg-3.ensures c.last.ensures.rule c.last.ensures.local two in
     let four = with_argument _ _ _ _ (option_rule (codes "trace") (codes "TRC")) c.in_ok-arg-4.ensures c.option.ensures.rule c.option.ensures.local three in
+    let five = with_argument _ _ _ _ (option_rule (codes "profile") (codes "PRF")) c.in_ok-arg-5.ensures c.option-2.ensures.rule c.option-2.ensures.local four in
     record {
-      app = IfOk-weaker c.arg-5.result _ _ (λ new adds. (with_argument _ new _ _ (option_rule (codes "profile") (codes "PRF")) adds c.option-2.ensures.rule c.option-2.ensures.local four).0) c.arg-5.ensures;
-      local = IfOk-weaker c.arg-5.result _ _ (λ new adds. (with_argument _ new _ _ (option_rule (codes "profile") (codes "PRF")) adds c.option-2.ensures.rule c.option-2.ensures.local four).1) c.arg-5.ensures;
+      app = IfOk-weaker c.arg-6.result _ _ (λ new adds. (with_argument _ new _ _ (option_rule (codes "list") (codes "LST")) adds c.option-3.ensures.rule c.option-3.ensures.local five).0) c.arg-6.ensures;
+      local = IfOk-weaker c.arg-6.result _ _ (λ new adds. (with_argument _ new _ _ (option_rule (codes "list") (codes "LST")) adds c.option-3.ensures.rule c.option-3.ensures.local five).1) c.arg-6.ensures;
     }
