@@ -1,5 +1,5 @@
 -- The modules and the lines of a program, as its warnings show them.
-use Rattle.std.proofs.Common.{◌≡◌, ◌⊎◌, inl, inr, ◌+◌, ◌<◌, ℕ, Bool, List, [], ◌∷◌, ◌++◌, All, Vec, length, map, get_or, take, refl, sym, ap, subst, ◌∙◌}
+use Rattle.std.proofs.Common.{◌≡◌, ◌⊎◌, inl, inr, ◌+◌, ℕ, List, [], ◌∷◌, Vec, length, map, refl, sym, ap, ◌∙◌}
 use Rattle.std.specs.Global.{Global}
 use Rattle.std.specs.List.{AllZip, zip}
 use Rattle.zmo_module.specs.Modules.{module_of, statement_of}

@@ -6,3 +6,4 @@ pub mod Numbers
 pub mod Refused
 pub mod Written
 pub mod Held
+pub mod Warned_program

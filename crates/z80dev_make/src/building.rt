@@ -202,7 +202,8 @@ fn warnings_of(
     building: &Result<Built, BuildFault>,
     wanted: Wanted,
 ) -> Result<Vec<u8>, AllocError>
-    ensures { (behind : List Source) → AllZip (IsBehind front.entry) files.now behind → IsBuilt wanted.grow behind building.now → IfOk result (λ lines. AreWarnings wanted.warn front.entry files.now wanted.grow (jumps_of building.now) lines.items) }
+    requires { (behind : List Source) × AllZip (IsBehind front) files.now behind × IsBuilt wanted.grow behind building.now }
+    ensures { IfOk result (λ lines. AreWarnings wanted.warn front.entry files.now wanted.grow (jumps_of building.now) lines.items) }
 {
     match building {
         Ok(built) if wanted.warn => warn_built(alloc, front, files, built),

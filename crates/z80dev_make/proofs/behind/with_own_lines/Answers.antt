@@ -15,7 +15,7 @@ returns c =
       cert = refl;
       symbols = refl;
       grown = refl;
-    modules = refl;
+      modules = refl;
       lines = refl;
       statements =
           with_items_is c.args.built.statements c.number_origins.new.origins (ap length origins ∙ length-map c.deref_mut.result.now (earlier_origin all) ∙ c.deref_mut.ensures.len)
