@@ -1,5 +1,5 @@
 -- One more line of a trace.
-use Rattle.std.proofs.Common.{◌≡◌, ◌<◌, ◌+◌, ◌++◌, ◌∷◌, [], ℕ, List, length, take, sym, subst, get_or, arith}
+use Rattle.std.proofs.Common.{◌≡◌, ◌+◌, ◌++◌, ◌∷◌, [], ℕ, List, take, sym, subst}
 use Rattle.cpm_run.specs.declared.recording.TraceStep.{TraceStep}
 use Rattle.z80dev_run.specs.Labelled.{Known}
 use Rattle.z80dev_run.specs.Lines.{IsTrace, IsTraceLine}

@@ -1,5 +1,5 @@
 -- A listing with how often each line ran.
-use Rattle.std.specs.Prelude.{ℕ, ◌+◌, ◌*◌, ◌==◌, ◌&&◌, List, [], ◌∷◌, ◌++◌, Option, Some, None, Result, Ok, Err, codes, decimal, if◌then◌else◌, slice_index}
+use Rattle.std.specs.Prelude.{ℕ, ◌+◌, ◌*◌, ◌==◌, ◌&&◌, List, [], ◌∷◌, ◌++◌, Option, Some, None, Result, Ok, codes, decimal, if◌then◌else◌, slice_index}
 use Rattle.hex.specs.Hex.{decode_sized}
 use Rattle.z80dev_run.specs.Text.{blanks, on_right}
 

@@ -1,5 +1,5 @@
 -- The lines of a trace.
-use Rattle.std.specs.Prelude.{◌≡◌, ◌==◌, ℕ, Bool, List, [], ◌∷◌, ◌++◌, Result, Ok, Err, codes, decimal, if◌then◌else◌, length, take}
+use Rattle.std.specs.Prelude.{◌≡◌, ◌==◌, ℕ, List, [], ◌∷◌, ◌++◌, Result, Ok, Err, codes, decimal, if◌then◌else◌, take}
 use Rattle.hex.specs.Hex.{encode_upper}
 use Rattle.z80_cpu.specs.State.{af, bc, de, hl}
 use Rattle.z80_cpu.specs.declared.registers.Cpu.{Cpu}

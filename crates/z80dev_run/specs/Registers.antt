@@ -1,5 +1,5 @@
 -- What is printed of the machine at the end of a run.
-use Rattle.std.specs.Prelude.{ℕ, ◌+◌, ◌-◌, ◌%◌, ◌==◌, ◌&&◌, Bool, true, false, nat_le, nat_lt, List, [], ◌∷◌, ◌++◌, Option, Some, None, codes, drop, if◌then◌else◌, length, map, slice_get, take}
+use Rattle.std.specs.Prelude.{ℕ, ◌-◌, ◌%◌, ◌==◌, ◌&&◌, Bool, true, false, nat_le, nat_lt, List, [], ◌∷◌, ◌++◌, Option, Some, None, codes, drop, if◌then◌else◌, length, map, slice_get, take}
 use Rattle.z80_cpu.specs.Types.{Flags}
 use Rattle.z80_cpu.specs.State.{af, bc, de, hl, up_by, word_at}
 use Rattle.z80_cpu.specs.declared.registers.Cpu.{Cpu}

@@ -1,4 +1,4 @@
-use Rattle.std.proofs.Common.{◌≡◌, ◌<◌, ◌≤◌, ℕ, suc, length}
+use Rattle.std.proofs.Common.{◌≡◌, ◌<◌, ◌≤◌, ℕ, suc}
 use Rattle.std.specs.Prelude.{slice_index}
 use Rattle.z80dev_run.specs.Labelled.{last_below}
 use Rattle.z80dev_run.proofs.labels.fill.Given as goal

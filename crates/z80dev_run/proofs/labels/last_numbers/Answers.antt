@@ -1,4 +1,4 @@
-use Rattle.std.proofs.Common.{rules, ◌≡◌, ◌<◌, [], ap, arith, map, sym, ◌∙◌, length}
+use Rattle.std.proofs.Common.{rules, ◌≡◌, [], ap, arith, map, sym, ◌∙◌}
 use Rattle.std.specs.Prelude.{slice_index}
 use Rattle.std.proofs.lemmas.List.{length-set}
 use Rattle.z80dev_run.specs.Labelled.{last_at, parts_of}

@@ -1,4 +1,4 @@
-use Rattle.std.proofs.Common.{[], ◌++◌, ap, sym, subst, ◌∙◌, take, length, ◌<◌}
+use Rattle.std.proofs.Common.{[], ◌++◌, ap, sym, subst, ◌∙◌}
 use Rattle.std.proofs.lemmas.List.{take_more}
 use Rattle.z80dev_run.specs.Lines.{IsTrace}
 use Rattle.z80dev_run.specs.Lines.IsTrace.{none}

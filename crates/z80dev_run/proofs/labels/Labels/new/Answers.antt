@@ -1,4 +1,4 @@
-use Rattle.std.proofs.Common.{◌≡◌, ◌<◌, ℕ, ap, ◌∙◌, sym, length, map, subst}
+use Rattle.std.proofs.Common.{ap, ◌∙◌, length, map}
 use Rattle.std.specs.Prelude.{slice_index}
 use Rattle.z80dev_run.specs.Labelled.{last_at, parts_of}
 use Rattle.z80dev_run.proofs.Numbered.{numbered, whole}
