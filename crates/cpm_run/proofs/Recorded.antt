@@ -1,7 +1,6 @@
 -- What one more step changes in what is kept.
-use Rattle.std.proofs.Common.{◌≡◌, ◌≢◌, ◌<◌, ◌≤◌, ◌+◌, ◌-◌, ◌++◌, ◌∷◌, ◌^◌, [], ℕ, Bool, true, false, List, length, get_or, min, refl, sym, ap, ◌∙◌, arith, inl, inr, Result, Ok, Err, Vec, IfOk, take, drop, length-drop, length-append, get_or-set_other, get_or-set_same}
+use Rattle.std.proofs.Common.{◌≡◌, ◌≢◌, ◌<◌, ◌≤◌, ◌+◌, ◌-◌, ◌++◌, ◌∷◌, ◌^◌, [], ℕ, Bool, true, false, List, length, get_or, min, sym, ap, ◌∙◌, arith, inl, inr, Result, Ok, Err, Vec, IfOk, take, drop, length-drop, length-append, get_or-set_other, get_or-set_same}
 use Rattle.std.specs.Prelude.{◌==◌, if◌then◌else◌, slice_index, slice_set, replicate}
-use Rattle.std.specs.List.{count_by}
 use Rattle.std.proofs.lemmas.Bool.{cases_eq}
 use Rattle.std.proofs.lemmas.Bool.Decides.{nat_tests}
 use Rattle.std.specs.Global.{Global}
@@ -12,7 +11,7 @@ use Rattle.std.proofs.lemmas.List.Sums.{count_by-le-length, sum_by-append}
 use Rattle.cpm_run.specs.declared.recording.TraceStep.{TraceStep}
 use Rattle.cpm_run.specs.declared.recording.Record.{Record}
 use Rattle.cpm_run.specs.declared.recording.Wish.{Wish}
-use Rattle.cpm_run.specs.Records.{CountsAre, Keeps, KeepsAll, count_at}
+use Rattle.cpm_run.specs.Records.{CountsAre, KeepsAll, count_at}
 
 -- one more step counts at its own address
 count_more : (a : ℕ) (steps : List TraceStep) (s : TraceStep) → count_at a (steps ++ s ∷ []) ≡ count_at a steps + (if s.before.pc == a then 1 else 0)

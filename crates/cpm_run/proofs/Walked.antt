@@ -1,5 +1,5 @@
 -- The steps of a run, one by one, and their number.
-use Rattle.std.proofs.Common.{◌≡◌, ◌≢◌, ◌^◌, ◌<◌, ◌≤◌, ◌+◌, ◌++◌, ◌∷◌, ◌⊎◌, [], ℕ, true, false, List, Option, None, Some, length, length-append, ap, subst, sym, refl, ◌∙◌, inl, inr, arith}
+use Rattle.std.proofs.Common.{◌≡◌, ◌≢◌, ◌^◌, ◌<◌, ◌≤◌, ◌+◌, ◌++◌, ◌∷◌, [], ℕ, false, List, Option, None, Some, length, length-append, ap, subst, sym, refl, ◌∙◌, inl, inr, arith}
 use Rattle.z80_machine.specs.Turn.{bytes_at_pc}
 use Rattle.cpm_console.specs.Dialog.{Dialog}
 use Rattle.cpm_disk.specs.Image.{Image}

@@ -1,4 +1,3 @@
-use Rattle.std.proofs.Common.{◌≡◌, List, ℕ}
 use Rattle.cpm_run.proofs.Recorded.{none_counted}
 use Rattle.cpm_run.proofs.recording.no_counts.Goals as goal
 
