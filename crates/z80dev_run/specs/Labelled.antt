@@ -28,7 +28,7 @@ last_below number (suc address) = if number address == 0 then last_below number 
 abbrev pub label_number : List (ℕ × List ℕ) → ℕ → ℕ
 label_number labels address = last_below (last_at 0 0 labels) (suc address)
 
--- the label with this number, and how far behind it an address is
+-- the label with this number, and how many bytes after it an address is
 abbrev pub offset_from : List (ℕ × List ℕ) → ℕ → ℕ → Option (List ℕ × ℕ)
 offset_from labels address n = if n == 0 then None else option_map (λ label. (label.1, address - label.0)) (slice_get labels (n - 1))
 

@@ -63,10 +63,15 @@ place_text known step =
     on_right 8 (decimal step.number) ++ blanks 1 ++ column 4 (word_text step.before.pc) ++ column 12 (label_text (label_at known step.before.pc))
     ++ column 8 (encode_upper (take (shown_size (place_at_pc step.before.pc) step.bytes) step.bytes))
 
+-- what a step does, and the registers that it has changed, if any, in a column of their own
+abbrev pub done_text : List ℕ → List ℕ → List ℕ
+done_text text [] = text
+done_text text (byte ∷ bytes) = column 16 text ++ byte ∷ bytes
+
 -- The line of a step: its place, what it does, and the registers that it has changed.
 abbrev pub IsTraceLine : Known → TraceStep → List ℕ → Type 0
 IsTraceLine known step line =
-    (text : List ℕ) × ShowsAt (place_at_pc step.before.pc) step text × (line ≡ place_text known step ++ column 16 text ++ changes step.before step.after ++ codes "\n")
+    (text : List ℕ) × ShowsAt (place_at_pc step.before.pc) step text × (line ≡ place_text known step ++ done_text text (changes step.before step.after) ++ codes "\n")
 
 -- The lines of these steps, one after the other.
 pub data IsTrace (known : Known) : List TraceStep → List ℕ → Type 0 where

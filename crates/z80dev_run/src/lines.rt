@@ -5,7 +5,7 @@ ghost use Rattle.cpm_run.specs.Turns.{place_at_pc};
 ghost use Rattle.hex.specs.Hex.{encode_upper};
 ghost use Rattle.z80dev_run.specs.Labelled.{label_at, label_text};
 ghost use Rattle.z80dev_run.specs.Text.{word_text};
-ghost use Rattle.z80dev_run.specs.Lines.{IsTrace, IsTraceLine, ShowsAt, change_text, changes, index_changes, main_changes, other_changes, place_text, shadow_changes, shown_size};
+ghost use Rattle.z80dev_run.specs.Lines.{IsTrace, IsTraceLine, ShowsAt, change_text, changes, done_text, index_changes, main_changes, other_changes, place_text, shadow_changes, shown_size};
 
 use crate::labels::Labels;
 use crate::text::{put_blanks, put_column, put_number, put_word};
@@ -176,15 +176,29 @@ fn put_place(
     put_column(out, 8, &byte_digits(alloc, step)?)
 }
 
+/// Appends what a step does, and the registers that it has changed, if any, in a column of their own.
+fn put_done(out: &mut Vec<u8>, text: &[u8], changes: &[u8]) -> Result<(), AllocError>
+    ensures { OnOk result (out.new.items ≡ out.old.items ++ done_text text.now changes.now) }
+{
+    match changes {
+        [] => out.extend_from_slice(text),
+        [_, ..] => {
+            put_column(out, 16, text)?;
+            out.extend_from_slice(changes)
+        }
+    }
+}
+
 /// Answers the line of a step.
 fn line_of(alloc: Global, step: &TraceStep, labels: &Labels) -> Result<Vec<u8>, AllocError>
     ensures { IfOk result (λ line. IsTraceLine labels.now step.now line.items) }
 {
     let text = shown(alloc, step)?;
+    let mut changes = Vec::new(alloc);
+    put_changes(alloc, &mut changes, &step.before, &step.after)?;
     let mut line = Vec::new(alloc);
     put_place(alloc, &mut line, step, labels)?;
-    put_column(&mut line, 16, text.as_bytes())?;
-    put_changes(alloc, &mut line, &step.before, &step.after)?;
+    put_done(&mut line, text.as_bytes(), &changes)?;
     line.push(b'\n')?;
     Ok(line)
 }
