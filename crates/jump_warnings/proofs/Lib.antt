@@ -1,2 +1,3 @@
 pub mod Nearest
 pub mod One_more
+pub mod Distances

@@ -2,6 +2,7 @@
 #![tactic(auto)]
 
 mod entries;
+pub mod laws;
 mod near;
 mod offsets;
 mod overs;
