@@ -1,5 +1,5 @@
 -- Words for the laws about distances.
-use Rattle.std.specs.Prelude.{ℕ, ◌+◌, Bool, List, [], ◌∷◌, if◌then◌else◌}
+use Rattle.std.specs.Prelude.{ℕ, ◌+◌, Bool, [], ◌∷◌, if◌then◌else◌}
 use Rattle.std.specs.Option.{option_map_or}
 use Rattle.jump_warnings.specs.declared.part.Site.{Site}
 use Rattle.jump_warnings.specs.Jumps.{Sizes}

@@ -7,3 +7,4 @@ pub mod Refused
 pub mod Written
 pub mod Held
 pub mod Warned_program
+pub mod By_kind

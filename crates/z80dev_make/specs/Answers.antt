@@ -1,5 +1,5 @@
 -- What the commands that make programs answer.
-use Rattle.std.specs.Prelude.{◌≡◌, ℕ, List, [], ◌∷◌, ◌++◌, Some}
+use Rattle.std.specs.Prelude.{◌≡◌, ℕ, Bool, true, false, List, [], ◌∷◌, ◌++◌, Some, map, take}
 use Rattle.zlink.specs.declared.fault.LinkFault.{LinkFault}
 use Rattle.zlink.specs.declared.fault.LinkFault.TheVariants as link
 use Rattle.zlink.specs.declared.source.Source.{Source}
@@ -28,6 +28,18 @@ text_files sizes cert = (kind.Sizes, sizes) ∷ (kind.Certificate, cert) ∷ []
 -- the sizes file, the certificate and the .COM file of a program
 abbrev pub program_files : List ℕ → List ℕ → List ℕ → List (Kind × List ℕ)
 program_files sizes cert file = text_files sizes cert ++ (kind.Com, file) ∷ []
+
+-- the kinds of these files, and with `list` those of the listing and the symbols, in the order in which they are written
+abbrev pub program_kinds : Bool → List Kind
+program_kinds false = kind.Sizes ∷ kind.Certificate ∷ kind.Com ∷ []
+program_kinds true = kind.Sizes ∷ kind.Certificate ∷ kind.Com ∷ kind.Listing ∷ kind.Symbols ∷ []
+
+abbrev pub kinds_of : Answer → List Kind
+kinds_of answer = map (λ f. f.0) answer.files
+
+-- The files to write are of these kinds, in this order, or they are only the first of them or none.
+abbrev pub HasKinds : List Kind → Answer → Type 0
+HasKinds kinds answer = (count : ℕ) × (kinds_of answer ≡ take count kinds)
 
 -- what is answered if modules make no program; if no choice of jumps fits, the sizes file and the certificate are written all the same
 abbrev pub no_program : LinkFault → Answer

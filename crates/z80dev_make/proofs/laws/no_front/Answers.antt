@@ -1,4 +1,4 @@
-use Rattle.z80dev_make.proofs.Faulty.{faultless, no_lines, no_text}
+use Rattle.z80dev_make.proofs.Faulty.{faultless, no_lines, no_text, same_fault}
 use Rattle.z80dev_make.proofs.laws.no_front.Goals as goal
 
 pub returns-clause-text : goal.returns-clause-text
@@ -9,3 +9,6 @@ returns-clause-lines c = no_lines
 
 pub returns-clause-faultless : goal.returns-clause-faultless
 returns-clause-faultless c = faultless
+
+pub returns-clause-faults : goal.returns-clause-faults
+returns-clause-faults c = same_fault
