@@ -1,0 +1,9 @@
+use Rattle.debugger.specs.Walk.{never}
+use Rattle.debugger.proofs.Going.{begun, none_kept}
+use Rattle.debugger.proofs.history.History.new.Goals as goal
+
+pub invariant_of-result : goal.invariant_of-result
+invariant_of-result c = record {
+  kept_are = none_kept c.new-start.result c.new.result.states.items c.new.ensures;
+  now_is = begun never c.new-start.result c.in_ok-copied.field-0 c.first-point.result c.first-point.ensures c.in_ok-copied.ensures;
+}

@@ -1,0 +1,31 @@
+-- What a debugger does to what it shows.
+use Rattle.std.specs.Prelude.{◌≡◌, ◌≢◌, ◌+◌, ◌<◌, ◌≤◌, ◌⊎◌, ℕ, Bool, true, List, None, Ok}
+use Rattle.z80_cpu.specs.State.{machine}
+use Rattle.z80_cpu.specs.declared.registers.Cpu.{Cpu}
+use Rattle.cpm_bdos.specs.System.{new_system}
+use Rattle.cpm_console.specs.Dialog.{Dialog}
+use Rattle.cpm_disk.specs.Calls.{Mounted}
+use Rattle.cpm_disk.specs.Image.{Image}
+use Rattle.cpm_run.specs.Start.{IsStart}
+use Rattle.debugger.specs.declared.history.Outcome.{Outcome}
+use Rattle.debugger.specs.declared.history.Outcome.TheVariants as outcome
+use Rattle.debugger.specs.Walk.{IsNext, Leads, Point, Shown, State, first}
+
+-- the beginning of a program with its words, on a disk and a console
+abbrev pub Begins : List ℕ → List (List ℕ) → Mounted Image → Dialog → Shown → Type 0
+Begins file words disk console shown =
+    (cpu : Cpu) × (memory : List ℕ) × IsStart file words (Ok (cpu, memory))
+    × (shown.start ≡ record { machine = machine cpu memory; system = new_system disk console }) × (shown.turn ≡ 0) × (shown.point ≡ first shown.start)
+
+-- The point after the number of turns that was asked for is shown, or the last point of the run, if it ends before.
+abbrev pub Reaches : ℕ → Shown → Type 0
+Reaches turn new = (new.turn ≡ turn) ⊎ ((new.turn < turn) × (new.point.end ≢ None))
+
+-- The turns that were made from one point to another. The test holds for the last of them and for no other; or it holds for none, and the
+-- run has ended or all turns that are allowed were made.
+abbrev pub Ran : (State → State → Bool) → ℕ → Shown → Shown → Outcome → Type 0
+Ran test limit old new outcome.Held =
+    (before : ℕ) × (last : Point) × (before < limit) × (new.turn ≡ old.turn + before + 1)
+    × Leads test before old.point last × IsNext last new.point × (test last.state new.point.state ≡ true)
+Ran test limit old new outcome.Ended = (turns : ℕ) × (turns ≤ limit) × (new.turn ≡ old.turn + turns) × Leads test turns old.point new.point × (new.point.end ≢ None)
+Ran test limit old new outcome.Limit = (new.turn ≡ old.turn + limit) × Leads test limit old.point new.point

@@ -1,0 +1,319 @@
+//! The commands of a session.
+
+use crate::stops::{Breakpoint, Condition, RegisterName};
+use asm_scan::{Kind, ScanFault, tokens};
+use std::alloc::{AllocError, Global};
+
+/// A name of the program's labels file, with its address.
+#[derive(Clone, Copy, Debug)]
+pub struct Symbol<'a> {
+    pub address: u16,
+    pub name: &'a [u8],
+}
+
+/// The labels of a program.
+#[derive(Clone, Copy, Debug)]
+pub struct Labels<'a> {
+    /// In any order.
+    pub symbols: &'a [Symbol<'a>],
+    /// The number of bytes of the program. An address beyond it has no label.
+    pub program_len: usize,
+}
+
+/// What a line asks for.
+#[derive(Clone, Copy, Debug, PartialEq, Eq)]
+pub enum Command {
+    /// Make this number of turns.
+    Step(u64),
+    /// Go back by this number of turns.
+    Back(u64),
+    /// Go to the state after this number of turns.
+    Turn(u64),
+    /// Go on to a breakpoint, a watched byte, this address, or the end.
+    Run(Option<u16>),
+    /// Go on by one turn, or to the return from the call at PC.
+    Next,
+    /// Go on to the return address on top of the stack.
+    Finish,
+    /// Go back to the last turn at which a breakpoint or a watched byte held.
+    BackRun,
+    /// Stop at an address from now on.
+    Break(Breakpoint),
+    /// Stop at turns that change one of these bytes.
+    Watch(u16, u16),
+    /// Forget all breakpoints and watched bytes.
+    Delete,
+    /// Show the registers.
+    Registers,
+    /// Show bytes of memory.
+    Memory(u16, u16),
+    /// Show what the program has printed.
+    Output,
+    /// Show instructions.
+    Disassemble(u16, u16),
+    /// Show the words on top of the stack.
+    Stack,
+    /// Show the last turn that changed a byte.
+    Who(u16),
+    /// Show the commands.
+    Help,
+    /// End the session.
+    Quit,
+}
+
+/// The first word of a command.
+#[derive(Clone, Copy, PartialEq, Eq)]
+enum Verb {
+    Step,
+    Back,
+    Turn,
+    Run,
+    Next,
+    Finish,
+    BackRun,
+    Break,
+    Watch,
+    Delete,
+    Registers,
+    Memory,
+    Disassemble,
+    Stack,
+    Output,
+    Who,
+    Help,
+    Quit,
+}
+
+const VERBS: [(&str, Verb); 18] = [
+    ("step", Verb::Step),
+    ("back", Verb::Back),
+    ("turn", Verb::Turn),
+    ("run", Verb::Run),
+    ("next", Verb::Next),
+    ("finish", Verb::Finish),
+    ("back-run", Verb::BackRun),
+    ("break", Verb::Break),
+    ("watch", Verb::Watch),
+    ("delete", Verb::Delete),
+    ("regs", Verb::Registers),
+    ("mem", Verb::Memory),
+    ("dis", Verb::Disassemble),
+    ("stack", Verb::Stack),
+    ("output", Verb::Output),
+    ("who", Verb::Who),
+    ("help", Verb::Help),
+    ("quit", Verb::Quit),
+];
+
+const REGISTERS: [(&str, RegisterName); 14] = [
+    ("A", RegisterName::A),
+    ("B", RegisterName::B),
+    ("C", RegisterName::C),
+    ("D", RegisterName::D),
+    ("E", RegisterName::E),
+    ("H", RegisterName::H),
+    ("L", RegisterName::L),
+    ("AF", RegisterName::Af),
+    ("BC", RegisterName::Bc),
+    ("DE", RegisterName::De),
+    ("HL", RegisterName::Hl),
+    ("IX", RegisterName::Ix),
+    ("IY", RegisterName::Iy),
+    ("SP", RegisterName::Sp),
+];
+
+/// The bytes that `mem` shows without a number.
+const SHOWN_BYTES: u16 = 16;
+
+/// The instructions that `dis` shows without a number.
+const SHOWN_INSTRUCTIONS: u16 = 8;
+
+fn verb_of(word: &str) -> Option<Verb> {
+    for (name, verb) in &VERBS {
+        if *name == word {
+            return Some(*verb);
+        }
+    }
+    None
+}
+
+fn register_of(word: &str) -> Option<RegisterName> {
+    for (name, register) in &REGISTERS {
+        if name.eq_ignore_ascii_case(word) {
+            return Some(*register);
+        }
+    }
+    None
+}
+
+/// A number of the language, if the word is one.
+fn number_of(alloc: Global, word: &str) -> Result<Option<u16>, AllocError> {
+    let found = match tokens(alloc, word.as_bytes()) {
+        Ok(found) => found,
+        Err(ScanFault::NoMemory) => return Err(AllocError),
+        Err(_) => return Ok(None),
+    };
+    let [token] = found.as_slice() else {
+        return Ok(None);
+    };
+    match token.kind {
+        Kind::Number(n) if token.text == word.as_bytes() => Ok(Some(n)),
+        _ => Ok(None),
+    }
+}
+
+/// The address of the first label with this name, in upper or lower case.
+fn labelled(word: &str, symbols: &[Symbol<'_>]) -> Option<u16> {
+    for symbol in symbols {
+        if symbol.name.eq_ignore_ascii_case(word.as_bytes()) {
+            return Some(symbol.address);
+        }
+    }
+    None
+}
+
+/// The address that a word is: a number of the language, or a label.
+fn address_of(
+    alloc: Global,
+    word: &str,
+    symbols: &[Symbol<'_>],
+) -> Result<Option<u16>, AllocError> {
+    Ok(number_of(alloc, word)?.or(labelled(word, symbols)))
+}
+
+/// A number of turns.
+fn count_of(word: &str) -> Option<u64> {
+    word.parse::<u64>().ok()
+}
+
+/// The condition `REG=VALUE`.
+fn condition_of(
+    alloc: Global,
+    word: &str,
+    symbols: &[Symbol<'_>],
+) -> Result<Option<Condition>, AllocError> {
+    let Some((name, value)) = word.split_once('=') else {
+        return Ok(None);
+    };
+    let value = address_of(alloc, value, symbols)?;
+    Ok(match (register_of(name), value) {
+        (Some(register), Some(value)) => Some(Condition { register, value }),
+        _ => None,
+    })
+}
+
+/// A command of turns, with its number or 1.
+fn counted(verb: Verb, words: &[&str]) -> Option<Command> {
+    let count = match words {
+        [] => 1,
+        [word] => count_of(word)?,
+        _ => return None,
+    };
+    match verb {
+        Verb::Step => Some(Command::Step(count)),
+        Verb::Back => Some(Command::Back(count)),
+        Verb::Turn if !words.is_empty() => Some(Command::Turn(count)),
+        _ => None,
+    }
+}
+
+/// A command without further words.
+fn alone(verb: Verb, words: &[&str]) -> Option<Command> {
+    if !words.is_empty() {
+        return None;
+    }
+    match verb {
+        Verb::Run => Some(Command::Run(None)),
+        Verb::Next => Some(Command::Next),
+        Verb::Finish => Some(Command::Finish),
+        Verb::BackRun => Some(Command::BackRun),
+        Verb::Delete => Some(Command::Delete),
+        Verb::Registers => Some(Command::Registers),
+        Verb::Stack => Some(Command::Stack),
+        Verb::Output => Some(Command::Output),
+        Verb::Help => Some(Command::Help),
+        Verb::Quit => Some(Command::Quit),
+        _ => None,
+    }
+}
+
+/// A command with an address, and with a number of bytes or a condition.
+fn addressed(
+    alloc: Global,
+    verb: Verb,
+    words: &[&str],
+    symbols: &[Symbol<'_>],
+) -> Result<Option<Command>, AllocError> {
+    let Some((first, more)) = words.split_first() else {
+        return Ok(None);
+    };
+    let Some(address) = address_of(alloc, first, symbols)? else {
+        return Ok(None);
+    };
+    match more {
+        [] => Ok(at_address(verb, address)),
+        [word] => Ok(number_of(alloc, word)?.and_then(|n| at_bytes(verb, address, n))),
+        [word, test] if *word == "if" && verb == Verb::Break => {
+            let condition = condition_of(alloc, test, symbols)?;
+            Ok(condition.map(|c| {
+                Command::Break(Breakpoint {
+                    address,
+                    condition: Some(c),
+                })
+            }))
+        }
+        _ => Ok(None),
+    }
+}
+
+/// A command with an address.
+fn at_address(verb: Verb, address: u16) -> Option<Command> {
+    match verb {
+        Verb::Run => Some(Command::Run(Some(address))),
+        Verb::Break => Some(Command::Break(Breakpoint {
+            address,
+            condition: None,
+        })),
+        Verb::Watch => Some(Command::Watch(address, 1)),
+        Verb::Memory => Some(Command::Memory(address, SHOWN_BYTES)),
+        Verb::Disassemble => Some(Command::Disassemble(address, SHOWN_INSTRUCTIONS)),
+        Verb::Who => Some(Command::Who(address)),
+        _ => None,
+    }
+}
+
+/// A command with an address and a number of bytes.
+fn at_bytes(verb: Verb, address: u16, count: u16) -> Option<Command> {
+    match verb {
+        Verb::Watch => Some(Command::Watch(address, count)),
+        Verb::Memory => Some(Command::Memory(address, count)),
+        Verb::Disassemble => Some(Command::Disassemble(address, count)),
+        _ => None,
+    }
+}
+
+/// The command that a line is; `None` if it is not one.
+pub(crate) fn command_of(
+    alloc: Global,
+    line: &str,
+    symbols: &[Symbol<'_>],
+) -> Result<Option<Command>, AllocError> {
+    let mut words = Vec::new(alloc);
+    for word in line.split_ascii_whitespace() {
+        words.push(word)?;
+    }
+    let Some((first, more)) = words.split_first() else {
+        return Ok(None);
+    };
+    let Some(verb) = verb_of(first) else {
+        return Ok(None);
+    };
+    match verb {
+        Verb::Step | Verb::Back | Verb::Turn => Ok(counted(verb, more)),
+        Verb::Run if !more.is_empty() => addressed(alloc, verb, more, symbols),
+        Verb::Break | Verb::Watch | Verb::Memory | Verb::Disassemble | Verb::Who => {
+            addressed(alloc, verb, more, symbols)
+        }
+        _ => Ok(alone(verb, more)),
+    }
+}

@@ -1,0 +1,69 @@
+//! Debugs a program.
+
+ghost use Rattle.std.specs.Prelude.{◌≡◌, ◌≤◌, false, map};
+ghost use Rattle.debugger.specs.Conversation.{Debugs};
+
+use crate::command::Labels;
+use crate::conversation::{Broken, MOST_READS, converse};
+use crate::history::History;
+use crate::session::Session;
+use cpm_console::MemoryConsole;
+use cpm_disk::Disk;
+use cpm_image::MemoryImage;
+use cpm_run::StartFault;
+use std::alloc::Global;
+use streams::{Input, Sink};
+
+/// A program with its words, its disk, and what is typed.
+#[derive(Drop)]
+pub struct Program<'a> {
+    pub file: &'a [u8],
+    pub words: &'a [&'a [u8]],
+    pub disk: Disk<MemoryImage>,
+    pub typed: Vec<u8>,
+}
+
+/// Why a program was not debugged to the end of the commands.
+#[derive(Clone, Copy, Debug, PartialEq, Eq)]
+pub enum DebugFault {
+    /// The program cannot be started. No command was read.
+    Start(StartFault),
+    /// The conversation broke.
+    Broken(Broken),
+}
+
+/// Starts a program, reads commands, a line each, to `quit` or to the end of the input, and prints each answer before more is read. The
+/// disk and its copies are in memory.
+///
+/// # Errors
+///
+/// [`DebugFault::Start`] with the error of [`cpm_run::start`]; then [`DebugFault::Broken`] as [`converse`] answers it.
+pub fn debug<I: Input, O: Sink>(
+    alloc: Global,
+    program: Program<'_>,
+    labels: Labels<'_>,
+    commands: &mut I,
+    output: &mut O,
+) -> Result<(), DebugFault>
+    requires sound { I.failed commands.old ≡ false }
+    requires unread { I.reads commands.old ≡ 0 }
+    ensures debugs { Debugs program.entry.file.now (map (λ w. w.now) program.entry.words.now) (O.stream output.old) (O.stream output.new) (I.failed commands.new) (I.reads commands.new) result }
+    ensures reads { I.reads commands.new ≤ MOST_READS }
+{
+    let Program {
+        file,
+        words,
+        disk,
+        typed,
+    } = program;
+    let console = MemoryConsole::new(alloc, typed);
+    let history = match History::new(alloc, file, words, disk, console) {
+        Ok(history) => history,
+        Err(fault) => return Err(DebugFault::Start(fault)),
+    };
+    let mut session = Session::new(alloc, history, labels);
+    match converse(alloc, &mut session, commands, output) {
+        Ok(()) => Ok(()),
+        Err(broken) => Err(DebugFault::Broken(broken)),
+    }
+}

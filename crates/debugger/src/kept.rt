@@ -1,0 +1,106 @@
+//! The states that a history keeps.
+
+ghost use Rattle.std.specs.Prelude.{◌≡◌, IfSome, None};
+
+use crate::point::Point;
+use crate::snapshot::Snapshot;
+use std::alloc::Global;
+
+/// The most states that are kept. Their memories have 4 MB together.
+const MOST_KEPT: usize = 64;
+
+/// The distance of the first states that are kept. It is doubled whenever they have become too many.
+const FIRST_DISTANCE: u64 = 1_024;
+
+/// A state in which a run has not ended, with its number.
+#[derive(Drop)]
+pub(crate) struct Kept {
+    pub turn: u64,
+    pub snapshot: Snapshot,
+}
+
+/// A copy of the state of a point in which the run has not ended, if there is memory for it.
+fn going_copy(alloc: Global, point: &Point) -> Option<Snapshot>
+    ensures { IfSome result (λ snapshot. (snapshot ≡ point.now.state) × (point.now.end ≡ None)) }
+{
+    match point.end() {
+        Some(_) => None,
+        None => point.snapshot().copied(alloc).ok(),
+    }
+}
+
+/// States of one run, in their order. All their numbers are multiples of the distance.
+#[derive(Drop)]
+pub(crate) struct Keeper {
+    pub states: Vec<Kept>,
+    distance: u64,
+}
+
+impl Keeper {
+    ghost use Rattle.std.specs.Prelude.{◌≡◌, ◌≤◌, [], All, IfSome};
+    ghost use Rattle.debugger.specs.Private.Kept.{IsKept};
+    ghost use Rattle.debugger.specs.Walk.{IsAfter, State};
+
+    /// A keeper of no states.
+    pub(crate) fn new(alloc: Global) -> Keeper
+        ensures { result.states.items ≡ [] }
+    {
+        Keeper {
+            states: Vec::new(alloc),
+            distance: FIRST_DISTANCE,
+        }
+    }
+
+    /// Leaves out every second state.
+    fn thin(&mut self)
+        ensures { (start : State) → All (IsKept start) self.old.states.items → All (IsKept start) self.new.states.items }
+    {
+        let distance = self.distance.saturating_mul(2);
+        self.distance = distance;
+        self.states
+            .retain(|kept| kept.turn.checked_rem(distance) == Some(0));
+    }
+
+    /// Whether a state with this number is to be kept: it is a multiple of the distance, and after those that are kept.
+    fn wants(&self, turn: u64) -> bool {
+        turn.checked_rem(self.distance) == Some(0)
+            && self.states.last().is_none_or(|kept| kept.turn < turn)
+    }
+
+    /// Leaves out every second state if there are too many for one more.
+    fn make_room(&mut self)
+        ensures { (start : State) → All (IsKept start) self.old.states.items → All (IsKept start) self.new.states.items }
+    {
+        if self.states.len() >= MOST_KEPT {
+            self.thin();
+        }
+    }
+
+    /// Keeps a copy of a state, if one is to be kept and there is memory for it. Without it, going back takes longer.
+    pub(crate) fn keep(&mut self, alloc: Global, turn: u64, point: &Point)
+        ensures { (start : State) → All (IsKept start) self.old.states.items → IsAfter start turn point.now → All (IsKept start) self.new.states.items }
+    {
+        if !self.wants(turn) {
+            return;
+        }
+        let Some(snapshot) = going_copy(alloc, point) else {
+            return;
+        };
+        self.make_room();
+        let _ = self.states.push(Kept { turn, snapshot });
+    }
+
+    /// The latest state that is kept up to this number.
+    pub(crate) fn latest(&self, turn: u64) -> Option<&Kept>
+        ensures within { IfSome result (λ kept. kept.now.turn ≤ turn) }
+        ensures known { (start : State) → All (IsKept start) self.now.states.items → IfSome result (λ kept. IsKept start kept.now) }
+    {
+        let mut latest = None;
+        for kept in &self.states {
+            if kept.turn <= turn {
+                latest = Some(kept);
+            }
+        }
+        latest
+    }
+}

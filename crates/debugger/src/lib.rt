@@ -1,0 +1,26 @@
+//! A debugger for programs of CP/M 2.2 that goes forwards and backwards.
+//!
+//! [`debug`] debugs a program: it reads commands and prints the answers. [`History`] shows the state of a run after any number of turns. [`Session`] answers commands, a line each.
+#![tactic(auto)]
+
+mod command;
+mod conversation;
+mod debugging;
+mod history;
+mod kept;
+pub mod laws;
+mod point;
+mod session;
+mod snapshot;
+mod stops;
+mod text;
+
+pub use command::{Command, Labels, Symbol};
+pub use conversation::{Broken, MOST_READS, converse};
+pub use cpm_run::{StartFault, Why};
+pub use debugging::{DebugFault, Program, debug};
+pub use history::{History, Outcome};
+pub use point::Point;
+pub use session::{MOST_TURNS, Session};
+pub use snapshot::Snapshot;
+pub use stops::{Breakpoint, Condition, RegisterName, Stops};
