@@ -16,7 +16,7 @@ use Rattle.z80dev_commands.specs.declared.job.Attribute.TheVariants.{ReadOnly, S
 use Rattle.z80dev_commands.specs.declared.job.DiskJob.{DiskJob}
 use Rattle.z80dev_commands.specs.declared.job.DiskJob.TheVariants as on
 use Rattle.z80dev_commands.specs.declared.job.Job.{Job}
-use Rattle.z80dev_commands.specs.declared.job.Job.TheVariants.{Pipe, Asm, Link, Build, Check, Dis, Disk, Run}
+use Rattle.z80dev_commands.specs.declared.job.Job.TheVariants.{Pipe, Asm, Link, Build, Check, Dis, Disk, Run, Debug}
 use Rattle.z80dev_commands.specs.declared.job.Manner.{Manner}
 use Rattle.z80dev_commands.specs.declared.job.Shared.{Shared}
 use Rattle.z80dev_commands.specs.declared.job.Target.{Target}
@@ -170,6 +170,11 @@ abbrev pub run_shape : Shape
 run_shape = with_rules (codes "run")
     (option_rule (codes "disk") (codes "IMG") ∷ flag_rule (codes "no-lock") ∷ steps_rule ∷ (telling_rules ++ (path_rule (codes "COM") ∷ words_rule (codes "WORD") ∷ [])))
 
+-- `debug [--disk IMG] [--input FILE] [--labels SYM] COM [WORD..]`
+abbrev pub debug_shape : Shape
+debug_shape = with_rules (codes "debug") (option_rule (codes "disk") (codes "IMG") ∷ option_rule (codes "input") (codes "FILE") ∷ labels_rule
+    ∷ path_rule (codes "COM") ∷ words_rule (codes "WORD") ∷ [])
+
 -- the command `z80dev` without its commands: its help and its version
 abbrev pub bare : App
 bare = record { top = record (new_shape (codes "z80dev")) { disable_help_subcommand = true; has_version = true }; subs = [] }
@@ -182,10 +187,10 @@ programs = with_subcommand (with_subcommand (with_subcommand (with_subcommand (w
 abbrev pub with_files : App
 with_files = with_subcommand (with_subcommand (with_subcommand (with_subcommand (with_subcommand programs dir_shape) put_shape) get_shape) erase_shape) rename_shape
 
--- with the other commands on disks, and with `run`
+-- with the other commands on disks, and with `run` and `debug`
 abbrev pub z80dev : App
-z80dev = with_subcommand (with_subcommand (with_subcommand (with_subcommand (with_subcommand with_files (protect_shape (codes "protect"))) (protect_shape (codes "unprotect"))) check_disk_shape)
-    blank_shape) run_shape
+z80dev = with_subcommand (with_subcommand (with_subcommand (with_subcommand (with_subcommand (with_subcommand with_files (protect_shape (codes "protect"))) (protect_shape (codes "unprotect")))
+    check_disk_shape) blank_shape) run_shape) debug_shape
 
 -- ---- jobs
 
@@ -319,6 +324,9 @@ IsJobOf met (Dis dis) = Meets met (codes "dis") (λ rows. FindsIfGiven (codes "S
 IsJobOf met (Disk job) = IsDiskJobOf met job
 IsJobOf met (Run run) = Meets met (codes "run") (λ rows. FindsIfGiven (codes "IMG") run.disk rows
     × FindsLock run.lock rows × FindsNumber (codes "N") run.steps rows × FindsTelling run.telling rows × HasValue (codes "COM") run.program rows × FindsAny (codes "WORD") run.words.items rows)
+IsJobOf met (Debug debugging) = Meets met (codes "debug") (λ rows. FindsIfGiven (codes "IMG") debugging.disk rows
+    × FindsIfGiven (codes "FILE") debugging.input rows × FindsIfGiven (codes "SYM") debugging.labels rows × HasValue (codes "COM") debugging.program rows
+    × FindsAny (codes "WORD") debugging.words.items rows)
 
 -- The words are parsed without an error, and the job is that of the command that they name, with the values that the parse found.
 abbrev pub IsJob : List Text → Job → Type 0

@@ -225,6 +225,25 @@ already.
 
 Example: z80dev blank --keep a.img";
 
+pub(crate) const DEBUG: &str =
+    r"Reads COM and then commands from standard input, a line each, and prints an
+answer to each before it reads the next. The commands step, next, finish and run
+make steps of the program, back, back-run and turn go back to an earlier state,
+and break, watch and who find the place. `help` prints all of them, and `quit`
+ends the session.
+
+Nothing is written: what the program writes to its disk is gone at the end. What
+it prints is shown after `| `. What it gets as typed comes from FILE, with each
+line end as one CR. With --labels, an address may be given as a label of SYM, and
+is printed with the label before it.
+
+The status is 0 at the end of the commands, and 1 with a line `error: ..` if the
+program is too long, its words are, IMG is not an image of a disk, or SYM is not
+a file of labels.
+
+Example: z80dev debug --labels game.sym game.com
+prompts for nothing; type step, regs, back, help or quit.";
+
 pub(crate) const RUN: &str =
     r"Reads IMG, COM and all of standard input, which is what the program gets as its
 typed input, and only then starts the program. At a terminal, press Ctrl-D to

@@ -251,6 +251,21 @@ pub struct Run<'a> {
     pub words: Vec<&'a str>,
 }
 
+/// `debug`: debugs a program.
+#[derive(Drop)]
+pub struct Debugging<'a> {
+    /// The path of the image of its disk, if one is given. It is not written.
+    pub disk: Option<&'a str>,
+    /// The path of the file with what is typed, if one is given.
+    pub input: Option<&'a str>,
+    /// The path of a file of labels, if one is given.
+    pub labels: Option<&'a str>,
+    /// The path of the .COM file.
+    pub program: &'a str,
+    /// The words of the program's command line.
+    pub words: Vec<&'a str>,
+}
+
 /// The job that the words ask for.
 #[derive(Drop)]
 pub enum Job<'a> {
@@ -263,4 +278,5 @@ pub enum Job<'a> {
     Dis(Dis<'a>),
     Disk(DiskJob<'a>),
     Run(Run<'a>),
+    Debug(Debugging<'a>),
 }

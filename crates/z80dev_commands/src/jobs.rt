@@ -6,7 +6,7 @@ ghost use Rattle.z80dev_commands.specs.Commands.{HasValue, FindsAll, FindsAny, F
 ghost use Rattle.z80dev_commands.specs.Private.{AreFound, HasTarget, IsFlag, IsNumber, IsRefused};
 
 use crate::job::{
-    Asm, Attribute, Blank, Build, Check, Dir, Dis, DiskJob, Erase, Get, GetAll, Job, Link, Manner,
+    Asm, Attribute, Blank, Build, Check, Debugging, Dir, Dis, DiskJob, Erase, Get, GetAll, Job, Link, Manner,
     Protect, Put, PutAll, Rename, Run, Shared, Target, Telling,
 };
 use crate::usage;
@@ -407,6 +407,19 @@ fn run<'a>(alloc: Global, found: &ArgMatches<'a>) -> Result<Job<'a>, AllocError>
     }))
 }
 
+fn debug<'a>(alloc: Global, found: &ArgMatches<'a>) -> Result<Job<'a>, AllocError>
+    requires { AreFound (codes "debug") (rows_of (found_of found.now)) }
+    ensures { IfOk result (IsJobOf (Some (codes "debug", rows_of (found_of found.now)))) }
+{
+    Ok(Job::Debug(Debugging {
+        disk: text_if_given(found, "IMG"),
+        input: text_if_given(found, "FILE"),
+        labels: text_if_given(found, "SYM"),
+        program: text(found, "COM"),
+        words: texts_if_given(alloc, found, "WORD")?,
+    }))
+}
+
 /// The job of the command with this name.
 pub(crate) fn job<'a>(alloc: Global, name: &str, found: &ArgMatches<'a>) -> Result<Job<'a>, Error>
     requires { AreFound name.now (rows_of (found_of found.now)) }
@@ -428,6 +441,7 @@ pub(crate) fn job<'a>(alloc: Global, name: &str, found: &ArgMatches<'a>) -> Resu
         "check-disk" => Ok(check_disk(found)),
         "blank" => Ok(blank(found)),
         "run" => Ok(run(alloc, found)?),
+        "debug" => Ok(debug(alloc, found)?),
         _ => unreachable!(),
     }
 }

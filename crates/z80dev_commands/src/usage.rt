@@ -5,7 +5,7 @@ mod arguments;
 ghost use Rattle.std.specs.Prelude.{◌≡◌, IfOk, Ok, false, codes};
 ghost use Rattle.clap.specs.Words.{AddsSubcommand, app_of, new_app};
 ghost use Rattle.clap.specs.declared.builder.command.Command.TheViews.{out-Command};
-ghost use Rattle.z80dev_commands.specs.Commands.{asm_shape, bare, blank_shape, build_shape, check_disk_shape, check_shape, dir_shape, dis_shape, erase_shape, get_shape, link_shape, programs, protect_shape, put_shape, rename_shape, run_shape, with_files, z80dev};
+ghost use Rattle.z80dev_commands.specs.Commands.{asm_shape, bare, blank_shape, build_shape, check_disk_shape, check_shape, debug_shape, dir_shape, dis_shape, erase_shape, get_shape, link_shape, programs, protect_shape, put_shape, rename_shape, run_shape, with_files, z80dev};
 ghost use Rattle.z80dev_commands.specs.Private.{alone};
 
 use crate::help;
@@ -336,6 +336,33 @@ fn run<'a>(alloc: Global) -> Result<Command<'a>, AllocError>
         .arg(words(alloc, "WORD", "The words of its command line"))
 }
 
+fn debug<'a>(alloc: Global) -> Result<Command<'a>, AllocError>
+    ensures app { IfOk result (λ c. app_of c ≡ alone debug_shape) }
+    ensures local { IfOk result (λ c. (out-Command c).has_globals ≡ false) }
+{
+    titled(
+        alloc,
+        "debug",
+        "Debugs a CP/M program, forwards and backwards",
+        help::DEBUG,
+    )
+    .arg(option(
+        alloc,
+        "disk",
+        "IMG",
+        "The path of the image of drive A, which is not written [default: a blank disk]",
+    ))?
+    .arg(option(
+        alloc,
+        "input",
+        "FILE",
+        "The path of the file with what is typed [default: nothing]",
+    ))?
+    .arg(labels(alloc))?
+    .arg(path(alloc, "COM", "The path of the program"))?
+    .arg(words(alloc, "WORD", "The words of its command line"))
+}
+
 /// Adds a command to a command, unless memory ran out for one of them.
 fn with_command<'a>(
     command: Result<Command<'a>, AllocError>,
@@ -376,5 +403,6 @@ pub(crate) fn z80dev<'a>(alloc: Global) -> Result<Command<'a>, AllocError>
     let command = with_command(command, unprotect(alloc));
     let command = with_command(command, check_disk(alloc));
     let command = with_command(command, blank(alloc));
-    with_command(command, run(alloc))
+    let command = with_command(command, run(alloc));
+    with_command(command, debug(alloc))
 }

@@ -10,12 +10,13 @@ use Rattle.z80dev.specs.Reading.{IsCutShort, OfText}
 use Rattle.z80dev.specs.declared.fault.Fault.{Fault}
 use Rattle.z80dev_commands.specs.Commands.{IsJob, IsMiscounted, z80dev}
 use Rattle.z80dev_commands.specs.declared.job.Job.{Job}
-use Rattle.z80dev_commands.specs.declared.job.Job.TheVariants.{Pipe, Asm, Link, Build, Check, Dis, Disk, Run}
+use Rattle.z80dev_commands.specs.declared.job.Job.TheVariants.{Pipe, Asm, Link, Build, Check, Dis, Disk, Run, Debug}
 use Rattle.z80dev_finish.specs.End.{IsPut, Tells, TellsOf, end_status}
 use Rattle.z80dev_finish.specs.declared.end.End.{End}
 use Rattle.z80dev_finish.specs.declared.end.End.TheVariants as end
 use Rattle.z80dev_jobs.specs.Disks.{DiskJobEnds, TellsLine}
 use Rattle.z80dev_jobs.specs.Making.{AsmEnds, BuildEnds, CheckEnds, DisEnds, Effect, LinkEnds, PutsLines, defines_of, effect_of}
+use Rattle.z80dev_jobs.specs.Debugging.{DebugEnds}
 use Rattle.z80dev_jobs.specs.Running.{RunEnds}
 use Rattle.z80dev_jobs.specs.Words.{AreTexts, IsNotText}
 use Rattle.z80dev_jobs.specs.World.{World}
@@ -83,6 +84,7 @@ JobEnds (Check check) old new status = Reports (CheckEnds check.sizes.now check.
 JobEnds (Dis dis) old new status = Reports (DisEnds dis) old new status
 JobEnds (Disk job) old new status = ReportsLine (DiskJobEnds job) old new status
 JobEnds (Run run) old new status = RunEnds run old new status
+JobEnds (Debug debugging) old new status = DebugEnds debugging old new status
 
 -- A word is not UTF-8.
 abbrev pub RefusesWord : ℕ → Stream → Stream → Stream → Stream → ℕ → Type 0

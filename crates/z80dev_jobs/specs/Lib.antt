@@ -5,6 +5,7 @@ pub mod Making
 pub mod Disks
 pub mod Telling
 pub mod Running
+pub mod Debugging
 pub mod Words
 pub mod Command
 pub mod Memory

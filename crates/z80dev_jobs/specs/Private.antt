@@ -4,3 +4,4 @@ pub mod Kept
 pub mod Names
 pub mod Images
 pub mod Telling
+pub mod Debugging

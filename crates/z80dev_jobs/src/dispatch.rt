@@ -1,7 +1,7 @@
 //! The command.
 
 ghost use Rattle.std.specs.Prelude.{◌≡◌, ◌≤◌, false, map};
-ghost use Rattle.z80dev.specs.declared.text.TheConstants.{MOST_READS};
+ghost use Rattle.debugger.specs.declared.conversation.TheConstants.{MOST_READS};
 ghost use Rattle.clap.specs.Words.{kind_of};
 ghost use Rattle.z80dev_finish.specs.End.{Tells, end_status};
 ghost use Rattle.z80dev_make.specs.Defines.{first_bad};
@@ -12,6 +12,7 @@ ghost use Rattle.z80dev_jobs.specs.Running.{RunEnds};
 ghost use Rattle.z80dev_jobs.specs.Reading.{Reader, reader_of};
 ghost use Rattle.z80dev_jobs.specs.World.{world_of};
 
+use crate::debugging::debug_job;
 use crate::disassembling::dis_file;
 use crate::disks::do_on_disk;
 use crate::host::{Ended, Host};
@@ -29,7 +30,7 @@ use z80dev_commands::{Asm, Build, Run};
 use z80dev_run::Ran;
 
 /// Reports an end, however a function passed it on, and gives the exit status.
-fn report_any<E: Sink>(end: Result<End<'_>, End<'_>>, errors: &mut E) -> u8
+pub(crate) fn report_any<E: Sink>(end: Result<End<'_>, End<'_>>, errors: &mut E) -> u8
     ensures status { result ≡ end_status (ended end.entry) }
     ensures told { Tells (ended end.entry) (E.stream errors.old) (E.stream errors.new) }
 {
@@ -264,6 +265,14 @@ fn work<F: Files, I: Input, W: Sink + Drop, E: Sink>(
             let ended = do_on_disk(alloc, job, &mut host.files, &mut host.output);
             report_line(ended, &mut host.errors)
         }
+        Job::Debug(job) => debug_job(
+            alloc,
+            &job,
+            &mut host.files,
+            &mut host.input,
+            &mut host.output,
+            &mut host.errors,
+        ),
         Job::Run(run) => return run_job(alloc, &run, host),
     };
     Ended { status, host }

@@ -4,6 +4,7 @@
 //! [`MemoryFiles`] keeps files in memory, and [`FailingFiles`] lets some calls of files fail.
 #![tactic(auto)]
 
+mod debugging;
 mod disassembling;
 mod disks;
 mod dispatch;

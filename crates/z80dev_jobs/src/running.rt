@@ -81,7 +81,7 @@ pub(crate) fn inputs_of<'a, F: Files, I: Input>(
 }
 
 /// A program that is ready to run, or how the command ends because it is refused.
-fn ready_of<'p, 'w>(
+pub(crate) fn ready_of<'p, 'w>(
     alloc: Global,
     inputs: &'p Inputs,
     words: &[&'w str],

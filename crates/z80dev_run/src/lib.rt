@@ -2,6 +2,7 @@
 #![tactic(auto)]
 
 mod coverage;
+mod debugging;
 mod ending;
 mod input;
 mod labels;
@@ -17,6 +18,7 @@ mod text;
 
 pub use coverage::coverage_file;
 pub use cpm_run::{Record, Stop, TraceStep, Why, Wish};
+pub use debugger::{Broken, DebugFault, StartFault, Symbol};
 pub use ending::conclude;
 pub use labels::Labels;
 pub use lines::trace_lines;

@@ -3,7 +3,7 @@ use Rattle.z80dev_jobs.specs.Disks.{DiskJobEnds}
 use Rattle.z80dev_jobs.specs.Making.{ended}
 use Rattle.z80dev_jobs.specs.Reading.{reader_of}
 use Rattle.z80dev_jobs.proofs.Reported.{reported}
-use Rattle.z80dev_jobs.proofs.dispatch.work.Goals.{in-Pipe, in-Asm, in-Link, in-Build, in-Check, in-Dis, in-Disk}
+use Rattle.z80dev_jobs.proofs.dispatch.work.Goals.{in-Pipe, in-Asm, in-Link, in-Build, in-Check, in-Dis, in-Disk, in-Debug}
 use Rattle.z80dev_jobs.proofs.dispatch.work.Goals as goal
 
 pub returns-in-Run-clause-ends : goal.returns-in-Run-clause-ends
@@ -24,4 +24,5 @@ returns-clause-ends g c =
       | in-Dis w ↦ rw (w.in-Dis.is, w.host-is, w.status-is) (ended w.dis_file-end.result, w.dis_file-end.ensures, w.report_any-status-in-Dis.ensures.status, w.report_any-status-in-Dis.ensures.told, refl)
       | in-Disk w ↦ rw (w.in-Disk.is, w.host-is, w.status-is)
           (reported (DiskJobEnds w.in-Disk.job) old (g.F.Files.folder w.do_on_disk-ended.new.files) reader before (g.W.Sink.stream w.do_on_disk-ended.new.output) errors (g.E.Sink.stream w.report_line-status.new.errors) w.do_on_disk-ended.result w.report_line-status.result w.do_on_disk-ended.ensures w.report_line-status.ensures.status w.report_line-status.ensures.told)
+      | in-Debug w ↦ rw (w.in-Debug.is, w.host-is, w.status-is) w.debug_job-status.ensures.ends
     ]

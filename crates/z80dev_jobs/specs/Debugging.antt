@@ -1,0 +1,65 @@
+-- How the command `debug` ends.
+use Rattle.std.specs.Prelude.{◌≡◌, ◌⊎◌, ℕ, List, [], Option, None, Some, Result, Ok, Err, Vec, codes, map}
+use Rattle.std.specs.Borrow.{Bor}
+use Rattle.std.specs.Global.{Global}
+use Rattle.cpm_run.specs.declared.fault.StartFault.{StartFault}
+use Rattle.cpm_run.specs.declared.fault.StartFault.TheVariants as start
+use Rattle.debugger.specs.Conversation.{Debugs}
+use Rattle.debugger.specs.declared.conversation.Broken.TheVariants as broken
+use Rattle.debugger.specs.declared.debugging.DebugFault.{DebugFault}
+use Rattle.debugger.specs.declared.debugging.DebugFault.TheVariants as debug
+use Rattle.z80dev_commands.specs.declared.job.Debugging.{Debugging}
+use Rattle.z80dev_finish.specs.End.{Tells, end_status}
+use Rattle.z80dev_finish.specs.Files.{Folder}
+use Rattle.z80dev_finish.specs.declared.end.End.{End}
+use Rattle.z80dev_finish.specs.declared.end.End.TheVariants as end
+use Rattle.z80dev_jobs.specs.Reading.{IsNotRead, IsNotReadIfGiven, IsRead, IsReadIfGiven}
+use Rattle.z80dev_jobs.specs.Running.{IsNotReady, IsRefusedAs}
+use Rattle.z80dev_jobs.specs.World.{World}
+use Rattle.z80dev_jobs.specs.declared.running.Inputs.{Inputs}
+
+-- a file has these bytes, if its path is given; no path is no bytes
+abbrev pub IsReadOrNone : Folder → Option (Bor (List ℕ)) → List ℕ → Type 0
+IsReadOrNone folder None bytes = bytes ≡ []
+IsReadOrNone folder (Some path) bytes = IsRead folder path.now bytes
+
+-- The image is read, if its path is given; then the program; then the labels and what is typed, if their paths are given. The first that is not
+-- read is the end.
+abbrev pub ReadsDebugged : Debugging → Folder → Folder → Result Inputs End → Type 0
+ReadsDebugged debugging old new (Ok inputs) = (new ≡ old) × IsReadOrNone old debugging.disk inputs.image.items × IsRead old debugging.program.now inputs.program.items
+    × IsReadIfGiven old debugging.labels inputs.labels × IsReadOrNone old debugging.input inputs.typed.items
+ReadsDebugged debugging old new (Err e) = IsNotReadIfGiven old new debugging.disk e
+    ⊎ ((image : List ℕ) × IsReadOrNone old debugging.disk image × (IsNotRead old new debugging.program.now e
+    ⊎ ((program : List ℕ) × IsRead old debugging.program.now program × (IsNotReadIfGiven old new debugging.labels e
+    ⊎ ((labels : Option (Vec ℕ Global)) × IsReadIfGiven old debugging.labels labels × IsNotReadIfGiven old new debugging.input e)))))
+
+-- how the command ends if the program cannot be started
+abbrev pub IsStartEnd : StartFault → End → Type 0
+IsStartEnd start.ComTooLong e = IsRefusedAs (codes "ComTooLong") e
+IsStartEnd start.TailTooLong e = IsRefusedAs (codes "TailTooLong") e
+IsStartEnd start.NoMemory e = e ≡ end.NoMemory
+
+-- how the command ends if the program was debugged, or could not be
+abbrev pub IsDebugEnd : Result Unit DebugFault → End → Type 0
+IsDebugEnd (Ok _) e = e ≡ end.Done
+IsDebugEnd (Err (debug.Start fault)) e = IsStartEnd fault e
+IsDebugEnd (Err (debug.Broken broken.NoMemory)) e = e ≡ end.NoMemory
+IsDebugEnd (Err (debug.Broken fault)) e = e ≡ end.Stream
+
+-- nothing is read from standard input, and nothing is printed
+pub record IsQuiet (old new : World) : Type 0 where
+  pub input : new.input ≡ old.input
+  pub output : new.output ≡ old.output
+
+-- The program is debugged with its words, by the commands on standard input.
+abbrev pub IsDebugged : Debugging → Inputs → World → World → End → Type 0
+IsDebugged debugging inputs old new e = (result : Result Unit DebugFault)
+    × Debugs inputs.program.items (map (λ word. word.now) debugging.words.items) old.output new.output new.input.failed new.input.reads result × IsDebugEnd result e
+
+-- `debug`: the files are read, and the program is debugged. No file is written.
+abbrev pub DebugEndsBy : Debugging → World → World → End → Type 0
+DebugEndsBy debugging old new e = (ReadsDebugged debugging old.folder new.folder (Err e) × IsQuiet old new)
+    ⊎ ((inputs : Inputs) × ReadsDebugged debugging old.folder new.folder (Ok inputs) × ((IsNotReady inputs e × IsQuiet old new) ⊎ IsDebugged debugging inputs old new e))
+
+abbrev pub DebugEnds : Debugging → World → World → ℕ → Type 0
+DebugEnds debugging old new status = (e : End) × DebugEndsBy debugging old new e × (status ≡ end_status e) × Tells e old.errors new.errors

@@ -1,0 +1,51 @@
+//! Debugs a program.
+
+ghost use Rattle.std.specs.Prelude.{◌≡◌, ◌≤◌, ℕ, List, false};
+ghost use Rattle.debugger.specs.Conversation.{Debugs};
+ghost use Rattle.debugger.specs.declared.conversation.TheConstants.{MOST_READS};
+ghost use Rattle.z80dev_run.specs.Program.{IsReadyToRun};
+
+use crate::running::Ready;
+use debugger::{DebugFault, Labels, Program, Symbol};
+use std::alloc::Global;
+use streams::{Input, Sink};
+
+impl Ready<'_, '_> {
+    /// Debugs the program: reads commands, a line each, and prints each answer before more is read. An address may be given and is printed
+    /// by its symbol. The disk is not kept.
+    ///
+    /// # Errors
+    ///
+    /// Those of [`debugger::debug`].
+    pub fn debug<I: Input, O: Sink>(
+        self,
+        alloc: Global,
+        symbols: &[Symbol<'_>],
+        commands: &mut I,
+        output: &mut O,
+    ) -> Result<(), DebugFault>
+        requires sound { I.failed commands.old ≡ false }
+        requires unread { I.reads commands.old ≡ 0 }
+        ensures debugs { (program : List ℕ) (words : List (List ℕ)) (image input : List ℕ) → IsReadyToRun program words image input self.entry
+            → Debugs program words (O.stream output.old) (O.stream output.new) (I.failed commands.new) (I.reads commands.new) result }
+        ensures reads { I.reads commands.new ≤ MOST_READS }
+    {
+        let Ready {
+            program: file,
+            words,
+            disk,
+            typed,
+        } = self;
+        let labels = Labels {
+            symbols,
+            program_len: file.len(),
+        };
+        let program = Program {
+            file,
+            words: &words,
+            disk,
+            typed,
+        };
+        debugger::debug(alloc, program, labels, commands, output)
+    }
+}
