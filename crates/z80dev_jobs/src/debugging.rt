@@ -68,10 +68,13 @@ fn symbols_of(alloc: Global, text: Option<&[u8]>) -> Result<Vec<Symbol<'_>>, End
         Err(why) => return Err(End::Refused(fault_text(alloc, why)?)),
     };
     for label in &labels {
-        symbols.push(Symbol {
+        let symbol = Symbol {
             address: label.address,
             name: label.name,
-        })?;
+        };
+        let Ok(()) = symbols.push(symbol) else {
+            return Err(End::NoMemory);
+        };
     }
     Ok(symbols)
 }
@@ -88,10 +91,10 @@ fn start_end(alloc: Global, fault: StartFault) -> Result<End<'static>, AllocErro
 }
 
 /// How the command ends if the program was debugged, or could not be.
-fn debug_end(alloc: Global, result: Result<(), DebugFault>) -> End<'static>
-    ensures { IsDebugEnd result.entry result }
+fn debug_end(alloc: Global, ended: Result<(), DebugFault>) -> End<'static>
+    ensures { IsDebugEnd ended result }
 {
-    match result {
+    match ended {
         Ok(()) => End::Done,
         Err(DebugFault::Start(fault)) => match start_end(alloc, fault) {
             Ok(end) => end,
@@ -118,8 +121,8 @@ fn debugged<'a, F: Files, I: Input, W: Sink>(
     let inputs = debugged_of(alloc, job, files)?;
     let ready = ready_of(alloc, &inputs, &job.words)?;
     let symbols = symbols_of(alloc, inputs.labels.as_deref())?;
-    let result = ready.debug(alloc, &symbols, input, output);
-    Ok(debug_end(alloc, result))
+    let debugged = ready.debug(alloc, &symbols, input, output);
+    Ok(debug_end(alloc, debugged))
 }
 
 /// Debugs a program by the commands on standard input, and gives the exit status. No file is written.
