@@ -5,6 +5,6 @@ use Rattle.jump_warnings.specs.declared.part.Site.{Site}
 use Rattle.jump_warnings.specs.Jumps.{Sizes}
 
 -- how many bytes statements take, if a choice says which relaxable jumps are long
-abbrev pub taken : (Site → Bool) → Sizes → ℕ
-taken long [] = 0
-taken long (s ∷ rest) = option_map_or (λ size. size) s.1 (if long s.0 then 3 else 2) + taken long rest
+abbrev pub bytes_under : (Site → Bool) → Sizes → ℕ
+bytes_under long [] = 0
+bytes_under long (s ∷ rest) = option_map_or (λ size. size) s.1 (if long s.0 then 3 else 2) + bytes_under long rest

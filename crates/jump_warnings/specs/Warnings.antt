@@ -12,33 +12,33 @@ use Rattle.jump_warnings.specs.declared.warnings.Warning.{Warning}
 use Rattle.jump_warnings.specs.declared.warnings.Warning.TheVariants as warning
 use Rattle.jump_warnings.specs.Jumps.{Sizes, fixed_size, jump_over, sizes_of}
 use Rattle.jump_warnings.specs.Offsets.{if_any, offsets, relative}
-use Rattle.jump_warnings.specs.Parts.{Member, Placed, placed, program, sited, stands}
+use Rattle.jump_warnings.specs.Parts.{Member, PlacedModule, placed_modules, sited_statements, sited, stands_at}
 
 -- An offset over a jump that may change its length.
 
 -- the warning about an offset in the statement at a site, if it is over a relaxable jump
-abbrev pub over : Sizes → Placed → Site → Offset → Option Warning
-over sizes p at offset = option_map (λ jump. warning.Over at offset jump) (option_and_then (λ k. jump_over sizes k offset.bytes) (stands p offset.reference))
+abbrev pub over : Sizes → PlacedModule → Site → Offset → Option Warning
+over sizes p at offset = option_map (λ jump. warning.Over at offset jump) (option_and_then (λ k. jump_over sizes k offset.bytes) (stands_at p offset.reference))
 
 abbrev pub holes_of : ModuleStatement → List Hole
 holes_of (object.Bytes bytes holes) = holes
 holes_of _ = []
 
-abbrev pub bytes_of : ModuleStatement → List ℕ
-bytes_of (object.Bytes bytes holes) = bytes
-bytes_of _ = []
+abbrev pub plain_bytes : ModuleStatement → List ℕ
+plain_bytes (object.Bytes bytes holes) = bytes
+plain_bytes _ = []
 
 -- the warnings about a statement: about the offsets in its fix-ups, and about its target if its bytes are those of JR or DJNZ
-abbrev pub statement_overs : Sizes → Placed → Site × ModuleStatement → List Warning
+abbrev pub statement_overs : Sizes → PlacedModule → Site × ModuleStatement → List Warning
 statement_overs sizes p (at, s) =
-    flat_map (λ h. filter_map (over sizes p at) (offsets h.value)) (holes_of s) ++ filter_map (over sizes p at) (if_any (relative at.statement (bytes_of s)))
+    flat_map (λ h. filter_map (over sizes p at) (offsets h.value)) (holes_of s) ++ filter_map (over sizes p at) (if_any (relative at.statement (plain_bytes s)))
 
 -- the warnings about the offsets in a module, in the order of its statements
-abbrev pub overs_in : Sizes → Placed → List Warning
+abbrev pub overs_in : Sizes → PlacedModule → List Warning
 overs_in sizes p = flat_map (statement_overs sizes p) (sited p)
 
 abbrev pub overs : List Member → List Warning
-overs members = flat_map (overs_in (sizes_of (program members))) (placed members)
+overs members = flat_map (overs_in (sizes_of (sited_statements members))) (placed_modules members)
 
 -- A jump that only a computed jump reaches, as an entry of a table of jumps.
 
@@ -61,20 +61,20 @@ abbrev pub is_cut_off : List (Site × ModuleStatement) → ℕ → Bool
 is_cut_off statements k = nat_lt 0 k && option_map_or (λ s. exits s.1) (slice_get statements (k - 1)) false
 
 -- a label stands for the address of statement k of the program
-abbrev pub is_labelled : List Placed → ℕ → Bool
+abbrev pub is_labelled : List PlacedModule → ℕ → Bool
 is_labelled ps k = list_any (λ p. list_any (λ l. p.base + l.statement == k) p.holds.labels) ps
 
 -- the warning about statement k, if it is a relaxable jump without a label that the statement before it does not go on to
-abbrev pub entry : List Placed → List (Site × ModuleStatement) → ℕ × (Site × ModuleStatement) → Option Warning
-entry ps statements (k, own) =
+abbrev pub entry_warning : List PlacedModule → List (Site × ModuleStatement) → ℕ × (Site × ModuleStatement) → Option Warning
+entry_warning ps statements (k, own) =
     if not (is_some (fixed_size own.1)) && (is_cut_off statements k && not (is_labelled ps k)) then Some (warning.Entry own.0) else None
 
-abbrev pub entries_in : List Placed → List (Site × ModuleStatement) → List Warning
-entries_in ps statements = filter_map (entry ps statements) (enumerate_from 0 statements)
+abbrev pub entries_in : List PlacedModule → List (Site × ModuleStatement) → List Warning
+entries_in ps statements = filter_map (entry_warning ps statements) (enumerate_from 0 statements)
 
-abbrev pub entries : List Member → List Warning
-entries members = entries_in (placed members) (program members)
+abbrev pub entry_warnings : List Member → List Warning
+entry_warnings members = entries_in (placed_modules members) (sited_statements members)
 
 -- all warnings of a program
-abbrev pub warnings : List Member → List Warning
-warnings members = overs members ++ entries members
+abbrev pub all_warnings : List Member → List Warning
+all_warnings members = overs members ++ entry_warnings members

@@ -1,7 +1,7 @@
 //! Finds the addresses in an expression to which numbers are added.
 
 ghost use Rattle.std.specs.Prelude.{◌≡◌};
-ghost use Rattle.jump_warnings.specs.Offsets.{added, displaced, is_short, offset_at, relative, term};
+ghost use Rattle.jump_warnings.specs.Offsets.{added, short_distance, is_short, offset_at, relative, term};
 
 use asm_value::{Atom, Binary, Item};
 
@@ -77,7 +77,7 @@ fn is_short(opcode: u8) -> bool
 
 /// Answers how far the target of a JR or DJNZ is from its own address, modulo 65,536, given its displacement byte.
 fn displaced(byte: u8) -> u16
-    ensures { result ≡ displaced byte }
+    ensures { result ≡ short_distance byte }
 {
     if byte < 0x80 {
         u16::from(byte) + 2

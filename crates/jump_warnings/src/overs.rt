@@ -18,7 +18,7 @@ use zmo_module::{Hole, Statement};
 
 /// Answers the number in the program of the statement for which a ref of a module stands, if it is known.
 fn stands(placed: &Placed<'_>, reference: usize) -> Option<usize>
-    ensures { result ≡ spec.stands (placed_of placed.now) reference }
+    ensures { result ≡ spec.stands_at (placed_of placed.now) reference }
 {
     let count = placed.part.module.statements.len();
     if reference <= count {

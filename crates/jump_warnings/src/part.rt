@@ -55,7 +55,7 @@ pub(crate) fn place_all<'a>(
     alloc: Global,
     parts: &[Part<'a>],
 ) -> Result<Vec<Placed<'a>>, AllocError>
-    ensures { IfOk result (λ v. map placed_of v.items ≡ spec.placed (map spec.member_of parts.now)) }
+    ensures { IfOk result (λ v. map placed_of v.items ≡ spec.placed_modules (map spec.member_of parts.now)) }
 {
     let mut placed = Vec::with_capacity(alloc, parts.len())?;
     let mut base = 0;

@@ -43,7 +43,7 @@ fn put_all_overs(
 ///
 /// [`AllocError`] if memory ran out, or if a program has more statements than memory holds.
 pub fn find_warnings(alloc: Global, parts: &[Part<'_>]) -> Result<Vec<Warning>, AllocError>
-    ensures { IfOk result (λ found. found.items ≡ spec.warnings (map member_of parts.now)) }
+    ensures { IfOk result (λ found. found.items ≡ spec.all_warnings (map member_of parts.now)) }
 {
     let placed = place_all(alloc, parts)?;
     let statements = program(alloc, &placed)?;

@@ -13,7 +13,7 @@ use mathlib.Core.List.{map-map}
 use Rattle.z80dev_make.specs.declared.answer.SourceFile.{SourceFile}
 use Rattle.z80dev_make.specs.declared.front.Front.{Front}
 use Rattle.z80dev_make.specs.Front.{earlier, front_lines}
-use Rattle.z80dev_make.specs.Warned.{shown}
+use Rattle.z80dev_make.specs.Warned.{source_shown}
 use Rattle.z80dev_make.specs.Private.Shown.{member_with, shown_in}
 
 -- The lines of modules by their own numbers are those of the assembled sources.
@@ -34,7 +34,7 @@ members publics number base (m ∷ modules) (l ∷ links) all =
 
 -- the sources as warnings show them, from the modules and lines of the code
 pub all_shown : (front : Front) (files : List SourceFile) (modules : List held.Module) (lines : List (Vec ℕ Global)) (all : List Assembled) → map module_of modules ≡ map (λ a. a.holds) all
-    → map (λ l. l.items) lines ≡ map (λ a. map (earlier (front_lines front)) a.each) all → map shown_in (zip files (zip lines modules)) ≡ map (shown front) (zip files all)
+    → map (λ l. l.items) lines ≡ map (λ a. map (earlier (front_lines front)) a.each) all → map shown_in (zip files (zip lines modules)) ≡ map (source_shown front) (zip files all)
 all_shown front [] modules lines all ms ls = refl
 all_shown front (f ∷ files) [] [] [] ms ls = refl
 all_shown front (f ∷ files) [] [] (a ∷ all) ms ls = cc
@@ -50,7 +50,7 @@ all_shown front (f ∷ files) (m ∷ modules) (l ∷ lines) (a ∷ all) ms ls =
     let rest : map (λ x. x.items) lines ≡ map (λ x. map (earlier (front_lines front)) x.each) all = cc in
     ap (λ h. record { path = f.path.now; lines = l.items; holds = h } ∷ map shown_in (zip files (zip lines modules))) m0
     ∙ ap (λ n. record { path = f.path.now; lines = n; holds = a.holds } ∷ map shown_in (zip files (zip lines modules))) l0
-    ∙ ap (λ t. shown front (f, a) ∷ t) (all_shown front files modules lines all more rest)
+    ∙ ap (λ t. source_shown front (f, a) ∷ t) (all_shown front files modules lines all more rest)
 
 zip_nothing : {A B : Type 0} (xs : List A) → zip {K = A} {X = B} xs [] ≡ []
 zip_nothing [] = refl

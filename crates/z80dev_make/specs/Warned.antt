@@ -8,7 +8,7 @@ use Rattle.jump_warnings.specs.declared.part.Site.{Site}
 use Rattle.jump_warnings.specs.declared.warnings.Warning.{Warning}
 use Rattle.jump_warnings.specs.declared.warnings.Warning.TheVariants as warning
 use Rattle.jump_warnings.specs.Parts.{Member}
-use Rattle.jump_warnings.specs.Warnings.{warnings}
+use Rattle.jump_warnings.specs.Warnings.{all_warnings}
 use Rattle.z80_instr.specs.declared.ShortCond.{ShortCond}
 use Rattle.zmo_module.specs.Modules as object
 use Rattle.zmo_module.specs.Modules.{Module, ModuleStatement}
@@ -27,8 +27,8 @@ pub record Shown : Type 0 where
   pub lines : List ℕ
   pub holds : Module
 
-abbrev pub shown : Front → SourceFile × Assembled → Shown
-shown front (file, a) = record { path = file.path.now; lines = map (earlier (front_lines front)) a.each; holds = a.holds }
+abbrev pub source_shown : Front → SourceFile × Assembled → Shown
+source_shown front (file, a) = record { path = file.path.now; lines = map (earlier (front_lines front)) a.each; holds = a.holds }
 
 -- the line of a statement, as PATH(LINE)
 abbrev pub place_in : ℕ → Option Shown → List ℕ
@@ -74,23 +74,23 @@ fixed_in statement (Some s) = option_map_or (fixed_jump s.holds statement) (slic
 abbrev pub fixed_text : List Shown → Site → List ℕ
 fixed_text sources at = fixed_in at.statement (slice_get sources at.«module»)
 
-abbrev pub name_in : ℕ → ℕ → Option Shown → List ℕ
-name_in statement ref None = []
-name_in statement ref (Some s) = reference_name s.holds statement ref
+abbrev pub shown_name : ℕ → ℕ → Option Shown → List ℕ
+shown_name statement ref None = []
+shown_name statement ref (Some s) = reference_name s.holds statement ref
 
 -- the number that is added, with its sign
 abbrev pub signed_text : ℕ → List ℕ
 signed_text bytes = if nat_lt bytes 32768 then codes "+" ++ decimal bytes else codes "-" ++ decimal (65536 - bytes)
 
 abbrev pub offset_text : List Shown → Site → Offset → List ℕ
-offset_text sources at offset = name_in at.statement offset.reference (slice_get sources at.«module») ++ signed_text offset.bytes
+offset_text sources at offset = shown_name at.statement offset.reference (slice_get sources at.«module») ++ signed_text offset.bytes
 
 -- what the line of a warning about an offset says of the jump
-abbrev pub over_text : List Shown → Site → List ℕ
-over_text sources jump = codes " depends on the length of a jump at " ++ place_text sources jump ++ codes ": write " ++ fixed_text sources jump ++ codes " there to keep 3 bytes\n"
+abbrev pub jump_over_text : List Shown → Site → List ℕ
+jump_over_text sources jump = codes " depends on the length of a jump at " ++ place_text sources jump ++ codes ": write " ++ fixed_text sources jump ++ codes " there to keep 3 bytes\n"
 
 abbrev pub warning_text : List Shown → Warning → List ℕ
-warning_text sources (warning.Over at offset jump) = codes "warning: " ++ place_text sources at ++ codes ": " ++ offset_text sources at offset ++ over_text sources jump
+warning_text sources (warning.Over at offset jump) = codes "warning: " ++ place_text sources at ++ codes ": " ++ offset_text sources at offset ++ jump_over_text sources jump
 warning_text sources (warning.Entry at) =
     codes "warning: " ++ place_text sources at ++ codes ": only a computed jump reaches this jump, whose length may change: write " ++ fixed_text sources at ++ codes " to keep 3 bytes\n"
 
@@ -102,8 +102,8 @@ abbrev pub more_text : ℕ → List ℕ
 more_text count = if nat_lt most_warnings count then codes "warning: " ++ decimal (count - most_warnings) ++ codes " more\n" else []
 
 -- a line for each of the first ten warnings, and one with the number of the others
-abbrev pub warning_lines : List Shown → List Warning → List ℕ
-warning_lines sources found = flat_map (warning_text sources) (take most_warnings found) ++ more_text (length found)
+abbrev pub jump_warning_lines : List Shown → List Warning → List ℕ
+jump_warning_lines sources found = flat_map (warning_text sources) (take most_warnings found) ++ more_text (length found)
 
 -- the modules of a program, with what their externals stand for
 abbrev pub joined : List Module → List Member
@@ -111,7 +111,7 @@ joined modules = map (λ p. record { holds = p.holds; externals = map (public_st
 
 -- the lines for the module of a source; what an external stands for is not known
 abbrev pub module_warnings : Front → SourceFile → Assembled → List ℕ
-module_warnings front file a = warning_lines (shown front (file, a) ∷ []) (warnings (record { holds = a.holds; externals = [] } ∷ []))
+module_warnings front file a = jump_warning_lines (source_shown front (file, a) ∷ []) (all_warnings (record { holds = a.holds; externals = [] } ∷ []))
 
 -- the source is assembled to this after the text of the front
 abbrev pub IsAssembledBehind : Front → Bool → SourceFile → Assembled → Type 0
@@ -125,7 +125,7 @@ lines_unless (Some fault) lines = []
 abbrev pub build_warnings : Front → List SourceFile → List Assembled → List ℕ
 build_warnings front files all =
     let modules = map (λ a. a.holds) all in
-    lines_unless (first_fault modules) (warning_lines (map (shown front) (zip files all)) (warnings (joined modules)))
+    lines_unless (first_fault modules) (jump_warning_lines (map (source_shown front) (zip files all)) (all_warnings (joined modules)))
 
 -- All sources can be assembled after the text of the front, and these are their warnings.
 abbrev pub IsWarnedProgram : Front → List SourceFile → Bool → List ℕ → Type 0

@@ -6,7 +6,7 @@ ghost use Rattle.std.specs.Option.{option_map_or};
 ghost use Rattle.zmo_module.specs.Modules.{module_of, statement_of};
 ghost use Rattle.jump_warnings.specs.declared.warnings.Warning.TheVariants as warning;
 ghost use Rattle.z80dev_make.specs.Private.Shown.{shown_of};
-ghost use Rattle.z80dev_make.specs.Warned.{condition_text, external_name, fixed_jump, fixed_text, label_name, more_text, name_in, offset_text, over_text, place_in, place_text, reference_name, signed_text, warning_lines, warning_text};
+ghost use Rattle.z80dev_make.specs.Warned.{condition_text, external_name, fixed_jump, fixed_text, label_name, more_text, shown_name, offset_text, jump_over_text, place_in, place_text, reference_name, signed_text, jump_warning_lines, warning_text};
 
 use asm_module::Module;
 use jump_warnings::{Offset, Site, Warning};
@@ -14,7 +14,7 @@ use std::alloc::{AllocError, Global};
 use z80_instr::ShortCond;
 use zmo_module::Statement;
 
-/// At most so many warnings are shown.
+/// The most warnings that are shown.
 const MOST_WARNINGS: usize = 10;
 
 /// From this offset on, the byte is before the address.
@@ -197,7 +197,7 @@ fn put_name(
     site: Site,
     reference: usize,
 ) -> Result<(), AllocError>
-    ensures { OnOk result (out.new.items ≡ out.old.items ++ name_in site.statement reference (slice_get (map shown_of sources.now) site.«module»)) }
+    ensures { OnOk result (out.new.items ≡ out.old.items ++ shown_name site.statement reference (slice_get (map shown_of sources.now) site.«module»)) }
 {
     match sources.get(site.module) {
         Some(source) => {
@@ -228,7 +228,7 @@ fn put_jump_over(
     sources: &[Shown<'_>],
     jump: Site,
 ) -> Result<(), AllocError>
-    ensures { OnOk result (out.new.items ≡ out.old.items ++ over_text (map shown_of sources.now) jump) }
+    ensures { OnOk result (out.new.items ≡ out.old.items ++ jump_over_text (map shown_of sources.now) jump) }
 {
     put(out, " depends on the length of a jump at ")?;
     put_place(alloc, out, sources, jump)?;
@@ -324,7 +324,7 @@ pub(crate) fn warning_lines(
     sources: &[Shown<'_>],
     warnings: &[Warning],
 ) -> Result<Vec<u8>, AllocError>
-    ensures { IfOk result (λ lines. lines.items ≡ warning_lines (map shown_of sources.now) warnings.now) }
+    ensures { IfOk result (λ lines. lines.items ≡ jump_warning_lines (map shown_of sources.now) warnings.now) }
 {
     let mut out = Vec::new(alloc);
     let count = warnings.len();

@@ -7,12 +7,12 @@ ghost use Rattle.zlink.specs.Program.Faults.{first_fault};
 ghost use Rattle.zlink.specs.Program.Parts.{parts};
 ghost use Rattle.zlink.specs.Program.Whole.{AreLinks};
 ghost use Rattle.jump_warnings.specs.Parts.{member_of};
-ghost use Rattle.jump_warnings.specs.Warnings.{warnings};
+ghost use Rattle.jump_warnings.specs.Warnings.{all_warnings};
 ghost use Rattle.zmo_module.specs.Modules.{module_of};
 ghost use Rattle.zmo_module.specs.Rules.{IsModule};
 ghost use Rattle.z80dev_make.specs.Front.{earlier, front_lines};
 ghost use Rattle.z80dev_make.specs.Private.Shown.{member_with, shown_in, shown_of};
-ghost use Rattle.z80dev_make.specs.Warned.{build_warnings, joined, lines_unless, warning_lines};
+ghost use Rattle.z80dev_make.specs.Warned.{build_warnings, joined, lines_unless, jump_warning_lines};
 
 use crate::answer::SourceFile;
 use crate::behind::number_lines;
@@ -50,7 +50,7 @@ fn all_own_lines(
 
 /// Answers the warnings of a module by itself. What its externals stand for is not known.
 fn found_alone(alloc: Global, module: &Module) -> Result<Vec<Warning>, AllocError>
-    ensures { IfOk result (λ found. found.items ≡ warnings (record { holds = module_of «module».now; externals = [] } ∷ [])) }
+    ensures { IfOk result (λ found. found.items ≡ all_warnings (record { holds = module_of «module».now; externals = [] } ∷ [])) }
 {
     let externals: &[u32] = &[];
     find_warnings(alloc, &[Part { module, externals }])
@@ -65,7 +65,7 @@ pub(crate) fn warn_module(
     module: &Module,
     lines: Vec<u32>,
 ) -> Result<Vec<u8>, AllocError>
-    ensures { IfOk result (λ out. out.items ≡ warning_lines (record { path = path.now; lines = map (earlier (front_lines front.entry)) lines.items; holds = module_of «module».now } ∷ []) (warnings (record { holds = module_of «module».now; externals = [] } ∷ []))) }
+    ensures { IfOk result (λ out. out.items ≡ jump_warning_lines (record { path = path.now; lines = map (earlier (front_lines front.entry)) lines.items; holds = module_of «module».now } ∷ []) (all_warnings (record { holds = module_of «module».now; externals = [] } ∷ []))) }
 {
     let found = found_alone(alloc, module)?;
     let lines = own_lines(front, lines);
@@ -135,7 +135,7 @@ fn lines_joined(
     own: &[Vec<u32>],
 ) -> Result<Vec<u8>, AllocError>
     requires { All IsModule (map module_of modules.now) }
-    ensures { IfOk result (λ lines. lines.items ≡ lines_unless (first_fault (map module_of modules.now)) (warning_lines (map shown_in (zip files.now (zip own.now modules.now))) (warnings (joined (map module_of modules.now))))) }
+    ensures { IfOk result (λ lines. lines.items ≡ lines_unless (first_fault (map module_of modules.now)) (jump_warning_lines (map shown_in (zip files.now (zip own.now modules.now))) (all_warnings (joined (map module_of modules.now))))) }
 {
     let links = match join(alloc, modules) {
         Ok(links) => links,
