@@ -1,5 +1,5 @@
 -- The addresses in an expression to which numbers are added.
-use Rattle.std.specs.Prelude.{ℕ, ◌+◌, ◌-◌, ◌%◌, ◌==◌, ◌||◌, Bool, if◌then◌else◌, nat_lt, List, [], ◌∷◌, ◌++◌, Option, Some, None}
+use Rattle.std.specs.Prelude.{ℕ, ◌+◌, ◌-◌, ◌%◌, List, [], ◌∷◌, ◌++◌, Option, Some, None}
 use Rattle.std.specs.Option.{option_map_or}
 use Rattle.asm_parse.specs.declared.item.Item.{Item}
 use Rattle.asm_parse.specs.declared.operator.Binary.{Binary}
@@ -34,17 +34,3 @@ if_any (Some x) = x ∷ []
 abbrev pub offsets : List (Item Atom) → List Offset
 offsets [] = []
 offsets (item ∷ items) = if_any (offset_at (item ∷ items)) ++ offsets items
-
--- The opcodes of DJNZ, JR, JR NZ, JR Z, JR NC and JR C.
-abbrev pub is_short : ℕ → Bool
-is_short a = (a == 0x10) || ((a == 0x18) || ((a == 0x20) || ((a == 0x28) || ((a == 0x30) || (a == 0x38)))))
-
--- how far the target of a JR or DJNZ is from its own address, modulo 65,536, given its displacement byte
-abbrev pub short_distance : ℕ → ℕ
-short_distance byte = if nat_lt byte 0x80 then byte + 2 else (byte + 2 + 0xFF00) % modulus
-
--- The target of a statement whose bytes are those of JR or DJNZ, as an offset from its own address. `JR $+5` is two such bytes: its
--- expression is not kept.
-abbrev pub relative : ℕ → List ℕ → Option Offset
-relative statement (opcode ∷ byte ∷ []) = if is_short opcode then Some (record { reference = statement; bytes = short_distance byte }) else None
-relative statement _ = None

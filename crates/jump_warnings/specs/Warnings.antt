@@ -11,7 +11,7 @@ use Rattle.jump_warnings.specs.declared.part.Site.{Site}
 use Rattle.jump_warnings.specs.declared.warnings.Warning.{Warning}
 use Rattle.jump_warnings.specs.declared.warnings.Warning.TheVariants as warning
 use Rattle.jump_warnings.specs.Jumps.{Sizes, fixed_size, jump_over, sizes_of}
-use Rattle.jump_warnings.specs.Offsets.{if_any, offsets, relative}
+use Rattle.jump_warnings.specs.Offsets.{offsets}
 use Rattle.jump_warnings.specs.Parts.{Member, PlacedModule, placed_modules, sited_statements, sited, stands_at}
 
 -- An offset over a jump that may change its length.
@@ -24,14 +24,9 @@ abbrev pub holes_of : ModuleStatement → List Hole
 holes_of (object.Bytes bytes holes) = holes
 holes_of _ = []
 
-abbrev pub plain_bytes : ModuleStatement → List ℕ
-plain_bytes (object.Bytes bytes holes) = bytes
-plain_bytes _ = []
-
--- the warnings about a statement: about the offsets in its fix-ups, and about its target if its bytes are those of JR or DJNZ
+-- the warnings about the offsets in the fix-ups of a statement
 abbrev pub statement_overs : Sizes → PlacedModule → Site × ModuleStatement → List Warning
-statement_overs sizes p (at, s) =
-    flat_map (λ h. filter_map (over sizes p at) (offsets h.value)) (holes_of s) ++ filter_map (over sizes p at) (if_any (relative at.statement (plain_bytes s)))
+statement_overs sizes p (at, s) = flat_map (λ h. filter_map (over sizes p at) (offsets h.value)) (holes_of s)
 
 -- the warnings about the offsets in a module, in the order of its statements
 abbrev pub overs_in : Sizes → PlacedModule → List Warning

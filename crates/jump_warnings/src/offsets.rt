@@ -1,7 +1,7 @@
 //! Finds the addresses in an expression to which numbers are added.
 
 ghost use Rattle.std.specs.Prelude.{◌≡◌};
-ghost use Rattle.jump_warnings.specs.Offsets.{added, short_distance, is_short, offset_at, relative, term};
+ghost use Rattle.jump_warnings.specs.Offsets.{added, offset_at, term};
 
 use asm_value::{Atom, Binary, Item};
 
@@ -58,42 +58,6 @@ pub(crate) fn offset_at(items: &[Item<Atom>]) -> Option<Offset>
         ] => Some(Offset {
             reference: usize::from(*reference),
             bytes: added(rest).wrapping_add(*n),
-        }),
-        _ => None,
-    }
-}
-
-/// Whether a byte is the opcode of JR or DJNZ.
-fn is_short(opcode: u8) -> bool
-    ensures { result ≡ is_short opcode }
-{
-    opcode == 0x10
-        || opcode == 0x18
-        || opcode == 0x20
-        || opcode == 0x28
-        || opcode == 0x30
-        || opcode == 0x38
-}
-
-/// Answers how far the target of a JR or DJNZ is from its own address, modulo 65,536, given its displacement byte.
-fn displaced(byte: u8) -> u16
-    ensures { result ≡ short_distance byte }
-{
-    if byte < 0x80 {
-        u16::from(byte) + 2
-    } else {
-        (u16::from(byte) + 2).wrapping_add(0xFF00)
-    }
-}
-
-/// Answers the target of a statement, as an offset from its own address, if its bytes are those of JR or DJNZ.
-pub(crate) fn relative(statement: usize, bytes: &[u8]) -> Option<Offset>
-    ensures { result ≡ relative statement bytes.now }
-{
-    match bytes {
-        [opcode, byte] if is_short(*opcode) => Some(Offset {
-            reference: statement,
-            bytes: displaced(*byte),
         }),
         _ => None,
     }

@@ -3,13 +3,13 @@
 ghost use Rattle.std.specs.Prelude.{◌≡◌, ◌++◌, OnOk};
 ghost use Rattle.std.specs.List.{filter_map, flat_map};
 ghost use Rattle.zmo_module.specs.Modules.{statement_of};
-ghost use Rattle.jump_warnings.specs.Offsets.{if_any, offsets, relative};
+ghost use Rattle.jump_warnings.specs.Offsets.{offsets};
 ghost use Rattle.jump_warnings.specs.Private.Flat.{placed_of};
 ghost use Rattle.jump_warnings.specs.Warnings.{over, overs_in, statement_overs};
 ghost use Rattle.jump_warnings.specs.Parts as spec;
 
 use crate::near::Jumps;
-use crate::offsets::{Offset, offset_at, relative};
+use crate::offsets::{Offset, offset_at};
 use crate::part::{Placed, Site};
 use crate::warnings::Warning;
 use asm_value::{Atom, Expr, Item, Room, items};
@@ -112,24 +112,6 @@ fn put_holes(
     Ok(())
 }
 
-/// Appends the warning about the target of the statement at a site, if its bytes are those of JR or DJNZ.
-fn put_relative(
-    found: &mut Vec<Warning>,
-    jumps: &Jumps,
-    placed: &Placed<'_>,
-    site: Site,
-    bytes: &[u8],
-) -> Result<(), AllocError>
-    ensures { OnOk result (found.new.items ≡ found.old.items ++ filter_map (over jumps.now (placed_of placed.now) site) (if_any (relative site.statement bytes.now))) }
-{
-    if let Some(offset) = relative(site.statement, bytes) {
-        if let Some(warning) = over(jumps, placed, site, offset) {
-            found.push(warning)?;
-        }
-    }
-    Ok(())
-}
-
 /// Appends the warnings about the statement at a site.
 fn put_statement(
     found: &mut Vec<Warning>,
@@ -141,10 +123,7 @@ fn put_statement(
     ensures { OnOk result (found.new.items ≡ found.old.items ++ statement_overs jumps.now (placed_of placed.now) (site, statement_of statement.now)) }
 {
     match statement {
-        Statement::Bytes { bytes, holes } => {
-            put_holes(found, jumps, placed, site, holes)?;
-            put_relative(found, jumps, placed, site, bytes)
-        }
+        Statement::Bytes { holes, .. } => put_holes(found, jumps, placed, site, holes),
         _ => Ok(()),
     }
 }
