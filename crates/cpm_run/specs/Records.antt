@@ -1,6 +1,5 @@
 -- What a traced run keeps of its steps.
-use Rattle.std.specs.Prelude.{◌≡◌, ◌<◌, ◌==◌, ℕ, Bool, true, false, List, [], Option, Some, None, count_by, length, slice_index, take}
-use Rattle.circular_buffer.specs.Buffer.{buffer, keep_last}
+use Rattle.std.specs.Prelude.{◌≡◌, ◌<◌, ◌==◌, ◌-◌, ℕ, Bool, true, false, List, [], Option, Some, None, count_by, drop, length, slice_index, take}
 use Rattle.cpm_run.specs.declared.recording.Record.{Record}
 use Rattle.cpm_run.specs.declared.recording.TheConstants.{ADDRESSES}
 use Rattle.cpm_run.specs.declared.recording.TraceStep.{TraceStep}
@@ -15,10 +14,14 @@ abbrev pub CountsAre : Bool → List TraceStep → List ℕ → Type 0
 CountsAre true steps counts = (length counts ≡ ADDRESSES) × ((address : ℕ) → address < ADDRESSES → slice_index counts address ≡ count_at address steps)
 CountsAre false steps counts = counts ≡ []
 
+-- the last n of a list
+abbrev pub last_of : {X : Type 0} → ℕ → List X → List X
+last_of n xs = drop (length xs - n) xs
+
 -- the first steps, the last steps, and the counts, each as far as it was wished
 pub record KeepsAll (wish : Wish) (steps : List TraceStep) (kept : Record) : Type 0 where
   pub first : kept.first.items ≡ take wish.first steps
-  pub last : kept.last ≡ buffer (keep_last wish.last steps) wish.last
+  pub last : kept.last.items ≡ last_of wish.last steps
   pub counts : CountsAre wish.counts steps kept.counts.items
 
 -- what is kept of these steps, unless memory has run out for it

@@ -3,11 +3,11 @@
 ghost use Rattle.std.specs.Prelude.{◌≡◌, ◌<◌, ◌+◌, ◌^◌, ◌++◌, ◌∷◌, [], ℕ, IfOk, List, OnOk, length, take};
 ghost use Rattle.z80_cpu.specs.State.{machine};
 ghost use Rattle.z80_machine.specs.Turn.{bytes_at_pc};
-ghost use Rattle.cpm_run.specs.Records.{CountsAre, Keeps, KeepsAll};
+ghost use Rattle.cpm_run.specs.Records.{CountsAre, last_of, Keeps, KeepsAll};
 ghost use Rattle.cpm_run.specs.declared.recording.TraceStep.{TraceStep};
 
-use circular_buffer::HeapCircularBuffer;
 use std::alloc::{AllocError, Global};
+use std::collections::VecDeque;
 use z80_machine::{Cpu, Memory};
 
 /// How many addresses there are.
@@ -43,7 +43,7 @@ pub struct Record {
     /// The first steps.
     pub first: Vec<TraceStep>,
     /// The last steps.
-    pub last: HeapCircularBuffer<TraceStep>,
+    pub last: VecDeque<TraceStep>,
     /// The number of steps at each address, or nothing if they were not to be counted.
     pub counts: Vec<u64>,
 }
@@ -77,7 +77,7 @@ pub(crate) fn blank(alloc: Global, wish: Wish) -> Option<Record>
     ensures { Keeps wish [] result }
 {
     let first = Vec::new(alloc);
-    let last = HeapCircularBuffer::with_capacity(alloc, wish.last).ok()?;
+    let last = VecDeque::new(alloc);
     let counts = no_counts(alloc, wish.counts).ok()?;
     Some(Record {
         first,
@@ -94,6 +94,32 @@ fn keep_first(first: &mut Vec<TraceStep>, most: usize, step: TraceStep) -> Resul
         first.push(step)?;
     }
     Ok(())
+}
+
+/// Keeps a step as the last one, and lets the oldest go if there are too many.
+fn keep_last(last: &mut VecDeque<TraceStep>, most: usize, step: TraceStep) -> Result<(), AllocError>
+    ensures { OnOk result ((steps : List TraceStep) → last.old.items ≡ last_of most steps → last.new.items ≡ last_of most (steps ++ step ∷ [])) }
+{
+    last.push_back(step)?;
+    if last.len() <= most {
+        return Ok(());
+    }
+    let _oldest = last.pop_front();
+    Ok(())
+}
+
+/// Keeps a step among the first and among the last ones.
+fn keep(
+    first: &mut Vec<TraceStep>,
+    last: &mut VecDeque<TraceStep>,
+    wish: Wish,
+    step: TraceStep,
+) -> Result<(), AllocError>
+    ensures first { OnOk result ((steps : List TraceStep) → first.old.items ≡ take wish.first steps → first.new.items ≡ take wish.first (steps ++ step ∷ [])) }
+    ensures last { OnOk result ((steps : List TraceStep) → last.old.items ≡ last_of wish.last steps → last.new.items ≡ last_of wish.last (steps ++ step ∷ [])) }
+{
+    keep_first(first, wish.first, step)?;
+    keep_last(last, wish.last, step)
 }
 
 /// Counts a step, if steps are to be counted.
@@ -115,9 +141,8 @@ pub(crate) fn noted(wish: Wish, kept: Option<Record>, step: TraceStep) -> Option
         mut last,
         mut counts,
     } = kept?;
-    match keep_first(&mut first, wish.first, step) {
+    match keep(&mut first, &mut last, wish, step) {
         Ok(()) => {
-            last.push_back(step);
             count(&mut counts, step);
             Some(Record {
                 first,

@@ -3,16 +3,16 @@
 ghost use Rattle.std.specs.Prelude.{◌≡◌, ◌++◌, IfOk, OnOk, map, option_copied};
 ghost use Rattle.cpm_run.specs.Turns.{place_at_pc};
 ghost use Rattle.z80_cpu.specs.State.{af, bc, de, hl, word_at};
-ghost use Rattle.z80dev_run.specs.Registers.{came_from, end_line, fcb_line, flag_letter, flags_text, four_words, index_text, machine_text, main_line, name_byte, name_text, outside_text, pairs_text, return_line, return_text, shadow_line, shadow_pairs_text, stack_line, takes_fcb, value_column, value_text, word_there};
+ghost use Rattle.z80dev_run.specs.Registers.{came_from, end_line, fcb_line, flag_letter, flags_text, four_words, index_text, machine_text, main_line, name_byte, name_text, outside_text, pairs_text, return_line, return_text, shadow_line, shadow_pairs_text, stack_line, step_from_end, takes_fcb, value_column, value_text, word_there};
 
 use crate::labels::Labels;
 use crate::lines::label_of;
 use crate::text::{put_blanks, put_word};
-use circular_buffer::HeapCircularBuffer;
 use cpm_bdos::{Function, SearchCall};
 use cpm_fcb::Fcb;
 use cpm_run::{BDOS, TraceStep, bios_entry, is_finished};
 use std::alloc::{AllocError, Global};
+use std::collections::VecDeque;
 use z80_cpu::{Cpu, Flags, Memory};
 
 /// Appends a register and its value, as in `BC=0009`.
@@ -252,6 +252,17 @@ fn put_fcb_line(
     out.extend_from_slice(b"\n")
 }
 
+/// The step at this distance from the last.
+fn step_from_end(steps: &VecDeque<TraceStep>, distance: usize) -> Option<&TraceStep>
+    ensures { option_copied result ≡ step_from_end distance steps.now.items }
+{
+    let len = steps.len();
+    if distance >= len {
+        return None;
+    }
+    steps.get(len - distance - 1)
+}
+
 /// The address from which a program came to its end: that of its last step, or of the one before it if the last is the jump at address 0.
 fn came_from(last: Option<&TraceStep>, before: Option<&TraceStep>) -> Option<u16>
     ensures { result ≡ came_from (option_copied last.entry) (option_copied before.entry) }
@@ -294,7 +305,7 @@ fn put_end_line(
     alloc: Global,
     out: &mut Vec<u8>,
     cpu: &Cpu,
-    last: &HeapCircularBuffer<TraceStep>,
+    last: &VecDeque<TraceStep>,
     labels: &Labels,
 ) -> Result<(), AllocError>
     ensures { OnOk result (out.new.items ≡ out.old.items ++ end_line labels.now cpu.now last.now.items) }
@@ -302,7 +313,7 @@ fn put_end_line(
     if !is_finished(cpu.pc) {
         return Ok(());
     }
-    let from = came_from(last.nth_back(0), last.nth_back(1));
+    let from = came_from(step_from_end(last, 0), step_from_end(last, 1));
     put_outside(alloc, out, labels, from)
 }
 
@@ -313,7 +324,7 @@ pub fn machine_text(
     alloc: Global,
     cpu: &Cpu,
     memory: &Memory,
-    last: &HeapCircularBuffer<TraceStep>,
+    last: &VecDeque<TraceStep>,
     labels: &Labels,
 ) -> Result<Vec<u8>, AllocError>
     ensures { IfOk result (λ text. text.items ≡ machine_text labels.now cpu.now memory.now last.now.items) }

@@ -1,14 +1,15 @@
 //! Prints what a run has kept of its steps.
 
 ghost use Rattle.std.specs.Prelude.{◌≡◌, IfOk};
-ghost use Rattle.circular_buffer.specs.Buffer.{keep_last};
+ghost use Rattle.cpm_run.specs.Records.{last_of};
 ghost use Rattle.z80dev_run.specs.Lines.{IsTrace};
 ghost use Rattle.z80dev_run.specs.Reports.{IsTraceFile};
 
 use crate::labels::Labels;
 use crate::lines::trace_lines;
-use cpm_run::Record;
+use cpm_run::{Record, TraceStep};
 use std::alloc::{AllocError, Global};
+use std::collections::VecDeque;
 
 /// How many of the first steps of a run a trace file has.
 pub const TRACE_STEPS: usize = 1_000_000;
@@ -31,6 +32,17 @@ pub fn trace_file(
     Ok(text)
 }
 
+/// Copies steps.
+fn copied(alloc: Global, steps: &VecDeque<TraceStep>) -> Result<Vec<TraceStep>, AllocError>
+    ensures { IfOk result (λ all. all.items ≡ steps.now.items) }
+{
+    let (front, back) = steps.as_slices();
+    let mut all = Vec::with_capacity(alloc, steps.len())?;
+    all.extend_from_slice(front)?;
+    all.extend_from_slice(back)?;
+    Ok(all)
+}
+
 /// Answers the lines of the last steps, at most `most` of them.
 pub fn last_lines(
     alloc: Global,
@@ -38,9 +50,9 @@ pub fn last_lines(
     most: usize,
     labels: &Labels,
 ) -> Result<Vec<u8>, AllocError>
-    ensures { IfOk result (λ text. IsTrace labels.now (keep_last most kept.now.last.items) text.items) }
+    ensures { IfOk result (λ text. IsTrace labels.now (last_of most kept.now.last.items) text.items) }
 {
-    let steps = kept.last.to_vec(alloc)?;
+    let steps = copied(alloc, &kept.last)?;
     let from = steps.len().saturating_sub(most);
     trace_lines(alloc, &steps[from..], labels)
 }
