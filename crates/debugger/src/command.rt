@@ -55,6 +55,10 @@ pub enum Command {
     Stack,
     /// Show the last turn that changed a byte.
     Who(u16),
+    /// Show the files of the disk.
+    Files,
+    /// Show PC with its label, and its line of the listing.
+    Where,
     /// Show the commands.
     Help,
     /// End the session.
@@ -80,11 +84,13 @@ enum Verb {
     Stack,
     Output,
     Who,
+    Files,
+    Where,
     Help,
     Quit,
 }
 
-const VERBS: [(&str, Verb); 18] = [
+const VERBS: [(&str, Verb); 20] = [
     ("step", Verb::Step),
     ("back", Verb::Back),
     ("turn", Verb::Turn),
@@ -101,6 +107,8 @@ const VERBS: [(&str, Verb); 18] = [
     ("stack", Verb::Stack),
     ("output", Verb::Output),
     ("who", Verb::Who),
+    ("files", Verb::Files),
+    ("where", Verb::Where),
     ("help", Verb::Help),
     ("quit", Verb::Quit),
 ];
@@ -231,6 +239,8 @@ fn alone(verb: Verb, words: &[&str]) -> Option<Command> {
         Verb::Registers => Some(Command::Registers),
         Verb::Stack => Some(Command::Stack),
         Verb::Output => Some(Command::Output),
+        Verb::Files => Some(Command::Files),
+        Verb::Where => Some(Command::Where),
         Verb::Help => Some(Command::Help),
         Verb::Quit => Some(Command::Quit),
         _ => None,

@@ -14,13 +14,14 @@ use cpm_run::StartFault;
 use std::alloc::Global;
 use streams::{Input, Sink};
 
-/// A program with its words, its disk, and what is typed.
+/// A program with its words, its disk, what is typed, and its listing, empty if there is none.
 #[derive(Drop)]
 pub struct Program<'a> {
     pub file: &'a [u8],
     pub words: &'a [&'a [u8]],
     pub disk: Disk<MemoryImage>,
     pub typed: Vec<u8>,
+    pub listing: &'a [u8],
 }
 
 /// Why a program was not debugged to the end of the commands.
@@ -55,13 +56,14 @@ pub fn debug<I: Input, O: Sink>(
         words,
         disk,
         typed,
+        listing,
     } = program;
     let console = MemoryConsole::new(alloc, typed);
     let history = match History::new(alloc, file, words, disk, console) {
         Ok(history) => history,
         Err(fault) => return Err(DebugFault::Start(fault)),
     };
-    let mut session = Session::new(alloc, history, labels);
+    let mut session = Session::new(alloc, history, labels).with_listing(listing);
     match converse(alloc, &mut session, commands, output) {
         Ok(()) => Ok(()),
         Err(broken) => Err(DebugFault::Broken(broken)),

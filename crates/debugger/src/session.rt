@@ -8,8 +8,8 @@ use crate::history::History;
 use crate::snapshot::Snapshot;
 use crate::stops::{Breakpoint, Condition, RegisterName, Stops};
 use crate::text::{
-    put_address, put_instructions, put_memory, put_new_output, put_output, put_point,
-    put_registers, put_stack,
+    put_address, put_files, put_instructions, put_memory, put_new_output, put_output, put_point,
+    put_registers, put_stack, put_where,
 };
 use std::alloc::{AllocError, Global};
 
@@ -27,6 +27,8 @@ break ADDR [if REG=N] stop when PC is ADDR
 watch ADDR [N]        stop at a turn that changes one of N bytes
 delete                forget all breakpoints and watched bytes
 who ADDR              the last turn that changed this byte
+files                 the files of the disk: user, name and records
+where                 PC with its label, and its line of the listing
 regs                  the registers
 mem ADDR [N]          N bytes of memory
 dis ADDR [N]          N instructions
@@ -53,6 +55,7 @@ pub struct Session<'a> {
     history: History,
     stops: Stops,
     labels: Labels<'a>,
+    listing: &'a [u8],
     is_over: bool,
 }
 
@@ -121,8 +124,19 @@ impl<'a> Session<'a> {
             history,
             stops: Stops::new(alloc),
             labels,
+            listing: &[],
             is_over: false,
         }
+    }
+
+    /// The same session with the listing of the program, of which `where` shows lines.
+    pub fn with_listing(mut self, listing: &'a [u8]) -> Session<'a>
+        ensures history { result.history ≡ self.entry.history }
+        ensures stops { result.stops ≡ self.entry.stops }
+        ensures over { result.is_over ≡ self.entry.is_over }
+    {
+        self.listing = listing;
+        self
     }
 
     /// Whether the session was quit.
@@ -286,6 +300,14 @@ impl<'a> Session<'a> {
             Command::Stack => put_stack(self.alloc, &self.labels, snapshot, text),
             Command::Output => put_output(snapshot.output(), text),
             Command::Who(address) => self.put_who(address, text),
+            Command::Files => put_files(self.alloc, snapshot.disk(), text),
+            Command::Where => put_where(
+                self.alloc,
+                &self.labels,
+                self.listing,
+                snapshot.cpu().pc,
+                text,
+            ),
             Command::Help => text.extend_from_slice(HELP),
             _ => Ok(()),
         }

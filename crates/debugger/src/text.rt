@@ -3,6 +3,8 @@
 use crate::command::{Labels, Symbol};
 use crate::point::Point;
 use crate::snapshot::Snapshot;
+use cpm_disk::Disk;
+use cpm_image::MemoryImage;
 use cpm_run::{BDOS, BIOS};
 use std::alloc::{AllocError, Global};
 use z80_cpu::{Cpu, Memory};
@@ -10,6 +12,9 @@ use z80_table::decode;
 
 /// The bytes of a line of `mem`.
 const LINE_BYTES: u16 = 16;
+
+/// The bytes of a name before its type.
+const NAME_BYTES: usize = 8;
 
 /// The words that `stack` shows.
 const STACK_WORDS: u16 = 8;
@@ -254,6 +259,62 @@ pub(crate) fn put_stack(
         let address = snapshot.cpu().sp.wrapping_add(number.wrapping_mul(2));
         text.extend_from_slice(format!(in alloc; "{address:04X}: ")?.as_bytes())?;
         put_address(alloc, labels, snapshot.memory().word(address), text)?;
+        text.push(b'\n')?;
+    }
+    Ok(())
+}
+
+/// The lines of the files of a disk, by user and name: the user, the name, and the number of records.
+pub(crate) fn put_files(
+    alloc: Global,
+    disk: &Disk<MemoryImage>,
+    text: &mut Vec<u8>,
+) -> Result<(), AllocError> {
+    let Ok(files) = disk.list(alloc) else {
+        return Err(AllocError);
+    };
+    for file in &files {
+        let user = file.user;
+        text.extend_from_slice(format!(in alloc; "{user} ")?.as_bytes())?;
+        for (place, byte) in file.name.bytes().iter().enumerate() {
+            if place == NAME_BYTES {
+                text.push(b'.')?;
+            }
+            text.push(shown(*byte))?;
+        }
+        let records = file.records;
+        text.extend_from_slice(format!(in alloc; " {records}\n")?.as_bytes())?;
+    }
+    Ok(())
+}
+
+/// The first line of a listing that begins with this address.
+fn listing_line<'a>(
+    alloc: Global,
+    listing: &'a [u8],
+    address: u16,
+) -> Result<Option<&'a [u8]>, AllocError> {
+    let digits = format!(in alloc; "{address:04X}")?;
+    for line in listing.split(|b| *b == b'\n') {
+        if line.starts_with(digits.as_bytes()) {
+            return Ok(Some(line));
+        }
+    }
+    Ok(None)
+}
+
+/// An address with its label, and its line of the listing.
+pub(crate) fn put_where(
+    alloc: Global,
+    labels: &Labels<'_>,
+    listing: &[u8],
+    address: u16,
+    text: &mut Vec<u8>,
+) -> Result<(), AllocError> {
+    put_address(alloc, labels, address, text)?;
+    text.push(b'\n')?;
+    if let Some(line) = listing_line(alloc, listing, address)? {
+        text.extend_from_slice(line)?;
         text.push(b'\n')?;
     }
     Ok(())
