@@ -170,10 +170,10 @@ abbrev pub run_shape : Shape
 run_shape = with_rules (codes "run")
     (option_rule (codes "disk") (codes "IMG") ∷ flag_rule (codes "no-lock") ∷ steps_rule ∷ (telling_rules ++ (path_rule (codes "COM") ∷ words_rule (codes "WORD") ∷ [])))
 
--- `debug [--disk IMG] [--input FILE] [--labels SYM] COM [WORD..]`
+-- `debug [--disk IMG] [--input FILE] [--labels SYM] [--list LST] COM [WORD..]`
 abbrev pub debug_shape : Shape
 debug_shape = with_rules (codes "debug") (option_rule (codes "disk") (codes "IMG") ∷ option_rule (codes "input") (codes "FILE") ∷ labels_rule
-    ∷ path_rule (codes "COM") ∷ words_rule (codes "WORD") ∷ [])
+    ∷ option_rule (codes "list") (codes "LST") ∷ path_rule (codes "COM") ∷ words_rule (codes "WORD") ∷ [])
 
 -- the command `z80dev` without its commands: its help and its version
 abbrev pub bare : App
@@ -325,8 +325,8 @@ IsJobOf met (Disk job) = IsDiskJobOf met job
 IsJobOf met (Run run) = Meets met (codes "run") (λ rows. FindsIfGiven (codes "IMG") run.disk rows
     × FindsLock run.lock rows × FindsNumber (codes "N") run.steps rows × FindsTelling run.telling rows × HasValue (codes "COM") run.program rows × FindsAny (codes "WORD") run.words.items rows)
 IsJobOf met (Debug debugging) = Meets met (codes "debug") (λ rows. FindsIfGiven (codes "IMG") debugging.disk rows
-    × FindsIfGiven (codes "FILE") debugging.input rows × FindsIfGiven (codes "SYM") debugging.labels rows × HasValue (codes "COM") debugging.program rows
-    × FindsAny (codes "WORD") debugging.words.items rows)
+    × FindsIfGiven (codes "FILE") debugging.input rows × FindsIfGiven (codes "SYM") debugging.labels rows × FindsIfGiven (codes "LST") debugging.list rows
+    × HasValue (codes "COM") debugging.program rows × FindsAny (codes "WORD") debugging.words.items rows)
 
 -- The words are parsed without an error, and the job is that of the command that they name, with the values that the parse found.
 abbrev pub IsJob : List Text → Job → Type 0

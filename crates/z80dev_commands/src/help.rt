@@ -235,14 +235,15 @@ ends the session.
 Nothing is written: what the program writes to its disk is gone at the end. What
 it prints is shown after `| `. What it gets as typed comes from FILE, with each
 line end as one CR. With --labels, an address may be given as a label of SYM, and
-is printed with the label before it.
+is printed with the label before it. With --list, where also shows the line of
+LST. Both are files that `z80dev build --list` writes.
 
 The status is 0 at the end of the commands, and 1 with a line `error: ..` if the
 program is too long, its words are, IMG is not an image of a disk, or SYM is not
 a file of labels.
 
 Example: z80dev debug --labels game.sym game.com
-prompts for nothing; type step, regs, back, help or quit.";
+waits for a command, such as step, regs, back, help or quit.";
 
 pub(crate) const RUN: &str =
     r"Reads IMG, COM and all of standard input, which is what the program gets as its

@@ -260,6 +260,8 @@ pub struct Debugging<'a> {
     pub input: Option<&'a str>,
     /// The path of a file of labels, if one is given.
     pub labels: Option<&'a str>,
+    /// The path of a listing, if one is given.
+    pub list: Option<&'a str>,
     /// The path of the .COM file.
     pub program: &'a str,
     /// The words of the program's command line.

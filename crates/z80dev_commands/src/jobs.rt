@@ -415,6 +415,7 @@ fn debug<'a>(alloc: Global, found: &ArgMatches<'a>) -> Result<Job<'a>, AllocErro
         disk: text_if_given(found, "IMG"),
         input: text_if_given(found, "FILE"),
         labels: text_if_given(found, "SYM"),
+        list: text_if_given(found, "LST"),
         program: text(found, "COM"),
         words: texts_if_given(alloc, found, "WORD")?,
     }))

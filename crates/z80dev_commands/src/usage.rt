@@ -359,6 +359,12 @@ fn debug<'a>(alloc: Global) -> Result<Command<'a>, AllocError>
         "The path of the file with what is typed [default: nothing]",
     ))?
     .arg(labels(alloc))?
+    .arg(option(
+        alloc,
+        "list",
+        "LST",
+        "The path of a listing, of which where shows lines",
+    ))?
     .arg(path(alloc, "COM", "The path of the program"))?
     .arg(words(alloc, "WORD", "The words of its command line"))
 }

@@ -1,13 +1,11 @@
 -- The last point of a path.
-use Rattle.std.proofs.Common.{◌≡◌, ◌≢◌, ◌<◌, ◌≤◌, ◌∙◌, ◌⊎◌, ℕ, zero, suc, List, Option, Some, None, MatchOption, refl, sym, ap, ap₂, ◌||◌, Bool, cond, drop, take, get_or, length, arith, eq-eqb, ne_eqb, ⊎_elim}
+use Rattle.std.proofs.Common.{◌≡◌, ◌≢◌, ◌<◌, ◌≤◌, ◌∙◌, ◌⊎◌, ℕ, zero, suc, List, Option, Some, None, MatchOption, refl, sym, ap, ap₂, Bool, cond, drop, take, get_or, length, arith, eq-eqb, ne_eqb, ⊎_elim}
 use Rattle.std.proofs.lemmas.Bool.{cases_eq, cond-true, cond-false}
 use Rattle.std.proofs.lemmas.Str.Pattern.{rfind_char}
-use Rattle.std.specs.List.{list_any}
-use Rattle.std.specs.Path.{dot, rfind_below, slash}
-use Rattle.std.specs.Prelude.{◌==◌}
+use Rattle.std.specs.Path.{dot, rfind_below}
 use Rattle.std.specs.Str.{IsCharBoundary}
 use Rattle.std.specs.Str.Pattern.{RFindsChar}
-use Rattle.z80dev_jobs.specs.Outputs.{before_last_point, ends_before_name}
+use Rattle.z80dev_jobs.specs.Outputs.{before_last_point, begins_ending}
 
 none_below : (c : ℕ) (text : List ℕ) (n : ℕ) → ((i : ℕ) → i < n → get_or text i 0 ≢ c) → rfind_below c text n ≡ None
 none_below c text zero lacks = refl
@@ -30,8 +28,6 @@ last_point text (Some k) finds =
     some_below 46 text k (length text) at.0 at.1 at.2
 
 -- what comes before a point, by what its two halves are
-pub front : (path : List ℕ) (point : ℕ) (ending before : List ℕ) (slashed begins : Bool) → ending ≡ drop point path → before ≡ take point path
-    → slashed ≡ list_any (λ byte. byte == slash) ending → begins ≡ ends_before_name before
-    → before_last_point path (Some point) ≡ cond (slashed || begins) path (take point path)
-front path point ending before slashed begins is was slashes ends =
-    ap₂ (λ a b. cond (a || b) path (take point path)) (ap (list_any (λ byte. byte == slash)) (sym is) ∙ sym slashes) (ap ends_before_name (sym was) ∙ sym ends)
+pub front : (path : List ℕ) (point : ℕ) (before rest : List ℕ) (b : Bool) → before ≡ take point path → rest ≡ drop point path → b ≡ begins_ending before rest
+    → before_last_point path (Some point) ≡ cond b (take point path) path
+front path point before rest b was is begins = ap (λ x. cond x (take point path) path) (ap₂ begins_ending (sym was) (sym is) ∙ sym begins)

@@ -1,4 +1,5 @@
 pub mod Carried
+pub mod Claimed
 pub mod Clear
 pub mod Defined
 pub mod Disassembled
@@ -9,6 +10,7 @@ pub mod One_word
 pub mod Overwritten
 pub mod Refused
 pub mod Images
+pub mod Given
 pub mod Lined
 pub mod Reported
 pub mod Stored

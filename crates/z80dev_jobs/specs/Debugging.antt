@@ -23,15 +23,16 @@ abbrev pub IsReadOrNone : Folder → Option (Bor (List ℕ)) → List ℕ → Ty
 IsReadOrNone folder None bytes = bytes ≡ []
 IsReadOrNone folder (Some path) bytes = IsRead folder path.now bytes
 
--- The image is read, if its path is given; then the program; then the labels and what is typed, if their paths are given. The first that is not
--- read is the end.
+-- The image is read, if its path is given; then the program; then the labels, the listing and what is typed, if their paths are given. The first
+-- that is not read is the end.
 abbrev pub ReadsDebugged : Debugging → Folder → Folder → Result Inputs End → Type 0
 ReadsDebugged debugging old new (Ok inputs) = (new ≡ old) × IsReadOrNone old debugging.disk inputs.image.items × IsRead old debugging.program.now inputs.program.items
-    × IsReadIfGiven old debugging.labels inputs.labels × IsReadOrNone old debugging.input inputs.typed.items
+    × IsReadIfGiven old debugging.labels inputs.labels × IsReadIfGiven old debugging.list inputs.list × IsReadOrNone old debugging.input inputs.typed.items
 ReadsDebugged debugging old new (Err e) = IsNotReadIfGiven old new debugging.disk e
     ⊎ ((image : List ℕ) × IsReadOrNone old debugging.disk image × (IsNotRead old new debugging.program.now e
     ⊎ ((program : List ℕ) × IsRead old debugging.program.now program × (IsNotReadIfGiven old new debugging.labels e
-    ⊎ ((labels : Option (Vec ℕ Global)) × IsReadIfGiven old debugging.labels labels × IsNotReadIfGiven old new debugging.input e)))))
+    ⊎ ((labels : Option (Vec ℕ Global)) × IsReadIfGiven old debugging.labels labels × (IsNotReadIfGiven old new debugging.list e
+    ⊎ ((list : Option (Vec ℕ Global)) × IsReadIfGiven old debugging.list list × IsNotReadIfGiven old new debugging.input e)))))))
 
 -- how the command ends if the program cannot be started
 abbrev pub IsStartEnd : StartFault → End → Type 0

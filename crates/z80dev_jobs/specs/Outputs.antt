@@ -1,5 +1,5 @@
 -- Which files a command writes, and why it may not write them.
-use Rattle.std.specs.Prelude.{ℕ, ◌-◌, ◌==◌, ◌||◌, Bool, true, false, List, [], ◌∷◌, ◌++◌, Option, None, Some, codes, drop, find, if◌then◌else◌, length, map, option_map, slice_get, take}
+use Rattle.std.specs.Prelude.{ℕ, ◌-◌, ◌==◌, ◌&&◌, not, Bool, List, [], ◌∷◌, ◌++◌, Option, None, Some, codes, drop, find, if◌then◌else◌, length, map, option_map, slice_get, take}
 use Rattle.std.specs.Borrow.{Bor}
 use Rattle.std.specs.List.{list_any}
 use Rattle.std.specs.Option.{option_map_or}
@@ -31,12 +31,17 @@ program_kinds true = kind.Sizes ∷ kind.Certificate ∷ kind.Com ∷ kind.Listi
 abbrev pub ends_before_name : List ℕ → Bool
 ends_before_name path = option_map_or (λ byte. byte == slash) (slice_get path (length path - 1)) true
 
--- A path without its ending: what comes before its last point. It has no ending if a slash comes after that point, or if the name of the file
--- begins with it.
+-- An ending begins at a point of a path, by what comes before it and by the rest: no slash comes after the point, and it does not begin the name
+-- of the file.
+abbrev pub begins_ending : List ℕ → List ℕ → Bool
+begins_ending before rest = not (list_any (λ byte. byte == slash) rest) && not (ends_before_name before)
+
+-- what comes before the last point of a path, if an ending begins there
 abbrev pub before_last_point : List ℕ → Option ℕ → List ℕ
 before_last_point path None = path
-before_last_point path (Some point) = if list_any (λ byte. byte == slash) (drop point path) || ends_before_name (take point path) then path else take point path
+before_last_point path (Some point) = if begins_ending (take point path) (drop point path) then take point path else path
 
+-- a path without its ending
 abbrev pub without_ending : List ℕ → List ℕ
 without_ending path = before_last_point path (rfind_below dot path (length path))
 

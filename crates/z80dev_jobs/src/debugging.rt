@@ -32,7 +32,7 @@ fn read_or_none<'a, F: Files>(
     }
 }
 
-/// Reads what `debug` needs, in this order: the image, the program, its labels, and what is typed.
+/// Reads what `debug` needs, in this order: the image, the program, its labels, its listing, and what is typed.
 fn debugged_of<'a, F: Files>(
     alloc: Global,
     job: &Debugging<'a>,
@@ -43,13 +43,14 @@ fn debugged_of<'a, F: Files>(
     let image = read_or_none(alloc, job.disk, files)?;
     let program = read(alloc, job.program, files)?;
     let labels = read_if_given(alloc, job.labels, files)?;
+    let list = read_if_given(alloc, job.list, files)?;
     let typed = read_or_none(alloc, job.input, files)?;
     Ok(Inputs {
         image,
         warnings: None,
         program,
         labels,
-        list: None,
+        list,
         typed,
     })
 }
@@ -121,7 +122,8 @@ fn debugged<'a, F: Files, I: Input, W: Sink>(
     let inputs = debugged_of(alloc, job, files)?;
     let ready = ready_of(alloc, &inputs, &job.words)?;
     let symbols = symbols_of(alloc, inputs.labels.as_deref())?;
-    let debugged = ready.debug(alloc, &symbols, input, output);
+    let listing = inputs.list.as_deref().unwrap_or(&[]);
+    let debugged = ready.debug(alloc, &symbols, listing, input, output);
     Ok(debug_end(alloc, debugged))
 }
 

@@ -4,7 +4,7 @@ ghost use Rattle.std.specs.Prelude.{◌≡◌, ◌++◌, ◌==◌, IfOk, map, op
 ghost use Rattle.std.specs.List.{list_any};
 ghost use Rattle.std.specs.Path.{slash};
 ghost use Rattle.std.specs.Str.{bytes_eq};
-ghost use Rattle.z80dev_jobs.specs.Outputs.{base_of, ends_before_name, overwritten, program_kinds, why_not_written, without_ending};
+ghost use Rattle.z80dev_jobs.specs.Outputs.{base_of, begins_ending, ends_before_name, overwritten, program_kinds, why_not_written, without_ending};
 ghost use Rattle.z80dev_jobs.specs.Private.Steps.{IsClear};
 
 use std::alloc::{AllocError, Global};
@@ -27,14 +27,21 @@ fn ends_before_name(path: &str) -> bool
     }
 }
 
-/// A path without its ending. A point that begins the name of a file, as in `.game`, begins no ending.
+/// Whether an ending begins at a point of a path, by what comes before it and by the rest: a slash may not come after the point, and the
+/// point may not begin the name of a file, as in `.game`.
+fn is_ending(before: &str, rest: &str) -> bool
+    ensures { result ≡ begins_ending before.now rest.now }
+{
+    !has_slash(rest) && !ends_before_name(before)
+}
+
+/// A path without its ending.
 fn without_ending(path: &str) -> &str
     ensures { result.now ≡ without_ending path.now }
 {
     match path.rfind('.') {
-        Some(point) if has_slash(&path[point..]) || ends_before_name(&path[..point]) => path,
-        Some(point) => &path[..point],
-        None => path,
+        Some(point) if is_ending(&path[..point], &path[point..]) => &path[..point],
+        _ => path,
     }
 }
 

@@ -12,7 +12,7 @@ use streams::{Input, Sink};
 
 impl Ready<'_, '_> {
     /// Debugs the program: reads commands, a line each, and prints each answer before more is read. An address may be given and is printed
-    /// by its symbol. The disk is not kept.
+    /// by its symbol; `where` shows its line of the listing, unless that is empty. The disk is not kept.
     ///
     /// # Errors
     ///
@@ -21,6 +21,7 @@ impl Ready<'_, '_> {
         self,
         alloc: Global,
         symbols: &[Symbol<'_>],
+        listing: &[u8],
         commands: &mut I,
         output: &mut O,
     ) -> Result<(), DebugFault>
@@ -45,6 +46,7 @@ impl Ready<'_, '_> {
             words: &words,
             disk,
             typed,
+            listing,
         };
         debugger::debug(alloc, program, labels, commands, output)
     }

@@ -1,0 +1,13 @@
+-- Files whose paths may be given.
+use Rattle.std.proofs.Common.{◌≡◌, ℕ, Bor, List, Option, None, Some, Vec, refl, subst, sym}
+use Rattle.std.specs.Global.{Global}
+use Rattle.z80dev_finish.specs.Files.{Folder}
+use Rattle.z80dev_jobs.specs.Reading.{IsRead, IsReadIfGiven}
+use Rattle.z80dev_jobs.specs.Telling.{IsFileIfGiven}
+
+-- a file that is wanted has these bytes
+pub wanted : (Is : List ℕ → Type 0) (given : Option (Bor (List ℕ))) (path : Bor (List ℕ)) (text : Vec ℕ Global) → given ≡ Some path → Is text.items → IsFileIfGiven Is given (Some text)
+wanted Is given path text is holds = subst (λ g. IsFileIfGiven Is g (Some text)) (sym is) (text, refl, holds)
+
+pub read_given : (folder : Folder) (given : Option (Bor (List ℕ))) (path : Bor (List ℕ)) (text : Vec ℕ Global) → given ≡ Some path → IsRead folder path.now text.items → IsReadIfGiven folder given (Some text)
+read_given folder given path text is read = subst (λ g. IsReadIfGiven folder g (Some text)) (sym is) (text, refl, read)
