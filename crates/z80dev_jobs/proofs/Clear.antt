@@ -11,7 +11,8 @@ use Rattle.z80dev_finish.specs.declared.answer.Kind.{Kind}
 use Rattle.z80dev_finish.specs.declared.end.End.{End}
 use Rattle.z80dev_finish.specs.declared.end.End.TheVariants as end
 use Rattle.z80dev_jobs.specs.Making.{AreFiles, BuildsWith, Effect, NothingDone, UnlessRefused, WithAll, effect_of, shared_paths, source_paths}
-use Rattle.z80dev_jobs.specs.Outputs.{program_kinds, why_not_written}
+use Rattle.z80dev_jobs.specs.Outputs.{why_not_written}
+use Rattle.z80dev_make.specs.Answers.{program_kinds}
 use Rattle.z80dev_jobs.specs.Private.Steps.{BuildsTexts, EndsWithLines, IsClear}
 use Rattle.z80dev_jobs.specs.Reading.{IsRead}
 use Rattle.z80dev_make.specs.declared.answer.SourceFile.{SourceFile}

@@ -15,7 +15,7 @@ same_folder path old new found is = is.0
 pub found_if_given : (path : Option (Bor (List ℕ))) (Does : Option (List ℕ) → Type 0) (x : Effect) (mid new : Folder) (found : Option (Vec ℕ Global)) (e : End) → mid ≡ x.old
     → ReadsIfGiven path mid new (Ok found) → Does (bytes_in found) → WithIfGiven path Does x e
 found_if_given None Does x mid new found e same is does = subst (λ f. Does (bytes_in f)) is.1 does
-found_if_given (Some path) Does x mid new found e same (unchanged, bytes, at, read) does = inl (bytes.items, subst (λ f. IsRead f path.now bytes.items) same read, subst (λ f. Does (bytes_in f)) at does)
+found_if_given (Some path) Does x mid new found e same (unchanged, (bytes, at, read)) does = inl (bytes.items, subst (λ f. IsRead f path.now bytes.items) same read, subst (λ f. Does (bytes_in f)) at does)
 
 pub unread_if_given : (path : Option (Bor (List ℕ))) (Does : Option (List ℕ) → Type 0) (x : Effect) (mid : Folder) (e : End) → mid ≡ x.old → ReadsIfGiven path mid x.new (Err e) → x.after ≡ x.before
     → WithIfGiven path Does x e

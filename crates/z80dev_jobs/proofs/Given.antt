@@ -1,6 +1,8 @@
--- Files whose paths may be given.
-use Rattle.std.proofs.Common.{◌≡◌, ℕ, Bor, List, Option, None, Some, Vec, refl, subst, sym}
+-- Files whose paths may be given, and ends that are passed on.
+use Rattle.std.proofs.Common.{◌≡◌, ℕ, Bor, List, Option, None, Some, Result, Ok, Err, Vec, refl, subst, sym}
 use Rattle.std.specs.Global.{Global}
+use Rattle.std.specs.Result.{IsErrAnd}
+use Rattle.z80dev_finish.specs.declared.end.End.{End}
 use Rattle.z80dev_finish.specs.Files.{Folder}
 use Rattle.z80dev_jobs.specs.Reading.{IsRead, IsReadIfGiven}
 use Rattle.z80dev_jobs.specs.Telling.{IsFileIfGiven}
@@ -11,3 +13,8 @@ wanted Is given path text is holds = subst (λ g. IsFileIfGiven Is g (Some text)
 
 pub read_given : (folder : Folder) (given : Option (Bor (List ℕ))) (path : Bor (List ℕ)) (text : Vec ℕ Global) → given ≡ Some path → IsRead folder path.now text.items → IsReadIfGiven folder given (Some text)
 read_given folder given path text is read = subst (λ g. IsReadIfGiven folder g (Some text)) (sym is) (text, refl, read)
+
+-- an end that is passed on
+pub passed_on : {X : Type 0} (Is : Result X End → Type 0) (e : End) (result : Result X End) → IsErrAnd result (λ f. f ≡ e) → Is (Err e) → Is result
+passed_on Is e (Ok x) same is = absurd same
+passed_on Is e (Err f) same is = subst (λ g. Is (Err g)) (sym same) is

@@ -48,9 +48,8 @@ IsDebugEnd (Err (debug.Broken broken.NoMemory)) e = e ≡ end.NoMemory
 IsDebugEnd (Err (debug.Broken fault)) e = e ≡ end.Stream
 
 -- nothing is read from standard input, and nothing is printed
-pub record IsQuiet (old new : World) : Type 0 where
-  pub input : new.input ≡ old.input
-  pub output : new.output ≡ old.output
+abbrev pub IsQuiet : World → World → Type 0
+IsQuiet old new = (new.input ≡ old.input) × (new.output ≡ old.output)
 
 -- The program is debugged with its words, by the commands on standard input.
 abbrev pub IsDebugged : Debugging → Inputs → World → World → End → Type 0

@@ -22,7 +22,8 @@ use Rattle.z80dev_finish.specs.Finishing.{AllWritten, IsBrokenOff, IsUnwritten}
 use Rattle.z80dev_finish.specs.declared.answer.Kind.TheVariants as kind
 use Rattle.z80dev_finish.specs.declared.end.End.{End}
 use Rattle.z80dev_finish.specs.declared.end.End.TheVariants as end
-use Rattle.z80dev_jobs.specs.Outputs.{base_of, program_kinds, why_not_written}
+use Rattle.z80dev_jobs.specs.Outputs.{base_of, why_not_written}
+use Rattle.z80dev_make.specs.Answers.{program_kinds}
 use Rattle.z80dev_jobs.specs.Reading.{IsNotRead, IsOneNotRead, IsRead}
 use Rattle.z80dev_make.specs.Asm.{IsAsm}
 use Rattle.z80dev_make.specs.Build.{IsMade}

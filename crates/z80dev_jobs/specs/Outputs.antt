@@ -1,5 +1,5 @@
 -- Which files a command writes, and why it may not write them.
-use Rattle.std.specs.Prelude.{ℕ, ◌-◌, ◌==◌, ◌&&◌, not, Bool, List, [], ◌∷◌, ◌++◌, Option, None, Some, codes, drop, find, if◌then◌else◌, length, map, option_map, slice_get, take}
+use Rattle.std.specs.Prelude.{ℕ, ◌-◌, ◌==◌, ◌&&◌, not, Bool, true, List, [], ◌∷◌, ◌++◌, Option, None, Some, codes, drop, find, if◌then◌else◌, length, map, option_map, slice_get, take}
 use Rattle.std.specs.Borrow.{Bor}
 use Rattle.std.specs.List.{list_any}
 use Rattle.std.specs.Option.{option_map_or}
@@ -7,7 +7,6 @@ use Rattle.std.specs.Path.{dot, rfind_below, slash}
 use Rattle.std.specs.Str.{bytes_eq}
 use Rattle.z80dev_finish.specs.Finishing.{path_of}
 use Rattle.z80dev_finish.specs.declared.answer.Kind.{Kind}
-use Rattle.z80dev_finish.specs.declared.answer.Kind.TheVariants as kind
 
 -- the text of the error that this path is read and would be written
 abbrev pub over_text : List ℕ → List ℕ
@@ -21,11 +20,6 @@ overwritten base kinds read = find (λ path. list_any (bytes_eq path) read) (map
 abbrev pub why_not_written : List ℕ → List Kind → List (List ℕ) → Option (List ℕ)
 why_not_written [] kinds read = Some (codes "NoBase")
 why_not_written (byte ∷ more) kinds read = option_map over_text (overwritten (byte ∷ more) kinds read)
-
--- the files that make a program, and with `list` its listing and its symbols
-abbrev pub program_kinds : Bool → List Kind
-program_kinds false = kind.Sizes ∷ kind.Certificate ∷ kind.Com ∷ []
-program_kinds true = kind.Sizes ∷ kind.Certificate ∷ kind.Com ∷ kind.Listing ∷ kind.Symbols ∷ []
 
 -- a path ends where the name of a file begins: it is empty, or its last byte is a slash
 abbrev pub ends_before_name : List ℕ → Bool

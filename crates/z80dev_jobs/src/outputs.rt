@@ -4,8 +4,9 @@ ghost use Rattle.std.specs.Prelude.{◌≡◌, ◌++◌, ◌==◌, IfOk, map, op
 ghost use Rattle.std.specs.List.{list_any};
 ghost use Rattle.std.specs.Path.{slash};
 ghost use Rattle.std.specs.Str.{bytes_eq};
-ghost use Rattle.z80dev_jobs.specs.Outputs.{base_of, begins_ending, ends_before_name, overwritten, program_kinds, why_not_written, without_ending};
+ghost use Rattle.z80dev_jobs.specs.Outputs.{base_of, begins_ending, ends_before_name, overwritten, why_not_written, without_ending};
 ghost use Rattle.z80dev_jobs.specs.Private.Steps.{IsClear};
+ghost use Rattle.z80dev_make.specs.Answers.{program_kinds};
 
 use std::alloc::{AllocError, Global};
 use z80dev::{End, Kind};

@@ -4,8 +4,8 @@ use Rattle.z80dev_finish.specs.Answers.{answer_by}
 use Rattle.z80dev_finish.specs.declared.answer.Kind.TheVariants as kind
 use Rattle.z80dev_jobs.proofs.Carried.{aside, carried}
 use Rattle.z80dev_jobs.proofs.Clear.{are_files, as_many, clear}
-use Rattle.z80dev_jobs.specs.Making.{AsmEnds, IsAsmOf, IsCarriedOut, effect_of, shared_paths}
-use Rattle.z80dev_jobs.specs.Private.Steps.{end_after}
+use Rattle.z80dev_jobs.specs.Making.{AsmEnds, IsAsmOf, IsCarriedOut, WritesAsm, effect_of, shared_paths}
+use Rattle.z80dev_jobs.specs.Private.Steps.{end_after, lines_after}
 use Rattle.z80dev_jobs.proofs.Lined.{ends_lined, lined_on, with_lines}
 use Rattle.z80dev_jobs.specs.Outputs.{why_not_written}
 use Rattle.z80dev_jobs.specs.Reading.{IsOneNotRead, IsRead}
@@ -52,6 +52,6 @@ returns g c =
     (λ is. (front, source, (ap (map (λ word. word.now)) c.deref-5.ensures.value, are), refl, c.deref-7.ensures.value, is, c.asm-answer.ensures.warned)) c.asm-answer.ensures.answer in
     let carries = carried told_text job.out.now object.answer x.old (g.F.Files.folder c.read.new.files) x.new x.before x.after c.finish.result (c.in_ok-text.ensures.0 ∙ c.in_ok-fronts.ensures.0) c.finish.ensures in
     let done = with_lines c.finish.result object.warnings c.done_with_lines.result c.done_with_lines.ensures in
-    let writes = (object.warnings.items, done.1, (answer, made, subst (IsCarriedOut job.out.now answer x) (sym done.0) carries)) in
+    let writes : WritesAsm job fronts text x (lines_after c.done_with_lines.result) (end_after c.done_with_lines.result) = (object.warnings.items, done.1, (answer, made, subst (IsCarriedOut job.out.now answer x) (sym done.0) carries)) in
     ends_lined (AsmEnds job x) c.done_with_lines.result
     (clear (why_not_written job.out.now (kind.Object ∷ []) (shared_paths shared ++ path ∷ [])) _ x (end_after c.done_with_lines.result) none (inl (fronts, read_fronts, inl (text, read, writes))))

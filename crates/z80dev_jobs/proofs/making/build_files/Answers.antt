@@ -1,7 +1,8 @@
 use Rattle.std.proofs.Common.{◌∙◌, ◌++◌, ap, inl, inr, length, map, refl, subst, sym}
 use Rattle.std.specs.List.{AllZip}
 use Rattle.z80dev_jobs.specs.Making.{BuildEnds, effect_of, shared_paths, source_paths}
-use Rattle.z80dev_jobs.specs.Outputs.{base_of, program_kinds, why_not_written}
+use Rattle.z80dev_jobs.specs.Outputs.{base_of, why_not_written}
+use Rattle.z80dev_make.specs.Answers.{program_kinds}
 use Rattle.z80dev_jobs.specs.Private.Steps.{BuildsTexts}
 use Rattle.z80dev_jobs.specs.Reading.{IsOneNotRead, IsRead}
 use Rattle.z80dev_jobs.proofs.Clear.{as_many, builds, builds_so, clear, clear_of}
