@@ -16,9 +16,9 @@ function __z80dev_operands
     for word in $words[3..]
         if test $is_value = yes
             set is_value no
-        else if test "$words[2] $word" = 'run --list'
+        else if contains -- "$words[2] $word" 'run --list' 'debug --list'
             set is_value yes
-        else if contains -- $word --out -o --define --with --labels --entry --disk --steps --last --trace --profile --user
+        else if contains -- $word --out -o --define --with --labels --entry --disk --steps --last --trace --profile --input --user
             set is_value yes
         else if not string match -q -- '-*' $word
             echo $word
@@ -83,6 +83,7 @@ complete -c z80dev -n __fish_use_subcommand -a unprotect -d 'Make files on a dis
 complete -c z80dev -n __fish_use_subcommand -a check-disk -d 'Check the directory of a disk image'
 complete -c z80dev -n __fish_use_subcommand -a blank -d 'Make an empty disk image'
 complete -c z80dev -n __fish_use_subcommand -a run -d 'Run a CP/M program'
+complete -c z80dev -n __fish_use_subcommand -a debug -d 'Debug a CP/M program, forwards and backwards'
 
 complete -c z80dev -n '__z80dev_at asm' -s h -l help -d 'Print help'
 complete -c z80dev -n '__z80dev_at asm' -s o -l out -x -a '(__z80dev_bases)' -d 'Path of the object, without its ending'
@@ -188,3 +189,11 @@ complete -c z80dev -n '__z80dev_at run' -l profile -r -F -d 'File to write with 
 complete -c z80dev -n '__z80dev_at run' -l list -x -a '(__z80dev_files lst)' -d 'Listing for the profile'
 complete -c z80dev -n '__z80dev_at run 0' -a '(__z80dev_files com)' -d 'Program'
 complete -c z80dev -n '__z80dev_at run; and not __z80dev_at run 0' -a '(set -l disk (__z80dev_disk); and __z80dev_names $disk[-1])' -d 'Name on the disk'
+
+complete -c z80dev -n '__z80dev_at debug' -s h -l help -d 'Print help'
+complete -c z80dev -n '__z80dev_at debug' -l disk -x -a '(__z80dev_files img dsk cpm)' -d 'Image of drive A, which is not written'
+complete -c z80dev -n '__z80dev_at debug' -l input -r -F -d 'File with what is typed'
+complete -c z80dev -n '__z80dev_at debug' -l labels -x -a '(__z80dev_files sym)' -d 'File of labels'
+complete -c z80dev -n '__z80dev_at debug' -l list -x -a '(__z80dev_files lst)' -d 'Listing of which where shows lines'
+complete -c z80dev -n '__z80dev_at debug 0' -a '(__z80dev_files com)' -d 'Program'
+complete -c z80dev -n '__z80dev_at debug; and not __z80dev_at debug 0' -a '(set -l disk (__z80dev_disk); and __z80dev_names $disk[-1])' -d 'Name on the disk'
