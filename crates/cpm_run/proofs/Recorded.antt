@@ -10,7 +10,7 @@ use Rattle.std.proofs.lemmas.List.Sums.{count_by-le-length, sum_by-append}
 use Rattle.cpm_run.specs.declared.recording.TraceStep.{TraceStep}
 use Rattle.cpm_run.specs.declared.recording.Record.{Record}
 use Rattle.cpm_run.specs.declared.recording.Wish.{Wish}
-use Rattle.cpm_run.specs.Records.{CountsAre, KeepsAll, count_at, last_of}
+use Rattle.cpm_run.specs.Records.{CountsAre, KeepsWished, count_at, last_items}
 
 -- one more step counts at its own address
 count_more : (a : ℕ) (steps : List TraceStep) (s : TraceStep) → count_at a (steps ++ s ∷ []) ≡ count_at a steps + (if s.before.pc == a then 1 else 0)
@@ -63,39 +63,39 @@ none_counted wanted (Ok v) e is = rw e (zeros 65536 v.items (is (λ y same. same
 none_counted wanted (Err why) e is = tt
 
 -- the last of a list whose front was cut already
-last_again : {X : Type 0} (n : ℕ) (xs : List X) (x : X) → last_of n (last_of n xs ++ x ∷ []) ≡ last_of n (xs ++ x ∷ [])
+last_again : {X : Type 0} (n : ℕ) (xs : List X) (x : X) → last_items n (last_items n xs ++ x ∷ []) ≡ last_items n (xs ++ x ∷ [])
 last_again n xs x = again (length xs - n) (omega arith) where
-  again : (cut : ℕ) → cut ≡ length xs - n → last_of n (drop cut xs ++ x ∷ []) ≡ last_of n (xs ++ x ∷ [])
+  again : (cut : ℕ) → cut ≡ length xs - n → last_items n (drop cut xs ++ x ∷ []) ≡ last_items n (xs ++ x ∷ [])
   again cut is =
       let le : cut ≤ length xs = omega (arith, is) in
       let front : drop cut xs ++ x ∷ [] ≡ drop cut (xs ++ x ∷ []) = sym (drop-append-le cut xs (x ∷ []) le) in
       let size : length (xs ++ x ∷ []) ≡ length xs + 1 = length-append xs (x ∷ []) in
       let left : length (drop cut (xs ++ x ∷ [])) ≡ length (xs ++ x ∷ []) - cut = length-drop cut (xs ++ x ∷ []) in
       let sum : cut + (length (drop cut (xs ++ x ∷ [])) - n) ≡ length (xs ++ x ∷ []) - n = omega (arith, is, size, left) in
-      ap (last_of n) front ∙ drop-drop (length (drop cut (xs ++ x ∷ [])) - n) cut (xs ++ x ∷ []) ∙ ap (λ k. drop k (xs ++ x ∷ [])) sum
+      ap (last_items n) front ∙ drop-drop (length (drop cut (xs ++ x ∷ [])) - n) cut (xs ++ x ∷ []) ∙ ap (λ k. drop k (xs ++ x ∷ [])) sum
 
 -- one more is kept, and the oldest goes
-pub one_goes : {X : Type 0} (n : ℕ) (xs : List X) (x : X) (old pushed new : List X) → old ≡ last_of n xs → pushed ≡ old ++ x ∷ [] → n < length pushed → new ≡ drop 1 pushed → new ≡ last_of n (xs ++ x ∷ [])
+pub one_goes : {X : Type 0} (n : ℕ) (xs : List X) (x : X) (old pushed new : List X) → old ≡ last_items n xs → pushed ≡ old ++ x ∷ [] → n < length pushed → new ≡ drop 1 pushed → new ≡ last_items n (xs ++ x ∷ [])
 one_goes n xs x old pushed new was is over cut =
     let size : length (old ++ x ∷ []) ≡ length old + 1 = length-append old (x ∷ []) in
-    let most : length (last_of n xs) ≡ length xs - (length xs - n) = length-drop (length xs - n) xs in
-    let same : length old ≡ length (last_of n xs) = ap length was in
+    let most : length (last_items n xs) ≡ length xs - (length xs - n) = length-drop (length xs - n) xs in
+    let same : length old ≡ length (last_items n xs) = ap length was in
     let whole : length pushed ≡ length (old ++ x ∷ []) = ap length is in
     let one : 1 ≡ length pushed - n = omega (arith, size, most, same, whole, over) in
-    cut ∙ ap (λ k. drop k pushed) one ∙ ap (last_of n) (is ∙ ap (λ ys. ys ++ x ∷ []) was) ∙ last_again n xs x
+    cut ∙ ap (λ k. drop k pushed) one ∙ ap (last_items n) (is ∙ ap (λ ys. ys ++ x ∷ []) was) ∙ last_again n xs x
 
 -- one more is kept, and none goes
-pub none_goes : {X : Type 0} (n : ℕ) (xs : List X) (x : X) (old pushed : List X) → old ≡ last_of n xs → pushed ≡ old ++ x ∷ [] → length pushed ≤ n → pushed ≡ last_of n (xs ++ x ∷ [])
+pub none_goes : {X : Type 0} (n : ℕ) (xs : List X) (x : X) (old pushed : List X) → old ≡ last_items n xs → pushed ≡ old ++ x ∷ [] → length pushed ≤ n → pushed ≡ last_items n (xs ++ x ∷ [])
 none_goes n xs x old pushed was is under =
     let none : 0 ≡ length pushed - n = omega (arith, under) in
-    ap (λ k. drop k pushed) none ∙ ap (last_of n) (is ∙ ap (λ ys. ys ++ x ∷ []) was) ∙ last_again n xs x
+    ap (λ k. drop k pushed) none ∙ ap (last_items n) (is ∙ ap (λ ys. ys ++ x ∷ []) was) ∙ last_again n xs x
 
 -- one more step is kept
 pub noted : (wish : Wish) (steps : List TraceStep) (s : TraceStep) (old new : Record)
-    → KeepsAll wish steps old → (old.first.items ≡ take wish.first steps → new.first.items ≡ take wish.first (steps ++ s ∷ []))
-    → (old.last.items ≡ last_of wish.last steps → new.last.items ≡ last_of wish.last (steps ++ s ∷ []))
+    → KeepsWished wish steps old → (old.first.items ≡ take wish.first steps → new.first.items ≡ take wish.first (steps ++ s ∷ []))
+    → (old.last.items ≡ last_items wish.last steps → new.last.items ≡ last_items wish.last (steps ++ s ∷ []))
     → (CountsAre wish.counts steps old.counts.items → CountsAre wish.counts (steps ++ s ∷ []) new.counts.items)
-    → KeepsAll wish (steps ++ s ∷ []) new
+    → KeepsWished wish (steps ++ s ∷ []) new
 noted wish steps s old new keeps more lasts counted = record {
   first = more keeps.first;
   last = lasts keeps.last;

@@ -14,12 +14,12 @@ use Rattle.cpm_run.specs.Records.{Keeps}
 use Rattle.cpm_run.specs.Run.{TurnsEnd}
 use Rattle.cpm_run.specs.Turns.{Goes, IsTurn, RunState, is_finished}
 use Rattle.cpm_run.specs.Turns.Goes.{none as no_turns, more as one_more}
-use Rattle.cpm_run.specs.Walks.{KeepsWalk, WalkEnds, Walks, trace_step}
+use Rattle.cpm_run.specs.Walks.{KeepsWalk, WalkEnds, WalksTo, trace_step}
 use Rattle.cpm_run.specs.Walks.Walks.{none, more}
 
 module _ {S C : Type 0} (sectors : S → Image) (faults : S → ℕ) (dialog : C → Dialog) where
   -- the steps of a walk are that number of steps
-  pub walk_goes : {steps : List TraceStep} {old new : RunState S C} → Walks sectors faults dialog steps old new → Goes sectors faults dialog (length steps) old new
+  pub walk_goes : {steps : List TraceStep} {old new : RunState S C} → WalksTo sectors faults dialog steps old new → Goes sectors faults dialog (length steps) old new
   walk_goes (none s) = no_turns s
   walk_goes (more steps old mid new before going turn) =
       let size : length steps + 1 ≡ length (steps ++ trace_step (length steps + 1) mid new ∷ []) = sym (length-append steps (trace_step (length steps + 1) mid new ∷ [])) in
@@ -43,7 +43,7 @@ module _ {S C : Type 0} (sectors : S → Image) (faults : S → ℕ) (dialog : C
 
   -- how far a run has come: its steps, their number, and what is kept of them
   abbrev pub Walked : ℕ → Wish → RunState S C → RunState S C → Option Record → ℕ → Type 0
-  Walked limit wish start now kept turns = (steps : List TraceStep) × (turns ≡ length steps) × (turns ≤ limit) × Keeps wish steps kept × Walks sectors faults dialog steps start now
+  Walked limit wish start now kept turns = (steps : List TraceStep) × (turns ≡ length steps) × (turns ≤ limit) × Keeps wish steps kept × WalksTo sectors faults dialog steps start now
 
   -- the step that the code makes is kept
   abbrev pub Notes : Wish → RunState S C → RunState S C → Option Record → Option Record → ℕ → List ℕ → Type 0

@@ -15,16 +15,16 @@ CountsAre true steps counts = (length counts ≡ ADDRESSES) × ((address : ℕ) 
 CountsAre false steps counts = counts ≡ []
 
 -- the last n of a list
-abbrev pub last_of : {X : Type 0} → ℕ → List X → List X
-last_of n xs = drop (length xs - n) xs
+abbrev pub last_items : {X : Type 0} → ℕ → List X → List X
+last_items n xs = drop (length xs - n) xs
 
 -- the first steps, the last steps, and the counts, each as far as it was wished
-pub record KeepsAll (wish : Wish) (steps : List TraceStep) (kept : Record) : Type 0 where
+pub record KeepsWished (wish : Wish) (steps : List TraceStep) (kept : Record) : Type 0 where
   pub first : kept.first.items ≡ take wish.first steps
-  pub last : kept.last.items ≡ last_of wish.last steps
+  pub last : kept.last.items ≡ last_items wish.last steps
   pub counts : CountsAre wish.counts steps kept.counts.items
 
 -- what is kept of these steps, unless memory has run out for it
 abbrev pub Keeps : Wish → List TraceStep → Option Record → Type 0
-Keeps wish steps (Some kept) = KeepsAll wish steps kept
+Keeps wish steps (Some kept) = KeepsWished wish steps kept
 Keeps wish steps None = Unit {0}

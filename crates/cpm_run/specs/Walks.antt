@@ -23,19 +23,19 @@ abbrev pub trace_step : {S C : Type 0} → ℕ → RunState S C → RunState S C
 trace_step number old new = record { number = number; before = old.machine.cpu; bytes = bytes_at_pc old.machine; after = new.machine.cpu }
 
 -- These steps, one after the other, numbered from 1. None ends the run, and before each the program has not finished.
-pub data Walks {S C : Type 0} (sectors : S → Image) (faults : S → ℕ) (dialog : C → Dialog) : List TraceStep → RunState S C → RunState S C → Type 0 where
-  none : (s : RunState S C) → Walks sectors faults dialog [] s s
-  more : (steps : List TraceStep) (old mid new : RunState S C) → Walks sectors faults dialog steps old mid → is_finished mid.machine.cpu.pc ≡ false → IsTurn sectors faults dialog mid None new
-      → Walks sectors faults dialog (steps ++ trace_step (length steps + 1) mid new ∷ []) old new
+pub data WalksTo {S C : Type 0} (sectors : S → Image) (faults : S → ℕ) (dialog : C → Dialog) : List TraceStep → RunState S C → RunState S C → Type 0 where
+  none : (s : RunState S C) → WalksTo sectors faults dialog [] s s
+  more : (steps : List TraceStep) (old mid new : RunState S C) → WalksTo sectors faults dialog steps old mid → is_finished mid.machine.cpu.pc ≡ false → IsTurn sectors faults dialog mid None new
+      → WalksTo sectors faults dialog (steps ++ trace_step (length steps + 1) mid new ∷ []) old new
 
 -- How a run of at most `limit` steps ends, with all its steps. The program has finished, which is tested before the limit; or the limit is
 -- reached; or a last step, which counts too, ends the run.
 abbrev pub WalkEnds : {S C : Type 0} → (S → Image) → (S → ℕ) → (C → Dialog) → ℕ → RunState S C → Why → List TraceStep → RunState S C → Type 0
 WalkEnds {S} {C} sectors faults dialog limit old end steps new =
-    (Walks sectors faults dialog steps old new × (length steps ≤ limit) × (is_finished new.machine.cpu.pc ≡ true) × (end ≡ why.Finished))
-    ⊎ ((Walks sectors faults dialog steps old new × (length steps ≡ limit) × (is_finished new.machine.cpu.pc ≡ false) × (end ≡ why.TurnLimit))
+    (WalksTo sectors faults dialog steps old new × (length steps ≤ limit) × (is_finished new.machine.cpu.pc ≡ true) × (end ≡ why.Finished))
+    ⊎ ((WalksTo sectors faults dialog steps old new × (length steps ≡ limit) × (is_finished new.machine.cpu.pc ≡ false) × (end ≡ why.TurnLimit))
     ⊎ ((before : List TraceStep) × (last : RunState S C) × (steps ≡ before ++ trace_step (length before + 1) last new ∷ []) × (length before < limit)
-    × Walks sectors faults dialog before old last × (is_finished last.machine.cpu.pc ≡ false) × IsTurn sectors faults dialog last (Some end) new))
+    × WalksTo sectors faults dialog before old last × (is_finished last.machine.cpu.pc ≡ false) × IsTurn sectors faults dialog last (Some end) new))
 
 -- The steps that lead to this end, their number, and what is kept of them.
 abbrev pub KeepsWalk : {S C : Type 0} → (S → Image) → (S → ℕ) → (C → Dialog) → ℕ → Wish → RunState S C → Why → ℕ → RunState S C → Option Record → Type 0

@@ -3,7 +3,7 @@
 ghost use Rattle.std.specs.Prelude.{◌≡◌, ◌<◌, ◌+◌, ◌^◌, ◌++◌, ◌∷◌, [], ℕ, IfOk, List, OnOk, length, take};
 ghost use Rattle.z80_cpu.specs.State.{machine};
 ghost use Rattle.z80_machine.specs.Turn.{bytes_at_pc};
-ghost use Rattle.cpm_run.specs.Records.{CountsAre, last_of, Keeps, KeepsAll};
+ghost use Rattle.cpm_run.specs.Records.{CountsAre, last_items, Keeps, KeepsWished};
 ghost use Rattle.cpm_run.specs.declared.recording.TraceStep.{TraceStep};
 
 use std::alloc::{AllocError, Global};
@@ -98,7 +98,7 @@ fn keep_first(first: &mut Vec<TraceStep>, most: usize, step: TraceStep) -> Resul
 
 /// Keeps a step as the last one, and lets the oldest go if there are too many.
 fn keep_last(last: &mut VecDeque<TraceStep>, most: usize, step: TraceStep) -> Result<(), AllocError>
-    ensures { OnOk result ((steps : List TraceStep) → last.old.items ≡ last_of most steps → last.new.items ≡ last_of most (steps ++ step ∷ [])) }
+    ensures { OnOk result ((steps : List TraceStep) → last.old.items ≡ last_items most steps → last.new.items ≡ last_items most (steps ++ step ∷ [])) }
 {
     last.push_back(step)?;
     if last.len() <= most {
@@ -116,7 +116,7 @@ fn keep(
     step: TraceStep,
 ) -> Result<(), AllocError>
     ensures first { OnOk result ((steps : List TraceStep) → first.old.items ≡ take wish.first steps → first.new.items ≡ take wish.first (steps ++ step ∷ [])) }
-    ensures last { OnOk result ((steps : List TraceStep) → last.old.items ≡ last_of wish.last steps → last.new.items ≡ last_of wish.last (steps ++ step ∷ [])) }
+    ensures last { OnOk result ((steps : List TraceStep) → last.old.items ≡ last_items wish.last steps → last.new.items ≡ last_items wish.last (steps ++ step ∷ [])) }
 {
     keep_first(first, wish.first, step)?;
     keep_last(last, wish.last, step)

@@ -10,10 +10,10 @@ use Rattle.debugger.specs.declared.debugging.DebugFault.TheVariants as debug
 use Rattle.debugger.specs.declared.conversation.TheConstants.{MOST_READS}
 
 -- Printing fails only if the stream fails, which is counted once.
-abbrev pub Prints : Stream → Stream → Result Unit Broken → Type 0
-Prints old new (Err broken.Output) = new.failures ≡ counted old.failures
-Prints old new (Err broken.Input) = ⊥
-Prints old new result = new.failures ≡ old.failures
+abbrev pub PrintsOrFails : Stream → Stream → Result Unit Broken → Type 0
+PrintsOrFails old new (Err broken.Output) = new.failures ≡ counted old.failures
+PrintsOrFails old new (Err broken.Input) = ⊥
+PrintsOrFails old new result = new.failures ≡ old.failures
 
 -- The commands were read to their end or to `quit`; or the output failed; or the input failed, or had no end after the most reads; or memory
 -- ran out.

@@ -9,23 +9,23 @@ use Rattle.cpm_disk.specs.Image.{Image}
 use Rattle.cpm_run.specs.Start.{IsStart}
 use Rattle.debugger.specs.declared.history.Outcome.{Outcome}
 use Rattle.debugger.specs.declared.history.Outcome.TheVariants as outcome
-use Rattle.debugger.specs.Walk.{IsNext, Leads, Point, Shown, State, first}
+use Rattle.debugger.specs.Walk.{IsNextPoint, LeadsBy, Point, Shown, MemoryState, first_point}
 
 -- the beginning of a program with its words, on a disk and a console
-abbrev pub Begins : List ℕ → List (List ℕ) → Mounted Image → Dialog → Shown → Type 0
-Begins file words disk console shown =
+abbrev pub IsFirstShown : List ℕ → List (List ℕ) → Mounted Image → Dialog → Shown → Type 0
+IsFirstShown file words disk console shown =
     (cpu : Cpu) × (memory : List ℕ) × IsStart file words (Ok (cpu, memory))
-    × (shown.start ≡ record { machine = machine cpu memory; system = new_system disk console }) × (shown.turn ≡ 0) × (shown.point ≡ first shown.start)
+    × (shown.start ≡ record { machine = machine cpu memory; system = new_system disk console }) × (shown.turn ≡ 0) × (shown.point ≡ first_point shown.start)
 
 -- The point after the number of turns that was asked for is shown, or the last point of the run, if it ends before.
-abbrev pub Reaches : ℕ → Shown → Type 0
-Reaches turn new = (new.turn ≡ turn) ⊎ ((new.turn < turn) × (new.point.end ≢ None))
+abbrev pub ShowsTurn : ℕ → Shown → Type 0
+ShowsTurn turn new = (new.turn ≡ turn) ⊎ ((new.turn < turn) × (new.point.end ≢ None))
 
 -- The turns that were made from one point to another. The test holds for the last of them and for no other; or it holds for none, and the
 -- run has ended or all turns that are allowed were made.
-abbrev pub Ran : (State → State → Bool) → ℕ → Shown → Shown → Outcome → Type 0
-Ran test limit old new outcome.Held =
+abbrev pub RanUntil : (MemoryState → MemoryState → Bool) → ℕ → Shown → Shown → Outcome → Type 0
+RanUntil test limit old new outcome.Held =
     (before : ℕ) × (last : Point) × (before < limit) × (new.turn ≡ old.turn + before + 1)
-    × Leads test before old.point last × IsNext last new.point × (test last.state new.point.state ≡ true)
-Ran test limit old new outcome.Ended = (turns : ℕ) × (turns ≤ limit) × (new.turn ≡ old.turn + turns) × Leads test turns old.point new.point × (new.point.end ≢ None)
-Ran test limit old new outcome.Limit = (new.turn ≡ old.turn + limit) × Leads test limit old.point new.point
+    × LeadsBy test before old.point last × IsNextPoint last new.point × (test last.state new.point.state ≡ true)
+RanUntil test limit old new outcome.Ended = (turns : ℕ) × (turns ≤ limit) × (new.turn ≡ old.turn + turns) × LeadsBy test turns old.point new.point × (new.point.end ≢ None)
+RanUntil test limit old new outcome.Limit = (new.turn ≡ old.turn + limit) × LeadsBy test limit old.point new.point

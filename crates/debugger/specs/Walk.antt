@@ -7,50 +7,50 @@ use Rattle.cpm_run.specs.declared.ending.Why.{Why}
 use Rattle.cpm_run.specs.declared.ending.Why.TheVariants as why
 
 -- the state of a run on a disk and a console in memory
-abbrev pub State : Type 0
-State = RunState Image Dialog
+abbrev pub MemoryState : Type 0
+MemoryState = RunState Image Dialog
 
 -- one turn of such a run, and why it ends the run, if it does
-abbrev pub Turns : State → Option Why → State → Type 0
-Turns old end new = IsTurn (λ image. image) (λ image. 0) (λ dialog. dialog) old end new
+abbrev pub MakesTurn : MemoryState → Option Why → MemoryState → Type 0
+MakesTurn old end new = IsTurn (λ image. image) (λ image. 0) (λ dialog. dialog) old end new
 
 -- a state, and why the run ends in it, if it does
 pub record Point : Type 0 where
-  pub state : State
+  pub state : MemoryState
   pub end : Option Why
 
 -- A run ends in a state if the turn before it ended the run, or if the program has finished.
-abbrev pub end_after : Option Why → State → Option Why
+abbrev pub end_after : Option Why → MemoryState → Option Why
 end_after (Some end) state = Some end
 end_after None state = if is_finished state.machine.cpu.pc then Some why.Finished else None
 
 -- the point at which a run begins
-abbrev pub first : State → Point
-first start = record { state = start; end = end_after None start }
+abbrev pub first_point : MemoryState → Point
+first_point start = record { state = start; end = end_after None start }
 
 -- One turn leads from a point to the next. There is none if the run has ended.
-pub record IsNext (old new : Point) : Type 0 where
+pub record IsNextPoint (old new : Point) : Type 0 where
   pub goes : old.end ≡ None
   pub by : Option Why
-  pub turns : Turns old.state by new.state
+  pub turns : MakesTurn old.state by new.state
   pub ends : new.end ≡ end_after by new.state
 
 -- This number of turns leads from a point to another. The test does not hold for any of them, given the states before and after the turn.
-pub data Leads (test : State → State → Bool) : ℕ → Point → Point → Type 0 where
-  none : (p : Point) → Leads test 0 p p
-  more : (n : ℕ) (old last new : Point) → Leads test n old last → IsNext last new → test last.state new.state ≡ false → Leads test (n + 1) old new
+pub data LeadsBy (test : MemoryState → MemoryState → Bool) : ℕ → Point → Point → Type 0 where
+  none : (p : Point) → LeadsBy test 0 p p
+  more : (n : ℕ) (old last new : Point) → LeadsBy test n old last → IsNextPoint last new → test last.state new.state ≡ false → LeadsBy test (n + 1) old new
 
 -- a test that never holds
-abbrev pub never : State → State → Bool
+abbrev pub never : MemoryState → MemoryState → Bool
 never old new = false
 
 -- the point after a number of turns of the run that begins in a state
-abbrev pub IsAfter : State → ℕ → Point → Type 0
-IsAfter start n p = Leads never n (first start) p
+abbrev pub IsAfter : MemoryState → ℕ → Point → Type 0
+IsAfter start n p = LeadsBy never n (first_point start) p
 
 -- A history of a run: the state in which the run began, and the point that is shown, with the number of turns before it.
 pub record Shown : Type 0 where
-  pub start : State
+  pub start : MemoryState
   pub turn : ℕ
   pub point : Point
 

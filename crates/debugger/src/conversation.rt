@@ -1,7 +1,7 @@
 //! Reads commands and prints their answers.
 
 ghost use Rattle.std.specs.Prelude.{◌≡◌, ◌≤◌, false};
-ghost use Rattle.debugger.specs.Conversation.{Converses, Prints};
+ghost use Rattle.debugger.specs.Conversation.{Converses, PrintsOrFails};
 ghost use Rattle.debugger.specs.Walk.{IsTrue_of_run};
 
 use crate::session::Session;
@@ -55,7 +55,7 @@ fn answer_line<O: Sink>(
 ) -> Result<(), Broken>
     ensures start { session.new.history.start ≡ session.old.history.start }
     ensures after { IsTrue_of_run session.new.history }
-    ensures prints { Prints (O.stream output.old) (O.stream output.new) result }
+    ensures prints { PrintsOrFails (O.stream output.old) (O.stream output.new) result }
 {
     let answer = session.answer(line)?;
     match print(output, &answer) {
@@ -75,7 +75,7 @@ fn take_bytes<O: Sink>(
     requires { IsTrue_of_run session.old.history }
     ensures start { session.new.history.start ≡ session.old.history.start }
     ensures after { IsTrue_of_run session.new.history }
-    ensures prints { Prints (O.stream output.old) (O.stream output.new) result }
+    ensures prints { PrintsOrFails (O.stream output.old) (O.stream output.new) result }
 {
     for byte in bytes {
         if session.is_over() {

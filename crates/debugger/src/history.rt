@@ -58,8 +58,8 @@ impl History {
     ghost use Rattle.std.specs.Prelude.{◌≡◌, ◌+◌, ◌-◌, ◌<◌, ◌≤◌, ◌^◌, Err, IfErr, IfOk, None, OnErr, false, map};
     ghost use Rattle.cpm_run.specs.Start.{IsStart};
     ghost use Rattle.debugger.specs.Stops.{IsLast, holds};
-    ghost use Rattle.debugger.specs.Walk.{IsAfter, IsNext, IsTrue_of_run};
-    ghost use Rattle.debugger.specs.Going.{Begins, Ran, Reaches};
+    ghost use Rattle.debugger.specs.Walk.{IsAfter, IsNextPoint, IsTrue_of_run};
+    ghost use Rattle.debugger.specs.Going.{IsFirstShown, RanUntil, ShowsTurn};
 
     /// Shows the state in which a program begins with its words on a disk and a console.
     ///
@@ -73,7 +73,7 @@ impl History {
         disk: Disk<MemoryImage>,
         console: MemoryConsole,
     ) -> Result<History, StartFault>
-        ensures begins { IfOk result (Begins «com».now (map (λ w. w.now) words.now) disk console) }
+        ensures begins { IfOk result (IsFirstShown «com».now (map (λ w. w.now) words.now) disk console) }
         ensures refused { IfErr result (λ fault. IsStart «com».now (map (λ w. w.now) words.now) (Err fault)) }
     {
         let (cpu, memory) = start(alloc, com, words)?;
@@ -126,7 +126,7 @@ impl History {
         requires room { self.old.turn < 2 ^ 64 - 1 }
         ensures start { self.new.start ≡ self.old.start }
         ensures turn { IfOk result (λ _. self.new.turn ≡ self.old.turn + 1) }
-        ensures next { IfOk result (λ _. IsNext self.old.point self.new.point) }
+        ensures next { IfOk result (λ _. IsNextPoint self.old.point self.new.point) }
         ensures held { IfOk result (λ held. held ≡ holds goal stops.now self.old.point.state self.new.point.state) }
         ensures stopped { OnErr result (self.new ≡ self.old) }
     {
@@ -172,7 +172,7 @@ impl History {
         requires { self.old.turn ≤ turn }
         ensures start { self.new.start ≡ self.old.start }
         ensures after { IsTrue_of_run self.new }
-        ensures reached { Reaches turn self.new }
+        ensures reached { ShowsTurn turn self.new }
     {
         while self.turn < turn && self.point.end().is_none() {
             self.advance(alloc);
@@ -188,7 +188,7 @@ impl History {
     pub fn go_to(&mut self, alloc: Global, turn: u64) -> Result<(), AllocError>
         ensures start { self.new.start ≡ self.old.start }
         ensures after { IsTrue_of_run self.new }
-        ensures reached { IfOk result (λ _. Reaches turn self.new) }
+        ensures reached { IfOk result (λ _. ShowsTurn turn self.new) }
         ensures stopped { OnErr result (self.new ≡ self.old) }
     {
         let _ = &self.start;
@@ -238,7 +238,7 @@ impl History {
         requires { self.old.turn + limit < 2 ^ 64 }
         ensures start { self.new.start ≡ self.old.start }
         ensures after { IsTrue_of_run self.new }
-        ensures ran { IfOk result (Ran (holds goal stops.now) limit self.old self.new) }
+        ensures ran { IfOk result (RanUntil (holds goal stops.now) limit self.old self.new) }
     {
         let _ = &self.start;
         for _ in 0..limit {

@@ -39,7 +39,7 @@ pub(crate) struct Keeper {
 impl Keeper {
     ghost use Rattle.std.specs.Prelude.{◌≡◌, ◌≤◌, [], All, IfSome};
     ghost use Rattle.debugger.specs.Private.Kept.{IsKept};
-    ghost use Rattle.debugger.specs.Walk.{IsAfter, State};
+    ghost use Rattle.debugger.specs.Walk.{IsAfter, MemoryState};
 
     /// A keeper of no states.
     pub(crate) fn new(alloc: Global) -> Keeper
@@ -53,7 +53,7 @@ impl Keeper {
 
     /// Leaves out every second state.
     fn thin(&mut self)
-        ensures { (start : State) → All (IsKept start) self.old.states.items → All (IsKept start) self.new.states.items }
+        ensures { (start : MemoryState) → All (IsKept start) self.old.states.items → All (IsKept start) self.new.states.items }
     {
         let distance = self.distance.saturating_mul(2);
         self.distance = distance;
@@ -69,7 +69,7 @@ impl Keeper {
 
     /// Leaves out every second state if there are too many for one more.
     fn make_room(&mut self)
-        ensures { (start : State) → All (IsKept start) self.old.states.items → All (IsKept start) self.new.states.items }
+        ensures { (start : MemoryState) → All (IsKept start) self.old.states.items → All (IsKept start) self.new.states.items }
     {
         if self.states.len() >= MOST_KEPT {
             self.thin();
@@ -78,7 +78,7 @@ impl Keeper {
 
     /// Keeps a copy of a state, if one is to be kept and there is memory for it. Without it, going back takes longer.
     pub(crate) fn keep(&mut self, alloc: Global, turn: u64, point: &Point)
-        ensures { (start : State) → All (IsKept start) self.old.states.items → IsAfter start turn point.now → All (IsKept start) self.new.states.items }
+        ensures { (start : MemoryState) → All (IsKept start) self.old.states.items → IsAfter start turn point.now → All (IsKept start) self.new.states.items }
     {
         if !self.wants(turn) {
             return;
@@ -93,7 +93,7 @@ impl Keeper {
     /// The latest state that is kept up to this number.
     pub(crate) fn latest(&self, turn: u64) -> Option<&Kept>
         ensures within { IfSome result (λ kept. kept.now.turn ≤ turn) }
-        ensures known { (start : State) → All (IsKept start) self.now.states.items → IfSome result (λ kept. IsKept start kept.now) }
+        ensures known { (start : MemoryState) → All (IsKept start) self.now.states.items → IfSome result (λ kept. IsKept start kept.now) }
     {
         let mut latest = None;
         for kept in &self.states {

@@ -41,11 +41,11 @@ fn end_after(by: Option<Why>, snapshot: &Snapshot) -> Option<Why>
 
 impl Point {
     ghost use Rattle.std.specs.Prelude.{◌≡◌, IfOk, None};
-    ghost use Rattle.debugger.specs.Walk.{IsNext, first};
+    ghost use Rattle.debugger.specs.Walk.{IsNextPoint, first_point};
 
     /// The point at which a run begins.
     pub(crate) fn first(snapshot: Snapshot) -> Point
-        ensures { result ≡ first snapshot }
+        ensures { result ≡ first_point snapshot }
     {
         let end = end_after(None, &snapshot);
         Point { snapshot, end }
@@ -64,7 +64,7 @@ impl Point {
     /// Makes one turn.
     pub(crate) fn advance(&mut self)
         requires { self.old.end ≡ None }
-        ensures { IsNext self.old self.new }
+        ensures { IsNextPoint self.old self.new }
     {
         let by = self.snapshot.turn();
         self.end = end_after(by, &self.snapshot);

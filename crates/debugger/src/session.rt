@@ -108,7 +108,7 @@ fn return_goal(snapshot: &Snapshot) -> Breakpoint
 
 impl<'a> Session<'a> {
     ghost use Rattle.std.specs.Prelude.{◌≡◌, ◌||◌, [], IfOk, false};
-    ghost use Rattle.debugger.specs.Session.{Answers, Moves, Nexts, Runs, Sets, call_goal, is_quit};
+    ghost use Rattle.debugger.specs.Session.{Obeys, Moves, Nexts, RunsUntil, Sets, call_goal, is_quit};
     ghost use Rattle.debugger.specs.Walk.{IsTrue_of_run};
     ghost use Rattle.debugger.specs.declared.command.Command.TheVariants as command;
 
@@ -158,7 +158,7 @@ impl<'a> Session<'a> {
         ensures start { self.new.history.start ≡ self.old.history.start }
         ensures after { IsTrue_of_run self.new.history }
         ensures others { self.new ≡ record self.old { history = self.new.history } }
-        ensures runs { IfOk result (λ _. Runs goal self.old.stops self.old.history self.new.history) }
+        ensures runs { IfOk result (λ _. RunsUntil goal self.old.stops self.old.history self.new.history) }
     {
         let limit = MOST_TURNS.min(u64::MAX - self.history.turn());
         self.history.run(self.alloc, goal, &self.stops, limit)?;
@@ -321,7 +321,7 @@ impl<'a> Session<'a> {
     pub fn answer(&mut self, line: &[u8]) -> Result<Vec<u8>, AllocError>
         ensures start { self.new.history.start ≡ self.old.history.start }
         ensures after { IsTrue_of_run self.new.history }
-        ensures obeys { IfOk result (λ _. Answers self.old.history self.old.stops self.old.is_over self.new.history self.new.stops self.new.is_over) }
+        ensures obeys { IfOk result (λ _. Obeys self.old.history self.old.stops self.old.is_over self.new.history self.new.stops self.new.is_over) }
     {
         let mut text = Vec::new(self.alloc);
         let words = std::str::from_utf8(line).unwrap_or("");

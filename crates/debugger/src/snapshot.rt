@@ -22,7 +22,7 @@ pub struct Snapshot {
 impl Model for Snapshot {
     ghost use Rattle.cpm_run.specs.Turns.{RunState};
     ghost use Rattle.z80_cpu.specs.State.{machine};
-    ghost use Rattle.debugger.specs.Walk.{State};
+    ghost use Rattle.debugger.specs.Walk.{MemoryState};
 
     ghost Value = { State };
 
@@ -45,7 +45,7 @@ impl Snapshot {
     ghost use Rattle.std.specs.Prelude.{◌≡◌, IfOk, Some};
     ghost use Rattle.cpm_bdos.specs.System.{new_system};
     ghost use Rattle.z80_cpu.specs.State.{byte_at, machine};
-    ghost use Rattle.debugger.specs.Walk.{State, Turns};
+    ghost use Rattle.debugger.specs.Walk.{MemoryState, MakesTurn};
 
     /// The state with these registers and this memory, in which no system call has been made.
     pub(crate) fn new(
@@ -80,7 +80,7 @@ impl Snapshot {
 
     /// Makes one turn, and answers why it ends the run, if it does.
     pub(crate) fn turn(&mut self) -> Option<Why>
-        ensures { Turns self.old result self.new }
+        ensures { MakesTurn self.old result self.new }
     {
         turn(&mut self.cpu, &mut self.memory, &mut self.system)
     }

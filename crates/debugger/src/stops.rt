@@ -4,7 +4,7 @@ ghost use Rattle.std.specs.Prelude.{◌≡◌, ◌++◌, ℕ, IfOk, List, length
 ghost use Rattle.std.specs.List.{list_any};
 ghost use Rattle.z80_cpu.specs.State.{byte_at};
 ghost use Rattle.debugger.specs.Session.{addresses};
-ghost use Rattle.debugger.specs.Stops.{breaks, changes, is_met, is_reached};
+ghost use Rattle.debugger.specs.Stops.{breaks, changes_byte, condition_is_met, is_reached};
 
 use crate::command::Command;
 use crate::point::Point;
@@ -32,11 +32,11 @@ pub enum RegisterName {
 
 impl RegisterName {
     ghost use Rattle.std.specs.Prelude.{◌≡◌};
-    ghost use Rattle.debugger.specs.Stops.{register_value};
+    ghost use Rattle.debugger.specs.Stops.{named_register};
 
     /// The value of the register.
     pub fn value(self, cpu: &Cpu) -> u16
-        ensures { result ≡ register_value self cpu.now }
+        ensures { result ≡ named_register self cpu.now }
     {
         match self {
             RegisterName::A => u16::from(cpu.main.a),
@@ -73,7 +73,7 @@ pub struct Breakpoint {
 
 /// Whether a condition is met.
 fn is_met(condition: Option<Condition>, cpu: &Cpu) -> bool
-    ensures { result ≡ is_met condition cpu.now }
+    ensures { result ≡ condition_is_met condition cpu.now }
 {
     match condition {
         Some(condition) => condition.register.value(cpu) == condition.value,
@@ -112,7 +112,7 @@ fn bytes_at(alloc: Global, addresses: &[u16], memory: &Memory) -> Result<Vec<u8>
 /// Whether one of these bytes has changed, given what they were.
 fn is_changed(addresses: &[u16], bytes: &[u8], memory: &Memory) -> bool
     requires { length bytes.now ≡ length addresses.now }
-    ensures { (old : List ℕ) → bytes.now ≡ map (λ address. byte_at address old) addresses.now → result ≡ list_any (changes old memory.now) addresses.now }
+    ensures { (old : List ℕ) → bytes.now ≡ map (λ address. byte_at address old) addresses.now → result ≡ list_any (changes_byte old memory.now) addresses.now }
 {
     for (index, address) in addresses.iter().enumerate() {
         if memory.get(*address) != bytes[index] {
@@ -144,7 +144,7 @@ impl Stops {
     ghost use Rattle.std.specs.List.{list_any};
     ghost use Rattle.debugger.specs.Stops.{breaks, holds};
     ghost use Rattle.debugger.specs.Session.{Sets};
-    ghost use Rattle.debugger.specs.Walk.{IsNext};
+    ghost use Rattle.debugger.specs.Walk.{IsNextPoint};
 
     /// No breakpoints, and no watched bytes.
     pub fn new(alloc: Global) -> Stops
@@ -176,7 +176,7 @@ impl Stops {
         point: &mut Point,
     ) -> Result<bool, AllocError>
         requires { point.old.end ≡ None }
-        ensures next { IfOk result (λ _. IsNext point.old point.new) }
+        ensures next { IfOk result (λ _. IsNextPoint point.old point.new) }
         ensures held { IfOk result (λ held. held ≡ holds goal self.now point.old.state point.new.state) }
         ensures kept { OnErr result (point.new ≡ point.old) }
     {

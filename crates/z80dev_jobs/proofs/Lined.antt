@@ -7,7 +7,7 @@ use Rattle.z80dev_finish.specs.End.{end_status}
 use Rattle.z80dev_finish.specs.Files.{Folder}
 use Rattle.z80dev_finish.specs.declared.end.End.{End}
 use Rattle.z80dev_finish.specs.declared.end.End.TheVariants as end
-use Rattle.z80dev_jobs.specs.Command.{ReportsLines, TellsLines}
+use Rattle.z80dev_jobs.specs.Command.{ReportsLines, TellsAtEnd}
 use Rattle.z80dev_jobs.specs.Making.{Effect, LinesAt, effect_of}
 use Rattle.z80dev_jobs.specs.Private.Steps.{DoneWithLines, EndsWithLines, end_after, lines_after}
 use Rattle.z80dev_jobs.specs.Reading.{Reader}
@@ -41,7 +41,7 @@ of_lined Is (Err e) is = is
 
 -- the lines of a job, or its end, are reported
 pub reported_lined : (Ends : Effect → List ℕ → End → Type 0) (old new : Folder) (input : Reader) (before after errors told : Stream) (result : Result (Vec ℕ Global) End) (status : ℕ)
-    → EndsWithLines (Ends (effect_of old new before after)) result → status ≡ end_status (end_after result) → TellsLines (lines_after result) (end_after result) errors told
+    → EndsWithLines (Ends (effect_of old new before after)) result → status ≡ end_status (end_after result) → TellsAtEnd (lines_after result) (end_after result) errors told
     → ReportsLines Ends (world_of old input before errors) (world_of new input after told) status
 reported_lined Ends old new input before after errors told result status ends is tells =
     (lines_after result, end_after result, of_lined (Ends (effect_of old new before after)) result ends, is, tells, refl)

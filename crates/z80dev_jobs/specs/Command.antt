@@ -39,12 +39,12 @@ ReportsLine Ends old new status = (line : Option (List ℕ)) × (e : End) × End
     × (new.input ≡ old.input)
 
 -- The lines of a job at which all is done, or its end.
-abbrev pub TellsLines : List ℕ → End → Stream → Stream → Type 0
-TellsLines lines end.Done old new = PutsLines lines old new
-TellsLines lines e old new = Tells e old new
+abbrev pub TellsAtEnd : List ℕ → End → Stream → Stream → Type 0
+TellsAtEnd lines end.Done old new = PutsLines lines old new
+TellsAtEnd lines e old new = Tells e old new
 
 abbrev pub ReportsLines : (Effect → List ℕ → End → Type 0) → World → World → ℕ → Type 0
-ReportsLines Ends old new status = (lines : List ℕ) × (e : End) × Ends (effect old new) lines e × (status ≡ end_status e) × TellsLines lines e old.errors new.errors
+ReportsLines Ends old new status = (lines : List ℕ) × (e : End) × Ends (effect old new) lines e × (status ≡ end_status e) × TellsAtEnd lines e old.errors new.errors
     × (new.input ≡ old.input)
 
 -- No file is touched, and standard input is not read

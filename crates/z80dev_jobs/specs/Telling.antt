@@ -6,7 +6,7 @@ use Rattle.std.specs.List.{flat_map}
 use Rattle.std.specs.Option.{option_or}
 use Rattle.asm_macro.specs.Texts.{source_lines}
 use Rattle.std.specs.Str.{bytes_eq}
-use Rattle.cpm_run.specs.Records.{last_of}
+use Rattle.cpm_run.specs.Records.{last_items}
 use Rattle.cpm_run.specs.declared.ending.Why.{Why}
 use Rattle.cpm_run.specs.declared.ending.Why.TheVariants as why
 use Rattle.cpm_run.specs.declared.recording.Record.{Record}
@@ -103,7 +103,7 @@ IsFileIfGiven Is (Some path) bytes = (text : Vec ℕ Global) × (bytes ≡ Some 
 -- the lines of the last steps, if the run was stopped
 abbrev pub AreLastLines : Telling → Known → Why → Record → List ℕ → Type 0
 AreLastLines telling known why.Finished kept lines = lines ≡ []
-AreLastLines telling known end kept lines = IsTrace known (last_of (last_count telling) kept.last.items) lines
+AreLastLines telling known end kept lines = IsTrace known (last_items (last_count telling) kept.last.items) lines
 
 abbrev pub registers_lines : Telling → Known → Cpu → List ℕ → Record → List ℕ
 registers_lines telling known cpu memory kept = if telling.registers then machine_text known cpu memory kept.last.items else []

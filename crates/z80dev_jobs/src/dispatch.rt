@@ -5,7 +5,7 @@ ghost use Rattle.debugger.specs.declared.conversation.TheConstants.{MOST_READS};
 ghost use Rattle.clap.specs.Words.{kind_of};
 ghost use Rattle.z80dev_finish.specs.End.{Tells, end_status};
 ghost use Rattle.z80dev_make.specs.Defines.{first_bad};
-ghost use Rattle.z80dev_jobs.specs.Command.{CommandEnds, Defining, JobEnds, ReportsLines, TellsLines, TellsWith};
+ghost use Rattle.z80dev_jobs.specs.Command.{CommandEnds, Defining, JobEnds, ReportsLines, TellsAtEnd, TellsWith};
 ghost use Rattle.z80dev_jobs.specs.Making.{AsmEnds, BuildEnds, defines_of, ended};
 ghost use Rattle.z80dev_jobs.specs.Private.Steps.{HasJobUser, JudgesDefines, RefusesError, RefusesFault, end_after, end_in, line_in, lines_after};
 ghost use Rattle.z80dev_jobs.specs.Running.{RunEnds};
@@ -102,7 +102,7 @@ fn report_line<E: Sink>(ended: Result<Option<String>, End<'_>>, errors: &mut E) 
 /// Reports how a command ended; if all is done, writes its lines on standard error, if there are some. Gives the exit status.
 fn report_lines<E: Sink>(ended: Result<Vec<u8>, End<'_>>, errors: &mut E) -> u8
     ensures status { result ≡ end_status (end_after ended.entry) }
-    ensures told { TellsLines (lines_after ended.entry) (end_after ended.entry) (E.stream errors.old) (E.stream errors.new) }
+    ensures told { TellsAtEnd (lines_after ended.entry) (end_after ended.entry) (E.stream errors.old) (E.stream errors.new) }
 {
     match ended {
         Ok(lines) => {

@@ -22,28 +22,28 @@ use Rattle.z80dev_make.specs.declared.front.Front.{Front}
 use Rattle.z80dev_make.specs.declared.jumps.Jumps.{Jumps}
 
 -- A source as warnings show it: its path, the line of each statement, and its module.
-pub record Shown : Type 0 where
+pub record ShownSource : Type 0 where
   pub path : List ℕ
   pub lines : List ℕ
   pub holds : Module
 
-abbrev pub source_shown : Front → SourceFile × Assembled → Shown
+abbrev pub source_shown : Front → SourceFile × Assembled → ShownSource
 source_shown front (file, a) = record { path = file.path.now; lines = map (earlier (front_lines front)) a.each; holds = a.holds }
 
 -- the line of a statement, as PATH(LINE)
-abbrev pub place_in : ℕ → Option Shown → List ℕ
+abbrev pub place_in : ℕ → Option ShownSource → List ℕ
 place_in statement None = []
 place_in statement (Some s) = s.path ++ codes "(" ++ decimal (slice_index s.lines statement) ++ codes ")"
 
-abbrev pub place_text : List Shown → Site → List ℕ
-place_text sources at = place_in at.statement (slice_get sources at.«module»)
+abbrev pub site_text : List ShownSource → Site → List ℕ
+site_text sources at = place_in at.statement (slice_get sources at.«module»)
 
 abbrev pub here : List ℕ
 here = codes "$"
 
 -- the name of the first label at a statement; an address without a label is `$` in the line of an EQU
-abbrev pub label_name : Module → ℕ → List ℕ
-label_name m statement = option_map_or (λ l. l.name) (find (λ l. l.statement == statement) m.labels) here
+abbrev pub label_name_at : Module → ℕ → List ℕ
+label_name_at m statement = option_map_or (λ l. l.name) (find (λ l. l.statement == statement) m.labels) here
 
 abbrev pub external_name : Module → ℕ → List ℕ
 external_name m number = option_map_or (λ name. name) (slice_get m.externals number) here
@@ -52,7 +52,7 @@ external_name m number = option_map_or (λ name. name) (slice_get m.externals nu
 abbrev pub reference_name : Module → ℕ → ℕ → List ℕ
 reference_name m statement ref =
     if ref == statement then here
-    else if nat_le ref (length m.statements) then label_name m ref
+    else if nat_le ref (length m.statements) then label_name_at m ref
     else external_name m (ref - (length m.statements + 1))
 
 abbrev pub condition_text : Option ShortCond → List ℕ
@@ -67,14 +67,14 @@ abbrev pub fixed_jump : Module → ℕ → ModuleStatement → List ℕ
 fixed_jump m statement (object.Jump marked condition target) = codes "JP " ++ condition_text condition ++ reference_name m statement target ++ codes "+0"
 fixed_jump m statement _ = []
 
-abbrev pub fixed_in : ℕ → Option Shown → List ℕ
+abbrev pub fixed_in : ℕ → Option ShownSource → List ℕ
 fixed_in statement None = []
 fixed_in statement (Some s) = option_map_or (fixed_jump s.holds statement) (slice_get s.holds.statements statement) []
 
-abbrev pub fixed_text : List Shown → Site → List ℕ
+abbrev pub fixed_text : List ShownSource → Site → List ℕ
 fixed_text sources at = fixed_in at.statement (slice_get sources at.«module»)
 
-abbrev pub shown_name : ℕ → ℕ → Option Shown → List ℕ
+abbrev pub shown_name : ℕ → ℕ → Option ShownSource → List ℕ
 shown_name statement ref None = []
 shown_name statement ref (Some s) = reference_name s.holds statement ref
 
@@ -82,17 +82,17 @@ shown_name statement ref (Some s) = reference_name s.holds statement ref
 abbrev pub signed_text : ℕ → List ℕ
 signed_text bytes = if nat_lt bytes 32768 then codes "+" ++ decimal bytes else codes "-" ++ decimal (65536 - bytes)
 
-abbrev pub offset_text : List Shown → Site → Offset → List ℕ
-offset_text sources at offset = shown_name at.statement offset.reference (slice_get sources at.«module») ++ signed_text offset.bytes
+abbrev pub shown_offset_text : List ShownSource → Site → Offset → List ℕ
+shown_offset_text sources at offset = shown_name at.statement offset.reference (slice_get sources at.«module») ++ signed_text offset.bytes
 
 -- what the line of a warning about an offset says of the jump
-abbrev pub jump_over_text : List Shown → Site → List ℕ
-jump_over_text sources jump = codes " depends on the length of a jump at " ++ place_text sources jump ++ codes ": write " ++ fixed_text sources jump ++ codes " there to keep 3 bytes\n"
+abbrev pub jump_over_text : List ShownSource → Site → List ℕ
+jump_over_text sources jump = codes " depends on the length of a jump at " ++ site_text sources jump ++ codes ": write " ++ fixed_text sources jump ++ codes " there to keep 3 bytes\n"
 
-abbrev pub warning_text : List Shown → Warning → List ℕ
-warning_text sources (warning.Over at offset jump) = codes "warning: " ++ place_text sources at ++ codes ": " ++ offset_text sources at offset ++ jump_over_text sources jump
+abbrev pub warning_text : List ShownSource → Warning → List ℕ
+warning_text sources (warning.Over at offset jump) = codes "warning: " ++ site_text sources at ++ codes ": " ++ shown_offset_text sources at offset ++ jump_over_text sources jump
 warning_text sources (warning.Entry at) =
-    codes "warning: " ++ place_text sources at ++ codes ": only a computed jump reaches this jump, whose length may change: write " ++ fixed_text sources at ++ codes " to keep 3 bytes\n"
+    codes "warning: " ++ site_text sources at ++ codes ": only a computed jump reaches this jump, whose length may change: write " ++ fixed_text sources at ++ codes " to keep 3 bytes\n"
 
 abbrev pub most_warnings : ℕ
 most_warnings = 10
@@ -102,7 +102,7 @@ abbrev pub more_text : ℕ → List ℕ
 more_text count = if nat_lt most_warnings count then codes "warning: " ++ decimal (count - most_warnings) ++ codes " more\n" else []
 
 -- a line for each of the first ten warnings, and one with the number of the others
-abbrev pub jump_warning_lines : List Shown → List Warning → List ℕ
+abbrev pub jump_warning_lines : List ShownSource → List Warning → List ℕ
 jump_warning_lines sources found = flat_map (warning_text sources) (take most_warnings found) ++ more_text (length found)
 
 -- the modules of a program, with what their externals stand for

@@ -6,7 +6,7 @@ ghost use Rattle.std.specs.Option.{option_map_or};
 ghost use Rattle.zmo_module.specs.Modules.{module_of, statement_of};
 ghost use Rattle.jump_warnings.specs.declared.warnings.Warning.TheVariants as warning;
 ghost use Rattle.z80dev_make.specs.Private.Shown.{shown_of};
-ghost use Rattle.z80dev_make.specs.Warned.{condition_text, external_name, fixed_jump, fixed_text, label_name, more_text, shown_name, offset_text, jump_over_text, place_in, place_text, reference_name, signed_text, jump_warning_lines, warning_text};
+ghost use Rattle.z80dev_make.specs.Warned.{condition_text, external_name, fixed_jump, fixed_text, label_name_at, more_text, shown_name, shown_offset_text, jump_over_text, place_in, site_text, reference_name, signed_text, jump_warning_lines, warning_text};
 
 use asm_module::Module;
 use jump_warnings::{Offset, Site, Warning};
@@ -76,7 +76,7 @@ fn put_place(
     sources: &[Shown<'_>],
     site: Site,
 ) -> Result<(), AllocError>
-    ensures { OnOk result (out.new.items ≡ out.old.items ++ place_text (map shown_of sources.now) site) }
+    ensures { OnOk result (out.new.items ≡ out.old.items ++ site_text (map shown_of sources.now) site) }
 {
     match sources.get(site.module) {
         Some(source) => put_line(alloc, out, source, site.statement),
@@ -86,7 +86,7 @@ fn put_place(
 
 /// Answers the name of the first label at a statement.
 fn label_at(module: &Module, reference: usize) -> &[u8]
-    ensures { result.now ≡ label_name (module_of «module».now) reference }
+    ensures { result.now ≡ label_name_at (module_of «module».now) reference }
 {
     for label in &module.labels {
         if usize::from(label.statement) == reference {
@@ -215,7 +215,7 @@ fn put_offset(
     site: Site,
     offset: Offset,
 ) -> Result<(), AllocError>
-    ensures { OnOk result (out.new.items ≡ out.old.items ++ offset_text (map shown_of sources.now) site offset) }
+    ensures { OnOk result (out.new.items ≡ out.old.items ++ shown_offset_text (map shown_of sources.now) site offset) }
 {
     put_name(out, sources, site, offset.reference)?;
     put_signed(alloc, out, offset.bytes)

@@ -5,7 +5,7 @@ use Rattle.std.proofs.lemmas.Bool.{cases_eq}
 use Rattle.std.proofs.lemmas.Bool.Decides.{nat_tests}
 use Rattle.std.proofs.Math.Seq.{take-append_seam}
 use Rattle.std.proofs.lemmas.List.{get_or-replicate, length-replicate}
-use Rattle.z80dev_run.specs.Labelled.{label_number, last_at, last_below}
+use Rattle.z80dev_run.specs.Labelled.{nearest_number, last_at, last_below}
 
 -- at the start no address has a number
 pub all_zero : (n : ℕ) (numbers : List ℕ) → numbers ≡ replicate n 0 → length numbers ≡ n
@@ -41,7 +41,7 @@ last_same f g (suc n) same =
 
 -- the filled numbers are those of the labels
 pub numbered : (labels : List (ℕ × List ℕ)) (n : ℕ) (old new filled : List ℕ) → length old ≡ n → length new ≡ n → filled ≡ new → ((a : ℕ) → a < n → slice_index old a ≡ last_at 0 0 labels a)
-    → ((a : ℕ) → a < length old → slice_index new a ≡ last_below (slice_index old) (suc a)) → (length filled ≡ n) × ((a : ℕ) → a < n → slice_index filled a ≡ label_number labels a)
+    → ((a : ℕ) → a < length old → slice_index new a ≡ last_below (slice_index old) (suc a)) → (length filled ≡ n) × ((a : ℕ) → a < n → slice_index filled a ≡ nearest_number labels a)
 numbered labels n old new filled before after is each fill = (
   ap length is ∙ after,
   λ a below.

@@ -25,8 +25,8 @@ last_below number zero = 0
 last_below number (suc address) = if number address == 0 then last_below number address else number address
 
 -- the number of the label of an address, from 1: the last at the highest address up to this one that has a label; 0 if there is none
-abbrev pub label_number : List (ℕ × List ℕ) → ℕ → ℕ
-label_number labels address = last_below (last_at 0 0 labels) (suc address)
+abbrev pub nearest_number : List (ℕ × List ℕ) → ℕ → ℕ
+nearest_number labels address = last_below (last_at 0 0 labels) (suc address)
 
 -- the label with this number, and how many bytes after it an address is
 abbrev pub offset_from : List (ℕ × List ℕ) → ℕ → ℕ → Option (List ℕ × ℕ)
@@ -36,18 +36,18 @@ abbrev pub is_in_program : ℕ → ℕ → Bool
 is_in_program size address = nat_le FIRST_PLACE address && nat_lt (address - FIRST_PLACE) size
 
 -- the label of an address of the program, and how many bytes after it the address is
-abbrev pub label_at : Known → ℕ → Option (List ℕ × ℕ)
-label_at known address = if is_in_program known.size address then offset_from known.labels address (label_number known.labels address) else None
+abbrev pub nearest_label : Known → ℕ → Option (List ℕ × ℕ)
+nearest_label known address = if is_in_program known.size address then offset_from known.labels address (nearest_number known.labels address) else None
 
 -- the number of the label of each address
 pub record AreNumbers (labels : List (ℕ × List ℕ)) (numbers : List ℕ) : Type 0 where
   pub size : length numbers ≡ ADDRESSES
-  pub each : (address : ℕ) → address < ADDRESSES → slice_index numbers address ≡ label_number labels address
+  pub each : (address : ℕ) → address < ADDRESSES → slice_index numbers address ≡ nearest_number labels address
 
 abbrev pub offset_text : ℕ → List ℕ
 offset_text n = if n == 0 then [] else codes "+" ++ decimal n
 
 -- a label and the offset in decimal, as in START+5; `-` if there is no label
-abbrev pub label_text : Option (List ℕ × ℕ) → List ℕ
-label_text None = codes "-"
-label_text (Some label) = label.0 ++ offset_text label.1
+abbrev pub nearest_text : Option (List ℕ × ℕ) → List ℕ
+nearest_text None = codes "-"
+nearest_text (Some label) = label.0 ++ offset_text label.1

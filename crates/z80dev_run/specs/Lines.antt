@@ -8,19 +8,19 @@ use Rattle.z80_table.specs.Types.{Instr}
 use Rattle.z80_table.specs.declared.DecodeFault.{DecodeFault}
 use Rattle.cpm_run.specs.Turns.{Call, Entry, Place, Program, place_at_pc}
 use Rattle.cpm_run.specs.declared.recording.TraceStep.{TraceStep}
-use Rattle.z80dev_run.specs.Labelled.{Known, label_at, label_text}
+use Rattle.z80dev_run.specs.Labelled.{Known, nearest_label, nearest_text}
 use Rattle.z80dev_run.specs.Text.{blanks, column, on_right, word_text}
 
 -- how many bytes the instruction at the front of these has; all are shown if there is none
-abbrev pub size_of : Result (Instr × ℕ) DecodeFault → ℕ
-size_of (Ok found) = found.1
-size_of (Err why) = 4
+abbrev pub decoded_size : Result (Instr × ℕ) DecodeFault → ℕ
+decoded_size (Ok found) = found.1
+decoded_size (Err why) = 4
 
 -- how many bytes of a step are shown: none if it is a call of the system
 abbrev pub shown_size : Place → List ℕ → ℕ
 shown_size Call bytes = 0
 shown_size (Entry n) bytes = 0
-shown_size Program bytes = size_of (read bytes)
+shown_size Program bytes = decoded_size (read bytes)
 
 -- The text of an instruction; its characters are not part of this definition.
 abbrev pub ShowsInstr : Result (Instr × ℕ) DecodeFault → List ℕ → Type 0
@@ -60,7 +60,7 @@ changes old new = main_changes old new ++ index_changes old new ++ shadow_change
 -- the place of a step: its number, its address, the label of the address, and its bytes
 abbrev pub place_text : Known → TraceStep → List ℕ
 place_text known step =
-    on_right 8 (decimal step.number) ++ blanks 1 ++ column 4 (word_text step.before.pc) ++ column 12 (label_text (label_at known step.before.pc))
+    on_right 8 (decimal step.number) ++ blanks 1 ++ column 4 (word_text step.before.pc) ++ column 12 (nearest_text (nearest_label known step.before.pc))
     ++ column 8 (encode_upper (take (shown_size (place_at_pc step.before.pc) step.bytes) step.bytes))
 
 -- what a step does, and the registers that it has changed, if any, in a column of their own

@@ -3,7 +3,7 @@ use Rattle.std.specs.Prelude.{◌≡◌, ◌+◌, ◌-◌, ◌*◌, ◌^◌, ◌
 use Rattle.std.specs.List.{flat_map}
 use Rattle.std.specs.List.Sorted.{IsNonDecreasingBy, IsPermutation}
 use Rattle.z80dev_run.specs.declared.profile.Counted.{Counted}
-use Rattle.z80dev_run.specs.Labelled.{Known, label_at, label_text}
+use Rattle.z80dev_run.specs.Labelled.{Known, nearest_label, nearest_text}
 use Rattle.z80dev_run.specs.Text.{blanks, on_right, word_text}
 
 -- the addresses at which steps were made, with their numbers, if the counts begin with that of address n
@@ -16,7 +16,7 @@ abbrev pub order_of : Counted → ℕ
 order_of row = (2 ^ 64 - 1 - row.count) * 65536 + row.address
 
 abbrev pub profile_line : Known → Counted → List ℕ
-profile_line known row = on_right 10 (decimal row.count) ++ blanks 1 ++ word_text row.address ++ blanks 1 ++ label_text (label_at known row.address) ++ codes "\n"
+profile_line known row = on_right 10 (decimal row.count) ++ blanks 1 ++ word_text row.address ++ blanks 1 ++ nearest_text (nearest_label known row.address) ++ codes "\n"
 
 -- A profile: the number of all steps, and a line for each address at which steps were made.
 abbrev pub IsProfile : Known → List ℕ → ℕ → List ℕ → Type 0

@@ -10,7 +10,7 @@ use Rattle.cpm_bdos.specs.declared.function.Function.TheVariants as function
 use Rattle.cpm_bdos.specs.declared.function.SearchCall.TheVariants as searching
 use Rattle.cpm_run.specs.Turns.{Call, Entry, Place, Program, is_finished, place_at_pc}
 use Rattle.cpm_run.specs.declared.recording.TraceStep.{TraceStep}
-use Rattle.z80dev_run.specs.Labelled.{Known, is_in_program, label_at, label_text}
+use Rattle.z80dev_run.specs.Labelled.{Known, is_in_program, nearest_label, nearest_text}
 use Rattle.z80dev_run.specs.Text.{blanks, word_text}
 
 -- a register and its value, as in BC=0009
@@ -62,7 +62,7 @@ stack_line cpu memory = codes "stack at " ++ word_text cpu.sp ++ codes ":" ++ fo
 
 -- where a call of the system returns to, with the label there
 abbrev pub return_text : Known → ℕ → List ℕ
-return_text known address = codes "returns to " ++ word_text address ++ blanks 1 ++ label_text (label_at known address) ++ codes "\n"
+return_text known address = codes "returns to " ++ word_text address ++ blanks 1 ++ nearest_text (nearest_label known address) ++ codes "\n"
 
 -- the line for a call of the system
 abbrev pub return_line : Place → Known → ℕ → List ℕ
@@ -105,10 +105,10 @@ outside_text known None = []
 outside_text known (Some address) = if is_in_program known.size address then [] else codes "ended by a jump from " ++ word_text address ++ codes ", outside the program\n"
 
 -- the line for a program that has finished by a jump from outside of its bytes
-abbrev pub end_line : Known → Cpu → List TraceStep → List ℕ
-end_line known cpu steps = if is_finished cpu.pc then outside_text known (came_from (step_from_end 0 steps) (step_from_end 1 steps)) else []
+abbrev pub ended_line : Known → Cpu → List TraceStep → List ℕ
+ended_line known cpu steps = if is_finished cpu.pc then outside_text known (came_from (step_from_end 0 steps) (step_from_end 1 steps)) else []
 
 -- The machine at the end of a run whose last steps are known.
 abbrev pub machine_text : Known → Cpu → List ℕ → List TraceStep → List ℕ
 machine_text known cpu memory steps =
-    main_line cpu ++ shadow_line cpu ++ stack_line cpu memory ++ return_line (place_at_pc cpu.pc) known (word_at cpu.sp memory) ++ fcb_line cpu memory ++ end_line known cpu steps
+    main_line cpu ++ shadow_line cpu ++ stack_line cpu memory ++ return_line (place_at_pc cpu.pc) known (word_at cpu.sp memory) ++ fcb_line cpu memory ++ ended_line known cpu steps

@@ -5,9 +5,9 @@ use Rattle.z80dev_run.specs.Labelled.{Known}
 use Rattle.z80dev_run.specs.Lines.{IsTrace}
 
 -- how many steps a trace file leaves out
-abbrev pub more_text : ℕ → List ℕ
-more_text n = if n == 0 then [] else decimal n ++ codes " more steps\n"
+abbrev pub more_steps_text : ℕ → List ℕ
+more_steps_text n = if n == 0 then [] else decimal n ++ codes " more steps\n"
 
 -- A trace file: the lines of these steps, and how many more the run made.
 abbrev pub IsTraceFile : Known → List TraceStep → ℕ → List ℕ → Type 0
-IsTraceFile known steps turns text = (lines : List ℕ) × IsTrace known steps lines × (text ≡ lines ++ more_text (turns - length steps))
+IsTraceFile known steps turns text = (lines : List ℕ) × IsTrace known steps lines × (text ≡ lines ++ more_steps_text (turns - length steps))

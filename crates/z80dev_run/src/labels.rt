@@ -3,7 +3,7 @@
 ghost use Rattle.std.specs.Prelude.{◌≡◌, ◌<◌, ℕ, suc, IfOk, length, map, slice_index};
 ghost use Rattle.std.specs.Option.{option_map};
 ghost use Rattle.disassembler.specs.Reading.{label_parts};
-ghost use Rattle.z80dev_run.specs.Labelled.{is_in_program, label_at, last_at, last_below, parts_of};
+ghost use Rattle.z80dev_run.specs.Labelled.{is_in_program, nearest_label, last_at, last_below, parts_of};
 
 use common::FIRST_PLACE;
 use disassembler::Label;
@@ -107,7 +107,7 @@ impl Labels {
 
     /// The label of an address of the program, and how many bytes after it the address is.
     pub fn find(&self, address: u16) -> Option<(&[u8], u16)>
-        ensures { option_map (λ found. (found.0.now, found.1)) result ≡ label_at self.now address }
+        ensures { option_map (λ found. (found.0.now, found.1)) result ≡ nearest_label self.now address }
     {
         if !self.has(address) {
             return None;

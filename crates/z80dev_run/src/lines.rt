@@ -3,7 +3,7 @@
 ghost use Rattle.std.specs.Prelude.{◌≡◌, ◌≤◌, ◌++◌, IfOk, OnOk, string_bytes, take};
 ghost use Rattle.cpm_run.specs.Turns.{place_at_pc};
 ghost use Rattle.hex.specs.Hex.{encode_upper};
-ghost use Rattle.z80dev_run.specs.Labelled.{label_at, label_text};
+ghost use Rattle.z80dev_run.specs.Labelled.{nearest_label, nearest_text};
 ghost use Rattle.z80dev_run.specs.Text.{word_text};
 ghost use Rattle.z80dev_run.specs.Lines.{IsTrace, IsTraceLine, ShowsAt, change_text, changes, done_text, index_changes, main_changes, other_changes, place_text, shadow_changes, shown_size};
 
@@ -49,7 +49,7 @@ fn shown(alloc: Global, step: &TraceStep) -> Result<String, AllocError>
 
 /// Answers the label of an address with its offset.
 pub(crate) fn label_of(alloc: Global, labels: &Labels, address: u16) -> Result<Vec<u8>, AllocError>
-    ensures { IfOk result (λ text. text.items ≡ label_text (label_at labels.now address)) }
+    ensures { IfOk result (λ text. text.items ≡ nearest_text (nearest_label labels.now address)) }
 {
     let Some((name, offset)) = labels.find(address) else {
         return Vec::from_slice(alloc, b"-");

@@ -3,7 +3,7 @@
 ghost use Rattle.std.specs.Prelude.{◌≡◌, ◌++◌, IfOk, OnOk, map, option_copied};
 ghost use Rattle.cpm_run.specs.Turns.{place_at_pc};
 ghost use Rattle.z80_cpu.specs.State.{af, bc, de, hl, word_at};
-ghost use Rattle.z80dev_run.specs.Registers.{came_from, end_line, fcb_line, flag_letter, flags_text, four_words, index_text, machine_text, main_line, name_byte, name_text, outside_text, pairs_text, return_line, return_text, shadow_line, shadow_pairs_text, stack_line, step_from_end, takes_fcb, value_column, value_text, word_there};
+ghost use Rattle.z80dev_run.specs.Registers.{came_from, ended_line, fcb_line, flag_letter, flags_text, four_words, index_text, machine_text, main_line, name_byte, name_text, outside_text, pairs_text, return_line, return_text, shadow_line, shadow_pairs_text, stack_line, step_from_end, takes_fcb, value_column, value_text, word_there};
 
 use crate::labels::Labels;
 use crate::lines::label_of;
@@ -308,7 +308,7 @@ fn put_end_line(
     last: &VecDeque<TraceStep>,
     labels: &Labels,
 ) -> Result<(), AllocError>
-    ensures { OnOk result (out.new.items ≡ out.old.items ++ end_line labels.now cpu.now last.now.items) }
+    ensures { OnOk result (out.new.items ≡ out.old.items ++ ended_line labels.now cpu.now last.now.items) }
 {
     if !is_finished(cpu.pc) {
         return Ok(());

@@ -1,7 +1,7 @@
 //! Prints what a run has kept of its steps.
 
 ghost use Rattle.std.specs.Prelude.{◌≡◌, IfOk};
-ghost use Rattle.cpm_run.specs.Records.{last_of};
+ghost use Rattle.cpm_run.specs.Records.{last_items};
 ghost use Rattle.z80dev_run.specs.Lines.{IsTrace};
 ghost use Rattle.z80dev_run.specs.Reports.{IsTraceFile};
 
@@ -50,7 +50,7 @@ pub fn last_lines(
     most: usize,
     labels: &Labels,
 ) -> Result<Vec<u8>, AllocError>
-    ensures { IfOk result (λ text. IsTrace labels.now (last_of most kept.now.last.items) text.items) }
+    ensures { IfOk result (λ text. IsTrace labels.now (last_items most kept.now.last.items) text.items) }
 {
     let steps = copied(alloc, &kept.last)?;
     let from = steps.len().saturating_sub(most);

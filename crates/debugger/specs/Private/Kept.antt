@@ -1,12 +1,12 @@
 -- What a history keeps.
 use Rattle.std.specs.Prelude.{◌≡◌, ℕ, List, All, Option, None}
 use Rattle.debugger.specs.declared.kept.Kept.{Kept}
-use Rattle.debugger.specs.Walk.{IsAfter, Point, State}
+use Rattle.debugger.specs.Walk.{IsAfter, Point, MemoryState}
 
 -- a state that the run goes on from, with its number
-abbrev pub IsKept : State → Kept → Type 0
+abbrev pub IsKept : MemoryState → Kept → Type 0
 IsKept start kept = IsAfter start kept.turn (record { state = kept.snapshot; end = None })
 
-pub record IsHistory (start : State) (kept : List Kept) (turn : ℕ) (now : Point) : Type 0 where
+pub record IsHistory (start : MemoryState) (kept : List Kept) (turn : ℕ) (now : Point) : Type 0 where
   pub kept_are : All (IsKept start) kept
   pub now_is : IsAfter start turn now

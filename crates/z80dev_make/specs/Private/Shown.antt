@@ -7,13 +7,13 @@ use Rattle.jump_warnings.specs.Parts.{Member}
 use Rattle.zlink.specs.declared.program.joining.Links.{Links}
 use Rattle.z80dev_make.specs.declared.answer.SourceFile.{SourceFile}
 use Rattle.z80dev_make.specs.declared.warned.Shown as code
-use Rattle.z80dev_make.specs.Warned.{Shown}
+use Rattle.z80dev_make.specs.Warned.{ShownSource}
 
-abbrev pub shown_of : code.Shown → Shown
+abbrev pub shown_of : code.Shown → ShownSource
 shown_of s = record { path = s.path.now; lines = s.lines.now; holds = module_of s.«module».now }
 
 abbrev pub member_with : held.Module × Links → Member
 member_with (m, links) = record { holds = module_of m; externals = links.externals.items }
 
-abbrev pub shown_in : SourceFile × (Vec ℕ Global × held.Module) → Shown
+abbrev pub shown_in : SourceFile × (Vec ℕ Global × held.Module) → ShownSource
 shown_in (file, (lines, m)) = record { path = file.path.now; lines = lines.items; holds = module_of m }

@@ -1,6 +1,6 @@
 use Rattle.std.proofs.Common.{◌≡◌, None, map, subst}
 use Rattle.z80dev_make.specs.Defines.{first_bad}
-use Rattle.z80dev_jobs.specs.Command.{ReportsLines, TellsLines}
+use Rattle.z80dev_jobs.specs.Command.{ReportsLines, TellsAtEnd}
 use Rattle.z80dev_jobs.specs.Making.{AsmEnds, defines_of}
 use Rattle.z80dev_jobs.specs.Private.Steps.{JudgesDefines, end_after, lines_after}
 use Rattle.z80dev_jobs.specs.World.{world_of}
@@ -21,7 +21,7 @@ returns g c = λ input.
     let ended = c.asm_file.result in
     let judged = subst (JudgesDefines (first_bad (map (λ word. word.now) c.deref.result.now)) errors mid) c.in_default.is c.refuse_define.ensures in
     let none = subst (λ words. first_bad (map (λ word. word.now) words) ≡ None) c.deref.ensures.value judged.0 in
-    let tells = subst (λ s. TellsLines (lines_after ended) (end_after ended) s told) judged.1 c.report_lines.ensures.told in
+    let tells = subst (λ s. TellsAtEnd (lines_after ended) (end_after ended) s told) judged.1 c.report_lines.ensures.told in
     let Ends = AsmEnds c.args.job.now in
     goes_on (first_bad (defines_of shared)) (ReportsLines Ends) (world_of old input before errors) (world_of new input after told) c.report_lines.result none
     (reported_lined Ends old new input before after errors told ended c.report_lines.result c.asm_file.ensures c.report_lines.ensures.status tells)
