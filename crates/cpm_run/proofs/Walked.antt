@@ -15,7 +15,7 @@ use Rattle.cpm_run.specs.Run.{TurnsEnd}
 use Rattle.cpm_run.specs.Turns.{Goes, IsTurn, RunState, is_finished}
 use Rattle.cpm_run.specs.Turns.Goes.{none as no_turns, more as one_more}
 use Rattle.cpm_run.specs.Walks.{KeepsWalk, WalkEnds, WalksTo, trace_step}
-use Rattle.cpm_run.specs.Walks.Walks.{none, more}
+use Rattle.cpm_run.specs.Walks.WalksTo.{none, more}
 
 module _ {S C : Type 0} (sectors : S → Image) (faults : S → ℕ) (dialog : C → Dialog) where
   -- the steps of a walk are that number of steps

@@ -7,7 +7,7 @@ use Rattle.cpm_run.specs.Run.{TurnsEnd}
 use Rattle.cpm_run.specs.Turns.{Goes, is_finished}
 use Rattle.cpm_run.specs.Turns.Goes.{none as no_steps, more as one_more}
 use Rattle.debugger.specs.Walk.{IsAfter, IsNextPoint, LeadsBy, Point, MemoryState, MakesTurn, end_after, first_point, limit_end, never}
-use Rattle.debugger.specs.Walk.Leads.{none, more}
+use Rattle.debugger.specs.Walk.LeadsBy.{none, more}
 
 abbrev Steps : ℕ → MemoryState → MemoryState → Type 0
 Steps n old new = Goes (λ image. image) (λ image. 0) (λ dialog. dialog) n old new

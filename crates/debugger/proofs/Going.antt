@@ -6,7 +6,7 @@ use Rattle.cpm_run.specs.declared.ending.Why.{Why}
 use Rattle.debugger.specs.Private.Kept.{IsKept}
 use Rattle.debugger.specs.Stops.{IsLastBefore}
 use Rattle.debugger.specs.Walk.{IsAfter, IsNextPoint, IsTrue_of_run, LeadsBy, Point, Shown, MemoryState, first_point, never}
-use Rattle.debugger.specs.Walk.Leads.{none, more}
+use Rattle.debugger.specs.Walk.LeadsBy.{none, more}
 use Rattle.debugger.specs.declared.kept.Kept.{Kept}
 
 -- the beginning of a run

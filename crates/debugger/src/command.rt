@@ -180,13 +180,41 @@ fn labelled(word: &str, symbols: &[Symbol<'_>]) -> Option<u16> {
     None
 }
 
-/// The address that a word is: a number of the language, or a label.
+/// The address that the answers print as this word: four hexadecimal digits.
+fn printed(word: &str) -> Option<u16> {
+    if word.len() == 4 && word.bytes().all(|byte| byte.is_ascii_hexdigit()) {
+        u16::from_str_radix(word, 16).ok()
+    } else {
+        None
+    }
+}
+
+/// The address after a label, as in `TEXT+1`.
+fn after_label(
+    alloc: Global,
+    word: &str,
+    symbols: &[Symbol<'_>],
+) -> Result<Option<u16>, AllocError> {
+    let Some((name, offset)) = word.split_once('+') else {
+        return Ok(None);
+    };
+    let offset = number_of(alloc, offset)?;
+    Ok(match (labelled(name, symbols), offset) {
+        (Some(address), Some(offset)) => Some(address.wrapping_add(offset)),
+        _ => None,
+    })
+}
+
+/// The address that a word is: a label, an address as the answers print it, or a number of the language.
 fn address_of(
     alloc: Global,
     word: &str,
     symbols: &[Symbol<'_>],
 ) -> Result<Option<u16>, AllocError> {
-    Ok(number_of(alloc, word)?.or(labelled(word, symbols)))
+    if let Some(address) = labelled(word, symbols).or(printed(word)) {
+        return Ok(Some(address));
+    }
+    Ok(after_label(alloc, word, symbols)?.or(number_of(alloc, word)?))
 }
 
 /// A number of turns.

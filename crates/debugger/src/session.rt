@@ -36,7 +36,8 @@ stack                 the words on top of the stack
 output                what the program has printed
 help                  this list
 quit                  end the session
-ADDR is a number of the assembler or a label. A turn that writes the same value does not change a byte.
+ADDR is a label, a label and a number as in TEXT+1, four hexadecimal digits as they are printed, or a number of
+the assembler, as 125H. A turn that writes the same value does not change a byte.
 ";
 
 /// What is printed for a line that is not a command: nothing for a blank one.

@@ -1,6 +1,6 @@
 use Rattle.std.proofs.Common.{[], ◌∙◌, sym, refl, arith, None, Some}
 use Rattle.z80_cpu.specs.State.{machine}
-use Rattle.cpm_run.specs.Walks.Walks.{none}
+use Rattle.cpm_run.specs.Walks.WalksTo.{none}
 use Rattle.cpm_run.proofs.Going.{at, none_of, turn_as}
 use Rattle.cpm_run.proofs.Walked.{walk_stops, walked_on}
 use Rattle.cpm_run.proofs.tracing.traced_turns.Goals as goal

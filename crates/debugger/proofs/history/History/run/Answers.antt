@@ -1,6 +1,6 @@
 use Rattle.std.proofs.Common.{◌∙◌, arith, refl, subst, sym}
 use Rattle.debugger.specs.Walk.{IsTrue_of_run, Shown}
-use Rattle.debugger.specs.Walk.Leads.{none, more}
+use Rattle.debugger.specs.Walk.LeadsBy.{none, more}
 use Rattle.debugger.proofs.Going.{true_more}
 use Rattle.debugger.proofs.history.History.run.Goals as goal
 
