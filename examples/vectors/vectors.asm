@@ -8,8 +8,9 @@
 ; - The program changes the JP at VECTOR by writing an address to VECTOR+1.
 ;
 ; The linker makes a JP to a label a JR of two bytes if the label is near. Both
-; places would then go wrong, and nothing would report it. The operand NAME+0 is
-; an expression and not a label alone, so such a JP always keeps three bytes.
+; places would then go wrong. build warns of them, but the program is built. The
+; operand NAME+0 is an expression and not a label alone, so such a JP always
+; keeps three bytes.
 
         ORG     0100H
 

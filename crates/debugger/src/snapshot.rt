@@ -24,7 +24,7 @@ impl Model for Snapshot {
     ghost use Rattle.z80_cpu.specs.State.{machine};
     ghost use Rattle.debugger.specs.Walk.{MemoryState};
 
-    ghost Value = { State };
+    ghost Value = { MemoryState };
 
     ghost view = { λ s. record { machine = machine s.cpu s.memory; system = s.system } };
 }
