@@ -1,7 +1,7 @@
 //! The jobs that words ask for, each with the values of its words.
 
 /// What stands before the first line of each source.
-#[derive(Drop)]
+#[derive(Debug, Drop)]
 pub struct Shared<'a> {
     /// The definitions, as `NAME=VALUE`, in the order of the words.
     pub defines: Vec<&'a str>,
@@ -10,7 +10,7 @@ pub struct Shared<'a> {
 }
 
 /// `asm`: assembles a source to an object.
-#[derive(Drop)]
+#[derive(Debug, Drop)]
 pub struct Asm<'a> {
     /// The path of the files to write, without their endings.
     pub out: &'a str,
@@ -24,7 +24,7 @@ pub struct Asm<'a> {
 }
 
 /// `link`: links objects to a program.
-#[derive(Drop)]
+#[derive(Debug, Drop)]
 pub struct Link<'a> {
     /// The path of the files to write, without their endings.
     pub out: &'a str,
@@ -33,7 +33,7 @@ pub struct Link<'a> {
 }
 
 /// `build`: assembles and links sources to a program.
-#[derive(Drop)]
+#[derive(Debug, Drop)]
 pub struct Build<'a> {
     /// The path of the files to write, without their endings. `None` for that of the first source.
     pub out: Option<&'a str>,
@@ -51,7 +51,7 @@ pub struct Build<'a> {
 }
 
 /// `check`: checks a certificate.
-#[derive(Clone, Copy)]
+#[derive(Clone, Copy, Debug)]
 pub struct Check<'a> {
     /// The path of the sizes file.
     pub sizes: &'a str,
@@ -60,7 +60,7 @@ pub struct Check<'a> {
 }
 
 /// `dis`: writes a source that builds to a program.
-#[derive(Drop)]
+#[derive(Debug, Drop)]
 pub struct Dis<'a> {
     /// The path of the file of its labels, if one is given.
     pub labels: Option<&'a str>,
@@ -71,7 +71,7 @@ pub struct Dis<'a> {
 }
 
 /// `dir`: lists the files of a disk.
-#[derive(Clone, Copy)]
+#[derive(Clone, Copy, Debug)]
 pub struct Dir<'a> {
     /// The path of the image.
     pub image: &'a str,
@@ -84,7 +84,7 @@ pub struct Dir<'a> {
 }
 
 /// The image that a command changes, and how.
-#[derive(Clone, Copy)]
+#[derive(Clone, Copy, Debug)]
 pub struct Target<'a> {
     /// The path of the image.
     pub image: &'a str,
@@ -95,7 +95,7 @@ pub struct Target<'a> {
 }
 
 /// How files are put on a disk.
-#[derive(Clone, Copy)]
+#[derive(Clone, Copy, Debug)]
 pub struct Manner {
     /// Whether a file of the same name is replaced.
     pub replace: bool,
@@ -104,7 +104,7 @@ pub struct Manner {
 }
 
 /// `put`: puts a file on a disk.
-#[derive(Clone, Copy)]
+#[derive(Clone, Copy, Debug)]
 pub struct Put<'a> {
     pub target: Target<'a>,
     pub manner: Manner,
@@ -115,7 +115,7 @@ pub struct Put<'a> {
 }
 
 /// `put --to`: puts files on a disk, each with the last part of its path as its name.
-#[derive(Drop)]
+#[derive(Debug, Drop)]
 pub struct PutAll<'a> {
     pub target: Target<'a>,
     pub manner: Manner,
@@ -124,7 +124,7 @@ pub struct PutAll<'a> {
 }
 
 /// `get`: gets files from a disk.
-#[derive(Clone, Copy)]
+#[derive(Clone, Copy, Debug)]
 pub struct Get<'a> {
     /// The path of the image.
     pub image: &'a str,
@@ -139,7 +139,7 @@ pub struct Get<'a> {
 }
 
 /// `get --all`: gets all files of a user from a disk.
-#[derive(Clone, Copy)]
+#[derive(Clone, Copy, Debug)]
 pub struct GetAll<'a> {
     /// The path of the image.
     pub image: &'a str,
@@ -152,7 +152,7 @@ pub struct GetAll<'a> {
 }
 
 /// `erase`: erases files of a disk.
-#[derive(Drop)]
+#[derive(Debug, Drop)]
 pub struct Erase<'a> {
     pub target: Target<'a>,
     /// The names of the files in the order of the words, at least one.
@@ -160,7 +160,7 @@ pub struct Erase<'a> {
 }
 
 /// `rename`: renames a file of a disk.
-#[derive(Clone, Copy)]
+#[derive(Clone, Copy, Debug)]
 pub struct Rename<'a> {
     pub target: Target<'a>,
     /// The name of the file.
@@ -170,7 +170,7 @@ pub struct Rename<'a> {
 }
 
 /// The attribute that `protect` sets and `unprotect` clears.
-#[derive(Clone, Copy)]
+#[derive(Clone, Copy, Debug)]
 pub enum Attribute {
     /// The file is read-only: `erase` refuses it.
     ReadOnly,
@@ -179,7 +179,7 @@ pub enum Attribute {
 }
 
 /// `protect` and `unprotect`: set an attribute of files of a disk, or clear it.
-#[derive(Drop)]
+#[derive(Debug, Drop)]
 pub struct Protect<'a> {
     pub target: Target<'a>,
     pub attribute: Attribute,
@@ -190,7 +190,7 @@ pub struct Protect<'a> {
 }
 
 /// `blank`: makes the image of an empty disk.
-#[derive(Clone, Copy)]
+#[derive(Clone, Copy, Debug)]
 pub struct Blank<'a> {
     /// Whether it is a Megabyte disk.
     pub mega: bool,
@@ -203,7 +203,7 @@ pub struct Blank<'a> {
 }
 
 /// A job on an image of a disk.
-#[derive(Drop)]
+#[derive(Debug, Drop)]
 pub enum DiskJob<'a> {
     Dir(Dir<'a>),
     Put(Put<'a>),
@@ -219,7 +219,7 @@ pub enum DiskJob<'a> {
 }
 
 /// What `run` tells about a run, besides what the program prints.
-#[derive(Clone, Copy)]
+#[derive(Clone, Copy, Debug)]
 pub struct Telling<'a> {
     /// The path of a file of labels, which are then printed beside addresses.
     pub labels: Option<&'a str>,
@@ -236,7 +236,7 @@ pub struct Telling<'a> {
 }
 
 /// `run`: runs a program.
-#[derive(Drop)]
+#[derive(Debug, Drop)]
 pub struct Run<'a> {
     /// The path of the image of its disk, if one is given.
     pub disk: Option<&'a str>,
@@ -252,7 +252,7 @@ pub struct Run<'a> {
 }
 
 /// `debug`: debugs a program.
-#[derive(Drop)]
+#[derive(Debug, Drop)]
 pub struct Debugging<'a> {
     /// The path of the image of its disk, if one is given. It is not written.
     pub disk: Option<&'a str>,
@@ -269,7 +269,7 @@ pub struct Debugging<'a> {
 }
 
 /// The job that the words ask for.
-#[derive(Drop)]
+#[derive(Debug, Drop)]
 pub enum Job<'a> {
     /// No words: assembles the source on standard input to a .COM file, and prints its bytes in hexadecimal.
     Pipe,
