@@ -16,8 +16,8 @@ docs/GUIDE.md in the sources takes you through a whole program.";
 
 pub(crate) const ASM: &str =
     r"Reads SRC and writes the object file BASE.zmo for `z80dev link`. Prints
-nothing. If SRC or a FILE has the path BASE.zmo, nothing is written, and there
-is a line `error: Overwrites(PATH)`.
+nothing but warnings. If SRC or a FILE has the path BASE.zmo, nothing is
+written, and there is a line `error: Overwrites(PATH)`.
 
 `z80dev build --help` explains --define, --with and --no-warn.
 
@@ -40,8 +40,8 @@ pub(crate) const BUILD: &str =
 files: BASE.siz, the size of each statement; BASE.crt, the certificate that no
 choice of short and long jumps gives fewer bytes; and BASE.com, the program. If
 no choice fits, it writes BASE.siz and BASE.crt only, and the certificate shows
-why. Prints nothing; with --grow, prints a line `grown PATH(LINE)` for each JR
-that became a JP.
+why. Prints nothing but warnings; with --grow, prints a line `grown PATH(LINE)`
+for each JR that became a JP.
 
 Without --out, BASE is the path of the first SRC without its ending: src/game
 for src/game.asm. With --list, it also writes BASE.lst and BASE.sym.
@@ -274,7 +274,8 @@ before it and how many bytes after it.
 The status is 0 if the program ends by itself, and 1 if something stops it or it
 is too long to be loaded; then standard error has a line `stopped: WHY at PPPP`.
 If a file is at fault, there is a line `error: ..` instead: the status is 1 if
-IMG is not an image of a disk, and 3 if a file cannot be read or IMG cannot be
-locked or written.
+IMG is not an image of a disk, if SYM is not a file of labels, or if TRC or PRF
+is a file that is read or they are the same, and 3 if a file cannot be read or
+written or IMG cannot be locked.
 
 Example: z80dev run --disk a.img game.com FILE.TXT";
