@@ -6,8 +6,8 @@ ghost use Rattle.z80dev_commands.specs.Commands.{HasValue, FindsAll, FindsAny, F
 ghost use Rattle.z80dev_commands.specs.Private.{AreFound, HasTarget, IsFlag, IsNumber, IsRefused};
 
 use crate::job::{
-    Asm, Attribute, Blank, Build, Check, Debugging, Dir, Dis, DiskJob, Erase, Get, GetAll, Job, Link, Manner,
-    Protect, Put, PutAll, Rename, Run, Shared, Target, Telling,
+    Asm, Attribute, Blank, Build, Check, Debugging, Dir, Dis, DiskJob, Erase, Get, GetAll, Job,
+    Link, Manner, Protect, Put, PutAll, Rename, Run, Shared, Target, Telling,
 };
 use crate::usage;
 use clap::error::ErrorKind;
