@@ -5,7 +5,8 @@
 ;;; Commentary:
 
 ;; (load "/PATH/editors/emacs/z80dev.el") in your init file.  Then files that end with .asm, .mac or .z80 open in `z80dev-mode',
-;; and in a compilation buffer `next-error' goes to the line of `error: PATH(LINE): NAME', and RET to that of `grown PATH(LINE)'.
+;; and in a compilation buffer `next-error' goes to the lines of `error: PATH(LINE): NAME' and of `warning: PATH(LINE): TEXT', and RET to
+;; that of `grown PATH(LINE)'.
 
 ;;; Code:
 
@@ -15,7 +16,10 @@
              '(z80dev "^error: \\(.+\\)(\\([0-9]+\\)): [A-Za-z]+$" 1 2))
 (add-to-list 'compilation-error-regexp-alist-alist
              '(z80dev-grown "^grown \\(.+\\)(\\([0-9]+\\))$" 1 2 nil 0))
+(add-to-list 'compilation-error-regexp-alist-alist
+             '(z80dev-warning "^warning: \\([^(]+\\)(\\([0-9]+\\)): " 1 2 nil 1))
 (add-to-list 'compilation-error-regexp-alist 'z80dev)
+(add-to-list 'compilation-error-regexp-alist 'z80dev-warning)
 (add-to-list 'compilation-error-regexp-alist 'z80dev-grown)
 
 (defconst z80dev-name "[A-Za-z_?@.][A-Za-z0-9_?@.]*")

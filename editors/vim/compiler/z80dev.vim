@@ -9,8 +9,8 @@ let current_compiler = 'z80dev'
 
 CompilerSet makeprg=z80dev\ build\ --list\ --out\ %:r:S\ %:S
 
-" error: PATH(LINE): NAME; grown PATH(LINE); error: NAME, which has no line
-CompilerSet errorformat=%Eerror:\ %f(%l):\ %m,%Igrown\ %f(%l),%Eerror:\ %m,%-G%.%#
+" error: PATH(LINE): NAME; warning: PATH(LINE): TEXT; grown PATH(LINE); error: NAME, which has no line
+CompilerSet errorformat=%Eerror:\ %f(%l):\ %m,%Wwarning:\ %f(%l):\ %m,%Igrown\ %f(%l),%Eerror:\ %m,%-G%.%#
 
 " An error without a line leads nowhere, so the list is opened to show it.
 function! s:Show() abort
