@@ -12,11 +12,10 @@ mod listing;
 mod names;
 mod warning;
 
-pub(crate) use image::{Image, claim, keep};
-pub(crate) use listing::done_with;
-
 use changing::{blank_image, erase_files, protect_files, put_file, put_files, rename_file};
 use getting::{get_every, get_file};
+pub(crate) use image::{Image, claim, keep};
+pub(crate) use listing::done_with;
 use listing::{check_image, dir_image};
 use std::alloc::Global;
 use z80dev::{End, Files, Sink};
@@ -39,17 +38,25 @@ pub(crate) fn do_on_disk<'a, F: Files, W: Sink>(
         DiskJob::Put(put) => put_file(alloc, put.target, put.manner, put.file, put.name, files),
         DiskJob::PutAll(put) => put_files(alloc, put.target, put.manner, &put.files, files),
         DiskJob::Get(get) => get_file(alloc, get, files, output),
-        DiskJob::GetAll(get) => get_every(
-            alloc, get.image, get.user, get.text, get.folder, files,
-        ),
+        DiskJob::GetAll(get) => get_every(alloc, get.image, get.user, get.text, get.folder, files),
         DiskJob::Erase(erase) => erase_files(alloc, erase.target, &erase.names, files),
         DiskJob::Rename(rename) => rename_file(alloc, rename.target, rename.old, rename.new, files),
         DiskJob::Protect(protect) => protect_files(
-            alloc, protect.target, protect.attribute, protect.on, &protect.names, files,
+            alloc,
+            protect.target,
+            protect.attribute,
+            protect.on,
+            &protect.names,
+            files,
         ),
         DiskJob::Check(image) => check_image(alloc, image, files, output),
         DiskJob::Blank(blank) => blank_image(
-            alloc, blank.mega, blank.keep, blank.lock, blank.image, files,
+            alloc,
+            blank.mega,
+            blank.keep,
+            blank.lock,
+            blank.image,
+            files,
         ),
     }
 }

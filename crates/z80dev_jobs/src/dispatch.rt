@@ -200,10 +200,16 @@ fn run_job<F: Files, I: Input, W: Sink + Drop, E: Sink>(
     } = host;
     let steps = job.steps.unwrap_or(STEPS);
     let listing = inputs.list.as_deref();
-    let (mut ran, told) = run_telling(
-        alloc, ready, output, steps, job.telling, &labels, listing,
+    let (mut ran, told) = run_telling(alloc, ready, output, steps, job.telling, &labels, listing);
+    let status = end_run(
+        alloc,
+        job,
+        &inputs,
+        &mut ran,
+        &told,
+        &mut files,
+        &mut errors,
     );
-    let status = end_run(alloc, job, &inputs, &mut ran, &told, &mut files, &mut errors);
     let Ran { output, .. } = ran;
     let host = Host {
         files,

@@ -8,7 +8,8 @@ use crate::outputs::{base_of, program_kinds, refuse_overwriting};
 use crate::reading::{read, read_all};
 use std::alloc::{AllocError, Global};
 use z80dev::{
-    End, Files, Front, Jumps, Kind, Made, Object, Sink, SourceFile, Wanted, asm, build, check_texts, finish, link,
+    End, Files, Front, Jumps, Kind, Made, Object, Sink, SourceFile, Wanted, asm, build,
+    check_texts, finish, link,
 };
 use z80dev_commands::{Asm, Build, Link};
 
@@ -39,7 +40,13 @@ pub(crate) fn asm_file<'a, F: Files, W: Sink>(
     ensures { EndsWithLines (AsmEnds job.now (effect_of (F.folder files.old) (F.folder files.new) (W.stream output.old) (W.stream output.new))) result }
 {
     let shared = &job.shared;
-    refuse_overwriting(alloc, job.out, &[Kind::Object], &shared.files, &[job.source])?;
+    refuse_overwriting(
+        alloc,
+        job.out,
+        &[Kind::Object],
+        &shared.files,
+        &[job.source],
+    )?;
     let fronts = read_all(alloc, &shared.files, files)?;
     let text = read(alloc, job.source, files)?;
     let shared_files = sources_of(alloc, &shared.files, &fronts)?;

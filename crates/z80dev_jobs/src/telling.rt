@@ -14,7 +14,8 @@ use z80_cpu::{Cpu, Memory};
 use z80dev::{End, Files, Sink};
 use z80dev_commands::{Run, Telling};
 use z80dev_run::{
-    Labels, Ran, Ready, Record, TRACE_STEPS, TracedRan, Why, Wish, coverage_file, last_lines, machine_text, profile_file, trace_file,
+    Labels, Ran, Ready, Record, TRACE_STEPS, TracedRan, Why, Wish, coverage_file, last_lines,
+    machine_text, profile_file, trace_file,
 };
 
 /// What a run tells: the bytes of the files to write, and lines for standard error.
@@ -61,7 +62,11 @@ fn wish_of(telling: Telling<'_>) -> Wish
 {
     let last = last_count(telling) as usize;
     Wish {
-        first: if telling.trace.is_some() { TRACE_STEPS } else { 0 },
+        first: if telling.trace.is_some() {
+            TRACE_STEPS
+        } else {
+            0
+        },
         // The step that led to the end, and the one before it, say from where the program came to its end.
         last: if telling.registers { last + 2 } else { last },
         counts: telling.profile.is_some(),
@@ -251,10 +256,7 @@ pub(crate) fn run_telling<S: Sink + Drop>(
         → IfSome result.1 (IsToldRun telling.entry labels.now (option_map (λ text. text.now) listing.entry) program words image input (S.stream output) steps result.0.why result.0.turns) }
 {
     if is_silent(telling) {
-        return (
-            ready.run(alloc, output, steps),
-            Some(Told::nothing(alloc)),
-        );
+        return (ready.run(alloc, output, steps), Some(Told::nothing(alloc)));
     }
     let traced = ready.run_traced(alloc, output, steps, wish_of(telling));
     let told = told_of(alloc, telling, labels, listing, &traced).ok();

@@ -45,8 +45,8 @@ returns-clause-ends g c =
         known,
         prepared.1,
         runs c.args.job.now known inputs claimed old new c.end_run-status.result words c.unwrap_or-steps.result _ ran.why ran.turns ran.pc (concat ran.image) (g.W.Sink.stream ran.output) told
-        (ap (map (λ word. word.now)) c.deref.ensures.value) c.unwrap_or-steps.ensures c.as_deref-listing.ensures.value
-        (c.run_telling-ran.ensures.ran inputs.program.items words inputs.image.items inputs.typed.items prepared.0) (c.run_telling-ran.ensures.told inputs.program.items words inputs.image.items inputs.typed.items prepared.0)
-        c.end_run-status.ensures,
+            (ap (map (λ word. word.now)) c.deref.ensures.value) c.unwrap_or-steps.ensures c.as_deref-listing.ensures.value
+            (c.run_telling-ran.ensures.ran inputs.program.items words inputs.image.items inputs.typed.items prepared.0) (c.run_telling-ran.ensures.told inputs.program.items words inputs.image.items inputs.typed.items prepared.0)
+            c.end_run-status.ensures,
       ),
     ))

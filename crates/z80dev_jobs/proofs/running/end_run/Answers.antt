@@ -6,8 +6,7 @@ use Rattle.z80dev_jobs.proofs.running.end_run.Goals as goal
 pub returns : goal.returns
 returns g c =
     let told = c.args.told.now in
-    let kept = c.keep_all-kept.result in
-    (
+    let kept = c.keep_all-kept.result in (
       c.flush-flushed.result,
       kept,
       c.flush-flushed.ensures,
