@@ -79,6 +79,20 @@ impl<S: Sectors, C: Console> Bdos<S, C> {
         &self.terminal.console
     }
 
+    /// The address of the buffer that the next record is read to or written from.
+    pub fn dma(&self) -> u16
+        ensures { result ≡ self.now.dma }
+    {
+        self.dma
+    }
+
+    /// The user from 0 to 31 whose files the calls see.
+    pub fn user(&self) -> u8
+        ensures { result ≡ self.now.user }
+    {
+        self.user
+    }
+
     /// Makes the system call of the function in C with its argument in DE. The value goes to HL, and L to A and H to B. Other
     /// registers and the flags stay.
     ///

@@ -24,7 +24,7 @@ pub enum Outcome {
     Limit,
 }
 
-/// A run, of which the state after any number of turns can be shown. States are kept at distances that double, so that going back takes
+/// A run that can show its state after any number of turns. States are kept at distances that double, so that going back takes
 /// no more turns than there are between two of them.
 #[derive(Drop)]
 pub struct History {

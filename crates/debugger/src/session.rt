@@ -130,7 +130,7 @@ impl<'a> Session<'a> {
         }
     }
 
-    /// The same session with the listing of the program, of which `where` shows lines.
+    /// The same session with the listing of the program. `where` shows its lines.
     pub fn with_listing(mut self, listing: &'a [u8]) -> Session<'a>
         ensures history { result.history ≡ self.entry.history }
         ensures stops { result.stops ≡ self.entry.stops }
