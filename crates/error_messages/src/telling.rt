@@ -1,0 +1,162 @@
+//! Says what an error means.
+
+ghost use Rattle.std.specs.Prelude.{◌≡◌, ◌<◌, ℕ, List, All, Ok, IfOk, length};
+ghost use Rattle.asm_scan.specs.Tokens.{Lexeme, lexemes};
+ghost use Rattle.asm_scan.specs.Scanned.{scanned};
+ghost use Rattle.error_messages.specs.Places.{CoversTokens, IsInLine};
+ghost use Rattle.error_messages.specs.Texts.{HasLines, IsNote, IsOneLine};
+
+use crate::case::Case;
+use crate::draft::Draft;
+use crate::parts::{Message, Note};
+use crate::place::place_of;
+use crate::shown::shown;
+use crate::{blocks, names, scanning, values};
+use asm_line::form_of;
+use asm_macro::MacroFault;
+use asm_module::{StmtFault, Why};
+use asm_parse::ExprFault;
+use asm_scan::{ScanFault, Token, tokens};
+use source_errors::{Finding, Known};
+use std::alloc::{AllocError, Global};
+
+/// A note as one line of printable ASCII.
+fn printable(alloc: Global, note: &Note) -> Result<Note, AllocError>
+    ensures { IfOk result IsNote }
+{
+    match note {
+        Note::Help(text) => Ok(Note::Help(shown(alloc, text.as_bytes())?)),
+        Note::Note(text) => Ok(Note::Note(shown(alloc, text.as_bytes())?)),
+    }
+}
+
+/// Notes, each as one line of printable ASCII.
+fn all_printable(alloc: Global, notes: &[Note]) -> Result<Vec<Note>, AllocError>
+    ensures { IfOk result (λ all. All IsNote all.items) }
+{
+    let mut all = Vec::new(alloc);
+    for note in notes {
+        all.push(printable(alloc, note)?)?;
+    }
+    Ok(all)
+}
+
+/// The message of a draft, given its line and the tokens of that; none if the line cannot be cut into tokens.
+fn finished(
+    alloc: Global,
+    line: &[u8],
+    tokens: &[Token<'_>],
+    draft: &Draft,
+) -> Result<Message, AllocError>
+    ensures within { IfOk result (λ m. IsInLine line.now m.place) }
+    ensures tokens { IfOk result (λ m. 0 < length tokens.now → CoversTokens line.now (lexemes tokens.entry.now) m.place) }
+    ensures lines { IfOk result HasLines }
+{
+    Ok(Message {
+        place: place_of(line, tokens, draft.spot),
+        text: shown(alloc, draft.text.as_bytes())?,
+        notes: all_printable(alloc, &draft.notes)?,
+    })
+}
+
+/// What is said of a line's statement that has an error.
+fn on_statement(case: &Case<'_>, why: StmtFault) -> Result<Draft, AllocError> {
+    match why {
+        StmtFault::UnknownWord => crate::words::unknown(case),
+        StmtFault::BadOperands => crate::misfit::wrong_operands(case),
+        StmtFault::ByteRange => values::out_of_range(case),
+        StmtFault::NeedsLowOrHigh => values::needs_low_or_high(case),
+        StmtFault::ShortNeedsLabel => values::short_needs_label(case),
+        StmtFault::SizeNamesLabel => values::size_varies(case),
+        StmtFault::BadOrg => values::bad_origin(case),
+        StmtFault::NeedsNumber => values::needs_number(case),
+        StmtFault::ReservedName => names::reserved_name(case),
+        StmtFault::Expr(fault) => on_expression(case, fault),
+        StmtFault::NoMemory => Err(AllocError),
+    }
+}
+
+/// What is said of an expression that is none, or that has no value.
+fn on_expression(case: &Case<'_>, why: ExprFault) -> Result<Draft, AllocError> {
+    match why {
+        ExprFault::Syntax => crate::syntax::no_expression(case),
+        ExprFault::DivideByZero => values::divides_by_zero(case),
+        ExprFault::LabelDivisor => values::divisor_varies(case),
+        ExprFault::TooDeep => values::too_deep(case),
+        ExprFault::TooLarge => values::too_large(case),
+        ExprFault::NoMemory => Err(AllocError),
+    }
+}
+
+/// What is said of a line at which the expansion stops.
+fn on_expansion(case: &Case<'_>, why: MacroFault) -> Result<Draft, AllocError> {
+    match why {
+        MacroFault::Unclosed => blocks::unclosed(case),
+        MacroFault::Stray => blocks::stray(case),
+        MacroFault::TooDeep => blocks::too_deep(case),
+        MacroFault::TooManyLines => blocks::too_many_lines(case),
+        MacroFault::Redefined => blocks::redefined(case),
+        MacroFault::ConditionNamesLabel => blocks::condition_names_label(case),
+        MacroFault::LineTooLong => scanning::too_long(case.alloc, &case.finding.text),
+        MacroFault::Scan(fault) => {
+            scanning::unscanned(case.alloc, &case.finding.text, case.finding.number, fault)
+        }
+        MacroFault::Expr(fault) => on_expression(case, fault),
+        MacroFault::NoMemory => Err(AllocError),
+    }
+}
+
+/// What is said of an error.
+fn drafted(case: &Case<'_>) -> Result<Draft, AllocError> {
+    match case.finding.why {
+        Why::Macro(why) => on_expansion(case, why),
+        Why::Stmt(why) => on_statement(case, why),
+        Why::Duplicate => names::duplicate(case),
+        Why::Undefined => names::undefined(case),
+        Why::PublicNotLabel => names::no_label(case),
+        Why::EquCircle => names::circle(case),
+        Why::TooManyStatements => names::too_many_statements(case),
+        Why::TooManyNames => names::too_many_names(case),
+        Why::NoMemory => Err(AllocError),
+    }
+}
+
+/// Answers the message about an error: where in its line it is, what it means, and what to write instead. `source` is the whole source;
+/// `known` is None if the expansion stopped, so that the lines are not known.
+///
+/// # Errors
+///
+/// `AllocError` if memory ran out, or if that is the error that the finding is about.
+pub fn message(
+    alloc: Global,
+    source: &[u8],
+    finding: &Finding,
+    known: Option<&Known>,
+) -> Result<Message, AllocError>
+    ensures within { IfOk result (λ m. IsInLine finding.now.text.items m.place) }
+    // If the line can be cut into tokens, and has some, the place is one of them, or several side by side.
+    ensures tokens { IfOk result (λ m. (cut : List Lexeme) → scanned finding.now.text.items ≡ Ok cut → 0 < length cut →
+        CoversTokens finding.now.text.items cut m.place) }
+    ensures lines { IfOk result HasLines }
+{
+    let line = finding.text.as_slice();
+    match tokens(alloc, line) {
+        Ok(found) => {
+            let case = Case {
+                alloc,
+                source,
+                finding,
+                known,
+                tokens: &found,
+                form: form_of(&found),
+            };
+            let draft = drafted(&case)?;
+            finished(alloc, line, &found, &draft)
+        }
+        Err(ScanFault::NoMemory) => Err(AllocError),
+        Err(fault) => {
+            let draft = scanning::unscanned(alloc, line, finding.number, fault)?;
+            finished(alloc, line, &[], &draft)
+        }
+    }
+}
