@@ -16,7 +16,7 @@ use Rattle.z80dev_commands.specs.declared.job.Attribute.TheVariants.{ReadOnly, S
 use Rattle.z80dev_commands.specs.declared.job.DiskJob.{DiskJob}
 use Rattle.z80dev_commands.specs.declared.job.DiskJob.TheVariants as on
 use Rattle.z80dev_commands.specs.declared.job.Job.{Job}
-use Rattle.z80dev_commands.specs.declared.job.Job.TheVariants.{Pipe, Asm, Link, Build, Check, Dis, Disk, Run, Debug}
+use Rattle.z80dev_commands.specs.declared.job.Job.TheVariants.{Pipe, Asm, Link, Build, Explain, Check, Dis, Disk, Run, Debug}
 use Rattle.z80dev_commands.specs.declared.job.Manner.{Manner}
 use Rattle.z80dev_commands.specs.declared.job.Shared.{Shared}
 use Rattle.z80dev_commands.specs.declared.job.Target.{Target}
@@ -118,6 +118,10 @@ abbrev pub build_shape : Shape
 build_shape = with_rules (codes "build")
     (base_rule ∷ flag_rule (codes "grow") ∷ flag_rule (codes "list") ∷ verbose_rule ∷ flag_rule (codes "no-warn") ∷ define_rule ∷ with_file_rule ∷ paths_rule (codes "SRC") ∷ [])
 
+-- `explain [--grow] SRC..`
+abbrev pub explain_shape : Shape
+explain_shape = with_rules (codes "explain") (flag_rule (codes "grow") ∷ paths_rule (codes "SRC") ∷ [])
+
 -- `check SIZES CERT`
 abbrev pub check_shape : Shape
 check_shape = with_rules (codes "check") (path_rule (codes "SIZES") ∷ path_rule (codes "CERT") ∷ [])
@@ -181,7 +185,7 @@ bare = record { top = record (new_shape (codes "z80dev")) { disable_help_subcomm
 
 -- the command with the commands that make programs and take them apart
 abbrev pub programs : App
-programs = with_subcommand (with_subcommand (with_subcommand (with_subcommand (with_subcommand bare asm_shape) link_shape) build_shape) check_shape) dis_shape
+programs = with_subcommand (with_subcommand (with_subcommand (with_subcommand (with_subcommand (with_subcommand bare asm_shape) link_shape) build_shape) explain_shape) check_shape) dis_shape
 
 -- with those that list, copy, erase and rename the files of a disk
 abbrev pub with_files : App
@@ -318,6 +322,7 @@ IsJobOf met (Link link) = Meets met (codes "link") (λ rows. HasValue (codes "BA
 IsJobOf met (Build build) = Meets met (codes "build") (λ rows. FindsIfGiven (codes "BASE") build.out rows
     × (is_on (codes "grow") rows ≡ build.grow) × (is_on (codes "list") rows ≡ build.list) × (is_on (codes "verbose") rows ≡ build.verbose)
     × (is_on (codes "no-warn") rows ≡ not build.warn) × FindsShared build.shared rows × FindsAll (codes "SRC") build.sources.items rows)
+IsJobOf met (Explain explain) = Meets met (codes "explain") (λ rows. (is_on (codes "grow") rows ≡ explain.grow) × FindsAll (codes "SRC") explain.sources.items rows)
 IsJobOf met (Check check) = Meets met (codes "check") (λ rows. HasValue (codes "SIZES") check.sizes rows × HasValue (codes "CERT") check.cert rows)
 IsJobOf met (Dis dis) = Meets met (codes "dis") (λ rows. FindsIfGiven (codes "SYM") dis.labels rows
     × FindsAny (codes "ADDR") dis.entries.items rows × HasValue (codes "COM") dis.program rows)

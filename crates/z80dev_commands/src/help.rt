@@ -11,6 +11,9 @@ prints 180100c9.
 Example: z80dev build -o game main.asm print.asm
 writes game.com, which `z80dev run game.com` runs.
 
+Example: z80dev explain main.asm print.asm
+prints every error of these sources, and what to write instead.
+
 `z80dev COMMAND --help` explains what a command reads, writes and prints.
 docs/GUIDE.md in the sources takes you through a whole program.";
 
@@ -61,11 +64,37 @@ A line such as `warning: game.asm(12): ..` tells of code that relies on the leng
 of a jump that may be short or long. The files are written all the same, and the
 status is 0. --no-warn leaves these lines out.
 
+A line such as `error: game.asm(12): Undefined` names the first error, and the
+status is 1. `z80dev explain` prints every error, with its line and what to write
+instead.
+
 Example: z80dev build --list -o game main.asm print.asm
 writes game.siz, game.crt, game.com, game.lst and game.sym.
 
 Example: z80dev build --define DEBUG=1 --with screen.inc main.asm
 defines DEBUG in main.asm, which may use the macros of screen.inc.";
+
+pub(crate) const EXPLAIN: &str =
+    r"Reads each SRC as `z80dev build` does, and prints every error with its place,
+what is wrong, and what to write instead:
+
+main.asm:2:8: error: `LOP` is not defined [Undefined]
+  2 |  JP NZ,LOP
+    |        ^^^
+  help: there is a label `LOOP` (line 1)
+
+The place is the path, the line and the column, which counts bytes from 1. The
+name in brackets is the one that `z80dev build` prints. If there is no error,
+explain prints the warnings about jumps. It prints at most 100 errors or
+warnings, and then how many more there are. It writes no file.
+
+There is no --define and no --with here: a name that only they define counts as
+undefined.
+
+The status is 0 if there is a program and no warning. Otherwise it is 1, and a
+line `error: 3 errors` or `error: 1 warning` on standard error has the number.
+
+Example: z80dev explain main.asm print.asm";
 
 pub(crate) const CHECK: &str =
     r"Reads the sizes and the certificate that link and build write, and prints one

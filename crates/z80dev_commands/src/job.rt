@@ -50,6 +50,15 @@ pub struct Build<'a> {
     pub sources: Vec<&'a str>,
 }
 
+/// `explain`: says what is wrong with sources.
+#[derive(Debug, Drop)]
+pub struct Explain<'a> {
+    /// Whether a written `JR` may become a `JP`.
+    pub grow: bool,
+    /// The paths of the sources in the order of the words, at least one.
+    pub sources: Vec<&'a str>,
+}
+
 /// `check`: checks a certificate.
 #[derive(Clone, Copy, Debug)]
 pub struct Check<'a> {
@@ -276,6 +285,7 @@ pub enum Job<'a> {
     Asm(Asm<'a>),
     Link(Link<'a>),
     Build(Build<'a>),
+    Explain(Explain<'a>),
     Check(Check<'a>),
     Dis(Dis<'a>),
     Disk(DiskJob<'a>),

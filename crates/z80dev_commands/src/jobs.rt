@@ -6,8 +6,8 @@ ghost use Rattle.z80dev_commands.specs.Commands.{HasValue, FindsAll, FindsAny, F
 ghost use Rattle.z80dev_commands.specs.Private.{AreFound, HasTarget, IsFlag, IsNumber, IsRefused};
 
 use crate::job::{
-    Asm, Attribute, Blank, Build, Check, Debugging, Dir, Dis, DiskJob, Erase, Get, GetAll, Job,
-    Link, Manner, Protect, Put, PutAll, Rename, Run, Shared, Target, Telling,
+    Asm, Attribute, Blank, Build, Check, Debugging, Dir, Dis, DiskJob, Erase, Explain, Get, GetAll,
+    Job, Link, Manner, Protect, Put, PutAll, Rename, Run, Shared, Target, Telling,
 };
 use crate::usage;
 use clap::error::ErrorKind;
@@ -191,6 +191,16 @@ fn build<'a>(alloc: Global, found: &ArgMatches<'a>) -> Result<Job<'a>, AllocErro
         verbose: flag(found, "verbose"),
         warn: warn(found),
         shared: shared(alloc, found)?,
+        sources: texts(alloc, found, "SRC")?,
+    }))
+}
+
+fn explain<'a>(alloc: Global, found: &ArgMatches<'a>) -> Result<Job<'a>, AllocError>
+    requires { AreFound (codes "explain") (rows_of (found_of found.now)) }
+    ensures { IfOk result (IsJobOf (Some (codes "explain", rows_of (found_of found.now)))) }
+{
+    Ok(Job::Explain(Explain {
+        grow: flag(found, "grow"),
         sources: texts(alloc, found, "SRC")?,
     }))
 }
@@ -430,6 +440,7 @@ pub(crate) fn job<'a>(alloc: Global, name: &str, found: &ArgMatches<'a>) -> Resu
         "asm" => Ok(asm(alloc, found)?),
         "link" => Ok(link(alloc, found)?),
         "build" => Ok(build(alloc, found)?),
+        "explain" => Ok(explain(alloc, found)?),
         "check" => Ok(check(found)),
         "dis" => Ok(dis(alloc, found)?),
         "dir" => Ok(dir(found)),

@@ -5,7 +5,7 @@ mod arguments;
 ghost use Rattle.std.specs.Prelude.{◌≡◌, IfOk, Ok, false, codes};
 ghost use Rattle.clap.specs.Words.{AddsSubcommand, app_of, new_app};
 ghost use Rattle.clap.specs.declared.builder.command.Command.TheViews.{out-Command};
-ghost use Rattle.z80dev_commands.specs.Commands.{asm_shape, bare, blank_shape, build_shape, check_disk_shape, check_shape, debug_shape, dir_shape, dis_shape, erase_shape, get_shape, link_shape, programs, protect_shape, put_shape, rename_shape, run_shape, with_files, z80dev};
+ghost use Rattle.z80dev_commands.specs.Commands.{asm_shape, bare, blank_shape, build_shape, check_disk_shape, check_shape, debug_shape, dir_shape, dis_shape, erase_shape, explain_shape, get_shape, link_shape, programs, protect_shape, put_shape, rename_shape, run_shape, with_files, z80dev};
 ghost use Rattle.z80dev_commands.specs.Private.{alone};
 
 use crate::help;
@@ -80,6 +80,24 @@ fn build<'a>(alloc: Global) -> Result<Command<'a>, AllocError>
     .arg(no_warn(alloc))?
     .arg(define(alloc))?
     .arg(with_file(alloc))?
+    .arg(paths(
+        alloc,
+        "SRC",
+        "The source files, in the order of their code in the program",
+    ))
+}
+
+fn explain<'a>(alloc: Global) -> Result<Command<'a>, AllocError>
+    ensures app { IfOk result (λ c. app_of c ≡ alone explain_shape) }
+    ensures local { IfOk result (λ c. (out-Command c).has_globals ≡ false) }
+{
+    titled(
+        alloc,
+        "explain",
+        "Explains every error of source files, and what to write instead",
+        help::EXPLAIN,
+    )
+    .arg(grow(alloc))?
     .arg(paths(
         alloc,
         "SRC",
@@ -363,7 +381,7 @@ fn debug<'a>(alloc: Global) -> Result<Command<'a>, AllocError>
         alloc,
         "list",
         "LST",
-        "The path of a listing, of which where shows lines",
+        "The path of a listing, whose lines where shows",
     ))?
     .arg(path(alloc, "COM", "The path of the program"))?
     .arg(words(alloc, "WORD", "The words of its command line"))
@@ -386,6 +404,7 @@ fn programs<'a>(alloc: Global) -> Result<Command<'a>, AllocError>
     let command = with_command(bare(alloc), asm(alloc));
     let command = with_command(command, link(alloc));
     let command = with_command(command, build(alloc));
+    let command = with_command(command, explain(alloc));
     let command = with_command(command, check(alloc));
     with_command(command, dis(alloc))
 }

@@ -1,0 +1,9 @@
+use Rattle.std.proofs.Common.{codes, refl}
+use Rattle.z80dev_commands.proofs.Rows.{has_texts, reads_flag}
+use Rattle.z80dev_commands.proofs.jobs.explain.Goals as goal
+
+pub flag-requires : goal.flag-requires
+flag-requires c = reads_flag (codes "explain") (codes "grow") _ refl c.requires
+
+pub texts-requires : goal.texts-requires
+texts-requires c = has_texts (codes "explain") (codes "SRC") _ refl c.requires
