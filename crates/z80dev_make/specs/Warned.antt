@@ -3,6 +3,7 @@ use Rattle.std.specs.Prelude.{◌≡◌, ℕ, ◌+◌, ◌-◌, ◌==◌, Bool, 
 use Rattle.std.specs.List.{AllZip, flat_map, zip}
 use Rattle.std.specs.Option.{option_map_or}
 use Rattle.asm_module.specs.Assembled.{Assembled, Assembles}
+use Rattle.asm_module.specs.declared.assembling.Lines.{Lines}
 use Rattle.jump_warnings.specs.declared.offsets.Offset.{Offset}
 use Rattle.jump_warnings.specs.declared.part.Site.{Site}
 use Rattle.jump_warnings.specs.declared.warnings.Warning.{Warning}
@@ -11,7 +12,9 @@ use Rattle.jump_warnings.specs.Parts.{Member}
 use Rattle.jump_warnings.specs.Warnings.{all_warnings}
 use Rattle.z80_instr.specs.declared.ShortCond.{ShortCond}
 use Rattle.zmo_module.specs.Modules as object
-use Rattle.zmo_module.specs.Modules.{Module, ModuleStatement}
+use Rattle.zmo_module.specs.Modules.{Module, ModuleStatement, module_of}
+use Rattle.zmo_module.specs.declared.module.Module as held
+use Rattle.zlink.specs.declared.building.Built.{Built}
 use Rattle.zlink.specs.declared.program.fault.JoinFault.{JoinFault}
 use Rattle.zlink.specs.Program.Faults.{first_fault}
 use Rattle.zlink.specs.Program.Parts.{all_publics, parts}
@@ -20,6 +23,7 @@ use Rattle.z80dev_make.specs.Front.{earlier, front_lines, front_text}
 use Rattle.z80dev_make.specs.declared.answer.SourceFile.{SourceFile}
 use Rattle.z80dev_make.specs.declared.front.Front.{Front}
 use Rattle.z80dev_make.specs.declared.jumps.Jumps.{Jumps}
+use Rattle.z80dev_make.specs.declared.warning.JumpWarning.{JumpWarning}
 
 -- A source as warnings show it: its path, the line of each statement, and its module.
 pub record ShownSource : Type 0 where
@@ -87,12 +91,25 @@ shown_offset_text sources at offset = shown_name at.statement offset.reference (
 
 -- what the line of a warning about an offset says of the jump
 abbrev pub jump_over_text : List ShownSource → Site → List ℕ
-jump_over_text sources jump = codes " depends on the length of a jump at " ++ site_text sources jump ++ codes ": write " ++ fixed_text sources jump ++ codes " there to keep 3 bytes\n"
+jump_over_text sources jump = codes " depends on the length of a jump at " ++ site_text sources jump ++ codes ": write " ++ fixed_text sources jump ++ codes " there to keep 3 bytes"
 
+-- what a warning about a jump says that only a computed jump reaches
+abbrev pub entry_text : List ShownSource → Site → List ℕ
+entry_text sources at = codes "only a computed jump reaches this jump, whose length may change: write " ++ fixed_text sources at ++ codes " to keep 3 bytes"
+
+-- what a warning says
+abbrev pub warning_message : List ShownSource → Warning → List ℕ
+warning_message sources (warning.Over at offset jump) = shown_offset_text sources at offset ++ jump_over_text sources jump
+warning_message sources (warning.Entry at) = entry_text sources at
+
+-- the statement that a warning is about
+abbrev pub site_of : Warning → Site
+site_of (warning.Over at offset jump) = at
+site_of (warning.Entry at) = at
+
+-- the line of a warning
 abbrev pub warning_text : List ShownSource → Warning → List ℕ
-warning_text sources (warning.Over at offset jump) = codes "warning: " ++ site_text sources at ++ codes ": " ++ shown_offset_text sources at offset ++ jump_over_text sources jump
-warning_text sources (warning.Entry at) =
-    codes "warning: " ++ site_text sources at ++ codes ": only a computed jump reaches this jump, whose length may change: write " ++ fixed_text sources at ++ codes " to keep 3 bytes\n"
+warning_text sources found = codes "warning: " ++ site_text sources (site_of found) ++ codes ": " ++ warning_message sources found ++ codes "\n"
 
 abbrev pub most_warnings : ℕ
 most_warnings = 10
@@ -117,15 +134,41 @@ module_warnings front file a = jump_warning_lines (source_shown front (file, a) 
 abbrev pub IsAssembledBehind : Front → Bool → SourceFile → Assembled → Type 0
 IsAssembledBehind front grow file a = Assembles file.path.now (front_text front ++ file.text.now) grow (Ok a)
 
-abbrev pub lines_unless : Option JoinFault → List ℕ → List ℕ
-lines_unless None lines = lines
-lines_unless (Some fault) lines = []
+abbrev pub found_unless : Option JoinFault → List Warning → List Warning
+found_unless None found = found
+found_unless (Some fault) found = []
+
+-- the line of a statement
+abbrev pub line_shown : ℕ → Option ShownSource → ℕ
+line_shown statement None = 0
+line_shown statement (Some s) = slice_index s.lines statement
+
+abbrev pub site_line : List ShownSource → Site → ℕ
+site_line sources at = line_shown at.statement (slice_get sources at.«module»)
+
+-- a warning as a caller is given it: the source and the line of its statement, and what it says
+abbrev pub IsGivenAs : List ShownSource → Warning → JumpWarning → Type 0
+IsGivenAs sources found given =
+    (given.source ≡ (site_of found).«module») × (given.line ≡ site_line sources (site_of found)) × (given.text.items ≡ warning_message sources found)
+
+-- a source of a program that was built, as warnings show it
+abbrev pub built_source : SourceFile × (Lines × held.Module) → ShownSource
+built_source (file, (lines, m)) = record { path = file.path.now; lines = lines.each.items; holds = module_of m }
+
+abbrev pub built_sources : List SourceFile → Built → List ShownSource
+built_sources files built = map built_source (zip files (zip built.lines.items built.modules.items))
+
+-- all warnings about the jumps of a program that was built of these files
+abbrev pub AreJumpWarnings : List SourceFile → Built → List JumpWarning → Type 0
+AreJumpWarnings files built given =
+    let modules = map module_of built.modules.items in
+    AllZip (IsGivenAs (built_sources files built)) (found_unless (first_fault modules) (all_warnings (joined modules))) given
 
 -- the lines for sources; none if their modules have an error together
 abbrev pub build_warnings : Front → List SourceFile → List Assembled → List ℕ
 build_warnings front files all =
     let modules = map (λ a. a.holds) all in
-    lines_unless (first_fault modules) (jump_warning_lines (map (source_shown front) (zip files all)) (all_warnings (joined modules)))
+    jump_warning_lines (map (source_shown front) (zip files all)) (found_unless (first_fault modules) (all_warnings (joined modules)))
 
 -- All sources can be assembled after the text of the front, and these are their warnings.
 abbrev pub IsWarnedProgram : Front → List SourceFile → Bool → List ℕ → Type 0

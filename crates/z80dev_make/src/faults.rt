@@ -3,4 +3,5 @@
 mod names;
 mod refusal;
 
+pub use names::why_name;
 pub use refusal::{Refusal, Told};

@@ -4,9 +4,8 @@ ghost use Rattle.std.specs.Prelude.{◌≡◌, ◌++◌, [], decimal, IfOk, OnOk
 ghost use Rattle.std.specs.List.{flat_map};
 ghost use Rattle.std.specs.Option.{option_map_or};
 ghost use Rattle.zmo_module.specs.Modules.{module_of, statement_of};
-ghost use Rattle.jump_warnings.specs.declared.warnings.Warning.TheVariants as warning;
 ghost use Rattle.z80dev_make.specs.Private.Shown.{shown_of};
-ghost use Rattle.z80dev_make.specs.Warned.{condition_text, external_name, fixed_jump, fixed_text, label_name_at, more_text, shown_name, shown_offset_text, jump_over_text, place_in, site_text, reference_name, signed_text, jump_warning_lines, warning_text};
+ghost use Rattle.z80dev_make.specs.Warned.{condition_text, entry_text, external_name, fixed_jump, fixed_text, label_name_at, more_text, shown_name, shown_offset_text, jump_over_text, place_in, site_text, reference_name, signed_text, site_of, jump_warning_lines, warning_message, warning_text};
 
 use asm_module::Module;
 use jump_warnings::{Offset, Site, Warning};
@@ -45,7 +44,7 @@ fn put_number(alloc: Global, out: &mut Vec<u8>, number: usize) -> Result<(), All
 }
 
 /// Answers the line of a statement, or 0 if it has none.
-fn line_at(lines: &[u32], statement: usize) -> u32
+pub(crate) fn line_at(lines: &[u32], statement: usize) -> u32
     ensures { result ≡ slice_index lines.now statement }
 {
     match lines.get(statement) {
@@ -221,7 +220,7 @@ fn put_offset(
     put_signed(alloc, out, offset.bytes)
 }
 
-/// Appends what the line of a warning about an offset says of the jump.
+/// Appends what a warning about an offset says of the jump.
 fn put_jump_over(
     alloc: Global,
     out: &mut Vec<u8>,
@@ -234,44 +233,46 @@ fn put_jump_over(
     put_place(alloc, out, sources, jump)?;
     put(out, ": write ")?;
     put_fixed(out, sources, jump)?;
-    put(out, " there to keep 3 bytes\n")
+    put(out, " there to keep 3 bytes")
 }
 
-/// Appends the line of a warning about an offset.
-fn put_over(
-    alloc: Global,
-    out: &mut Vec<u8>,
-    sources: &[Shown<'_>],
-    site: Site,
-    offset: Offset,
-    jump: Site,
-) -> Result<(), AllocError>
-    ensures { OnOk result (out.new.items ≡ out.old.items ++ warning_text (map shown_of sources.now) (warning.Over site offset jump)) }
+/// Appends what a warning about a jump says that only a computed jump reaches.
+fn put_entry(out: &mut Vec<u8>, sources: &[Shown<'_>], site: Site) -> Result<(), AllocError>
+    ensures { OnOk result (out.new.items ≡ out.old.items ++ entry_text (map shown_of sources.now) site) }
 {
-    put(out, "warning: ")?;
-    put_place(alloc, out, sources, site)?;
-    put(out, ": ")?;
-    put_offset(alloc, out, sources, site, offset)?;
-    put_jump_over(alloc, out, sources, jump)
-}
-
-/// Appends the line of a warning about a jump that only a computed jump reaches.
-fn put_entry(
-    alloc: Global,
-    out: &mut Vec<u8>,
-    sources: &[Shown<'_>],
-    site: Site,
-) -> Result<(), AllocError>
-    ensures { OnOk result (out.new.items ≡ out.old.items ++ warning_text (map shown_of sources.now) (warning.Entry site)) }
-{
-    put(out, "warning: ")?;
-    put_place(alloc, out, sources, site)?;
     put(
         out,
-        ": only a computed jump reaches this jump, whose length may change: write ",
+        "only a computed jump reaches this jump, whose length may change: write ",
     )?;
     put_fixed(out, sources, site)?;
-    put(out, " to keep 3 bytes\n")
+    put(out, " to keep 3 bytes")
+}
+
+/// Appends what a warning says.
+pub(crate) fn put_message(
+    alloc: Global,
+    out: &mut Vec<u8>,
+    sources: &[Shown<'_>],
+    warning: &Warning,
+) -> Result<(), AllocError>
+    ensures { OnOk result (out.new.items ≡ out.old.items ++ warning_message (map shown_of sources.now) warning.now) }
+{
+    match warning {
+        Warning::Over(site, offset, jump) => {
+            put_offset(alloc, out, sources, *site, *offset)?;
+            put_jump_over(alloc, out, sources, *jump)
+        }
+        Warning::Entry(site) => put_entry(out, sources, *site),
+    }
+}
+
+/// Answers the statement that a warning is about.
+pub(crate) fn site_of(warning: &Warning) -> Site
+    ensures { result ≡ site_of warning.now }
+{
+    match warning {
+        Warning::Over(site, ..) | Warning::Entry(site) => *site,
+    }
 }
 
 /// Appends the line of a warning.
@@ -283,12 +284,11 @@ fn put_warning(
 ) -> Result<(), AllocError>
     ensures { OnOk result (out.new.items ≡ out.old.items ++ warning_text (map shown_of sources.now) warning.now) }
 {
-    match warning {
-        Warning::Over(site, offset, jump) => {
-            put_over(alloc, out, sources, *site, *offset, *jump)
-        }
-        Warning::Entry(site) => put_entry(alloc, out, sources, *site),
-    }
+    put(out, "warning: ")?;
+    put_place(alloc, out, sources, site_of(warning))?;
+    put(out, ": ")?;
+    put_message(alloc, out, sources, warning)?;
+    put(out, "\n")
 }
 
 /// Appends how many warnings are not shown, if there are any.

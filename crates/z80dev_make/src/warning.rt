@@ -2,7 +2,7 @@
 
 ghost use Rattle.std.specs.Prelude.{◌≡◌, ◌∷◌, [], All, IfOk, List, map};
 ghost use Rattle.asm_module.specs.Assembled.{Assembled};
-ghost use Rattle.std.specs.List.{zip};
+ghost use Rattle.std.specs.List.{AllZip, zip};
 ghost use Rattle.zlink.specs.Program.Faults.{first_fault};
 ghost use Rattle.zlink.specs.Program.Parts.{parts};
 ghost use Rattle.zlink.specs.Program.Whole.{AreLinks};
@@ -12,12 +12,12 @@ ghost use Rattle.zmo_module.specs.Modules.{module_of};
 ghost use Rattle.zmo_module.specs.Rules.{IsModule};
 ghost use Rattle.z80dev_make.specs.Front.{earlier, front_lines};
 ghost use Rattle.z80dev_make.specs.Private.Shown.{member_with, shown_in, shown_of};
-ghost use Rattle.z80dev_make.specs.Warned.{build_warnings, joined, lines_unless, jump_warning_lines};
+ghost use Rattle.z80dev_make.specs.Warned.{AreJumpWarnings, IsGivenAs, build_warnings, found_unless, joined, jump_warning_lines};
 
 use crate::answer::SourceFile;
 use crate::behind::number_lines;
 use crate::front::{Front, front_lines};
-use crate::warned::{Shown, warning_lines};
+use crate::warned::{Shown, line_at, put_message, site_of, warning_lines};
 use asm_module::{Lines, Module};
 use jump_warnings::{Part, Warning, find_warnings};
 use std::alloc::{AllocError, Global};
@@ -127,6 +127,20 @@ fn shown<'s>(
     Ok(shown)
 }
 
+/// Answers the warnings of the program of modules; none if they have an error together.
+fn found_joined(alloc: Global, modules: &[Module]) -> Result<Vec<Warning>, AllocError>
+    requires { All IsModule (map module_of modules.now) }
+    ensures { IfOk result (λ found. found.items ≡ found_unless (first_fault (map module_of modules.now)) (all_warnings (joined (map module_of modules.now)))) }
+{
+    let links = match join(alloc, modules) {
+        Ok(links) => links,
+        Err(JoinFault::NoMemory) => return Err(AllocError),
+        Err(_) => return Ok(Vec::new(alloc)),
+    };
+    let parts = joined(alloc, modules, &links)?;
+    find_warnings(alloc, &parts)
+}
+
 /// Answers the lines for the program of modules, given the lines of their statements in their own sources.
 fn lines_joined(
     alloc: Global,
@@ -135,15 +149,9 @@ fn lines_joined(
     own: &[Vec<u32>],
 ) -> Result<Vec<u8>, AllocError>
     requires { All IsModule (map module_of modules.now) }
-    ensures { IfOk result (λ lines. lines.items ≡ lines_unless (first_fault (map module_of modules.now)) (jump_warning_lines (map shown_in (zip files.now (zip own.now modules.now))) (all_warnings (joined (map module_of modules.now))))) }
+    ensures { IfOk result (λ lines. lines.items ≡ jump_warning_lines (map shown_in (zip files.now (zip own.now modules.now))) (found_unless (first_fault (map module_of modules.now)) (all_warnings (joined (map module_of modules.now))))) }
 {
-    let links = match join(alloc, modules) {
-        Ok(links) => links,
-        Err(JoinFault::NoMemory) => return Err(AllocError),
-        Err(_) => return Ok(Vec::new(alloc)),
-    };
-    let parts = joined(alloc, modules, &links)?;
-    let found = find_warnings(alloc, &parts)?;
+    let found = found_joined(alloc, modules)?;
     let sources = shown(alloc, files, own, modules)?;
     warning_lines(alloc, &sources, &found)
 }
@@ -161,4 +169,92 @@ pub(crate) fn warn_built(
 {
     let own = all_own_lines(alloc, front, &built.lines)?;
     lines_joined(alloc, files, &built.modules, &own)
+}
+
+/// A warning about the jumps of a program.
+#[derive(Debug, Drop)]
+pub struct JumpWarning {
+    /// The number of the source, from 0.
+    pub source: usize,
+    /// The line of the statement that it is about.
+    pub line: u32,
+    /// What it says.
+    pub text: Vec<u8>,
+}
+
+/// Answers a warning with the source and the line of its statement.
+fn told(alloc: Global, sources: &[Shown<'_>], warning: &Warning) -> Result<JumpWarning, AllocError>
+    ensures { IfOk result (λ given. IsGivenAs (map shown_of sources.now) warning.now given) }
+{
+    let site = site_of(warning);
+    let mut text = Vec::new(alloc);
+    put_message(alloc, &mut text, sources, warning)?;
+    let line = match sources.get(site.module) {
+        Some(source) => line_at(source.lines, site.statement),
+        None => 0,
+    };
+    Ok(JumpWarning {
+        source: site.module,
+        line,
+        text,
+    })
+}
+
+/// Answers warnings with the sources and the lines of their statements, in the same order.
+fn all_told(
+    alloc: Global,
+    sources: &[Shown<'_>],
+    found: &[Warning],
+) -> Result<Vec<JumpWarning>, AllocError>
+    ensures { IfOk result (λ all. AllZip (IsGivenAs (map shown_of sources.now)) found.now all.items) }
+{
+    let mut all = Vec::with_capacity(alloc, found.len())?;
+    for warning in found {
+        all.push(told(alloc, sources, warning)?)?;
+    }
+    Ok(all)
+}
+
+/// Answers the warnings for the program of modules, given the lines of their statements.
+fn told_joined(
+    alloc: Global,
+    files: &[SourceFile<'_>],
+    modules: &[Module],
+    lines: &[Vec<u32>],
+) -> Result<Vec<JumpWarning>, AllocError>
+    requires { All IsModule (map module_of modules.now) }
+    ensures { IfOk result (λ all. AllZip (IsGivenAs (map shown_in (zip files.now (zip lines.now modules.now)))) (found_unless (first_fault (map module_of modules.now)) (all_warnings (joined (map module_of modules.now)))) all.items) }
+{
+    let found = found_joined(alloc, modules)?;
+    let sources = shown(alloc, files, lines, modules)?;
+    all_told(alloc, &sources, &found)
+}
+
+/// Answers the lines of the modules of sources.
+fn lines_of(alloc: Global, lines: &[Lines]) -> Result<Vec<Vec<u32>>, AllocError>
+    ensures { IfOk result (λ all. map (λ own. own.items) all.items ≡ map (λ l. l.each.items) lines.now) }
+{
+    let mut all = Vec::with_capacity(alloc, lines.len())?;
+    for module in lines {
+        all.push(module.each.to_vec(alloc)?)?;
+    }
+    Ok(all)
+}
+
+/// Answers all warnings about the jumps of a program that was built of these sources, in the order of
+/// [`find_warnings`](jump_warnings::find_warnings). There is none if the modules have an error together, so that there is no program.
+///
+/// # Errors
+///
+/// [`AllocError`] if memory ran out.
+pub fn jump_warnings(
+    alloc: Global,
+    files: &[SourceFile<'_>],
+    built: &Built,
+) -> Result<Vec<JumpWarning>, AllocError>
+    requires { All IsModule (map module_of built.now.modules.items) }
+    ensures { IfOk result (λ all. AreJumpWarnings files.now built.now all.items) }
+{
+    let lines = lines_of(alloc, &built.lines)?;
+    told_joined(alloc, files, &built.modules, &lines)
 }

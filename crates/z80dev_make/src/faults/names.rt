@@ -70,7 +70,7 @@ fn statement_name(fault: StmtFault) -> &'static str
 }
 
 /// Answers the name of the innermost variant.
-pub(crate) fn why_name(why: Why) -> &'static str
+pub fn why_name(why: Why) -> &'static str
     ensures { result.now ≡ why_name why }
 {
     match why {

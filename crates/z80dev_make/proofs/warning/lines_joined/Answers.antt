@@ -1,28 +1,13 @@
-use Rattle.std.proofs.Common.{◌≡◌, ◌∙◌, None, ap, map, sym}
-use Rattle.std.specs.List.{zip}
+use Rattle.std.proofs.Common.{◌∙◌, ap, map}
 use Rattle.std.proofs.lemmas.Result.{IfOk-weaker}
-use Rattle.zmo_module.specs.Modules.{module_of}
-use Rattle.zlink.specs.Program.Faults.{first_fault}
-use Rattle.zlink.specs.Program.Parts.{all_publics, parts}
-use Rattle.zlink.specs.Program.Whole.{AreLinks}
-use Rattle.jump_warnings.specs.Parts.{member_of}
-use Rattle.jump_warnings.specs.Warnings.{all_warnings}
-use Rattle.z80dev_make.specs.Private.Shown.{member_with, shown_in, shown_of}
-use Rattle.z80dev_make.specs.Warned.{joined, lines_unless, jump_warning_lines}
-use Rattle.z80dev_make.proofs.Held.{members}
+use Rattle.z80dev_make.specs.Private.Shown.{shown_of}
+use Rattle.z80dev_make.specs.Warned.{jump_warning_lines}
 use Rattle.z80dev_make.proofs.warning.lines_joined.Goals as goal
 
 pub returns : goal.returns
 returns c =
-    let modules = c.args.modules.now in
-    let links = c.in-Ok.links.items in
-    let ms = map module_of modules in
-    let j : (first_fault ms ≡ None) × AreLinks ms links = c.in-Ok.ensures in
-    let parts_are = c.in_ok-parts.ensures ∙ ap (λ ls. map member_with (zip modules ls)) c.deref.ensures.value ∙ members (all_publics (parts ms)) 0 0 modules links j.1 in
-    let found = c.in_ok-found.ensures ∙ ap (λ ps. all_warnings (map member_of ps)) c.deref-2.ensures.value ∙ ap all_warnings parts_are in
-    let all = map shown_in (zip c.args.files.now (zip c.args.own.now modules)) in
     IfOk-weaker c.warning_lines.result _ _
     (λ out is.
-    is ∙ ap (λ ss. jump_warning_lines (map shown_of ss) c.deref-4.result.now) c.deref-3.ensures.value ∙ ap (λ ss. jump_warning_lines ss c.deref-4.result.now) c.in_ok-sources.ensures
-    ∙ ap (jump_warning_lines all) (c.deref-4.ensures.value ∙ found) ∙ sym (ap (λ o. lines_unless o (jump_warning_lines all (all_warnings (joined ms)))) j.0))
+    is ∙ ap (λ ss. jump_warning_lines (map shown_of ss) c.deref-2.result.now) c.deref.ensures.value ∙ ap (λ ss. jump_warning_lines ss c.deref-2.result.now) c.in_ok-sources.ensures
+    ∙ ap (jump_warning_lines _) (c.deref-2.ensures.value ∙ c.in_ok-found.ensures))
     c.warning_lines.ensures

@@ -7,7 +7,7 @@ use Rattle.zlink.specs.Program.Faults.{first_fault}
 use Rattle.jump_warnings.specs.Warnings.{all_warnings}
 use Rattle.z80dev_make.specs.Front.{earlier, front_lines}
 use Rattle.z80dev_make.specs.Private.Shown.{shown_in}
-use Rattle.z80dev_make.specs.Warned.{joined, lines_unless, source_shown, jump_warning_lines}
+use Rattle.z80dev_make.specs.Warned.{joined, found_unless, source_shown, jump_warning_lines}
 use Rattle.z80dev_make.proofs.Held.{all_shown, each_own}
 use Rattle.z80dev_make.proofs.warning.warn_built.Goals as goal
 
@@ -26,8 +26,8 @@ returns c =
     let own_are = c.in_ok-own.ensures ∙ ap (map (λ l. map (earlier n) l.each.items)) c.deref.ensures.value in
     IfOk-weaker c.lines_joined.result _ _
     (λ out is all holds each.
-    is ∙ ap (λ xs. lines_unless (first_fault (map module_of xs)) (jump_warning_lines (map shown_in (zip files (zip c.deref-3.result.now xs))) (all_warnings (joined (map module_of xs))))) c.deref-2.ensures.value
-    ∙ ap (λ os. lines_unless (first_fault ms) (jump_warning_lines (map shown_in (zip files (zip os modules))) (all_warnings (joined ms)))) c.deref-3.ensures.value
-    ∙ ap (λ ss. lines_unless (first_fault ms) (jump_warning_lines ss (all_warnings (joined ms)))) (all_shown front files modules own all holds (own_are ∙ each_own n lines all each))
-    ∙ ap (λ m. lines_unless (first_fault m) (jump_warning_lines (map (source_shown front) (zip files all)) (all_warnings (joined m)))) holds)
+    is ∙ ap (λ xs. jump_warning_lines (map shown_in (zip files (zip c.deref-3.result.now xs))) (found_unless (first_fault (map module_of xs)) (all_warnings (joined (map module_of xs))))) c.deref-2.ensures.value
+    ∙ ap (λ os. jump_warning_lines (map shown_in (zip files (zip os modules))) (found_unless (first_fault ms) (all_warnings (joined ms)))) c.deref-3.ensures.value
+    ∙ ap (λ ss. jump_warning_lines ss (found_unless (first_fault ms) (all_warnings (joined ms)))) (all_shown front files modules own all holds (own_are ∙ each_own n lines all each))
+    ∙ ap (λ m. jump_warning_lines (map (source_shown front) (zip files all)) (found_unless (first_fault m) (all_warnings (joined m)))) holds)
     c.lines_joined.ensures
