@@ -1,0 +1,77 @@
+-- Lines of a source some of which have errors: as which lines they count when the others are judged, so that an error makes no further ones.
+use Rattle.std.specs.Prelude.{ℕ, ◌+◌, ◌==◌, not, Bool, List, [], ◌∷◌, ◌++◌, Option, Some, None, Result, Ok, Err, if◌then◌else◌, codes, drop, is_ok, length, map}
+use Rattle.std.specs.List.{prefix_len}
+use Rattle.std.specs.Option.{option_map, option_to_list}
+use Rattle.asm_line.specs.Forms.{Head, Equ}
+use Rattle.asm_text.specs.Lines.{Numbered, form_of}
+use Rattle.asm_spell.specs.Line.{Line}
+use Rattle.asm_names.specs.Faults.{first}
+use Rattle.asm_names.specs.Lines.{Taken}
+use Rattle.asm_names.specs.Names.{defines, has_clash, names}
+use Rattle.asm_module.specs.Reads.Read.{read_line}
+use Rattle.asm_module.specs.Whys.{line_why}
+use Rattle.asm_module.specs.declared.fault.Why.{Why}
+use Rattle.asm_module.specs.declared.line_fault.LineFault.{LineFault}
+use Rattle.source_errors.specs.Findings.{Finding}
+
+-- The name that a line defines, as a line of its own: a label, or an EQU of itself, which has no value; an empty line if it defines none.
+abbrev pub alone_by : Option (List ℕ) → Head → List ℕ
+alone_by label (Equ name) = name ++ codes " EQU " ++ name
+alone_by (Some name) head = name ++ codes ":"
+alone_by None head = []
+
+abbrev pub name_alone : List ℕ → List ℕ
+name_alone text = alone_by (form_of text).label (form_of text).head
+
+-- what comes after the first colon of a line
+abbrev pub after_colon : List ℕ → List ℕ
+after_colon text = drop (prefix_len (λ byte. not (byte == 58)) text + 1) text
+
+-- The texts as which a line may count: itself, the name that it defines alone, or what comes after its label.
+abbrev pub candidates : List ℕ → List (List ℕ)
+candidates text = text ∷ name_alone text ∷ after_colon text ∷ []
+
+-- the line as which a text counts after other lines, if it can be parsed and defines no name again
+abbrev pub counts_by : List Taken → ℕ → Result Line LineFault → Option Taken
+counts_by before number (Ok line) = if has_clash (names before) (defines (length before) line) then None else Some (record { number = number; line = line })
+counts_by before number (Err why) = None
+
+abbrev pub counts_as : List Taken → ℕ → List ℕ → Option Taken
+counts_as before number text = counts_by before number (read_line text)
+
+-- The line as which a line counts after others: by the first of its texts that can be parsed and defines no name again.
+abbrev pub counts : List Taken → Numbered → Option Taken
+counts before l = first (map (counts_as before l.number) (candidates l.text))
+
+-- a line, whether it can be parsed, and as which line it counts
+pub record Counted : Type 0 where
+  pub from : Numbered
+  pub is_read : Bool
+  pub taken : Taken
+
+abbrev pub takens : List Counted → List Taken
+takens lines = map (λ c. c.taken) lines
+
+abbrev pub counted : List Counted → Numbered → List Counted
+counted before l = option_to_list (option_map (λ t. record { from = l; is_read = is_ok (read_line l.text); taken = t }) (counts (takens before) l))
+
+-- the lines, each as it counts after those before it
+abbrev pub counted_after : List Counted → List Numbered → List Counted
+counted_after before [] = before
+counted_after before (l ∷ ls) = counted_after (before ++ counted before l) ls
+
+-- The error of a line by itself, given those before it: it cannot be parsed, or it defines a name again.
+abbrev pub early_by : List Taken → Numbered → Result Line LineFault → Option Finding
+early_by before l (Err why) = Some (record { line = l; why = line_why why; name = None })
+early_by before l (Ok line) =
+    if has_clash (names before) (defines (length before) line)
+    then Some (record { line = l; why = Why.Duplicate; name = None })
+    else None
+
+abbrev pub early : List Taken → Numbered → Option Finding
+early before l = early_by before l (read_line l.text)
+
+-- the errors of lines by themselves, each given those before it
+abbrev pub early_after : List Counted → List Numbered → List Finding
+early_after before [] = []
+early_after before (l ∷ ls) = option_to_list (early (takens before) l) ++ early_after (before ++ counted before l) ls

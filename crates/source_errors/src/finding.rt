@@ -1,0 +1,43 @@
+//! Finds all errors of a source.
+
+ghost use Rattle.std.specs.Prelude.{◌≡◌, ◌++◌, ◌∷◌, [], IfOk, IfSome, map, Some};
+ghost use Rattle.asm_names.specs.Lines.{lines_of};
+ghost use Rattle.asm_names.specs.Names.{names};
+ghost use Rattle.source_errors.specs.Findings.{finding_of};
+ghost use Rattle.source_errors.specs.Found.{AreFindings};
+
+use asm_expr::Names;
+use asm_macro::{Expanded, MacroFault, expand};
+use asm_module::Why;
+use asm_names::{NameTable, SourceLine};
+use std::alloc::{AllocError, Global};
+
+/// An error of a source.
+#[derive(Debug, Drop)]
+pub struct Finding {
+    /// The number that the line bears: its own, or that of the outermost call or REPT.
+    pub number: u32,
+    /// The line as it is assembled, with the arguments of a call in place of its parameters.
+    pub text: Vec<u8>,
+    pub why: Why,
+    /// The name that the error is about, in upper case.
+    pub name: Option<Vec<u8>>,
+}
+
+/// What is known of a source. A line that cannot be parsed counts as the name that it defines, alone.
+#[derive(Debug, Drop)]
+pub struct Known {
+    pub lines: Vec<SourceLine>,
+    /// What each name is, and in which of the lines it is defined.
+    pub table: NameTable,
+    /// What each name stands for.
+    pub values: Names,
+}
+
+/// All errors of a source.
+#[derive(Debug, Drop)]
+pub struct Findings {
+    pub findings: Vec<Finding>,
+    /// What is known of the source, if its expansion does not stop and it has not too many statements or names.
+    pub known: Option<Known>,
+}

@@ -1,0 +1,66 @@
+//! Makes texts of lines that have errors, as which these lines count.
+
+ghost use Rattle.std.specs.Prelude.{◌≡◌, ◌++◌, ◌==◌, ◌≤◌, IfOk, codes, length, not};
+ghost use Rattle.std.specs.List.{prefix_len};
+ghost use Rattle.asm_line.specs.Views.{form_seen};
+ghost use Rattle.source_errors.specs.Counted.{after_colon, alone_by, name_alone};
+
+use asm_line::{Form, Head, form_of};
+use asm_scan::{ScanFault, tokens};
+use std::alloc::{AllocError, Global};
+
+/// Answers two parts as one text.
+fn joined(alloc: Global, front: &[u8], back: &[u8]) -> Result<Vec<u8>, AllocError>
+    ensures { IfOk result (λ text. text.items ≡ front.now ++ back.now) }
+{
+    let mut text = front.to_vec(alloc)?;
+    text.extend_from_slice(back)?;
+    Ok(text)
+}
+
+/// Answers an EQU line that defines a name as itself.
+fn circle(alloc: Global, name: &[u8]) -> Result<Vec<u8>, AllocError>
+    ensures { IfOk result (λ text. text.items ≡ name.now ++ codes " EQU " ++ name.now) }
+{
+    let mut text = joined(alloc, name, b" EQU ")?;
+    text.extend_from_slice(name)?;
+    Ok(text)
+}
+
+/// Answers the line of only the name that a line of this form defines, or an empty one.
+fn alone(alloc: Global, form: Form<'_>) -> Result<Vec<u8>, AllocError>
+    ensures { IfOk result (λ text. text.items ≡ alone_by (form_seen form.entry).label (form_seen form.entry).head) }
+{
+    match (form.head, form.label) {
+        (Head::Equ(name), _) => circle(alloc, name),
+        (_, Some(name)) => joined(alloc, name, b":"),
+        (_, None) => Ok(Vec::new(alloc)),
+    }
+}
+
+/// Answers the line of only the name that a line defines, or an empty one.
+pub(crate) fn name_alone(alloc: Global, text: &[u8]) -> Result<Vec<u8>, AllocError>
+    ensures { IfOk result (λ alone. alone.items ≡ name_alone text.now) }
+{
+    match tokens(alloc, text) {
+        Ok(found) => alone(alloc, form_of(&found)),
+        Err(ScanFault::NoMemory) => Err(AllocError),
+        Err(_) => Ok(Vec::new(alloc)),
+    }
+}
+
+/// Answers how many bytes come before the first colon.
+fn colon_at(text: &[u8]) -> usize
+    ensures value { result ≡ prefix_len (λ byte. not (byte == 58)) text.now }
+    ensures within { result ≤ length text.now }
+{
+    text.iter().take_while(|byte| **byte != b':').count()
+}
+
+/// Answers what comes after the first colon of a line.
+pub(crate) fn after_colon(text: &[u8]) -> &[u8]
+    ensures { result.now ≡ after_colon text.now }
+{
+    let at = colon_at(text);
+    text.get(at + 1..).unwrap_or(&[])
+}

@@ -1,0 +1,126 @@
+//! Finds lines that cannot be cut into tokens, and mends them, so that the others can be judged.
+
+ghost use Rattle.std.specs.Prelude.{◌≡◌, ◌<◌, ◌++◌, ◌∷◌, ◌==◌, ◌^◌, [], ℕ, List, IfOk, OnOk, length, map};
+ghost use Rattle.std.specs.List.{list_any};
+ghost use Rattle.std.specs.Option.{option_to_list};
+ghost use Rattle.asm_macro.specs.Texts.{source_lines};
+ghost use Rattle.asm_macro.specs.Views.{lines_seen};
+ghost use Rattle.source_errors.specs.Findings.{finding_of};
+ghost use Rattle.source_errors.specs.Found.{front, mended, mended_text, scan_error, scan_errors, scan_fault};
+
+use crate::finding::Finding;
+use crate::mending::name_alone;
+use asm_macro::{ExpandedLine, MacroFault, source_part};
+use asm_module::Why;
+use asm_scan::{ScanFault, tokens};
+use asm_text::Lines;
+use std::alloc::{AllocError, Global};
+
+/// Answers why a line cannot be cut into tokens; None if it can.
+fn fault_of(alloc: Global, line: &[u8]) -> Result<Option<ScanFault>, AllocError>
+    ensures { IfOk result (λ fault. fault ≡ scan_fault line.now) }
+{
+    match tokens(alloc, line) {
+        Ok(_) => Ok(None),
+        Err(ScanFault::NoMemory) => Err(AllocError),
+        Err(why) => Ok(Some(why)),
+    }
+}
+
+/// Answers the longest front of a line that can be cut into tokens.
+fn front(alloc: Global, line: &[u8]) -> Result<&[u8], AllocError>
+    ensures { IfOk result (λ part. part.now ≡ front (length line.now) line.now) }
+{
+    let mut count = line.len();
+    while count > 0 {
+        let part = &line[..count];
+        match fault_of(alloc, part)? {
+            None => return Ok(part),
+            Some(_) => count -= 1,
+        }
+    }
+    Ok(&[])
+}
+
+/// Appends a line as it counts, and its end.
+fn put_mended(alloc: Global, line: &[u8], text: &mut Vec<u8>) -> Result<(), AllocError>
+    ensures { OnOk result (text.new.items ≡ text.old.items ++ mended line.now ++ 10 ∷ []) }
+{
+    if fault_of(alloc, line)?.is_none() {
+        text.extend_from_slice(line)?;
+    } else {
+        text.extend_from_slice(&name_alone(alloc, front(alloc, line)?)?)?;
+    }
+    text.push(b'\n')?;
+    Ok(())
+}
+
+/// Answers a source in which each line that cannot be cut into tokens counts as the name that it defines, alone.
+pub(crate) fn mended_text(alloc: Global, lines: &Lines<'_>) -> Result<Vec<u8>, AllocError>
+    ensures { IfOk result (λ text. (whole : List ℕ) → lines.now ≡ source_lines whole → text.items ≡ mended_text whole) }
+{
+    let mut text = Vec::new(alloc);
+    for at in 0..lines.len() {
+        put_mended(alloc, lines.line(at), &mut text)?;
+    }
+    Ok(text)
+}
+
+/// Whether one of the lines of an expansion bears this number.
+fn is_among(lines: &[ExpandedLine], number: u32) -> bool
+    ensures { result ≡ list_any (λ l. l.number == number) lines.now }
+{
+    lines.iter().any(|line| line.number == number)
+}
+
+/// The same, as definitions see the lines.
+fn is_read(lines: &[ExpandedLine], number: u32) -> bool
+    ensures { result ≡ list_any (λ l. l.number == number) (lines_seen lines.now) }
+{
+    is_among(lines, number)
+}
+
+/// Appends the error of a line that cannot be cut into tokens, if it is not the line with the number `other`, and the expansion reads it.
+fn put_scan_error(
+    alloc: Global,
+    other: u32,
+    expanded: &[ExpandedLine],
+    number: u32,
+    line: &[u8],
+    findings: &mut Vec<Finding>,
+) -> Result<(), AllocError>
+    ensures { OnOk result (map finding_of findings.new.items ≡ map finding_of findings.old.items
+        ++ option_to_list (scan_error other (lines_seen expanded.now) (record { number = number; text = line.now }))) }
+{
+    let Some(why) = fault_of(alloc, line)? else {
+        return Ok(());
+    };
+    if number == other || !is_read(expanded, number) {
+        return Ok(());
+    }
+    findings.push(Finding {
+        number,
+        text: line.to_vec(alloc)?,
+        why: Why::from(MacroFault::from(why)),
+        name: None,
+    })?;
+    Ok(())
+}
+
+/// Appends the errors of all lines that cannot be cut into tokens, but that of the line with the number `other`.
+pub(crate) fn put_scan_errors(
+    alloc: Global,
+    other: u32,
+    expanded: &[ExpandedLine],
+    lines: &Lines<'_>,
+    findings: &mut Vec<Finding>,
+) -> Result<(), AllocError>
+    requires { length lines.now < 2 ^ 32 }
+    ensures { OnOk result ((text : List ℕ) → lines.now ≡ source_lines text → map finding_of findings.new.items ≡ map finding_of findings.old.items ++ scan_errors other (lines_seen expanded.now) text) }
+{
+    for at in 0..lines.len() {
+        let number = at as u32 + 1;
+        put_scan_error(alloc, other, expanded, number, lines.line(at), findings)?;
+    }
+    Ok(())
+}
