@@ -44,8 +44,8 @@ KeepsWalk sectors faults dialog limit wish old end turns new kept =
     (steps : List TraceStep) × WalkEnds sectors faults dialog limit old end steps new × (turns ≡ length steps) × Keeps wish steps kept
 
 -- what a run leaves besides its disk and its console
-abbrev pub left_of : {S C : Type 0} → RunState S C → Left
-left_of s = record { cpu = s.machine.cpu; memory = s.machine.memory; dma = s.system.dma; user = s.system.user }
+abbrev pub left_by_run : {S C : Type 0} → RunState S C → Left
+left_by_run s = record { cpu = s.machine.cpu; memory = s.machine.memory; dma = s.system.dma; user = s.system.user }
 
 -- A run of a program with its words, on a disk and a console, that keeps what it was asked to: the machine and the system at the end, and what
 -- is kept of its steps. If the program cannot be started, there is no step.
@@ -53,5 +53,5 @@ abbrev pub IsTraced : {S C : Type 0} → (S → Image) → (S → ℕ) → (C �
 IsTraced {S} {C} sectors faults dialog file words disk console limit wish end turns state kept =
     ((cpu : Cpu) × (memory : List ℕ) × (new : RunState S C) × IsStart file words (Ok (cpu, memory))
     × KeepsWalk sectors faults dialog limit wish (record { machine = machine cpu memory; system = new_system disk console }) end turns new kept
-    × (state ≡ Some (left_of new)))
+    × (state ≡ Some (left_by_run new)))
     ⊎ ((no : StartFault) × IsStart file words (Err no) × (end ≡ unstarted no) × (turns ≡ 0) × (state ≡ None) × (kept ≡ None))

@@ -1,4 +1,5 @@
 pub mod Walk
+pub mod Calls
 pub mod Stops
 pub mod Going
 pub mod Session

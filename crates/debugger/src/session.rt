@@ -1,15 +1,16 @@
 //! A session: commands, a line each, and what is printed for them.
 
 ghost use Rattle.std.specs.Prelude.{◌≡◌};
-ghost use Rattle.debugger.specs.Session.{call_goal, call_size, return_goal, returned_to};
+ghost use Rattle.debugger.specs.Session.{at_place};
 
+use crate::calls::{ReturnPlace, call_place};
 use crate::command::{Command, Labels, command_of};
-use crate::history::History;
+use crate::history::{History, Outcome};
 use crate::snapshot::Snapshot;
-use crate::stops::{Breakpoint, Condition, RegisterName, Stops};
+use crate::stops::{Breakpoint, Condition, Goal, Hit, RegisterName, Stops};
 use crate::text::{
-    put_address, put_files, put_instructions, put_memory, put_new_output, put_output, put_point,
-    put_registers, put_stack, put_where,
+    put_address, put_change, put_files, put_info, put_instructions, put_memory, put_new_output,
+    put_outcome, put_output, put_point, put_registers, put_stack, put_system, put_where,
 };
 use std::alloc::{AllocError, Global};
 
@@ -21,15 +22,17 @@ back [N]              go back by N turns, or one
 turn N                go to the state after N turns from the start
 run [ADDR]            go on to ADDR, a breakpoint, a watched byte, or the end
 next                  one turn, but over the whole of a call
-finish                go on to the return address on top of the stack
+finish                go on to the return from this subroutine
+back-next             the reverse of next: go back by one turn, but over the whole of a call
 back-run              go back to the last turn at which a breakpoint or a watched byte held
 break ADDR [if REG=N] stop when PC is ADDR
 watch ADDR [N]        stop at a turn that changes one of N bytes
-delete                forget all breakpoints and watched bytes
+info                  list the breakpoints and the watched bytes
+delete                forget all of them
 who ADDR              the last turn that changed this byte
 files                 the files of the disk: user, name and records
 where                 PC with its label, and its line of the listing
-regs                  the registers
+regs                  the registers, the flags, the DMA address and the user
 mem ADDR [N]          N bytes of memory
 dis ADDR [N]          N instructions
 stack                 the words on top of the stack
@@ -60,56 +63,23 @@ pub struct Session<'a> {
     is_over: bool,
 }
 
-/// The number of bytes of a call, by its first byte; 0 for another instruction.
-fn call_size(opcode: u8) -> u16
-    ensures { result ≡ call_size opcode }
+/// PC at a place, with its SP.
+fn at_place(place: ReturnPlace) -> Goal
+    ensures { result ≡ at_place place }
 {
-    if opcode >= 0xC0 && (opcode % 8 == 4 || opcode == 0xCD) {
-        3
-    } else if opcode >= 0xC0 && opcode % 8 == 7 {
-        1
-    } else {
-        0
-    }
-}
-
-/// PC after a return to this address, and SP then.
-fn returned_to(address: u16, sp: u16) -> Breakpoint
-    ensures { result ≡ returned_to address sp }
-{
-    Breakpoint {
-        address,
+    Goal::At(Breakpoint {
+        address: place.address,
         condition: Some(Condition {
             register: RegisterName::Sp,
-            value: sp,
+            value: place.sp,
         }),
-    }
-}
-
-/// The return from the call at PC, if one is there.
-fn call_goal(snapshot: &Snapshot) -> Option<Breakpoint>
-    ensures { result ≡ call_goal snapshot.now }
-{
-    let cpu = snapshot.cpu();
-    let size = call_size(snapshot.memory().get(cpu.pc));
-    if size == 0 {
-        None
-    } else {
-        Some(returned_to(cpu.pc.wrapping_add(size), cpu.sp))
-    }
-}
-
-/// The return to the address on top of the stack.
-fn return_goal(snapshot: &Snapshot) -> Breakpoint
-    ensures { result ≡ return_goal snapshot.now }
-{
-    let cpu = snapshot.cpu();
-    returned_to(snapshot.memory().word(cpu.sp), cpu.sp.wrapping_add(2))
+    })
 }
 
 impl<'a> Session<'a> {
     ghost use Rattle.std.specs.Prelude.{◌≡◌, ◌||◌, [], IfOk, false};
-    ghost use Rattle.debugger.specs.Session.{Obeys, Moves, Nexts, RunsUntil, Sets, call_goal, is_quit};
+    ghost use Rattle.debugger.specs.Calls.{call_place};
+    ghost use Rattle.debugger.specs.Session.{BackNexts, BackRuns, GoesTo, Obeys, Moves, Nexts, RunsOn, Sets, is_quit};
     ghost use Rattle.debugger.specs.Walk.{IsTrue_of_run};
     ghost use Rattle.debugger.specs.declared.command.Command.TheVariants as command;
 
@@ -154,89 +124,118 @@ impl<'a> Session<'a> {
         let _ = self.history.turn();
     }
 
-    /// Makes many turns, until the goal is reached, a breakpoint or a watched byte holds, or the run has ended.
-    fn run(&mut self, goal: Option<Breakpoint>) -> Result<(), AllocError>
+    /// Makes many turns, until a breakpoint or a watched byte holds, the goal is reached, or the run has ended.
+    fn run(&mut self, goal: Option<Goal>) -> Result<Option<Outcome>, AllocError>
         ensures start { self.new.history.start ≡ self.old.history.start }
         ensures after { IsTrue_of_run self.new.history }
         ensures others { self.new ≡ record self.old { history = self.new.history } }
-        ensures runs { IfOk result (λ _. RunsUntil goal self.old.stops self.old.history self.new.history) }
+        ensures runs { IfOk result (λ told. RunsOn goal self.old.stops self.old.history self.new.history told) }
     {
         let limit = MOST_TURNS.min(u64::MAX - self.history.turn());
-        self.history.run(self.alloc, goal, &self.stops, limit)?;
-        Ok(())
+        Ok(Some(self.history.run(self.alloc, goal, &self.stops, limit)?))
+    }
+
+    /// GoesTo to the point after this number of turns.
+    fn go_to(&mut self, turn: u64) -> Result<Option<Outcome>, AllocError>
+        ensures start { self.new.history.start ≡ self.old.history.start }
+        ensures after { IsTrue_of_run self.new.history }
+        ensures others { self.new ≡ record self.old { history = self.new.history } }
+        ensures goes { IfOk result (λ told. GoesTo turn self.new.history told) }
+    {
+        self.history.go_to(self.alloc, turn)?;
+        Ok(None)
     }
 
     /// Makes one turn, or as many as the call at PC takes.
-    fn next(&mut self) -> Result<(), AllocError>
+    fn next(&mut self) -> Result<Option<Outcome>, AllocError>
         ensures start { self.new.history.start ≡ self.old.history.start }
         ensures after { IsTrue_of_run self.new.history }
         ensures others { self.new ≡ record self.old { history = self.new.history } }
-        ensures runs { IfOk result (λ _. Nexts (call_goal self.old.history.point.state) self.old.stops self.old.history self.new.history) }
+        ensures nexts { IfOk result (λ told. Nexts (call_place self.old.history.point.state) self.old.stops self.old.history self.new.history told) }
     {
-        match call_goal(self.history.point().snapshot()) {
-            Some(goal) => self.run(Some(goal)),
+        match call_place(self.history.point().snapshot()) {
+            Some(place) => self.run(Some(at_place(place))),
             None => {
                 let turn = self.history.turn().saturating_add(1);
-                self.history.go_to(self.alloc, turn)
+                self.go_to(turn)
             }
         }
     }
 
-    /// Goes back to the last turn at which a breakpoint or a watched byte held.
-    fn back_run(&mut self) -> Result<(), AllocError>
+    /// GoesTo back to the last turn at which a breakpoint or a watched byte held.
+    fn back_run(&mut self) -> Result<Option<Outcome>, AllocError>
         ensures start { self.new.history.start ≡ self.old.history.start }
         ensures after { IsTrue_of_run self.new.history }
         ensures others { self.new ≡ record self.old { history = self.new.history } }
-        ensures moves { IfOk result (λ _. Moves command.BackRun self.old.stops self.old.history self.new.history) }
+        ensures moves { IfOk result (λ told. BackRuns self.old.stops self.old.history self.new.history told) }
     {
         let before = self.history.turn().saturating_sub(1);
-        let last = self.history.last(self.alloc, &self.stops, before)?;
-        self.history.go_to(self.alloc, last.unwrap_or(0))
+        match self.history.last(self.alloc, &self.stops, before)? {
+            Some((turn, hit)) => {
+                self.history.go_to(self.alloc, turn)?;
+                Ok(Some(Outcome::Held(hit)))
+            }
+            None => self.go_to(0),
+        }
     }
 
-    /// Goes to another turn, as a command asks; or stays.
-    fn go(&mut self, command: Command) -> Result<(), AllocError>
+    /// GoesTo back to the call over which `next` leads here, or by one turn.
+    fn back_next(&mut self) -> Result<Option<Outcome>, AllocError>
         ensures start { self.new.history.start ≡ self.old.history.start }
         ensures after { IsTrue_of_run self.new.history }
         ensures others { self.new ≡ record self.old { history = self.new.history } }
-        ensures moves { IfOk result (λ _. Moves command self.old.stops self.old.history self.new.history) }
+        ensures moves { IfOk result (λ told. BackNexts self.old.history self.new.history told) }
+    {
+        let before = self.history.turn().saturating_sub(1);
+        let call = self.history.call_before(self.alloc)?;
+        self.go_to(call.unwrap_or(before))
+    }
+
+    /// GoesTo to another turn, as a command asks; or stays.
+    fn go(&mut self, command: Command) -> Result<Option<Outcome>, AllocError>
+        ensures start { self.new.history.start ≡ self.old.history.start }
+        ensures after { IsTrue_of_run self.new.history }
+        ensures others { self.new ≡ record self.old { history = self.new.history } }
+        ensures moves { IfOk result (λ told. Moves command self.old.stops self.old.history self.new.history told) }
     {
         let turn = self.history.turn();
         match command {
-            Command::Step(count) => self.history.go_to(self.alloc, turn.saturating_add(count)),
-            Command::Back(count) => self.history.go_to(self.alloc, turn.saturating_sub(count)),
-            Command::Turn(number) => self.history.go_to(self.alloc, number),
+            Command::Step(count) => self.go_to(turn.saturating_add(count)),
+            Command::Back(count) => self.go_to(turn.saturating_sub(count)),
+            Command::Turn(number) => self.go_to(number),
             Command::Run(None) => self.run(None),
-            Command::Run(Some(address)) => self.run(Some(Breakpoint {
+            Command::Run(Some(address)) => self.run(Some(Goal::At(Breakpoint {
                 address,
                 condition: None,
-            })),
+            }))),
             Command::Next => self.next(),
             Command::Finish => {
-                let goal = return_goal(self.history.point().snapshot());
-                self.run(Some(goal))
+                let sp = self.history.point().snapshot().cpu().sp;
+                self.run(Some(Goal::ReturnAbove(sp)))
             }
             Command::BackRun => self.back_run(),
-            _ => Ok(()),
+            Command::BackNext => self.back_next(),
+            _ => Ok(None),
         }
     }
 
-    /// Obeys a command: it goes to another turn, sets breakpoints and watched bytes, or ends the session.
+    /// Obeys a command: it goes to another turn, sets breakpoints and watched bytes, or ends the session. Answers how it ended if the
+    /// command runs to something.
     ///
     /// # Errors
     ///
     /// [`AllocError`] if memory runs out.
-    pub fn obey(&mut self, command: Command) -> Result<(), AllocError>
+    pub fn obey(&mut self, command: Command) -> Result<Option<Outcome>, AllocError>
         ensures start { self.new.history.start ≡ self.old.history.start }
         ensures after { IsTrue_of_run self.new.history }
-        ensures moves { IfOk result (λ _. Moves command self.old.stops self.old.history self.new.history) }
+        ensures moves { IfOk result (λ told. Moves command self.old.stops self.old.history self.new.history told) }
         ensures sets { IfOk result (λ _. Sets command self.old.stops self.new.stops) }
         ensures over { IfOk result (λ _. self.new.is_over ≡ (self.old.is_over || is_quit command)) }
     {
-        self.go(command)?;
+        let told = self.go(command)?;
         self.stops.set(self.alloc, command)?;
         self.is_over = self.is_over || command == Command::Quit;
-        Ok(())
+        Ok(told)
     }
 
     /// The line of the last turn that changed a byte.
@@ -244,14 +243,12 @@ impl<'a> Session<'a> {
         let mut stops = Stops::new(self.alloc);
         stops.watches.push(address)?;
         match self.history.last(self.alloc, &stops, self.history.turn())? {
-            Some(turn) => {
+            Some((turn, Hit::Changed(change))) => {
                 text.extend_from_slice(format!(in self.alloc; "turn {turn} changed ")?.as_bytes())?;
-                put_address(self.alloc, &self.labels, address, text)?;
-                text.push(b'\n')?;
+                put_change(self.alloc, &self.labels, change, text)
             }
-            None => text.extend_from_slice(b"no turn has changed it\n")?,
+            _ => text.extend_from_slice(b"no turn has changed it\n"),
         }
-        Ok(())
     }
 
     /// Whether a command may show another point afterwards.
@@ -265,13 +262,15 @@ impl<'a> Session<'a> {
                 | Command::Next
                 | Command::Finish
                 | Command::BackRun
+                | Command::BackNext
         )
     }
 
-    /// What is printed for a command, which has been done. `printed` is how many bytes the program had printed before.
+    /// What is printed for a command, which has been done and ended so. `printed` is how many bytes the program had printed before.
     fn put_answer(
         &self,
         command: Command,
+        told: Option<Outcome>,
         printed: usize,
         text: &mut Vec<u8>,
     ) -> Result<(), AllocError> {
@@ -279,10 +278,15 @@ impl<'a> Session<'a> {
         let snapshot = point.snapshot();
         if Session::moves(command) {
             put_new_output(printed, snapshot, text)?;
+            put_outcome(self.alloc, &self.labels, told, text)?;
             return put_point(self.alloc, &self.labels, self.history.turn(), point, text);
         }
         match command {
-            Command::Registers => put_registers(self.alloc, snapshot.cpu(), text),
+            Command::Registers => {
+                put_registers(self.alloc, snapshot.cpu(), text)?;
+                put_system(self.alloc, snapshot, text)
+            }
+            Command::Info => put_info(self.alloc, &self.labels, &self.stops, text),
             Command::Memory(from, count) => put_memory(
                 self.alloc,
                 snapshot.memory(),
@@ -329,8 +333,8 @@ impl<'a> Session<'a> {
         let printed = self.history.point().snapshot().output().len();
         match command_of(self.alloc, words, self.labels.symbols)? {
             Some(command) => {
-                self.obey(command)?;
-                self.put_answer(command, printed, &mut text)?;
+                let told = self.obey(command)?;
+                self.put_answer(command, told, printed, &mut text)?;
                 Ok(text)
             }
             None => {

@@ -1,13 +1,16 @@
 //! What a session prints.
 
 use crate::command::{Labels, Symbol};
+use crate::history::Outcome;
 use crate::point::Point;
+use crate::session::MOST_TURNS;
 use crate::snapshot::Snapshot;
+use crate::stops::{Breakpoint, Change, Hit, Stops};
 use cpm_disk::Disk;
 use cpm_image::MemoryImage;
 use cpm_run::{BDOS, BIOS};
 use std::alloc::{AllocError, Global};
-use z80_cpu::{Cpu, Memory};
+use z80_cpu::{Cpu, Flags, Memory};
 use z80_table::decode;
 
 /// The bytes of a line of `mem`.
@@ -118,6 +121,141 @@ pub(crate) fn put_point(
     Ok(())
 }
 
+/// A changed byte: its address, its values before and after, and the instruction that changed it.
+pub(crate) fn put_change(
+    alloc: Global,
+    labels: &Labels<'_>,
+    change: Change,
+    text: &mut Vec<u8>,
+) -> Result<(), AllocError> {
+    let Change {
+        address,
+        before,
+        after,
+        by,
+    } = change;
+    put_address(alloc, labels, address, text)?;
+    text.extend_from_slice(format!(in alloc; ": {before:02X} -> {after:02X} by ")?.as_bytes())?;
+    put_address(alloc, labels, by, text)?;
+    text.extend_from_slice(b"\n")
+}
+
+/// Why a command has stopped before the end of the run, unless it has come to where it was to come.
+pub(crate) fn put_outcome(
+    alloc: Global,
+    labels: &Labels<'_>,
+    told: Option<Outcome>,
+    text: &mut Vec<u8>,
+) -> Result<(), AllocError> {
+    match told {
+        Some(Outcome::Held(Hit::Breakpoint(address))) => {
+            text.extend_from_slice(b"breakpoint ")?;
+            put_address(alloc, labels, address, text)?;
+            text.extend_from_slice(b"\n")
+        }
+        Some(Outcome::Held(Hit::Changed(change))) => {
+            text.extend_from_slice(b"watch ")?;
+            put_change(alloc, labels, change, text)
+        }
+        Some(Outcome::Limit) => {
+            let line = format!(in alloc; "limit of {MOST_TURNS} turns\n")?;
+            text.extend_from_slice(line.as_bytes())
+        }
+        _ => Ok(()),
+    }
+}
+
+/// The line of a breakpoint.
+fn put_breakpoint(
+    alloc: Global,
+    labels: &Labels<'_>,
+    breakpoint: &Breakpoint,
+    text: &mut Vec<u8>,
+) -> Result<(), AllocError> {
+    text.extend_from_slice(b"break ")?;
+    put_address(alloc, labels, breakpoint.address, text)?;
+    if let Some(condition) = breakpoint.condition {
+        let (name, value) = (condition.register.name(), condition.value);
+        text.extend_from_slice(format!(in alloc; " if {name}={value:04X}")?.as_bytes())?;
+    }
+    text.extend_from_slice(b"\n")
+}
+
+/// The line of watched bytes that follow each other, if there are some.
+fn put_watched(
+    alloc: Global,
+    labels: &Labels<'_>,
+    from: u16,
+    count: u16,
+    text: &mut Vec<u8>,
+) -> Result<(), AllocError> {
+    if count == 0 {
+        return Ok(());
+    }
+    text.extend_from_slice(b"watch ")?;
+    put_address(alloc, labels, from, text)?;
+    if count > 1 {
+        text.extend_from_slice(format!(in alloc; ", {count} bytes")?.as_bytes())?;
+    }
+    text.extend_from_slice(b"\n")
+}
+
+/// The lines of the breakpoints and of the watched bytes, in the order in which they were set.
+pub(crate) fn put_info(
+    alloc: Global,
+    labels: &Labels<'_>,
+    stops: &Stops,
+    text: &mut Vec<u8>,
+) -> Result<(), AllocError> {
+    if stops.breakpoints.is_empty() && stops.watches.is_empty() {
+        return text.extend_from_slice(b"no breakpoints, and no watched bytes\n");
+    }
+    for breakpoint in &stops.breakpoints {
+        put_breakpoint(alloc, labels, breakpoint, text)?;
+    }
+    let mut from: u16 = 0;
+    let mut count: u16 = 0;
+    for address in &stops.watches {
+        if count > 0 && count < u16::MAX && *address == from.wrapping_add(count) {
+            count += 1;
+        } else {
+            put_watched(alloc, labels, from, count, text)?;
+            from = *address;
+            count = 1;
+        }
+    }
+    put_watched(alloc, labels, from, count, text)
+}
+
+/// A letter, or `-` if the flag is not set.
+fn flag_letter(is_set: bool, letter: u8) -> u8 {
+    if is_set { letter } else { b'-' }
+}
+
+/// The flags as letters, in the order of their bits.
+fn flags_text(flags: Flags) -> [u8; 8] {
+    [
+        flag_letter(flags.sign, b'S'),
+        flag_letter(flags.zero, b'Z'),
+        b'-',
+        flag_letter(flags.half_carry, b'H'),
+        b'-',
+        flag_letter(flags.parity_overflow, b'P'),
+        flag_letter(flags.subtract, b'N'),
+        flag_letter(flags.carry, b'C'),
+    ]
+}
+
+/// The line of the DMA address and the user.
+pub(crate) fn put_system(
+    alloc: Global,
+    snapshot: &Snapshot,
+    text: &mut Vec<u8>,
+) -> Result<(), AllocError> {
+    let (dma, user) = (snapshot.dma(), snapshot.user());
+    text.extend_from_slice(format!(in alloc; "DMA={dma:04X} user={user}\n")?.as_bytes())
+}
+
 /// The lines of the registers.
 pub(crate) fn put_registers(
     alloc: Global,
@@ -127,9 +265,11 @@ pub(crate) fn put_registers(
     let (af, bc, de, hl) = (cpu.main.af(), cpu.main.bc(), cpu.main.de(), cpu.main.hl());
     let (ix, iy, sp, pc) = (cpu.ix, cpu.iy, cpu.sp, cpu.pc);
     let main = format!(in alloc;
-        "AF={af:04X} BC={bc:04X} DE={de:04X} HL={hl:04X} IX={ix:04X} IY={iy:04X} SP={sp:04X} PC={pc:04X}\n"
+        "AF={af:04X} BC={bc:04X} DE={de:04X} HL={hl:04X} IX={ix:04X} IY={iy:04X} SP={sp:04X} PC={pc:04X} "
     )?;
     text.extend_from_slice(main.as_bytes())?;
+    text.extend_from_slice(&flags_text(cpu.main.flags))?;
+    text.push(b'\n')?;
     let (af, bc, de, hl) = (
         cpu.shadow.af(),
         cpu.shadow.bc(),
@@ -264,6 +404,25 @@ pub(crate) fn put_stack(
     Ok(())
 }
 
+/// Bytes of a name, without the blanks at their end.
+fn put_part(bytes: &[u8], text: &mut Vec<u8>) -> Result<(), AllocError> {
+    for byte in bytes.trim_ascii_end() {
+        text.push(shown(*byte))?;
+    }
+    Ok(())
+}
+
+/// A name as `dir` prints it: NAME.TYP, or NAME if it has no type.
+fn put_name(name: &[u8; 11], text: &mut Vec<u8>) -> Result<(), AllocError> {
+    let (stem, kind) = name[..].split_at(NAME_BYTES);
+    put_part(stem, text)?;
+    if !kind.trim_ascii_end().is_empty() {
+        text.push(b'.')?;
+        put_part(kind, text)?;
+    }
+    Ok(())
+}
+
 /// The lines of the files of a disk, by user and name: the user, the name, and the number of records.
 pub(crate) fn put_files(
     alloc: Global,
@@ -276,12 +435,7 @@ pub(crate) fn put_files(
     for file in &files {
         let user = file.user;
         text.extend_from_slice(format!(in alloc; "{user} ")?.as_bytes())?;
-        for (place, byte) in file.name.bytes().iter().enumerate() {
-            if place == NAME_BYTES {
-                text.push(b'.')?;
-            }
-            text.push(shown(*byte))?;
-        }
+        put_name(&file.name.bytes(), text)?;
         let records = file.records;
         text.extend_from_slice(format!(in alloc; " {records}\n")?.as_bytes())?;
     }
