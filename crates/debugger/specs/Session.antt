@@ -1,10 +1,11 @@
 -- What a command does to a session.
-use Rattle.std.specs.Prelude.{◌≡◌, ◌+◌, ◌-◌, ◌^◌, ◌||◌, ◌⊎◌, ℕ, Bool, false, true, List, [], ◌∷◌, ◌++◌, map, min, Option, Some, None, option_map, unwrap_or}
+use Rattle.std.specs.Prelude.{◌≡◌, ◌+◌, ◌-◌, ◌^◌, ◌||◌, ◌⊎◌, ℕ, Bool, false, true, List, [], ◌∷◌, ◌++◌, map, min, Option, Some, None, codes, option_map, unwrap_or}
 use Rattle.std.specs.List.{range_with_len}
 use Rattle.z80_cpu.specs.State.{up_by}
 use Rattle.debugger.specs.declared.calls.ReturnPlace.{ReturnPlace}
 use Rattle.debugger.specs.declared.command.Command.{Command}
 use Rattle.debugger.specs.declared.command.Command.TheVariants as command
+use Rattle.debugger.specs.declared.command.Labels.{Labels}
 use Rattle.debugger.specs.declared.history.Outcome.{Outcome}
 use Rattle.debugger.specs.declared.history.Outcome.TheVariants as outcome
 use Rattle.debugger.specs.declared.session.TheConstants.{MOST_TURNS}
@@ -16,6 +17,7 @@ use Rattle.debugger.specs.declared.stops.Stops.{Stops}
 use Rattle.debugger.specs.Calls.{IsCallBefore, call_place, shown_place}
 use Rattle.debugger.specs.Going.{RanUntil, ShowsTurn}
 use Rattle.debugger.specs.Stops.{IsLast}
+use Rattle.debugger.specs.Text.{Says}
 use Rattle.debugger.specs.Walk.{Shown}
 
 -- the number of the last turn that can be counted
@@ -86,8 +88,12 @@ abbrev pub is_quit : Command → Bool
 is_quit command.Quit = true
 is_quit command = false
 
--- A line is a command that is obeyed, or changes nothing.
-abbrev pub Obeys : Shown → Stops → Bool → Shown → Stops → Bool → Type 0
-Obeys shown stops over new there is_over =
-    ((command : Command) × (told : Option Outcome) × Moves command stops shown new told × Sets command stops there × (is_over ≡ (over || is_quit command)))
-    ⊎ ((new ≡ shown) × (there ≡ stops) × (is_over ≡ over))
+-- the answer to a line that is not a command: nothing to a blank one
+abbrev pub IsRefusedLine : List ℕ → Type 0
+IsRefusedLine text = (text ≡ []) ⊎ (text ≡ codes "not a command; try help\n")
+
+-- A line is a command that is obeyed, and its answer is printed; or it is refused and changes nothing.
+abbrev pub Obeys : Labels → List ℕ → Shown → Stops → Bool → Shown → Stops → Bool → List ℕ → Type 0
+Obeys labels listing shown stops over new there is_over text =
+    ((command : Command) × (told : Option Outcome) × Moves command stops shown new told × Sets command stops there × (is_over ≡ (over || is_quit command)) × Says command new labels listing text)
+    ⊎ ((new ≡ shown) × (there ≡ stops) × (is_over ≡ over) × IsRefusedLine text)

@@ -1,17 +1,17 @@
 //! A session: commands, a line each, and what is printed for them.
 
 ghost use Rattle.std.specs.Prelude.{◌≡◌};
-ghost use Rattle.debugger.specs.Session.{at_place};
+ghost use Rattle.debugger.specs.Session.{IsRefusedLine, at_place};
 
 use crate::calls::{ReturnPlace, call_place};
 use crate::command::{Command, Labels, command_of};
 use crate::history::{History, Outcome};
-use crate::snapshot::Snapshot;
 use crate::stops::{Breakpoint, Condition, Goal, Hit, RegisterName, Stops};
 use crate::text::{
-    put_address, put_change, put_files, put_info, put_instructions, put_memory, put_new_output,
-    put_outcome, put_output, put_point, put_registers, put_stack, put_system, put_where,
+    put_files, put_info, put_instructions, put_new_output, put_outcome, put_output, put_point,
+    put_stack, put_where, put_who,
 };
+use debug_text::{put_memory, put_registers};
 use std::alloc::{AllocError, Global};
 
 /// The most turns that one `run` makes.
@@ -44,7 +44,9 @@ the assembler, as 125H. A turn that writes the same value does not change a byte
 ";
 
 /// What is printed for a line that is not a command: nothing for a blank one.
-fn refusal(line: &[u8]) -> &'static [u8] {
+fn refusal(line: &[u8]) -> &'static [u8]
+    ensures { IsRefusedLine result.now }
+{
     if line.iter().all(|b| b.is_ascii_whitespace()) {
         b""
     } else {
@@ -79,6 +81,9 @@ fn at_place(place: ReturnPlace) -> Goal
 impl<'a> Session<'a> {
     ghost use Rattle.std.specs.Prelude.{◌≡◌, ◌||◌, [], IfOk, false};
     ghost use Rattle.debugger.specs.Calls.{call_place};
+    ghost use Rattle.debugger.specs.Stops.{IsLast};
+    ghost use Rattle.debugger.specs.Text.{Says, Watches};
+    ghost use Rattle.debugger.specs.declared.stops.Stops.{Stops as TheStops};
     ghost use Rattle.debugger.specs.Session.{BackNexts, BackRuns, GoesTo, Obeys, Moves, Nexts, RunsOn, Sets, is_quit};
     ghost use Rattle.debugger.specs.Walk.{IsTrue_of_run};
     ghost use Rattle.debugger.specs.declared.command.Command.TheVariants as command;
@@ -89,6 +94,8 @@ impl<'a> Session<'a> {
         ensures breakpoints { result.stops.breakpoints.items ≡ [] }
         ensures watches { result.stops.watches.items ≡ [] }
         ensures over { result.is_over ≡ false }
+        ensures labels { result.labels ≡ labels.entry }
+        ensures listing { result.listing.now ≡ [] }
     {
         Session {
             alloc,
@@ -105,6 +112,8 @@ impl<'a> Session<'a> {
         ensures history { result.history ≡ self.entry.history }
         ensures stops { result.stops ≡ self.entry.stops }
         ensures over { result.is_over ≡ self.entry.is_over }
+        ensures labels { result.labels ≡ self.entry.labels }
+        ensures listing { result.listing ≡ listing.entry }
     {
         self.listing = listing;
         self
@@ -231,6 +240,8 @@ impl<'a> Session<'a> {
         ensures moves { IfOk result (λ told. Moves command self.old.stops self.old.history self.new.history told) }
         ensures sets { IfOk result (λ _. Sets command self.old.stops self.new.stops) }
         ensures over { IfOk result (λ _. self.new.is_over ≡ (self.old.is_over || is_quit command)) }
+        ensures labels { self.new.labels ≡ self.old.labels }
+        ensures listing { self.new.listing ≡ self.old.listing }
     {
         let told = self.go(command)?;
         self.stops.set(self.alloc, command)?;
@@ -238,83 +249,127 @@ impl<'a> Session<'a> {
         Ok(told)
     }
 
-    /// The line of the last turn that changed a byte.
-    fn put_who(&self, address: u16, text: &mut Vec<u8>) -> Result<(), AllocError> {
+    /// The last turn that changed a byte, up to the one that is shown.
+    fn last_change(&self, address: u16) -> Result<Option<(u64, Hit)>, AllocError>
+        ensures { IfOk result (λ last. (stops : TheStops) × Watches address stops × IsLast stops self.now.history.start self.now.history.turn last) }
+    {
         let mut stops = Stops::new(self.alloc);
         stops.watches.push(address)?;
-        match self.history.last(self.alloc, &stops, self.history.turn())? {
-            Some((turn, Hit::Changed(change))) => {
-                text.extend_from_slice(format!(in self.alloc; "turn {turn} changed ")?.as_bytes())?;
-                put_change(self.alloc, &self.labels, change, text)
-            }
-            _ => text.extend_from_slice(b"no turn has changed it\n"),
-        }
+        self.history.last(self.alloc, &stops, self.history.turn())
     }
 
-    /// Whether a command may show another point afterwards.
-    fn moves(command: Command) -> bool {
-        matches!(
-            command,
-            Command::Step(_)
-                | Command::Back(_)
-                | Command::Turn(_)
-                | Command::Run(_)
-                | Command::Next
-                | Command::Finish
-                | Command::BackRun
-                | Command::BackNext
-        )
+    /// The registers, the flags, the address of the buffer for records, and the user.
+    fn registers(&self) -> Result<Vec<u8>, AllocError>
+        ensures { IfOk result (λ text. Says command.Registers self.now.history self.now.labels self.now.listing.now text.items) }
+    {
+        let snapshot = self.history.point().snapshot();
+        let (cpu, dma, user) = (snapshot.cpu(), snapshot.dma(), snapshot.user());
+        let mut text = Vec::new(self.alloc);
+        put_registers(self.alloc, &mut text, cpu, dma, user)?;
+        Ok(text)
+    }
+
+    /// Bytes of memory.
+    fn memory(&self, from: u16, count: u16) -> Result<Vec<u8>, AllocError>
+        ensures { IfOk result (λ text. Says (command.Memory from «count») self.now.history self.now.labels self.now.listing.now text.items) }
+    {
+        let memory = self.history.point().snapshot().memory();
+        let mut text = Vec::new(self.alloc);
+        put_memory(self.alloc, &mut text, memory, from, count)?;
+        Ok(text)
+    }
+
+    /// The last turn that changed a byte.
+    fn who(&self, address: u16) -> Result<Vec<u8>, AllocError>
+        ensures { IfOk result (λ text. Says (command.Who address) self.now.history self.now.labels self.now.listing.now text.items) }
+    {
+        let last = self.last_change(address)?;
+        let mut text = Vec::new(self.alloc);
+        put_who(self.alloc, &self.labels, last, &mut text)?;
+        Ok(text)
+    }
+
+    /// PC with its label, and its line of the listing.
+    fn place(&self) -> Result<Vec<u8>, AllocError>
+        ensures { IfOk result (λ text. Says command.Where self.now.history self.now.labels self.now.listing.now text.items) }
+    {
+        let pc = self.history.point().snapshot().cpu().pc;
+        let mut text = Vec::new(self.alloc);
+        put_where(self.alloc, &self.labels, self.listing, pc, &mut text)?;
+        Ok(text)
+    }
+
+    /// What is printed for a command that goes to another turn, and ended so: what the program has printed since, why the command stopped,
+    /// and the turn. `printed` is how many bytes the program had printed before.
+    fn moved(&self, told: Option<Outcome>, printed: usize) -> Result<Vec<u8>, AllocError> {
+        let point = self.history.point();
+        let mut text = Vec::new(self.alloc);
+        put_new_output(printed, point.snapshot(), &mut text)?;
+        put_outcome(self.alloc, &self.labels, told, &mut text)?;
+        put_point(
+            self.alloc,
+            &self.labels,
+            self.history.turn(),
+            point,
+            &mut text,
+        )?;
+        Ok(text)
+    }
+
+    /// Instructions.
+    fn code(&self, from: u16, count: u16) -> Result<Vec<u8>, AllocError> {
+        let snapshot = self.history.point().snapshot();
+        let mut text = Vec::new(self.alloc);
+        put_instructions(self.alloc, &self.labels, snapshot, from, count, &mut text)?;
+        Ok(text)
+    }
+
+    /// What is printed for the commands that show something else.
+    fn shown(&self, command: Command) -> Result<Vec<u8>, AllocError> {
+        let snapshot = self.history.point().snapshot();
+        let mut text = Vec::new(self.alloc);
+        match command {
+            Command::Info => put_info(self.alloc, &self.labels, &self.stops, &mut text)?,
+            Command::Stack => put_stack(self.alloc, &self.labels, snapshot, &mut text)?,
+            Command::Output => put_output(snapshot.output(), &mut text)?,
+            Command::Files => put_files(self.alloc, snapshot.disk(), &mut text)?,
+            _ => text.extend_from_slice(HELP)?,
+        }
+        Ok(text)
     }
 
     /// What is printed for a command, which has been done and ended so. `printed` is how many bytes the program had printed before.
-    fn put_answer(
+    fn said(
         &self,
         command: Command,
         told: Option<Outcome>,
         printed: usize,
-        text: &mut Vec<u8>,
-    ) -> Result<(), AllocError> {
-        let point = self.history.point();
-        let snapshot = point.snapshot();
-        if Session::moves(command) {
-            put_new_output(printed, snapshot, text)?;
-            put_outcome(self.alloc, &self.labels, told, text)?;
-            return put_point(self.alloc, &self.labels, self.history.turn(), point, text);
-        }
+    ) -> Result<Vec<u8>, AllocError>
+        ensures { IfOk result (λ text. Says command self.now.history self.now.labels self.now.listing.now text.items) }
+    {
         match command {
-            Command::Registers => {
-                put_registers(self.alloc, snapshot.cpu(), text)?;
-                put_system(self.alloc, snapshot, text)
-            }
-            Command::Info => put_info(self.alloc, &self.labels, &self.stops, text),
-            Command::Memory(from, count) => put_memory(
-                self.alloc,
-                snapshot.memory(),
-                from,
-                count,
-                text,
-            ),
-            Command::Disassemble(from, count) => put_instructions(
-                self.alloc,
-                &self.labels,
-                snapshot,
-                from,
-                count,
-                text,
-            ),
-            Command::Stack => put_stack(self.alloc, &self.labels, snapshot, text),
-            Command::Output => put_output(snapshot.output(), text),
-            Command::Who(address) => self.put_who(address, text),
-            Command::Files => put_files(self.alloc, snapshot.disk(), text),
-            Command::Where => put_where(
-                self.alloc,
-                &self.labels,
-                self.listing,
-                snapshot.cpu().pc,
-                text,
-            ),
-            Command::Help => text.extend_from_slice(HELP),
-            _ => Ok(()),
+            Command::Registers => self.registers(),
+            Command::Memory(from, count) => self.memory(from, count),
+            Command::Who(address) => self.who(address),
+            Command::Where => self.place(),
+            Command::Break(_) => Ok(Vec::new(self.alloc)),
+            Command::Watch(_, _) => Ok(Vec::new(self.alloc)),
+            Command::Delete => Ok(Vec::new(self.alloc)),
+            Command::Quit => Ok(Vec::new(self.alloc)),
+            Command::Disassemble(from, count) => self.code(from, count),
+            Command::Info => self.shown(command),
+            Command::Stack => self.shown(command),
+            Command::Output => self.shown(command),
+            Command::Files => self.shown(command),
+            Command::Help => self.shown(command),
+            Command::Step(_) => self.moved(told, printed),
+            Command::Back(_) => self.moved(told, printed),
+            Command::Turn(_) => self.moved(told, printed),
+            Command::Run(_) => self.moved(told, printed),
+            Command::Next => self.moved(told, printed),
+            Command::Finish => self.moved(told, printed),
+            Command::BackRun => self.moved(told, printed),
+            Command::BackNext => self.moved(told, printed),
         }
     }
 
@@ -326,21 +381,18 @@ impl<'a> Session<'a> {
     pub fn answer(&mut self, line: &[u8]) -> Result<Vec<u8>, AllocError>
         ensures start { self.new.history.start ≡ self.old.history.start }
         ensures after { IsTrue_of_run self.new.history }
-        ensures obeys { IfOk result (λ _. Obeys self.old.history self.old.stops self.old.is_over self.new.history self.new.stops self.new.is_over) }
+        ensures labels { self.new.labels ≡ self.old.labels }
+        ensures listing { self.new.listing ≡ self.old.listing }
+        ensures obeys { IfOk result (λ text. Obeys self.old.labels self.old.listing.now self.old.history self.old.stops self.old.is_over self.new.history self.new.stops self.new.is_over text.items) }
     {
-        let mut text = Vec::new(self.alloc);
         let words = std::str::from_utf8(line).unwrap_or("");
         let printed = self.history.point().snapshot().output().len();
         match command_of(self.alloc, words, self.labels.symbols)? {
             Some(command) => {
                 let told = self.obey(command)?;
-                self.put_answer(command, told, printed, &mut text)?;
-                Ok(text)
+                self.said(command, told, printed)
             }
-            None => {
-                text.extend_from_slice(refusal(line))?;
-                Ok(text)
-            }
+            None => Vec::from_slice(self.alloc, refusal(line)),
         }
     }
 }
