@@ -45,64 +45,133 @@ pub struct AsmFault {
     pub why: Why,
 }
 
+impl From<MacroFault> for Why {
+    ghost use Rattle.std.specs.Prelude.{◌≡◌};
+    ghost use Rattle.asm_module.specs.Whys.{macro_why};
+
+    ghost from_gives = { λ why e. e ≡ macro_why why };
+
+    fn from(why: MacroFault) -> Why {
+        match why {
+            MacroFault::NoMemory => Why::NoMemory,
+            _ => Why::Macro(why),
+        }
+    }
+}
+
+/// The error of a line that cannot be parsed. (Each line of an expansion can be tokenized.)
+impl From<LineFault> for Why {
+    ghost use Rattle.std.specs.Prelude.{◌≡◌};
+    ghost use Rattle.asm_module.specs.Whys.{line_why};
+
+    ghost from_gives = { λ why e. e ≡ line_why why };
+
+    fn from(why: LineFault) -> Why {
+        match why {
+            LineFault::Scan(fault) => Why::Macro(MacroFault::Scan(fault)),
+            LineFault::Stmt(fault) => Why::Stmt(fault),
+        }
+    }
+}
+
+/// The error of a line that may not define its name.
+impl From<NameFault> for Why {
+    ghost use Rattle.std.specs.Prelude.{◌≡◌};
+    ghost use Rattle.asm_module.specs.Whys.{name_why};
+
+    ghost from_gives = { λ why e. e ≡ name_why why };
+
+    fn from(why: NameFault) -> Why {
+        match why {
+            NameFault::Duplicate => Why::Duplicate,
+            NameFault::TooManyStatements => Why::TooManyStatements,
+            NameFault::TooManyNames => Why::TooManyNames,
+            NameFault::NoMemory => Why::NoMemory,
+        }
+    }
+}
+
+/// The error of an EQU line.
+impl From<EquFault> for Why {
+    ghost use Rattle.std.specs.Prelude.{◌≡◌};
+    ghost use Rattle.asm_module.specs.Whys.{equ_why};
+
+    ghost from_gives = { λ why e. e ≡ equ_why why };
+
+    fn from(why: EquFault) -> Why {
+        match why {
+            EquFault::Undefined => Why::Undefined,
+            EquFault::EquCircle => Why::EquCircle,
+            EquFault::Expr(fault) => Why::Stmt(StmtFault::Expr(fault)),
+        }
+    }
+}
+
+/// The error of any other line.
+impl From<StateFault> for Why {
+    ghost use Rattle.std.specs.Prelude.{◌≡◌};
+    ghost use Rattle.asm_module.specs.Whys.{state_why};
+
+    ghost from_gives = { λ why e. e ≡ state_why why };
+
+    fn from(why: StateFault) -> Why {
+        match why {
+            StateFault::Undefined => Why::Undefined,
+            StateFault::Stmt(fault) => Why::Stmt(fault),
+            StateFault::PublicNotLabel => Why::PublicNotLabel,
+            StateFault::NoMemory => Why::NoMemory,
+        }
+    }
+}
+
 /// Converts an error of the expansion.
 pub(crate) fn of_macro(line: u32, why: MacroFault) -> AsmFault
     ensures { result ≡ record { line = line; why = macro_why why } }
 {
-    let why = match why {
-        MacroFault::NoMemory => Why::NoMemory,
-        _ => Why::Macro(why),
-    };
-    AsmFault { line, why }
+    AsmFault {
+        line,
+        why: Why::from(why),
+    }
 }
 
-/// Converts the error of a line that cannot be parsed. (Each line of an expansion can be tokenized.)
+/// Converts the error of a line that cannot be parsed.
 pub(crate) fn of_line(line: u32, why: LineFault) -> AsmFault
     ensures { result ≡ record { line = line; why = line_why why } }
 {
-    let why = match why {
-        LineFault::Scan(fault) => Why::Macro(MacroFault::Scan(fault)),
-        LineFault::Stmt(fault) => Why::Stmt(fault),
-    };
-    AsmFault { line, why }
+    AsmFault {
+        line,
+        why: Why::from(why),
+    }
 }
 
 /// Converts the error of a line that may not define its name.
 pub(crate) fn of_name(line: u32, why: NameFault) -> AsmFault
     ensures { result ≡ record { line = line; why = name_why why } }
 {
-    let why = match why {
-        NameFault::Duplicate => Why::Duplicate,
-        NameFault::TooManyStatements => Why::TooManyStatements,
-        NameFault::TooManyNames => Why::TooManyNames,
-        NameFault::NoMemory => Why::NoMemory,
-    };
-    AsmFault { line, why }
+    AsmFault {
+        line,
+        why: Why::from(why),
+    }
 }
 
 /// Converts the error of an EQU line.
 pub(crate) fn of_equ(line: u32, why: EquFault) -> AsmFault
     ensures { result ≡ record { line = line; why = equ_why why } }
 {
-    let why = match why {
-        EquFault::Undefined => Why::Undefined,
-        EquFault::EquCircle => Why::EquCircle,
-        EquFault::Expr(fault) => Why::Stmt(StmtFault::Expr(fault)),
-    };
-    AsmFault { line, why }
+    AsmFault {
+        line,
+        why: Why::from(why),
+    }
 }
 
 /// Converts the error of any other line.
 pub(crate) fn of_state(line: u32, why: StateFault) -> AsmFault
     ensures { result ≡ record { line = line; why = state_why why } }
 {
-    let why = match why {
-        StateFault::Undefined => Why::Undefined,
-        StateFault::Stmt(fault) => Why::Stmt(fault),
-        StateFault::PublicNotLabel => Why::PublicNotLabel,
-        StateFault::NoMemory => Why::NoMemory,
-    };
-    AsmFault { line, why }
+    AsmFault {
+        line,
+        why: Why::from(why),
+    }
 }
 
 impl From<AllocError> for AsmFault {

@@ -504,12 +504,18 @@ module _ (names : Names) (lines : List Taken) (layout : Layout) (turns : List Tu
   found_last x (Some (Kind.Equ b)) k =
       ap (λ c. cond c (Some (final names lines (is_marked_circular turns) layout b)) None) (all_had b (let g = known.by x b k in slice_get_within lines b g.0 g.1))
 
+  -- the error of each line by itself
+  pub all_faults : (s : Settling) → Stands names lines (is_marked_circular turns) layout turns s → (k : ℕ) (l : Taken) → slice_get lines k ≡ Some l
+      → slice_get s.faults.items k ≡ Some (equ_line_fault names (is_marked_circular turns) layout (name_meanings names lines (is_marked_circular turns) layout) k l.line)
+  all_faults s stands k l there =
+      stands.faults k l there ∙ ap (λ c. Some (cond c (equ_line_fault names (is_marked_circular turns) layout (name_meanings names lines (is_marked_circular turns) layout) k l.line) None)) (all_had k (slice_get_within lines k l there))
+
   pub all_settled : (s : Settling) → Stands names lines (is_marked_circular turns) layout turns s
       → ((x : List ℕ) → found s.names x ≡ lookup (bytes_eq x) (name_meanings names lines (is_marked_circular turns) layout)) × (first (numbered lines s.faults.items) ≡ first_equ_fault names lines (is_marked_circular turns) layout)
   all_settled s stands = (
     λ x. stands.found x ∙ found_last x (kind_of_name names x) refl ∙ sym (found_after (length lines) names lines (is_marked_circular turns) layout x),
     ap first (numbered_faults (equ_line_fault names (is_marked_circular turns) layout (name_meanings names lines (is_marked_circular turns) layout)) 0 lines s.faults.items stands.many
-        (λ k l there. stands.faults k l there ∙ ap (λ c. Some (cond c (equ_line_fault names (is_marked_circular turns) layout (name_meanings names lines (is_marked_circular turns) layout) k l.line) None)) (all_had k (slice_get_within lines k l there))
+        (λ k l there. all_faults s stands k l there
         ∙ ap (λ j. Some (equ_line_fault names (is_marked_circular turns) layout (name_meanings names lines (is_marked_circular turns) layout) j l.line)) (omega arith))),
   )
 

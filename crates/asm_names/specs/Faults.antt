@@ -1,10 +1,10 @@
 -- The errors of a line, given the lines before it: first each error by itself, then which of them is reported.
-use Rattle.std.specs.Prelude.{◌≡◌, ℕ, ◌&&◌, Bool, List, [], ◌∷◌, ◌++◌, Option, Some, None, Result, Ok, Err, if◌then◌else◌, length, count_by, nat_le, nat_lt}
+use Rattle.std.specs.Prelude.{◌≡◌, ℕ, ◌&&◌, Bool, true, false, List, [], ◌∷◌, ◌++◌, Option, Some, None, Result, Ok, Err, if◌then◌else◌, length, count_by, nat_le, nat_lt}
 use Rattle.std.specs.Option.{option_map}
 use Rattle.common.specs.declared.limits.TheConstants.{MOST_NAMES, MOST_STATEMENTS}
 use Rattle.asm_names.specs.declared.fault.NameFault.{NameFault}
 use Rattle.asm_names.specs.Lines.{Taken, has_statement}
-use Rattle.asm_names.specs.Names.{Names, defines, names, has_clash}
+use Rattle.asm_names.specs.Names.{Names, defines, names, has_clash, with_names}
 
 -- the first element that is not None
 abbrev pub first : {A : Type 0} → List (Option A) → Option A
@@ -51,3 +51,10 @@ abbrev pub IsNamed : List Taken → Result Names (ℕ × NameFault) → Type 0
 IsNamed lines (Ok table) = (first_name_fault lines ≡ None) × (table ≡ names lines)
 IsNamed lines (Err (number, NameFault.NoMemory)) = Unit {0}
 IsNamed lines (Err (number, why)) = first_name_fault lines ≡ Some (number, why)
+
+-- The definitions were added to a table of names, and none clashes; or one clashes. If memory ran out, nothing is known.
+abbrev pub TakesUp : Names → Names → Result (Unit {0}) NameFault → Names → Type 0
+TakesUp old more (Ok done) new = (has_clash old more ≡ false) × (new ≡ with_names old more)
+TakesUp old more (Err NameFault.Duplicate) new = has_clash old more ≡ true
+TakesUp old more (Err NameFault.NoMemory) new = Unit {0}
+TakesUp old more (Err why) new = ⊥

@@ -4,4 +4,4 @@ mod meanings;
 mod names;
 
 pub use meanings::{refs, told, valued};
-pub use names::{distinct, few, given};
+pub use names::{distinct, few, given, one_more};

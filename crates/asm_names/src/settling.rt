@@ -28,6 +28,8 @@ use std::alloc::{AllocError, Global};
 #[derive(Debug, Drop)]
 pub struct SettledNames {
     pub names: Names,
+    /// For each line its first error, if it is an EQU line that has one.
+    pub faults: Vec<Option<EquFault>>,
     /// The number of the first EQU line that has an error, and its first error.
     pub fault: Option<(u32, EquFault)>,
 }
@@ -88,7 +90,7 @@ fn first_of(lines: &[SourceLine], faults: &[Option<EquFault>]) -> Option<(u32, E
     None
 }
 
-/// Finds what each name of a source stands for, whatever the order of its lines, and the first error of its EQU lines. An EQU line
+/// Finds what each name of a source stands for, whatever the order of its lines, and the errors of its EQU lines. An EQU line
 /// has an error if a name in its expression is not defined anywhere, if it leads back to itself, or if its expression has an error.
 /// A name whose own line has an error may stand for anything.
 ///
@@ -120,6 +122,7 @@ pub fn settle_names(
     let fault = first_of(lines, &settling.faults);
     Ok(SettledNames {
         names: settling.names,
+        faults: settling.faults,
         fault,
     })
 }

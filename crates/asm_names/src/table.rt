@@ -5,7 +5,8 @@ ghost use Rattle.std.specs.Option.{option_map};
 ghost use Rattle.asm_spell.specs.Line.{body_of, line_of, listed_names};
 ghost use Rattle.asm_names.specs.declared.kind.Kind.{Kind};
 ghost use Rattle.asm_names.specs.Names.{Names, declared, defines, kind_of_name, label_definition};
-ghost use Rattle.asm_names.specs.Private.Steps.{TakesUp, externals};
+ghost use Rattle.asm_names.specs.Faults.{TakesUp};
+ghost use Rattle.asm_names.specs.Private.Steps.{externals};
 
 use crate::fault::NameFault;
 use crate::kind::Kind;
@@ -33,7 +34,7 @@ impl Model for NameTable {
 
 impl NameTable {
     /// An empty table whose names will be looked up by this key.
-    pub(crate) fn new(alloc: Global, key: NameKey) -> NameTable
+    pub fn new(alloc: Global, key: NameKey) -> NameTable
         ensures { result ≡ [] }
     {
         NameTable {
@@ -114,7 +115,12 @@ impl NameTable {
     }
 
     /// Adds the names that line `at` defines.
-    pub(crate) fn define(&mut self, at: usize, line: &Line) -> Result<(), NameFault>
+    ///
+    /// # Errors
+    ///
+    /// [`NameFault::Duplicate`] if one of them is in the table already, or twice in the line, and is not an external in both. The names
+    /// before it may be in the table then. [`NameFault::NoMemory`] if memory ran out.
+    pub fn define(&mut self, at: usize, line: &Line) -> Result<(), NameFault>
         ensures { TakesUp self.old (defines at (line_of line.now)) result self.new }
     {
         match line {

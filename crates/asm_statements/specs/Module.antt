@@ -1,3 +1,4 @@
 pub mod Faults
 pub mod Statements
 pub mod Stated
+pub mod Judged

@@ -9,7 +9,8 @@ ghost use Rattle.asm_stmt.specs.Made.{made_of, piece_of};
 ghost use Rattle.asm_spell.specs.Line.{body_of, line_of};
 ghost use Rattle.zmo_module.specs.Modules.{statement_of};
 ghost use Rattle.asm_statements.specs.Module.Statements.{of_made, statement_by};
-ghost use Rattle.asm_statements.specs.Private.Steps.{JudgesBody, JudgesLine, of_values};
+ghost use Rattle.asm_statements.specs.Module.Judged.{JudgesLine};
+ghost use Rattle.asm_statements.specs.Private.Steps.{JudgesBody, of_values};
 
 use crate::fault::StateFault;
 use crate::missing::{is_undefined, lacks_label};
@@ -92,8 +93,14 @@ fn judge_body(
     }
 }
 
-/// Judges a line. An EQU makes no statement.
-pub(crate) fn judge(
+/// Judges a line by itself, given what names stand for, and what `$` is there. Answers the statement of the module, if the line makes one.
+/// An EQU makes none.
+///
+/// # Errors
+///
+/// The first error of a line other than an EQU: a name that is defined nowhere; then the errors of its values, from left to right; then a
+/// name in PUBLIC or END that is not a label.
+pub fn judge(
     alloc: Global,
     line: &Line,
     table: &NameTable,

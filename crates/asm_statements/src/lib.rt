@@ -3,7 +3,7 @@
 //! [`outline_of`] answers what the names of a source stand for, and where its statements are. [`emit`] takes this outline and answers the
 //! statements, or the first line other than an EQU that has an error. Its contract says that the statements have the sizes that were laid
 //! out, keep the rules of an object file, and are at all addresses the program that the lines describe. [`state_lines`] makes statements by
-//! any layout, and promises less of them.
+//! any layout, and promises less of them. [`judge`] answers the error of any one line.
 #![tactic(auto)]
 
 mod emitting;
@@ -19,6 +19,7 @@ mod stating;
 pub use asm_names::Layout;
 pub use emitting::emit;
 pub use fault::StateFault;
+pub use judging::judge;
 pub use outlining::{Outline, outline_of};
 pub use stating::{Stated, state_lines};
 pub use zmo_module::Statement;

@@ -9,13 +9,6 @@ use Rattle.asm_names.specs.Lines.{Taken, has_statement}
 use Rattle.asm_names.specs.Names.{Names, clashes, kind_of_name, names, has_clash, with_name, with_names}
 use Rattle.asm_names.specs.Faults.{name_fault}
 
--- The definitions were added, and none clashes; or one clashes. If memory ran out, nothing is known.
-abbrev pub TakesUp : Names → Names → Result (Unit {0}) NameFault → Names → Type 0
-TakesUp old more (Ok done) new = (has_clash old more ≡ false) × (new ≡ with_names old more)
-TakesUp old more (Err NameFault.Duplicate) new = has_clash old more ≡ true
-TakesUp old more (Err NameFault.NoMemory) new = Unit {0}
-TakesUp old more (Err why) new = ⊥
-
 -- the names of an EXTRN
 abbrev pub externals : List (List ℕ) → Names
 externals names = map (λ name. (name, Kind.External)) names

@@ -12,6 +12,7 @@ use Rattle.zmo_module.specs.Modules.{ModuleStatement, statement_of}
 use Rattle.asm_statements.specs.declared.fault.StateFault.{StateFault}
 use Rattle.asm_statements.specs.declared.stating.Stated.{Stated}
 use Rattle.asm_statements.specs.Module.Faults.{body_fault}
+use Rattle.asm_statements.specs.Module.Judged.{Judges}
 use Rattle.asm_statements.specs.Module.Stated.{statement_fault}
 use Rattle.asm_statements.specs.Module.Statements.{line_statement, of_made}
 
@@ -20,17 +21,8 @@ abbrev pub of_values : StmtFault → StateFault
 of_values StmtFault.NoMemory = StateFault.NoMemory
 of_values why = StateFault.Stmt why
 
--- The answer is this error or this statement. If memory ran out, nothing is claimed.
-abbrev pub Judges : Option StateFault → Option ModuleStatement → Result (Option code.Statement) StateFault → Type 0
-Judges fault stated (Ok s) = (fault ≡ None) × (option_map statement_of s ≡ stated)
-Judges fault stated (Err StateFault.NoMemory) = Unit {0}
-Judges fault stated (Err why) = fault ≡ Some why
-
 abbrev pub JudgesBody : Bool → Names → Table → Body → Result (Option code.Statement) StateFault → Type 0
 JudgesBody grow names t body r = Judges (body_fault names t body) (of_made grow (made t body)) r
-
-abbrev pub JudgesLine : Bool → Names → Table → Line → Result (Option code.Statement) StateFault → Type 0
-JudgesLine grow names t line r = Judges (statement_fault names t line) (line_statement grow t line) r
 
 -- the statement of a line with the line's number, if the line has a statement
 abbrev pub stated : Bool → Table → Taken → List (ℕ × ModuleStatement)

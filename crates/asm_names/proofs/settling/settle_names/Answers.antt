@@ -7,7 +7,7 @@ use Rattle.asm_names.specs.Settles.{is_marked_circular}
 use Rattle.asm_names.specs.Faults.{first}
 use Rattle.asm_names.specs.Private.Turned.{Stands, numbered}
 use Rattle.asm_names.proofs.Rounds.{turn_at}
-use Rattle.asm_names.proofs.Turning.{Lines_in_order, all_settled, can_take, known_lines, line_there, none_settled, turn_within, turned}
+use Rattle.asm_names.proofs.Turning.{Lines_in_order, all_faults, all_settled, can_take, known_lines, line_there, none_settled, turn_within, turned}
 use Rattle.asm_names.proofs.settling.settle_names.Goals as goal
 
 pub loop-turn-init : goal.loop-turn-init
@@ -45,4 +45,4 @@ returns c =
     subst (λ ts. Stands c.args.table.now lines (is_marked_circular c.args.turns.now) (layout_of c.args.layout.now) ts c.loop-turn.settling)
     (take_all c.loop-turn.turn-index c.args.turns.now c.loop-turn-test.false) c.loop-turn.invariant in
     let all = all_settled c.args.table.now lines (layout_of c.args.layout.now) c.args.turns.now known c.loop-turn.settling stands in
-    record { found = all.0; statements = stands.statements; fault = c.first_of-fault.ensures ∙ ap (λ fs. first (numbered lines fs)) c.deref.ensures.value ∙ all.1 }
+    record { found = all.0; statements = stands.statements; each = all_faults c.args.table.now lines (layout_of c.args.layout.now) c.args.turns.now known c.loop-turn.settling stands; fault = c.first_of-fault.ensures ∙ ap (λ fs. first (numbered lines fs)) c.deref.ensures.value ∙ all.1 }
