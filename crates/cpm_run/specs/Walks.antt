@@ -13,6 +13,7 @@ use Rattle.cpm_run.specs.declared.fault.StartFault.{StartFault}
 use Rattle.cpm_run.specs.declared.recording.Record.{Record}
 use Rattle.cpm_run.specs.declared.recording.TraceStep.{TraceStep}
 use Rattle.cpm_run.specs.declared.recording.Wish.{Wish}
+use Rattle.cpm_run.specs.declared.tracing.Left.{Left}
 use Rattle.cpm_run.specs.Records.{Keeps}
 use Rattle.cpm_run.specs.Run.{unstarted}
 use Rattle.cpm_run.specs.Start.{IsStart}
@@ -42,11 +43,15 @@ abbrev pub KeepsWalk : {S C : Type 0} → (S → Image) → (S → ℕ) → (C �
 KeepsWalk sectors faults dialog limit wish old end turns new kept =
     (steps : List TraceStep) × WalkEnds sectors faults dialog limit old end steps new × (turns ≡ length steps) × Keeps wish steps kept
 
--- A run of a program with its words, on a disk and a console, that keeps what it was asked to: the registers and the memory at the end, and
--- what is kept of its steps. If the program cannot be started, there is no step.
-abbrev pub IsTraced : {S C : Type 0} → (S → Image) → (S → ℕ) → (C → Dialog) → List ℕ → List (List ℕ) → Mounted S → C → ℕ → Wish → Why → ℕ → Option (Cpu × List ℕ) → Option Record → Type 0
+-- what a run leaves besides its disk and its console
+abbrev pub left_by_run : {S C : Type 0} → RunState S C → Left
+left_by_run s = record { cpu = s.machine.cpu; memory = s.machine.memory; dma = s.system.dma; user = s.system.user }
+
+-- A run of a program with its words, on a disk and a console, that keeps what it was asked to: the machine and the system at the end, and what
+-- is kept of its steps. If the program cannot be started, there is no step.
+abbrev pub IsTraced : {S C : Type 0} → (S → Image) → (S → ℕ) → (C → Dialog) → List ℕ → List (List ℕ) → Mounted S → C → ℕ → Wish → Why → ℕ → Option Left → Option Record → Type 0
 IsTraced {S} {C} sectors faults dialog file words disk console limit wish end turns state kept =
     ((cpu : Cpu) × (memory : List ℕ) × (new : RunState S C) × IsStart file words (Ok (cpu, memory))
     × KeepsWalk sectors faults dialog limit wish (record { machine = machine cpu memory; system = new_system disk console }) end turns new kept
-    × (state ≡ Some (new.machine.cpu, new.machine.memory)))
+    × (state ≡ Some (left_by_run new)))
     ⊎ ((no : StartFault) × IsStart file words (Err no) × (end ≡ unstarted no) × (turns ≡ 0) × (state ≡ None) × (kept ≡ None))

@@ -22,6 +22,6 @@ pub use places::{BDOS, BIOS, bios_entry, is_finished};
 pub use recording::{ADDRESSES, Record, TraceStep, Wish};
 pub use running::run;
 pub use starting::start;
-pub use tracing::{Traced, run_traced};
+pub use tracing::{Left, Traced, run_traced};
 pub use turning::turn;
 pub use words::LONGEST_TAIL;

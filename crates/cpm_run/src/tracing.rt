@@ -18,12 +18,21 @@ use cpm_image::Sectors;
 use std::alloc::Global;
 use z80_machine::{Cpu, Memory};
 
+/// The machine at the end of a run, and what the system calls have set: the address of the DMA buffer, and the user.
+#[derive(Drop)]
+pub struct Left {
+    pub cpu: Cpu,
+    pub memory: Memory,
+    pub dma: u16,
+    pub user: u8,
+}
+
 /// How a traced run ended, and what it has kept.
 #[derive(Drop)]
 pub struct Traced<S: Sectors, C: Console> {
     pub end: RunEnd<S, C>,
-    /// The registers and the memory at the end; `None` if the program was not started.
-    pub state: Option<(Cpu, Memory)>,
+    /// What the run has left; `None` if the program was not started.
+    pub state: Option<Left>,
     /// What was kept of the steps; `None` if the program was not started, or if memory ran out for it.
     pub kept: Option<Record>,
 }
@@ -98,6 +107,8 @@ pub fn run_traced<S: Sectors, C: Console>(
     let mut bdos = Bdos::new(disk, console);
     let blank = blank(alloc, wish);
     let (why, turns, kept) = traced_turns(&mut cpu, &mut memory, &mut bdos, limit, wish, blank);
+    let dma = bdos.dma();
+    let user = bdos.user();
     let (disk, console) = bdos.into_parts();
     let end = RunEnd {
         why,
@@ -106,9 +117,15 @@ pub fn run_traced<S: Sectors, C: Console>(
         disk,
         console,
     };
+    let left = Left {
+        cpu,
+        memory,
+        dma,
+        user,
+    };
     Traced {
         end,
-        state: Some((cpu, memory)),
+        state: Some(left),
         kept,
     }
 }

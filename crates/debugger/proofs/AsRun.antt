@@ -1,12 +1,12 @@
 -- The points of a debugged run are those of a run with a limit.
-use Rattle.std.proofs.Common.{◌≡◌, ℕ, ◌+◌, ◌<◌, ◌≤◌, Bool, true, false, Option, Some, None, refl, sym, subst, ap, ◌∙◌, inl, inr, arith}
+use Rattle.std.proofs.Common.{◌≡◌, ℕ, ◌+◌, Bool, true, false, Option, Some, None, refl, sym, subst, ap, ◌∙◌, inl, inr, arith}
 use Rattle.std.specs.Prelude.{if◌then◌else◌}
 use Rattle.cpm_run.specs.declared.ending.Why.{Why}
 use Rattle.cpm_run.specs.declared.ending.Why.TheVariants as why
 use Rattle.cpm_run.specs.Run.{TurnsEnd}
 use Rattle.cpm_run.specs.Turns.{Goes, is_finished}
 use Rattle.cpm_run.specs.Turns.Goes.{none as no_steps, more as one_more}
-use Rattle.debugger.specs.Walk.{IsAfter, IsNextPoint, LeadsBy, Point, MemoryState, MakesTurn, end_after, first_point, limit_end, never}
+use Rattle.debugger.specs.Walk.{IsAfter, LeadsBy, Point, MemoryState, MakesTurn, end_after, first_point, limit_end, never}
 use Rattle.debugger.specs.Walk.LeadsBy.{none, more}
 
 abbrev Steps : ℕ → MemoryState → MemoryState → Type 0

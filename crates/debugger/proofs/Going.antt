@@ -1,13 +1,18 @@
 -- The walks of a history, one turn after the other.
-use Rattle.std.proofs.Common.{◌≡◌, ℕ, ◌+◌, ◌<◌, ◌≤◌, Bool, true, false, List, [], ◌∷◌, ◌++◌, length, Option, Some, None, refl, sym, subst, ap, ◌∙◌, arith}
-use Rattle.std.specs.Prelude.{All, if◌then◌else◌}
+use Rattle.std.proofs.Common.{◌≡◌, ℕ, ◌+◌, Bool, true, false, List, [], ◌∷◌, ◌++◌, Option, Some, None, refl, sym, subst, ap, ◌∙◌, arith, inl, inr}
+use Rattle.std.specs.Prelude.{All, ◌||◌, if◌then◌else◌, is_some, option_map}
+use Rattle.std.specs.Option.{option_or}
 use Rattle.std.proofs.lemmas.List.Elements.{All-push, All-nil, All-same}
 use Rattle.cpm_run.specs.declared.ending.Why.{Why}
 use Rattle.debugger.specs.Private.Kept.{IsKept}
-use Rattle.debugger.specs.Stops.{IsLastBefore}
-use Rattle.debugger.specs.Walk.{IsAfter, IsNextPoint, IsTrue_of_run, LeadsBy, Point, Shown, MemoryState, first_point, never}
+use Rattle.debugger.specs.Calls.{IsCallTo, calls, is_at}
+use Rattle.debugger.specs.Stops.{IsLastBefore, hit_at}
+use Rattle.debugger.specs.Walk.{IsAfter, IsNextPoint, IsTrue_of_run, LeadsBy, Point, Shown, MemoryState, first_point}
 use Rattle.debugger.specs.Walk.LeadsBy.{none, more}
+use Rattle.debugger.specs.declared.calls.ReturnPlace.{ReturnPlace}
 use Rattle.debugger.specs.declared.kept.Kept.{Kept}
+use Rattle.debugger.specs.declared.stops.Hit.{Hit}
+use Rattle.debugger.specs.declared.stops.Stops.{Stops}
 
 -- the beginning of a run
 pub begun : (test : MemoryState → MemoryState → Bool) (start s : MemoryState) (p : Point) → p ≡ first_point s → s ≡ start → LeadsBy test 0 (first_point start) p
@@ -38,11 +43,32 @@ pub kept_more : (start : MemoryState) (items new : List Kept) (b : Bool) (x : Ke
 kept_more start items new true x e known is = All-same (IsKept start) new (items ++ x ∷ []) e (All-push (IsKept start) items x known is)
 kept_more start items new false x e known is = All-same (IsKept start) new items e known
 
--- one more turn: it is the last for which the test holds, or the last is the same as before
-pub last_more : (test : MemoryState → MemoryState → Bool) (start : MemoryState) (n : ℕ) (old new : Point) (last : Option ℕ) (held : Bool) → IsLastBefore test start n old last → IsAfter start n old → IsNextPoint old new
-    → held ≡ test old.state new.state → IsLastBefore test start (n + 1) new (if held then Some (n + 1) else last)
-last_more test start n old new last true known all next is = (n, 0, old, new, refl, omega arith, all, next, sym is, none new)
-last_more test start n old new None false known all next is = more n (first_point start) old new known next (sym is)
-last_more test start n old new (Some turn) false known all next is =
+-- one more turn: something holds at it, or the last is the same as before
+pub last_more : (stops : Stops) (start : MemoryState) (n : ℕ) (old new : Point) (last : Option (ℕ × Hit)) (held : Option Hit) → IsLastBefore stops start n old last → IsAfter start n old → IsNextPoint old new
+    → held ≡ hit_at None stops old.state new.state → IsLastBefore stops start (n + 1) new (option_or (option_map (λ why. (n + 1, why)) held) last)
+last_more stops start n old new last (Some why) known all next is = (n, 0, old, new, refl, omega arith, all, next, sym is, none new)
+last_more stops start n old new None None known all next is = more n (first_point start) old new known next (ap is_some (sym is))
+last_more stops start n old new (Some (turn, why)) None known all next is =
     let sum : n ≡ turn + known.1 = known.5 in
-    (known.0, known.1 + 1, known.2, known.3, known.4, omega (arith, sum), known.6, known.7, known.8, more known.1 known.3 old new known.9 next (sym is))
+    (known.0, known.1 + 1, known.2, known.3, known.4, omega (arith, sum), known.6, known.7, known.8, more known.1 known.3 old new known.9 next (ap is_some (sym is)))
+
+-- one more turn: it begins at a call to the place, or at the place itself, or at neither
+pub call_more : (place : ReturnPlace) (start : MemoryState) (n : ℕ) (old new : Point) (call : Option ℕ) (is_call is_there : Bool) → IsCallTo place start n old call → IsAfter start n old → IsNextPoint old new
+    → is_call ≡ calls place old.state → is_there ≡ is_at place old.state → IsCallTo place start (n + 1) new (if is_call then Some n else if is_there then None else call)
+call_more place start n old new call true is_there known all next c t = (0, old, new, omega arith, all, sym c, next, none new)
+call_more place start n old new call false true known all next c t = inr (n, 0, old, new, omega arith, all, sym t, sym c, next, none new)
+call_more place start n old new None false false (inl known) all next c t = inl (more n (first_point start) old new known next (sym c))
+call_more place start n old new None false false (inr known) all next c t =
+    let sum : n ≡ known.0 + 1 + known.1 = known.4 in
+    inr (known.0, known.1 + 1, known.2, known.3, omega (arith, sum), known.5, known.6, known.7, known.8, more known.1 known.3 old new known.9 next (sym c))
+call_more place start n old new (Some turn) false false known all next c t =
+    let sum : n ≡ turn + 1 + known.0 = known.3 in
+    let neither : (calls place old.state || is_at place old.state) ≡ false = ap (λ (b : Bool). b || is_at place old.state) (sym c) ∙ sym t in
+    (known.0 + 1, known.1, known.2, omega (arith, sum), known.4, known.5, known.6, more known.0 known.2 old new known.7 next neither)
+
+-- the same, by what the code has made of the state before the turn
+pub call_made : (place : ReturnPlace) (start : MemoryState) (n : ℕ) (old new : Point) (call made : Option ℕ) (s : MemoryState) → s ≡ old.state → made ≡ (if calls place s then Some n else if is_at place s then None else call)
+    → IsCallTo place start n old call → IsAfter start n old → IsNextPoint old new → IsCallTo place start (n + 1) new made
+call_made place start n old new call made s same is known all next =
+    let e : made ≡ (if calls place old.state then Some n else if is_at place old.state then None else call) = is ∙ ap (λ (t : MemoryState). if calls place t then Some n else if is_at place t then None else call) same in
+    subst (λ (r : Option ℕ). IsCallTo place start (n + 1) new r) (sym e) (call_more place start n old new call (calls place old.state) (is_at place old.state) known all next refl refl)

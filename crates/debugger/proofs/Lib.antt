@@ -1,2 +1,3 @@
 pub mod Going
 mod AsRun
+mod Held

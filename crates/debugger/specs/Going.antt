@@ -1,5 +1,5 @@
 -- What a debugger does to what it shows.
-use Rattle.std.specs.Prelude.{◌≡◌, ◌≢◌, ◌+◌, ◌<◌, ◌≤◌, ◌⊎◌, ℕ, Bool, true, List, None, Ok}
+use Rattle.std.specs.Prelude.{◌≡◌, ◌≢◌, ◌+◌, ◌<◌, ◌≤◌, ◌⊎◌, ℕ, List, Option, None, Some, Ok}
 use Rattle.z80_cpu.specs.State.{machine}
 use Rattle.z80_cpu.specs.declared.registers.Cpu.{Cpu}
 use Rattle.cpm_bdos.specs.System.{new_system}
@@ -9,7 +9,10 @@ use Rattle.cpm_disk.specs.Image.{Image}
 use Rattle.cpm_run.specs.Start.{IsStart}
 use Rattle.debugger.specs.declared.history.Outcome.{Outcome}
 use Rattle.debugger.specs.declared.history.Outcome.TheVariants as outcome
-use Rattle.debugger.specs.Walk.{IsNextPoint, LeadsBy, Point, Shown, MemoryState, first_point}
+use Rattle.debugger.specs.declared.stops.Goal.{Goal}
+use Rattle.debugger.specs.declared.stops.Stops.{Stops}
+use Rattle.debugger.specs.Stops.{hit_at, holds}
+use Rattle.debugger.specs.Walk.{IsNextPoint, LeadsBy, Point, Shown, first_point}
 
 -- the beginning of a program with its words, on a disk and a console
 abbrev pub IsFirstShown : List ℕ → List (List ℕ) → Mounted Image → Dialog → Shown → Type 0
@@ -21,11 +24,11 @@ IsFirstShown file words disk console shown =
 abbrev pub ShowsTurn : ℕ → Shown → Type 0
 ShowsTurn turn new = (new.turn ≡ turn) ⊎ ((new.turn < turn) × (new.point.end ≢ None))
 
--- The turns that were made from one point to another. The test holds for the last of them and for no other; or it holds for none, and the
--- run has ended or all turns that are allowed were made.
-abbrev pub RanUntil : (MemoryState → MemoryState → Bool) → ℕ → Shown → Shown → Outcome → Type 0
-RanUntil test limit old new outcome.Held =
+-- The turns that were made from one point to another. Something holds at the last of them and at no other; or nothing holds at any of them, and
+-- the run has ended or all turns that are allowed were made.
+abbrev pub RanUntil : Option Goal → Stops → ℕ → Shown → Shown → Outcome → Type 0
+RanUntil goal stops limit old new (outcome.Held why) =
     (before : ℕ) × (last : Point) × (before < limit) × (new.turn ≡ old.turn + before + 1)
-    × LeadsBy test before old.point last × IsNextPoint last new.point × (test last.state new.point.state ≡ true)
-RanUntil test limit old new outcome.Ended = (turns : ℕ) × (turns ≤ limit) × (new.turn ≡ old.turn + turns) × LeadsBy test turns old.point new.point × (new.point.end ≢ None)
-RanUntil test limit old new outcome.Limit = (new.turn ≡ old.turn + limit) × LeadsBy test limit old.point new.point
+    × LeadsBy (holds goal stops) before old.point last × IsNextPoint last new.point × (hit_at goal stops last.state new.point.state ≡ Some why)
+RanUntil goal stops limit old new outcome.Ended = (turns : ℕ) × (turns ≤ limit) × (new.turn ≡ old.turn + turns) × LeadsBy (holds goal stops) turns old.point new.point × (new.point.end ≢ None)
+RanUntil goal stops limit old new outcome.Limit = (new.turn ≡ old.turn + limit) × LeadsBy (holds goal stops) limit old.point new.point

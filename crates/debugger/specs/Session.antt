@@ -1,72 +1,76 @@
 -- What a command does to a session.
-use Rattle.std.specs.Prelude.{◌≡◌, ◌+◌, ◌-◌, ◌^◌, ◌==◌, ◌&&◌, ◌||◌, ◌%◌, ◌⊎◌, ℕ, Bool, false, true, List, [], ◌∷◌, ◌++◌, map, min, nat_le, Option, Some, None, if◌then◌else◌}
+use Rattle.std.specs.Prelude.{◌≡◌, ◌+◌, ◌-◌, ◌^◌, ◌||◌, ◌⊎◌, ℕ, Bool, false, true, List, [], ◌∷◌, ◌++◌, map, min, Option, Some, None, codes, option_map, unwrap_or}
 use Rattle.std.specs.List.{range_with_len}
-use Rattle.z80_cpu.specs.State.{byte_at, up_by, word_at}
+use Rattle.z80_cpu.specs.State.{up_by}
+use Rattle.debugger.specs.declared.calls.ReturnPlace.{ReturnPlace}
 use Rattle.debugger.specs.declared.command.Command.{Command}
 use Rattle.debugger.specs.declared.command.Command.TheVariants as command
+use Rattle.debugger.specs.declared.command.Labels.{Labels}
 use Rattle.debugger.specs.declared.history.Outcome.{Outcome}
+use Rattle.debugger.specs.declared.history.Outcome.TheVariants as outcome
 use Rattle.debugger.specs.declared.session.TheConstants.{MOST_TURNS}
-use Rattle.debugger.specs.declared.stops.Breakpoint.{Breakpoint}
+use Rattle.debugger.specs.declared.stops.Goal.{Goal}
+use Rattle.debugger.specs.declared.stops.Goal.TheVariants as goal
+use Rattle.debugger.specs.declared.stops.Hit.{Hit}
 use Rattle.debugger.specs.declared.stops.RegisterName.TheVariants as name
 use Rattle.debugger.specs.declared.stops.Stops.{Stops}
+use Rattle.debugger.specs.Calls.{IsCallBefore, call_place, shown_place}
 use Rattle.debugger.specs.Going.{RanUntil, ShowsTurn}
-use Rattle.debugger.specs.Stops.{IsLast, holds}
-use Rattle.debugger.specs.Walk.{Shown, MemoryState}
+use Rattle.debugger.specs.Stops.{IsLast}
+use Rattle.debugger.specs.Text.{Says}
+use Rattle.debugger.specs.Walk.{Shown}
 
 -- the number of the last turn that can be counted
 abbrev pub last_turn : ℕ
 last_turn = 2 ^ 64 - 1
 
--- Many turns are made, until the goal is reached, a breakpoint or a watched byte holds, the run has ended, or as many as one command makes
--- are made.
-abbrev pub RunsUntil : Option Breakpoint → Stops → Shown → Shown → Type 0
-RunsUntil goal stops old new = (outcome : Outcome) × RanUntil (holds goal stops) (min MOST_TURNS (last_turn - old.turn)) old new outcome
+-- Many turns are made, until a breakpoint or a watched byte holds, the goal is reached, the run has ended, or as many as one command makes are
+-- made. How it ended is told.
+abbrev pub RunsOn : Option Goal → Stops → Shown → Shown → Option Outcome → Type 0
+RunsOn goal stops old new told = (outcome : Outcome) × (told ≡ Some outcome) × RanUntil goal stops (min MOST_TURNS (last_turn - old.turn)) old new outcome
+
+-- the point after this number of turns is shown, and nothing is told
+abbrev pub GoesTo : ℕ → Shown → Option Outcome → Type 0
+GoesTo turn new told = ShowsTurn turn new × (told ≡ None)
 
 -- PC is at this address
-abbrev pub at_address : ℕ → Breakpoint
-at_address address = record { address = address; condition = None }
+abbrev pub at_address : ℕ → Goal
+at_address address = goal.At (record { address = address; condition = None })
 
--- PC is at this address, and SP has this value
-abbrev pub returned_to : ℕ → ℕ → Breakpoint
-returned_to address sp = record { address = address; condition = Some (record { register = name.Sp; value = sp }) }
+-- PC is at the address of a place, and SP has its value
+abbrev pub at_place : ReturnPlace → Goal
+at_place place = goal.At (record { address = place.address; condition = Some (record { register = name.Sp; value = place.sp }) })
 
--- The number of bytes of a call, by its first byte: three of a CALL, and one of a RST. 0 is the number for any other instruction.
-abbrev pub call_size : ℕ → ℕ
-call_size opcode = if nat_le 0xC0 opcode && ((opcode % 8 == 4) || (opcode == 0xCD)) then 3 else (if nat_le 0xC0 opcode && (opcode % 8 == 7) then 1 else 0)
+-- `next`: one turn; or, if a call is at PC, many up to the return from it
+abbrev pub Nexts : Option ReturnPlace → Stops → Shown → Shown → Option Outcome → Type 0
+Nexts None stops old new told = GoesTo (min last_turn (old.turn + 1)) new told
+Nexts (Some place) stops old new told = RunsOn (Some (at_place place)) stops old new told
 
--- where `next` goes from a state: to the return from the call at PC, if there is one
-abbrev pub call_goal : MemoryState → Option Breakpoint
-call_goal s =
-    let cpu = s.machine.cpu in
-    let size = call_size (byte_at cpu.pc s.machine.memory) in
-    if size == 0 then None else Some (returned_to (up_by size cpu.pc) cpu.sp)
-
--- where `finish` goes: to the return address on top of the stack
-abbrev pub return_goal : MemoryState → Breakpoint
-return_goal s =
-    let cpu = s.machine.cpu in
-    returned_to (word_at cpu.sp s.machine.memory) (up_by 2 cpu.sp)
-
--- one turn, or many up to the goal
-abbrev pub Nexts : Option Breakpoint → Stops → Shown → Shown → Type 0
-Nexts None stops old new = ShowsTurn (min last_turn (old.turn + 1)) new
-Nexts (Some goal) stops old new = RunsUntil (Some goal) stops old new
-
-abbrev pub turn_or_0 : Option ℕ → ℕ
-turn_or_0 (Some turn) = turn
+abbrev pub turn_or_0 : Option (ℕ × Hit) → ℕ
+turn_or_0 (Some (turn, why)) = turn
 turn_or_0 None = 0
 
--- What is shown after a command. Every other command leaves it as it was.
-abbrev pub Moves : Command → Stops → Shown → Shown → Type 0
-Moves (command.Step count) stops old new = ShowsTurn (min last_turn (old.turn + count)) new
-Moves (command.Back count) stops old new = ShowsTurn (old.turn - count) new
-Moves (command.Turn turn) stops old new = ShowsTurn turn new
-Moves (command.Run None) stops old new = RunsUntil None stops old new
-Moves (command.Run (Some address)) stops old new = RunsUntil (Some (at_address address)) stops old new
-Moves command.Next stops old new = Nexts (call_goal old.point.state) stops old new
-Moves command.Finish stops old new = RunsUntil (Some (return_goal old.point.state)) stops old new
-Moves command.BackRun stops old new = (turn : Option ℕ) × IsLast (holds None stops) old.start (old.turn - 1) turn × ShowsTurn (turn_or_0 turn) new
-Moves command stops old new = new ≡ old
+-- `back-run`: back to the last turn before at which something held, which is told; or to the start
+abbrev pub BackRuns : Stops → Shown → Shown → Option Outcome → Type 0
+BackRuns stops old new told =
+    (last : Option (ℕ × Hit)) × IsLast stops old.start (old.turn - 1) last × ShowsTurn (turn_or_0 last) new × (told ≡ option_map (λ found. outcome.Held found.1) last)
+
+-- `back-next`: back to the call over which `next` leads here; or by one turn, if there is none
+abbrev pub BackNexts : Shown → Shown → Option Outcome → Type 0
+BackNexts old new told = (call : Option ℕ) × IsCallBefore (shown_place old.point.state) old.start old.turn call × GoesTo (unwrap_or call (old.turn - 1)) new told
+
+-- What is shown after a command, and what is told of a command that runs to something. Every other command leaves it as it was.
+abbrev pub Moves : Command → Stops → Shown → Shown → Option Outcome → Type 0
+Moves (command.Step count) stops old new told = GoesTo (min last_turn (old.turn + count)) new told
+Moves (command.Back count) stops old new told = GoesTo (old.turn - count) new told
+Moves (command.Turn turn) stops old new told = GoesTo turn new told
+Moves (command.Run None) stops old new told = RunsOn None stops old new told
+Moves (command.Run (Some address)) stops old new told = RunsOn (Some (at_address address)) stops old new told
+Moves command.Next stops old new told = Nexts (call_place old.point.state) stops old new told
+Moves command.Finish stops old new told = RunsOn (Some (goal.ReturnAbove old.point.state.machine.cpu.sp)) stops old new told
+Moves command.BackRun stops old new told = BackRuns stops old new told
+Moves command.BackNext stops old new told = BackNexts old new told
+Moves command stops old new told = (new ≡ old) × (told ≡ None)
 
 -- The addresses of watched bytes. After FFFFH comes address 0.
 abbrev pub addresses : ℕ → ℕ → List ℕ
@@ -84,8 +88,12 @@ abbrev pub is_quit : Command → Bool
 is_quit command.Quit = true
 is_quit command = false
 
--- A line is a command that is obeyed, or changes nothing.
-abbrev pub Obeys : Shown → Stops → Bool → Shown → Stops → Bool → Type 0
-Obeys shown stops over new there is_over =
-    ((command : Command) × Moves command stops shown new × Sets command stops there × (is_over ≡ (over || is_quit command)))
-    ⊎ ((new ≡ shown) × (there ≡ stops) × (is_over ≡ over))
+-- the answer to a line that is not a command: nothing to a blank one
+abbrev pub IsRefusedLine : List ℕ → Type 0
+IsRefusedLine text = (text ≡ []) ⊎ (text ≡ codes "not a command; try help\n")
+
+-- A line is a command that is obeyed, and its answer is printed; or it is refused and changes nothing.
+abbrev pub Obeys : Labels → List ℕ → Shown → Stops → Bool → Shown → Stops → Bool → List ℕ → Type 0
+Obeys labels listing shown stops over new there is_over text =
+    ((command : Command) × (told : Option Outcome) × Moves command stops shown new told × Sets command stops there × (is_over ≡ (over || is_quit command)) × Says command new labels listing text)
+    ⊎ ((new ≡ shown) × (there ≡ stops) × (is_over ≡ over) × IsRefusedLine text)

@@ -1,10 +1,16 @@
 -- Breakpoints and watched bytes, and the turns at which they hold.
-use Rattle.std.specs.Prelude.{◌≡◌, ◌+◌, ◌==◌, ◌&&◌, ◌||◌, ℕ, Bool, false, true, not, List, Option, Some, None}
-use Rattle.std.specs.List.{list_any}
-use Rattle.z80_cpu.specs.State.{af, bc, byte_at, de, hl}
+use Rattle.std.specs.Prelude.{◌≡◌, ◌+◌, ◌%◌, ◌==◌, ◌&&◌, ◌||◌, ℕ, Bool, false, true, not, List, Option, Some, None, find, if◌then◌else◌, is_some, nat_le, nat_lt, option_map}
+use Rattle.std.specs.Option.{option_or}
+use Rattle.cpm_run.specs.Turns.{Call, Entry, Place, Program, place_at_pc}
+use Rattle.z80_cpu.specs.State.{af, bc, byte_at, de, hl, up_by}
 use Rattle.z80_cpu.specs.declared.registers.Cpu.{Cpu}
 use Rattle.debugger.specs.declared.stops.Breakpoint.{Breakpoint}
+use Rattle.debugger.specs.declared.stops.Change.{Change}
 use Rattle.debugger.specs.declared.stops.Condition.{Condition}
+use Rattle.debugger.specs.declared.stops.Goal.{Goal}
+use Rattle.debugger.specs.declared.stops.Goal.TheVariants as goal
+use Rattle.debugger.specs.declared.stops.Hit.{Hit}
+use Rattle.debugger.specs.declared.stops.Hit.TheVariants as hit
 use Rattle.debugger.specs.declared.stops.RegisterName.{RegisterName}
 use Rattle.debugger.specs.declared.stops.RegisterName.TheVariants as name
 use Rattle.debugger.specs.declared.stops.Stops.{Stops}
@@ -35,28 +41,70 @@ condition_is_met (Some condition) cpu = named_register condition.register cpu ==
 abbrev pub breaks : Cpu → Breakpoint → Bool
 breaks cpu breakpoint = (cpu.pc == breakpoint.address) && condition_is_met breakpoint.condition cpu
 
--- A watched byte holds at a turn that changes_byte it. A turn that writes the value that was there already does not count.
+-- A watched byte holds at a turn that changes it. A turn that writes the value that was there already does not count.
 abbrev pub changes_byte : List ℕ → List ℕ → ℕ → Bool
 changes_byte old new address = not (byte_at address new == byte_at address old)
 
--- whether a goal is reached, if there is one: a breakpoint for one command alone
-abbrev pub is_reached : Option Breakpoint → Cpu → Bool
-is_reached None cpu = false
-is_reached (Some goal) cpu = breaks cpu goal
+-- ---- returns
 
--- The turns at which a goal is reached, or a breakpoint or a watched byte holds, by the states before and after them.
-abbrev pub holds : Option Breakpoint → Stops → MemoryState → MemoryState → Bool
-holds goal stops old new =
-    is_reached goal new.machine.cpu
-    || list_any (breaks new.machine.cpu) stops.breakpoints.items
-    || list_any (changes_byte old.machine.memory new.machine.memory) stops.watches.items
+-- the first two bytes of a return: RET, RET with a condition, RETN or RETI
+abbrev pub is_return_code : ℕ → ℕ → Bool
+is_return_code first second = (first == 0xC9) || ((nat_le 0xC0 first && (first % 8 == 0)) || ((first == 0xED) && ((second == 0x45) || (second == 0x4D))))
 
--- The number of the last turn for which a test holds, among the first_point n turns of a run, if it does for one; `now` is the point after all n.
-abbrev pub IsLastBefore : (MemoryState → MemoryState → Bool) → MemoryState → ℕ → Point → Option ℕ → Type 0
-IsLastBefore test start n now (Some turn) =
+-- whether a turn that begins here may return: at a return, and at a call of the system, which returns to its caller
+abbrev pub may_return : Place → ℕ → ℕ → Bool
+may_return Program first second = is_return_code first second
+may_return Call first second = true
+may_return (Entry n) first second = true
+
+-- SP after the return, if a turn that begins in this state may be one
+abbrev pub sp_returned : MemoryState → Option ℕ
+sp_returned s =
+    let cpu = s.machine.cpu in
+    if may_return (place_at_pc cpu.pc) (byte_at cpu.pc s.machine.memory) (byte_at (up_by 1 cpu.pc) s.machine.memory) then Some (up_by 2 cpu.sp) else None
+
+-- whether SP has this value by a return, and lies above another value
+abbrev pub has_returned : ℕ → Option ℕ → ℕ → Bool
+has_returned above None sp = false
+has_returned above (Some returned) sp = (sp == returned) && nat_lt above sp
+
+-- ---- where a command stops
+
+-- whether the goal of a command is reached by a turn, if it has one
+abbrev pub is_reached : Option Goal → Option ℕ → Cpu → Bool
+is_reached None returned cpu = false
+is_reached (Some (goal.At breakpoint)) returned cpu = breaks cpu breakpoint
+is_reached (Some (goal.ReturnAbove sp)) returned cpu = has_returned sp returned cpu.sp
+
+-- the first breakpoint that holds with these registers
+abbrev pub broken : Cpu → List Breakpoint → Option Hit
+broken cpu breakpoints = option_map (λ breakpoint. hit.Breakpoint breakpoint.address) (find (breaks cpu) breakpoints)
+
+-- how a byte has changed, and the address of the instruction that changed it
+abbrev pub change_of : List ℕ → List ℕ → ℕ → ℕ → Change
+change_of old new by address = record { address = address; before = byte_at address old; after = byte_at address new; by = by }
+
+-- the first of these bytes that a turn has changed
+abbrev pub changed : List ℕ → List ℕ → ℕ → List ℕ → Option Change
+changed old new by watches = option_map (change_of old new by) (find (changes_byte old new) watches)
+
+-- What holds at a turn, by the states before and after it: a breakpoint, otherwise a watched byte, otherwise the goal of the command.
+abbrev pub hit_at : Option Goal → Stops → MemoryState → MemoryState → Option Hit
+hit_at goal stops old new =
+    option_or (broken new.machine.cpu stops.breakpoints.items)
+    (option_or (option_map hit.Changed (changed old.machine.memory new.machine.memory old.machine.cpu.pc stops.watches.items))
+    (if is_reached goal (sp_returned old) new.machine.cpu then Some hit.Goal else None))
+
+-- the turns at which something holds
+abbrev pub holds : Option Goal → Stops → MemoryState → MemoryState → Bool
+holds goal stops old new = is_some (hit_at goal stops old new)
+
+-- The last of the first n turns of a run at which something holds: its number, and what holds; `now` is the point after all n.
+abbrev pub IsLastBefore : Stops → MemoryState → ℕ → Point → Option (ℕ × Hit) → Type 0
+IsLastBefore stops start n now (Some (turn, why)) =
     (before : ℕ) × (after : ℕ) × (old : Point) × (new : Point) × (turn ≡ before + 1) × (n ≡ turn + after)
-    × LeadsBy never before (first_point start) old × IsNextPoint old new × (test old.state new.state ≡ true) × LeadsBy test after new now
-IsLastBefore test start n now None = LeadsBy test n (first_point start) now
+    × LeadsBy never before (first_point start) old × IsNextPoint old new × (hit_at None stops old.state new.state ≡ Some why) × LeadsBy (holds None stops) after new now
+IsLastBefore stops start n now None = LeadsBy (holds None stops) n (first_point start) now
 
-abbrev pub IsLast : (MemoryState → MemoryState → Bool) → MemoryState → ℕ → Option ℕ → Type 0
-IsLast test start n turn = (now : Point) × IsLastBefore test start n now turn
+abbrev pub IsLast : Stops → MemoryState → ℕ → Option (ℕ × Hit) → Type 0
+IsLast stops start n last = (now : Point) × IsLastBefore stops start n now last

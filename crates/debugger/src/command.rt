@@ -33,17 +33,21 @@ pub enum Command {
     Run(Option<u16>),
     /// Go on by one turn, or to the return from the call at PC.
     Next,
-    /// Go on to the return address on top of the stack.
+    /// Go on to the first return after which SP is above its value now.
     Finish,
     /// Go back to the last turn at which a breakpoint or a watched byte held.
     BackRun,
+    /// Go back by one turn, or over the call that has returned to PC.
+    BackNext,
     /// Stop at an address from now on.
     Break(Breakpoint),
     /// Stop at turns that change one of these bytes.
     Watch(u16, u16),
     /// Forget all breakpoints and watched bytes.
     Delete,
-    /// Show the registers.
+    /// List the breakpoints and the watched bytes.
+    Info,
+    /// Show the registers, the DMA address and the user.
     Registers,
     /// Show bytes of memory.
     Memory(u16, u16),
@@ -75,9 +79,11 @@ enum Verb {
     Next,
     Finish,
     BackRun,
+    BackNext,
     Break,
     Watch,
     Delete,
+    Info,
     Registers,
     Memory,
     Disassemble,
@@ -90,7 +96,7 @@ enum Verb {
     Quit,
 }
 
-const VERBS: [(&str, Verb); 20] = [
+const VERBS: [(&str, Verb); 22] = [
     ("step", Verb::Step),
     ("back", Verb::Back),
     ("turn", Verb::Turn),
@@ -98,9 +104,11 @@ const VERBS: [(&str, Verb); 20] = [
     ("next", Verb::Next),
     ("finish", Verb::Finish),
     ("back-run", Verb::BackRun),
+    ("back-next", Verb::BackNext),
     ("break", Verb::Break),
     ("watch", Verb::Watch),
     ("delete", Verb::Delete),
+    ("info", Verb::Info),
     ("regs", Verb::Registers),
     ("mem", Verb::Memory),
     ("dis", Verb::Disassemble),
@@ -113,21 +121,21 @@ const VERBS: [(&str, Verb); 20] = [
     ("quit", Verb::Quit),
 ];
 
-const REGISTERS: [(&str, RegisterName); 14] = [
-    ("A", RegisterName::A),
-    ("B", RegisterName::B),
-    ("C", RegisterName::C),
-    ("D", RegisterName::D),
-    ("E", RegisterName::E),
-    ("H", RegisterName::H),
-    ("L", RegisterName::L),
-    ("AF", RegisterName::Af),
-    ("BC", RegisterName::Bc),
-    ("DE", RegisterName::De),
-    ("HL", RegisterName::Hl),
-    ("IX", RegisterName::Ix),
-    ("IY", RegisterName::Iy),
-    ("SP", RegisterName::Sp),
+const REGISTERS: [RegisterName; 14] = [
+    RegisterName::A,
+    RegisterName::B,
+    RegisterName::C,
+    RegisterName::D,
+    RegisterName::E,
+    RegisterName::H,
+    RegisterName::L,
+    RegisterName::Af,
+    RegisterName::Bc,
+    RegisterName::De,
+    RegisterName::Hl,
+    RegisterName::Ix,
+    RegisterName::Iy,
+    RegisterName::Sp,
 ];
 
 /// The bytes that `mem` shows without a number.
@@ -146,8 +154,8 @@ fn verb_of(word: &str) -> Option<Verb> {
 }
 
 fn register_of(word: &str) -> Option<RegisterName> {
-    for (name, register) in &REGISTERS {
-        if name.eq_ignore_ascii_case(word) {
+    for register in &REGISTERS {
+        if register.name().eq_ignore_ascii_case(word) {
             return Some(*register);
         }
     }
@@ -263,6 +271,7 @@ fn alone(verb: Verb, words: &[&str]) -> Option<Command> {
         Verb::Next => Some(Command::Next),
         Verb::Finish => Some(Command::Finish),
         Verb::BackRun => Some(Command::BackRun),
+        Verb::BackNext => Some(Command::BackNext),
         Verb::Delete => Some(Command::Delete),
         Verb::Registers => Some(Command::Registers),
         Verb::Stack => Some(Command::Stack),
@@ -271,6 +280,18 @@ fn alone(verb: Verb, words: &[&str]) -> Option<Command> {
         Verb::Where => Some(Command::Where),
         Verb::Help => Some(Command::Help),
         Verb::Quit => Some(Command::Quit),
+        _ => None,
+    }
+}
+
+/// The command that lists what is set, by itself or with a word of gdb.
+fn info(words: &[&str]) -> Option<Command> {
+    match words {
+        [] => Some(Command::Info),
+        [word] => match *word {
+            "break" | "breakpoints" | "watch" | "watchpoints" => Some(Command::Info),
+            _ => None,
+        },
         _ => None,
     }
 }
@@ -348,6 +369,7 @@ pub(crate) fn command_of(
     };
     match verb {
         Verb::Step | Verb::Back | Verb::Turn => Ok(counted(verb, more)),
+        Verb::Info => Ok(info(more)),
         Verb::Run if !more.is_empty() => addressed(alloc, verb, more, symbols),
         Verb::Break | Verb::Watch | Verb::Memory | Verb::Disassemble | Verb::Who => {
             addressed(alloc, verb, more, symbols)

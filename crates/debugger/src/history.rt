@@ -1,11 +1,13 @@
 //! The history of a run.
 
-ghost use Rattle.std.specs.Prelude.{◌≡◌, ◌+◌, ◌-◌, ◌<◌, ◌^◌, Some, if◌then◌else◌};
+ghost use Rattle.std.specs.Prelude.{◌≡◌, ◌+◌, ◌-◌, ◌<◌, ◌^◌, option_map};
+ghost use Rattle.std.specs.Option.{option_or};
 
+use crate::calls::{open_call, shown_place};
 use crate::kept::Keeper;
 use crate::point::Point;
 use crate::snapshot::Snapshot;
-use crate::stops::{Breakpoint, Stops};
+use crate::stops::{Goal, Hit, Stops};
 use cpm_console::MemoryConsole;
 use cpm_disk::Disk;
 use cpm_image::MemoryImage;
@@ -16,8 +18,8 @@ use std::marker::Model;
 /// How going forward ended.
 #[derive(Clone, Copy, Debug, PartialEq, Eq)]
 pub enum Outcome {
-    /// The goal is reached, or a breakpoint or a watched byte holds, at the last turn that was made.
-    Held,
+    /// This holds at the last turn that was made, and nothing at the turns before it.
+    Held(Hit),
     /// The run has ended.
     Ended,
     /// All turns that were allowed are made.
@@ -46,18 +48,22 @@ impl Model for History {
     ghost invariant = { λ h. IsHistory h.start h.kept.states.items h.turn h.point };
 }
 
-/// The last turn that held, after the next one: the one that holds, or the last before.
-fn later(last: Option<u64>, held: bool, number: u64) -> Option<u64>
+/// The last turn at which something held, after one turn more: that one, or the last before.
+fn later(last: Option<(u64, Hit)>, held: Option<Hit>, number: u64) -> Option<(u64, Hit)>
     requires { number < 2 ^ 64 - 1 }
-    ensures { result ≡ (if held then Some (number + 1) else last) }
+    ensures { result ≡ option_or (option_map (λ hit. (number + 1, hit)) held) last }
 {
-    if held { Some(number + 1) } else { last }
+    match held {
+        Some(hit) => Some((number + 1, hit)),
+        None => last,
+    }
 }
 
 impl History {
     ghost use Rattle.std.specs.Prelude.{◌≡◌, ◌+◌, ◌-◌, ◌<◌, ◌≤◌, ◌^◌, Err, IfErr, IfOk, None, OnErr, false, map};
     ghost use Rattle.cpm_run.specs.Start.{IsStart};
-    ghost use Rattle.debugger.specs.Stops.{IsLast, holds};
+    ghost use Rattle.debugger.specs.Calls.{IsCallBefore, shown_place};
+    ghost use Rattle.debugger.specs.Stops.{IsLast, hit_at};
     ghost use Rattle.debugger.specs.Walk.{IsAfter, IsNextPoint, IsTrue_of_run};
     ghost use Rattle.debugger.specs.Going.{IsFirstShown, RanUntil, ShowsTurn};
 
@@ -115,19 +121,19 @@ impl History {
         self.kept.keep(alloc, self.turn, &self.point);
     }
 
-    /// Makes one turn, and answers whether the goal is reached, or a breakpoint or a watched byte holds at it.
+    /// Makes one turn, and answers what holds at it: a breakpoint, a watched byte, or the goal.
     fn step(
         &mut self,
         alloc: Global,
-        goal: Option<Breakpoint>,
+        goal: Option<Goal>,
         stops: &Stops,
-    ) -> Result<bool, AllocError>
+    ) -> Result<Option<Hit>, AllocError>
         requires going { self.old.point.end ≡ None }
         requires room { self.old.turn < 2 ^ 64 - 1 }
         ensures start { self.new.start ≡ self.old.start }
         ensures turn { IfOk result (λ _. self.new.turn ≡ self.old.turn + 1) }
         ensures next { IfOk result (λ _. IsNextPoint self.old.point self.new.point) }
-        ensures held { IfOk result (λ held. held ≡ holds goal stops.now self.old.point.state self.new.point.state) }
+        ensures held { IfOk result (λ held. held ≡ hit_at goal stops.now self.old.point.state self.new.point.state) }
         ensures stopped { OnErr result (self.new ≡ self.old) }
     {
         let held = stops.advance(alloc, goal, &mut self.point)?;
@@ -199,15 +205,20 @@ impl History {
         Ok(())
     }
 
-    /// The number of the last turn at which a breakpoint or a watched byte holds, among the first turns of the run. All turns are made
-    /// again from the start.
+    /// The last turn at which a breakpoint or a watched byte holds, among the first turns of the run: its number, and what holds. All
+    /// turns are made again from the start.
     ///
     /// # Errors
     ///
     /// [`AllocError`] if memory runs out.
-    pub fn last(&self, alloc: Global, stops: &Stops, turn: u64) -> Result<Option<u64>, AllocError>
+    pub fn last(
+        &self,
+        alloc: Global,
+        stops: &Stops,
+        turn: u64,
+    ) -> Result<Option<(u64, Hit)>, AllocError>
         requires { turn ≤ self.now.turn }
-        ensures { IfOk result (IsLast (holds None stops.now) self.now.start turn) }
+        ensures { IfOk result (IsLast stops.now self.now.start turn) }
     {
         let mut point = Point::first(self.start.copied(alloc)?);
         let mut last = None;
@@ -222,7 +233,30 @@ impl History {
         Ok(last)
     }
 
-    /// Makes turns until the goal is reached, a breakpoint or a watched byte holds, the run has ended, or this number of turns is made. At
+    /// The call over which `next` leads to the state that is shown, if there is one: the number of turns before it. All turns are made again
+    /// from the start.
+    ///
+    /// # Errors
+    ///
+    /// [`AllocError`] if memory runs out.
+    pub fn call_before(&self, alloc: Global) -> Result<Option<u64>, AllocError>
+        ensures { IfOk result (IsCallBefore (shown_place self.now.point.state) self.now.start self.now.turn) }
+    {
+        let place = shown_place(self.point.snapshot());
+        let mut point = Point::first(self.start.copied(alloc)?);
+        let mut call = None;
+        for number in 0..self.turn {
+            // The run had more turns when they were made first, so memory has run out for its output.
+            if point.end().is_some() {
+                return Err(AllocError);
+            }
+            call = open_call(call, place, number, point.snapshot());
+            point.advance();
+        }
+        Ok(call)
+    }
+
+    /// Makes turns until a breakpoint or a watched byte holds, the goal is reached, the run has ended, or this number of turns is made. At
     /// least one turn is made if the run has one and the limit allows it.
     ///
     /// # Errors
@@ -231,22 +265,22 @@ impl History {
     pub fn run(
         &mut self,
         alloc: Global,
-        goal: Option<Breakpoint>,
+        goal: Option<Goal>,
         stops: &Stops,
         limit: u64,
     ) -> Result<Outcome, AllocError>
         requires { self.old.turn + limit < 2 ^ 64 }
         ensures start { self.new.start ≡ self.old.start }
         ensures after { IsTrue_of_run self.new }
-        ensures ran { IfOk result (RanUntil (holds goal stops.now) limit self.old self.new) }
+        ensures ran { IfOk result (RanUntil goal stops.now limit self.old self.new) }
     {
         let _ = &self.start;
         for _ in 0..limit {
             if self.point.end().is_some() {
                 return Ok(Outcome::Ended);
             }
-            if self.step(alloc, goal, stops)? {
-                return Ok(Outcome::Held);
+            if let Some(hit) = self.step(alloc, goal, stops)? {
+                return Ok(Outcome::Held(hit));
             }
         }
         Ok(Outcome::Limit)

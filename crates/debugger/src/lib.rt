@@ -3,6 +3,7 @@
 //! [`debug`] debugs a program: it reads commands and prints the answers. [`History`] shows the state of a run after any number of turns. [`Session`] answers commands, a line each.
 #![tactic(auto)]
 
+mod calls;
 mod command;
 mod conversation;
 mod debugging;
@@ -15,6 +16,7 @@ mod snapshot;
 mod stops;
 mod text;
 
+pub use calls::ReturnPlace;
 pub use command::{Command, Labels, Symbol};
 pub use conversation::{Broken, MOST_READS, converse};
 pub use cpm_run::{StartFault, Why};
@@ -23,4 +25,4 @@ pub use history::{History, Outcome};
 pub use point::Point;
 pub use session::{MOST_TURNS, Session};
 pub use snapshot::Snapshot;
-pub use stops::{Breakpoint, Condition, RegisterName, Stops};
+pub use stops::{Breakpoint, Change, Condition, Goal, Hit, RegisterName, Stops};

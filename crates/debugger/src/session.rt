@@ -1,16 +1,17 @@
 //! A session: commands, a line each, and what is printed for them.
 
 ghost use Rattle.std.specs.Prelude.{◌≡◌};
-ghost use Rattle.debugger.specs.Session.{call_goal, call_size, return_goal, returned_to};
+ghost use Rattle.debugger.specs.Session.{IsRefusedLine, at_place};
 
+use crate::calls::{ReturnPlace, call_place};
 use crate::command::{Command, Labels, command_of};
-use crate::history::History;
-use crate::snapshot::Snapshot;
-use crate::stops::{Breakpoint, Condition, RegisterName, Stops};
+use crate::history::{History, Outcome};
+use crate::stops::{Breakpoint, Condition, Goal, Hit, RegisterName, Stops};
 use crate::text::{
-    put_address, put_files, put_instructions, put_memory, put_new_output, put_output, put_point,
-    put_registers, put_stack, put_where,
+    put_files, put_info, put_instructions, put_new_output, put_outcome, put_output, put_point,
+    put_stack, put_where, put_who,
 };
+use debug_text::{put_memory, put_registers};
 use std::alloc::{AllocError, Global};
 
 /// The most turns that one `run` makes.
@@ -21,15 +22,17 @@ back [N]              go back by N turns, or one
 turn N                go to the state after N turns from the start
 run [ADDR]            go on to ADDR, a breakpoint, a watched byte, or the end
 next                  one turn, but over the whole of a call
-finish                go on to the return address on top of the stack
+finish                go on to the return from this subroutine
+back-next             the reverse of next: go back by one turn, but over the whole of a call
 back-run              go back to the last turn at which a breakpoint or a watched byte held
 break ADDR [if REG=N] stop when PC is ADDR
 watch ADDR [N]        stop at a turn that changes one of N bytes
-delete                forget all breakpoints and watched bytes
+info                  list the breakpoints and the watched bytes
+delete                forget all of them
 who ADDR              the last turn that changed this byte
 files                 the files of the disk: user, name and records
 where                 PC with its label, and its line of the listing
-regs                  the registers
+regs                  the registers, the flags, the DMA address and the user
 mem ADDR [N]          N bytes of memory
 dis ADDR [N]          N instructions
 stack                 the words on top of the stack
@@ -41,7 +44,9 @@ the assembler, as 125H. A turn that writes the same value does not change a byte
 ";
 
 /// What is printed for a line that is not a command: nothing for a blank one.
-fn refusal(line: &[u8]) -> &'static [u8] {
+fn refusal(line: &[u8]) -> &'static [u8]
+    ensures { IsRefusedLine result.now }
+{
     if line.iter().all(|b| b.is_ascii_whitespace()) {
         b""
     } else {
@@ -60,56 +65,26 @@ pub struct Session<'a> {
     is_over: bool,
 }
 
-/// The number of bytes of a call, by its first byte; 0 for another instruction.
-fn call_size(opcode: u8) -> u16
-    ensures { result ≡ call_size opcode }
+/// PC at a place, with its SP.
+fn at_place(place: ReturnPlace) -> Goal
+    ensures { result ≡ at_place place }
 {
-    if opcode >= 0xC0 && (opcode % 8 == 4 || opcode == 0xCD) {
-        3
-    } else if opcode >= 0xC0 && opcode % 8 == 7 {
-        1
-    } else {
-        0
-    }
-}
-
-/// PC after a return to this address, and SP then.
-fn returned_to(address: u16, sp: u16) -> Breakpoint
-    ensures { result ≡ returned_to address sp }
-{
-    Breakpoint {
-        address,
+    Goal::At(Breakpoint {
+        address: place.address,
         condition: Some(Condition {
             register: RegisterName::Sp,
-            value: sp,
+            value: place.sp,
         }),
-    }
-}
-
-/// The return from the call at PC, if one is there.
-fn call_goal(snapshot: &Snapshot) -> Option<Breakpoint>
-    ensures { result ≡ call_goal snapshot.now }
-{
-    let cpu = snapshot.cpu();
-    let size = call_size(snapshot.memory().get(cpu.pc));
-    if size == 0 {
-        None
-    } else {
-        Some(returned_to(cpu.pc.wrapping_add(size), cpu.sp))
-    }
-}
-
-/// The return to the address on top of the stack.
-fn return_goal(snapshot: &Snapshot) -> Breakpoint
-    ensures { result ≡ return_goal snapshot.now }
-{
-    let cpu = snapshot.cpu();
-    returned_to(snapshot.memory().word(cpu.sp), cpu.sp.wrapping_add(2))
+    })
 }
 
 impl<'a> Session<'a> {
     ghost use Rattle.std.specs.Prelude.{◌≡◌, ◌||◌, [], IfOk, false};
-    ghost use Rattle.debugger.specs.Session.{Obeys, Moves, Nexts, RunsUntil, Sets, call_goal, is_quit};
+    ghost use Rattle.debugger.specs.Calls.{call_place};
+    ghost use Rattle.debugger.specs.Stops.{IsLast};
+    ghost use Rattle.debugger.specs.Text.{Says, Watches};
+    ghost use Rattle.debugger.specs.declared.stops.Stops.{Stops as TheStops};
+    ghost use Rattle.debugger.specs.Session.{BackNexts, BackRuns, GoesTo, Obeys, Moves, Nexts, RunsOn, Sets, is_quit};
     ghost use Rattle.debugger.specs.Walk.{IsTrue_of_run};
     ghost use Rattle.debugger.specs.declared.command.Command.TheVariants as command;
 
@@ -119,6 +94,8 @@ impl<'a> Session<'a> {
         ensures breakpoints { result.stops.breakpoints.items ≡ [] }
         ensures watches { result.stops.watches.items ≡ [] }
         ensures over { result.is_over ≡ false }
+        ensures labels { result.labels ≡ labels.entry }
+        ensures listing { result.listing.now ≡ [] }
     {
         Session {
             alloc,
@@ -135,6 +112,8 @@ impl<'a> Session<'a> {
         ensures history { result.history ≡ self.entry.history }
         ensures stops { result.stops ≡ self.entry.stops }
         ensures over { result.is_over ≡ self.entry.is_over }
+        ensures labels { result.labels ≡ self.entry.labels }
+        ensures listing { result.listing ≡ listing.entry }
     {
         self.listing = listing;
         self
@@ -154,163 +133,243 @@ impl<'a> Session<'a> {
         let _ = self.history.turn();
     }
 
-    /// Makes many turns, until the goal is reached, a breakpoint or a watched byte holds, or the run has ended.
-    fn run(&mut self, goal: Option<Breakpoint>) -> Result<(), AllocError>
+    /// Makes many turns, until a breakpoint or a watched byte holds, the goal is reached, or the run has ended.
+    fn run(&mut self, goal: Option<Goal>) -> Result<Option<Outcome>, AllocError>
         ensures start { self.new.history.start ≡ self.old.history.start }
         ensures after { IsTrue_of_run self.new.history }
         ensures others { self.new ≡ record self.old { history = self.new.history } }
-        ensures runs { IfOk result (λ _. RunsUntil goal self.old.stops self.old.history self.new.history) }
+        ensures runs { IfOk result (λ told. RunsOn goal self.old.stops self.old.history self.new.history told) }
     {
         let limit = MOST_TURNS.min(u64::MAX - self.history.turn());
-        self.history.run(self.alloc, goal, &self.stops, limit)?;
-        Ok(())
+        Ok(Some(self.history.run(self.alloc, goal, &self.stops, limit)?))
+    }
+
+    /// GoesTo to the point after this number of turns.
+    fn go_to(&mut self, turn: u64) -> Result<Option<Outcome>, AllocError>
+        ensures start { self.new.history.start ≡ self.old.history.start }
+        ensures after { IsTrue_of_run self.new.history }
+        ensures others { self.new ≡ record self.old { history = self.new.history } }
+        ensures goes { IfOk result (λ told. GoesTo turn self.new.history told) }
+    {
+        self.history.go_to(self.alloc, turn)?;
+        Ok(None)
     }
 
     /// Makes one turn, or as many as the call at PC takes.
-    fn next(&mut self) -> Result<(), AllocError>
+    fn next(&mut self) -> Result<Option<Outcome>, AllocError>
         ensures start { self.new.history.start ≡ self.old.history.start }
         ensures after { IsTrue_of_run self.new.history }
         ensures others { self.new ≡ record self.old { history = self.new.history } }
-        ensures runs { IfOk result (λ _. Nexts (call_goal self.old.history.point.state) self.old.stops self.old.history self.new.history) }
+        ensures nexts { IfOk result (λ told. Nexts (call_place self.old.history.point.state) self.old.stops self.old.history self.new.history told) }
     {
-        match call_goal(self.history.point().snapshot()) {
-            Some(goal) => self.run(Some(goal)),
+        match call_place(self.history.point().snapshot()) {
+            Some(place) => self.run(Some(at_place(place))),
             None => {
                 let turn = self.history.turn().saturating_add(1);
-                self.history.go_to(self.alloc, turn)
+                self.go_to(turn)
             }
         }
     }
 
-    /// Goes back to the last turn at which a breakpoint or a watched byte held.
-    fn back_run(&mut self) -> Result<(), AllocError>
+    /// GoesTo back to the last turn at which a breakpoint or a watched byte held.
+    fn back_run(&mut self) -> Result<Option<Outcome>, AllocError>
         ensures start { self.new.history.start ≡ self.old.history.start }
         ensures after { IsTrue_of_run self.new.history }
         ensures others { self.new ≡ record self.old { history = self.new.history } }
-        ensures moves { IfOk result (λ _. Moves command.BackRun self.old.stops self.old.history self.new.history) }
+        ensures moves { IfOk result (λ told. BackRuns self.old.stops self.old.history self.new.history told) }
     {
         let before = self.history.turn().saturating_sub(1);
-        let last = self.history.last(self.alloc, &self.stops, before)?;
-        self.history.go_to(self.alloc, last.unwrap_or(0))
+        match self.history.last(self.alloc, &self.stops, before)? {
+            Some((turn, hit)) => {
+                self.history.go_to(self.alloc, turn)?;
+                Ok(Some(Outcome::Held(hit)))
+            }
+            None => self.go_to(0),
+        }
     }
 
-    /// Goes to another turn, as a command asks; or stays.
-    fn go(&mut self, command: Command) -> Result<(), AllocError>
+    /// GoesTo back to the call over which `next` leads here, or by one turn.
+    fn back_next(&mut self) -> Result<Option<Outcome>, AllocError>
         ensures start { self.new.history.start ≡ self.old.history.start }
         ensures after { IsTrue_of_run self.new.history }
         ensures others { self.new ≡ record self.old { history = self.new.history } }
-        ensures moves { IfOk result (λ _. Moves command self.old.stops self.old.history self.new.history) }
+        ensures moves { IfOk result (λ told. BackNexts self.old.history self.new.history told) }
+    {
+        let before = self.history.turn().saturating_sub(1);
+        let call = self.history.call_before(self.alloc)?;
+        self.go_to(call.unwrap_or(before))
+    }
+
+    /// GoesTo to another turn, as a command asks; or stays.
+    fn go(&mut self, command: Command) -> Result<Option<Outcome>, AllocError>
+        ensures start { self.new.history.start ≡ self.old.history.start }
+        ensures after { IsTrue_of_run self.new.history }
+        ensures others { self.new ≡ record self.old { history = self.new.history } }
+        ensures moves { IfOk result (λ told. Moves command self.old.stops self.old.history self.new.history told) }
     {
         let turn = self.history.turn();
         match command {
-            Command::Step(count) => self.history.go_to(self.alloc, turn.saturating_add(count)),
-            Command::Back(count) => self.history.go_to(self.alloc, turn.saturating_sub(count)),
-            Command::Turn(number) => self.history.go_to(self.alloc, number),
+            Command::Step(count) => self.go_to(turn.saturating_add(count)),
+            Command::Back(count) => self.go_to(turn.saturating_sub(count)),
+            Command::Turn(number) => self.go_to(number),
             Command::Run(None) => self.run(None),
-            Command::Run(Some(address)) => self.run(Some(Breakpoint {
+            Command::Run(Some(address)) => self.run(Some(Goal::At(Breakpoint {
                 address,
                 condition: None,
-            })),
+            }))),
             Command::Next => self.next(),
             Command::Finish => {
-                let goal = return_goal(self.history.point().snapshot());
-                self.run(Some(goal))
+                let sp = self.history.point().snapshot().cpu().sp;
+                self.run(Some(Goal::ReturnAbove(sp)))
             }
             Command::BackRun => self.back_run(),
-            _ => Ok(()),
+            Command::BackNext => self.back_next(),
+            _ => Ok(None),
         }
     }
 
-    /// Obeys a command: it goes to another turn, sets breakpoints and watched bytes, or ends the session.
+    /// Obeys a command: it goes to another turn, sets breakpoints and watched bytes, or ends the session. Answers how it ended if the
+    /// command runs to something.
     ///
     /// # Errors
     ///
     /// [`AllocError`] if memory runs out.
-    pub fn obey(&mut self, command: Command) -> Result<(), AllocError>
+    pub fn obey(&mut self, command: Command) -> Result<Option<Outcome>, AllocError>
         ensures start { self.new.history.start ≡ self.old.history.start }
         ensures after { IsTrue_of_run self.new.history }
-        ensures moves { IfOk result (λ _. Moves command self.old.stops self.old.history self.new.history) }
+        ensures moves { IfOk result (λ told. Moves command self.old.stops self.old.history self.new.history told) }
         ensures sets { IfOk result (λ _. Sets command self.old.stops self.new.stops) }
         ensures over { IfOk result (λ _. self.new.is_over ≡ (self.old.is_over || is_quit command)) }
+        ensures labels { self.new.labels ≡ self.old.labels }
+        ensures listing { self.new.listing ≡ self.old.listing }
     {
-        self.go(command)?;
+        let told = self.go(command)?;
         self.stops.set(self.alloc, command)?;
         self.is_over = self.is_over || command == Command::Quit;
-        Ok(())
+        Ok(told)
     }
 
-    /// The line of the last turn that changed a byte.
-    fn put_who(&self, address: u16, text: &mut Vec<u8>) -> Result<(), AllocError> {
+    /// The last turn that changed a byte, up to the one that is shown.
+    fn last_change(&self, address: u16) -> Result<Option<(u64, Hit)>, AllocError>
+        ensures { IfOk result (λ last. (stops : TheStops) × Watches address stops × IsLast stops self.now.history.start self.now.history.turn last) }
+    {
         let mut stops = Stops::new(self.alloc);
         stops.watches.push(address)?;
-        match self.history.last(self.alloc, &stops, self.history.turn())? {
-            Some(turn) => {
-                text.extend_from_slice(format!(in self.alloc; "turn {turn} changed ")?.as_bytes())?;
-                put_address(self.alloc, &self.labels, address, text)?;
-                text.push(b'\n')?;
-            }
-            None => text.extend_from_slice(b"no turn has changed it\n")?,
+        self.history.last(self.alloc, &stops, self.history.turn())
+    }
+
+    /// The registers, the flags, the address of the buffer for records, and the user.
+    fn registers(&self) -> Result<Vec<u8>, AllocError>
+        ensures { IfOk result (λ text. Says command.Registers self.now.history self.now.labels self.now.listing.now text.items) }
+    {
+        let snapshot = self.history.point().snapshot();
+        let (cpu, dma, user) = (snapshot.cpu(), snapshot.dma(), snapshot.user());
+        let mut text = Vec::new(self.alloc);
+        put_registers(self.alloc, &mut text, cpu, dma, user)?;
+        Ok(text)
+    }
+
+    /// Bytes of memory.
+    fn memory(&self, from: u16, count: u16) -> Result<Vec<u8>, AllocError>
+        ensures { IfOk result (λ text. Says (command.Memory from «count») self.now.history self.now.labels self.now.listing.now text.items) }
+    {
+        let memory = self.history.point().snapshot().memory();
+        let mut text = Vec::new(self.alloc);
+        put_memory(self.alloc, &mut text, memory, from, count)?;
+        Ok(text)
+    }
+
+    /// The last turn that changed a byte.
+    fn who(&self, address: u16) -> Result<Vec<u8>, AllocError>
+        ensures { IfOk result (λ text. Says (command.Who address) self.now.history self.now.labels self.now.listing.now text.items) }
+    {
+        let last = self.last_change(address)?;
+        let mut text = Vec::new(self.alloc);
+        put_who(self.alloc, &self.labels, last, &mut text)?;
+        Ok(text)
+    }
+
+    /// PC with its label, and its line of the listing.
+    fn place(&self) -> Result<Vec<u8>, AllocError>
+        ensures { IfOk result (λ text. Says command.Where self.now.history self.now.labels self.now.listing.now text.items) }
+    {
+        let pc = self.history.point().snapshot().cpu().pc;
+        let mut text = Vec::new(self.alloc);
+        put_where(self.alloc, &self.labels, self.listing, pc, &mut text)?;
+        Ok(text)
+    }
+
+    /// What is printed for a command that goes to another turn, and ended so: what the program has printed since, why the command stopped,
+    /// and the turn. `printed` is how many bytes the program had printed before.
+    fn moved(&self, told: Option<Outcome>, printed: usize) -> Result<Vec<u8>, AllocError> {
+        let point = self.history.point();
+        let mut text = Vec::new(self.alloc);
+        put_new_output(printed, point.snapshot(), &mut text)?;
+        put_outcome(self.alloc, &self.labels, told, &mut text)?;
+        put_point(
+            self.alloc,
+            &self.labels,
+            self.history.turn(),
+            point,
+            &mut text,
+        )?;
+        Ok(text)
+    }
+
+    /// Instructions.
+    fn code(&self, from: u16, count: u16) -> Result<Vec<u8>, AllocError> {
+        let snapshot = self.history.point().snapshot();
+        let mut text = Vec::new(self.alloc);
+        put_instructions(self.alloc, &self.labels, snapshot, from, count, &mut text)?;
+        Ok(text)
+    }
+
+    /// What is printed for the commands that show something else.
+    fn shown(&self, command: Command) -> Result<Vec<u8>, AllocError> {
+        let snapshot = self.history.point().snapshot();
+        let mut text = Vec::new(self.alloc);
+        match command {
+            Command::Info => put_info(self.alloc, &self.labels, &self.stops, &mut text)?,
+            Command::Stack => put_stack(self.alloc, &self.labels, snapshot, &mut text)?,
+            Command::Output => put_output(snapshot.output(), &mut text)?,
+            Command::Files => put_files(self.alloc, snapshot.disk(), &mut text)?,
+            _ => text.extend_from_slice(HELP)?,
         }
-        Ok(())
+        Ok(text)
     }
 
-    /// Whether a command may show another point afterwards.
-    fn moves(command: Command) -> bool {
-        matches!(
-            command,
-            Command::Step(_)
-                | Command::Back(_)
-                | Command::Turn(_)
-                | Command::Run(_)
-                | Command::Next
-                | Command::Finish
-                | Command::BackRun
-        )
-    }
-
-    /// What is printed for a command, which has been done. `printed` is how many bytes the program had printed before.
-    fn put_answer(
+    /// What is printed for a command, which has been done and ended so. `printed` is how many bytes the program had printed before.
+    fn said(
         &self,
         command: Command,
+        told: Option<Outcome>,
         printed: usize,
-        text: &mut Vec<u8>,
-    ) -> Result<(), AllocError> {
-        let point = self.history.point();
-        let snapshot = point.snapshot();
-        if Session::moves(command) {
-            put_new_output(printed, snapshot, text)?;
-            return put_point(self.alloc, &self.labels, self.history.turn(), point, text);
-        }
+    ) -> Result<Vec<u8>, AllocError>
+        ensures { IfOk result (λ text. Says command self.now.history self.now.labels self.now.listing.now text.items) }
+    {
         match command {
-            Command::Registers => put_registers(self.alloc, snapshot.cpu(), text),
-            Command::Memory(from, count) => put_memory(
-                self.alloc,
-                snapshot.memory(),
-                from,
-                count,
-                text,
-            ),
-            Command::Disassemble(from, count) => put_instructions(
-                self.alloc,
-                &self.labels,
-                snapshot,
-                from,
-                count,
-                text,
-            ),
-            Command::Stack => put_stack(self.alloc, &self.labels, snapshot, text),
-            Command::Output => put_output(snapshot.output(), text),
-            Command::Who(address) => self.put_who(address, text),
-            Command::Files => put_files(self.alloc, snapshot.disk(), text),
-            Command::Where => put_where(
-                self.alloc,
-                &self.labels,
-                self.listing,
-                snapshot.cpu().pc,
-                text,
-            ),
-            Command::Help => text.extend_from_slice(HELP),
-            _ => Ok(()),
+            Command::Registers => self.registers(),
+            Command::Memory(from, count) => self.memory(from, count),
+            Command::Who(address) => self.who(address),
+            Command::Where => self.place(),
+            Command::Break(_) => Ok(Vec::new(self.alloc)),
+            Command::Watch(_, _) => Ok(Vec::new(self.alloc)),
+            Command::Delete => Ok(Vec::new(self.alloc)),
+            Command::Quit => Ok(Vec::new(self.alloc)),
+            Command::Disassemble(from, count) => self.code(from, count),
+            Command::Info => self.shown(command),
+            Command::Stack => self.shown(command),
+            Command::Output => self.shown(command),
+            Command::Files => self.shown(command),
+            Command::Help => self.shown(command),
+            Command::Step(_) => self.moved(told, printed),
+            Command::Back(_) => self.moved(told, printed),
+            Command::Turn(_) => self.moved(told, printed),
+            Command::Run(_) => self.moved(told, printed),
+            Command::Next => self.moved(told, printed),
+            Command::Finish => self.moved(told, printed),
+            Command::BackRun => self.moved(told, printed),
+            Command::BackNext => self.moved(told, printed),
         }
     }
 
@@ -322,21 +381,18 @@ impl<'a> Session<'a> {
     pub fn answer(&mut self, line: &[u8]) -> Result<Vec<u8>, AllocError>
         ensures start { self.new.history.start ≡ self.old.history.start }
         ensures after { IsTrue_of_run self.new.history }
-        ensures obeys { IfOk result (λ _. Obeys self.old.history self.old.stops self.old.is_over self.new.history self.new.stops self.new.is_over) }
+        ensures labels { self.new.labels ≡ self.old.labels }
+        ensures listing { self.new.listing ≡ self.old.listing }
+        ensures obeys { IfOk result (λ text. Obeys self.old.labels self.old.listing.now self.old.history self.old.stops self.old.is_over self.new.history self.new.stops self.new.is_over text.items) }
     {
-        let mut text = Vec::new(self.alloc);
         let words = std::str::from_utf8(line).unwrap_or("");
         let printed = self.history.point().snapshot().output().len();
         match command_of(self.alloc, words, self.labels.symbols)? {
             Some(command) => {
-                self.obey(command)?;
-                self.put_answer(command, printed, &mut text)?;
-                Ok(text)
+                let told = self.obey(command)?;
+                self.said(command, told, printed)
             }
-            None => {
-                text.extend_from_slice(refusal(line))?;
-                Ok(text)
-            }
+            None => Vec::from_slice(self.alloc, refusal(line)),
         }
     }
 }

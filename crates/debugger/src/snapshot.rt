@@ -106,6 +106,20 @@ impl Snapshot {
         self.system.disk()
     }
 
+    /// The address of the buffer that the next record is read to or written from.
+    pub fn dma(&self) -> u16
+        ensures { result ≡ self.now.system.dma }
+    {
+        self.system.dma()
+    }
+
+    /// The user from 0 to 31 whose files the system calls see.
+    pub fn user(&self) -> u8
+        ensures { result ≡ self.now.system.user }
+    {
+        self.system.user()
+    }
+
     /// The bytes that the program has printed so far.
     pub fn output(&self) -> &[u8]
         ensures { self.now.system.terminal.console.output ≡ Some result.now }

@@ -1,13 +1,17 @@
 //! Breakpoints and watched bytes.
 
-ghost use Rattle.std.specs.Prelude.{◌≡◌, ◌++◌, ℕ, IfOk, List, length, map};
-ghost use Rattle.std.specs.List.{list_any};
+ghost use Rattle.std.specs.Prelude.{◌≡◌, ◌++◌, ℕ, IfOk, List, None, Some, if◌then◌else◌, length, map, option_map};
+ghost use Rattle.std.specs.Option.{option_or};
+ghost use Rattle.cpm_run.specs.Turns.{place_at_pc};
 ghost use Rattle.z80_cpu.specs.State.{byte_at};
 ghost use Rattle.debugger.specs.Session.{addresses};
-ghost use Rattle.debugger.specs.Stops.{breaks, changes_byte, condition_is_met, is_reached};
+ghost use Rattle.debugger.specs.Stops.{breaks, broken, changed, condition_is_met, has_returned, is_reached, is_return_code, may_return, sp_returned};
+ghost use Rattle.debugger.specs.declared.stops.Hit.TheVariants as hit;
 
 use crate::command::Command;
 use crate::point::Point;
+use crate::snapshot::Snapshot;
+use cpm_run::{BDOS, bios_entry};
 use std::alloc::{AllocError, Global};
 use z80_cpu::{Cpu, Memory};
 
@@ -55,6 +59,26 @@ impl RegisterName {
             RegisterName::Sp => cpu.sp,
         }
     }
+
+    /// The name of the register.
+    pub(crate) fn name(self) -> &'static str {
+        match self {
+            RegisterName::A => "A",
+            RegisterName::B => "B",
+            RegisterName::C => "C",
+            RegisterName::D => "D",
+            RegisterName::E => "E",
+            RegisterName::H => "H",
+            RegisterName::L => "L",
+            RegisterName::Af => "AF",
+            RegisterName::Bc => "BC",
+            RegisterName::De => "DE",
+            RegisterName::Hl => "HL",
+            RegisterName::Ix => "IX",
+            RegisterName::Iy => "IY",
+            RegisterName::Sp => "SP",
+        }
+    }
 }
 
 /// A value that a register is to have.
@@ -81,6 +105,36 @@ fn is_met(condition: Option<Condition>, cpu: &Cpu) -> bool
     }
 }
 
+/// What a command runs to.
+#[derive(Clone, Copy, Debug, PartialEq, Eq)]
+pub enum Goal {
+    /// PC is at an address, and its condition is met.
+    At(Breakpoint),
+    /// A return has left SP above this value.
+    ReturnAbove(u16),
+}
+
+/// A byte that a turn has changed.
+#[derive(Clone, Copy, Debug, PartialEq, Eq)]
+pub struct Change {
+    pub address: u16,
+    pub before: u8,
+    pub after: u8,
+    /// PC before the turn: the address of the instruction that changed the byte.
+    pub by: u16,
+}
+
+/// What holds at a turn.
+#[derive(Clone, Copy, Debug, PartialEq, Eq)]
+pub enum Hit {
+    /// A breakpoint with this address.
+    Breakpoint(u16),
+    /// A watched byte has changed.
+    Changed(Change),
+    /// The goal of the command is reached.
+    Goal,
+}
+
 /// Whether a breakpoint holds in a state with these registers.
 fn breaks(breakpoint: &Breakpoint, cpu: &Cpu) -> bool
     ensures { result ≡ breaks cpu.now breakpoint.now }
@@ -88,14 +142,74 @@ fn breaks(breakpoint: &Breakpoint, cpu: &Cpu) -> bool
     cpu.pc == breakpoint.address && is_met(breakpoint.condition, cpu)
 }
 
-/// Whether a goal is reached in a state with these registers, if there is one.
-fn is_reached(goal: Option<Breakpoint>, cpu: &Cpu) -> bool
-    ensures { result ≡ is_reached goal cpu.now }
+/// Whether an instruction that begins with these bytes is RET, RET with a condition, RETN or RETI.
+fn is_return_code(first: u8, second: u8) -> bool
+    ensures { result ≡ is_return_code first second }
 {
-    match goal {
-        Some(goal) => breaks(&goal, cpu),
+    first == 0xC9
+        || (first >= 0xC0 && first % 8 == 0)
+        || (first == 0xED && (second == 0x45 || second == 0x4D))
+}
+
+/// Whether a turn at this address may return: at a return, and at a call of the system.
+fn may_return(pc: u16, first: u8, second: u8) -> bool
+    ensures { result ≡ may_return (place_at_pc pc) first second }
+{
+    if pc == BDOS {
+        return true;
+    }
+    match bios_entry(pc) {
+        Some(_) => true,
+        None => is_return_code(first, second),
+    }
+}
+
+/// SP after the return, if a turn that begins in this state may be one.
+fn sp_returned(snapshot: &Snapshot) -> Option<u16>
+    ensures { result ≡ sp_returned snapshot.now }
+{
+    let cpu = snapshot.cpu();
+    let memory = snapshot.memory();
+    let first = memory.get(cpu.pc);
+    let second = memory.get(cpu.pc.wrapping_add(1));
+    if may_return(cpu.pc, first, second) {
+        Some(cpu.sp.wrapping_add(2))
+    } else {
+        None
+    }
+}
+
+/// Whether SP has this value by a return, and lies above another value.
+fn has_returned(above: u16, returned: Option<u16>, sp: u16) -> bool
+    ensures { result ≡ has_returned above returned sp }
+{
+    match returned {
+        Some(returned) => sp == returned && above < sp,
         None => false,
     }
+}
+
+/// Whether a goal is reached in a state with these registers, if there is one. `returned` is SP after the turn if that was a return.
+fn is_reached(goal: Option<Goal>, returned: Option<u16>, cpu: &Cpu) -> bool
+    ensures { result ≡ is_reached goal returned cpu.now }
+{
+    match goal {
+        Some(Goal::At(breakpoint)) => breaks(&breakpoint, cpu),
+        Some(Goal::ReturnAbove(sp)) => has_returned(sp, returned, cpu.sp),
+        None => false,
+    }
+}
+
+/// The first breakpoint that holds with these registers.
+fn broken(breakpoints: &[Breakpoint], cpu: &Cpu) -> Option<Hit>
+    ensures { result ≡ broken cpu.now breakpoints.now }
+{
+    for breakpoint in breakpoints {
+        if breaks(breakpoint, cpu) {
+            return Some(Hit::Breakpoint(breakpoint.address));
+        }
+    }
+    None
 }
 
 /// The bytes at these addresses.
@@ -109,17 +223,35 @@ fn bytes_at(alloc: Global, addresses: &[u16], memory: &Memory) -> Result<Vec<u8>
     Ok(bytes)
 }
 
-/// Whether one of these bytes has changed, given what they were.
-fn is_changed(addresses: &[u16], bytes: &[u8], memory: &Memory) -> bool
+/// The first of these bytes that has changed, given what they were, and the address of the instruction that was executed.
+fn changed(addresses: &[u16], bytes: &[u8], memory: &Memory, by: u16) -> Option<Change>
     requires { length bytes.now ≡ length addresses.now }
-    ensures { (old : List ℕ) → bytes.now ≡ map (λ address. byte_at address old) addresses.now → result ≡ list_any (changes_byte old memory.now) addresses.now }
+    ensures { (old : List ℕ) → bytes.now ≡ map (λ address. byte_at address old) addresses.now → result ≡ changed old memory.now by addresses.now }
 {
     for (index, address) in addresses.iter().enumerate() {
-        if memory.get(*address) != bytes[index] {
-            return true;
+        let before = bytes[index];
+        let after = memory.get(*address);
+        if after != before {
+            return Some(Change {
+                address: *address,
+                before,
+                after,
+                by,
+            });
         }
     }
-    false
+    None
+}
+
+/// What holds at a turn: a breakpoint, otherwise a watched byte, otherwise the goal.
+fn first_of(broken: Option<Hit>, change: Option<Change>, is_reached: bool) -> Option<Hit>
+    ensures { result ≡ option_or broken (option_or (option_map hit.Changed change) (if is_reached then Some hit.Goal else None)) }
+{
+    match (broken, change) {
+        (Some(hit), _) => Some(hit),
+        (None, Some(change)) => Some(Hit::Changed(change)),
+        (None, None) => { if is_reached { Some(Hit::Goal) } else { None } }
+    }
 }
 
 /// Adds the addresses of bytes. After FFFFH comes address 0.
@@ -141,8 +273,7 @@ pub struct Stops {
 
 impl Stops {
     ghost use Rattle.std.specs.Prelude.{◌≡◌, [], None, IfOk, OnErr};
-    ghost use Rattle.std.specs.List.{list_any};
-    ghost use Rattle.debugger.specs.Stops.{breaks, holds};
+    ghost use Rattle.debugger.specs.Stops.{hit_at};
     ghost use Rattle.debugger.specs.Session.{Sets};
     ghost use Rattle.debugger.specs.Walk.{IsNextPoint};
 
@@ -157,14 +288,7 @@ impl Stops {
         }
     }
 
-    /// Whether a breakpoint holds in a state with these registers.
-    fn breaks(&self, cpu: &Cpu) -> bool
-        ensures { result ≡ list_any (breaks cpu.now) self.now.breakpoints.items }
-    {
-        self.breakpoints.iter().any(|b| breaks(b, cpu))
-    }
-
-    /// Makes one turn, and answers whether the goal is reached, or a breakpoint or a watched byte holds at it.
+    /// Makes one turn, and answers what holds at it: a breakpoint, a watched byte, or the goal.
     ///
     /// # Errors
     ///
@@ -172,22 +296,26 @@ impl Stops {
     pub(crate) fn advance(
         &self,
         alloc: Global,
-        goal: Option<Breakpoint>,
+        goal: Option<Goal>,
         point: &mut Point,
-    ) -> Result<bool, AllocError>
+    ) -> Result<Option<Hit>, AllocError>
         requires { point.old.end ≡ None }
         ensures next { IfOk result (λ _. IsNextPoint point.old point.new) }
-        ensures held { IfOk result (λ held. held ≡ holds goal self.now point.old.state point.new.state) }
+        ensures held { IfOk result (λ held. held ≡ hit_at goal self.now point.old.state point.new.state) }
         ensures kept { OnErr result (point.new ≡ point.old) }
     {
         let bytes = bytes_at(alloc, &self.watches, point.snapshot().memory())?;
+        let returned = sp_returned(point.snapshot());
+        let by = point.snapshot().cpu().pc;
         point.advance();
         let snapshot = point.snapshot();
-        Ok(
-            is_reached(goal, snapshot.cpu())
-                || self.breaks(snapshot.cpu())
-                || is_changed(&self.watches, &bytes, snapshot.memory()),
-        )
+        let cpu = snapshot.cpu();
+        let change = changed(&self.watches, &bytes, snapshot.memory(), by);
+        Ok(first_of(
+            broken(&self.breakpoints, cpu),
+            change,
+            is_reached(goal, returned, cpu),
+        ))
     }
 
     /// Sets or forgets breakpoints and watched bytes, as a command asks; or leaves them.

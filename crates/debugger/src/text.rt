@@ -1,17 +1,23 @@
 //! What a session prints.
 
+ghost use Rattle.std.specs.Prelude.{◌≡◌, ◌++◌, ◌∷◌, [], OnOk, option_map};
+ghost use Rattle.hex.specs.Hex.{encode_upper};
+ghost use Rattle.debugger.specs.Text.{labelled_address, change_line, label_before, label_and_offset, listing_text, line_with, nearer, offset_text, values_text, where_text, who_text};
+
 use crate::command::{Labels, Symbol};
+use crate::history::Outcome;
 use crate::point::Point;
+use crate::session::MOST_TURNS;
 use crate::snapshot::Snapshot;
+use crate::stops::{Breakpoint, Change, Hit, Stops};
+use bstr::ByteSlice;
 use cpm_disk::Disk;
 use cpm_image::MemoryImage;
 use cpm_run::{BDOS, BIOS};
+use debug_text::{put_word, shown_character};
 use std::alloc::{AllocError, Global};
 use z80_cpu::{Cpu, Memory};
 use z80_table::decode;
-
-/// The bytes of a line of `mem`.
-const LINE_BYTES: u16 = 16;
 
 /// The bytes of a name before its type.
 const NAME_BYTES: usize = 8;
@@ -62,18 +68,67 @@ fn instruction(
     }
 }
 
-/// The last label at or before an address, unless the address is beyond the program.
-fn label_before<'a>(labels: &Labels<'a>, address: u16) -> Option<Symbol<'a>> {
+/// The nearer of two labels to an address: the last one that is not after it, and not before the one found.
+fn nearer<'a>(address: u16, found: Option<Symbol<'a>>, symbol: Symbol<'a>) -> Option<Symbol<'a>>
+    ensures { result ≡ nearer address found.entry symbol.entry }
+{
+    match found {
+        Some(before) => {
+            if before.address <= symbol.address && symbol.address <= address {
+                Some(symbol)
+            } else {
+                Some(before)
+            }
+        }
+        None => {
+            if symbol.address <= address {
+                Some(symbol)
+            } else {
+                None
+            }
+        }
+    }
+}
+
+/// The last label at the highest address up to this one, unless this one is beyond the program.
+fn label_before<'a>(labels: &Labels<'a>, address: u16) -> Option<Symbol<'a>>
+    ensures { result ≡ label_before labels.now address }
+{
     if usize::from(address) >= labels.program_len.saturating_add(0x0100) {
         return None;
     }
-    let mut found: Option<Symbol<'a>> = None;
+    let mut found = None;
     for symbol in labels.symbols {
-        if symbol.address <= address && found.is_none_or(|f| f.address <= symbol.address) {
-            found = Some(*symbol);
-        }
+        found = nearer(address, found, *symbol);
     }
     found
+}
+
+/// Appends the distance from a label in decimal, as in `+5`.
+fn put_offset(alloc: Global, offset: u16, text: &mut Vec<u8>) -> Result<(), AllocError>
+    ensures { OnOk result (text.new.items ≡ text.old.items ++ offset_text offset) }
+{
+    if offset == 0 {
+        return Ok(());
+    }
+    text.extend_from_slice(format!(in alloc; "+{offset}")?.as_bytes())
+}
+
+/// Appends a label and the distance from it.
+fn put_label(
+    alloc: Global,
+    symbol: Option<Symbol<'_>>,
+    address: u16,
+    text: &mut Vec<u8>,
+) -> Result<(), AllocError>
+    ensures { OnOk result (text.new.items ≡ text.old.items ++ label_and_offset symbol.entry address) }
+{
+    let Some(symbol) = symbol else {
+        return Ok(());
+    };
+    text.extend_from_slice(b" ")?;
+    text.extend_from_slice(symbol.name)?;
+    put_offset(alloc, address.saturating_sub(symbol.address), text)
 }
 
 /// An address in four hexadecimal digits, with its label.
@@ -82,18 +137,11 @@ pub(crate) fn put_address(
     labels: &Labels<'_>,
     address: u16,
     text: &mut Vec<u8>,
-) -> Result<(), AllocError> {
-    text.extend_from_slice(format!(in alloc; "{address:04X}")?.as_bytes())?;
-    let Some(symbol) = label_before(labels, address) else {
-        return Ok(());
-    };
-    text.push(b' ')?;
-    text.extend_from_slice(symbol.name)?;
-    let offset = address.saturating_sub(symbol.address);
-    if offset > 0 {
-        text.extend_from_slice(format!(in alloc; "+{offset}")?.as_bytes())?;
-    }
-    Ok(())
+) -> Result<(), AllocError>
+    ensures { OnOk result (text.new.items ≡ text.old.items ++ labelled_address labels.now address) }
+{
+    put_word(alloc, text, address)?;
+    put_label(alloc, label_before(labels, address), address, text)
 }
 
 /// The line of the point that is shown: the number of turns, PC and its label, and the instruction there or the end of the run.
@@ -118,80 +166,143 @@ pub(crate) fn put_point(
     Ok(())
 }
 
-/// The lines of the registers.
-pub(crate) fn put_registers(
-    alloc: Global,
-    cpu: &Cpu,
-    text: &mut Vec<u8>,
-) -> Result<(), AllocError> {
-    let (af, bc, de, hl) = (cpu.main.af(), cpu.main.bc(), cpu.main.de(), cpu.main.hl());
-    let (ix, iy, sp, pc) = (cpu.ix, cpu.iy, cpu.sp, cpu.pc);
-    let main = format!(in alloc;
-        "AF={af:04X} BC={bc:04X} DE={de:04X} HL={hl:04X} IX={ix:04X} IY={iy:04X} SP={sp:04X} PC={pc:04X}\n"
-    )?;
-    text.extend_from_slice(main.as_bytes())?;
-    let (af, bc, de, hl) = (
-        cpu.shadow.af(),
-        cpu.shadow.bc(),
-        cpu.shadow.de(),
-        cpu.shadow.hl(),
-    );
-    let (i, r) = (cpu.i, cpu.r);
-    let shadow = format!(in alloc;
-        "AF'={af:04X} BC'={bc:04X} DE'={de:04X} HL'={hl:04X} I={i:02X} R={r:02X}\n"
-    )?;
-    text.extend_from_slice(shadow.as_bytes())
+/// Appends a byte as two hexadecimal digits.
+fn put_byte(alloc: Global, byte: u8, text: &mut Vec<u8>) -> Result<(), AllocError>
+    ensures { OnOk result (text.new.items ≡ text.old.items ++ encode_upper (byte ∷ [])) }
+{
+    let digits = hex::encode_upper(alloc, &[byte][..])?;
+    text.extend_from_slice(digits.as_bytes())
 }
 
-/// A byte as a character, or `.` if it is none of 20H to 7EH.
-fn shown(byte: u8) -> u8 {
-    if byte >= 0x20 && byte <= 0x7E {
-        byte
-    } else {
-        b'.'
+/// Appends the values of a changed byte before and after.
+fn put_values(alloc: Global, change: Change, text: &mut Vec<u8>) -> Result<(), AllocError>
+    ensures { OnOk result (text.new.items ≡ text.old.items ++ values_text change) }
+{
+    text.extend_from_slice(b": ")?;
+    put_byte(alloc, change.before, text)?;
+    text.extend_from_slice(b" -> ")?;
+    put_byte(alloc, change.after, text)
+}
+
+/// A changed byte: its address, its values before and after, and the instruction that changed it.
+pub(crate) fn put_change(
+    alloc: Global,
+    labels: &Labels<'_>,
+    change: Change,
+    text: &mut Vec<u8>,
+) -> Result<(), AllocError>
+    ensures { OnOk result (text.new.items ≡ text.old.items ++ change_line labels.now change) }
+{
+    put_address(alloc, labels, change.address, text)?;
+    put_values(alloc, change, text)?;
+    text.extend_from_slice(b" by ")?;
+    put_address(alloc, labels, change.by, text)?;
+    text.extend_from_slice(b"\n")
+}
+
+/// The line of the last turn that changed a byte, if one has.
+pub(crate) fn put_who(
+    alloc: Global,
+    labels: &Labels<'_>,
+    last: Option<(u64, Hit)>,
+    text: &mut Vec<u8>,
+) -> Result<(), AllocError>
+    ensures { OnOk result (text.new.items ≡ text.old.items ++ who_text labels.now last) }
+{
+    match last {
+        Some((turn, Hit::Changed(change))) => {
+            text.extend_from_slice(format!(in alloc; "turn {turn} changed ")?.as_bytes())?;
+            put_change(alloc, labels, change, text)
+        }
+        _ => text.extend_from_slice(b"no turn has changed it\n"),
     }
 }
 
-/// A line of at most 16 bytes of memory: the address, the bytes, and the same as characters.
-fn put_memory_line(
+/// Why a command has stopped before the end of the run, unless it has come to where it was to come.
+pub(crate) fn put_outcome(
     alloc: Global,
-    memory: &Memory,
+    labels: &Labels<'_>,
+    told: Option<Outcome>,
+    text: &mut Vec<u8>,
+) -> Result<(), AllocError> {
+    match told {
+        Some(Outcome::Held(Hit::Breakpoint(address))) => {
+            text.extend_from_slice(b"breakpoint ")?;
+            put_address(alloc, labels, address, text)?;
+            text.extend_from_slice(b"\n")
+        }
+        Some(Outcome::Held(Hit::Changed(change))) => {
+            text.extend_from_slice(b"watch ")?;
+            put_change(alloc, labels, change, text)
+        }
+        Some(Outcome::Limit) => {
+            let line = format!(in alloc; "limit of {MOST_TURNS} turns\n")?;
+            text.extend_from_slice(line.as_bytes())
+        }
+        _ => Ok(()),
+    }
+}
+
+/// The line of a breakpoint.
+fn put_breakpoint(
+    alloc: Global,
+    labels: &Labels<'_>,
+    breakpoint: &Breakpoint,
+    text: &mut Vec<u8>,
+) -> Result<(), AllocError> {
+    text.extend_from_slice(b"break ")?;
+    put_address(alloc, labels, breakpoint.address, text)?;
+    if let Some(condition) = breakpoint.condition {
+        let (name, value) = (condition.register.name(), condition.value);
+        text.extend_from_slice(format!(in alloc; " if {name}={value:04X}")?.as_bytes())?;
+    }
+    text.extend_from_slice(b"\n")
+}
+
+/// The line of watched bytes that follow each other, if there are some.
+fn put_watched(
+    alloc: Global,
+    labels: &Labels<'_>,
     from: u16,
     count: u16,
     text: &mut Vec<u8>,
 ) -> Result<(), AllocError> {
-    text.extend_from_slice(format!(in alloc; "{from:04X} ")?.as_bytes())?;
-    let mut characters = Vec::new(alloc);
-    for offset in 0..count {
-        let byte = memory.get(from.wrapping_add(offset));
-        text.extend_from_slice(format!(in alloc; " {byte:02X}")?.as_bytes())?;
-        characters.push(shown(byte))?;
+    if count == 0 {
+        return Ok(());
     }
-    text.extend_from_slice(b"  ")?;
-    text.extend_from_slice(&characters)?;
-    text.push(b'\n')?;
-    Ok(())
+    text.extend_from_slice(b"watch ")?;
+    put_address(alloc, labels, from, text)?;
+    if count > 1 {
+        text.extend_from_slice(format!(in alloc; ", {count} bytes")?.as_bytes())?;
+    }
+    text.extend_from_slice(b"\n")
 }
 
-/// The lines of bytes of memory. After FFFFH comes address 0.
-pub(crate) fn put_memory(
+/// The lines of the breakpoints and of the watched bytes, in the order in which they were set.
+pub(crate) fn put_info(
     alloc: Global,
-    memory: &Memory,
-    from: u16,
-    count: u16,
+    labels: &Labels<'_>,
+    stops: &Stops,
     text: &mut Vec<u8>,
 ) -> Result<(), AllocError> {
-    let lines = count / LINE_BYTES;
-    for line in 0..lines {
-        let start = from.wrapping_add(line.wrapping_mul(LINE_BYTES));
-        put_memory_line(alloc, memory, start, LINE_BYTES, text)?;
+    if stops.breakpoints.is_empty() && stops.watches.is_empty() {
+        return text.extend_from_slice(b"no breakpoints, and no watched bytes\n");
     }
-    let rest = count % LINE_BYTES;
-    if rest > 0 {
-        let start = from.wrapping_add(lines.wrapping_mul(LINE_BYTES));
-        put_memory_line(alloc, memory, start, rest, text)?;
+    for breakpoint in &stops.breakpoints {
+        put_breakpoint(alloc, labels, breakpoint, text)?;
     }
-    Ok(())
+    let mut from: u16 = 0;
+    let mut count: u16 = 0;
+    for address in &stops.watches {
+        if count > 0 && count < u16::MAX && *address == from.wrapping_add(count) {
+            count += 1;
+        } else {
+            put_watched(alloc, labels, from, count, text)?;
+            from = *address;
+            count = 1;
+        }
+    }
+    put_watched(alloc, labels, from, count, text)
 }
 
 /// Bytes that the program has printed, each line of them after `| `. CR is left out, and other bytes that are no characters are dots.
@@ -209,7 +320,7 @@ pub(crate) fn put_output(output: &[u8], text: &mut Vec<u8>) -> Result<(), AllocE
             text.push(b'\n')?;
             is_open = false;
         } else {
-            text.push(shown(*byte))?;
+            text.push(shown_character(*byte))?;
         }
     }
     if is_open {
@@ -264,6 +375,25 @@ pub(crate) fn put_stack(
     Ok(())
 }
 
+/// Bytes of a name, without the blanks at their end.
+fn put_part(bytes: &[u8], text: &mut Vec<u8>) -> Result<(), AllocError> {
+    for byte in bytes.trim_ascii_end() {
+        text.push(shown_character(*byte))?;
+    }
+    Ok(())
+}
+
+/// A name as `dir` prints it: NAME.TYP, or NAME if it has no type.
+fn put_name(name: &[u8; 11], text: &mut Vec<u8>) -> Result<(), AllocError> {
+    let (stem, kind) = name[..].split_at(NAME_BYTES);
+    put_part(stem, text)?;
+    if !kind.trim_ascii_end().is_empty() {
+        text.push(b'.')?;
+        put_part(kind, text)?;
+    }
+    Ok(())
+}
+
 /// The lines of the files of a disk, by user and name: the user, the name, and the number of records.
 pub(crate) fn put_files(
     alloc: Global,
@@ -276,31 +406,34 @@ pub(crate) fn put_files(
     for file in &files {
         let user = file.user;
         text.extend_from_slice(format!(in alloc; "{user} ")?.as_bytes())?;
-        for (place, byte) in file.name.bytes().iter().enumerate() {
-            if place == NAME_BYTES {
-                text.push(b'.')?;
-            }
-            text.push(shown(*byte))?;
-        }
+        put_name(&file.name.bytes(), text)?;
         let records = file.records;
         text.extend_from_slice(format!(in alloc; " {records}\n")?.as_bytes())?;
     }
     Ok(())
 }
 
-/// The first line of a listing that begins with this address.
-fn listing_line<'a>(
-    alloc: Global,
-    listing: &'a [u8],
-    address: u16,
-) -> Result<Option<&'a [u8]>, AllocError> {
-    let digits = format!(in alloc; "{address:04X}")?;
-    for line in listing.split(|b| *b == b'\n') {
-        if line.starts_with(digits.as_bytes()) {
-            return Ok(Some(line));
+/// The first line of a listing that begins with these digits.
+fn line_with<'a>(listing: &'a [u8], digits: &[u8]) -> Option<&'a [u8]>
+    ensures { option_map (λ line. line.now) result ≡ line_with listing.now digits.now }
+{
+    for line in listing.lines() {
+        if line.starts_with(digits) {
+            return Some(line);
         }
     }
-    Ok(None)
+    None
+}
+
+/// Appends a line, if there is one.
+fn put_line(line: Option<&[u8]>, text: &mut Vec<u8>) -> Result<(), AllocError>
+    ensures { OnOk result (text.new.items ≡ text.old.items ++ listing_text (option_map (λ bytes. bytes.now) line.entry)) }
+{
+    let Some(line) = line else {
+        return Ok(());
+    };
+    text.extend_from_slice(line)?;
+    text.extend_from_slice(b"\n")
 }
 
 /// An address with its label, and its line of the listing.
@@ -310,12 +443,12 @@ pub(crate) fn put_where(
     listing: &[u8],
     address: u16,
     text: &mut Vec<u8>,
-) -> Result<(), AllocError> {
+) -> Result<(), AllocError>
+    ensures { OnOk result (text.new.items ≡ text.old.items ++ where_text labels.now listing.now address) }
+{
     put_address(alloc, labels, address, text)?;
-    text.push(b'\n')?;
-    if let Some(line) = listing_line(alloc, listing, address)? {
-        text.extend_from_slice(line)?;
-        text.push(b'\n')?;
-    }
-    Ok(())
+    text.extend_from_slice(b"\n")?;
+    let mut digits = Vec::new(alloc);
+    put_word(alloc, &mut digits, address)?;
+    put_line(line_with(listing, &digits), text)
 }

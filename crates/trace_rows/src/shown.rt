@@ -70,8 +70,7 @@ fn regs_of(row: &mut Row) -> Option<Vec<u8>> {
         counts: false,
     };
     let Run { traced, labels } = run_of(row, input, wish)?;
-    let (cpu, memory) = traced.state?;
-    machine_text(row.alloc(), &cpu, &memory, &traced.kept?.last, &labels).ok()
+    machine_text(row.alloc(), &traced.state?, &traced.kept?.last, &labels).ok()
 }
 
 /// Prints the machine at the end of a run.

@@ -5,8 +5,8 @@ use Rattle.std.specs.Result.{result_ok}
 use Rattle.cpm_run.specs.declared.ending.Why.{Why}
 use Rattle.cpm_run.specs.declared.recording.Record.{Record}
 use Rattle.cpm_run.specs.declared.recording.Wish.{Wish}
+use Rattle.cpm_run.specs.declared.tracing.Left.{Left}
 use Rattle.streams.specs.Stream.{Stream}
-use Rattle.z80_cpu.specs.declared.registers.Cpu.{Cpu}
 use Rattle.z80dev_commands.specs.declared.job.Telling.{Telling}
 use Rattle.z80dev_jobs.specs.Telling.{IsToldOf, IsToldRun, is_silent, wish_of}
 use Rattle.z80dev_jobs.specs.declared.telling.Told.{Told}
@@ -14,7 +14,7 @@ use Rattle.z80dev_run.specs.Labelled.{Known}
 use Rattle.z80dev_run.specs.Program.{IsTracedRan}
 
 pub told_run : (telling : Telling) (known : Known) (listing : Option (List ℕ)) (file : List ℕ) (words : List (List ℕ)) (image input : List ℕ) (before : Stream) (steps : ℕ) (wish : Wish)
-    (end : Why) (turns : ℕ) (state : Option (Cpu × List ℕ)) (kept : Option Record) (told : Result Told AllocError) (shown : Option Told)
+    (end : Why) (turns : ℕ) (state : Option Left) (kept : Option Record) (told : Result Told AllocError) (shown : Option Told)
     → is_silent telling ≡ false → wish ≡ wish_of telling → IsTracedRan file words image input before steps wish end turns state kept
     → IfOk told (IsToldOf telling known listing end turns state kept) → shown ≡ result_ok told → IfSome shown (IsToldRun telling known listing file words image input before steps end turns)
 told_run telling known listing file words image input before steps wish end turns state kept (Ok told) shown speaks same ran is so =

@@ -79,11 +79,17 @@ abbrev pub told_lines : Option Told → List ℕ
 told_lines None = []
 told_lines (Some told) = told.lines.items
 
--- It is reported that a file cannot be written, or why the run ended. In the second case the run then tells its last steps and its registers, and
--- warnings follow if the program ended by itself.
-abbrev pub ReportsRun : Option (List ℕ) → List ℕ → Result Unit End → Why → ℕ → Stream → Stream → ℕ → Type 0
-ReportsRun lines told (Ok _) end pc old new status =
-    (concluded : Stream) × (then : Stream) × Concludes end pc old concluded status × PutsLines told concluded then × WarnsAfter lines then new status
+-- After what a run tells come the lines that warn, if its program ended by itself; or it is reported that what it tells could not be written, and
+-- the status is that of this end.
+abbrev pub ReportsWritten : Option (List ℕ) → Result Unit End → ℕ → Stream → Stream → ℕ → Type 0
+ReportsWritten lines (Ok _) concluded old new status = (status ≡ concluded) × WarnsAfter lines old new concluded
+ReportsWritten lines (Err e) concluded old new status = (status ≡ end_status e) × Tells e old new
+
+-- It is reported that the image cannot be written; or why the run ended, with the last steps and the registers, and then whether what the run tells
+-- could be written.
+abbrev pub ReportsRun : Option (List ℕ) → List ℕ → Result (Result Unit End) End → Why → ℕ → Stream → Stream → ℕ → Type 0
+ReportsRun lines told (Ok written) end pc old new status =
+    (concluded : Stream) × (then : Stream) × (first : ℕ) × Concludes end pc old concluded first × PutsLines told concluded then × ReportsWritten lines written first then new status
 ReportsRun lines told (Err e) end pc old new status = (status ≡ end_status e) × Tells e old new
 
 -- What a run tells is written, or memory has run out for it.
@@ -92,20 +98,16 @@ WritesIfTold telling (Some told) old new result = WritesTold telling told old ne
 WritesIfTold telling None old new (Ok _) = ⊥
 WritesIfTold telling None old new (Err e) = (e ≡ end.NoMemory) × (new ≡ old)
 
--- this is done if the image was kept; otherwise that is the end
-abbrev pub IfKept : Result Unit End → (Folder → Folder → Result Unit End → Type 0) → Folder → Folder → Result Unit End → Type 0
-IfKept (Ok _) Does old new result = Does old new result
-IfKept (Err e) Does old new result = (result ≡ Err e) × (new ≡ old)
-
--- The image that a run leaves is kept; then what the run tells is written.
-abbrev pub KeepsAll : Run → List ℕ → List ℕ → Option Told → Folder → Folder → Result Unit End → Type 0
-KeepsAll run bytes image told old new result = (kept : Result Unit End) × (mid : Folder) × IsKept run.disk bytes image old mid kept × IfKept kept (WritesIfTold run.telling told) mid new result
+-- The image that a run leaves is kept; then what the run tells is written. If the image cannot be kept, nothing is told in a file.
+abbrev pub KeepsAll : Run → List ℕ → List ℕ → Option Told → Folder → Folder → Result (Result Unit End) End → Type 0
+KeepsAll run bytes image told old new (Ok written) = (mid : Folder) × (done : Unit {0}) × IsKept run.disk bytes image old mid (Ok done) × WritesIfTold run.telling told mid new written
+KeepsAll run bytes image told old new (Err e) = IsKept run.disk bytes image old new (Err e)
 
 -- What the program printed is flushed, the image that it leaves is kept, what the run tells is written, and it is reported why it stopped, or that
 -- a file could not be written. Whether the image is kept before what was printed is flushed, this does not say.
 abbrev pub EndsRun : Run → Inputs → Why → ℕ → List ℕ → Option Told → Stream → Stream → Folder → Folder → Stream → Stream → ℕ → Type 0
 EndsRun run inputs end pc image told printed output old new before after status =
-    (flushed : Result Unit WriteFailed) × (kept : Result Unit End) × Hands_on printed output flushed × KeepsAll run inputs.image.items image told old new kept
+    (flushed : Result Unit WriteFailed) × (kept : Result (Result Unit End) End) × Hands_on printed output flushed × KeepsAll run inputs.image.items image told old new kept
     × ReportsRun (lines_in inputs) (told_lines told) kept (why_at end flushed) pc before after status
 
 -- how many steps a run may take if the command names no number

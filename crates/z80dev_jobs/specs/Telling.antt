@@ -1,5 +1,5 @@
 -- What `run` tells about a run, besides what the program prints.
-use Rattle.std.specs.Prelude.{◌≡◌, ◌≢◌, ◌⊎◌, ◌==◌, ◌&&◌, ◌||◌, not, ℕ, ◌+◌, Bool, true, false, List, [], ◌∷◌, ◌++◌, Option, None, Some, Result, Ok, Err, Vec, if◌then◌else◌, is_some, length, map, option_map, string_bytes, unwrap_or}
+use Rattle.std.specs.Prelude.{◌≡◌, ◌≢◌, ◌⊎◌, ◌==◌, ◌&&◌, ◌||◌, not, ℕ, ◌+◌, Bool, true, false, List, [], ◌∷◌, ◌++◌, Option, None, Some, Result, Ok, Err, Vec, codes, if◌then◌else◌, is_some, length, map, option_map, string_bytes, unwrap_or}
 use Rattle.std.specs.Borrow.{Bor}
 use Rattle.std.specs.Global.{Global}
 use Rattle.std.specs.List.{flat_map}
@@ -11,6 +11,7 @@ use Rattle.cpm_run.specs.declared.ending.Why.{Why}
 use Rattle.cpm_run.specs.declared.ending.Why.TheVariants as why
 use Rattle.cpm_run.specs.declared.recording.Record.{Record}
 use Rattle.cpm_run.specs.declared.recording.Wish.{Wish}
+use Rattle.cpm_run.specs.declared.tracing.Left.{Left}
 use Rattle.disassembler.specs.Reading.{AreLabels, label_parts}
 use Rattle.disassembler.specs.Faults.{disassembly_fault_text}
 use Rattle.disassembler.specs.declared.fault.DisassemblyFault.{DisassemblyFault}
@@ -31,7 +32,7 @@ use Rattle.z80dev_run.specs.Labelled.{Known}
 use Rattle.z80dev_run.specs.Lines.{IsTrace}
 use Rattle.z80dev_run.specs.Profile.{IsProfile}
 use Rattle.z80dev_run.specs.Program.{IsTracedRan}
-use Rattle.z80dev_run.specs.Registers.{machine_text}
+use Rattle.z80dev_run.specs.Registers.{is_lost, machine_text}
 use Rattle.z80dev_run.specs.Reports.{IsTraceFile}
 use Rattle.z80dev_run.specs.declared.reports.TheConstants.{TRACE_STEPS}
 
@@ -45,11 +46,11 @@ last_count telling = unwrap_or telling.last 0
 abbrev pub is_silent : Telling → Bool
 is_silent telling = not telling.registers && ((last_count telling == 0) && (not (is_some telling.trace) && not (is_some telling.profile)))
 
--- What a run is to keep. The registers at its end need two more of its last steps, which say where it came from.
+-- What a run is to keep. The registers at its end and its last steps need two more steps, which say where it came from.
 abbrev pub wish_of : Telling → Wish
 wish_of telling = record {
   first = if is_some telling.trace then TRACE_STEPS else 0;
-  last = if telling.registers then last_count telling + 2 else last_count telling;
+  last = if telling.registers || not (last_count telling == 0) then last_count telling + 2 else 0;
   counts = is_some telling.profile;
 }
 
@@ -75,9 +76,19 @@ abbrev pub profile_over : Run → Option (Bor (List ℕ)) → Option (List ℕ)
 profile_over run None = None
 profile_over run (Some path) = if_read (reads_file run path.now || is_given path.now run.telling.trace) path.now
 
--- Why a run may not tell what it is asked for: the path of the trace is one that it reads; or that of the profile is, or is that of the trace.
+-- the option that would do nothing: labels if no address is printed, or a listing if there is no profile
+abbrev pub unused : Telling → Option (List ℕ)
+unused telling =
+    if is_some telling.labels && is_silent telling then Some (codes "--labels") else if is_some telling.list && not (is_some telling.profile) then Some (codes "--list") else None
+
+abbrev pub unused_text : List ℕ → List ℕ
+unused_text option = codes "Unused(" ++ option ++ codes ")"
+
+-- Why a run may not tell what it is asked for: the path of the trace is one that it reads; or that of the profile is, or is that of the trace; or an
+-- option would do nothing.
 abbrev pub why_not_told : Run → Option (List ℕ)
-why_not_told run = option_map over_text (option_or (trace_over run run.telling.trace) (profile_over run run.telling.profile))
+why_not_told run =
+    option_or (option_map over_text (option_or (trace_over run run.telling.trace) (profile_over run run.telling.profile))) (option_map unused_text (unused run.telling))
 
 -- ---- labels
 
@@ -100,13 +111,18 @@ abbrev pub IsFileIfGiven : (List ℕ → Type 0) → Option (Bor (List ℕ)) →
 IsFileIfGiven Is None bytes = bytes ≡ None
 IsFileIfGiven Is (Some path) bytes = (text : Vec ℕ Global) × (bytes ≡ Some text) × Is text.items
 
--- the lines of the last steps, if the run was stopped
-abbrev pub AreLastLines : Telling → Known → Why → Record → List ℕ → Type 0
-AreLastLines telling known why.Finished kept lines = lines ≡ []
-AreLastLines telling known end kept lines = IsTrace known (last_items (last_count telling) kept.last.items) lines
+-- whether a run has gone wrong: it was stopped, or its program is lost
+abbrev pub is_wrong : Known → Why → Cpu → Record → Bool
+is_wrong known why.Finished cpu kept = is_lost known cpu kept.last.items
+is_wrong known end cpu kept = true
 
-abbrev pub registers_lines : Telling → Known → Cpu → List ℕ → Record → List ℕ
-registers_lines telling known cpu memory kept = if telling.registers then machine_text known cpu memory kept.last.items else []
+-- the lines of the last steps, if the run has gone wrong
+abbrev pub AreLastLines : Telling → Known → Bool → Record → List ℕ → Type 0
+AreLastLines telling known false kept lines = lines ≡ []
+AreLastLines telling known true kept lines = IsTrace known (last_items (last_count telling) kept.last.items) lines
+
+abbrev pub registers_lines : Telling → Known → Left → Record → List ℕ
+registers_lines telling known left kept = if telling.registers then machine_text known left kept.last.items else []
 
 -- A profile by addresses; or with a listing by its lines.
 abbrev pub IsProfileOf : Option (List ℕ) → Known → List ℕ → ℕ → List ℕ → Type 0
@@ -118,24 +134,24 @@ pub record IsNothingTold (told : Told) : Type 0 where
   pub profile : told.profile ≡ None
   pub lines : told.lines.items ≡ []
 
-pub record IsTold (telling : Telling) (known : Known) (listing : Option (List ℕ)) (end : Why) (turns : ℕ) (cpu : Cpu) (memory : List ℕ) (kept : Record) (told : Told) : Type 0 where
+pub record IsTold (telling : Telling) (known : Known) (listing : Option (List ℕ)) (end : Why) (turns : ℕ) (left : Left) (kept : Record) (told : Told) : Type 0 where
   pub trace : IsFileIfGiven (IsTraceFile known kept.first.items turns) telling.trace told.trace
   pub profile : IsFileIfGiven (IsProfileOf listing known kept.counts.items turns) telling.profile told.profile
   pub last : List ℕ
-  pub last_lines : AreLastLines telling known end kept last
-  pub lines : told.lines.items ≡ last ++ registers_lines telling known cpu memory kept
+  pub last_lines : AreLastLines telling known (is_wrong known end left.cpu kept) kept last
+  pub lines : told.lines.items ≡ last ++ registers_lines telling known left kept
 
 -- What a run tells that ended in this state and has kept this. A program that is not started tells nothing.
-abbrev pub IsToldOf : Telling → Known → Option (List ℕ) → Why → ℕ → Option (Cpu × List ℕ) → Option Record → Told → Type 0
+abbrev pub IsToldOf : Telling → Known → Option (List ℕ) → Why → ℕ → Option Left → Option Record → Told → Type 0
 IsToldOf telling known listing end turns None kept told = IsNothingTold told
 IsToldOf telling known listing end turns (Some state) None told = ⊥
-IsToldOf telling known listing end turns (Some (cpu, memory)) (Some kept) told = IsTold telling known listing end turns cpu memory kept told
+IsToldOf telling known listing end turns (Some left) (Some kept) told = IsTold telling known listing end turns left kept told
 
 -- What a run tells: nothing if it is asked for nothing, otherwise what it has kept of its steps.
 abbrev pub IsToldRun : Telling → Known → Option (List ℕ) → List ℕ → List (List ℕ) → List ℕ → List ℕ → Stream → ℕ → Why → ℕ → Told → Type 0
 IsToldRun telling known listing file words image input before steps end turns told =
     ((is_silent telling ≡ true) × IsNothingTold told)
-    ⊎ ((is_silent telling ≡ false) × (state : Option (Cpu × List ℕ)) × (kept : Option Record)
+    ⊎ ((is_silent telling ≡ false) × (state : Option Left) × (kept : Option Record)
     × IsTracedRan file words image input before steps (wish_of telling) end turns state kept × IsToldOf telling known listing end turns state kept told)
 
 -- ---- the files that are written

@@ -7,7 +7,7 @@ ghost use Rattle.z80dev_jobs.specs.Private.Steps.{MakesReady, Prepares};
 ghost use Rattle.z80dev_jobs.specs.Reading.{reader_of};
 ghost use Rattle.z80dev_jobs.specs.Private.Images.{ClaimsDiskImage, IsFreeOf};
 ghost use Rattle.z80dev_jobs.specs.Making.{PutsLines};
-ghost use Rattle.z80dev_jobs.specs.Running.{EndsRun, IsKept, KeepsAll, ReadsInputs, ReportsRun, WarnsAfter, told_lines, why_at};
+ghost use Rattle.z80dev_jobs.specs.Running.{EndsRun, IsKept, KeepsAll, ReadsInputs, ReportsRun, ReportsWritten, WarnsAfter, WritesIfTold, told_lines, why_at};
 
 use crate::disks::{Image, claim, keep};
 use crate::reading::{read, read_if_given, read_input};
@@ -15,7 +15,7 @@ use crate::telling::{Told, labels_of, write_told};
 use std::alloc::Global;
 use streams::{WriteFailed, flush, put};
 use z80dev::{DONE, End, Files, Input, Sink, report};
-use z80dev_commands::Run;
+use z80dev_commands::{Run, Telling};
 use z80dev_disk::Refusal;
 use z80dev_run::{Labels, Ran, Ready, Stop, Why, conclude, ready};
 
@@ -146,22 +146,33 @@ fn warn_after<E: Sink>(lines: &Option<String>, status: u8, errors: &mut E)
     }
 }
 
-/// Keeps the image that a run leaves, then writes what the run tells.
+/// Writes what a run tells, if memory has not run out for it.
+fn write_if_told<'a, F: Files>(
+    telling: Telling<'a>,
+    told: &Option<Told>,
+    files: &mut F,
+) -> Result<(), End<'a>>
+    ensures { WritesIfTold telling.entry told.now (F.folder files.old) (F.folder files.new) result }
+{
+    match told {
+        Some(told) => write_told(telling, told, files),
+        None => Err(End::NoMemory),
+    }
+}
+
+/// Keeps the image that a run leaves, then writes what the run tells. Answers how the second ended, if the first is done.
 fn keep_all<'a, F: Files, W>(
     job: &Run<'a>,
     bytes: &[u8],
     ran: &Ran<W>,
     told: &Option<Told>,
     files: &mut F,
-) -> Result<(), End<'a>>
+) -> Result<Result<(), End<'a>>, End<'a>>
     requires free { IsFreeOf job.now.disk (F.folder files.old) }
     ensures { KeepsAll job.now bytes.now (concat ran.now.image) told.now (F.folder files.old) (F.folder files.new) result }
 {
     keep_disk(job.disk, bytes, ran, files)?;
-    match told {
-        Some(told) => write_told(job.telling, told, files),
-        None => Err(End::NoMemory),
-    }
+    Ok(write_if_told(job.telling, told, files))
 }
 
 /// Puts lines, if there are some.
@@ -182,12 +193,32 @@ fn put_told<E: Sink>(told: &Option<Told>, errors: &mut E)
     }
 }
 
-/// Reports that a file could not be written, or why the run ended, with what it tells, and gives the exit status.
+/// Reports the end of what comes after the lines of a run: nothing more, with the status of the run and the lines that warn; or that a file
+/// could not be written. Gives the exit status.
+fn report_written<E: Sink>(
+    lines: &Option<String>,
+    written: Result<(), End<'_>>,
+    status: u8,
+    errors: &mut E,
+) -> u8
+    ensures { ReportsWritten (option_map string_bytes lines.now) written.entry status (E.stream errors.old) (E.stream errors.new) result }
+{
+    match written {
+        Ok(()) => {
+            warn_after(lines, status, errors);
+            status
+        }
+        Err(end) => report(&end, errors),
+    }
+}
+
+/// Reports that the image could not be written; or why the run ended, with what it tells, and then whether what it tells could be written.
+/// Gives the exit status.
 fn report_run<E: Sink>(
     alloc: Global,
     lines: &Option<String>,
     told: &Option<Told>,
-    kept: Result<(), End<'_>>,
+    kept: Result<Result<(), End<'_>>, End<'_>>,
     why: Why,
     pc: u16,
     errors: &mut E,
@@ -195,11 +226,10 @@ fn report_run<E: Sink>(
     ensures { ReportsRun (option_map string_bytes lines.now) (told_lines told.now) kept.entry why pc (E.stream errors.old) (E.stream errors.new) result }
 {
     match kept {
-        Ok(()) => {
+        Ok(written) => {
             let status = conclude(alloc, why, pc, errors);
             put_told(told, errors);
-            warn_after(lines, status, errors);
-            status
+            report_written(lines, written, status, errors)
         }
         Err(end) => report(&end, errors),
     }

@@ -4,18 +4,18 @@ ghost use Rattle.std.specs.Prelude.{◌≡◌, IfOk, IfSome, List, option_map, �
 ghost use Rattle.std.specs.List.{concat};
 ghost use Rattle.z80dev_jobs.specs.Private.Steps.{MayTell};
 ghost use Rattle.z80dev_jobs.specs.Private.Telling.{IsLabelled};
-ghost use Rattle.z80dev_jobs.specs.Telling.{AreLastLines, IsFileIfGiven, IsNothingTold, IsProfileOf, IsToldOf, IsToldRun, WritesFile, WritesTold, is_given, is_silent, last_count, profile_over, reads_file, registers_lines, trace_over, why_not_told, wish_of};
+ghost use Rattle.z80dev_jobs.specs.Telling.{AreLastLines, IsFileIfGiven, IsNothingTold, IsProfileOf, IsToldOf, IsToldRun, WritesFile, WritesTold, is_given, is_silent, is_wrong, last_count, profile_over, reads_file, registers_lines, trace_over, unused, why_not_told, wish_of};
 ghost use Rattle.z80dev_run.specs.Program.{IsRan, IsReadyToRun};
 ghost use Rattle.z80dev_run.specs.Reports.{IsTraceFile};
 
 use disassembler::{DisassemblyFault, fault_text, read_labels};
 use std::alloc::{AllocError, Global};
-use z80_cpu::{Cpu, Memory};
+use z80_cpu::Cpu;
 use z80dev::{End, Files, Sink};
 use z80dev_commands::{Run, Telling};
 use z80dev_run::{
-    Labels, Ran, Ready, Record, TRACE_STEPS, TracedRan, Why, Wish, coverage_file, last_lines,
-    machine_text, profile_file, trace_file,
+    Labels, Left, Ran, Ready, Record, TRACE_STEPS, TracedRan, Why, Wish, coverage_file, is_lost,
+    last_lines, machine_text, profile_file, trace_file,
 };
 
 /// What a run tells: the bytes of the files to write, and lines for standard error.
@@ -68,7 +68,11 @@ fn wish_of(telling: Telling<'_>) -> Wish
             0
         },
         // The step that led to the end, and the one before it, say from where the program came to its end.
-        last: if telling.registers { last + 2 } else { last },
+        last: if telling.registers || last != 0 {
+            last + 2
+        } else {
+            0
+        },
         counts: telling.profile.is_some(),
     }
 }
@@ -113,13 +117,30 @@ fn profile_over<'a>(run: &Run<'a>) -> Option<&'a str>
     }
 }
 
-/// Refuses a run that would write its trace or its profile over a file that it reads, or both to one path.
+/// The option that would do nothing: labels if no address is printed, or a listing if there is no profile.
+fn unused(telling: Telling<'_>) -> Option<&'static str>
+    ensures { option_map (λ option. option.now) result ≡ unused telling.entry }
+{
+    if telling.labels.is_some() && is_silent(telling) {
+        Some("--labels")
+    } else if telling.list.is_some() && telling.profile.is_none() {
+        Some("--list")
+    } else {
+        None
+    }
+}
+
+/// Refuses a run that would write its trace or its profile over a file that it reads, or both to one path; or one with an option that would
+/// do nothing.
 pub(crate) fn refuse_telling(alloc: Global, run: &Run<'_>) -> Result<(), End<'static>>
     ensures { MayTell (why_not_told run.now) result }
 {
     match trace_over(run).or(profile_over(run)) {
         Some(path) => Err(End::Refused(format!(in alloc; "Overwrites({path})")?)),
-        None => Ok(()),
+        None => match unused(run.telling) {
+            Some(option) => Err(End::Refused(format!(in alloc; "Unused({option})")?)),
+            None => Ok(()),
+        },
     }
 }
 
@@ -176,19 +197,30 @@ fn profile_of(
     }
 }
 
-/// The lines of the last steps, if the run was stopped.
+/// Whether a run has gone wrong, so that its last steps are told: it was stopped, or its program is lost.
+fn is_wrong(why: Why, cpu: &Cpu, kept: &Record, labels: &Labels) -> bool
+    ensures { result ≡ is_wrong labels.now why cpu.now kept.now }
+{
+    match why {
+        Why::Finished => is_lost(cpu, &kept.last, labels),
+        _ => true,
+    }
+}
+
+/// The lines of the last steps, if the run has gone wrong.
 fn last_of(
     alloc: Global,
     telling: Telling<'_>,
-    why: Why,
+    is_wrong: bool,
     kept: &Record,
     labels: &Labels,
 ) -> Result<Vec<u8>, AllocError>
-    ensures { IfOk result (λ lines. AreLastLines telling.entry labels.now why kept.now lines.items) }
+    ensures { IfOk result (λ lines. AreLastLines telling.entry labels.now is_wrong kept.now lines.items) }
 {
-    match why {
-        Why::Finished => Ok(Vec::new(alloc)),
-        _ => last_lines(alloc, kept, last_count(telling) as usize, labels),
+    if is_wrong {
+        last_lines(alloc, kept, last_count(telling) as usize, labels)
+    } else {
+        Ok(Vec::new(alloc))
     }
 }
 
@@ -196,15 +228,14 @@ fn last_of(
 fn registers_of(
     alloc: Global,
     telling: Telling<'_>,
-    cpu: &Cpu,
-    memory: &Memory,
+    left: &Left,
     kept: &Record,
     labels: &Labels,
 ) -> Result<Vec<u8>, AllocError>
-    ensures { IfOk result (λ lines. lines.items ≡ registers_lines telling.entry labels.now cpu.now memory.now kept.now) }
+    ensures { IfOk result (λ lines. lines.items ≡ registers_lines telling.entry labels.now left.now kept.now) }
 {
     if telling.registers {
-        machine_text(alloc, cpu, memory, &kept.last, labels)
+        machine_text(alloc, left, &kept.last, labels)
     } else {
         Ok(Vec::new(alloc))
     }
@@ -220,7 +251,7 @@ fn told_of<S>(
 ) -> Result<Told, AllocError>
     ensures { IfOk result (IsToldOf telling.entry labels.now (option_map (λ text. text.now) listing.entry) traced.now.ran.why traced.now.ran.turns traced.now.state traced.now.kept) }
 {
-    let Some((cpu, memory)) = &traced.state else {
+    let Some(left) = &traced.state else {
         return Ok(Told::nothing(alloc));
     };
     let Some(kept) = &traced.kept else {
@@ -229,8 +260,9 @@ fn told_of<S>(
     let Ran { why, turns, .. } = &traced.ran;
     let trace = trace_of(alloc, telling, kept, *turns, labels)?;
     let profile = profile_of(alloc, telling, listing, kept, *turns, labels)?;
-    let mut lines = last_of(alloc, telling, *why, kept, labels)?;
-    let registers = registers_of(alloc, telling, cpu, memory, kept, labels)?;
+    let is_wrong = is_wrong(*why, &left.cpu, kept, labels);
+    let mut lines = last_of(alloc, telling, is_wrong, kept, labels)?;
+    let registers = registers_of(alloc, telling, left, kept, labels)?;
     lines.extend_from_slice(&registers)?;
     Ok(Told {
         trace,

@@ -1,6 +1,6 @@
 -- A run of what the command has read.
 use Rattle.std.proofs.Common.{◌≡◌, ℕ, List, Option, subst}
-use Rattle.z80_cpu.specs.declared.registers.Cpu.{Cpu}
+use Rattle.cpm_run.specs.declared.tracing.Left.{Left}
 use Rattle.cpm_run.specs.Walks.{IsTraced}
 use Rattle.cpm_run.specs.declared.recording.Record.{Record}
 use Rattle.cpm_run.specs.declared.recording.Wish.{Wish}
@@ -18,7 +18,7 @@ module _ (faults : Image → ℕ) (disk : Mounted Image) (steps : ℕ) (end : Wh
   pub as_read : (file program : List ℕ) (words meant : List (List ℕ)) (console given : Dialog) → file ≡ program → words ≡ meant → console ≡ given → Run file words console → Run program meant given
   as_read file program words meant console given d e f run = subst (λ c. Run program meant c) f (subst (λ w. Run program w console) e (subst (λ p. Run p words console) d run))
 
-module _ (faults : Image → ℕ) (disk : Mounted Image) (steps : ℕ) (wish : Wish) (end : Why) (turns : ℕ) (state : Option (Cpu × List ℕ)) (kept : Option Record) where
+module _ (faults : Image → ℕ) (disk : Mounted Image) (steps : ℕ) (wish : Wish) (end : Why) (turns : ℕ) (state : Option Left) (kept : Option Record) where
   abbrev Traced : List ℕ → List (List ℕ) → Dialog → Type 0
   Traced file words console = IsTraced (λ sectors. sectors) faults (λ dialog. dialog) file words disk console steps wish end turns state kept
 

@@ -3,7 +3,6 @@ pub mod Stopped
 pub mod Program
 pub mod Ending
 pub mod Labelled
-pub mod Text
 pub mod Lines
 pub mod Registers
 pub mod Reports

@@ -5,7 +5,7 @@ use Rattle.streams.specs.Stream.{Stream}
 use Rattle.cpm_console.specs.Dialog.{Dialog, dialog_of}
 use Rattle.cpm_disk.specs.Calls.{Mounted}
 use Rattle.cpm_disk.specs.Image.{Image}
-use Rattle.z80_cpu.specs.declared.registers.Cpu.{Cpu}
+use Rattle.cpm_run.specs.declared.tracing.Left.{Left}
 use Rattle.cpm_run.specs.Run.{IsRun}
 use Rattle.cpm_run.specs.Walks.{IsTraced}
 use Rattle.cpm_run.specs.declared.recording.Record.{Record}
@@ -30,8 +30,8 @@ IsRan file words image input before steps end turns pc left after =
     × IsRun (λ sectors. sectors) (λ sectors. 0) (λ dialog. dialog) file words disk (dialog_of (typed input) before.bytes before.failures) steps end turns pc then console
     × (left ≡ concat then.device) × (after.bytes ≡ console.output) × (after.failures ≡ console.faults)
 
--- The same run, and what it keeps: the registers and the memory at the end, and what was asked for of its steps.
-abbrev pub IsTracedRan : List ℕ → List (List ℕ) → List ℕ → List ℕ → Stream → ℕ → Wish → Why → ℕ → Option (Cpu × List ℕ) → Option Record → Type 0
+-- The same run, and what it keeps: the machine and the system at the end, and what was asked for of its steps.
+abbrev pub IsTracedRan : List ℕ → List (List ℕ) → List ℕ → List ℕ → Stream → ℕ → Wish → Why → ℕ → Option Left → Option Record → Type 0
 IsTracedRan file words image input before steps wish end turns state kept =
     (disk : Mounted Image) × IsMounted image (Ok disk)
     × IsTraced (λ sectors. sectors) (λ sectors. 0) (λ dialog. dialog) file words disk (dialog_of (typed input) before.bytes before.failures) steps wish end turns state kept

@@ -1,7 +1,6 @@
 -- What is printed of the machine at the end of a run.
-use Rattle.std.specs.Prelude.{ℕ, ◌-◌, ◌%◌, ◌==◌, ◌&&◌, Bool, true, false, nat_le, nat_lt, List, [], ◌∷◌, ◌++◌, Option, Some, None, codes, drop, if◌then◌else◌, length, map, slice_get, take}
-use Rattle.z80_cpu.specs.Types.{Flags}
-use Rattle.z80_cpu.specs.State.{af, bc, de, hl, up_by, word_at}
+use Rattle.std.specs.Prelude.{ℕ, ◌-◌, ◌%◌, ◌==◌, ◌&&◌, Bool, true, false, not, nat_le, nat_lt, List, [], ◌++◌, Option, Some, None, codes, drop, if◌then◌else◌, length, map, slice_get, take}
+use Rattle.z80_cpu.specs.State.{de, up_by, word_at}
 use Rattle.z80_cpu.specs.declared.registers.Cpu.{Cpu}
 use Rattle.cpm_fcb.specs.Fcbs.{fcb_at, name_of}
 use Rattle.cpm_bdos.specs.Functions.{function_of}
@@ -10,44 +9,10 @@ use Rattle.cpm_bdos.specs.declared.function.Function.TheVariants as function
 use Rattle.cpm_bdos.specs.declared.function.SearchCall.TheVariants as searching
 use Rattle.cpm_run.specs.Turns.{Call, Entry, Place, Program, is_finished, place_at_pc}
 use Rattle.cpm_run.specs.declared.recording.TraceStep.{TraceStep}
+use Rattle.cpm_run.specs.declared.tracing.Left.{Left}
 use Rattle.z80dev_run.specs.Labelled.{Known, is_in_program, nearest_label, nearest_text}
-use Rattle.z80dev_run.specs.Text.{blanks, word_text}
-
--- a register and its value, as in BC=0009
-abbrev pub value_text : List ℕ → ℕ → List ℕ
-value_text name value = name ++ codes "=" ++ word_text value
-
--- the same with a blank after it
-abbrev pub value_column : List ℕ → ℕ → List ℕ
-value_column name value = value_text name value ++ blanks 1
-
-abbrev pub flag_letter : Bool → ℕ → ℕ
-flag_letter is_set letter = if is_set then letter else 0x2D
-
--- the flags as letters: S, Z, H, P, N and C in the places of their bits, and `-` for a flag that is not set
-abbrev pub flags_text : Flags → List ℕ
-flags_text f =
-    flag_letter f.sign 0x53 ∷ flag_letter f.zero 0x5A ∷ 0x2D ∷ flag_letter f.half_carry 0x48 ∷ 0x2D ∷ flag_letter f.parity_overflow 0x50
-    ∷ flag_letter f.subtract 0x4E ∷ flag_letter f.carry 0x43 ∷ []
-
--- four pairs of registers
-abbrev pub pairs_text : ℕ → ℕ → ℕ → ℕ → List ℕ
-pairs_text a b d h = value_column (codes "AF") a ++ value_column (codes "BC") b ++ value_column (codes "DE") d ++ value_column (codes "HL") h
-
-abbrev pub shadow_pairs_text : ℕ → ℕ → ℕ → ℕ → List ℕ
-shadow_pairs_text a b d h = value_column (codes "AF'") a ++ value_column (codes "BC'") b ++ value_column (codes "DE'") d ++ value_column (codes "HL'") h
-
-abbrev pub index_text : Cpu → List ℕ
-index_text cpu = value_column (codes "IX") cpu.ix ++ value_column (codes "IY") cpu.iy ++ value_column (codes "SP") cpu.sp ++ value_column (codes "PC") cpu.pc
-
--- the first line: the registers and the flags
-abbrev pub main_line : Cpu → List ℕ
-main_line cpu = pairs_text (af cpu.main) (bc cpu.main) (de cpu.main) (hl cpu.main) ++ index_text cpu ++ flags_text cpu.main.flags ++ codes "\n"
-
--- the second line: the other set of registers, I and R
-abbrev pub shadow_line : Cpu → List ℕ
-shadow_line cpu =
-    shadow_pairs_text (af cpu.shadow) (bc cpu.shadow) (de cpu.shadow) (hl cpu.shadow) ++ value_column (codes "I") cpu.i ++ value_text (codes "R") cpu.r ++ codes "\n"
+use Rattle.debug_text.specs.Columns.{blanks, word_text}
+use Rattle.debug_text.specs.Registers.{registers_text}
 
 -- a word in memory, and four of them
 abbrev pub word_there : List ℕ → ℕ → List ℕ
@@ -56,7 +21,7 @@ word_there memory address = blanks 1 ++ word_text (word_at address memory)
 abbrev pub four_words : List ℕ → ℕ → List ℕ
 four_words memory address = word_there memory address ++ word_there memory (up_by 2 address) ++ word_there memory (up_by 4 address) ++ word_there memory (up_by 6 address)
 
--- the third line: the eight words from SP on
+-- the line of the eight words from SP on
 abbrev pub stack_line : Cpu → List ℕ → List ℕ
 stack_line cpu memory = codes "stack at " ++ word_text cpu.sp ++ codes ":" ++ four_words memory cpu.sp ++ four_words memory (up_by 8 cpu.sp) ++ codes "\n"
 
@@ -100,15 +65,25 @@ came_from None before = None
 came_from (Some last) None = Some last.before.pc
 came_from (Some last) (Some before) = Some (if last.before.pc == 0 then before.before.pc else last.before.pc)
 
+-- whether there is such an address, and none of the program's bytes is there
+abbrev pub is_outside : Known → Option ℕ → Bool
+is_outside known None = false
+is_outside known (Some address) = not (is_in_program known.size address)
+
+-- The program is lost: it has finished, but by a jump from outside of its bytes.
+abbrev pub is_lost : Known → Cpu → List TraceStep → Bool
+is_lost known cpu steps = is_finished cpu.pc && is_outside known (came_from (step_from_end 0 steps) (step_from_end 1 steps))
+
 abbrev pub outside_text : Known → Option ℕ → List ℕ
 outside_text known None = []
 outside_text known (Some address) = if is_in_program known.size address then [] else codes "ended by a jump from " ++ word_text address ++ codes ", outside the program\n"
 
--- the line for a program that has finished by a jump from outside of its bytes
+-- the line for a program that is lost
 abbrev pub ended_line : Known → Cpu → List TraceStep → List ℕ
 ended_line known cpu steps = if is_finished cpu.pc then outside_text known (came_from (step_from_end 0 steps) (step_from_end 1 steps)) else []
 
--- The machine at the end of a run whose last steps are known.
-abbrev pub machine_text : Known → Cpu → List ℕ → List TraceStep → List ℕ
-machine_text known cpu memory steps =
-    main_line cpu ++ shadow_line cpu ++ stack_line cpu memory ++ return_line (place_at_pc cpu.pc) known (word_at cpu.sp memory) ++ fcb_line cpu memory ++ ended_line known cpu steps
+-- The machine and the system at the end of a run whose last steps are known.
+abbrev pub machine_text : Known → Left → List TraceStep → List ℕ
+machine_text known left steps =
+    registers_text left.cpu left.dma left.user ++ stack_line left.cpu left.memory ++ return_line (place_at_pc left.cpu.pc) known (word_at left.cpu.sp left.memory)
+    ++ fcb_line left.cpu left.memory ++ ended_line known left.cpu steps

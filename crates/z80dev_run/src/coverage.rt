@@ -5,10 +5,10 @@ ghost use Rattle.std.specs.List.{flat_map};
 ghost use Rattle.asm_macro.specs.Texts.{source_lines};
 ghost use Rattle.z80dev_run.specs.Coverage.{coverage_line, listed_address, margin_text};
 
-use crate::text::{put_blanks, put_number};
 use asm_macro::source_part;
 use bstr::ByteSlice;
 use cpm_run::Record;
+use debug_text::{put_blanks, put_number};
 use std::alloc::{AllocError, Global};
 
 /// The address that a line of a listing begins with, if it does: four hexadecimal digits and two blanks.

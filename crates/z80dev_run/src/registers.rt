@@ -2,110 +2,18 @@
 
 ghost use Rattle.std.specs.Prelude.{◌≡◌, ◌++◌, IfOk, OnOk, map, option_copied};
 ghost use Rattle.cpm_run.specs.Turns.{place_at_pc};
-ghost use Rattle.z80_cpu.specs.State.{af, bc, de, hl, word_at};
-ghost use Rattle.z80dev_run.specs.Registers.{came_from, ended_line, fcb_line, flag_letter, flags_text, four_words, index_text, machine_text, main_line, name_byte, name_text, outside_text, pairs_text, return_line, return_text, shadow_line, shadow_pairs_text, stack_line, step_from_end, takes_fcb, value_column, value_text, word_there};
+ghost use Rattle.z80_cpu.specs.State.{word_at};
+ghost use Rattle.z80dev_run.specs.Registers.{came_from, ended_line, fcb_line, four_words, is_lost, is_outside, machine_text, name_byte, name_text, outside_text, return_line, return_text, stack_line, step_from_end, takes_fcb, word_there};
 
 use crate::labels::Labels;
 use crate::lines::label_of;
-use crate::text::{put_blanks, put_word};
 use cpm_bdos::{Function, SearchCall};
 use cpm_fcb::Fcb;
-use cpm_run::{BDOS, TraceStep, bios_entry, is_finished};
+use cpm_run::{BDOS, Left, TraceStep, bios_entry, is_finished};
+use debug_text::{put_blanks, put_registers, put_word};
 use std::alloc::{AllocError, Global};
 use std::collections::VecDeque;
-use z80_cpu::{Cpu, Flags, Memory};
-
-/// Appends a register and its value, as in `BC=0009`.
-fn put_value(alloc: Global, out: &mut Vec<u8>, name: &[u8], value: u16) -> Result<(), AllocError>
-    ensures { OnOk result (out.new.items ≡ out.old.items ++ value_text name.now value) }
-{
-    out.extend_from_slice(name)?;
-    out.push(b'=')?;
-    put_word(alloc, out, value)
-}
-
-/// Appends the same with a blank after it.
-fn put_value_column(
-    alloc: Global,
-    out: &mut Vec<u8>,
-    name: &[u8],
-    value: u16,
-) -> Result<(), AllocError>
-    ensures { OnOk result (out.new.items ≡ out.old.items ++ value_column name.now value) }
-{
-    put_value(alloc, out, name, value)?;
-    put_blanks(out, 1)
-}
-
-/// A letter, or `-` if the flag is not set.
-fn flag_letter(is_set: bool, letter: u8) -> u8
-    ensures { result ≡ flag_letter is_set letter }
-{
-    if is_set { letter } else { b'-' }
-}
-
-/// The flags as letters.
-fn flags_text(flags: Flags) -> [u8; 8]
-    ensures { result ≡ flags_text flags }
-{
-    [
-        flag_letter(flags.sign, b'S'),
-        flag_letter(flags.zero, b'Z'),
-        b'-',
-        flag_letter(flags.half_carry, b'H'),
-        b'-',
-        flag_letter(flags.parity_overflow, b'P'),
-        flag_letter(flags.subtract, b'N'),
-        flag_letter(flags.carry, b'C'),
-    ]
-}
-
-fn put_pairs(alloc: Global, out: &mut Vec<u8>, cpu: &Cpu) -> Result<(), AllocError>
-    ensures { OnOk result (out.new.items ≡ out.old.items ++ pairs_text (af cpu.now.main) (bc cpu.now.main) (de cpu.now.main) (hl cpu.now.main)) }
-{
-    put_value_column(alloc, out, b"AF", cpu.main.af())?;
-    put_value_column(alloc, out, b"BC", cpu.main.bc())?;
-    put_value_column(alloc, out, b"DE", cpu.main.de())?;
-    put_value_column(alloc, out, b"HL", cpu.main.hl())
-}
-
-fn put_shadow_pairs(alloc: Global, out: &mut Vec<u8>, cpu: &Cpu) -> Result<(), AllocError>
-    ensures { OnOk result (out.new.items ≡ out.old.items ++ shadow_pairs_text (af cpu.now.shadow) (bc cpu.now.shadow) (de cpu.now.shadow) (hl cpu.now.shadow)) }
-{
-    put_value_column(alloc, out, b"AF'", cpu.shadow.af())?;
-    put_value_column(alloc, out, b"BC'", cpu.shadow.bc())?;
-    put_value_column(alloc, out, b"DE'", cpu.shadow.de())?;
-    put_value_column(alloc, out, b"HL'", cpu.shadow.hl())
-}
-
-fn put_index(alloc: Global, out: &mut Vec<u8>, cpu: &Cpu) -> Result<(), AllocError>
-    ensures { OnOk result (out.new.items ≡ out.old.items ++ index_text cpu.now) }
-{
-    put_value_column(alloc, out, b"IX", cpu.ix)?;
-    put_value_column(alloc, out, b"IY", cpu.iy)?;
-    put_value_column(alloc, out, b"SP", cpu.sp)?;
-    put_value_column(alloc, out, b"PC", cpu.pc)
-}
-
-/// Appends the line of the registers and the flags.
-fn put_main_line(alloc: Global, out: &mut Vec<u8>, cpu: &Cpu) -> Result<(), AllocError>
-    ensures { OnOk result (out.new.items ≡ out.old.items ++ main_line cpu.now) }
-{
-    put_pairs(alloc, out, cpu)?;
-    put_index(alloc, out, cpu)?;
-    out.extend_from_slice(&flags_text(cpu.main.flags))?;
-    out.extend_from_slice(b"\n")
-}
-
-/// Appends the line of the other set of registers, I and R.
-fn put_shadow_line(alloc: Global, out: &mut Vec<u8>, cpu: &Cpu) -> Result<(), AllocError>
-    ensures { OnOk result (out.new.items ≡ out.old.items ++ shadow_line cpu.now) }
-{
-    put_shadow_pairs(alloc, out, cpu)?;
-    put_value_column(alloc, out, b"I", u16::from(cpu.i))?;
-    put_value(alloc, out, b"R", u16::from(cpu.r))?;
-    out.extend_from_slice(b"\n")
-}
+use z80_cpu::{Cpu, Memory};
 
 /// Appends a word in memory.
 fn put_word_there(
@@ -280,6 +188,24 @@ fn came_from(last: Option<&TraceStep>, before: Option<&TraceStep>) -> Option<u16
     }
 }
 
+/// Whether there is such an address, and none of the program's bytes is there.
+fn is_outside(labels: &Labels, address: Option<u16>) -> bool
+    ensures { result ≡ is_outside labels.now address }
+{
+    match address {
+        Some(address) => !labels.has(address),
+        None => false,
+    }
+}
+
+/// Whether a program is lost: it has finished, but by a jump from outside of its bytes. `last` has the last two steps at least.
+pub fn is_lost(cpu: &Cpu, last: &VecDeque<TraceStep>, labels: &Labels) -> bool
+    ensures { result ≡ is_lost labels.now cpu.now last.now.items }
+{
+    let from = came_from(step_from_end(last, 0), step_from_end(last, 1));
+    is_finished(cpu.pc) && is_outside(labels, from)
+}
+
 /// Appends the address from which a program came to its end, if it is outside of the program.
 fn put_outside(
     alloc: Global,
@@ -317,21 +243,25 @@ fn put_end_line(
     put_outside(alloc, out, labels, from)
 }
 
-/// Prints the machine at the end of a run: the registers and the flags, the stack's top eight words, and the call of the system at PC: where
-/// it returns to, and its file control block. `last` has the last two steps at least; a program that has finished by a jump from outside of
-/// its bytes has a line that says so.
+/// Prints the machine at the end of a run: the registers and the flags, the address of the buffer for records and the user, the stack's top
+/// eight words, and the call of the system at PC: where it returns to, and its file control block. `last` has the last two steps at
+/// least; a program that has finished by a jump from outside of its bytes has a line that says so.
 pub fn machine_text(
     alloc: Global,
-    cpu: &Cpu,
-    memory: &Memory,
+    left: &Left,
     last: &VecDeque<TraceStep>,
     labels: &Labels,
 ) -> Result<Vec<u8>, AllocError>
-    ensures { IfOk result (λ text. text.items ≡ machine_text labels.now cpu.now memory.now last.now.items) }
+    ensures { IfOk result (λ text. text.items ≡ machine_text labels.now left.now last.now.items) }
 {
+    let Left {
+        cpu,
+        memory,
+        dma,
+        user,
+    } = left;
     let mut out = Vec::new(alloc);
-    put_main_line(alloc, &mut out, cpu)?;
-    put_shadow_line(alloc, &mut out, cpu)?;
+    put_registers(alloc, &mut out, cpu, *dma, *user)?;
     put_stack_line(alloc, &mut out, cpu, memory)?;
     put_return_line(alloc, &mut out, cpu, memory, labels)?;
     put_fcb_line(alloc, &mut out, cpu, memory)?;

@@ -7,10 +7,9 @@ ghost use Rattle.z80dev_run.specs.Program.{IsRan, IsReadyToRun, IsTracedRan};
 use cpm_console::StreamConsole;
 use cpm_disk::Disk;
 use cpm_image::MemoryImage;
-use cpm_run::{Record, Why, Wish};
+use cpm_run::{Left, Record, Why, Wish};
 use std::alloc::Global;
 use streams::Sink;
-use z80_cpu::{Cpu, Memory};
 
 /// How a run ended, and what it leaves.
 #[derive(Drop)]
@@ -40,8 +39,8 @@ impl<S> Ran<S> {
 #[derive(Drop)]
 pub struct TracedRan<S> {
     pub ran: Ran<S>,
-    /// The registers and the memory at the end; `None` if the program was not started.
-    pub state: Option<(Cpu, Memory)>,
+    /// The machine and the system at the end; `None` if the program was not started.
+    pub state: Option<Left>,
     /// What was kept of the steps; `None` if the program was not started, or if memory ran out for it.
     pub kept: Option<Record>,
 }

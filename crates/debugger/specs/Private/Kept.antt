@@ -1,5 +1,5 @@
 -- What a history keeps.
-use Rattle.std.specs.Prelude.{◌≡◌, ℕ, List, All, Option, None}
+use Rattle.std.specs.Prelude.{ℕ, List, All, None}
 use Rattle.debugger.specs.declared.kept.Kept.{Kept}
 use Rattle.debugger.specs.Walk.{IsAfter, Point, MemoryState}
 

@@ -1,6 +1,7 @@
 use Rattle.std.proofs.Common.{◌≡◌, ℕ, ◌+◌, None, Option, ap, ◌∙◌, arith, subst, sym}
 use Rattle.debugger.specs.Stops.{IsLastBefore, holds}
 use Rattle.debugger.specs.Walk.{Shown, never}
+use Rattle.debugger.specs.declared.stops.Hit.{Hit}
 use Rattle.debugger.proofs.Going.{begun, go_on, last_more}
 use Rattle.debugger.proofs.history.History.last.Goals as goal
 
@@ -16,13 +17,13 @@ pub loop-number-preserved : goal.loop-number-preserved
 loop-number-preserved c =
     let n = c.loop-number.number in
     let start = c.args.self.now.start in
-    let more = last_more (holds None c.args.stops.now) start n c.loop-number.point c.advance.new.point c.loop-number.last c.in_ok-held.held c.loop-number.invariant.known c.loop-number.invariant.all c.in_ok-held.ensures.next c.in_ok-held.ensures.held in
+    let more = last_more c.args.stops.now start n c.loop-number.point c.advance.new.point c.loop-number.last c.in_ok-held.held c.loop-number.invariant.known c.loop-number.invariant.all c.in_ok-held.ensures.next c.in_ok-held.ensures.held in
     record {
-      known = subst (λ (r : Option ℕ). IsLastBefore (holds None c.args.stops.now) start (n + 1) c.advance.new.point r) (sym c.later-last.ensures) more;
+      known = subst (λ (r : Option (ℕ × Hit)). IsLastBefore c.args.stops.now start (n + 1) c.advance.new.point r) (sym c.later-last.ensures) more;
       all = go_on start n c.loop-number.point c.advance.new.point c.loop-number.invariant.all c.in_ok-held.ensures.next;
     }
 
 pub returns : goal.returns
 returns c =
     let e : c.loop-number.number ≡ c.args.turn = omega arith in
-    (c.loop-number.point, subst (λ (n : ℕ). IsLastBefore (holds None c.args.stops.now) c.args.self.now.start n c.loop-number.point c.loop-number.last) e c.loop-number.invariant.known)
+    (c.loop-number.point, subst (λ (n : ℕ). IsLastBefore c.args.stops.now c.args.self.now.start n c.loop-number.point c.loop-number.last) e c.loop-number.invariant.known)

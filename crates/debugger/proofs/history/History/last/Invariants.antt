@@ -1,7 +1,6 @@
-use Rattle.std.proofs.Common.{None}
-use Rattle.debugger.specs.Stops.{IsLastBefore, holds}
+use Rattle.debugger.specs.Stops.{IsLastBefore}
 use Rattle.debugger.specs.Walk.{IsAfter}
 use Rattle.debugger.proofs.history.History.last.Given as goal
 
 abbrev pub invariant-loop-number : goal.invariant-loop-number
-invariant-loop-number l = record { known : IsLastBefore (holds None l.stops) l.self.start l.number l.point l.last; all : IsAfter l.self.start l.number l.point }
+invariant-loop-number l = record { known : IsLastBefore l.stops l.self.start l.number l.point l.last; all : IsAfter l.self.start l.number l.point }

@@ -1,4 +1,5 @@
-use Rattle.std.proofs.Common.{◌∙◌, arith, refl, subst, sym}
+use Rattle.std.specs.Prelude.{is_some}
+use Rattle.std.proofs.Common.{◌∙◌, ap, arith, refl, subst, sym}
 use Rattle.debugger.specs.Walk.{IsTrue_of_run, Shown}
 use Rattle.debugger.specs.Walk.LeadsBy.{none, more}
 use Rattle.debugger.proofs.Going.{true_more}
@@ -12,13 +13,13 @@ loop-init c = record {
   after = subst (λ (h : Shown). IsTrue_of_run h) c.self.view_is c.self.invariant.now_is;
 }
 
-pub returns-then-branch-clause-after : goal.returns-then-branch-clause-after
-returns-then-branch-clause-after c = true_more c.loop.self c.step.new.self c.loop.invariant.after c.in_ok-step.ensures.start c.in_ok-step.ensures.turn c.in_ok-step.ensures.next
+pub returns-in-Some-clause-after : goal.returns-in-Some-clause-after
+returns-in-Some-clause-after c = true_more c.loop.self c.step.new.self c.loop.invariant.after c.in_ok-hit.ensures.start c.in_ok-hit.ensures.turn c.in_ok-hit.ensures.next
 
 pub loop-preserved : goal.loop-preserved
 loop-preserved c = record {
-  start = c.in_ok-step.ensures.start ∙ c.loop.invariant.start;
-  turn = omega (arith, c.in_ok-step.ensures.turn);
-  leads = more c.loop.counter c.args.self.now.point c.loop.self.point c.step.new.self.point c.loop.invariant.leads c.in_ok-step.ensures.next (sym c.in_ok-step.ensures.held ∙ c.if-branch.false);
-  after = true_more c.loop.self c.step.new.self c.loop.invariant.after c.in_ok-step.ensures.start c.in_ok-step.ensures.turn c.in_ok-step.ensures.next;
+  start = c.in_ok-hit.ensures.start ∙ c.loop.invariant.start;
+  turn = omega (arith, c.in_ok-hit.ensures.turn);
+  leads = more c.loop.counter c.args.self.now.point c.loop.self.point c.step.new.self.point c.loop.invariant.leads c.in_ok-hit.ensures.next (ap is_some (sym c.in_ok-hit.ensures.held ∙ c.in_default.is));
+  after = true_more c.loop.self c.step.new.self c.loop.invariant.after c.in_ok-hit.ensures.start c.in_ok-hit.ensures.turn c.in_ok-hit.ensures.next;
 }

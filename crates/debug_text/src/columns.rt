@@ -1,7 +1,7 @@
 //! Prints numbers and columns.
 
 ghost use Rattle.std.specs.Prelude.{◌≡◌, ◌≤◌, ◌++◌, OnOk, decimal};
-ghost use Rattle.z80dev_run.specs.Text.{blanks, column, on_right, word_text};
+ghost use Rattle.debug_text.specs.Columns.{blanks, column, on_right, word_text};
 
 use std::alloc::{AllocError, Global};
 
@@ -9,7 +9,7 @@ use std::alloc::{AllocError, Global};
 const BLANKS: &[u8; 16] = b"                ";
 
 /// Appends blanks.
-pub(crate) fn put_blanks(out: &mut Vec<u8>, count: usize) -> Result<(), AllocError>
+pub fn put_blanks(out: &mut Vec<u8>, count: usize) -> Result<(), AllocError>
     requires { count ≤ 16 }
     ensures { OnOk result (out.new.items ≡ out.old.items ++ blanks count) }
 {
@@ -17,7 +17,7 @@ pub(crate) fn put_blanks(out: &mut Vec<u8>, count: usize) -> Result<(), AllocErr
 }
 
 /// Appends a text on the left of a column, and a blank after it.
-pub(crate) fn put_column(out: &mut Vec<u8>, width: usize, text: &[u8]) -> Result<(), AllocError>
+pub fn put_column(out: &mut Vec<u8>, width: usize, text: &[u8]) -> Result<(), AllocError>
     requires { width ≤ 16 }
     ensures { OnOk result (out.new.items ≡ out.old.items ++ column width text.now) }
 {
@@ -27,7 +27,7 @@ pub(crate) fn put_column(out: &mut Vec<u8>, width: usize, text: &[u8]) -> Result
 }
 
 /// Appends a number in decimal on the right of a column.
-pub(crate) fn put_number(
+pub fn put_number(
     alloc: Global,
     out: &mut Vec<u8>,
     width: usize,
@@ -43,7 +43,7 @@ pub(crate) fn put_number(
 }
 
 /// Appends a word as four hexadecimal digits.
-pub(crate) fn put_word(alloc: Global, out: &mut Vec<u8>, word: u16) -> Result<(), AllocError>
+pub fn put_word(alloc: Global, out: &mut Vec<u8>, word: u16) -> Result<(), AllocError>
     ensures { OnOk result (out.new.items ≡ out.old.items ++ word_text word) }
 {
     let digits = hex::encode_upper(alloc, &word.to_be_bytes()[..])?;

@@ -1,0 +1,10 @@
+//! How a debugger and a trace show numbers, registers and memory.
+#![tactic(auto)]
+
+mod columns;
+mod memory;
+mod registers;
+
+pub use columns::{put_blanks, put_column, put_number, put_word};
+pub use memory::{put_memory, shown_character};
+pub use registers::put_registers;

@@ -1,0 +1,58 @@
+//! Answers the commands of a session.
+
+use crate::input::{Debugged, begin, symbols_of};
+use crate::walk::walk;
+use debugger::{Labels, Session};
+use row_text::Row;
+
+/// Prints a command and its answer.
+fn answer_command(row: &mut Row, session: &mut Session, program: Debugged<'_>, command: &str) {
+    write!(row, "> {command}\n");
+    if let Some(turns) = command.strip_prefix("walk ") {
+        walk(row, program, turns);
+        return;
+    }
+    match session.answer(command.as_bytes()) {
+        Ok(text) => row.write_bytes(&text),
+        Err(_) => row.refuse("no memory"),
+    }
+}
+
+/// Prints the commands and their answers.
+fn answer_commands(row: &mut Row, program: Debugged<'_>, labels: &str, commands: &[String]) {
+    let alloc = row.alloc();
+    let Some(symbols) = symbols_of(alloc, labels) else {
+        row.refuse("labels");
+        return;
+    };
+    let Some(history) = begin(alloc, program) else {
+        row.refuse("the program does not start");
+        return;
+    };
+    let labels = Labels {
+        symbols: &symbols,
+        program_len: program.file.len(),
+    };
+    let mut session = Session::new(alloc, history, labels);
+    for command in commands {
+        answer_command(row, &mut session, program, command.as_str());
+    }
+}
+
+/// Prints the lines of a program and of its commands, each with its answer.
+pub(crate) fn answer(row: &mut Row, lines: &[String]) {
+    let [file, typed, labels, commands @ ..] = lines else {
+        row.refuse("a program has three lines: its bytes, what is typed, its labels");
+        return;
+    };
+    write!(row, "{file}\n{typed}\n{labels}\n");
+    let Ok(bytes) = hex::decode(row.alloc(), file.as_str()) else {
+        row.refuse("hexadecimal digits");
+        return;
+    };
+    let program = Debugged {
+        file: &bytes,
+        typed: typed.as_str(),
+    };
+    answer_commands(row, program, labels.as_str(), commands);
+}
