@@ -123,10 +123,11 @@ _z80dev() {
     [[ -z "$option" ]] || return
 
     case $command in
-    '') options='asm link build check dis dir put get erase rename protect unprotect check-disk blank run debug -h --help -V --version' ;;
+    '') options='asm link build explain check dis dir put get erase rename protect unprotect check-disk blank run debug -h --help -V --version' ;;
     asm) options='-o --out --grow --no-warn --define --with -h --help' ;;
     link) options='-o --out -h --help' ;;
     build) options='-o --out --grow --list -v --verbose --no-warn --define --with -h --help' ;;
+    explain) options='--grow -h --help' ;;
     check | check-disk) options='-h --help' ;;
     dis) options='--labels --entry -h --help' ;;
     dir) options='--user --long -h --help' ;;
@@ -144,7 +145,7 @@ _z80dev() {
     fi
 
     case $command$several:${#operands[@]} in
-    asm:0 | build:*) _z80dev_files asm mac z80 ;;
+    asm:0 | build:* | explain:*) _z80dev_files asm mac z80 ;;
     link:*) _z80dev_files zmo ;;
     check:0) _z80dev_files siz ;;
     check:1) _z80dev_files crt ;;

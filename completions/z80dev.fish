@@ -71,6 +71,7 @@ complete -c z80dev -n __fish_use_subcommand -s V -l version -d 'Print the versio
 complete -c z80dev -n __fish_use_subcommand -a asm -d 'Assemble a source file to an object'
 complete -c z80dev -n __fish_use_subcommand -a link -d 'Link objects to a program'
 complete -c z80dev -n __fish_use_subcommand -a build -d 'Assemble and link source files to a program'
+complete -c z80dev -n __fish_use_subcommand -a explain -d 'Explain every error of source files'
 complete -c z80dev -n __fish_use_subcommand -a check -d 'Check the certificate of a program'
 complete -c z80dev -n __fish_use_subcommand -a dis -d 'Print a source file that builds to a program'
 complete -c z80dev -n __fish_use_subcommand -a dir -d 'List the files on a disk image'
@@ -106,6 +107,10 @@ complete -c z80dev -n '__z80dev_at build' -l no-warn -d 'Do not warn of code tha
 complete -c z80dev -n '__z80dev_at build' -l define -x -d 'Define a name as a number'
 complete -c z80dev -n '__z80dev_at build' -l with -r -F -d 'File of definitions and macros'
 complete -c z80dev -n '__z80dev_at build' -a '(__z80dev_files asm mac z80)' -d 'Source file'
+
+complete -c z80dev -n '__z80dev_at explain' -s h -l help -d 'Print help'
+complete -c z80dev -n '__z80dev_at explain' -l grow -d 'Let a JR out of reach become a JP'
+complete -c z80dev -n '__z80dev_at explain' -a '(__z80dev_files asm mac z80)' -d 'Source file'
 
 complete -c z80dev -n '__z80dev_at check' -s h -l help -d 'Print help'
 complete -c z80dev -n '__z80dev_at check 0' -a '(__z80dev_files siz)' -d Sizes
