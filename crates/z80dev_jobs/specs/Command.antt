@@ -10,13 +10,14 @@ use Rattle.z80dev.specs.Reading.{IsCutShort, OfText}
 use Rattle.z80dev.specs.declared.fault.Fault.{Fault}
 use Rattle.z80dev_commands.specs.Commands.{IsJob, IsMiscounted, z80dev}
 use Rattle.z80dev_commands.specs.declared.job.Job.{Job}
-use Rattle.z80dev_commands.specs.declared.job.Job.TheVariants.{Pipe, Asm, Link, Build, Check, Dis, Disk, Run, Debug}
+use Rattle.z80dev_commands.specs.declared.job.Job.TheVariants.{Pipe, Asm, Link, Build, Explain, Check, Dis, Disk, Run, Debug}
 use Rattle.z80dev_finish.specs.End.{IsPut, Tells, TellsOf, end_status}
 use Rattle.z80dev_finish.specs.declared.end.End.{End}
 use Rattle.z80dev_finish.specs.declared.end.End.TheVariants as end
 use Rattle.z80dev_jobs.specs.Disks.{DiskJobEnds, TellsLine}
 use Rattle.z80dev_jobs.specs.Making.{AsmEnds, BuildEnds, CheckEnds, DisEnds, Effect, LinkEnds, PutsLines, defines_of, effect_of}
 use Rattle.z80dev_jobs.specs.Debugging.{DebugEnds}
+use Rattle.z80dev_jobs.specs.Explaining.{ExplainEnds}
 use Rattle.z80dev_jobs.specs.Running.{RunEnds}
 use Rattle.z80dev_jobs.specs.Words.{AreTexts, IsNotText}
 use Rattle.z80dev_jobs.specs.World.{World}
@@ -80,6 +81,7 @@ JobEnds Pipe old new status = PipeEnds old new status
 JobEnds (Asm asm) old new status = Defining (defines_of asm.shared) (ReportsLines (AsmEnds asm)) old new status
 JobEnds (Link link) old new status = Reports (LinkEnds link) old new status
 JobEnds (Build build) old new status = Defining (defines_of build.shared) (ReportsLines (BuildEnds build)) old new status
+JobEnds (Explain explain) old new status = Reports (ExplainEnds explain) old new status
 JobEnds (Check check) old new status = Reports (CheckEnds check.sizes.now check.cert.now) old new status
 JobEnds (Dis dis) old new status = Reports (DisEnds dis) old new status
 JobEnds (Disk job) old new status = ReportsLine (DiskJobEnds job) old new status

@@ -2,6 +2,7 @@ pub mod Reading
 pub mod World
 pub mod Outputs
 pub mod Making
+pub mod Explaining
 pub mod Disks
 pub mod Telling
 pub mod Running

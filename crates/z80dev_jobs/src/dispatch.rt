@@ -15,6 +15,7 @@ ghost use Rattle.z80dev_jobs.specs.World.{world_of};
 use crate::debugging::debug_job;
 use crate::disassembling::dis_file;
 use crate::disks::do_on_disk;
+use crate::explaining::explain_files;
 use crate::host::{Ended, Host};
 use crate::making::{asm_file, build_files, check_files, link_files};
 use crate::running::{STEPS, end_run, inputs_of, prepare, put_lines};
@@ -253,6 +254,10 @@ fn work<F: Files, I: Input, W: Sink + Drop, E: Sink>(
             &mut host.output,
             &mut host.errors,
         ),
+        Job::Explain(explain) => {
+            let end = explain_files(alloc, &explain, &mut host.files, &mut host.output);
+            report_any(end, &mut host.errors)
+        }
         Job::Check(check) => {
             let end = check_files(
                 alloc,

@@ -8,6 +8,7 @@ mod debugging;
 mod disassembling;
 mod disks;
 mod dispatch;
+mod explaining;
 mod failing;
 mod host;
 mod making;

@@ -14,7 +14,7 @@ use z80dev::{
 use z80dev_commands::{Asm, Build, Link};
 
 /// Files of source text, each with its path.
-fn sources_of<'a>(
+pub(crate) fn sources_of<'a>(
     alloc: Global,
     paths: &[&'a str],
     texts: &'a [Vec<u8>],

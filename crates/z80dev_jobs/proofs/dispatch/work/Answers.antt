@@ -3,7 +3,7 @@ use Rattle.z80dev_jobs.specs.Disks.{DiskJobEnds}
 use Rattle.z80dev_jobs.specs.Making.{ended}
 use Rattle.z80dev_jobs.specs.Reading.{reader_of}
 use Rattle.z80dev_jobs.proofs.Reported.{reported}
-use Rattle.z80dev_jobs.proofs.dispatch.work.Goals.{in-Pipe, in-Asm, in-Link, in-Build, in-Check, in-Dis, in-Disk, in-Debug}
+use Rattle.z80dev_jobs.proofs.dispatch.work.Goals.{in-Pipe, in-Asm, in-Link, in-Build, in-Explain, in-Check, in-Dis, in-Disk, in-Debug}
 use Rattle.z80dev_jobs.proofs.dispatch.work.Goals as goal
 
 pub returns-in-Run-clause-ends : goal.returns-in-Run-clause-ends
@@ -20,6 +20,7 @@ returns-clause-ends g c =
       | in-Asm w ↦ rw (w.in-Asm.is, w.host-is, w.status-is) (w.asm_job-status.ensures reader)
       | in-Link w ↦ rw (w.in-Link.is, w.host-is, w.status-is) (ended w.link_files-end.result, w.link_files-end.ensures, w.report_any-status.ensures.status, w.report_any-status.ensures.told, refl)
       | in-Build w ↦ rw (w.in-Build.is, w.host-is, w.status-is) (w.build_job-status.ensures reader)
+      | in-Explain w ↦ rw (w.in-Explain.is, w.host-is, w.status-is) (ended w.explain_files-end.result, w.explain_files-end.ensures, w.report_any-status-in-Explain.ensures.status, w.report_any-status-in-Explain.ensures.told, refl)
       | in-Check w ↦ rw (w.in-Check.is, w.host-is, w.status-is) (ended w.check_files-end.result, w.check_files-end.ensures, w.report_any-status-in-Check.ensures.status, w.report_any-status-in-Check.ensures.told, refl)
       | in-Dis w ↦ rw (w.in-Dis.is, w.host-is, w.status-is) (ended w.dis_file-end.result, w.dis_file-end.ensures, w.report_any-status-in-Dis.ensures.status, w.report_any-status-in-Dis.ensures.told, refl)
       | in-Disk w ↦ rw (w.in-Disk.is, w.host-is, w.status-is)

@@ -1,0 +1,33 @@
+-- How `explain` ends.
+use Rattle.std.specs.Prelude.{◌≡◌, ◌⊎◌, ℕ, List, Option, None, Some, map, string_bytes}
+use Rattle.streams.specs.Stream.{Stream}
+use Rattle.streams.specs.Writing.{PutsAll, PutsFront}
+use Rattle.z80dev_commands.specs.declared.job.Explain.{Explain}
+use Rattle.z80dev_explain.specs.Explanation.{IsExplanation}
+use Rattle.z80dev_finish.specs.declared.end.End.{End}
+use Rattle.z80dev_finish.specs.declared.end.End.TheVariants as end
+use Rattle.z80dev_make.specs.declared.answer.SourceFile.{SourceFile}
+use Rattle.z80dev_jobs.specs.Making.{AreFiles, Effect, WithAll}
+
+-- Exactly this text is printed. Then the command is refused with the summary; without one, all is done.
+abbrev pub PrintsWith : List ℕ → Option (List ℕ) → Stream → Stream → End → Type 0
+PrintsWith text summary before after end.Done = (summary ≡ None) × PutsAll before after text
+PrintsWith text summary before after (end.Refused said) = (summary ≡ Some (string_bytes said)) × PutsAll before after text
+PrintsWith text summary before after end.Stream = PutsFront before after text
+PrintsWith text summary before after _ = ⊥
+
+abbrev pub explained_paths : Explain → List (List ℕ)
+explained_paths explain = map (λ path. path.now) explain.sources.items
+
+-- An explanation of the sources, which were all read, is printed.
+abbrev pub PrintsExplanation : Explain → List (List ℕ) → Effect → End → Type 0
+PrintsExplanation explain texts x e = (files : List SourceFile) × (text : List ℕ) × (summary : Option (List ℕ)) × AreFiles (explained_paths explain) texts files
+    × IsExplanation explain.grow files text summary × PrintsWith text summary x.before x.after e
+
+-- It is printed; or memory ran out for it, and nothing is printed.
+abbrev pub Explains : Explain → List (List ℕ) → Effect → End → Type 0
+Explains explain texts x e = PrintsExplanation explain texts x e ⊎ ((e ≡ end.NoMemory) × (x.after ≡ x.before))
+
+-- `explain`: the sources are read in the order of the words, and an explanation of them is printed. No file is written.
+abbrev pub ExplainEnds : Explain → Effect → End → Type 0
+ExplainEnds explain x e = WithAll (explained_paths explain) (λ texts. (x.new ≡ x.old) × Explains explain texts x e) x e
