@@ -1,0 +1,21 @@
+-- Reports as promises see them.
+use Rattle.std.specs.Prelude.{ℕ, Bool, true, false, ◌==◌, ◌&&◌, List, Option, Some, None, string_bytes}
+use Rattle.std.specs.Option.{option_map_or}
+use Rattle.std.specs.Str.{bytes_eq}
+use Rattle.asm_module.specs.declared.fault.AsmFault.{AsmFault}
+use Rattle.z80dev_make.specs.Faults.Names.{why_name}
+use Rattle.z80dev_explain.specs.declared.report.Report.{Report}
+use Rattle.z80dev_explain.specs.declared.report.Severity.{Severity}
+use Rattle.z80dev_explain.specs.declared.report.Where.{Where}
+
+abbrev pub is_error : Severity → Bool
+is_error Severity.Error = true
+is_error Severity.Warning = false
+
+-- the place is in this line of the source with this number
+abbrev pub is_at : ℕ → ℕ → Option Where → Bool
+is_at source line at = option_map_or (λ w. (w.source == source) && (w.line == line)) at false
+
+-- the report is of this error of the source with this number: of its line, by its name
+abbrev pub is_of : ℕ → AsmFault → Report → Bool
+is_of source fault r = is_error r.severity && (is_at source fault.line r.at && bytes_eq (string_bytes r.name) (why_name fault.why))

@@ -1,0 +1,68 @@
+//! Says in one line how many errors or warnings there are.
+
+ghost use Rattle.std.specs.Prelude.{◌≡◌, IfOk, None, string_bytes};
+ghost use Rattle.std.specs.Option.{option_map};
+ghost use Rattle.z80dev_explain.specs.Explanation.{IsExplanation, IsFine};
+
+use crate::explaining::explain;
+use crate::printing::print_reports;
+use crate::report::{Explained, Report};
+use std::alloc::{AllocError, Global};
+use z80dev_make::SourceFile;
+
+/// What is said of sources.
+#[derive(Debug, Drop)]
+pub struct Explanation {
+    /// What is printed on standard output.
+    pub text: Vec<u8>,
+    /// How many errors or warnings there are, as `3 errors` or `1 warning`; None if there is a program and no warning.
+    pub summary: Option<String>,
+}
+
+/// Answers how many there are of something.
+fn counted(alloc: Global, count: usize, what: &str) -> Result<String, AllocError> {
+    if count == 1 {
+        format!(in alloc; "1 {what}")
+    } else {
+        format!(in alloc; "{count} {what}s")
+    }
+}
+
+/// Answers how many errors or warnings there are; None if there is a program and no warning.
+fn summary(
+    alloc: Global,
+    has_program: bool,
+    reports: &[Report<'_>],
+) -> Result<Option<String>, AllocError>
+    ensures fine { IfOk result (λ summary. summary ≡ None → IsFine has_program reports.now) }
+    ensures wrong { IfOk result (λ summary. IsFine has_program reports.now → summary ≡ None) }
+{
+    if !has_program {
+        return Ok(Some(counted(alloc, reports.len(), "error")?));
+    }
+    if reports.is_empty() {
+        return Ok(None);
+    }
+    Ok(Some(counted(alloc, reports.len(), "warning")?))
+}
+
+/// Builds sources, writes nothing, and answers what the command `explain` prints of them, and how it sums that up.
+///
+/// # Errors
+///
+/// [`AllocError`] if memory ran out.
+pub fn explain_sources(
+    alloc: Global,
+    files: &[SourceFile<'_>],
+    grow: bool,
+) -> Result<Explanation, AllocError>
+    ensures { IfOk result (λ e. IsExplanation grow files.now e.text.items (option_map (λ s. string_bytes s) e.summary)) }
+{
+    let Explained {
+        has_program,
+        reports,
+    } = explain(alloc, files, grow)?;
+    let summary = summary(alloc, has_program, &reports)?;
+    let text = print_reports(alloc, &reports)?;
+    Ok(Explanation { text, summary })
+}
